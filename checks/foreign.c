@@ -1,22 +1,19 @@
-/* Asks the library that include/sshkey.h declares, for checks/foreign. Each line of the input is a
- * question, words of which are bytes in hexadecimal (- for none), and has a line of the answer:
+/* Asks the library that include/sshkey.h declares, for checks/foreign: a line of the input is a
+ * question, and has a line of the answer. It answers those of asked/answers.py that the header has
+ * calls for, and these. SPAN.. are 7 words of bytes and NUMBER.. 5 numbers, as asked/calls.h
+ * passes them to the call of that name:
  *
- *     certificate BYTES                      what has to be verified
- *     sshsig BYTES NAMESPACE MESSAGE         the same, and the signer
- *     sshsig-of-digest BYTES NAMESPACE DIGEST
- *     validate BYTES SECOND PRINCIPAL|* AUTHORITY IS-VERIFIED
- *     fields BYTES                           numbers of a certificate
- *     key BYTES                              the fingerprint, and its text
- *     strings BYTES                          the strings that the bytes are, from each place
- *     rooms BYTES                            certificate with each room that is too short
- *     layout                                 sizes and offsets of structs, and SSHKEY_FOREVER
- *     names                                  the version, and numbers of answers with their names
- *     meanings                               the words of judge.h for each of these numbers
- *
- * and those of asked/key_calls.h, asked/certificate_calls.h, asked/entry_calls.h,
- * asked/host_calls.h, asked/login_calls.h and asked/memory_calls.h.
- *
- * All memory that a call gets is as long as is said, of malloc, and a room is filled beforehand. */
+ *     call CALL SPAN.. NUMBER..           the number that it answers
+ *     rooms CALL SPAN.. NUMBER..          how many rooms, from none on, are too short and stay as
+ *                                         they were, what the next one is answered, and how many
+ *                                         bytes each is told to take
+ *     memory CALL SPAN.. NUMBER.. ROOM | authority LINE            asked/memory_calls.h
+ *     string-places BYTES | option-places BYTES
+ *                                         what is found from each place, and after the end
+ *     verifications .. as `user`          how often the verifier was asked
+ *     names                               the version, and numbers of answers with their names
+ *     meanings                            the words of judge.h for each of these numbers
+ */
 #include <inttypes.h>
 #include <stdio.h>
 #include <stdlib.h>
@@ -26,9 +23,9 @@
 #include "sshkey.h"
 #include "verify.h"
 
-#define FILLED 0xa5
 /* of words in a line */
-#define MOST 15
+#define MOST 16
+#define FILLED 0xa5
 
 static judge_blob made(size_t length) {
   judge_blob it = {malloc(length ? length : 1), length};
@@ -48,296 +45,295 @@ static judge_blob bytes_of(const char *word) {
   return it;
 }
 
-/* The CRC-32 of the bytes. */
+/* A sum of the bytes (FNV-1a). */
 static uint32_t sum_of(const uint8_t *bytes, size_t length) {
-  uint32_t sum = 0xffffffff;
-  for (size_t at = 0; at < length; at++) {
-    sum ^= bytes[at];
-    for (int bit = 0; bit < 8; bit++) sum = sum >> 1 ^ (sum & 1 ? 0xedb88320 : 0);
-  }
-  return ~sum;
+  uint32_t sum = 0x811c9dc5;
+  for (size_t at = 0; at < length; at++) sum = (sum ^ bytes[at]) * 0x01000193;
+  return sum;
 }
 
-static int is_filled(judge_blob room, size_t from) {
+static bool is_filled(judge_blob room, size_t from) {
   for (size_t at = from; at < room.length; at++)
-    if (room.bytes[at] != FILLED) return 0;
-  return 1;
+    if (room.bytes[at] != FILLED) return false;
+  return true;
 }
 
-static void say_part(judge_blob room, sshkey_part part) {
-  if (part.start > room.length || part.length > room.length - part.start)
-    printf(" outside");
-  else
-    printf(" %zu:%08" PRIx32, part.length, sum_of(room.bytes + part.start, part.length));
-}
+#include "asked/calls.h"
+#include "asked/memory_calls.h"
+#include "asked/judge_calls.h"
 
-static void say_question(uint32_t answer, const sshkey_question *question, judge_blob room) {
-  printf("%" PRIu32, answer);
-  if (answer != SSHKEY_DONE) return;
-  printf(" %" PRIu32, question->algorithm);
-  say_part(room, question->key);
-  say_part(room, question->message);
-  say_part(room, question->signature);
-  if (!is_filled(room, question->length)) printf(" and more is written");
-}
+/* ---- what is said */
 
-static void say_bytes(const uint8_t *bytes, size_t length) {
-  putchar(' ');
+static void say_word(const uint8_t *bytes, size_t length) {
+  if (!length) putchar('-');
   for (size_t at = 0; at < length; at++) printf("%02x", bytes[at]);
 }
 
-static void ask_certificate(judge_blob certificate) {
-  judge_blob room = made(2 * certificate.length + 256);
-  sshkey_question question;
-  memset(&question, FILLED, sizeof question);
-  uint32_t answer = sshkey_certificate_question(certificate.bytes, certificate.length, room.bytes,
-                                                room.length, &question);
-  say_question(answer, &question, room);
-  free(room.bytes);
+static void say_part(const char *front, judge_blob of, sshkey_part part) {
+  printf("%s", front);
+  if (part.start > of.length || part.length > of.length - part.start)
+    printf("outside");
+  else
+    say_word(of.bytes + part.start, part.length);
 }
 
-typedef uint32_t ask_of_sshsig(const uint8_t *, size_t, const uint8_t *, size_t, const uint8_t *,
-                               size_t, uint8_t *, size_t, sshkey_question *, sshkey_sha256 *);
-
-static void ask_sshsig(ask_of_sshsig *call, judge_blob signature, judge_blob space,
-                       judge_blob covered) {
-  judge_blob room = made(2 * signature.length + space.length + 256);
-  sshkey_question question;
-  sshkey_sha256 signer;
-  memset(&question, FILLED, sizeof question);
-  memset(&signer, FILLED, sizeof signer);
-  uint32_t answer = call(signature.bytes, signature.length, space.bytes, space.length,
-                         covered.bytes, covered.length, room.bytes, room.length, &question,
-                         &signer);
-  say_question(answer, &question, room);
-  if (answer == SSHKEY_DONE) say_bytes(signer.bytes, sizeof signer.bytes);
-  free(room.bytes);
+static bool is_done(uint32_t answer) {
+  printf("%" PRIu32, answer);
+  return answer == SSHKEY_DONE;
 }
 
-static void ask_validate(judge_blob certificate, const char *second, const char *principal,
-                         judge_blob authority, const char *is_verified) {
-  uint64_t now = strtoull(second, NULL, 10);
-  uint32_t yes = (uint32_t)strtoul(is_verified, NULL, 10);
-  size_t count = authority.length / sizeof(sshkey_sha256);
-  sshkey_sha256 *keys = (sshkey_sha256 *)authority.bytes;
-  judge_blob name = bytes_of(principal[0] == '*' ? "-" : principal);
+/* Makes the call of that name in a room that is long enough. Nothing may be written after the
+ * length that it tells, if it tells one. */
+static uint32_t ask(given_call *it, const char *name, const size_t *length) {
+  size_t enough = 1024;
+  for (int at = 0; at < SPANS; at++) enough += 2 * it->spans[at].length;
+  free(it->room.bytes);
+  it->room = made(enough);
+  it->name = name;
+  uint32_t answer = called(it, FILLED);
+  if (length && answer == SSHKEY_DONE && !is_filled(it->room, *length)) printf("more is written ");
+  return answer;
+}
+
+static void ask_question(given_call *it, const char *name) {
+  if (!is_done(ask(it, name, &it->question.length))) return;
+  printf(" %" PRIu32, it->question.algorithm);
+  say_part(" ", it->room, it->question.key);
+  say_part(" ", it->room, it->question.message);
+  say_part(" ", it->room, it->question.signature);
+  if (strncmp(name, "sshsig", 6)) return;
+  putchar(' ');
+  say_word(it->sha256.bytes, sizeof it->sha256.bytes);
+}
+
+static void ask_is_signature(given_call *it, const char *name) {
+  if (is_done(ask(it, name, &it->question.length)))
+    printf(" %d", judge_is_signature(&it->question, it->room.bytes));
+}
+
+static void ask_written(given_call *it, const char *name) {
+  if (is_done(ask(it, name, &it->length))) say_part(" ", it->room, (sshkey_part){0, it->length});
+}
+
+static void ask_fields(given_call *it, const char *name) {
+  if (!is_done(ask(it, name, NULL))) return;
+  const sshkey_fields *of = &it->fields;
+  printf(" %" PRIu64 " %" PRIu64 " %" PRIu64, of->serial, of->valid_after, of->valid_before);
+  printf(" %" PRIu32 " %" PRIu32 " %" PRIu32, of->certificate_type, of->lists_principals,
+         of->has_critical_options);
+}
+
+static void ask_line(given_call *it, const char *name) {
+  if (!is_done(ask(it, name, &it->line.length))) return;
+  printf(" %" PRIu32, it->line.kind - SSHKEY_LINE_KEY);
+  say_part(" ", it->room, it->line.blob);
+  say_part(" ", it->room, it->line.comment);
+}
+
+static void ask_entry(given_call *it, const char *name) {
+  if (!is_done(ask(it, name, &it->entry.length))) return;
+  printf(" %" PRIu32, it->entry.marker);
+  say_part(" ", it->room, it->entry.front);
+  say_part(" ", it->room, it->entry.key);
+  say_part(" ", it->room, it->entry.comment);
+}
+
+static void ask_options(given_call *it, const char *name) {
+  uint32_t answer = ask(it, name, &it->entry_option.length);
+  printf("%" PRIu32, answer == SSHKEY_END ? SSHKEY_DONE : answer);
+  while (answer == SSHKEY_DONE) {
+    say_part(" ", it->room, it->entry_option.name);
+    if (it->entry_option.has_value) say_part("=", it->room, it->entry_option.value);
+    it->numbers[0]++;
+    answer = ask(it, name, &it->entry_option.length);
+  }
+  if (it->numbers[0] && answer != SSHKEY_END) printf(" and then %" PRIu32, answer);
+}
+
+static void ask_verdict(given_call *it, const char *name) {
+  printf("%" PRIu32 " ", ask(it, name, NULL));
+  printf("%" PRIu32, ask(it, "authority_verdict", NULL));
+}
+
+static void ask_key(given_call *it, const char *name) {
+  uint8_t text[SSHKEY_FINGERPRINT_TEXT], longer[SSHKEY_FINGERPRINT_SHA512_TEXT];
+  if (!is_done(ask(it, name, NULL))) return;
+  sshkey_sha256 digest = it->sha256;
+  uint32_t others = sshkey_fingerprint_text(&digest, text, sizeof text);
+  others |= ask(it, "fingerprint_sha512", NULL);
+  others |= sshkey_fingerprint_sha512_text(&it->sha512, longer, sizeof longer);
+  if (others != SSHKEY_DONE) printf(" and another call not");
+  putchar(' ');
+  say_word(digest.bytes, sizeof digest.bytes);
+  printf(" %.*s ", (int)sizeof text, (const char *)text);
+  say_word(it->sha512.bytes, sizeof it->sha512.bytes);
+  printf(" %.*s", (int)sizeof longer, (const char *)longer);
+}
+
+/* ---- what is listed */
+
+static void say_principals(judge_blob list) {
+  sshkey_part part = {0, 0};
   uint32_t answer;
-  if (principal[0] == '*')
-    answer = sshkey_certificate_validate(certificate.bytes, certificate.length, now, keys, count,
-                                         yes);
-  else
-    answer = sshkey_certificate_validate_for(certificate.bytes, certificate.length, now, name.bytes,
-                                             name.length, keys, count, yes);
-  printf("%" PRIu32, answer);
-  free(name.bytes);
+  while ((answer = sshkey_next_string(list.bytes, list.length, part.start + part.length, &part))
+         == SSHKEY_DONE)
+    say_part(" principal=", list, part);
+  if (answer != SSHKEY_END) printf(" no string");
 }
 
-static void ask_key(judge_blob key) {
-  sshkey_sha256 *digest = calloc(1, sizeof *digest);
-  judge_blob text = made(50), shorter = made(49);
-  if (!digest) exit(3);
-  uint32_t answer = sshkey_fingerprint(key.bytes, key.length, digest);
-  printf("%" PRIu32, answer);
-  if (answer == SSHKEY_DONE) {
-    say_bytes(digest->bytes, sizeof digest->bytes);
-    answer = sshkey_fingerprint_text(digest, text.bytes, text.length);
-    printf(" %" PRIu32 " %.50s", answer, (const char *)text.bytes);
-    answer = sshkey_fingerprint_text(digest, shorter.bytes, shorter.length);
-    printf(" %" PRIu32 "%s", answer, is_filled(shorter, 0) ? "" : " and the room is written");
+static void say_options(const char *front, judge_blob list) {
+  sshkey_certificate_option_parts it = {{0, 0}, {0, 0}, 0};
+  uint32_t answer;
+  while ((answer = sshkey_next_option(list.bytes, list.length, it.next, &it)) == SSHKEY_DONE) {
+    say_part(front, list, it.name);
+    say_part("=", list, it.value);
   }
-  free(digest);
-  free(text.bytes);
-  free(shorter.bytes);
+  if (answer != SSHKEY_END) printf(" no option");
 }
 
-static void ask_fields(judge_blob certificate) {
-  sshkey_fields *fields = calloc(1, sizeof *fields);
-  if (!fields) exit(3);
-  uint32_t answer = sshkey_certificate_fields(certificate.bytes, certificate.length, fields);
-  printf("%" PRIu32, answer);
-  if (answer == SSHKEY_DONE) {
-    printf(" %" PRIu64 " %" PRIu64 " %" PRIu64, fields->serial, fields->valid_after,
-           fields->valid_before);
-    printf(" %" PRIu32 " %" PRIu32 " %" PRIu32, fields->certificate_type, fields->lists_principals,
-           fields->has_critical_options);
-  }
-  free(fields);
+static judge_blob list_of(judge_blob certificate, sshkey_part part) {
+  return (judge_blob){certificate.bytes + part.start, part.length};
 }
 
-/* What is answered at each place, and at some behind the end. */
-static void ask_strings(judge_blob bytes) {
-  size_t places[] = {bytes.length + 1, bytes.length + 4, SIZE_MAX - 4, SIZE_MAX};
-  for (size_t at = 0; at <= bytes.length + 4; at++) {
-    size_t place = at <= bytes.length ? at : places[at - bytes.length - 1];
-    sshkey_part part = {7, 7};
-    uint32_t answer = sshkey_next_string(bytes.bytes, bytes.length, place, &part);
-    printf("%s%" PRIu32, at ? " " : "", answer);
-    if (answer == SSHKEY_DONE) printf(":%zu:%zu", part.start, part.length);
+static void ask_lists(given_call *it, const char *name) {
+  judge_blob certificate = it->spans[0];
+  sshkey_parts parts;
+  uint32_t of_key = ask(it, name, &it->length);
+  uint32_t answer = sshkey_certificate_parts(certificate.bytes, certificate.length, &parts);
+  if (of_key != answer) printf("the key is answered %" PRIu32 " ", of_key);
+  if (!is_done(answer)) return;
+  say_part(" ", certificate, parts.key_id);
+  say_part(" ", it->room, (sshkey_part){0, it->length});
+  say_part(" ", certificate, parts.authority);
+  say_principals(list_of(certificate, parts.principals));
+  say_options(" critical=", list_of(certificate, parts.critical_options));
+  say_options(" extension=", list_of(certificate, parts.extensions));
+}
+
+static void ask_lines(given_call *it, const char *name) {
+  judge_blob text = it->spans[0];
+  size_t place = 0;
+  (void)name;
+  putchar('0');
+  for (sshkey_part part; sshkey_next_line(text.bytes, text.length, place, &part) == SSHKEY_DONE;
+       place = part.start + part.length)
+    say_part(" ", text, part);
+  size_t ends[] = {place, text.length, text.length + 1, SIZE_MAX};
+  for (size_t at = 0; at < sizeof ends / sizeof *ends; at++) {
+    sshkey_part part;
+    if (sshkey_next_line(text.bytes, text.length, ends[at], &part) != SSHKEY_END)
+      printf(" no end at %zu", ends[at]);
   }
 }
 
-/* Whether a call with that room answers as it has to, where so many bytes are needed. */
-static int is_room_kept(judge_blob certificate, size_t length, size_t needed) {
-  judge_blob room = made(length);
-  sshkey_question question;
-  memset(&question, 0, sizeof question);
-  uint32_t answer = sshkey_certificate_question(certificate.bytes, certificate.length, room.bytes,
-                                                length, &question);
-  int kept = length < needed ? answer == SSHKEY_ROOM && is_filled(room, 0) : answer == SSHKEY_DONE;
-  free(room.bytes);
-  return kept && question.length == needed;
+static void ask_places(given_call *it, const char *name) {
+  size_t length = it->spans[0].length;
+  size_t after[] = {length + 1, length + 4, SIZE_MAX - 4, SIZE_MAX};
+  for (size_t at = 0; at <= length + 4; at++) {
+    it->numbers[0] = at <= length ? at : after[at - length - 1];
+    if (at) putchar(' ');
+    if (!is_done(ask(it, name, NULL))) continue;
+    const sshkey_certificate_option_parts *of = &it->certificate_option;
+    if (!strcmp(name, "next_string"))
+      printf(":%zu:%zu", it->part.start, it->part.length);
+    else
+      printf(":%zu:%zu:%zu:%zu:%zu", of->name.start, of->name.length, of->value.start,
+             of->value.length, of->next);
+  }
 }
 
-static void ask_rooms(judge_blob certificate) {
-  sshkey_question question;
-  memset(&question, 0, sizeof question);
-  judge_blob none = made(0);
-  uint32_t answer = sshkey_certificate_question(certificate.bytes, certificate.length, none.bytes,
-                                                0, &question);
-  size_t needed = question.length, length = 0;
-  free(none.bytes);
-  if (answer == SSHKEY_ROOM)
-    while (length <= needed && is_room_kept(certificate, length, needed)) length++;
-  printf("%" PRIu32 " %zu %zu", answer, needed, length);
+/* ---- questions about any call */
+
+/* How many bytes of the room a call tells that it takes: one of these is not 0. */
+static size_t told(const given_call *it) {
+  return it->length + it->question.length + it->line.length + it->entry.length
+         + it->entry_option.length;
 }
 
-#include "asked/certificate_calls.h"
-#include "asked/entry_calls.h"
-#include "asked/host_calls.h"
-#include "asked/key_calls.h"
-#include "asked/login_calls.h"
-#include "asked/memory_calls.h"
-
-#define OFFSET(type, field) printf(" " #type "." #field "=%zu", offsetof(type, field))
-#define SIZE(type) printf(" " #type "=%zu", sizeof(type))
-
-static void ask_layout(void) {
-  SIZE(sshkey_part);
-  OFFSET(sshkey_part, start);
-  OFFSET(sshkey_part, length);
-  SIZE(sshkey_sha256);
-  OFFSET(sshkey_sha256, bytes);
-  SIZE(sshkey_sha512);
-  OFFSET(sshkey_sha512, bytes);
-  SIZE(sshkey_line);
-  OFFSET(sshkey_line, blob);
-  OFFSET(sshkey_line, comment);
-  OFFSET(sshkey_line, length);
-  OFFSET(sshkey_line, kind);
-  SIZE(sshkey_fields);
-  OFFSET(sshkey_fields, serial);
-  OFFSET(sshkey_fields, valid_after);
-  OFFSET(sshkey_fields, valid_before);
-  OFFSET(sshkey_fields, certificate_type);
-  OFFSET(sshkey_fields, lists_principals);
-  OFFSET(sshkey_fields, has_critical_options);
-  SIZE(sshkey_question);
-  OFFSET(sshkey_question, key);
-  OFFSET(sshkey_question, message);
-  OFFSET(sshkey_question, signature);
-  OFFSET(sshkey_question, length);
-  OFFSET(sshkey_question, algorithm);
-  SIZE(sshkey_parts);
-  OFFSET(sshkey_parts, key_id);
-  OFFSET(sshkey_parts, principals);
-  OFFSET(sshkey_parts, critical_options);
-  OFFSET(sshkey_parts, extensions);
-  OFFSET(sshkey_parts, authority);
-  SIZE(sshkey_certificate_option_parts);
-  OFFSET(sshkey_certificate_option_parts, name);
-  OFFSET(sshkey_certificate_option_parts, value);
-  OFFSET(sshkey_certificate_option_parts, next);
-  SIZE(sshkey_span);
-  OFFSET(sshkey_span, bytes);
-  OFFSET(sshkey_span, length);
-  SIZE(sshkey_draft);
-  OFFSET(sshkey_draft, key);
-  OFFSET(sshkey_draft, nonce);
-  OFFSET(sshkey_draft, key_id);
-  OFFSET(sshkey_draft, principals);
-  OFFSET(sshkey_draft, critical_options);
-  OFFSET(sshkey_draft, extensions);
-  OFFSET(sshkey_draft, authority);
-  OFFSET(sshkey_draft, serial);
-  OFFSET(sshkey_draft, valid_after);
-  OFFSET(sshkey_draft, valid_before);
-  OFFSET(sshkey_draft, certificate_type);
-  OFFSET(sshkey_draft, all_principals);
-  SIZE(sshkey_entry);
-  OFFSET(sshkey_entry, front);
-  OFFSET(sshkey_entry, key);
-  OFFSET(sshkey_entry, comment);
-  OFFSET(sshkey_entry, length);
-  OFFSET(sshkey_entry, marker);
-  SIZE(sshkey_entry_option_parts);
-  OFFSET(sshkey_entry_option_parts, name);
-  OFFSET(sshkey_entry_option_parts, value);
-  OFFSET(sshkey_entry_option_parts, length);
-  OFFSET(sshkey_entry_option_parts, has_value);
-  printf(" SSHKEY_FOREVER=%" PRIu64, SSHKEY_FOREVER);
+static void ask_rooms(given_call *it) {
+  size_t length = 0, needed = 0;
+  uint32_t answer = SSHKEY_ROOM;
+  for (bool is_kept = true; is_kept; length += is_kept) {
+    free(it->room.bytes);
+    it->room = made(length);
+    answer = called(it, 0);
+    is_kept = answer == SSHKEY_ROOM && is_filled(it->room, 0) && (!length || told(it) == needed);
+    needed = told(it);
+  }
+  printf("%" PRIu32 " %zu %zu", answer, length, needed);
 }
 
-/* Of each number that may be an answer, and of some that are none. */
-static void ask_names(void) {
-  printf("%s", SSHKEY_LIBRARY_VERSION);
-  for (uint32_t answer = 0; answer < 200; answer++)
-    printf(",%" PRIu32 " %s", answer, sshkey_answer_name(answer));
-  printf(",%" PRIu32 " %s", UINT32_MAX, sshkey_answer_name(UINT32_MAX));
+/* ---- which question it is */
+
+/* By a question's word: who answers it, by which call, and how many of its words are bytes, after
+ * which numbers follow. */
+static const struct {
+  const char *what;
+  void (*answer)(given_call *it, const char *name);
+  const char *name;
+  int spans;
+} questions[] = {
+    {"certificate", ask_question, "certificate_question", 1},
+    {"signature", ask_question, "signature_question", 3},
+    {"sshsig", ask_question, "sshsig_question", 3},
+    {"sshsig-of-digest", ask_question, "sshsig_question_of_digest", 3},
+    {"is-signature", ask_is_signature, "signature_question", 3},
+    {"fields", ask_fields, "certificate_fields", 1},
+    {"lists", ask_lists, "certificate_key", 1},
+    {"key", ask_key, "fingerprint", 1},
+    {"line", ask_line, "read_line", 1},
+    {"draft", ask_written, "certificate_to_be_signed", 7},
+    {"join", ask_written, "certificate_make", 2},
+    {"lines", ask_lines, "next_line", 1},
+    {"entry", ask_entry, "authorized_entry", 1},
+    {"host", ask_entry, "known_host", 1},
+    {"options", ask_options, "nth_option", 1},
+    {"verdict", ask_verdict, "host_verdict", 3},
+    {"string-places", ask_places, "next_string", 1},
+    {"option-places", ask_places, "next_option", 1},
+};
+
+static given_call given_by(char **words, int spans) {
+  given_call it;
+  memset(&it, 0, sizeof it);
+  for (int at = 0; at < SPANS; at++) it.spans[at] = bytes_of(at < spans ? words[at] : "-");
+  for (int at = 0; at < NUMBERS; at++) it.numbers[at] = strtoull(words[spans + at], NULL, 10);
+  return it;
 }
 
-static void ask_meanings(void) {
-  for (uint32_t answer = 0; answer < 200; answer++)
-    printf("%s%s", answer ? "," : "", judge_meaning(answer));
+static void let_go(given_call *it) {
+  for (int at = 0; at < SPANS; at++) free(it->spans[at].bytes);
+  free(it->room.bytes);
 }
 
-/* Answers a question about the header and what is written by hand; 0 where it is none. */
-static int ask_about_names(const char *what) {
-  if (!strcmp(what, "names"))
-    ask_names();
-  else if (!strcmp(what, "meanings"))
-    ask_meanings();
-  else if (!strcmp(what, "layout"))
-    ask_layout();
-  else
-    return 0;
-  return 1;
+/* Answers a question whose first word after the question's is a call, or the kind of one. */
+static void answer_of_call(char **words) {
+  given_call it = given_by(words + 2, SPANS);
+  char name[32];
+  it.name = words[1];
+  if (!strcmp(words[0], "call")) {
+    printf("%" PRIu32, ask(&it, words[1], NULL));
+  } else if (!strcmp(words[0], "rooms")) {
+    ask_rooms(&it);
+  } else if (!strcmp(words[0], "memory")) {
+    ask_memory(&it, words[2 + SPANS + NUMBERS]);
+  } else if (!strcmp(words[0], "normal")) {
+    snprintf(name, sizeof name, "%s_normal", words[1]);
+    ask_written(&it, name);
+  }
+  let_go(&it);
 }
 
-static void ask(char **words) {
-  const char *what = words[0];
-  if (ask_about_names(what)) return;
-  if (!strcmp(what, "memory") || !strcmp(what, "user") || !strcmp(what, "host-certificate")) {
-    (what[0] == 'm' ? ask_memory : what[0] == 'u' ? ask_user : ask_host)(words);
+static void answer(char **words, size_t count) {
+  if (has_judged(words, count)) return;
+  for (size_t at = 0; at < sizeof questions / sizeof *questions; at++) {
+    if (strcmp(words[0], questions[at].what)) continue;
+    given_call it = given_by(words + 1, questions[at].spans);
+    questions[at].answer(&it, questions[at].name);
+    let_go(&it);
     return;
   }
-  if (ask_about_keys(words) || ask_about_certificates(words)) return;
-  judge_blob first = bytes_of(words[1]);
-  if (!strcmp(what, "certificate")) {
-    ask_certificate(first);
-  } else if (!strcmp(what, "rooms")) {
-    ask_rooms(first);
-  } else if (!strcmp(what, "fields")) {
-    ask_fields(first);
-  } else if (!strcmp(what, "authority")) {
-    ask_authority(first);
-  } else if (!strcmp(what, "strings")) {
-    ask_strings(first);
-  } else if (!strcmp(what, "key")) {
-    ask_key(first);
-  } else if (!strcmp(what, "sshsig") || !strcmp(what, "sshsig-of-digest")) {
-    judge_blob space = bytes_of(words[2]), covered = bytes_of(words[3]);
-    ask_sshsig(what[6] ? sshkey_sshsig_question_of_digest : sshkey_sshsig_question, first, space,
-               covered);
-    free(space.bytes);
-    free(covered.bytes);
-  } else if (!strcmp(what, "validate")) {
-    judge_blob authority = bytes_of(words[4]);
-    ask_validate(first, words[2], words[3], authority, words[5]);
-    free(authority.bytes);
-  } else {
-    ask_of_files(words, first);
-  }
-  free(first.bytes);
+  answer_of_call(words);
 }
 
 int main(void) {
@@ -345,13 +341,11 @@ int main(void) {
   char *line = NULL, *words[MOST];
   size_t room = 0;
   while (getline(&line, &room, stdin) >= 0) {
-    char *rest = line;
-    for (int at = 0; at < MOST; at++) {
-      words[at] = strtok(rest, " \n");
-      rest = NULL;
-      if (!words[at]) words[at] = none;
-    }
-    ask(words);
+    size_t count = 0;
+    for (char *word = strtok(line, " \n"); word && count < MOST; word = strtok(NULL, " \n"))
+      words[count++] = word;
+    for (size_t at = count; at < MOST; at++) words[at] = none;
+    answer(words, count);
     putchar('\n');
   }
   free(line);

@@ -5,10 +5,12 @@ import getpass
 import os
 from concurrent.futures import ThreadPoolExecutor
 
+from lib.harness import line_of
+
 from .linked import run
 from .principals import SSHD, logs_in
 from .security_key_agent import Agent
-from .security_key_calls import COUNTER, TOUCHED, SecurityKey, certificate_line, certified
+from .security_key_calls import COUNTER, TOUCHED, SecurityKey, certified
 
 CONFIGURATION = """\
 HostKey {0}/host
@@ -92,7 +94,7 @@ class Files:
         line = self.maker.certificate("strange" if agent else authority, name, "-V", "-5m:+5m", *words)
         if agent:
             blobs = (base64.b64decode(it.split()[1]) for it in (line, self.maker.read("strange.pub")))
-            self.maker.write(f"{name}-cert.pub", certificate_line(certified(agent.key, *blobs, COUNTER)) + "\n")
+            self.maker.write(f"{name}-cert.pub", line_of(certified(agent.key, *blobs, COUNTER)) + "\n")
         return name
 
     def printed(self, path, offered):

@@ -1,12 +1,10 @@
-"""SSH signatures by the digests of their messages, for checks/foreign and checks/bindings: what ssh-keygen signs by each hash, and
-digests that Python's hashlib computes."""
+"""SSH signatures by the digests of their messages: what ssh-keygen signs by each hash, and digests that Python's hashlib computes."""
 import hashlib
 
-from lib.harness import blob_of, string, take
+from lib.harness import string, take
 from lib.signatures import signed_data, ssh_signature_over
 
-from .key_calls import said_of_question
-from .linked import Asked, word
+from .linked import word
 from .login_calls import blocks
 
 HASHES = ("sha256", "sha512")
@@ -46,57 +44,70 @@ def with_key(signature, key):
     return signature[:10] + string(key) + take(signature[10:])[1]
 
 
-def question_of(signature, namespace, digest):
-    return " ".join(["sshsig-of-digest", *(word(it) for it in (signature, namespace, digest))])
+def questions_of(signature, namespace, digest, signers):
+    """Of C the question alone, and of a package also whether the signature counts."""
+    words = " ".join(map(word, (signature, namespace, digest)))
+    return f"sshsig-of-digest {words}", f"is-sshsig-of-digest {words} {word(signers)}"
 
 
-def said_by_python(sshkey, *given):
-    return said_of_question(sshkey, sshkey.sshsig_question_of_digest, *given)
-
-
-def check_signed(asked, judges, kind, signature, name):
+def check_signed(judge, name, key, signature, hashed):
     """What is said of each digest, and that the right one is asked about as the text is, over what PROTOCOL.sshsig has signed."""
-    sshkey, check, key, count = *judges, kind[1], asked.count
-    what = f"a signature by {kind[0]} with {name}"
-    count.check(f"{what} names its hash", sshkey.sshsig_hash(signature) == name)
-    right = hashlib.new(name, TEXT).digest()
+    sshkey, check, own = judge.made.sshkey, judge.made.check, judge.made.sshkey.fingerprint(key)
+    right, asked = hashlib.new(hashed, TEXT).digest(), []
     for reserved in (b"", b"reserved"):
         changed = with_reserved(signature, reserved)
         found = sshkey.sshsig_question_of_digest(changed, "file", right)
-        covered = signed_data(b"file", reserved, name.encode(), TEXT)
+        covered = signed_data(b"file", reserved, hashed.encode(), TEXT)
         same = found == sshkey.sshsig_question(changed, "file", TEXT) and found[0].message == covered
-        count.check(f"{what}, {len(reserved)} bytes reserved: the digest is asked about as the text", same, found)
-    for case, namespace, digest, wanted in cases(name):
-        status = check.judge_signature_of_digest(signature, namespace, digest, {sshkey.fingerprint(key)})
-        count.check(f"{what} by a digest: {case}", status.name == wanted, status.name)
-    given = [(signature, namespace, digest) for _, namespace, digest, _ in cases(name)]
-    given += [(signature[:-1], b"file", right), (signature + b"!", b"file", right), (b"", b"file", right)]
-    said = asked.answers(f"digests for {what}", [question_of(*it) for it in given])
-    by_python = [said_by_python(sshkey, *it) for it in given]
-    numbers = [int(sshkey.Status[it]) for it in ("LENGTH", "TRAILING_DATA", "LENGTH")]
-    same = said == by_python and said[-3:] == list(map(str, numbers))
-    count.check("and C answers them as Python does", same, said, by_python)
+        judge.check(f"{name}, {len(reserved)} bytes reserved: the digest is asked about as the text", same, found)
+    for case, namespace, digest, wanted in cases(hashed):
+        question, whole = questions_of(signature, namespace, digest, own)
+        asked.append((case, question, "0" if wanted == "NOT_SIGNED" else str(judge.number(wanted))))
+        status = check.judge_signature_of_digest(signature, namespace, digest, {own})
+        judge.check(f"{name} by a digest: {case}, by check.py", status.name == wanted, status.name)
+        asked += [(f"{case}, whether it counts", whole, str(judge.number(wanted)))] if judge.asker.is_package else []
+    for case, given, wanted in (("cut", signature[:-1], "13"), ("lengthened", signature + b"!", "14"), ("no signature", b"", "13")):
+        asked.append((case, questions_of(given, b"file", right, own)[0], wanted))
+    if judge.asker.is_package:
+        asked.append(("its hash", f"sshsig-hash {signature.hex()}", f"0 {hashed}"))
+        asked.append(("the hash, cut", f"sshsig-hash {signature[:-1].hex()}", "13"))
+        asked.append(("another signer", questions_of(signature, b"file", right, bytes(32))[1], str(judge.number("UNTRUSTED_AUTHORITY"))))
+        asked.append(("by the text", f"is-sshsig {signature.hex()} {word(b'file')} {TEXT.hex()} {own.hex()}", "0"))
+    judge.hold(f"{name} by a digest", asked)
 
 
-def check_digests(count, built, judges, maker, kinds):
+def check_reserved(judge, user, key):
+    """A signature over reserved bytes verifies, and counts for nobody."""
+    asked, own = [], judge.made.sshkey.fingerprint(key)
+    for reserved, wanted in ((b"", "0"), (b"reserved", str(judge.number("NOT_SIGNED")))):
+        signature = ssh_signature_over(reserved, judge.made.maker.path(user), judge.made.maker.read(f"{user}.pub"), TEXT)
+        by_digest = questions_of(signature, b"file", hashlib.sha512(TEXT).digest(), own)[1]
+        by_text = f"is-sshsig {signature.hex()} {word(b'file')} {TEXT.hex()} {own.hex()}"
+        asked += [("what is reserved", f"sshsig-reserved {signature.hex()}", f"0 {word(reserved)}")]
+        asked += [("cut", f"sshsig-reserved {signature[:-1].hex()}", "13"), ("by its text", by_text, wanted), ("by its digest", by_digest, wanted)]
+    judge.hold(f"a signature by {user} over reserved bytes", asked)
+
+
+def check_digests(judge):
     """What keys of each kind sign by each hash; and where key and signature do not go together, there is nothing to verify."""
-    asked, sshkey = Asked(count, built), judges[0]
-    keys = [blob_of(maker.read(f"user{number}.pub")) for number in range(len(kinds))]
+    maker, kinds = judge.made.maker, judge.made.kinds
+    keys = [judge.made.key(number) for number in range(len(kinds))]
     for number, (kind, key) in enumerate(zip(kinds, keys)):
-        for name in HASHES:
-            check_signed(asked, judges, (kind.name, key), signed(maker, f"user{number}", name), name)
+        for hashed in HASHES:
+            signature = signed(maker, f"user{number}", hashed)
+            judge.check(f"a signature by {kind.name} names its hash {hashed}", judge.made.sshkey.sshsig_hash(signature) == hashed)
+            check_signed(judge, f"a signature by {kind.name} with {hashed}", key, signature, hashed)
+        if judge.asker.is_package:
+            check_reserved(judge, f"user{number}", key)
     strange = next(it for it in keys if take(it)[0] != take(keys[0])[0])
-    given = (with_key(signed(maker, "user0", "sha256"), strange), b"file", hashlib.sha256(TEXT).digest())
-    said = asked.answers("digests for a signature under another kind of key", [question_of(*given)])
-    wanted = str(int(sshkey.Status.UNSUPPORTED))
-    count.check("it is not asked about by a digest", said == [said_by_python(sshkey, *given)] == [wanted], said)
-    check_page(count, judges, maker)
+    question, _ = questions_of(with_key(signed(maker, "user0", "sha256"), strange), b"file", hashlib.sha256(TEXT).digest(), b"")
+    judge.hold("a signature by a digest", [("under another kind of key", question, str(judge.number("UNSUPPORTED")))])
 
 
-def check_page(count, judges, maker):
+def check_page(count, made):
     """The lines in Python that docs/FOREIGN.md shows, of a file of five megabytes."""
-    sshkey, check = judges
-    code, signers = blocks("python", "A signature of a large file"), {sshkey.fingerprint(blob_of(maker.read("user0.pub")))}
+    sshkey, check, maker = made.sshkey, made.check, made.maker
+    code, signers = blocks("python", "A signature of a large file"), {sshkey.fingerprint(made.key())}
     count.check("docs/FOREIGN.md shows how a large file is checked", len(code) == 1, code)
     for name in HASHES:
         signature = maker.signature("user0", "text\n" * (1 << 20), "file", "-O", f"hashalg={name}")
@@ -105,34 +116,3 @@ def check_page(count, judges, maker):
             exec(code[0], names)
             said = names["status"].name
             count.check(f"a large file and a signature with {name}: {wanted}", said == wanted, said)
-
-
-# ---- for bindings
-
-
-def questions_of(made):
-    """Questions as asked/binding_calls.py has them, and the numbers that are wanted of them."""
-    questions, wanted = [], []
-    for number in range(len(made.kinds)):
-        own = hashlib.sha256(blob_of(made.maker.read(f"user{number}.pub"))).hexdigest()
-        for name in HASHES:
-            signature = signed(made.maker, f"user{number}", name)
-            questions += [f"sshsig-hash {signature.hex()}", f"sshsig-hash {signature[:-1].hex()}"]
-            wanted += [f"0 {name}", "13"]
-            for _, namespace, digest, status in cases(name):
-                status = int(made.sshkey.Status[status])
-                words = " ".join(word(it) for it in (signature, namespace, digest))
-                questions += [f"sshsig-of-digest {words}", f"is-sshsig-of-digest {words} {own}"]
-                wanted += [str(0 if status == made.sshkey.Status.NOT_SIGNED else status), str(status)]
-            words = " ".join(it.hex() for it in (signature, b"file"))
-            right = hashlib.new(name, TEXT).hexdigest()
-            questions += [f"is-sshsig {words} {TEXT.hex()} {own}", f"is-sshsig-of-digest {words} {right} {'00' * 32}"]
-            wanted += ["0", str(int(made.sshkey.Status.UNTRUSTED_AUTHORITY))]
-        line = made.maker.read(f"user{number}.pub")
-        for reserved, status in ((b"", "0"), (b"reserved", str(int(made.sshkey.Status.NOT_SIGNED)))):
-            signature = ssh_signature_over(reserved, made.maker.path(f"user{number}"), line, TEXT).hex()
-            words = f"{signature} {b'file'.hex()}"
-            questions += [f"sshsig-reserved {it}" for it in (signature, signature[:-2])]
-            questions += [f"is-sshsig {words} {TEXT.hex()} {own}", f"is-sshsig-of-digest {words} {hashlib.sha512(TEXT).hexdigest()} {own}"]
-            wanted += [f"0 {word(reserved)}", "13", status, status]
-    return questions, wanted

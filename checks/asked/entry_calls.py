@@ -1,16 +1,16 @@
-"""The lines of authorized_keys and known_hosts, for checks/foreign: what the library for C answers in C with sanitizers and in
-Python, against ssh-keygen. The lines, the options and the files are those of checks/entry-lines and checks/hosts, a sample."""
+"""The lines of authorized_keys and known_hosts, against ssh-keygen. The lines, the options and the files are those of
+checks/entry-lines and checks/hosts, a sample."""
 import base64
-import importlib.machinery
-import importlib.util
 import os
 import random
 import re
 import sys
 import tempfile
 
-from asked.linked import EXAMPLES, Asked, part_of, run, word
-from lib.harness import ROOT, ssh_keygen
+from lib.harness import ssh_keygen
+
+from .linked import EXAMPLES, run, word
+from .made import loaded
 
 LINES, TEXTS, FILES, CUTS = 90, 30, 200, 40
 # what texts of lines are put together of
@@ -31,42 +31,27 @@ OPTIONS = [
 ]  # fmt: skip
 
 
-def loaded(name):
-    """A check without an ending, as a module."""
-    loader = importlib.machinery.SourceFileLoader(name.replace("-", "_"), os.path.join(ROOT, "checks", name))
-    module = importlib.util.module_from_spec(importlib.util.spec_from_loader(loader.name, loader))
-    loader.exec_module(module)
-    return module
-
-
 # ---- lines
 
 
 def lines_of(text):
-    """The lines that sshd(8) does not pass over, and where each begins. Lines end at line feeds alone."""
-    place, parts = 0, text.split(b"\n")
+    """The lines that sshd(8) does not pass over. Lines end at line feeds alone."""
+    parts = text.split(b"\n")
     for at, whole in enumerate(parts):
         line = whole[:-1] if whole.endswith(b"\r") and at < len(parts) - 1 else whole
         filled = line.lstrip(b" \t")
         if filled and not filled.startswith(b"#"):
-            yield place + len(line) - len(filled), filled
-        place += len(whole) + 1
+            yield filled
 
 
-def check_lines(count, built, sshkey, draw):
+def check_lines(judge, draw):
     texts = [b"", b"a", b"a\r", b"\r\n", b" \t", b"# a\n b\n", b"a\r\r\nb\n\n"]
     texts += [b"".join(draw.choice(PIECES) for _ in range(draw.randrange(24))) for _ in range(400)]
-    said = Asked(count, built).answers("lines", [f"lines {word(it)}" for it in texts])
-    wrong = []
-    for text, answer in zip(texts, said):
-        wanted = list(lines_of(text))
-        by_c = "".join(f" {part_of(line)}@{start}" for start, line in wanted) + " 3 3 3 3"
-        if answer != by_c or sshkey.entry_lines(text) != [line for _, line in wanted]:
-            wrong.append((text, answer, by_c, sshkey.entry_lines(text)))
-    count.check(f"the lines of {len(texts)} texts that may be entries", not wrong, *wrong[:3])
+    wanted = [" ".join(["0", *map(word, lines_of(it))]) for it in texts]
+    judge.ask("texts of lines", [f"lines {word(it)}" for it in texts], wanted)
 
 
-def check_file(count, sshkey, folder, keys):
+def check_file(judge, folder, keys):
     """The keys of a file, in order, are those that ssh-keygen shows."""
     ed25519, rsa, ecdsa = (f"{name} {blob}" for name, blob in keys.items())
     text = f"# keys\n\n{ed25519} a\r\n \t{rsa} b # c\n\n#{ecdsa} off\n{ecdsa}\n{ed25519} last"
@@ -74,22 +59,21 @@ def check_file(count, sshkey, folder, keys):
     with open(path, "w", encoding="utf-8", newline="") as file:
         file.write(text)
     shown = re.findall(r"SHA256:\S+", ssh_keygen("-l", "-f", path, text=True).stdout)
+    sshkey = judge.made.sshkey
     entries = [sshkey.authorized_entry(line) for line in sshkey.entry_lines(text.encode())]
     found = [sshkey.fingerprint_text(sshkey.fingerprint(it.key)) for it in entries]
-    count.check("the keys of a file are those that ssh-keygen shows", found == shown and len(found) == 4, found, shown)
+    judge.check("the keys of a file are those that ssh-keygen shows", found == shown and len(found) == 4, found, shown)
 
 
 # ---- entries
 
 
 def read_by_python(sshkey, kind, line):
-    """What the Python module reads of the line, or None, and the same as C says it."""
+    """What the Python module reads of the line, or None."""
     try:
-        entry = (sshkey.authorized_entry if kind == "entry" else sshkey.known_host)(line)
-    except sshkey.Refused as refused:
-        return None, f"{int(refused.status)}"
-    marker, front = (0, entry.options) if kind == "entry" else (int(entry.marker), entry.hosts)
-    return entry, " ".join([f"0 {marker}", *map(part_of, (front, entry.key, entry.comment))])
+        return (sshkey.authorized_entry if kind == "entry" else sshkey.known_host)(line)
+    except sshkey.Refused:
+        return None
 
 
 def is_key_shown(entry, wanted, keys):
@@ -106,33 +90,30 @@ def is_host_found(entry, wanted, keys, lines):
     return wanted is not None and marker == wanted[0] and entry.key == keys[wanted[1]]
 
 
-def check_entries(count, built, sshkey, draw, folder, lines):
+def check_entries(judge, draw, folder, lines):
     texts = lines.made(folder)
     keys = {name: base64.b64decode(it) for name, it in texts.items()}
-    check_file(count, sshkey, folder, texts)
+    check_file(judge, folder, texts)
     cases = []
     for _ in range(LINES):
         line, plain = lines.authorized_line(draw, texts)
         cases.append(("entry", line.encode(), lines.shown(folder, plain)))
         line = lines.host_line(draw, texts)
         cases.append(("host", line.encode(), lines.found(folder, line)))
-    said = Asked(count, built).answers("entries", [f"{kind} {word(line)}" for kind, line, _ in cases])
+    judge.ask("lines of entries", [f"{kind} {word(line)}" for kind, line, _ in cases])
     wrong, read = [], {"entry": [], "host": []}
-    for (kind, line, wanted), answer in zip(cases, said):
-        entry, by_python = read_by_python(sshkey, kind, line)
+    for kind, line, wanted in cases:
+        entry = read_by_python(judge.made.sshkey, kind, line)
         fits = is_key_shown(entry, wanted, keys) if kind == "entry" else is_host_found(entry, wanted, keys, lines)
-        if answer != by_python or not fits:
-            wrong.append((line, answer, by_python, entry, wanted))
-        if entry:
-            read[kind].append((line, entry))
-    count.check(f"{len(cases)} lines are read as ssh-keygen reads them", not wrong, *wrong[:3])
-    count.check("and many of each kind are entries", min(map(len, read.values())) > LINES // 8, *map(len, read.values()))
-    check_faults(count, built, sshkey, texts["ssh-ed25519"])
-    check_rooms(count, built, read)
-    check_hostile(count, built, sshkey, draw, read)
+        wrong += [] if fits else [(line, entry, wanted)]
+        read[kind] += [line] if entry else []
+    judge.check(f"{len(cases)} lines are read as ssh-keygen reads them", not wrong, *wrong[:3])
+    judge.check("and many of each kind are entries", min(map(len, read.values())) > LINES // 8, *map(len, read.values()))
+    check_faults(judge, texts["ssh-ed25519"])
+    check_hostile(judge, draw, read)
 
 
-def check_faults(count, built, sshkey, key):
+def check_faults(judge, key):
     """Which number a line is refused with."""
     ed25519 = f"ssh-ed25519 {key}"
     cases = [
@@ -145,52 +126,35 @@ def check_faults(count, built, sshkey, key):
     ]  # fmt: skip
     cases = [(kind, line.encode(), wanted) for kind, line, wanted in cases]
     cases += [(kind, b"\xff " + ed25519.encode(), "TEXT") for kind in ("entry", "host")]
-    said = Asked(count, built).answers("faults of lines", [f"{kind} {word(line)}" for kind, line, _ in cases])
-    wrong = [(*it, answer) for it, answer in zip(cases, said) if answer != str(int(sshkey.Status[it[2]]))]
-    count.check("a line is refused for its fault", not wrong, *wrong)
+    asked = [(f"{kind} {line!r:.40}", f"{kind} {word(line)}", str(judge.number(wanted))) for kind, line, wanted in cases]
+    judge.hold("the fault of a line", asked)
 
 
-def check_rooms(count, built, read):
-    some = [(kind, line, entry) for kind, them in read.items() for line, entry in them[:8]]
-    said = Asked(count, built).answers("rooms for entries", [f"short {kind} {word(line)}" for kind, line, _ in some])
-    for (kind, line, entry), answer in zip(some, said):
-        front = entry.options if kind == "entry" else entry.hosts
-        needed = len(front) + len(entry.key) + len(entry.comment)
-        kept = answer == f"{needed} {needed + 1}" and needed <= len(line)
-        count.check(f"each room below the {needed} bytes of a line is too short", kept, answer)
-
-
-def check_hostile(count, built, sshkey, draw, read):
-    """Lines that are cut, or have a byte turned, are answered, and the same in C and in Python."""
+def check_hostile(judge, draw, read):
+    """Lines that are cut, or have a byte turned, are answered."""
     cases = []
     for kind, them in read.items():
-        for line, _ in them[:3]:
+        for line in them[:3]:
             for at, byte in enumerate(line):
                 cases.append((kind, line[:at] + bytes([byte ^ draw.choice([1, 32, 128])]) + line[at + 1 :]))
             cases += [(kind, line[: draw.randrange(len(line))]) for _ in range(CUTS)]
-    said = Asked(count, built).answers("hostile lines", [f"{kind} {word(line)}" for kind, line in cases])
-    wrong = [(line, answer) for (kind, line), answer in zip(cases, said) if answer != read_by_python(sshkey, kind, line)[1]]
+    said = judge.ask("lines of entries that are cut or turned", [f"{kind} {word(line)}" for kind, line in cases])
     numbers = {int(it.split()[0]) for it in said}
-    count.check("hostile lines are answered the same in C and in Python", not wrong, *wrong[:3])
-    count.check("and each is an entry, no text, or has a fault", all(it in (0, 4) or 10 <= it < 30 for it in numbers), numbers)
+    judge.check("each of them is an entry, no text, or has a fault", all(it in (0, 4) or 10 <= it < 30 for it in numbers), numbers)
 
 
 # ---- options
 
 
 def options_by_python(sshkey, text):
-    """The options, or the name of the number they are refused with; and the same as C says it."""
-    found = []
+    """The options, or the name of the number they are refused with."""
     try:
-        found += sshkey.entry_options(text)
-        status = sshkey.Status.END
+        return sshkey.entry_options(text)
     except sshkey.Refused as refused:
-        status = refused.status
-    said = "".join(f" {part_of(name)} {part_of(value or b'')} {int(value is not None)}" for name, value in found)
-    return found if status == sshkey.Status.END else status.name, f"{said} {int(status)}"
+        return refused.status.name
 
 
-def check_options(count, built, sshkey, draw, folder, lines):
+def check_options(judge, draw, folder, lines):
     with open(f"{folder}/ssh-ed25519.pub", encoding="ascii") as file:
         key = " ".join(file.read().split()[:2])
     cases = list(OPTIONS)
@@ -198,19 +162,14 @@ def check_options(count, built, sshkey, draw, folder, lines):
         text, value = lines.options_text(draw)
         wanted = lines.verified(folder, text, value, key)
         cases.append((text.encode(), (value.encode(), wanted)))
-    said = Asked(count, built).answers("options", [f"options {word(text)}" for text, _ in cases])
+    judge.ask("texts of options", [f"options {word(text)}" for text, _ in cases])
     wrong = []
-    for (text, wanted), answer in zip(cases, said):
-        found, by_python = options_by_python(sshkey, text)
+    for text, wanted in cases:
+        found = options_by_python(judge.made.sshkey, text)
         taken = [(name.lower(), value) for name, value in found] if isinstance(found, list) else None
         fits = found == wanted if not isinstance(wanted, tuple) else (taken == [(b"namespaces", wanted[0])]) == wanted[1]
-        if answer != by_python or not fits:
-            wrong.append((text, answer, by_python, found, wanted))
-    count.check(f"the options of {len(cases)} texts", not wrong, *wrong[:3])
-    some = [(text, found[0]) for text, found in OPTIONS if found and isinstance(found, list)]
-    said = Asked(count, built).answers("rooms for options", [f"short options {word(text)}" for text, _ in some])
-    needed = [len(name) + len(value or b"") for _, (name, value) in some]
-    count.check("each room below an option is too short", said == [f"{it} {it + 1}" for it in needed], said, needed)
+        wrong += [] if fits else [(text, found, wanted)]
+    judge.check(f"the options of {len(cases)} texts are those that ssh-keygen reads", not wrong, *wrong[:3])
 
 
 # ---- hosts
@@ -230,9 +189,9 @@ def authority_in(folder, hosts, text, name, port, key, verdict):
     return "DONE" if ("CA", key) in found else "HOST_UNKNOWN"
 
 
-def host_cases(draw, folder, hosts, files=FILES):
+def host_cases(draw, folder, hosts):
     """Names, texts, hosts, ports and keys, and the names of what is wanted of a host's key and of an authority's."""
-    keys, hosts.FILES = hosts.made(folder), files
+    keys, hosts.FILES = hosts.made(folder), FILES
     types = {line: name for name, line in keys.items()}
     for question, shown, wanted in hosts.of_files(draw, folder, keys):
         text, name, port, key = map(bytes_of, question.removeprefix("host-verdict ").split(" , "))
@@ -247,30 +206,18 @@ def host_cases(draw, folder, hosts, files=FILES):
         yield shown, text, name, 22, given, wanted, wanted
 
 
-def judged_by_python(call, *given):
-    try:
-        return call(*given).name
-    except ValueError as refused:
-        return refused.status.name
-
-
-def check_verdicts(count, built, sshkey, draw, folder, hosts):
-    cases = list(host_cases(draw, folder, hosts))
-    questions = [f"verdict {word(text)} {word(host)} {port} {word(key)}" for _, text, host, port, key, *_ in cases]
-    said = Asked(count, built).answers("hosts", questions)
-    wrong = []
-    for (shown, *given, verdict, authority), answer in zip(cases, said):
-        found = judged_by_python(sshkey.host_verdict, *given), judged_by_python(sshkey.authority_verdict, *given)
-        if (verdict, authority) != found or answer != " ".join(str(int(sshkey.Status[it])) for it in found):
-            wrong.append((shown, answer, found, verdict, authority))
-    name = f"{len(cases)} verdicts on the keys of hosts and authorities are what ssh-keygen -F finds"
-    count.check(name, not wrong, *wrong[:3])
+def check_verdicts(judge, folder, hosts):
+    """What a text says of the keys of hosts and authorities is what `ssh-keygen -F` finds."""
+    cases = list(host_cases(random.Random(hosts.SEED), folder, hosts))
+    questions = [f"verdict {word(text)} {word(host)} {word(key)} {port}" for _, text, host, port, key, *_ in cases]
+    judge.ask("verdicts", questions, [f"{judge.number(one)} {judge.number(other)}" for *_, one, other in cases])
     few = [name for name in VERDICTS.values() if sum(it[-2] == name for it in cases) < FILES // 60]
-    count.check("and each verdict is among them", not few and sum(it[-1] == "DONE" for it in cases) > 2, few)
+    judge.check("each verdict is among them", not few and sum(it[-1] == "DONE" for it in cases) > 2, few)
 
 
-def check_example(count, folder, hosts):
+def check_example(count, folder):
     """examples/host.py, over a file in which ssh-keygen hashed the names."""
+    hosts = loaded("hosts")
     keys = hosts.made(folder)
     lines = [f"h.example,[h.example]:2222 {keys['ED25519']}", f"other.example {keys['RSA']}"]
     lines.append(f"@revoked h.example {keys['ECDSA']}")
@@ -296,13 +243,11 @@ def check_example(count, folder, hosts):
     count.check("and with 2 where there is no key", none.returncode == 2 and none.stderr and not none.stdout, none.stdout, none.stderr)
 
 
-def check_entry_calls(count, built, sshkey):
+def check_entry_calls(judge):
     lines, hosts, draw = loaded("entry-lines"), loaded("hosts"), random.Random(3)
-    check_lines(count, built, sshkey, draw)
+    check_lines(judge, draw)
     with tempfile.TemporaryDirectory() as folder:
-        check_entries(count, built, sshkey, draw, folder, lines)
-        check_options(count, built, sshkey, draw, folder, lines)
+        check_entries(judge, draw, folder, lines)
+        check_options(judge, draw, folder, lines)
     with tempfile.TemporaryDirectory() as folder:
-        check_verdicts(count, built, sshkey, random.Random(hosts.SEED), folder, hosts)
-    with tempfile.TemporaryDirectory() as folder:
-        check_example(count, folder, hosts)
+        check_verdicts(judge, folder, hosts)

@@ -24,7 +24,7 @@ def python(built, name):
 
 def certificate_cases(maker, kind, middle):
     """Names, files of authorities, seconds, what is given of the certificate of that kind, and the status."""
-    good, line = maker.path(f"{kind.authority}.pub"), f"{kind.line}\n"
+    good, line = kind.path, f"{kind.line}\n"
     empty, wrong = maker.write("empty", ""), maker.write("wrong", f"\n# a comment\n{maker.read('user0.pub')}\nssh-ed25519 AAAA\n")
     yield from ((f"the second {word!r}", good, word, line, status) for word, status in SECONDS)
     yield from [
@@ -37,14 +37,13 @@ def certificate_cases(maker, kind, middle):
 
 
 def check_certificates(count, built, maker, kind, middle):
-    """check_certificate and check.py have the status 2 where they can't tell."""
-    good, line, wrong = maker.path(f"{kind.authority}.pub"), f"{kind.line}\n", maker.path("wrong")
+    """check_certificate has the status 2 where it can't tell."""
+    good, line, wrong = kind.path, f"{kind.line}\n", maker.path("wrong")
     cases = list(certificate_cases(maker, kind, middle))
-    programs = {
-        "check_certificate": [f"{built.plain}/check_certificate"], "with sanitizers": [f"{built.sanitized}/check_certificate"],
-        "check.py": [*python(built, "check.py"), "certificates"],
-    }  # fmt: skip
-    for program, words in programs.items():
+    programs = {"check_certificate": built.plain, "check_certificate with sanitizers": built.sanitized}
+    folder = os.open(maker.folder, os.O_RDONLY)
+    for program, out in programs.items():
+        words = [f"{out}/check_certificate"]
         for name, authorities, second, given, wanted in cases:
             ran = run([*words, authorities, "alice", second], input=given)
             told = bool(ran.stderr) == (wanted == UNTOLD) and (wanted != UNTOLD or ran.stderr.count("\n") == 1 and not ran.stdout)
@@ -52,13 +51,11 @@ def check_certificates(count, built, maker, kind, middle):
         with open("/dev/full", "wb") as full:
             ran = run([*words, good, "alice", str(middle)], input=line, capture_output=False, stdout=full, stderr=-1)
         count.check(f"{program}: nothing is written", ran.returncode == UNTOLD and ran.stderr, ran.returncode, ran.stderr)
-    ran = run([f"{built.plain}/check_certificate", wrong, "alice"], input=line)
-    count.check("check_certificate names the line that is no key", f"{wrong}:4: no key" in ran.stderr, ran.stderr)
-    folder = os.open(maker.folder, os.O_RDONLY)
-    for program in ("check_certificate", "with sanitizers"):
-        ran = run([*programs[program], good, "alice", str(middle)], stdin=folder)
+        ran = run([*words, good, "alice", str(middle)], stdin=folder)
         count.check(f"{program}: a folder on standard input", ran.returncode == UNTOLD and ran.stderr, ran.returncode, ran.stderr)
     os.close(folder)
+    ran = run([f"{built.plain}/check_certificate", wrong, "alice"], input=line)
+    count.check("check_certificate names the line that is no key", f"{wrong}:4: no key" in ran.stderr, ran.stderr)
 
 
 def check_helpers(count, built, maker, kind):
@@ -168,19 +165,14 @@ def armour_cases(good, strange):
     ]  # fmt: skip
 
 
-def check_armour(count, built, maker):
-    """check.py reads an armour where `ssh-keygen -Y verify` does."""
-    signed = maker.write("armour.txt", "a text")
+def check_armour(count, maker):
+    """`ssh-keygen -Y verify` reads an armour exactly where the programs have to (asked/programs.py)."""
     good, strange = (armoured(maker.signature("holder", it, SPACE)) for it in ("a text", "another text"))
     allowed = maker.write("armour.allowed", f"alice {maker.read('holder.pub')}")
-    words = [*python(built, "check.py"), "signature", maker.path("holder.pub"), SPACE, signed]
-    asked = ["ssh-keygen", "-Y", "verify", "-n", SPACE, "-I", "alice", "-f", allowed]
+    words = ["ssh-keygen", "-Y", "verify", "-n", SPACE, "-I", "alice", "-f", allowed]
     for case, text, wanted in armour_cases(good, strange):
-        ran = run(words, input=text)
-        judged = run([*asked, "-s", maker.write("armour.sig", text)], input="a text")
-        same = is_untold(ran, "check.py") if wanted == UNTOLD else ran.returncode == wanted and not ran.stderr
-        same = same and (judged.returncode == 0) == (wanted == VALID)
-        count.check(f"check.py, an armour: {case}", same, ran.returncode, ran.stdout, ran.stderr, f"ssh-keygen: {judged.returncode}")
+        judged = run([*words, "-s", maker.write("armour.sig", text)], input="a text")
+        count.check(f"ssh-keygen, an armour: {case}", (judged.returncode == 0) == (wanted == VALID), judged)
 
 
 def check_host_words(count, built, maker):
@@ -257,7 +249,7 @@ def check_example_calls(count, built, check, maker, kind, middle):
     check_helpers(count, built, maker, kind)
     check_issuing(count, built, maker)
     check_closed(count, built, maker)
-    check_armour(count, built, maker)
+    check_armour(count, maker)
     check_host_words(count, built, maker)
     check_copies(count, built, maker)
     check_meanings(count, built, check)

@@ -1,12 +1,12 @@
-"""Whether a certificate is a host's: validate_host of the examples in C and in Python, for checks/foreign. The certificates and
-the files of known_hosts are those about which checks/callers asks a real ssh, and what is wanted is what is wanted there."""
+"""Whether a certificate is a host's: validate_host of the helpers, of check.py and of the packages. The certificates and the files
+of known_hosts are those about which checks/callers asks a real ssh, and what is wanted is what is wanted there."""
 import time
 
 from lib.harness import blob_of
 
 from .hosts import AROUND_NOW, AUTHORITY, BROKEN, CERTIFICATES, CERTIFICATES_OF_FILES, HOST, INVALID, NAMED, field, in_one_file, written
-from .linked import HELPERS, PEDANTIC, SANITIZED, VALGRIND, C, run, word
-from .login_calls import REFUSALS, blocks
+from .linked import run, word
+from .login_calls import blocks, built_page, said_by_python
 
 # what the program callers answers, and what validate_host does
 WANTED = {
@@ -59,49 +59,27 @@ return 0;
 """
 
 
-def said_by_page(modules, code, certificate, texts):
-    """What the lines in Python say."""
-    said = []
-    names = {"sshkey": modules[0], "check": modules[1], "time": time, "certificate": certificate, "texts": texts}
-    names.update({"go_on": lambda: said.append("go on"), "print": lambda *words: said.append(" ".join(words))})
-    exec(code, names)
-    return said
-
-
-def check_page(count, built, modules, maker):
+def check_page(count, built, made):
     """The lines that docs/FOREIGN.md shows compile, and take the host's certificate, and no other."""
-    path, code, by_python = f"{maker.folder}/host-page", blocks("c", "A host's certificate"), blocks("python", "A host's certificate")
-    maker.write("host-page.c", PAGE.format(*code[:1]))
-    parts = [f"{path}.c", f"{built.sanitized}/judge.o", f"{built.sanitized}/verify.o", f"{built.sanitized}/libsshkey.a"]
-    made = run([*C, *PEDANTIC, f"-I{HELPERS}", *SANITIZED.split(), *parts, "-lcrypto", "-o", path])
-    count.check("the C of a host's certificate in docs/FOREIGN.md compiles", made.returncode == 0 and len(code) == 1, made.stderr[-2000:])
+    maker, code, in_python = made.maker, blocks("c", "A host's certificate"), blocks("python", "A host's certificate")
+    path, page = built_page(built, maker, "host-page", PAGE.format(*code[:1]))
+    count.check("the C of a host's certificate in docs/FOREIGN.md compiles", page.returncode == 0 and len(code) == 1, page.stderr[-2000:])
     line = maker.certificate("host-authority", "host-key", "-h", "-V", "-5m:+5m", "-n", "db.example.org")
     by, key = (maker.read(f"{it}.pub") for it in ("host-authority", "host-key"))
     for name, texts, *wanted in (
         ("its authority", ["", f"@cert-authority db.example.org {by}\n"], "go on", "go on"),
         ("a revoked key", [f"@cert-authority db.example.org {by}\n", f"@revoked * {key}\n"], "refused: revoked (50)", "refused: HOST_REVOKED"),
     ):
-        ran = run([path, line, *texts]) if made.returncode == 0 else made
-        by_c = [*ran.stdout.splitlines(), *ran.stderr.splitlines()]
-        said = [*by_c, *said_by_page(modules, by_python[0], blob_of(line), [it.encode() for it in texts])]
+        ran = run([path, line, *texts]) if page.returncode == 0 else page
+        by_python = said_by_python(made, in_python[0], certificate=blob_of(line), texts=[it.encode() for it in texts])
+        said = [*ran.stdout.splitlines(), *ran.stderr.splitlines(), *by_python]
         count.check(f"a host's certificate in docs/FOREIGN.md: {name}", said == wanted, said)
 
 
-def check_hosts(count, built, modules, maker):
-    sshkey, check = modules
-    asked, now = list(cases(maker)), int(time.time())
-    lines = ""
-    for _, blob, host, port, texts, _ in asked:
+def check_hosts(judge):
+    now, asked = int(time.time()), []
+    for name, blob, host, port, texts, wanted in cases(judge.made.maker):
         spelled = [word(it) for it in (host.encode() if isinstance(host, str) else host, *texts)]
-        lines += " ".join(["host-certificate", word(blob), str(now), spelled[0], str(port), str(len(texts)), *spelled[1:]]) + "\n"
-    ran = run([f"{built.sanitized}/foreign"], input=lines)
-    said = ran.stdout.splitlines()
-    count.check("hosts are judged without a fault", ran.returncode == 0 and len(said) == len(asked), ran.stderr[-2000:])
-    under = run([*VALGRIND, f"{built.plain}/foreign"], input=lines)
-    count.check("and the same under valgrind", under.returncode == 0 and under.stdout.splitlines() == said, under.stderr[-2000:])
-    check_page(count, built, modules, maker)
-    for (name, blob, host, port, texts, wanted), answer in zip(asked, said):
-        number = REFUSALS[wanted] if wanted in REFUSALS else int(sshkey.Status[wanted])
-        found = check.validate_host(blob, now, host, port, texts)
-        same = int(found) == number and answer == f"{number} {check.MEANING.get(found, 'valid')}"
-        count.check(f"a host's certificate: {name}", same, wanted, found, answer)
+        question = " ".join(["host-certificate", word(blob), str(now), spelled[0], str(port), *spelled[1:]])
+        asked.append((name, question, judge.said_of(wanted)))
+    judge.hold("a host's certificate", asked)

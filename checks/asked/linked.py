@@ -3,12 +3,10 @@ import ctypes
 import os
 import re
 import subprocess
-import zlib
 
 from lib.harness import ROOT
 
 BINDINGS, HELPERS, EXAMPLES = (os.path.join(ROOT, it) for it in ("bindings", "helpers", "examples"))
-HEADER = os.path.join(ROOT, "include", "sshkey.h")
 SANITIZED = "-O1 -g -fsanitize=address,undefined -fno-sanitize-recover=all -fno-omit-frame-pointer"
 WARNINGS = ["-Wall", "-Wextra", "-pedantic", "-Werror"]
 # flags for the lines of docs/FOREIGN.md
@@ -16,7 +14,7 @@ PEDANTIC = ["-Wshadow", "-Wconversion"]
 C = ["cc", "-std=c11", "-D_POSIX_C_SOURCE=200809L", *WARNINGS, f"-I{ROOT}/include"]
 # under which a program that reads or writes where it may not, or gives no memory back, ends with 9
 VALGRIND = ["valgrind", "-q", "--leak-check=full", "--error-exitcode=9"]
-# what checks/asked/memory_calls.h and login_calls.h wrap
+# what memory_calls.h and judge_calls.h wrap
 WRAPPED = "-Wl,--wrap=malloc,--wrap=realloc,--wrap=free,--wrap=judge_is_signature"
 # what the library may take of the C library
 TAKEN = {"malloc", "realloc", "free", "memcpy", "memmove", "memset", "memcmp", "__cxa_finalize"}
@@ -25,11 +23,6 @@ TAKEN = {"malloc", "realloc", "free", "memcpy", "memmove", "memset", "memcmp", "
 def word(data):
     """Bytes as a question of checks/foreign.c or of an asker spells them."""
     return data.hex() or "-"
-
-
-def part_of(data):
-    """A part as checks/foreign.c says it."""
-    return f"{len(data)}:{zlib.crc32(data):08x}"
 
 
 def turned(data):
@@ -59,32 +52,20 @@ class Built:
         return made.returncode == 0 and asking.returncode == 0
 
 
-class Asked:
-    """What C answers, as checks/foreign.c says it."""
-
-    def __init__(self, count, built):
-        self.count, self.built = count, built
-
-    def answers(self, name, questions):
-        """Of each question, with sanitizers; those of the first few are the same under valgrind."""
-        said = run([f"{self.built.sanitized}/foreign"], input="".join(f"{it}\n" for it in questions))
-        under = run([*VALGRIND, f"{self.built.plain}/foreign"], input="".join(f"{it}\n" for it in questions[:3]))
-        found = said.stdout.splitlines()
-        same = (said.returncode, under.returncode, len(found)) == (0, 0, len(questions)) and found[:3] == under.stdout.splitlines()
-        self.count.check(f"{name} are asked about without a fault", same, said.stderr[-2000:], under.stderr[-2000:])
-        return found
+def header():
+    """The text of include/sshkey.h."""
+    with open(os.path.join(ROOT, "include", "sshkey.h"), encoding="ascii") as file:
+        return file.read()
 
 
 def declared():
     """The calls that the header declares."""
-    with open(HEADER, encoding="ascii") as file:
-        return set(re.findall(r"^uint32_t (sshkey_\w+)\(", file.read(), re.M))
+    return set(re.findall(r"^uint32_t (sshkey_\w+)\(", header(), re.M))
 
 
 def enumerations():
     """The names and numbers of each enum of the header."""
-    with open(HEADER, encoding="ascii") as file:
-        found = re.findall(r"^enum \{(.*?)\};", file.read(), re.M | re.S)
+    found = re.findall(r"^enum \{(.*?)\};", header(), re.M | re.S)
     return [{name: int(number) for name, number in re.findall(r"\b(SSHKEY_\w+) = (\d+)", it)} for it in found]
 
 
@@ -147,19 +128,19 @@ def check_names(count, built):
     count.check("the version of the header, of the package and of CHANGELOG.md is one", same, version, package, told)
 
 
-def check_layout(count, built, sshkey):
-    wanted, library = {"SSHKEY_FOREVER": sshkey.FOREVER}, sshkey._library
-    structs = {"sshkey_part": library.Part, "sshkey_sha256": library.Sha256, "sshkey_question": library.Question}
-    structs.update(sshkey_sha512=library.Sha512, sshkey_line=library.Line, sshkey_fields=library.Fields)
-    structs.update(sshkey_parts=library.Parts, sshkey_certificate_option_parts=library.CertificateOption)
-    structs.update(sshkey_span=library.Span, sshkey_draft=library.Draft)
-    structs.update(sshkey_entry=library.Entry, sshkey_entry_option_parts=library.EntryOption)
-    for name, struct in structs.items():
-        wanted[name] = ctypes.sizeof(struct)
-        wanted.update({f"{name}.{field}": getattr(struct, field).offset for field, _ in struct._fields_})
-    said = run([f"{built.plain}/foreign"], input="layout\n").stdout.split()
-    found = {name: int(value) for name, value in (it.split("=") for it in said)}
-    count.check("the structs of C lie as those of Python", found == wanted, found, wanted)
+def check_layout(count, sshkey):
+    """The structs of Python lie as the header asserts, which check_header compiles."""
+    found = {"size_t": ctypes.sizeof(ctypes.c_size_t)}
+    for struct in vars(sshkey._library).values():
+        # each has the name in C as its page
+        name = struct.__doc__ if isinstance(struct, type) and issubclass(struct, ctypes.Structure) else ""
+        if name.startswith("sshkey_"):
+            found[name] = ctypes.sizeof(struct)
+            found.update({f"{name}, {field}": getattr(struct, field).offset for field, _ in struct._fields_})
+    asserted = re.findall(r"^SSHKEY_IS\((?:sizeof|offsetof)\((.*)\) == (\d+)\);", header(), re.M)
+    wanted = {it: int(number) for it, number in asserted}
+    count.check("the structs of Python lie as the header says", found == wanted, found, wanted)
+    count.check("the end of a window that has none is the same", sshkey.FOREVER == 2**64 - 1 and "SSHKEY_FOREVER UINT64_MAX" in header())
 
 
 def is_found(folder, package, library):
@@ -207,7 +188,7 @@ def check_installed(count, built, folder):
 def check_linked(count, built, sshkey, folder):
     check_header(count, folder)
     check_symbols(count, built, sshkey)
-    check_layout(count, built, sshkey)
+    check_layout(count, sshkey)
     count.check("pkg-config finds the library", is_found(folder, built.plain, built.plain))
     check_installed(count, built, folder)
     check_names(count, built)

@@ -1,5 +1,5 @@
-"""Whether a certificate logs a user in: validate_user of the examples in C and in Python, for checks/foreign. What is wanted
-follows from the words that ssh-keygen was given, which makes the certificates."""
+"""Whether a certificate logs a user in: validate_user of the helpers, of check.py and of the packages. What is wanted follows from
+the words that ssh-keygen was given, which makes the certificates."""
 import hashlib
 import re
 import time
@@ -7,19 +7,16 @@ from unittest.mock import patch
 
 from lib.harness import ROOT, blob_of, string
 
-from .linked import HELPERS, PEDANTIC, SANITIZED, VALGRIND, C, run, word
+from .linked import HELPERS, PEDANTIC, SANITIZED, C, run, word
 from .login_options import CASES, FLAGS, MOST, TEXTS, certificate
+from .made import MIDDLE, WINDOW
 
-REFUSALS = {
-    "NOT_FOR_USERS": 100, "NOBODY_LISTED": 101, "UNMET_OPTION": 102, "OTHER_KEY": 103, "FLAG_DATA": 104, "NOT_FOR_HOSTS": 105,
-    "UNREADABLE": 106,
-}  # fmt: skip
 SOURCE, COMMAND = "source-address=192.0.2.0/24", "force-command=true"
 
 
-def cases(maker, window):
+def cases(maker):
     """Names, certificates, keys, seconds, users, authorities, the option that is known, and what is wanted."""
-    middle, words = window
+    middle, words = MIDDLE, WINDOW
     own, other = (blob_of(maker.read(f"user{it}.pub")) for it in (0, 1))
     by, strange = (hashlib.sha256(blob_of(maker.read(f"authority{it}.pub"))).digest() for it in (0, 1))
 
@@ -61,9 +58,9 @@ def cases(maker, window):
     yield "no user, where the empty name is listed", blob_of(line), own, int(time.time()), "", by, "", "UNLISTED_PRINCIPAL"
 
 
-def extensions(maker, window):
+def extensions(maker):
     """The same with extensions. sshd refuses data in those of which it reads the name alone (checks/callers asks it)."""
-    middle, words = window
+    middle, words = MIDDLE, WINDOW
     own, other = (blob_of(maker.read(f"user{it}.pub")) for it in (0, 1))
     by = hashlib.sha256(blob_of(maker.read("authority0.pub"))).digest()
 
@@ -116,8 +113,8 @@ def texts(maker):
         yield name, blob_of(line), held, int(time.time()), "alice", by, "source-address", status
 
 
-def all_cases(maker, window):
-    return [*cases(maker, window), *extensions(maker, window), *texts(maker)]
+def all_cases(maker):
+    return [*cases(maker), *extensions(maker), *texts(maker)]
 
 
 def turned(blob):
@@ -126,31 +123,29 @@ def turned(blob):
     return blob[:at] + bytes([blob[at] ^ 1]) + blob[at + 1 :]
 
 
-def check_users(count, built, modules, maker, window):
-    sshkey, check = modules
-    asked = all_cases(maker, window)
-    lines = ""
-    for _, blob, key, second, user, by, known, _ in asked:
-        words = (user.encode() if isinstance(user, str) else user, by, known.encode())
-        lines += " ".join(["user", blob.hex(), key.hex(), str(second), *(word(it) for it in words)]) + "\n"
-    ran = run([f"{built.sanitized}/foreign"], input=lines)
-    said = ran.stdout.splitlines()
-    count.check("logins are judged without a fault", ran.returncode == 0 and len(said) == len(asked), ran.stderr[-2000:])
-    under = run([*VALGRIND, f"{built.plain}/foreign"], input=lines)
-    count.check("and the same under valgrind", under.returncode == 0 and under.stdout.splitlines() == said, under.stderr[-2000:])
-    check_page(count, built, modules, maker)
-    for (name, blob, key, second, user, by, known, wanted), answer in zip(asked, said):
-        number = REFUSALS[wanted] if wanted in REFUSALS else int(sshkey.Status[wanted])
-        authorities = [by[at : at + 32] for at in range(0, len(by), 32)]
-        with patch.object(check, "is_signature", wraps=check.is_signature) as verifier:
-            found = check.validate_user(
-                blob, key, second, user, authorities, lambda option, value, known=known: option == known and value != ""
-            )  # fmt: skip
-        questions = verifier.call_count
-        same = int(found) == number and answer == f"{number} {check.MEANING.get(found, 'valid')}, {questions}"
-        # no cryptography runs over another authority's key
-        same &= questions == {"UNTRUSTED_AUTHORITY": 0, "NOT_SIGNED": 1, "DONE": 1}.get(wanted, questions)
-        count.check(f"a login by a certificate: {name}", same, wanted, found, answer, questions)
+def check_users(judge):
+    """validate_user, of certificates in which one thing is wrong each, and of one by each kind of authority."""
+    made, asked = judge.made, []
+    for name, blob, key, second, user, by, known, wanted in all_cases(made.maker):
+        user = user.encode() if isinstance(user, str) else user
+        asked.append((name, f"{blob.hex()} {key.hex()} {second} {word(user)} {word(by)} {word(known.encode())}", wanted))
+    for number, kind in enumerate(made.kinds):
+        words = f"{made.key(number).hex()} {made.middle} {b'alice'.hex()} {made.authority(number).hex()} -"
+        for name, blob, wanted in (("good", kind.blob, "DONE"), ("turned", turned(kind.blob), "NOT_SIGNED")):
+            asked.append((f"by an authority of {kind.name}, {name}", f"{blob.hex()} {words}", wanted))
+    judge.hold("a login by a certificate", [(name, f"user {words}", judge.said_of(wanted)) for name, words, wanted in asked])
+    if not judge.asker.is_package:
+        check_verifications(judge, asked)
+
+
+def check_verifications(judge, asked):
+    """How often cryptography runs, in C and in Python: not at all over another authority's key."""
+    said = judge.said("logins whose verifications are counted", [f"verifications {words}" for _, words, _ in asked])
+    for (name, words, wanted), answer in zip(asked, said):
+        with patch.object(judge.made.check, "is_signature", wraps=judge.made.check.is_signature) as verifier:
+            judge.answers.to(f"user {words}")
+        right = {"UNTRUSTED_AUTHORITY": "0", "NOT_SIGNED": "1", "DONE": "1"}.get(wanted, answer)
+        judge.check(f"the verifications of a login: {name}", answer == str(verifier.call_count) == right, answer, verifier.call_count)
 
 
 # ---- what README and docs/FOREIGN.md show
@@ -198,23 +193,28 @@ def blocks(language, heading="The lines that matter"):
     return found
 
 
-def said_by_page(modules, code, authority, line, key):
-    """What the lines in Python say."""
+def said_by_python(made, code, **names):
+    """What the lines in Python say, which call one of these where all is good."""
     said = []
-    names = {"sshkey": modules[0], "check": modules[1], "time": time, "authority_line": authority, "line": line}
-    names.update({"key": blob_of(key), "let_in": lambda: said.append("let in")})
-    names["print"] = lambda *words: said.append(" ".join(words))
+    names.update({"sshkey": made.sshkey, "check": made.check, "time": time, "print": lambda *words: said.append(" ".join(words))})
+    names.update({"let_in": lambda: said.append("let in"), "go_on": lambda: said.append("go on")})
     exec(code, names)
     return said
 
 
-def check_page(count, built, modules, maker):
+def built_page(built, maker, name, text):
+    """A program of the lines in C that docs/FOREIGN.md shows: its path, and how it was built."""
+    path = f"{maker.folder}/{name}"
+    maker.write(f"{name}.c", text)
+    parts = [f"{path}.c", *(f"{built.sanitized}/{it}" for it in ("judge.o", "verify.o", "libsshkey.a")), "-lcrypto", "-o", path]
+    return path, run([*C, *PEDANTIC, f"-I{HELPERS}", *SANITIZED.split(), *parts])
+
+
+def check_page(count, built, made):
     """The lines that README and docs/FOREIGN.md show compile, and let the user in, and no other."""
-    path, code = f"{maker.folder}/page", blocks("c")
-    maker.write("page.c", PAGE.format(*code[:3]))
-    parts = [f"{path}.c", f"{built.sanitized}/judge.o", f"{built.sanitized}/verify.o", f"{built.sanitized}/libsshkey.a"]
-    made = run([*C, *PEDANTIC, f"-I{HELPERS}", *SANITIZED.split(), *parts, "-lcrypto", "-o", path])
-    count.check("the C of docs/FOREIGN.md compiles", len(code) == 3 and made.returncode == 0, made.stderr[-2000:])
+    maker, code = made.maker, blocks("c")
+    path, page = built_page(built, maker, "page", PAGE.format(*code[:3]))
+    count.check("the C of docs/FOREIGN.md compiles", len(code) == 3 and page.returncode == 0, page.stderr[-2000:])
     authority, own, other = (maker.read(f"{it}.pub") for it in ("authority0", "user0", "user1"))
     good, strange = (maker.certificate("authority0", "user0", "-V", "-5m:+5m", "-n", it) for it in ("alice", "eve"))
     for name, words, wanted in (
@@ -222,8 +222,8 @@ def check_page(count, built, modules, maker):
         ("another user's", (authority, strange, own), "refused: another principal (34)"),
         ("another key", (authority, good, other), "refused: another key (103)"),
     ):  # fmt: skip
-        ran = run([path, *words]) if made.returncode == 0 else made
+        ran = run([path, *words]) if page.returncode == 0 else page
         by_c = [*ran.stdout.splitlines(), *ran.stderr.splitlines()]
-        by_python = said_by_page(modules, blocks("python")[0], *words)
+        by_python = said_by_python(made, blocks("python")[0], authority_line=words[0], line=words[1], key=blob_of(words[2]))
         same = by_c == [wanted] and len(by_python) == 1 and (by_python == ["let in"]) == (wanted == "let in")
         count.check(f"the lines of docs/FOREIGN.md: {name}", same, by_c, by_python)

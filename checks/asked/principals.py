@@ -6,8 +6,10 @@ import shlex
 import subprocess
 from concurrent.futures import ThreadPoolExecutor
 
+from lib.harness import line_of
+
 from .linked import run
-from .security_key_calls import COUNTER, SecurityKey, certificate_line, certified
+from .security_key_calls import COUNTER, SecurityKey, certified
 
 SSHD = "/usr/sbin/sshd"
 CONFIGURATION = """\
@@ -75,7 +77,7 @@ class Logins:
         """A certificate of the key by a security key, that says the counter."""
         line, own = self.maker.certificate("own", key, *words), self.maker.read("own.pub")
         made = certified(self.devices[kind], *(base64.b64decode(it.split()[1]) for it in (line, own)), counter)
-        self.maker.write(f"{key}-cert.pub", certificate_line(made) + "\n")
+        self.maker.write(f"{key}-cert.pub", line_of(made) + "\n")
 
     def cases(self):
         """Names, users, authorities, words for ssh-keygen, configurations, and whether the user is let in."""

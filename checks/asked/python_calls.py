@@ -1,5 +1,5 @@
 """What the Python module takes and gives, for checks/foreign: what has no truth value, what is no list of names, what nobody
-changes, and the two calls that make a certificate."""
+changes, and nonces."""
 import copy
 import dataclasses
 import inspect
@@ -9,7 +9,7 @@ import typing
 from cryptography.exceptions import UnsupportedAlgorithm
 from lib.harness import string, take
 
-from .certificate_calls import CASES, certificate_of, fields_in, shown_under
+from .certificate_calls import CASES, certificate_of
 
 # an entry of authorized_keys, its options and these one by one
 ENTRY = b'no-pty,command="ls -l" ssh-ed25519 '
@@ -108,23 +108,10 @@ def check_lists(count, sshkey):
     count.check("what is no list of options is refused at the call", found == ("Refused", "format"), found)
 
 
-def check_two_calls(count, sshkey, maker):
-    """certificate_to_be_signed gives what ssh-keygen signs, and with its signature the certificate is that of ssh-keygen; for
-    everybody too."""
-    for name in ("plain", "nobody listed", "two listed", "a host", "a window"):
-        blob, shown = certificate_of(maker, "lister0", "listed0", CASES[name])
-        fields = fields_in(blob)
-        principals = shown_under(shown, "Principals") or sshkey.ALL_PRINCIPALS
-        made = sshkey.certificate_to_be_signed(
-            maker.blob("listed0"), maker.blob("lister0"), principals=principals, key_id=fields["key_id"].decode(),
-            certificate_type=sshkey.CertificateType(fields["certificate_type"]), serial=fields["serial"],
-            valid_after=fields["valid_after"], valid_before=fields["valid_before"], nonce=fields["nonce"],
-            extensions={it: "" for it in shown_under(shown, "Extensions")},
-        )  # fmt: skip
-        joined = sshkey.join_certificate(made, fields["signature"])
-        count.check(f"what is to be signed is what ssh-keygen signs, in Python: {name}", joined == blob, made.hex(), blob.hex())
+def check_nonces(count, sshkey, key, authority):
+    """A nonce is drawn where none is given, and both calls that make a certificate take the same."""
     asked = [{}, {"nonce": None}, {"nonce": b""}, {"nonce": bytearray()}, {"nonce": memoryview(b"")}]
-    drawn = [sshkey.certificate_to_be_signed(maker.blob("listed0"), maker.blob("lister0"), principals=["alice"], **it) for it in asked]
+    drawn = [sshkey.certificate_to_be_signed(key, authority, principals=["alice"], **it) for it in asked]
     nonces = {take(take(it)[1])[0] for it in drawn}
     count.check("a nonce is drawn where none is given", len(nonces) == len(asked) and {len(it) for it in nonces} == {32}, nonces)
     words = [inspect.signature(it).parameters for it in (sshkey.certificate_to_be_signed, sshkey.make_certificate)]
@@ -191,5 +178,5 @@ def check_python(count, modules, maker):
     check_texts(count, sshkey, key, authority)
     check_refused(count, sshkey)
     check_unsupported(count, check)
-    check_two_calls(count, sshkey, maker)
+    check_nonces(count, sshkey, key, authority)
     check_names(count, sshkey)

@@ -1,34 +1,27 @@
-"""The package in Rust of bindings/rust, and its example check, for checks/bindings: how they are built, their own tests, and what
-docs/FOREIGN.md shows of them."""
-import hashlib
+"""The package in Rust of bindings/rust, for checks/bindings: how programs over it are built, what it declares and its own tests."""
 import os
 import re
-import time
 
 from lib.harness import ROOT
 
-from .binding_calls import Asker, Judge
-from .certificate_calls import draft_of, fields_in
-from .key_calls import signed_by
-from .linked import BINDINGS, EXAMPLES, run
-from .login_calls import blocks
+from .linked import BINDINGS, EXAMPLES, enumerations, header, run
 
 PACKAGE = os.path.join(BINDINGS, "rust")
-CHECK, ASKER = f"{EXAMPLES}/check.rs", f"{ROOT}/checks/asked/rust/asker.rs"
 CARGO = ["--offline", "--locked"]
-# each unsafe block is one call, and says why it is right; an older clippy does not know that of one call
+# an unsafe block is one call, and says why it is right; an older clippy does not know that of one call
 UNSAFE = ["-D", "clippy::undocumented_unsafe_blocks", "-D", "clippy::multiple_unsafe_ops_per_block"]
 LINTS = ["-D", "warnings", "-A", "unknown_lints", *UNSAFE]
-# of a line of authorized_keys
-OPTIONS = b'no-pty,command="say \\"yes\\""'
+# the numbers of C
+TYPES = {"size_t": "usize", **{f"uint{it}_t": f"u{it}" for it in (8, 16, 32, 64)}}
 
 
 class Rust:
-    """What cargo and rustc build in a folder, with the library and the verifier of the helpers, which stand in `out`."""
+    """The package of bindings/rust, and programs over it, with the verifier of the helpers, which stands in `out` as the library."""
 
-    def __init__(self, folder, out):
-        self.folder, self.target, self.out = folder, f"{folder}/rust", out
-        self.program = f"{self.target}/debug/examples/check"
+    language, example, asker = "Rust", f"{EXAMPLES}/check.rs", f"{ROOT}/checks/asked/rust/asker.rs"
+
+    def __init__(self, maker, out):
+        self.maker, self.target, self.out = maker, maker.path("rust"), out
         names = {"SSHKEY_LIB_DIR": out, "CARGO_TARGET_DIR": self.target, "RUSTFLAGS": "-D warnings", "RUSTDOCFLAGS": "-D warnings"}
         self.environment = {**os.environ, **names}
 
@@ -36,8 +29,8 @@ class Rust:
         return run(["cargo", *words], cwd=PACKAGE, env=self.environment)
 
     def built(self, count, source, name, library=None):
-        """A program over the package, linked with the library in that folder, by rustc."""
-        path, folder = f"{self.folder}/rust-{name.replace(' ', '-')}", library or self.out
+        """The path of the program, linked with the library in that folder, by rustc."""
+        path, folder = self.maker.path(f"Rust {name}"), library or self.out
         parts = [f"{self.out}/verify.o", f"{folder}/libsshkey.a", "-lcrypto"]
         linked = ["-L", f"native={folder}", *(word for it in parts for word in ("-C", f"link-arg={it}"))]
         package = f"sshkey={self.target}/debug/libsshkey.rlib"
@@ -46,7 +39,7 @@ class Rust:
         return path
 
     def check_sources(self, count):
-        """The package and its program are built without a warning, and its own tests pass."""
+        """The package and its program are built without a warning, its own tests pass, and it declares what the header does."""
         made = run(["make", "-C", ROOT, f"OUT={self.out}", f"{self.out}/verify.o"])
         count.check("Rust: the verifier in C is built", made.returncode == 0, made.stderr[-3000:])
         made = self.cargo("build", *CARGO, "--lib", "--examples")
@@ -55,11 +48,17 @@ class Rust:
         passed = sum(map(int, re.findall(r"^test result: ok\. (\d+) passed", tested.stdout, re.M)))
         same = tested.returncode == 0 and passed
         count.check(f"Rust: {passed} tests of the package pass", same, tested.stdout[-2000:], tested.stderr[-2000:])
+        self.check_style(count)
+        check_declared(count)
+
+    def page(self, code):
+        """The source of a program of these lines."""
+        return self.maker.write("page.rs", PAGE.format(self.example, *code))
 
     def check_style(self, count):
         """What rustfmt and clippy say where they are: Debian's package `cargo` has neither."""
         if run(["cargo", "fmt", "--version"]).returncode == 0:
-            said = [self.cargo("fmt", "--check"), run(["rustfmt", "--edition", "2021", "--check", ASKER])]
+            said = [self.cargo("fmt", "--check"), run(["rustfmt", "--edition", "2021", "--check", self.asker])]
             same = not any(it.returncode for it in said)
             count.check("Rust: rustfmt has nothing to change", same, *(it.stdout[:2000] for it in said))
         if run(["cargo", "clippy", "--version"]).returncode == 0:
@@ -67,29 +66,70 @@ class Rust:
             count.check("Rust: clippy has nothing to say", said.returncode == 0, said.stderr[-3000:])
 
 
-def check_under_valgrind(count, asker, made):
-    """Each call of the package under valgrind: of a key and a certificate of each kind, and with the last byte missing."""
-    judge = Judge(count, Asker("Rust under valgrind", [*made.foreign.VALGRIND, *asker.words]), made)
-    file, text, alice, eve, name = (it.hex() for it in (b"file", b"text", b"alice", b"eve", b"h.example"))
-    questions = [draft_of(fields_in(made.kinds[0].blob))]
-    for number, kind in enumerate(made.kinds):
-        blob, line = kind.blob.hex(), made.maker.read(f"user{number}.pub").encode()
-        key, message, signature = (it.hex() for it in signed_by(made.maker, f"user{number}"))
-        sshsig, signed = made.maker.signature(f"user{number}", "text").hex(), made.sshkey.certificate_question(kind.blob).message
-        by = made.sshkey.fingerprint(made.sshkey.certificate_contents(kind.blob).authority).hex()
-        entry, host = ((it + line).hex() for it in (OPTIONS + b" ", b"h.example "))
-        questions += [f"{it} {blob}" for it in ("certificate", "fields", "lists", "strings", "normal certificate")]
-        questions += [f"{it} {key}" for it in ("key", "normal key")]
-        questions += [f"{it} {key} {message} {signature}" for it in ("signature", "is-signature")]
-        questions += [f"sshsig {sshsig} {file} {text}", f"sshsig-of-digest {sshsig} {file} {hashlib.sha512(b'text').hexdigest()}"]
-        questions += [f"sshsig-hash {sshsig}", f"normal sshsig {sshsig}", f"normal signature {signature}"]
-        questions += [f"validate {blob} {made.middle} {it} {by} 1" for it in ("*", alice, eve)]
-        questions += [f"user {blob} {key} {made.middle} {alice} {by} -"]
-        questions += [f"join {signed.hex()} {kind.blob[len(signed) + 4 :].hex()}", f"line {line.hex()}"]
-        questions += [f"entry {entry}", f"host {host}", f"lines {host}0a23{host}", f"options {OPTIONS.hex()}"]
-        questions += [f"verdict {host} {name} {port} {key}" for port in (22, 23)]
-    questions += [it[:-2] for it in questions if len(it.split()[-1]) > 8]
-    judge.ask("questions", questions)
+# ---- what it declares
+
+
+def in_rust(c):
+    """The name in Rust of a number or a struct of C."""
+    return TYPES.get(c) or "".join(map(str.capitalize, c.split("_")[1:]))
+
+
+def fields_of_header():
+    """Names and types of the fields of each struct, as Rust has them."""
+    found = {}
+    for body, name in re.findall(r"^typedef struct \{\n(.*?)^\} (\w+);", header(), re.M | re.S):
+        fields = re.findall(r"^  (?:const )?(\w+) (\*?)(\w+)(?:\[(\d+)\])?;", body, re.M)
+        found[in_rust(name)] = [
+            (field, "*const u8" if is_pointer else f"[u8; {length}]" if length else in_rust(kind)) for kind, is_pointer, field, length in fields
+        ]
+    return found
+
+
+def fields_of_rust(text):
+    """The same of the structs that lie as in C. A field that takes no room, which lends, counts for nothing."""
+    text = re.sub(r"//.*|<'a>", "", text)
+    structs = re.findall(r"^#\[repr\(C\)\]\n[^\n]*\n[^\n]* struct (\w+) \{(.*?)\}", text, re.M | re.S)
+    # those of the macro
+    structs += re.findall(r"^    (\w+) \{(.*?)\}", text, re.M | re.S)
+    fields = {name: re.findall(r"(\w+): ([^,\n]+)", body) for name, body in structs}
+    return {name: [(field, kind.strip()) for field, kind in them if field != "lent"] for name, them in fields.items()}
+
+
+def parameter_in_rust(found):
+    """A pointer and a length is a slice, and another pointer a reference."""
+    constant, kind, name, length = found.groups()
+    return f"{name}: &{'' if constant else 'mut '}{f'[{in_rust(kind)}]' if length else in_rust(kind)}"
+
+
+def calls_of(text, pattern):
+    """The parameters of each call that a text declares."""
+    return {name: " ".join(given.split()) for name, given in re.findall(pattern, text, re.S)}
+
+
+def calls_of_header():
+    """The parameters of each call of the header, as Rust has them."""
+    found = calls_of(header(), r"uint32_t (sshkey_\w+)\((.*?)\);")
+    for name, given in found.items():
+        given = re.sub(r"(const )?(\w+) \*(\w+)(, size_t (?:\w+_)?(?:length|count)\b)?", parameter_in_rust, given)
+        found[name] = re.sub(r"\b(\w+_t) (\w+)", lambda it: f"{it[2]}: {in_rust(it[1])}", given)
+    return found
+
+
+def check_declared(count):
+    """Structs, calls and numbers of the package are those of the header."""
+    texts = {}
+    for name in os.listdir(f"{PACKAGE}/src"):
+        with open(f"{PACKAGE}/src/{name}", encoding="utf-8") as file:
+            texts[name] = file.read()
+    found, wanted = fields_of_rust(texts["raw.rs"] + texts["digests.rs"]), fields_of_header()
+    count.check("Rust: the structs lie as those of the header", found == wanted, found, wanted)
+    found, wanted = calls_of(texts["raw.rs"].replace("<'_>", ""), r"\n    fn (sshkey_\w+)\((.*?)\);"), calls_of_header()
+    count.check("Rust: the calls are those of the header", found == wanted and len(found) > 20, found.items() ^ wanted.items())
+    numbers = re.findall(r"^    (\w+) = (\d+)[;,]$", "".join(texts.values()), re.M)
+    found = {(name.replace("_", "").upper(), int(number)) for name, number in numbers}
+    named = {(re.sub("^SSHKEY_(ASK_|MARKER_)?|_", "", name), number) for of in enumerations() for name, number in of.items()}
+    wanted = named - {("DONE", 0), ("LINEKEY", 1), ("LINECERTIFICATE", 2)}
+    count.check("Rust: each number has its name", found == wanted and len(numbers) == len(found), found ^ wanted)
 
 
 # ---- what docs/FOREIGN.md shows
@@ -118,28 +158,9 @@ fn two_calls(
 fn main() {{
     let words: Vec<String> = std::env::args().collect();
     let blob = |at: usize| sshkey::read_line(&words[at]).unwrap().blob;
-    let second = words[4].parse().unwrap();
+    let second = SystemTime::now().duration_since(UNIX_EPOCH).unwrap().as_secs();
     log_in(&words[1], &words[2], &blob(3)).unwrap();
     let valid = two_calls(blob(2), sshkey::fingerprint(&blob(1)).unwrap(), second);
     println!("{{}}", line_for(valid.map_err(Into::into)));
 }}
 """
-
-
-def check_rust_page(count, rust, made):
-    """The lines in Rust that docs/FOREIGN.md shows compile, and let the user in, and no other."""
-    maker, code, second = made.maker, blocks("rust"), str(int(time.time()))
-    count.check("docs/FOREIGN.md shows lines in Rust", len(code) == 2, code)
-    page = rust.built(count, maker.write("page.rs", PAGE.format(CHECK, *code[:2])), "page of FOREIGN.md")
-    authority, own, other = (maker.read(f"{it}.pub") for it in ("authority0", "user0", "user1"))
-    good, strange = (maker.certificate("authority0", "user0", "-V", "-5m:+5m", "-n", it) for it in ("alice", "eve"))
-    refused = "refused: another principal (34)"
-    for name, words, wanted in (
-        ("its user", (authority, good, own), ["let in", "valid"]),
-        ("another user's", (authority, strange, own), [refused, refused]),
-        ("another key", (authority, good, other), ["valid", "refused: another key (103)"]),
-        ("no certificate", (authority, own, own), ["refused: a name that may not stand there (12)"] * 2),
-    ):  # fmt: skip
-        ran = run([page, *words, second])
-        said = [*ran.stdout.splitlines(), *ran.stderr.splitlines()]
-        count.check(f"the Rust of docs/FOREIGN.md: {name}", said == wanted, said)

@@ -1,7 +1,6 @@
 """Security keys, for checks/foreign: keys that are made in software and sign as a device does (PROTOCOL.u2f), as authorities, as
 what is certified, and as signers of files. Debian has no tool that makes one without a device; ssh-keygen and sshd, which verify
 what they sign, are the judges."""
-import base64
 import hashlib
 import os
 import struct
@@ -9,11 +8,12 @@ from concurrent.futures import ThreadPoolExecutor
 
 from cryptography.hazmat.primitives import hashes, serialization
 from cryptography.hazmat.primitives.asymmetric import ec, ed25519, utils
-from lib.harness import ssh_keygen, string, take
+from lib.harness import blob_of, line_of, ssh_keygen, string, take
 from lib.signatures import mpint, signed_data, ssh_signature
 
-from .key_calls import question_of, said_of_signature
-from .linked import Asked, part_of, run, turned
+from .key_calls import question_of
+from .linked import run, turned, word
+from .made import MIDDLE, WINDOW, is_verified
 
 TOUCHED, VERIFIED = 1, 4
 COUNTER = 5
@@ -44,7 +44,7 @@ class SecurityKey:
         return b"".join(map(string, (self.names[1], *self.parts)))
 
     def line(self, application=None):
-        return f"{self.names[0].decode()} {base64.b64encode(self.blob(application)).decode()}"
+        return line_of(self.blob(application))
 
     def device_message(self, message, flags=TOUCHED, counter=COUNTER):
         """What the device signs."""
@@ -83,23 +83,30 @@ def signatures(key, message):
     yield "as a plain key says it", blob, string(key.names[1]) + string(key.raw(key.device_message(message))), False
 
 
+def check_signatures(judge):
+    """What security keys sign, and do not, under the key: nothing is asked where key and signature do not go together."""
+    for kind in ("Ed25519", "ECDSA"):
+        cases = []
+        for name, blob, signature, is_one in signatures(SecurityKey(kind, b"ssh:"), b"text"):
+            question = f"is-{question_of(blob, b'text', signature)}"
+            is_unasked = not is_one and judge.answers.to(question) == "40"
+            cases.append((name, question, "40" if is_unasked else f"0 {int(is_one)}"))
+        judge.hold(f"a signature by a security key of {kind}", cases)
+
+
 class Judges:
     """What the library, the examples over it and OpenSSH say."""
 
-    def __init__(self, count, built, modules, maker):
-        self.count, self.built, self.maker = count, built, maker
-        self.sshkey, self.check = modules
-
-    def ask(self, *questions):
-        """What C with sanitizers answers to each."""
-        return Asked(self.count, self.built).answers(f"{len(questions)} questions", questions)
+    def __init__(self, judge, built):
+        self.judge, self.count, self.built, self.maker = judge, judge.count, built, judge.made.maker
+        self.sshkey, self.check = judge.made.sshkey, judge.made.check
 
     def of_certificates(self, lines, authority, principal, second):
         """What check_certificate and check.py say of each line."""
         path = self.maker.write("authority.pub", f"{authority}\n")
         words = [f"{self.built.sanitized}/check_certificate", path, principal, str(second)]
         by_c = run(words, input="".join(f"{it}\n" for it in lines)).stdout.splitlines()
-        by = [self.sshkey.fingerprint(base64.b64decode(authority.split()[1]))]
+        by = [self.sshkey.fingerprint(blob_of(authority))]
         return by_c, [self.check.said(self.check.judge_line(it, second, principal, by)) for it in lines]
 
     def is_taken(self, lines):
@@ -118,11 +125,6 @@ def with_signer(signature, signer):
     return signature[:10] + string(signer) + take(signature[10:])[1]
 
 
-def certificate_line(certificate):
-    name = certificate[4:][: int.from_bytes(certificate[:4], "big")].decode("latin-1")
-    return f"{name if name.isprintable() and name.split() == [name] else 'x'} {base64.b64encode(certificate).decode()}"
-
-
 def certified(key, certificate, authority, counter):
     """The certificate with a security key in place of the authority, which signs with COUNTER and says another, if one is given."""
     signed = certificate[: certificate.rindex(string(authority))] + string(key.blob())
@@ -131,8 +133,8 @@ def certified(key, certificate, authority, counter):
 
 def fields_by(maker, words):
     """What ssh-keygen writes of a certificate in front of the authority's key."""
-    made = base64.b64decode(maker.certificate("authority0", "user1", *words).split()[1])
-    return made[: made.rindex(string(base64.b64decode(maker.read("authority0.pub").split()[1])))]
+    made = blob_of(maker.certificate("authority0", "user1", *words))
+    return made[: made.rindex(string(blob_of(maker.read("authority0.pub"))))]
 
 
 # ---- authorities
@@ -140,16 +142,12 @@ def fields_by(maker, words):
 
 def check_question(judges, key, certificate, signed, raw):
     """The question is about the plain key and what the device signed."""
-    asked = judges.sshkey.certificate_question(certificate)
     wanted = (key.plain(), key.device_message(signed), raw)
-    by_c = judges.ask(f"certificate {certificate.hex()}")
-    algorithm = judges.sshkey.Algorithm[key.algorithm]
-    same = (asked.key, asked.message, asked.signature) == wanted and asked.algorithm == algorithm
-    same &= by_c == [f"0 {int(algorithm)} {' '.join(map(part_of, wanted))}"]
-    judges.count.check(f"the question of a certificate by a security key of {key.kind}", same, asked, by_c)
+    answer = f"0 {int(judges.sshkey.Algorithm[key.algorithm])} {' '.join(map(word, wanted))}"
+    judges.judge.hold("the question of a certificate", [(f"by a security key of {key.kind}", f"certificate {certificate.hex()}", answer)])
 
 
-def check_authority(judges, key, window, is_verified):
+def check_authority(judges, key, window):
     """Certificates that a security key signed, and others, are valid as OpenSSH says."""
     middle, words = window
     fields, said = fields_by(judges.maker, words), judges.check.said
@@ -161,15 +159,15 @@ def check_authority(judges, key, window, is_verified):
         # what is signed has the authority's key in it, so that each is made of its own bytes
         authority = key.blob(key.application + b"x") if "application" in name else key.blob()
         _, blob, signature, is_one = next(it for it in signatures(key, fields + string(authority)) if it[0] == name)
-        lines.append(certificate_line(fields + string(blob) + string(signature)))
-        names.append((name, base64.b64encode(blob).decode()))
+        lines.append(line_of(fields + string(blob) + string(signature)))
+        names.append((name, line_of(blob)))
         wanted.append(is_one)
-    for (name, blob), line, is_one, taken in zip(names, lines, wanted, judges.is_taken(lines)):
-        by_c, by_python = judges.of_certificates([line], f"{key.names[0].decode()} {blob}", "alice", middle)
+    for (name, signer), line, is_one, taken in zip(names, lines, wanted, judges.is_taken(lines)):
+        by_c, by_python = judges.of_certificates([line], signer, "alice", middle)
         answer = said(judges.sshkey.Status.DONE if is_one else judges.sshkey.Status.NOT_SIGNED)
         same = by_c == by_python == [answer] and taken == is_one
         judges.count.check(f"a certificate by a security key of {key.kind}: {name}", same, by_c, by_python, f"ssh-keygen: {taken}")
-    check_window(judges, key, good, window, is_verified)
+    check_window(judges, key, good, window)
     check_made(judges, key, middle)
     check_turned_certificate(judges, key, good, middle)
 
@@ -180,14 +178,14 @@ def check_made(judges, key, middle):
         key.blob(), key.blob(), lambda message: key.signature(key.raw(key.device_message(message))), principals=["alice"],
         valid_before=middle + 1, extensions={"no-touch-required": ""},
     )  # fmt: skip
-    line = certificate_line(made)
+    line = line_of(made)
     found = judges.of_certificates([line], key.line(), "alice", middle)
     taken = judges.is_taken([line])
     same = found == (["valid"],) * 2 and taken == [True]
     judges.count.check(f"a certificate that is made for a security key of {key.kind}", same, found, taken)
 
 
-def check_window(judges, key, certificate, window, is_verified):
+def check_window(judges, key, certificate, window):
     """Where the certificate is valid for another second or principal, as `ssh-keygen -Y verify` says of what its key signs."""
     maker, said, middle = judges.maker, judges.check.said, window[0]
     signature = with_signer(maker.signature("user1", "text"), certificate)
@@ -195,7 +193,7 @@ def check_window(judges, key, certificate, window, is_verified):
         ("alice", middle, "DONE"), ("eve", middle, "UNLISTED_PRINCIPAL"), ("alice", 0, "OUT_OF_WINDOW"),
         ("alice", 2 * middle, "OUT_OF_WINDOW"),
     ):  # fmt: skip
-        found = judges.of_certificates([certificate_line(certificate)], key.line(), principal, second)
+        found = judges.of_certificates([line_of(certificate)], key.line(), principal, second)
         # ssh-keygen takes no time before its first day
         at = max(second, 86400)
         judged = is_verified(maker.folder, "device", signature, "text", principal, at, f"{principal} cert-authority {key.line()}")
@@ -204,7 +202,7 @@ def check_window(judges, key, certificate, window, is_verified):
 
 
 def check_turned_certificate(judges, key, certificate, middle):
-    lines = [certificate_line(it) for it in turned(certificate)]
+    lines = [line_of(it) for it in turned(certificate)]
     by_c, by_python = judges.of_certificates(lines, key.line(), "alice", middle)
     none = len(by_c) == len(lines) and "valid" not in by_c
     name = f"a certificate by a security key of {key.kind}, the lowest bit of each of {len(lines)} bytes turned"
@@ -218,15 +216,15 @@ def check_turned_certificate(judges, key, certificate, middle):
 # ---- what is certified
 
 
-def check_subject(judges, key, window, is_verified):
+def check_subject(judges, key, window):
     """A security key that ssh-keygen certifies, and what it signs under that certificate."""
     maker, (middle, words) = judges.maker, window
     name = f"device-{key.kind}"
     maker.write(f"{name}.pub", f"{key.line()}\n")
     line = maker.certificate("authority0", name, *words)
-    certificate, authority = base64.b64decode(line.split()[1]), maker.read("authority0.pub")
+    certificate, authority = blob_of(line), maker.read("authority0.pub")
     by_c, by_python = judges.of_certificates([line], authority, "alice", middle)
-    listed = judges.ask(f"lists {certificate.hex()}")[0].split(" ")
+    listed = judges.judge.ask("certificates of a security key", [f"lists {certificate.hex()}"])[0].split(" ")
     valid = by_c == by_python == ["valid"] and judges.is_taken([line]) == [True]
     whole = listed[2] == key.blob().hex() and judges.sshkey.certificate_contents(certificate).key == key.blob()
     judges.count.check(f"a certificate of a security key of {key.kind} is valid, and has the key", valid and whole, by_c, listed)
@@ -240,21 +238,19 @@ def check_subject(judges, key, window, is_verified):
 # ---- files
 
 
-def check_file(judges, key, middle, is_verified):
-    """Signatures of files by a security key, as `ssh-keygen -Y verify` says; the same under the key, verified by libcrypto."""
+def check_file(judges, key):
+    """Signatures of files by a security key, as `ssh-keygen -Y verify` says."""
     signed = signed_data(b"file", b"", b"sha512", b"text")
-    cases = list(signatures(key, signed))
-    by_c = judges.ask(*(f"is-{question_of(blob, signed, signature)}" for _, blob, signature, _ in cases))
-    for (name, blob, signature, is_one), answer in zip(cases, by_c):
-        file, line = ssh_signature(blob, signature), f"{key.names[0].decode()} {base64.b64encode(blob).decode()}"
+    for name, blob, signature, is_one in signatures(key, signed):
+        file, line = ssh_signature(blob, signature), line_of(blob)
         status = judges.check.judge_signature(file, "file", b"text", {judges.sshkey.fingerprint(blob)})
-        judged = is_verified(judges.maker.folder, "file", file, "text", "signer", middle, f"signer {line}")
-        same = (status == 0) == judged == (answer == "0 1") == is_one
-        judges.count.check(f"a file's signature by a security key of {key.kind}: {name}", same, status, judged, answer)
+        judged = is_verified(judges.maker.folder, "file", file, "text", "signer", MIDDLE, f"signer {line}")
+        same = (status == 0) == judged == is_one
+        judges.count.check(f"a file's signature by a security key of {key.kind}: {name}", same, status, judged)
     check_turned_signature(judges, key, signed)
 
 
-def check_zero(judges, kind, middle, is_verified):
+def check_zero(judges, kind):
     """A zero byte in the application, where OpenSSH reads otherwise, as docs/FOREIGN.md says: at the end it is no part of the text,
     and within the text is none. Here it is a byte like others."""
     signed, ended, cut = signed_data(b"file", b"", b"sha512", b"text"), SecurityKey(kind, b"ssh:\0"), SecurityKey(kind, b"ssh:")
@@ -262,7 +258,7 @@ def check_zero(judges, kind, middle, is_verified):
         cut.application = application
         file = ssh_signature(ended.blob(), ended.signature(ended.raw(cut.device_message(signed))))
         status = judges.check.judge_signature(file, "file", b"text", {hashlib.sha256(ended.blob()).digest()})
-        judged = is_verified(judges.maker.folder, "zero", file, "text", "signer", middle, f"signer {ended.line()}")
+        judged = is_verified(judges.maker.folder, "zero", file, "text", "signer", MIDDLE, f"signer {ended.line()}")
         same = (status == 0) == is_one and judged != is_one
         judges.count.check(f"a zero byte behind the application of {kind}, signed {name} it", same, status, f"ssh-keygen: {judged}")
     within = SecurityKey(kind, b"ssh:\0x")
@@ -272,18 +268,18 @@ def check_zero(judges, kind, middle, is_verified):
     judges.count.check(f"a zero byte within the application of {kind}", same, f"ssh-keygen: {taken}")
 
 
-def check_zero_in_principal(judges, key, middle, is_verified):
+def check_zero_in_principal(judges, key):
     """The same of a principal: who is listed with a zero byte behind is nobody else here."""
-    certified_key = base64.b64decode(judges.maker.read("user0.pub").split()[1])
+    certified_key = blob_of(judges.maker.read("user0.pub"))
     for principal, is_taken in (("alice\0", True), ("al\0ice", False)):
         # the package makes none with a zero byte
         plain = principal.replace("\0", "~")
         message = judges.sshkey.certificate_to_be_signed(certified_key, key.blob(), principals=[plain])
         message = message.replace(plain.encode(), principal.encode())
         made = judges.sshkey.join_certificate(message, key.signature(key.raw(key.device_message(message))))
-        found = judges.of_certificates([certificate_line(made)], key.line(), "alice", middle)
+        found = judges.of_certificates([line_of(made)], key.line(), "alice", MIDDLE)
         file = with_signer(judges.maker.signature("user0", "text"), made)
-        judged = is_verified(judges.maker.folder, "zero", file, "text", "alice", middle, f"alice cert-authority {key.line()}")
+        judged = is_verified(judges.maker.folder, "zero", file, "text", "alice", MIDDLE, f"alice cert-authority {key.line()}")
         refused = judges.check.said(judges.sshkey.Status.UNLISTED_PRINCIPAL)
         same = judged == is_taken and found == ([refused],) * 2
         judges.count.check(f"the principal {principal!r} is not alice", same, found, f"ssh-keygen: {judged}")
@@ -293,21 +289,17 @@ def check_turned_signature(judges, key, signed):
     """With a bit turned of the key or of the signature, nothing is one; C asks the same questions as Python."""
     blob, signature = key.blob(), key.signature(key.raw(key.device_message(signed)))
     others = [*((it, signed, signature) for it in turned(blob)), *((blob, signed, it) for it in turned(signature))]
-    by_c = judges.ask(*(f"is-{question_of(*it)}" for it in others), *(question_of(*it) for it in others))
-    valid = [at for at, it in enumerate(by_c[: len(others)]) if it == "0 1"]
-    name = f"of {len(others)} keys and signatures of {key.kind} with a bit turned"
-    judges.count.check(f"{name} libcrypto verifies none", len(by_c) == 2 * len(others) and not valid, valid)
-    same = by_c[len(others) :] == [said_of_signature(judges.sshkey, *it) for it in others]
-    judges.count.check(f"{name} C and Python ask the same", same)
+    said = judges.judge.ask("signatures of a security key with a bit turned", [f"is-{question_of(*it)}" for it in others])
+    judges.judge.ask("and the same without a verification", [question_of(*it) for it in others])
+    valid = [at for at, it in enumerate(said) if it == "0 1"]
+    judges.count.check(f"of {len(others)} keys and signatures of {key.kind} with a bit turned libcrypto verifies none", not valid, valid)
 
 
-def check_security_keys(count, built, modules, maker, window, is_verified):
-    """The window is a second, and the words for ssh-keygen of a window that has it."""
-    judges = Judges(count, built, modules, maker)
-    window = (window[0], ["-n", "alice,bob", *window[1]])
+def check_security_keys(judge, built):
+    judges, window = Judges(judge, built), (MIDDLE, ["-n", "alice,bob", *WINDOW])
     for key in (SecurityKey("Ed25519", b"ssh:"), SecurityKey("ECDSA P-256", b"ssh:an application")):
-        check_authority(judges, key, window, is_verified)
-        check_subject(judges, key, window, is_verified)
-        check_file(judges, key, window[0], is_verified)
-        check_zero(judges, key.kind, window[0], is_verified)
-    check_zero_in_principal(judges, key, window[0], is_verified)
+        check_authority(judges, key, window)
+        check_subject(judges, key, window)
+        check_file(judges, key)
+        check_zero(judges, key.kind)
+    check_zero_in_principal(judges, key)

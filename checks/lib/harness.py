@@ -1,6 +1,7 @@
 """What the checks share: how they count, what they make with ssh-keygen, and how they spell questions of the table."""
 import base64
 import os
+import re
 import struct
 import subprocess
 
@@ -52,6 +53,13 @@ def take(data):
 def blob_of(line):
     """The bytes in the line of a key or of a certificate."""
     return base64.b64decode(line.split()[1])
+
+
+def line_of(blob):
+    """The line of the bytes of a key or of a certificate, under the name that they begin with, if that may stand there."""
+    name = blob[4:][: int.from_bytes(blob[:4], "big")].decode("latin-1")
+    first = name if re.fullmatch(r"[A-Za-z0-9@.-]{1,80}", name) else "certificate"
+    return f"{first} {base64.b64encode(blob).decode()}"
 
 
 def unarmoured(text):

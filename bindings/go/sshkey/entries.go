@@ -24,9 +24,8 @@ func entry(
 	in input, call func(to room, answer *C.sshkey_entry) C.uint32_t,
 ) (HostEntry, error) {
 	var answer C.sshkey_entry
-	data, err := written(len(in), func(to room) (C.uint32_t, C.size_t) {
-		status := call(to, &answer)
-		return status, answer.length
+	data, err := written(len(in), &answer.length, func(to room) C.uint32_t {
+		return call(to, &answer)
 	})
 	if err != nil {
 		return HostEntry{}, err
@@ -89,10 +88,9 @@ func EntryOptions(text string) ([]EntryOption, error) {
 
 func nthOption(in input, number int) (EntryOption, error) {
 	var answer C.sshkey_entry_option_parts
-	data, err := written(len(in), func(to room) (C.uint32_t, C.size_t) {
-		status := C.sshkey_nth_option(in.pointer(), in.length(), C.size_t(number),
+	data, err := written(len(in), &answer.length, func(to room) C.uint32_t {
+		return C.sshkey_nth_option(in.pointer(), in.length(), C.size_t(number),
 			to.at, to.length, &answer)
-		return status, answer.length
 	})
 	if err != nil {
 		return EntryOption{}, err

@@ -16,9 +16,8 @@ func question(
 	length int, call func(to room, answer *C.sshkey_question) C.uint32_t,
 ) (Question, error) {
 	var answer C.sshkey_question
-	data, err := written(length, func(to room) (C.uint32_t, C.size_t) {
-		status := call(to, &answer)
-		return status, answer.length
+	data, err := written(length, &answer.length, func(to room) C.uint32_t {
+		return call(to, &answer)
 	})
 	if err != nil {
 		return Question{}, err
@@ -38,9 +37,8 @@ func question(
 func ReadLine(line string) (Line, error) {
 	var answer C.sshkey_line
 	in := inputOf(line)
-	data, err := written(len(in), func(to room) (C.uint32_t, C.size_t) {
-		status := C.sshkey_read_line(in.pointer(), in.length(), to.at, to.length, &answer)
-		return status, answer.length
+	data, err := written(len(in), &answer.length, func(to room) C.uint32_t {
+		return C.sshkey_read_line(in.pointer(), in.length(), to.at, to.length, &answer)
 	})
 	if err != nil {
 		return Line{}, err

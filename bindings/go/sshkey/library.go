@@ -68,30 +68,23 @@ type room struct {
 	length C.size_t
 }
 
-// writer is a call that writes to a room. It gives what the call returns, and how many bytes it
-// says that it wrote or needs.
-type writer func(to room) (status C.uint32_t, length C.size_t)
-
 // written is the room that a call has written to, which has that length at first and then the one
-// that is needed. It fails with what the call returns.
-func written(length int, call writer) ([]byte, error) {
+// that the call says it needs: there its answer has that. It fails with what the call returns.
+func written(length int, needed *C.size_t, call func(to room) C.uint32_t) ([]byte, error) {
 	for {
 		data := make([]byte, length, length+1)
-		status, needed := call(room{input(data).pointer(), C.size_t(length)})
-		if status != C.SSHKEY_ROOM || needed <= C.size_t(length) {
+		status := call(room{input(data).pointer(), C.size_t(length)})
+		if status != C.SSHKEY_ROOM || *needed <= C.size_t(length) {
 			return data, errorOf(status)
 		}
-		length = int(needed)
+		length = int(*needed)
 	}
 }
 
 // form is what a call writes to the front of a room, and nothing else.
 func form(length int, call func(to room, length *C.size_t) C.uint32_t) ([]byte, error) {
 	var answer C.size_t
-	data, err := written(length, func(to room) (C.uint32_t, C.size_t) {
-		status := call(to, &answer)
-		return status, answer
-	})
+	data, err := written(length, &answer, func(to room) C.uint32_t { return call(to, &answer) })
 	if err != nil {
 		return nil, err
 	}

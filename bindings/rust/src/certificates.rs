@@ -57,11 +57,7 @@ impl<'a> From<&'a str> for Principal<'a> {
 pub fn certificate_question(certificate: &[u8]) -> Result<Question, Status> {
     let enough = certificate.len().saturating_mul(2).saturating_add(256);
     Question::of_call(enough, |room, answer| {
-        let (given, length) = (certificate.as_ptr(), certificate.len());
-        let (front, room_length) = (room.as_mut_ptr(), room.len());
-        // SAFETY: each pointer has the length of its slice beside it; the certificate is lent for
-        // longer than the call, and room and answer are each borrowed by it alone.
-        unsafe { raw::sshkey_certificate_question(given, length, front, room_length, answer) }
+        raw::sshkey_certificate_question(certificate, room, answer)
     })
 }
 
@@ -81,28 +77,13 @@ pub fn validate_certificate(
     authorities: &[Sha256],
     is_verified: bool,
 ) -> Result<(), Status> {
-    let (given, length) = (certificate.as_ptr(), certificate.len());
-    let (keys, count) = (authorities.as_ptr(), authorities.len());
-    let verified = u32::from(is_verified);
+    let (given, second, by) = (certificate, unix_timestamp, authorities);
+    let is_verified = u32::from(is_verified);
     Status::of(match principal {
-        // SAFETY: each pointer has the length of its slice beside it, and the slices are lent for
-        // longer than the call, which writes nothing.
-        Principal::Any => unsafe {
-            raw::sshkey_certificate_validate(given, length, unix_timestamp, keys, count, verified)
-        },
-        // SAFETY: as above, and the name's length is beside its pointer.
-        Principal::Named(name) => unsafe {
-            raw::sshkey_certificate_validate_for(
-                given,
-                length,
-                unix_timestamp,
-                name.as_ptr(),
-                name.len(),
-                keys,
-                count,
-                verified,
-            )
-        },
+        Principal::Any => raw::sshkey_certificate_validate(given, second, by, is_verified),
+        Principal::Named(name) => {
+            raw::sshkey_certificate_validate_for(given, second, name, by, is_verified)
+        }
     })
 }
 
@@ -154,10 +135,7 @@ pub struct CertificateFields {
 /// are none.
 pub fn certificate_fields(certificate: &[u8]) -> Result<CertificateFields, Status> {
     let mut found = raw::Fields::default();
-    let (given, length) = (certificate.as_ptr(), certificate.len());
-    // SAFETY: pointer and length are those of one slice, which is lent for longer than the call,
-    // and `found` is a local variable that nothing else refers to.
-    Status::of(unsafe { raw::sshkey_certificate_fields(given, length, &mut found) })?;
+    Status::of(raw::sshkey_certificate_fields(certificate, &mut found))?;
     Ok(CertificateFields {
         serial: found.serial,
         valid_after: found.valid_after,
@@ -187,10 +165,7 @@ pub struct CertificateContents<'a> {
 /// none. No item of its iterators fails.
 pub fn certificate_contents(certificate: &[u8]) -> Result<CertificateContents<'_>, Status> {
     let mut found = raw::Parts::default();
-    let (given, length) = (certificate.as_ptr(), certificate.len());
-    // SAFETY: pointer and length are those of one slice, which is lent for longer than the call,
-    // and `found` is a local variable that nothing else refers to.
-    Status::of(unsafe { raw::sshkey_certificate_parts(given, length, &mut found) })?;
+    Status::of(raw::sshkey_certificate_parts(certificate, &mut found))?;
     Ok(CertificateContents {
         key_id: text(found.key_id.of(certificate))?,
         principals: Principals(strings(found.principals.of(certificate))),
@@ -271,16 +246,12 @@ impl<'a> Iterator for CertificateOptions<'a> {
     type Item = Result<CertificateOption<'a>, Status>;
 
     fn next(&mut self) -> Option<Self::Item> {
-        let (bytes, length) = (self.bytes.as_ptr(), self.bytes.len());
         let mut found = raw::CertificateOptionParts::default();
-        // SAFETY: pointer and length are those of one slice, which is lent for longer than the
-        // call, and `found` is a local variable that nothing else refers to.
-        let answer = unsafe { raw::sshkey_next_option(bytes, length, self.place, &mut found) };
-        match Status::of(answer) {
+        match Status::of(raw::sshkey_next_option(self.bytes, self.place, &mut found)) {
             Ok(()) => self.place = found.next,
             Err(Status::END) => return None,
             Err(status) => {
-                self.place = length;
+                self.place = self.bytes.len();
                 return Some(Err(status));
             }
         }

@@ -29,18 +29,14 @@ pub struct Sha512 {
 /// the bytes are no key, and with [`Status::MEMORY`].
 pub fn fingerprint(key: &[u8]) -> Result<Sha256, Status> {
     let mut digest = Sha256 { bytes: [0; 32] };
-    // SAFETY: pointer and length are those of one slice, which is lent for longer than the call,
-    // and `digest` is a local variable that nothing else refers to.
-    Status::of(unsafe { raw::sshkey_fingerprint(key.as_ptr(), key.len(), &mut digest) })?;
+    Status::of(raw::sshkey_fingerprint(key, &mut digest))?;
     Ok(digest)
 }
 
 /// The SHA-512 fingerprint of a key, given as its blob. Fails as [`fingerprint`] does.
 pub fn fingerprint_sha512(key: &[u8]) -> Result<Sha512, Status> {
     let mut digest = Sha512 { bytes: [0; 64] };
-    // SAFETY: pointer and length are those of one slice, which is lent for longer than the call,
-    // and `digest` is a local variable that nothing else refers to.
-    Status::of(unsafe { raw::sshkey_fingerprint_sha512(key.as_ptr(), key.len(), &mut digest) })?;
+    Status::of(raw::sshkey_fingerprint_sha512(key, &mut digest))?;
     Ok(digest)
 }
 
@@ -53,20 +49,13 @@ fn show(answer: u32, room: &[u8], formatter: &mut fmt::Formatter<'_>) -> fmt::Re
 impl fmt::Display for Sha256 {
     fn fmt(&self, formatter: &mut fmt::Formatter<'_>) -> fmt::Result {
         let mut room = [0; SHA256_TEXT];
-        // SAFETY: pointer and length are those of one local array that nothing else refers to,
-        // and `self` is lent for longer than the call.
-        let answer = unsafe { raw::sshkey_fingerprint_text(self, room.as_mut_ptr(), room.len()) };
-        show(answer, &room, formatter)
+        show(raw::sshkey_fingerprint_text(self, &mut room), &room, formatter)
     }
 }
 
 impl fmt::Display for Sha512 {
     fn fmt(&self, formatter: &mut fmt::Formatter<'_>) -> fmt::Result {
         let mut room = [0; SHA512_TEXT];
-        let (front, length) = (room.as_mut_ptr(), room.len());
-        // SAFETY: pointer and length are those of one local array that nothing else refers to,
-        // and `self` is lent for longer than the call.
-        let answer = unsafe { raw::sshkey_fingerprint_sha512_text(self, front, length) };
-        show(answer, &room, formatter)
+        show(raw::sshkey_fingerprint_sha512_text(self, &mut room), &room, formatter)
     }
 }

@@ -113,26 +113,20 @@ pub fn certificate_to_be_signed(draft: &Draft<'_>) -> Result<Vec<u8>, Status> {
     let critical_options = listed(draft.critical_options)?;
     let extensions = listed(draft.extensions)?;
     let given = raw::Draft {
-        key: raw::Span::of(draft.key),
-        nonce: raw::Span::of(draft.nonce),
-        key_id: raw::Span::of(draft.key_id.as_bytes()),
-        principals: raw::Span::of(&principals),
-        critical_options: raw::Span::of(&critical_options),
-        extensions: raw::Span::of(&extensions),
-        authority: raw::Span::of(draft.authority),
+        key: draft.key.into(),
+        nonce: draft.nonce.into(),
+        key_id: draft.key_id.as_bytes().into(),
+        principals: principals.as_slice().into(),
+        critical_options: critical_options.as_slice().into(),
+        extensions: extensions.as_slice().into(),
+        authority: draft.authority.into(),
         serial: draft.serial,
         valid_after: draft.valid_after,
         valid_before: draft.valid_before,
         certificate_type: draft.certificate_type as u32,
         all_principals: u32::from(matches!(draft.principals, Listed::Everybody)),
     };
-    written(ROOM, |room, length| {
-        let (front, room_length) = (room.as_mut_ptr(), room.len());
-        // SAFETY: each span of `given` is one of a slice that is lent, or of a vector that lives
-        // and is not changed, until this function returns; the room's length is beside its
-        // pointer, and room and length are each borrowed by the call alone.
-        unsafe { raw::sshkey_certificate_to_be_signed(&given, front, room_length, length) }
-    })
+    written(ROOM, |room, length| raw::sshkey_certificate_to_be_signed(&given, room, length))
 }
 
 /// The certificate that the signature's blob (RFC 4253, section 6.6) makes of the bytes that were
@@ -141,19 +135,7 @@ pub fn certificate_to_be_signed(draft: &Draft<'_>) -> Result<Vec<u8>, Status> {
 pub fn join_certificate(to_be_signed: &[u8], signature: &[u8]) -> Result<Vec<u8>, Status> {
     let enough = to_be_signed.len().saturating_add(signature.len()).saturating_add(4);
     written(enough, |room, length| {
-        // SAFETY: each pointer has the length of its slice beside it; the slices are lent for
-        // longer than the call, and room and length are each borrowed by it alone.
-        unsafe {
-            raw::sshkey_certificate_make(
-                to_be_signed.as_ptr(),
-                to_be_signed.len(),
-                signature.as_ptr(),
-                signature.len(),
-                room.as_mut_ptr(),
-                room.len(),
-                length,
-            )
-        }
+        raw::sshkey_certificate_make(to_be_signed, signature, room, length)
     })
 }
 

@@ -24,12 +24,8 @@ impl<'a> Iterator for EntryLines<'a> {
     type Item = &'a [u8];
 
     fn next(&mut self) -> Option<Self::Item> {
-        let (text, length) = (self.text.as_ptr(), self.text.len());
         let mut part = raw::Part::default();
-        // SAFETY: pointer and length are those of one slice, which is lent for longer than the
-        // call, and `part` is a local variable that nothing else refers to.
-        let answer = unsafe { raw::sshkey_next_line(text, length, self.place, &mut part) };
-        match Status::of(answer) {
+        match Status::of(raw::sshkey_next_line(self.text, self.place, &mut part)) {
             Ok(()) => {
                 self.place = part.end();
                 Some(part.of(self.text))
@@ -42,21 +38,6 @@ impl<'a> Iterator for EntryLines<'a> {
 }
 
 impl FusedIterator for EntryLines<'_> {}
-
-/// A call that reads the entry of a line: line, room and answer.
-type ReadEntry = unsafe extern "C" fn(*const u8, usize, *mut u8, usize, *mut raw::Entry) -> u32;
-
-/// The room that a call has written, and where the parts of the entry of the line stand there.
-/// Fails as [`ask`] does.
-fn entry(call: ReadEntry, line: &[u8]) -> Result<(Vec<u8>, raw::Entry), Status> {
-    ask(line.len(), |room, answer| {
-        let (front, length) = (room.as_mut_ptr(), room.len());
-        // SAFETY: `call` is one of sshkey.h, which takes these; each pointer has the length of its
-        // slice beside it, the line is lent for longer than the call, and room and answer are each
-        // borrowed by it alone.
-        unsafe { call(line.as_ptr(), line.len(), front, length, answer) }
-    })
-}
 
 /// An entry of authorized_keys.
 #[derive(Clone, Debug, PartialEq, Eq)]
@@ -76,7 +57,8 @@ pub struct AuthorizedEntry {
 /// Which options there may be is yours to judge. Let nobody in by an entry with the option
 /// cert-authority who only has that key, and refuse a line with a zero byte, where sshd ends it.
 pub fn authorized_entry(line: &[u8]) -> Result<AuthorizedEntry, Status> {
-    let (room, found) = entry(raw::sshkey_authorized_entry, line)?;
+    let (room, found) =
+        ask(line.len(), |room, answer| raw::sshkey_authorized_entry(line, room, answer))?;
     Ok(AuthorizedEntry {
         options: found.front.of(&room).to_vec(),
         key: found.key.of(&room).to_vec(),
@@ -112,7 +94,7 @@ pub struct KnownHost {
 /// where the line may be a revocation: to judge the key of a host, ask [`host_verdict`] about the
 /// whole text.
 pub fn known_host(line: &[u8]) -> Result<KnownHost, Status> {
-    let (room, found) = entry(raw::sshkey_known_host, line)?;
+    let (room, found) = ask(line.len(), |room, answer| raw::sshkey_known_host(line, room, answer))?;
     let markers = [Marker::None, Marker::CertAuthority, Marker::Revoked];
     let marker = markers.iter().copied().find(|it| *it as u32 == found.marker);
     Ok(KnownHost {
@@ -158,12 +140,8 @@ pub fn entry_options(text: &[u8]) -> EntryOptions<'_> {
 impl EntryOptions<'_> {
     /// The option of that number. Fails with [`Status::END`] where there is none.
     fn option(&self, number: usize) -> Result<EntryOption, Status> {
-        let (room, found) = ask(self.text.len(), |room, answer: &mut raw::EntryOptionParts| {
-            let (text, length) = (self.text.as_ptr(), self.text.len());
-            let (front, room_length) = (room.as_mut_ptr(), room.len());
-            // SAFETY: each pointer has the length of its slice beside it; the text is lent for
-            // longer than the call, and room and answer are each borrowed by it alone.
-            unsafe { raw::sshkey_nth_option(text, length, number, front, room_length, answer) }
+        let (room, found) = ask(self.text.len(), |room, answer| {
+            raw::sshkey_nth_option(self.text, number, room, answer)
         })?;
         let value = found.value.of(&room);
         let name = found.name.of(&room).to_vec();
@@ -188,31 +166,6 @@ impl Iterator for EntryOptions<'_> {
 
 impl FusedIterator for EntryOptions<'_> {}
 
-/// A call that judges a key: a text of known_hosts, a host, a port and the key.
-type Judge = unsafe extern "C" fn(*const u8, usize, *const u8, usize, u16, *const u8, usize) -> u32;
-
-fn judged(
-    call: Judge,
-    known_hosts: &[u8],
-    host: &[u8],
-    port: u16,
-    key: &[u8],
-) -> Result<(), Status> {
-    // SAFETY: `call` is one of sshkey.h, which takes these; each pointer has the length of its
-    // slice beside it, and the slices are lent for longer than the call, which writes nothing.
-    Status::of(unsafe {
-        call(
-            known_hosts.as_ptr(),
-            known_hosts.len(),
-            host.as_ptr(),
-            host.len(),
-            port,
-            key.as_ptr(),
-            key.len(),
-        )
-    })
-}
-
 /// Whether a text of known_hosts trusts the key, given as its blob, for a host (a name or an
 /// address, without brackets) at a port. Fails with [`Status::HOST_REVOKED`],
 /// [`Status::HOST_UNREADABLE`], [`Status::HOST_CHANGED`] or [`Status::HOST_UNKNOWN`] for what it
@@ -229,7 +182,7 @@ pub fn host_verdict(
     port: u16,
     key: &[u8],
 ) -> Result<(), Status> {
-    judged(raw::sshkey_host_verdict, known_hosts, host.as_ref(), port, key)
+    Status::of(raw::sshkey_host_verdict(known_hosts, host.as_ref(), port, key))
 }
 
 /// The same of the key of an authority that signed a certificate of the host: whether an entry
@@ -249,5 +202,5 @@ pub fn authority_verdict(
     port: u16,
     key: &[u8],
 ) -> Result<(), Status> {
-    judged(raw::sshkey_authority_verdict, known_hosts, host.as_ref(), port, key)
+    Status::of(raw::sshkey_authority_verdict(known_hosts, host.as_ref(), port, key))
 }

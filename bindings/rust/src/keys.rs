@@ -6,7 +6,7 @@ use crate::rooms::{ask, written};
 use crate::status::Status;
 
 /// `SSHKEY_LINE_CERTIFICATE`; that of a key is 1.
-pub(crate) const CERTIFICATE: u32 = 2;
+const CERTIFICATE: u32 = 2;
 
 /// What stands in a line of a file of public keys or of certificates.
 #[derive(Clone, Debug, PartialEq, Eq)]
@@ -24,12 +24,7 @@ pub struct Line {
 /// with [`Status::MEMORY`].
 pub fn read_line(line: impl AsRef<[u8]>) -> Result<Line, Status> {
     let line = line.as_ref();
-    let (room, found) = ask(line.len(), |room: &mut [u8], answer: &mut raw::Line| {
-        let (front, length) = (room.as_mut_ptr(), room.len());
-        // SAFETY: each pointer has the length of its slice beside it; line and room are lent for
-        // longer than the call, and room and answer are each borrowed by it alone.
-        unsafe { raw::sshkey_read_line(line.as_ptr(), line.len(), front, length, answer) }
-    })?;
+    let (room, found) = ask(line.len(), |room, answer| raw::sshkey_read_line(line, room, answer))?;
     let comment = String::from_utf8(found.comment.of(&room).to_vec());
     Ok(Line {
         blob: found.blob.of(&room).to_vec(),
@@ -55,38 +50,18 @@ pub fn signature_question(
     let enough =
         [key, message, signature].iter().fold(256, |sum: usize, it| sum.saturating_add(it.len()));
     Question::of_call(enough, |room, answer| {
-        // SAFETY: each pointer has the length of its slice beside it; the slices are lent for
-        // longer than the call, and room and answer are each borrowed by it alone.
-        unsafe {
-            raw::sshkey_signature_question(
-                key.as_ptr(),
-                key.len(),
-                message.as_ptr(),
-                message.len(),
-                signature.as_ptr(),
-                signature.len(),
-                room.as_mut_ptr(),
-                room.len(),
-                answer,
-            )
-        }
+        raw::sshkey_signature_question(key, message, signature, room, answer)
     })
 }
 
 /// A call that writes what it makes of some bytes to a room: bytes, room, and the length of what
 /// is written.
-pub(crate) type Write = unsafe extern "C" fn(*const u8, usize, *mut u8, usize, *mut usize) -> u32;
+pub(crate) type Write = fn(&[u8], &mut [u8], &mut usize) -> u32;
 
 /// What a call writes of the bytes, which is never longer than they are. Fails with what the call
 /// answers, and with [`Status::MEMORY`].
 pub(crate) fn written_of(call: Write, bytes: &[u8]) -> Result<Vec<u8>, Status> {
-    written(bytes.len(), |room, length| {
-        let (front, room_length) = (room.as_mut_ptr(), room.len());
-        // SAFETY: `call` is one of sshkey.h, which takes bytes and a room; each pointer has the
-        // length of its slice beside it, the bytes are lent for longer than the call, and room and
-        // length are each borrowed by it alone.
-        unsafe { call(bytes.as_ptr(), bytes.len(), front, room_length, length) }
-    })
+    written(bytes.len(), |room, length| call(bytes, room, length))
 }
 
 /// The normal form of a key, given as its blob: two keys are the same exactly if theirs are. Fails

@@ -33,7 +33,7 @@
 //! none from a signal handler, or from the forked child of a process with threads. What no call
 //! answers, as is proved, would be a panic: a part that lies outside its bytes, and a fault of
 //! [`entry_lines`].
-#![deny(unsafe_op_in_unsafe_fn, missing_docs)]
+#![deny(missing_docs)]
 
 mod certificates;
 mod digests;

@@ -1,6 +1,8 @@
 //! The structs and the calls of sshkey.h as they are. What a verifier in C takes is public: a
 //! [`Question`] and its [`Part`]s.
 
+use std::marker::PhantomData;
+
 use crate::digests::{Sha256, Sha512};
 
 /// `sshkey_part`: where a part of other bytes begins, and how many bytes it has.
@@ -41,74 +43,59 @@ pub struct Question {
     pub algorithm: u32,
 }
 
-/// `sshkey_line`
-#[repr(C)]
-#[derive(Clone, Copy, Debug, Default)]
-pub(crate) struct Line {
-    pub blob: Part,
-    pub comment: Part,
-    pub length: usize,
-    pub kind: u32,
+/// The structs of sshkey.h that stay within this crate, by its names and fields.
+macro_rules! structs {
+    ($($name:ident { $($field:ident: $kind:ty),* })*) => {
+        $(
+            #[repr(C)]
+            #[derive(Clone, Copy, Debug, Default)]
+            pub(crate) struct $name {
+                $(pub $field: $kind,)*
+            }
+        )*
+    };
 }
 
-/// `sshkey_fields`
-#[repr(C)]
-#[derive(Clone, Copy, Debug, Default)]
-pub(crate) struct Fields {
-    pub serial: u64,
-    pub valid_after: u64,
-    pub valid_before: u64,
-    pub certificate_type: u32,
-    pub lists_principals: u32,
-    pub has_critical_options: u32,
-}
-
-/// `sshkey_parts`
-#[repr(C)]
-#[derive(Clone, Copy, Debug, Default)]
-pub(crate) struct Parts {
-    pub key_id: Part,
-    pub principals: Part,
-    pub critical_options: Part,
-    pub extensions: Part,
-    pub authority: Part,
-}
-
-/// `sshkey_certificate_option_parts`
-#[repr(C)]
-#[derive(Clone, Copy, Debug, Default)]
-pub(crate) struct CertificateOptionParts {
-    pub name: Part,
-    pub value: Part,
-    pub next: usize,
+structs! {
+    Line { blob: Part, comment: Part, length: usize, kind: u32 }
+    Fields {
+        serial: u64, valid_after: u64, valid_before: u64, certificate_type: u32,
+        lists_principals: u32, has_critical_options: u32
+    }
+    Parts {
+        key_id: Part, principals: Part, critical_options: Part, extensions: Part, authority: Part
+    }
+    CertificateOptionParts { name: Part, value: Part, next: usize }
+    Entry { front: Part, key: Part, comment: Part, length: usize, marker: u32 }
+    EntryOptionParts { name: Part, value: Part, length: usize, has_value: u32 }
 }
 
 /// `sshkey_span`: bytes that a call reads.
 #[repr(C)]
 #[derive(Clone, Copy, Debug)]
-pub(crate) struct Span {
-    pub bytes: *const u8,
-    pub length: usize,
+pub(crate) struct Span<'a> {
+    bytes: *const u8,
+    length: usize,
+    lent: PhantomData<&'a [u8]>,
 }
 
-impl Span {
-    /// The span of these bytes, which have to outlive its use.
-    pub(crate) fn of(bytes: &[u8]) -> Span {
-        Span { bytes: bytes.as_ptr(), length: bytes.len() }
+impl<'a> From<&'a [u8]> for Span<'a> {
+    fn from(bytes: &'a [u8]) -> Span<'a> {
+        Span { bytes: bytes.as_ptr(), length: bytes.len(), lent: PhantomData }
     }
 }
 
 /// `sshkey_draft`
 #[repr(C)]
 #[derive(Clone, Copy, Debug)]
-pub(crate) struct Draft {
-    pub key: Span,
-    pub nonce: Span,
-    pub key_id: Span,
-    pub principals: Span,
-    pub critical_options: Span,
-    pub extensions: Span,
-    pub authority: Span,
+pub(crate) struct Draft<'a> {
+    pub key: Span<'a>,
+    pub nonce: Span<'a>,
+    pub key_id: Span<'a>,
+    pub principals: Span<'a>,
+    pub critical_options: Span<'a>,
+    pub extensions: Span<'a>,
+    pub authority: Span<'a>,
     pub serial: u64,
     pub valid_after: u64,
     pub valid_before: u64,
@@ -116,244 +103,87 @@ pub(crate) struct Draft {
     pub all_principals: u32,
 }
 
-/// `sshkey_entry`
-#[repr(C)]
-#[derive(Clone, Copy, Debug, Default)]
-pub(crate) struct Entry {
-    pub front: Part,
-    pub key: Part,
-    pub comment: Part,
-    pub length: usize,
-    pub marker: u32,
-}
+// the library is one for x86-64
+const _: () = assert!(std::mem::size_of::<usize>() == 8);
 
-/// `sshkey_entry_option_parts`
-#[repr(C)]
-#[derive(Clone, Copy, Debug, Default)]
-pub(crate) struct EntryOptionParts {
-    pub name: Part,
-    pub value: Part,
-    pub length: usize,
-    pub has_value: u32,
-}
-
-/// Each struct has the size that sshkey.h asserts; the tests compare each field's place.
-macro_rules! sizes {
-    ($($name:ident $size:literal)*) => {
-        $(const _: () = assert!(std::mem::size_of::<$name>() == $size);)*
+/// The calls of sshkey.h as functions that are safe: of a slice C gets the pointer and the length,
+/// and a reference as a pointer.
+macro_rules! calls {
+    (@ $call:ident [$($rust:tt)*] [$($c:tt)*] [$($got:tt)*] $it:ident: &mut [u8], $($more:tt)*) => {
+        calls! {
+            @ $call [$($rust)* $it: &mut [u8],] [$($c)* _: *mut u8, _: usize,]
+            [$($got)* $it.as_mut_ptr(), $it.len(),] $($more)*
+        }
+    };
+    (@ $call:ident [$($rust:tt)*] [$($c:tt)*] [$($got:tt)*] $it:ident: &[$of:ty], $($more:tt)*) => {
+        calls! {
+            @ $call [$($rust)* $it: &[$of],] [$($c)* _: *const $of, _: usize,]
+            [$($got)* $it.as_ptr(), $it.len(),] $($more)*
+        }
+    };
+    (@ $call:ident [$($rust:tt)*] [$($c:tt)*] [$($got:tt)*] $it:ident: $of:ty, $($more:tt)*) => {
+        calls! { @ $call [$($rust)* $it: $of,] [$($c)* _: $of,] [$($got)* $it,] $($more)* }
+    };
+    (@ $call:ident [$($rust:tt)*] [$($c:tt)*] [$($got:tt)*]) => {
+        pub(crate) fn $call($($rust)*) -> u32 {
+            extern "C" {
+                fn $call($($c)*) -> u32;
+            }
+            // SAFETY: these are the parameters of sshkey.h, which checks/bindings compares. Each
+            // pointer has the length of its slice beside it, what is read is lent for longer than
+            // the call, and what is written is borrowed by it alone.
+            unsafe { $call($($got)*) }
+        }
+    };
+    ($(fn $call:ident($($parameters:tt)*);)*) => {
+        $(calls! { @ $call [] [] [] $($parameters)*, })*
     };
 }
 
-sizes! {
-    usize 8 Part 16 Sha256 32 Sha512 64 Line 48 Question 64 Fields 40 Parts 80
-    CertificateOptionParts 40 Span 16 Draft 144 Entry 64 EntryOptionParts 48
+calls! {
+    fn sshkey_read_line(line: &[u8], room: &mut [u8], answer: &mut Line);
+    fn sshkey_certificate_question(certificate: &[u8], room: &mut [u8], answer: &mut Question);
+    fn sshkey_certificate_validate(
+        certificate: &[u8], unix_timestamp: u64, authorities: &[Sha256], is_verified: u32
+    );
+    fn sshkey_certificate_validate_for(
+        certificate: &[u8], unix_timestamp: u64, principal: &[u8], authorities: &[Sha256],
+        is_verified: u32
+    );
+    fn sshkey_certificate_fields(certificate: &[u8], answer: &mut Fields);
+    fn sshkey_certificate_parts(certificate: &[u8], answer: &mut Parts);
+    fn sshkey_next_option(bytes: &[u8], place: usize, answer: &mut CertificateOptionParts);
+    fn sshkey_certificate_key(certificate: &[u8], room: &mut [u8], length: &mut usize);
+    fn sshkey_certificate_to_be_signed(draft: &Draft<'_>, room: &mut [u8], length: &mut usize);
+    fn sshkey_certificate_make(
+        to_be_signed: &[u8], signature: &[u8], room: &mut [u8], length: &mut usize
+    );
+    fn sshkey_fingerprint(key: &[u8], answer: &mut Sha256);
+    fn sshkey_fingerprint_text(digest: &Sha256, room: &mut [u8]);
+    fn sshkey_fingerprint_sha512(key: &[u8], answer: &mut Sha512);
+    fn sshkey_fingerprint_sha512_text(digest: &Sha512, room: &mut [u8]);
+    fn sshkey_signature_question(
+        key: &[u8], message: &[u8], signature: &[u8], room: &mut [u8], answer: &mut Question
+    );
+    fn sshkey_sshsig_question(
+        signature: &[u8], name_space: &[u8], message: &[u8], room: &mut [u8],
+        answer: &mut Question, signer: &mut Sha256
+    );
+    fn sshkey_sshsig_question_of_digest(
+        signature: &[u8], name_space: &[u8], digest: &[u8], room: &mut [u8],
+        answer: &mut Question, signer: &mut Sha256
+    );
+    fn sshkey_key_normal(key: &[u8], room: &mut [u8], length: &mut usize);
+    fn sshkey_certificate_normal(certificate: &[u8], room: &mut [u8], length: &mut usize);
+    fn sshkey_sshsig_normal(signature: &[u8], room: &mut [u8], length: &mut usize);
+    fn sshkey_signature_normal(signature: &[u8], room: &mut [u8], length: &mut usize);
+    fn sshkey_next_string(bytes: &[u8], place: usize, answer: &mut Part);
+    fn sshkey_next_line(text: &[u8], place: usize, answer: &mut Part);
+    fn sshkey_authorized_entry(line: &[u8], room: &mut [u8], answer: &mut Entry);
+    fn sshkey_known_host(line: &[u8], room: &mut [u8], answer: &mut Entry);
+    fn sshkey_nth_option(
+        options: &[u8], number: usize, room: &mut [u8], answer: &mut EntryOptionParts
+    );
+    fn sshkey_host_verdict(known_hosts: &[u8], host: &[u8], port: u16, key: &[u8]);
+    fn sshkey_authority_verdict(known_hosts: &[u8], host: &[u8], port: u16, key: &[u8]);
 }
-
-// each after the parameters of sshkey.h, by the same names; the tests compare them
-extern "C" {
-    pub(crate) fn sshkey_read_line(
-        line: *const u8,
-        line_length: usize,
-        room: *mut u8,
-        room_length: usize,
-        answer: *mut Line,
-    ) -> u32;
-    pub(crate) fn sshkey_certificate_question(
-        certificate: *const u8,
-        certificate_length: usize,
-        room: *mut u8,
-        room_length: usize,
-        answer: *mut Question,
-    ) -> u32;
-    pub(crate) fn sshkey_certificate_validate(
-        certificate: *const u8,
-        certificate_length: usize,
-        unix_timestamp: u64,
-        authorities: *const Sha256,
-        authority_count: usize,
-        is_verified: u32,
-    ) -> u32;
-    pub(crate) fn sshkey_certificate_validate_for(
-        certificate: *const u8,
-        certificate_length: usize,
-        unix_timestamp: u64,
-        principal: *const u8,
-        principal_length: usize,
-        authorities: *const Sha256,
-        authority_count: usize,
-        is_verified: u32,
-    ) -> u32;
-    pub(crate) fn sshkey_certificate_fields(
-        certificate: *const u8,
-        certificate_length: usize,
-        answer: *mut Fields,
-    ) -> u32;
-    pub(crate) fn sshkey_certificate_parts(
-        certificate: *const u8,
-        certificate_length: usize,
-        answer: *mut Parts,
-    ) -> u32;
-    pub(crate) fn sshkey_next_option(
-        bytes: *const u8,
-        length: usize,
-        place: usize,
-        answer: *mut CertificateOptionParts,
-    ) -> u32;
-    pub(crate) fn sshkey_certificate_key(
-        certificate: *const u8,
-        certificate_length: usize,
-        room: *mut u8,
-        room_length: usize,
-        length: *mut usize,
-    ) -> u32;
-    pub(crate) fn sshkey_certificate_to_be_signed(
-        draft: *const Draft,
-        room: *mut u8,
-        room_length: usize,
-        length: *mut usize,
-    ) -> u32;
-    pub(crate) fn sshkey_certificate_make(
-        to_be_signed: *const u8,
-        to_be_signed_length: usize,
-        signature: *const u8,
-        signature_length: usize,
-        room: *mut u8,
-        room_length: usize,
-        length: *mut usize,
-    ) -> u32;
-    pub(crate) fn sshkey_fingerprint(key: *const u8, key_length: usize, answer: *mut Sha256)
-        -> u32;
-    pub(crate) fn sshkey_fingerprint_text(
-        digest: *const Sha256,
-        room: *mut u8,
-        room_length: usize,
-    ) -> u32;
-    pub(crate) fn sshkey_fingerprint_sha512(
-        key: *const u8,
-        key_length: usize,
-        answer: *mut Sha512,
-    ) -> u32;
-    pub(crate) fn sshkey_fingerprint_sha512_text(
-        digest: *const Sha512,
-        room: *mut u8,
-        room_length: usize,
-    ) -> u32;
-    pub(crate) fn sshkey_signature_question(
-        key: *const u8,
-        key_length: usize,
-        message: *const u8,
-        message_length: usize,
-        signature: *const u8,
-        signature_length: usize,
-        room: *mut u8,
-        room_length: usize,
-        answer: *mut Question,
-    ) -> u32;
-    pub(crate) fn sshkey_sshsig_question(
-        signature: *const u8,
-        signature_length: usize,
-        name_space: *const u8,
-        name_space_length: usize,
-        message: *const u8,
-        message_length: usize,
-        room: *mut u8,
-        room_length: usize,
-        answer: *mut Question,
-        signer: *mut Sha256,
-    ) -> u32;
-    pub(crate) fn sshkey_sshsig_question_of_digest(
-        signature: *const u8,
-        signature_length: usize,
-        name_space: *const u8,
-        name_space_length: usize,
-        digest: *const u8,
-        digest_length: usize,
-        room: *mut u8,
-        room_length: usize,
-        answer: *mut Question,
-        signer: *mut Sha256,
-    ) -> u32;
-    pub(crate) fn sshkey_key_normal(
-        key: *const u8,
-        key_length: usize,
-        room: *mut u8,
-        room_length: usize,
-        length: *mut usize,
-    ) -> u32;
-    pub(crate) fn sshkey_certificate_normal(
-        certificate: *const u8,
-        certificate_length: usize,
-        room: *mut u8,
-        room_length: usize,
-        length: *mut usize,
-    ) -> u32;
-    pub(crate) fn sshkey_sshsig_normal(
-        signature: *const u8,
-        signature_length: usize,
-        room: *mut u8,
-        room_length: usize,
-        length: *mut usize,
-    ) -> u32;
-    pub(crate) fn sshkey_signature_normal(
-        signature: *const u8,
-        signature_length: usize,
-        room: *mut u8,
-        room_length: usize,
-        length: *mut usize,
-    ) -> u32;
-    pub(crate) fn sshkey_next_string(
-        bytes: *const u8,
-        length: usize,
-        place: usize,
-        answer: *mut Part,
-    ) -> u32;
-    pub(crate) fn sshkey_next_line(
-        text: *const u8,
-        length: usize,
-        place: usize,
-        answer: *mut Part,
-    ) -> u32;
-    pub(crate) fn sshkey_authorized_entry(
-        line: *const u8,
-        line_length: usize,
-        room: *mut u8,
-        room_length: usize,
-        answer: *mut Entry,
-    ) -> u32;
-    pub(crate) fn sshkey_known_host(
-        line: *const u8,
-        line_length: usize,
-        room: *mut u8,
-        room_length: usize,
-        answer: *mut Entry,
-    ) -> u32;
-    pub(crate) fn sshkey_nth_option(
-        options: *const u8,
-        options_length: usize,
-        number: usize,
-        room: *mut u8,
-        room_length: usize,
-        answer: *mut EntryOptionParts,
-    ) -> u32;
-    pub(crate) fn sshkey_host_verdict(
-        known_hosts: *const u8,
-        known_hosts_length: usize,
-        host: *const u8,
-        host_length: usize,
-        port: u16,
-        key: *const u8,
-        key_length: usize,
-    ) -> u32;
-    pub(crate) fn sshkey_authority_verdict(
-        known_hosts: *const u8,
-        known_hosts_length: usize,
-        host: *const u8,
-        host_length: usize,
-        port: u16,
-        key: *const u8,
-        key_length: usize,
-    ) -> u32;
-}
-
-#[cfg(test)]
-mod tests;

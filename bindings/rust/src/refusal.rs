@@ -31,30 +31,25 @@ impl Refusal {
     /// What it means, in words.
     #[must_use]
     pub fn meaning(self) -> &'static str {
-        match self {
-            Refusal::Invalid(status) => meaning(status),
-            Refusal::NotForUsers => "not for users",
-            Refusal::NobodyListed => "no principals",
-            Refusal::UnmetOption => "a critical option that is not known or not met",
-            Refusal::OtherKey => "another key",
-            Refusal::FlagData => "data in an extension that is a flag",
-            Refusal::NotForHosts => "not for hosts",
-            Refusal::Unreadable => "texts or principals that sshd does not read",
-        }
+        self.parts().1
     }
 
     /// The number of sshkey.h, or that of the example in C (`JUDGE_*`), which is 100 or more.
     #[must_use]
     pub fn number(self) -> u32 {
+        self.parts().0
+    }
+
+    fn parts(self) -> (u32, &'static str) {
         match self {
-            Refusal::Invalid(status) => status.number(),
-            Refusal::NotForUsers => 100,
-            Refusal::NobodyListed => 101,
-            Refusal::UnmetOption => 102,
-            Refusal::OtherKey => 103,
-            Refusal::FlagData => 104,
-            Refusal::NotForHosts => 105,
-            Refusal::Unreadable => 106,
+            Refusal::Invalid(status) => (status.number(), meaning(status)),
+            Refusal::NotForUsers => (100, "not for users"),
+            Refusal::NobodyListed => (101, "no principals"),
+            Refusal::UnmetOption => (102, "a critical option that is not known or not met"),
+            Refusal::OtherKey => (103, "another key"),
+            Refusal::FlagData => (104, "data in an extension that is a flag"),
+            Refusal::NotForHosts => (105, "not for hosts"),
+            Refusal::Unreadable => (106, "texts or principals that sshd does not read"),
         }
     }
 }

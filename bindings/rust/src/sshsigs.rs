@@ -9,18 +9,7 @@ use crate::strings::strings;
 
 /// A call that asks for the question of an SSH signature: the signature, the namespace, the message
 /// or its digest, the room, and what is written.
-type Ask = unsafe extern "C" fn(
-    *const u8,
-    usize,
-    *const u8,
-    usize,
-    *const u8,
-    usize,
-    *mut u8,
-    usize,
-    *mut raw::Question,
-    *mut Sha256,
-) -> u32;
+type Ask = fn(&[u8], &[u8], &[u8], &mut [u8], &mut raw::Question, &mut Sha256) -> u32;
 
 /// What such a call writes. Fails with what it answers.
 fn question_by(
@@ -32,23 +21,7 @@ fn question_by(
     let enough = signature.len().saturating_mul(2).saturating_add(256);
     let mut signer = Sha256 { bytes: [0; 32] };
     let question = Question::of_call(enough, |room, answer| {
-        // SAFETY: `call` is one of sshkey.h, which takes these; each pointer has the length of its
-        // slice beside it; the slices are lent for longer than the call, and room, answer and
-        // signer are each borrowed by it alone.
-        unsafe {
-            call(
-                signature.as_ptr(),
-                signature.len(),
-                namespace.as_ptr(),
-                namespace.len(),
-                covered.as_ptr(),
-                covered.len(),
-                room.as_mut_ptr(),
-                room.len(),
-                answer,
-                &mut signer,
-            )
-        }
+        call(signature, namespace, covered, room, answer, &mut signer)
     })?;
     Ok((question, signer))
 }

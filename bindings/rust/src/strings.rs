@@ -23,19 +23,15 @@ impl<'a> Iterator for Strings<'a> {
     type Item = Result<&'a [u8], Status>;
 
     fn next(&mut self) -> Option<Self::Item> {
-        let (bytes, length) = (self.bytes.as_ptr(), self.bytes.len());
         let mut part = raw::Part::default();
-        // SAFETY: pointer and length are those of one slice, which is lent for longer than the
-        // call, and `part` is a local variable that nothing else refers to.
-        let answer = unsafe { raw::sshkey_next_string(bytes, length, self.place, &mut part) };
-        match Status::of(answer) {
+        match Status::of(raw::sshkey_next_string(self.bytes, self.place, &mut part)) {
             Ok(()) => {
                 self.place = part.end();
                 Some(Ok(part.of(self.bytes)))
             }
             Err(Status::END) => None,
             Err(status) => {
-                self.place = length;
+                self.place = self.bytes.len();
                 Some(Err(status))
             }
         }

@@ -1,5 +1,5 @@
-// Asker answers the questions of checks/asked/binding_calls.py, which says what they are, by the
-// packages of bindings/go: a line for a line.
+// Asker answers the questions of checks/asked/answers.py, which says what they are, by the packages
+// of bindings/go: a line for a line.
 package main
 
 import (
@@ -9,6 +9,7 @@ import (
 	"errors"
 	"fmt"
 	"os"
+	"sort"
 	"strconv"
 	"strings"
 	"time"
@@ -17,18 +18,91 @@ import (
 	"rafendilo.example/go/sshkey"
 )
 
-// answer is the words behind 0, or why there are none.
-type answer func(words []string) ([]string, error)
+// answers are the words after 0, or why there are none.
+var answers = map[string]func(of []string) ([]string, error){
+	"certificate": func(of []string) ([]string, error) {
+		return asked(sshkey.CertificateQuestion(data(of[0])))
+	},
+	"signature": func(of []string) ([]string, error) { return asked(signature(of)) },
+	"sshsig": func(of []string) ([]string, error) {
+		return signed(sshkey.SSHSigQuestion(data(of[0]), text(of[1]), data(of[2])))
+	},
+	"sshsig-of-digest": func(of []string) ([]string, error) {
+		return signed(sshkey.SSHSigQuestionOfDigest(data(of[0]), text(of[1]), data(of[2])))
+	},
+	"sshsig-hash": sshsigHash,
+	"sshsig-reserved": func(of []string) ([]string, error) {
+		return made(sshkey.SSHSigReserved(data(of[0])))
+	},
+	"is-sshsig": func(of []string) ([]string, error) {
+		by := digests(of[3])
+		return nil, judge.ValidateSSHSig(data(of[0]), text(of[1]), data(of[2]), by)
+	},
+	"is-sshsig-of-digest": func(of []string) ([]string, error) {
+		by := digests(of[3])
+		return nil, judge.ValidateSSHSigOfDigest(data(of[0]), text(of[1]), data(of[2]), by)
+	},
+	"is-signature": func(of []string) ([]string, error) {
+		question, err := signature(of)
+		return []string{bit(judge.IsSignature(question))}, err
+	},
+	"fields": fields,
+	"lists":  lists,
+	"certificate-options": func(of []string) ([]string, error) {
+		found, err := sshkey.Options(data(of[0]))
+		return pairs(found, ""), err
+	},
+	"strings": func(of []string) ([]string, error) {
+		found, err := sshkey.Strings(data(of[0]))
+		return wordsOf(found), err
+	},
+	"key": key,
+	"line": func(of []string) ([]string, error) {
+		found, err := sshkey.ReadLine(text(of[0]))
+		return []string{bit(found.IsCertificate), word(found.Blob), word(found.Comment)}, err
+	},
+	"normal": func(of []string) ([]string, error) {
+		return made(map[string]func([]byte) ([]byte, error){
+			"key": sshkey.NormalKey, "certificate": sshkey.NormalCertificate,
+			"sshsig": sshkey.NormalSSHSig, "signature": sshkey.NormalSignature,
+		}[of[0]](data(of[1])))
+	},
+	"draft": func(of []string) ([]string, error) {
+		draft, err := draftOf(of)
+		if err != nil {
+			return nil, err
+		}
+		return made(draft.ToBeSigned())
+	},
+	"make": func(of []string) ([]string, error) {
+		draft, err := draftOf(of)
+		if err != nil {
+			return nil, err
+		}
+		sign := func([]byte) ([]byte, error) { return data(of[12]), nil }
+		return made(sshkey.MakeCertificate(draft, sign))
+	},
+	"join": func(of []string) ([]string, error) {
+		return made(sshkey.JoinCertificate(data(of[0]), data(of[1])))
+	},
+	"lines": func(of []string) ([]string, error) {
+		return wordsOf(sshkey.EntryLines(text(of[0]))), nil
+	},
+	"entry": func(of []string) ([]string, error) {
+		found, err := sshkey.AuthorizedEntry(text(of[0]))
+		return []string{"0", word(found.Options), word(found.Key), word(found.Comment)}, err
+	},
+	"host": func(of []string) ([]string, error) {
+		found, err := sshkey.KnownHost(text(of[0]))
+		marker := strconv.FormatUint(uint64(found.Marker), 10)
+		return []string{marker, word(found.Hosts), word(found.Key), word(found.Comment)}, err
+	},
+	"options": options,
+}
 
-var answers = map[string]answer{
-	"certificate": certificate, "signature": signature, "sshsig": sshsig,
-	"sshsig-of-digest": sshsigOfDigest, "sshsig-hash": sshsigHash,
-	"sshsig-reserved": sshsigReserved, "is-sshsig": isSSHSig,
-	"is-sshsig-of-digest": isSSHSigOfDigest, "is-signature": isSignature, "validate": validate,
-	"user": user, "fields": fields, "lists": lists, "certificate-options": certificateOptions,
-	"strings": stringsOf, "key": key, "line": line, "normal": normal, "draft": draft, "join": join,
-	"lines": lines, "entry": entry, "host": host, "options": options,
-	"host-certificate": hostCertificate,
+// said are whole answers, without a 0.
+var said = map[string]func(of []string) string{
+	"validate": validate, "user": user, "host-certificate": hostCertificate, "verdict": verdict,
 }
 
 func main() {
@@ -40,23 +114,17 @@ func main() {
 			return
 		}
 		words := strings.Split(strings.TrimSuffix(question, "\n"), " ")
-		fmt.Fprintln(output, said(words[0], words[1:]))
+		if say, isWhole := said[words[0]]; isWhole {
+			fmt.Fprintln(output, say(words[1:]))
+		} else if found, err := answers[words[0]](words[1:]); err != nil {
+			fmt.Fprintln(output, numberOf(err))
+		} else {
+			fmt.Fprintln(output, strings.Join(append([]string{"0"}, found...), " "))
+		}
 	}
 }
 
-func said(what string, words []string) string {
-	if what == "verdict" {
-		return verdict(words)
-	}
-	found, err := answers[what](words)
-	if err != nil {
-		return numberOf(err)
-	}
-	if what == "user" || what == "host-certificate" || what == "validate" {
-		return strings.Join(found, " ")
-	}
-	return strings.Join(append([]string{"0"}, found...), " ")
-}
+// ---- words
 
 // numberOf is that of a Status, 0 for nil.
 func numberOf(err error) string {
@@ -66,8 +134,6 @@ func numberOf(err error) string {
 	}
 	return strconv.FormatUint(uint64(status), 10)
 }
-
-// ---- words
 
 func data(word string) []byte {
 	if word == "-" {
@@ -107,6 +173,11 @@ func wordsOf[T string | []byte](contents []T) []string {
 	return found
 }
 
+// made is the one word of what is made.
+func made(content []byte, err error) ([]string, error) {
+	return []string{word(content)}, err
+}
+
 func bit(yes bool) string {
 	if yes {
 		return "1"
@@ -127,37 +198,37 @@ func at(word string) time.Time {
 	return time.Unix(int64(number(word)), 0)
 }
 
+// pairs is options by rising names, each after the front.
+func pairs(options map[string]string, front string) []string {
+	names, found := []string{}, []string{}
+	for name := range options {
+		names = append(names, name)
+	}
+	sort.Strings(names)
+	for _, name := range names {
+		found = append(found, front+word(name)+"="+word(options[name]))
+	}
+	return found
+}
+
 // ---- questions
+
+func signature(of []string) (sshkey.Question, error) {
+	return sshkey.SignatureQuestion(data(of[0]), data(of[1]), data(of[2]))
+}
 
 func asked(question sshkey.Question, err error) ([]string, error) {
 	parts := wordsOf([][]byte{question.Key, question.Message, question.Signature})
 	return append([]string{strconv.FormatUint(uint64(question.Algorithm), 10)}, parts...), err
 }
 
-func certificate(words []string) ([]string, error) {
-	return asked(sshkey.CertificateQuestion(data(words[0])))
-}
-
-func signature(words []string) ([]string, error) {
-	return asked(sshkey.SignatureQuestion(data(words[0]), data(words[1]), data(words[2])))
-}
-
-func sshsig(words []string) ([]string, error) {
-	question, signer, err := sshkey.SSHSigQuestion(data(words[0]), text(words[1]), data(words[2]))
+func signed(question sshkey.Question, signer sshkey.SHA256, err error) ([]string, error) {
 	found, err := asked(question, err)
 	return append(found, word(signer[:])), err
 }
 
-func sshsigOfDigest(words []string) ([]string, error) {
-	question, signer, err := sshkey.SSHSigQuestionOfDigest(
-		data(words[0]), text(words[1]), data(words[2]),
-	)
-	found, err := asked(question, err)
-	return append(found, word(signer[:])), err
-}
-
-func sshsigHash(words []string) ([]string, error) {
-	hash, err := sshkey.SSHSigHash(data(words[0]))
+func sshsigHash(of []string) ([]string, error) {
+	hash, err := sshkey.SSHSigHash(data(of[0]))
 	names := map[crypto.Hash]string{crypto.SHA256: "sha256", crypto.SHA512: "sha512"}
 	if err == nil && !hash.Available() {
 		panic(hash)
@@ -165,59 +236,104 @@ func sshsigHash(words []string) ([]string, error) {
 	return []string{names[hash]}, err
 }
 
-func sshsigReserved(words []string) ([]string, error) {
-	reserved, err := sshkey.SSHSigReserved(data(words[0]))
-	return []string{word(reserved)}, err
-}
-
-func isSSHSig(words []string) ([]string, error) {
-	return nil, judge.ValidateSSHSig(
-		data(words[0]), text(words[1]), data(words[2]), digests(words[3]),
-	)
-}
-
-func isSSHSigOfDigest(words []string) ([]string, error) {
-	return nil, judge.ValidateSSHSigOfDigest(
-		data(words[0]), text(words[1]), data(words[2]), digests(words[3]),
-	)
-}
-
-func isSignature(words []string) ([]string, error) {
-	question, err := sshkey.SignatureQuestion(data(words[0]), data(words[1]), data(words[2]))
-	return []string{bit(judge.IsSignature(question))}, err
-}
-
-func validate(words []string) ([]string, error) {
-	certificate, now, by, questions := data(words[0]), at(words[1]), digests(words[3]), 0
+func validate(of []string) string {
+	certificate, now, by, questions := data(of[0]), at(of[1]), digests(of[3]), 0
 	verify := func(sshkey.Question) bool {
 		questions++
-		return words[4] == "1"
+		return of[4] == "1"
 	}
 	var err error
-	if words[2] == "*" {
+	if of[2] == "*" {
 		err = sshkey.ValidateCertificate(certificate, now, by, verify)
 	} else {
-		err = sshkey.ValidateCertificateFor(certificate, now, text(words[2]), by, verify)
+		err = sshkey.ValidateCertificateFor(certificate, now, text(of[2]), by, verify)
 	}
-	return []string{numberOf(err), strconv.Itoa(questions)}, nil
+	return numberOf(err) + " " + strconv.Itoa(questions)
 }
 
-func user(words []string) ([]string, error) {
+func user(of []string) string {
 	login := judge.Login{
-		Key: data(words[1]), Now: at(words[2]), User: text(words[3]),
-		Authorities: digests(words[4]),
+		Key: data(of[1]), Now: at(of[2]), User: text(of[3]), Authorities: digests(of[4]),
 	}
-	if known := text(words[5]); known != "" {
+	if known := text(of[5]); known != "" {
 		login.IsMet = func(name, value string) bool { return name == known && value != "" }
 	}
-	err := judge.ValidateUser(data(words[0]), login)
-	return []string{judge.Said(err)}, nil
+	return judge.Said(judge.ValidateUser(data(of[0]), login))
 }
 
-// ---- what certificates list
+func hostCertificate(of []string) string {
+	texts, port := []string{}, uint16(number(of[3]))
+	for _, it := range of[4:] {
+		texts = append(texts, text(it))
+	}
+	return judge.Said(judge.ValidateHost(data(of[0]), at(of[1]), text(of[2]), port, texts))
+}
 
-func fields(words []string) ([]string, error) {
-	of, err := sshkey.CertificateFields(data(words[0]))
-	numbers := fmt.Sprintf("%d %d %d %d", of.Serial, of.ValidAfter, of.ValidBefore, of.Type)
-	return []string{numbers, bit(of.ListsPrincipals), bit(of.HasCriticalOptions)}, err
+func verdict(of []string) string {
+	known, host, key, port := text(of[0]), text(of[1]), data(of[2]), uint16(number(of[3]))
+	ofHost := sshkey.HostVerdict(known, host, port, key)
+	return numberOf(ofHost) + " " + numberOf(sshkey.AuthorityVerdict(known, host, port, key))
+}
+
+// ---- what is listed
+
+func fields(of []string) ([]string, error) {
+	found, err := sshkey.CertificateFields(data(of[0]))
+	numbers := fmt.Sprint(found.Serial, found.ValidAfter, found.ValidBefore, found.Type)
+	return []string{numbers, bit(found.ListsPrincipals), bit(found.HasCriticalOptions)}, err
+}
+
+func lists(of []string) ([]string, error) {
+	contents, err := sshkey.CertificateContents(data(of[0]))
+	found := []string{word(contents.KeyID), word(contents.Key), word(contents.Authority)}
+	for _, name := range contents.Principals {
+		found = append(found, "principal="+word(name))
+	}
+	found = append(found, pairs(contents.CriticalOptions, "critical=")...)
+	return append(found, pairs(contents.Extensions, "extension=")...), err
+}
+
+// draftOf is the draft whose lists stand in the words as a certificate has them.
+func draftOf(of []string) (sshkey.Draft, error) {
+	principals, err := sshkey.Strings(data(of[3]))
+	if err != nil {
+		return sshkey.Draft{}, err
+	}
+	critical, err := sshkey.Options(data(of[4]))
+	if err != nil {
+		return sshkey.Draft{}, err
+	}
+	extensions, err := sshkey.Options(data(of[5]))
+	draft := sshkey.Draft{
+		Key: data(of[0]), Nonce: data(of[1]), KeyID: text(of[2]), Authority: data(of[6]),
+		CriticalOptions: critical, Extensions: extensions, Serial: number(of[7]),
+		ValidAfter: sshkey.Second(number(of[8])), ValidBefore: sshkey.Second(number(of[9])),
+		Type: sshkey.CertificateType(number(of[10])), AllPrincipals: of[11] == "1",
+	}
+	for _, name := range principals {
+		draft.Principals = append(draft.Principals, string(name))
+	}
+	return draft, err
+}
+
+func key(of []string) ([]string, error) {
+	short, err := sshkey.Fingerprint(data(of[0]))
+	if err != nil {
+		return nil, err
+	}
+	long, err := sshkey.FingerprintSHA512(data(of[0]))
+	return []string{word(short[:]), short.String(), word(long[:]), long.String()}, err
+}
+
+func options(of []string) ([]string, error) {
+	all, err := sshkey.EntryOptions(text(of[0]))
+	found := []string{}
+	for _, option := range all {
+		shown := word(option.Name)
+		if option.HasValue {
+			shown += "=" + word(option.Value)
+		}
+		found = append(found, shown)
+	}
+	return found, err
 }

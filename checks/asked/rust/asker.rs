@@ -1,6 +1,5 @@
 //! Answers questions about the calls of the Rust package in bindings/rust, and by the functions of
-//! its example `check`: a line of the input a line of the answer, as checks/asked/binding_calls.py
-//! says.
+//! its example `check`: a line of the input a line of the answer, as checks/asked/answers.py says.
 
 use std::io::{self, BufRead};
 
@@ -42,6 +41,11 @@ fn words<I: IntoIterator<Item = String>>(found: I) -> Answer {
     Ok(std::iter::once("0".into()).chain(found).collect::<Vec<_>>().join(" "))
 }
 
+/// The one word of what is made.
+fn one(made: Result<Vec<u8>, Status>) -> Answer {
+    words([word(made?)])
+}
+
 fn number_of(answer: Result<(), Status>) -> String {
     answer.map_or_else(|status| status.number(), |()| 0).to_string()
 }
@@ -54,13 +58,8 @@ fn asked(question: &Question, signer: Option<Sha256>) -> Answer {
     words([number].into_iter().chain(parts).chain(signer.map(|it| word(it.bytes))))
 }
 
-fn sshsig(signature: &[u8], namespace: &[u8], message: &[u8]) -> Answer {
-    let (question, signer) = sshkey::sshsig_question(signature, namespace, message)?;
-    asked(&question, Some(signer))
-}
-
-fn sshsig_of_digest(signature: &[u8], namespace: &[u8], digest: &[u8]) -> Answer {
-    let (question, signer) = sshkey::sshsig_question_of_digest(signature, namespace, digest)?;
+fn signed(found: Result<(Question, Sha256), Status>) -> Answer {
+    let (question, signer) = found?;
     asked(&question, Some(signer))
 }
 
@@ -168,21 +167,22 @@ fn text(bytes: &[u8]) -> Result<&str, Status> {
     std::str::from_utf8(bytes).map_err(|_| Status::CHARACTER_ENCODING)
 }
 
-fn draft(given: &[&str]) -> Answer {
+/// What is to be signed of the draft whose lists stand in the words as a certificate has them, or
+/// the certificate, where a signature follows.
+fn made(given: &[&str]) -> Answer {
     let spans: Vec<Vec<u8>> = given[..7].iter().map(|it| data(it)).collect();
-    let numbers: Vec<u64> = given[7..].iter().map(|it| number(it)).collect();
+    let numbers: Vec<u64> = given[7..12].iter().map(|it| number(it)).collect();
     let names: Result<Vec<_>, _> = sshkey::strings(&spans[3]).map(|it| text(it?)).collect();
     let names = names?;
-    let listed = if numbers[4] == 1 { Listed::Everybody } else { Listed::Names(&names) };
     let options = |span| -> Result<Vec<(&str, &str)>, Status> {
         Ok(sshkey::certificate_options(span).by_name()?.into_iter().collect())
     };
     let (critical_options, extensions) = (options(&spans[4])?, options(&spans[5])?);
-    let made = sshkey::certificate_to_be_signed(&Draft {
+    let draft = Draft {
         key: &spans[0],
         nonce: &spans[1],
         key_id: text(&spans[2])?,
-        principals: listed,
+        principals: if numbers[4] == 1 { Listed::Everybody } else { Listed::Names(&names) },
         critical_options: &critical_options,
         extensions: &extensions,
         authority: &spans[6],
@@ -190,8 +190,11 @@ fn draft(given: &[&str]) -> Answer {
         valid_after: numbers[1],
         valid_before: numbers[2],
         certificate_type: CertificateType::try_from(numbers[3] as u32)?,
-    })?;
-    words([word(made)])
+    };
+    one(match given.get(12) {
+        None => sshkey::certificate_to_be_signed(&draft),
+        Some(signature) => sshkey::make_certificate(&draft, |_| Ok(data(signature))),
+    })
 }
 
 // ---- keys and lines
@@ -207,12 +210,12 @@ fn line(bytes: &[u8]) -> Answer {
 }
 
 fn normal(kind: &str, blob: &[u8]) -> Answer {
-    words([word(match kind {
+    one(match kind {
         "key" => sshkey::normal_key(blob),
         "certificate" => sshkey::normal_certificate(blob),
         "sshsig" => sshkey::normal_sshsig(blob),
         _ => sshkey::normal_signature(blob),
-    }?)])
+    })
 }
 
 fn strings(bytes: &[u8]) -> Answer {
@@ -221,10 +224,6 @@ fn strings(bytes: &[u8]) -> Answer {
 }
 
 // ---- entries
-
-fn lines(text: &[u8]) -> Answer {
-    words(sshkey::entry_lines(text).map(word))
-}
 
 fn entry(line: &[u8]) -> Answer {
     let found = sshkey::authorized_entry(line)?;
@@ -247,8 +246,8 @@ fn options(bytes: &[u8]) -> Answer {
 }
 
 fn verdict(given: &[&str]) -> Answer {
-    let (known_hosts, host, key) = (data(given[0]), data(given[1]), data(given[3]));
-    let port = given[2].parse().expect("a port");
+    let (known_hosts, host, key) = (data(given[0]), data(given[1]), data(given[2]));
+    let port = given[3].parse().expect("a port");
     let of_host = number_of(sshkey::host_verdict(&known_hosts, &host, port, &key));
     Ok(format!(
         "{of_host} {}",
@@ -258,43 +257,34 @@ fn verdict(given: &[&str]) -> Answer {
 
 fn answer(question: &str) -> Answer {
     let parts: Vec<&str> = question.split(' ').collect();
-    let given = &parts[1..];
-    let bytes: Vec<Vec<u8>> = match parts[0] {
-        "validate" | "user" | "host-certificate" | "draft" | "verdict" | "normal" => Vec::new(),
-        _ => given.iter().map(|it| data(it)).collect(),
-    };
-    match (parts[0], &bytes[..]) {
-        ("certificate", [blob]) => asked(&sshkey::certificate_question(blob)?, None),
-        ("signature", [key, message, signature]) => {
-            asked(&sshkey::signature_question(key, message, signature)?, None)
-        }
-        ("sshsig", [signature, namespace, message]) => sshsig(signature, namespace, message),
-        ("sshsig-of-digest", [signature, namespace, digest]) => {
-            sshsig_of_digest(signature, namespace, digest)
-        }
-        ("sshsig-hash", [signature]) => sshsig_hash(signature),
-        ("sshsig-reserved", [signature]) => words([word(sshkey::sshsig_reserved(signature)?)]),
-        (what @ ("is-sshsig" | "is-sshsig-of-digest"), _) => is_sshsig(what, given),
-        ("is-signature", [key, message, signature]) => is_signature(key, message, signature),
-        ("validate", _) => validate(given),
-        ("user", _) => user(given),
-        ("host-certificate", _) => host_certificate(given),
-        ("fields", [blob]) => fields(blob),
-        ("lists", [blob]) => lists(blob),
-        ("certificate-options", [bytes]) => words(pairs("", sshkey::certificate_options(bytes))?),
-        ("strings", [bytes]) => strings(bytes),
-        ("lines", [bytes]) => lines(bytes),
-        ("key", [blob]) => key(blob),
-        ("line", [bytes]) => line(bytes),
-        ("normal", _) => normal(given[0], &data(given[1])),
-        ("draft", _) => draft(given),
-        ("join", [signed, signature]) => {
-            words([word(sshkey::join_certificate(signed, signature)?)])
-        }
-        ("entry", [bytes]) => entry(bytes),
-        ("host", [bytes]) => host(bytes),
-        ("options", [bytes]) => options(bytes),
-        ("verdict", _) => verdict(given),
+    let (what, given) = (parts[0], &parts[1..]);
+    let at = |number: usize| data(given[number]);
+    match what {
+        "certificate" => asked(&sshkey::certificate_question(&at(0))?, None),
+        "signature" => asked(&sshkey::signature_question(&at(0), &at(1), &at(2))?, None),
+        "sshsig" => signed(sshkey::sshsig_question(&at(0), at(1), &at(2))),
+        "sshsig-of-digest" => signed(sshkey::sshsig_question_of_digest(&at(0), at(1), &at(2))),
+        "sshsig-hash" => sshsig_hash(&at(0)),
+        "sshsig-reserved" => one(sshkey::sshsig_reserved(&at(0))),
+        "is-sshsig" | "is-sshsig-of-digest" => is_sshsig(what, given),
+        "is-signature" => is_signature(&at(0), &at(1), &at(2)),
+        "validate" => validate(given),
+        "user" => user(given),
+        "host-certificate" => host_certificate(given),
+        "fields" => fields(&at(0)),
+        "lists" => lists(&at(0)),
+        "certificate-options" => words(pairs("", sshkey::certificate_options(&at(0)))?),
+        "strings" => strings(&at(0)),
+        "lines" => words(sshkey::entry_lines(&at(0)).map(word)),
+        "key" => key(&at(0)),
+        "line" => line(&at(0)),
+        "normal" => normal(given[0], &at(1)),
+        "draft" | "make" => made(given),
+        "join" => one(sshkey::join_certificate(&at(0), &at(1))),
+        "entry" => entry(&at(0)),
+        "host" => host(&at(0)),
+        "options" => options(&at(0)),
+        "verdict" => verdict(given),
         _ => panic!("no question: {question}"),
     }
 }

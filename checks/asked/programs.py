@@ -1,22 +1,20 @@
-"""How a program in another language has to end that is written as examples/check.py is, over a binding of its language to the
-library for C: with the statuses that check.py promises.
+"""How examples/check.py has to end, and a program in another language that is written so, over the binding of its language to the
+library for C: with these statuses.
 
-    made = Made(folder, library)                                  # keys, certificates and signatures of ssh-keygen
-    check_program(count, Program("Go", ["/somewhere/check"]), made)
+    check_program(count, Program("Go", ["/somewhere/check"]), made)          # made: asked/made.py
 
-`library` is the libsshkey.so over which the Python package answers. The program is called as check.py is:
+The program is called as check.py is:
 
     certificates AUTHORITIES PRINCIPAL|- [SECOND] <LINES
     signature SIGNERS NAMESPACE FILE <FILE.sig
 
-What it says of certificates and signatures asked/binding_calls.py asks of the binding itself, call by call.
+What it says of certificates and signatures asked/calls.py asks of the binding itself, call by call.
 """
 import os
 from dataclasses import dataclass
 
 from lib.signatures import armoured
 
-from .entry_calls import loaded
 from .example_calls import SPACE, UNTOLD, VALID, armour_cases, certificate_cases
 from .linked import run
 
@@ -32,24 +30,6 @@ class Program:
 
     def run(self, *words, **how):
         return run([*self.words, *words], **how)
-
-
-class Made:
-    """What the cases are made of, by ssh-keygen in a folder: a certificate under each kind of authority, and hostile bytes. And
-    the Python package and check.py over the library."""
-
-    def __init__(self, folder, library):
-        self.foreign, self.folder = loaded("foreign"), folder
-        self.sshkey, self.check = self.foreign.modules(library)
-        self.maker = self.foreign.Maker(folder)
-        kinds = enumerate(self.foreign.AUTHORITIES)
-        self.kinds = [self.foreign.Kind(self.maker, name, number) for number, name in kinds]
-        self.hostile = list(self.foreign.hostile_of())
-        self.middle = self.foreign.MIDDLE
-
-    def path_of(self, kind):
-        """The file of the authority's key."""
-        return self.maker.path(f"{kind.authority}.pub")
 
 
 def is_untold(program, ran):
@@ -79,14 +59,14 @@ def check_statuses(count, program, made):
     ran = program.run("certificates", two, "alice", str(made.middle), input=given)
     wanted = ["valid", "valid", made.check.said(made.sshkey.Status.UNTRUSTED_AUTHORITY)]
     count.check(f"{program.language}: two authorities in a file", ran.stdout.splitlines() == wanted, ran.stdout, ran.stderr)
-    ran = program.run("certificates", made.path_of(kind), "-", input=f"{kind.line}\n")
+    ran = program.run("certificates", kind.path, "-", input=f"{kind.line}\n")
     wanted = made.check.said(made.sshkey.Status.OUT_OF_WINDOW)
     count.check(f"{program.language}: without a second it is now", ran.stdout == f"{wanted}\n", ran.stdout, ran.stderr)
 
 
 def check_words(count, program, made):
     """What is no command."""
-    good = made.path_of(made.kinds[0])
+    good = made.kinds[0].path
     for words in (
         [], ["certificates"], ["certificates", good], ["certificates", good, "alice", "1", "2"], ["signature", good, "file"],
         ["signature", good, "file", good, good], ["other", good, "file", good], ["--help"],
@@ -101,7 +81,7 @@ def check_words(count, program, made):
 
 
 def check_armour(count, program, made):
-    """The program reads an armour where check.py does, which asked/example_calls.py holds against `ssh-keygen -Y verify`."""
+    """The program reads an armour where `ssh-keygen -Y verify` does (asked/example_calls.py)."""
     signed, path = made.maker.write("armour.txt", "a text"), made.maker.path("user0.pub")
     good, strange = (armoured(made.maker.signature("user0", it, SPACE)) for it in ("a text", "another text"))
     for case, text, wanted in armour_cases(good, strange):
@@ -123,7 +103,7 @@ def check_armour(count, program, made):
 def check_streams(count, program, made):
     """Where input or output is closed, or nothing can be written, the program can't tell."""
     kind = made.kinds[0]
-    certificates = ["certificates", made.path_of(kind), "alice", str(made.middle)]
+    certificates = ["certificates", kind.path, "alice", str(made.middle)]
     signature = ["signature", made.maker.path("user0.pub"), "file", made.maker.write("asked", "text")]
     given = {"certificates": f"{kind.line}\n", "signature": armoured(made.maker.signature("user0", "text"))}
     for words in (certificates, signature):
@@ -140,10 +120,12 @@ def check_streams(count, program, made):
         with open("/dev/full", "wb") as full:
             ran = program.run(*words, input=text, capture_output=False, stdout=full, stderr=-1)
         count.check(f"{name}: nothing is written", ran.returncode == UNTOLD and ran.stderr, ran)
-        folder = os.open(made.folder, os.O_RDONLY)
-        ran = program.run(*words, stdin=folder)
-        os.close(folder)
-        count.check(f"{name}: a folder on standard input", is_untold(program, ran), ran)
+        # Python itself ends where its input is a folder
+        if program.language != "check.py":
+            folder = os.open(made.folder, os.O_RDONLY)
+            ran = program.run(*words, stdin=folder)
+            os.close(folder)
+            count.check(f"{name}: a folder on standard input", is_untold(program, ran), ran)
 
 
 def check_program(count, program, made):
@@ -159,10 +141,10 @@ def check_program_without_memory(count, program, made):
     text = armoured(made.maker.signature("user0", "text"))
     empty = made.maker.write("empty", "")
     for name, words, given in (
-        ("a certificate", ["certificates", made.path_of(kind), "alice", "7"], f"{kind.line}\n"),
+        ("a certificate", ["certificates", kind.path, "alice", "7"], f"{kind.line}\n"),
         ("a certificate, and no authority", ["certificates", empty, "alice", "7"], f"{kind.line}\n"),
-        ("a signature", ["signature", made.path_of(kind), "file", made.path_of(kind)], text),
-        ("a signature, and no signer", ["signature", empty, "file", made.path_of(kind)], text),
+        ("a signature", ["signature", kind.path, "file", kind.path], text),
+        ("a signature, and no signer", ["signature", empty, "file", kind.path], text),
     ):  # fmt: skip
         ran = program.run(*words, input=given)
         count.check(f"{program.language}: without memory, {name}", is_untold(program, ran), ran)

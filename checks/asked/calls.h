@@ -1,0 +1,92 @@
+/* Each call of sshkey.h by its name, with what it is given and what it writes, for checks/foreign.c.
+ * All memory that a call gets is as long as is said, of malloc. */
+#ifndef CALLS_H
+#define CALLS_H
+
+#define SPANS 7
+#define NUMBERS 5
+
+/* What a call is given, and, from `length` on, what it writes. */
+typedef struct {
+  const char *name;
+  judge_blob spans[SPANS];
+  uint64_t numbers[NUMBERS];
+  judge_blob room;
+  size_t length;
+  sshkey_part part;
+  sshkey_sha256 sha256;
+  sshkey_sha512 sha512;
+  sshkey_question question;
+  sshkey_line line;
+  sshkey_fields fields;
+  sshkey_parts parts;
+  sshkey_certificate_option_parts certificate_option;
+  sshkey_entry entry;
+  sshkey_entry_option_parts entry_option;
+} given_call;
+
+#define BYTES(at) it->spans[at].bytes, it->spans[at].length
+#define ROOM it->room.bytes, it->room.length
+#define DRAWN(at) {it->spans[at].bytes, it->spans[at].length}
+#define PORT (uint16_t)it->numbers[0]
+#define BY (const sshkey_sha256 *)it->spans[2].bytes, it->spans[2].length / sizeof(sshkey_sha256)
+#define CALLS                                                                                    \
+  CALL(certificate_question, BYTES(0), ROOM, &it->question)                                      \
+  CALL(certificate_validate, BYTES(0), it->numbers[0], BY, (uint32_t)it->numbers[1])             \
+  CALL(certificate_validate_for, BYTES(0), it->numbers[0], BYTES(1), BY,                         \
+       (uint32_t)it->numbers[1])                                                                 \
+  CALL(certificate_fields, BYTES(0), &it->fields)                                                \
+  CALL(certificate_parts, BYTES(0), &it->parts)                                                  \
+  CALL(next_option, BYTES(0), it->numbers[0], &it->certificate_option)                           \
+  CALL(certificate_key, BYTES(0), ROOM, &it->length)                                             \
+  CALL(certificate_to_be_signed, draft, ROOM, &it->length)                                       \
+  CALL(certificate_make, BYTES(0), BYTES(1), ROOM, &it->length)                                  \
+  CALL(read_line, BYTES(0), ROOM, &it->line)                                                     \
+  CALL(fingerprint, BYTES(0), &it->sha256)                                                       \
+  CALL(fingerprint_text, (const sshkey_sha256 *)it->spans[0].bytes, ROOM)                        \
+  CALL(fingerprint_sha512, BYTES(0), &it->sha512)                                                \
+  CALL(fingerprint_sha512_text, (const sshkey_sha512 *)it->spans[0].bytes, ROOM)                 \
+  CALL(signature_question, BYTES(0), BYTES(1), BYTES(2), ROOM, &it->question)                    \
+  CALL(sshsig_question, BYTES(0), BYTES(1), BYTES(2), ROOM, &it->question, &it->sha256)          \
+  CALL(sshsig_question_of_digest, BYTES(0), BYTES(1), BYTES(2), ROOM, &it->question,             \
+       &it->sha256)                                                                              \
+  CALL(key_normal, BYTES(0), ROOM, &it->length)                                                  \
+  CALL(certificate_normal, BYTES(0), ROOM, &it->length)                                          \
+  CALL(sshsig_normal, BYTES(0), ROOM, &it->length)                                               \
+  CALL(signature_normal, BYTES(0), ROOM, &it->length)                                            \
+  CALL(next_string, BYTES(0), it->numbers[0], &it->part)                                         \
+  CALL(next_line, BYTES(0), it->numbers[0], &it->part)                                           \
+  CALL(authorized_entry, BYTES(0), ROOM, &it->entry)                                             \
+  CALL(known_host, BYTES(0), ROOM, &it->entry)                                                   \
+  CALL(nth_option, BYTES(0), it->numbers[0], ROOM, &it->entry_option)                            \
+  CALL(host_verdict, BYTES(0), BYTES(1), PORT, BYTES(2))                                         \
+  CALL(authority_verdict, BYTES(0), BYTES(1), PORT, BYTES(2))
+
+static uint32_t call_by_name(given_call *it, const sshkey_draft *draft) {
+#define CALL(call, ...) \
+  if (!strcmp(it->name, #call)) return sshkey_##call(__VA_ARGS__);
+  CALLS
+#undef CALL
+  return UINT32_MAX;
+}
+
+/* Makes the call; what it writes to is filled beforehand, the room with FILLED. */
+static uint32_t called(given_call *it, int filling) {
+  const uint64_t *numbers = it->numbers;
+  sshkey_draft draft = {DRAWN(0), DRAWN(1), DRAWN(2), DRAWN(3), DRAWN(4), DRAWN(5), DRAWN(6),
+                        numbers[0], numbers[1], numbers[2], (uint32_t)numbers[3],
+                        (uint32_t)numbers[4]};
+  size_t from = offsetof(given_call, length);
+  memset((char *)it + from, filling, sizeof *it - from);
+  if (it->room.length) memset(it->room.bytes, FILLED, it->room.length);
+  return call_by_name(it, &draft);
+}
+
+#undef BYTES
+#undef ROOM
+#undef DRAWN
+#undef PORT
+#undef BY
+#undef CALLS
+
+#endif

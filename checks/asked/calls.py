@@ -1,0 +1,105 @@
+"""All that is asked of the library in each language: check_calls, for checks/foreign and checks/bindings."""
+from .answers import data_of
+from .certificate_calls import check_certificates
+from .digest_calls import check_digests
+from .entry_calls import check_entry_calls
+from .host_calls import check_hosts
+from .key_calls import check_keys
+from .linked import word
+from .login_calls import check_users
+from .made import MIDDLE
+from .memory_calls import question_of
+from .security_key_calls import check_signatures
+
+# of how many hostile byte strings a package is asked about one
+SAMPLED = 12
+# and of how many of all kinds one by the calls for other bytes
+OTHERS = 25 * SAMPLED
+# the calls that read the bytes of each kind
+FILE, DIGEST = b"file".hex(), "a5" * 64
+OF_KINDS = {
+    "certificate": ["certificate {}", "fields {}", "lists {}", "normal certificate {}"], "key": ["key {}", "normal key {}"],
+    "ssh-signature": [f"sshsig {{}} {FILE} {b'message'.hex()}", "normal sshsig {}"],
+}  # fmt: skip
+OF_OTHERS = ["normal signature {}", "lines {}", "entry {}", "host {}", "options {}", "line {}"]
+# those that a package is asked too
+OF_PACKAGES = {
+    "certificate": [f"validate {{}} {MIDDLE} * {'00' * 32} 1"], "others": ["strings {}", "certificate-options {}"],
+    "ssh-signature": [f"sshsig-of-digest {{}} {FILE} {DIGEST}", "sshsig-hash {}"],
+}  # fmt: skip
+
+
+def is_as_wanted(judge, wanted, answer):
+    """Whether the answer is one that is wanted of bytes of checks/hostile."""
+    number = int(answer.split()[0]) if answer[:1].isdigit() else -1
+    if wanted in ("trailing", "length"):
+        return number == judge.number({"trailing": "TRAILING_DATA", "length": "LENGTH"}[wanted])
+    if wanted == "refused":
+        return 10 <= number < 30
+    read = map(judge.number, ("DONE", "UNSUPPORTED", "OTHER_NAMESPACE"))
+    return number in read or wanted != "read" and 10 <= number < 30
+
+
+def check_hostile(judge):
+    """Byte strings of checks/hostile, by each call that reads their kind, and by the others."""
+    every, more = (SAMPLED, OF_PACKAGES) if judge.asker.is_package else (1, {})
+    hostile = judge.made.hostile
+    for kind, calls in OF_KINDS.items():
+        some = [it for it in hostile if it[0] == kind][::every]
+        for call in calls:
+            said = judge.ask(f"hostile byte strings for `{call}`", [call.format(word(data)) for _, data, _ in some])
+            wrong = [(*it, answer) for it, answer in zip(some, said) if not is_as_wanted(judge, it[2], answer)]
+            judge.check(f"each {kind} of {len(some):,} is answered as it has to be by `{call}`", some and not wrong, *wrong[:3])
+        if kind in more:
+            judge.ask(f"byte strings for a {kind} of a package", [it.format(word(data)) for _, data, _ in some for it in more[kind]])
+    calls = [*OF_OTHERS, *more.get("others", [])]
+    judge.ask("byte strings of another kind", [it.format(word(data)) for _, data, _ in hostile[::OTHERS] for it in calls])
+
+
+def validations(own):
+    """Names, seconds, principals (* for any), authorities, what a verification said, and what is wanted of a certificate for alice
+    and bob by the authority with that fingerprint."""
+    other, most, alice = bytes(32), 2**64 - 1, b"alice".hex()
+    return [
+        ("any principal", MIDDLE, "*", own, 1, "DONE"), ("not verified", MIDDLE, "*", own, 0, "NOT_SIGNED"),
+        ("no authority", MIDDLE, "*", b"", 1, "UNTRUSTED_AUTHORITY"), ("the second of two", MIDDLE, "*", other + own, 1, "DONE"),
+        ("two others", MIDDLE, "*", other + other, 1, "UNTRUSTED_AUTHORITY"), ("no time", 2**63, "*", own, 1, "INVALID_TIME"),
+        ("the last time", 2**63 - 1, "*", own, 1, "OUT_OF_WINDOW"), ("the greatest number", most, alice, own, 1, "INVALID_TIME"),
+        ("nobody", MIDDLE, "-", own, 1, "UNLISTED_PRINCIPAL"), ("no text", MIDDLE, "ff", own, 1, "TEXT"),
+        ("alice", MIDDLE, alice, own, 1, "DONE"), ("alice, at 0", 0, alice, own, 1, "OUT_OF_WINDOW"),
+        ("all is wrong", most, b"eve".hex(), other, 0, "NOT_SIGNED"),
+    ]  # fmt: skip
+
+
+def check_validations(judge):
+    """Validation by what it is given, of one certificate: times, numbers of authorities, principals that are none."""
+    blob, own = judge.made.kinds[0].blob, judge.made.authority()
+    if judge.asker.is_package:
+        asked = []
+        for name, second, whom, by, yes, wanted in validations(own):
+            # no question is asked about another authority's certificate
+            is_own = own in judge.answers.digests(word(by))
+            number = judge.number(wanted if is_own else "UNTRUSTED_AUTHORITY")
+            asked.append((name, f"validate {blob.hex()} {second} {whom} {word(by)} {yes}", f"{number} {int(is_own)}"))
+        judge.hold("a validation", asked)
+        return
+    asked = [*validations(own), *((f"verified by {it}", MIDDLE, "*", own, it, "NOT_SIGNED") for it in (2, 2**32 - 1))]
+    questions = []
+    for _, second, whom, by, yes, _ in asked:
+        call, name = ("certificate_validate", b"") if whom == "*" else ("certificate_validate_for", data_of(whom))
+        questions.append(question_of("call", call, [blob, name, by], [second, yes]))
+    said = judge.said("validations", questions)
+    for (name, *_, wanted), answer in zip(asked, said):
+        judge.check(f"validation: {name}", answer == str(judge.number(wanted)), answer, wanted)
+
+
+def check_calls(judge):
+    check_hostile(judge)
+    check_certificates(judge)
+    check_validations(judge)
+    check_keys(judge)
+    check_signatures(judge)
+    check_digests(judge)
+    check_entry_calls(judge)
+    check_users(judge)
+    check_hosts(judge)

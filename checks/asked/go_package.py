@@ -1,0 +1,138 @@
+"""The packages in Go of bindings/go, for checks/bindings: how programs over them are built, what they declare and their own tests."""
+import os
+import re
+
+from lib.harness import ROOT
+
+from .linked import BINDINGS, EXAMPLES, declared, enumerations, run
+
+# numbers that a binding has no name for: done, what it asks for itself, and what is never returned
+UNNAMED = {"SSHKEY_DONE", "SSHKEY_ROOM", "SSHKEY_END", "SSHKEY_PUBLIC_KEY", "SSHKEY_OTHER_FAULT"}
+# a program of the lines that docs/FOREIGN.md shows
+PAGE = """\
+package main
+
+import (
+	"fmt"
+	"os"
+	"time"
+
+	"rafendilo.example/go/judge"
+	"rafendilo.example/go/sshkey"
+)
+
+func letIn() {{ fmt.Println("let in") }}
+
+func logIn(authority sshkey.SHA256, line string, key []byte) {{
+{0}}}
+
+func twoCalls(certificate []byte, authorities []sshkey.SHA256) error {{
+{1}	return err
+}}
+
+func blob(line string) []byte {{
+	found, err := sshkey.ReadLine(line)
+	if err != nil {{
+		panic(err)
+	}}
+	return found.Blob
+}}
+
+func main() {{
+	authority, err := sshkey.Fingerprint(blob(os.Args[1]))
+	if err != nil {{
+		panic(err)
+	}}
+	logIn(authority, os.Args[2], blob(os.Args[3]))
+	fmt.Println(judge.Said(twoCalls(blob(os.Args[2]), []sshkey.SHA256{{authority}})))
+}}
+"""
+
+
+def exported(text):
+    """The comments and the names of what a package of Go exports."""
+    found = re.findall(r"^((?://.*\n)*)(?:func (?:\([^)]*\) )?|type |const |var )([A-Z]\w*)", text, re.M)
+    for block in re.findall(r"^(?:const|var) \(\n(.*?)^\)", text, re.M | re.S):
+        found += re.findall(r"((?:^\t//.*\n)*)^\t([A-Z]\w*)", block, re.M)
+    return found
+
+
+class Go:
+    """The module of bindings/go, and programs over it: the example, the asker and lines of docs/FOREIGN.md."""
+
+    language, module = "Go", os.path.join(BINDINGS, "go")
+    example, asker = os.path.join(EXAMPLES, "go"), os.path.join(ROOT, "checks", "asked", "go")
+
+    def __init__(self, maker, out):
+        self.maker, self.out = maker, out
+
+    def run(self, at, *words, library=None, **environment):
+        """A run of go that asks no network, over the library in that folder."""
+        kept = {**os.environ, "GOFLAGS": "", "GOPROXY": "off", "GOTOOLCHAIN": "local", "GOWORK": "off", "CGO_ENABLED": "1"}
+        return run(["go", *words], cwd=at, env={**kept, "CGO_LDFLAGS": f"-L{library or self.out}", **environment})
+
+    def built(self, count, at, name, library=None):
+        """The path of the program whose sources stand there."""
+        path = self.maker.path(f"Go {name}")
+        made = self.run(at, "build", "-o", path, ".", library=library)
+        count.check(f"Go: {name} is built", made.returncode == 0, made.stderr[-3000:])
+        return path
+
+    def page(self, code):
+        """The sources of a program of these lines."""
+        os.mkdir(self.maker.path("page-go"))
+        self.maker.write("page-go/main.go", PAGE.format(*code))
+        text = f"module page\n\ngo 1.19\n\nrequire rafendilo.example/go v0.0.0\n\nreplace rafendilo.example/go => {self.module}\n"
+        self.maker.write("page-go/go.mod", text)
+        return self.maker.path("page-go")
+
+    def check_sources(self, count):
+        """What gofmt and vet say, the tests of the packages, and what they declare."""
+        for at in (self.module, self.example, self.asker):
+            name = os.path.relpath(at, ROOT)
+            said = run(["gofmt", "-l", at])
+            count.check(f"Go: gofmt finds nothing in {name}", said.returncode == 0 and not said.stdout, said.stdout, said.stderr)
+            said = self.run(at, "vet", "./...")
+            count.check(f"Go: go vet finds nothing in {name}", said.returncode == 0, said.stdout, said.stderr)
+        said = self.run(self.module, "test", "-count=1", "./...")
+        passed = said.returncode == 0 and len(re.findall(r"^ok\s", said.stdout, re.M)) == 2
+        count.check("Go: the tests of the packages", passed, said.stdout[-3000:], said.stderr)
+        self.check_covers(count)
+        self.check_installed(count)
+
+    def check_covers(self, count):
+        """The package calls each call of the header, and has a name for each number."""
+        text = self.sources("sshkey")
+        calls, numbers = set(re.findall(r"\bC\.(sshkey_\w+)\(", text)), set(re.findall(r"\bC\.(SSHKEY_\w+)", text))
+        calls |= set(re.findall(r"return (sshkey_\w+)\(", text))
+        count.check("Go: each call of the header is called", declared() <= calls, declared() - calls)
+        missing = {name for of in enumerations() for name in of} - numbers - UNNAMED - {"SSHKEY_LINE_KEY"}
+        count.check("Go: each number of the header has a name", not missing, missing)
+        self.check_names(count, text)
+        for package in ("sshkey", "judge"):
+            named = exported(self.sources(package))
+            undocumented = [name for comment, name in named if comment.split()[:2] != ["//", name]]
+            whole = len(named) > 9 and not undocumented
+            count.check(f"Go: each name of {package} has a comment that begins with it", whole, undocumented)
+
+    def sources(self, package):
+        text = ""
+        for name in sorted(os.listdir(f"{self.module}/{package}")):
+            if name.endswith(".go") and not name.endswith("_test.go"):
+                with open(f"{self.module}/{package}/{name}", encoding="utf-8") as file:
+                    text += file.read()
+        return text
+
+    @staticmethod
+    def check_names(count, text):
+        """Each name in Go is that of its number: the header's without underlines, and with Err or nothing before it."""
+        pairs = re.findall(r"^\t(\w+)\s+\w+\s+= C\.SSHKEY_(\w+)$", text, re.M)
+        plain = [(go.removeprefix("Err").lower(), re.sub("^(ASK|MARKER)_|_", "", header).lower()) for go, header in pairs]
+        wrong = [it for it in plain if it[0] != it[1] and it != ("nomarker", "none")]
+        count.check("Go: each name is that of its number", len(pairs) > 30 and not wrong, len(pairs), wrong)
+
+    def check_installed(self, count):
+        """With the tag sshkey_installed the package is linked with what pkg-config finds."""
+        environment = {"PKG_CONFIG_PATH": self.out, "CGO_LDFLAGS": "", "LD_LIBRARY_PATH": self.out}
+        said = self.run(self.module, "test", "-count=1", "-tags", "sshkey_installed", "-run", "AtOnce|Copies", "./sshkey", **environment)
+        count.check("Go: the installed library is linked", said.returncode == 0 and "no tests" not in said.stdout, said.stdout, said.stderr)

@@ -1,0 +1,49 @@
+"""How a package of another language behaves over a library that only answers a number, for checks/bindings."""
+import re
+import subprocess
+
+from .linked import run
+
+
+def check_stub(count, asker, made, number):
+    """An asker that is linked with a library that answers each call with that number answers it too: what is refused, and what no
+    header knows, is never taken for done, and no room is asked for twice in vain."""
+    blob, key = made.kinds[0].blob.hex(), made.key().hex()
+    by, name = "00" * 32, b"alice".hex()
+    questions = [
+        f"certificate {blob}", f"signature {key} 00 {key}", f"sshsig {key} {name} 00", f"is-signature {key} 00 {key}",
+        f"sshsig-of-digest {key} {name} {by}", f"sshsig-hash {key}", f"sshsig-reserved {key}", f"is-sshsig {key} {name} 00 {by}",
+        f"is-sshsig-of-digest {key} {name} {by} {by}",
+        f"validate {blob} 7 * {by} 1", f"validate {blob} 7 {name} {by} 1", f"fields {blob}", f"lists {blob}",
+        f"certificate-options {blob}", f"strings {blob}", f"key {key}", f"line {name}", f"normal key {key}",
+        f"normal certificate {blob}", f"normal sshsig {key}", f"normal signature {key}", f"join {blob} {key}", f"entry {name}",
+        f"host {name}", f"options {name}", f"draft {key} 00 {name} - - - {key} 0 0 9 1 1",
+        f"make {key} 00 {name} - - - {key} 0 0 9 1 1 {key}", f"verdict {name} {name} {key} 22",
+        f"user {blob} {key} 7 {name} {by} -", f"host-certificate {blob} 7 {name} 22 {name}",
+    ]  # fmt: skip
+    check_answered(count, asker, f"where each call answers {number}, that is answered", questions, number)
+
+
+def check_answered(count, asker, name, questions, number):
+    """Each question is answered with that number, a verdict with two, and a validation without a question of its own. Of a login
+    the words are not looked at."""
+    try:
+        ran = run(asker.words, input="".join(f"{it}\n" for it in questions), timeout=30)
+    except subprocess.TimeoutExpired:
+        count.check(f"{asker.language}: {name}, and the answers end", False)
+        return
+    said = [re.sub(r"^refused: .* \((\d+)\)$", r"\1", it) for it in ran.stdout.splitlines()]
+    more = {"verdict": f" {number}", "validate": " 0"}
+    wanted = [f"{number}{more.get(it.split()[0], '')}" for it in questions]
+    wrong = [it for it in zip(questions, said, wanted) if it[1] != it[2]]
+    same = ran.returncode == 0 and len(said) == len(questions) and not wrong
+    count.check(f"{asker.language}: {name}", same, *wrong[:5], ran.stderr[-2000:])
+
+
+def check_refused_questions(count, asker, made):
+    """An asker that is linked with a library that is refused memory at each question, and says that nothing is signed, says the
+    first: of a certificate of which it could not ask nothing is known."""
+    blob, key = made.kinds[0].blob.hex(), made.key().hex()
+    by, name = "00" * 32, b"alice".hex()
+    questions = [f"validate {blob} 7 {whom} {by} 1" for whom in ("*", name)] + [f"user {blob} {key} 7 {name} {by} -"]
+    check_answered(count, asker, "where a question is refused memory, that is answered", questions, 1)
