@@ -1,5 +1,8 @@
 pub use Rattle.sshkey_ciphers.specs.Ciphers
+pub use Rattle.sshkey_ciphers.specs.ChoiceTrees
+pub use Rattle.sshkey_ciphers.specs.StepReaders
 pub use Rattle.sshkey_ciphers.specs.Ciphertexts
 pub use Rattle.sshkey_ciphers.specs.Comparisons
 pub use Rattle.sshkey_ciphers.specs.KdfFormats
 pub use Rattle.sshkey_ciphers.specs.Paddings
+pub use Rattle.sshkey_ciphers.specs.CipherExamples

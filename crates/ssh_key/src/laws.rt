@@ -15,7 +15,7 @@ ghost use Rattle.ssh_key.specs.NormalForms.{AreNormalForms};
 ghost use Rattle.sshkey_model.specs.CertificateNames.{IsCertified, certificate_algorithm, certificate_algorithm_at};
 ghost use Rattle.sshkey_model.specs.Certificates.{AreSignedFields, IsCertificate, IsEnd, IsTime, certificate_at, certificate_type, end_at, normal_certificate, normal_to_be_signed, signed_fields_at, time_at, type_at};
 ghost use Rattle.sshkey_model.specs.Grammar.{value_at};
-ghost use Rattle.sshkey_model.specs.KeyDerivation.{cipher, cipher_at, kdf, kdf_algorithm, kdf_algorithm_at, kdf_at};
+ghost use Rattle.sshkey_model.specs.KeyDerivation.{cipher, kdf, kdf_algorithm};
 ghost use Rattle.sshkey_model.specs.KeyPairs.{IsKeyPair, IsPairUnder, IsRsaPrivate, IsScalar, Plain, keypair_at, normal_keypair, pair, pair_at, rsa_private, rsa_private_at, scalar, scalar_at};
 ghost use Rattle.sshkey_model.specs.Keys.{IsBodyUnder, IsKey, body, body_at, key_at, normal_key};
 ghost use Rattle.sshkey_model.specs.Lines.{LinesAreApart, LinesDetermineValues, key_name, name_of_certificate};
@@ -24,12 +24,14 @@ ghost use Rattle.sshkey_model.specs.Names.{Algorithm, IsAlgorithm, algorithm, al
 ghost use Rattle.sshkey_model.specs.Options.{AreOptions, normal_options, options_at};
 ghost use Rattle.sshkey_model.specs.Parts.{Any, number};
 ghost use Rattle.sshkey_model.specs.Points.{IsPointOf, point_at};
-ghost use Rattle.sshkey_model.specs.PrivateKeys.{IsPrivateKey, normal_private_key, private_key_at};
+ghost use Rattle.sshkey_model.specs.PrivateKeys.{IsPrivateKey, normal_private_key};
 ghost use Rattle.sshkey_model.specs.Signatures.{IsSignature, signature, signature_at};
 ghost use Rattle.sshkey_model.specs.SshSignatures.{IsSshSignature, normal_ssh_signature};
 ghost use Rattle.sshkey_model.specs.Texts.{IsText, string, text_at, texts, texts_at};
 ghost use Rattle.sshkey_keys.specs.Keys.{SpellsKey};
 ghost use Rattle.sshkey_cert.specs.CertificateReaders.{SpellsCertificate};
+ghost use Rattle.sshkey_ciphers.specs.KdfFormats.{cipher_at, kdf_algorithm_at, kdf_at};
+ghost use Rattle.sshkey_private.specs.PrivateKeyGrammars.{private_value_at};
 ghost use Rattle.sshkey_sshsig.specs.SshSignatureReaders.{ssh_signature_value_at};
 
 pub use sshkey_authorized_keys::laws::equal_authorized_keys;
@@ -57,6 +59,15 @@ pub use sshkey_cert_values::laws::one_options;
 pub use sshkey_ciphers::laws::compared_ciphers;
 pub use sshkey_ciphers::laws::compared_kdf_algorithms;
 pub use sshkey_ciphers::laws::equal_kdfs;
+pub use sshkey_ciphers::laws::exact_cipher;
+pub use sshkey_ciphers::laws::exact_kdf;
+pub use sshkey_ciphers::laws::exact_kdf_name;
+pub use sshkey_ciphers::laws::normal_kdfs;
+pub use sshkey_ciphers::laws::prefix_cipher;
+pub use sshkey_ciphers::laws::prefix_kdf;
+pub use sshkey_ciphers::laws::prefix_kdf_name;
+pub use sshkey_ciphers::laws::read_back_kdf;
+pub use sshkey_ciphers::laws::spelled_kdf;
 pub use sshkey_entries::laws::one_authorized_key;
 pub use sshkey_entries::laws::one_authorized_line;
 pub use sshkey_entries::laws::one_end;
@@ -118,22 +129,13 @@ pub use sshkey_model::laws::prefix_point;
 pub use sshkey_model::laws::prefix_signature;
 pub use sshkey_model::laws::prefix_text;
 pub use sshkey_model::laws::prefix_texts;
-pub use sshkey_model::laws::private::decode_private_key;
-pub use sshkey_model::laws::private::normal_kdfs;
 pub use sshkey_model::laws::private::normal_keypairs;
-pub use sshkey_model::laws::private::normal_private_keys;
-pub use sshkey_model::laws::private::prefix_cipher;
 pub use sshkey_model::laws::private::prefix_ecdsa_pair;
-pub use sshkey_model::laws::private::prefix_kdf;
-pub use sshkey_model::laws::private::prefix_kdf_name;
 pub use sshkey_model::laws::private::prefix_keypair;
 pub use sshkey_model::laws::private::prefix_pair;
-pub use sshkey_model::laws::private::prefix_private_key;
 pub use sshkey_model::laws::private::prefix_rsa_private;
 pub use sshkey_model::laws::private::prefix_scalar;
-pub use sshkey_model::laws::private::read_back_kdf;
 pub use sshkey_model::laws::private::read_back_keypair;
-pub use sshkey_model::laws::private::read_back_private_key;
 pub use sshkey_model::laws::read_back_certificate;
 pub use sshkey_model::laws::read_back_key;
 pub use sshkey_model::laws::read_back_options;
@@ -159,8 +161,15 @@ pub use sshkey_pairs::laws::equal_opaque_pairs;
 pub use sshkey_pairs::laws::equal_opaque_private_keys;
 pub use sshkey_pairs::laws::equal_pairs;
 pub use sshkey_private::laws::compared_private_keys;
+pub use sshkey_private::laws::decode_private_key;
+pub use sshkey_private::laws::exact_private_key;
+pub use sshkey_private::laws::normal_private_keys;
 pub use sshkey_private::laws::plain_padded_private_key;
 pub use sshkey_private::laws::prefix_padded_private_key;
+pub use sshkey_private::laws::prefix_private_key;
+pub use sshkey_private::laws::read_back_private_key;
+pub use sshkey_private::laws::spelled_padded_private_key;
+pub use sshkey_private::laws::spelled_private_key;
 pub use sshkey_public::laws::compared_public_keys;
 pub use sshkey_sshsig::laws::compared_ssh_signatures;
 pub use sshkey_sshsig::laws::digest_parts_fit;
@@ -207,8 +216,7 @@ pub fn normal_forms()
     ensures pairs { (a : Algorithm) → AreNormalForms (IsPairUnder a) (λ k. pair k Plain)
         (value_at (pair_at a)) }
     ensures keypairs { AreNormalForms IsKeyPair normal_keypair (value_at keypair_at) }
-    ensures private_keys { AreNormalForms IsPrivateKey normal_private_key
-        (value_at private_key_at) }
+    ensures private_keys { AreNormalForms IsPrivateKey normal_private_key private_value_at }
 {}
 
 /// A text is the line of one key or of one certificate at most, and with one comment.

@@ -1,13 +1,10 @@
 -- What ciphers and key derivations mean, and their names.
 use Rattle.std.specs.Prelude.{◌≡◌, ℕ, true, List, length, nat_le, Result, Ok, Err, refl}
-use Rattle.sshkey_model.specs.Parts.{Any, Fits, flat}
+use Rattle.sshkey_model.specs.Parts.{Any}
 use Rattle.sshkey_model.specs.Reading.{Fault, Label, AlgorithmUnknown, Whole}
-use Rattle.sshkey_model.specs.Grammar.{IsGrammar, Spells}
 use Rattle.sshkey_model.specs.Names.{named, or_label, are_ascii}
 use Rattle.sshkey_model.specs.KeyDerivation as model
 use Rattle.sshkey_model.specs.KeyDerivation.{cipher_name, ciphers, kdf_name, kdf_algorithms}
-use Rattle.sshkey_model.proofs.Grammars.{grammar}
-use Rattle.sshkey_model.proofs.KeyDerivationReaders.{kdf_reads}
 pub use Rattle.sshkey_model.proofs.KeyDerivationReaders.{cipher_checks, kdf_algorithm_checks}
 use Rattle.sshkey_base.specs.LabelLaws.{unlisted_label}
 use Rattle.sshkey_ciphers.specs.declared.cipher.Cipher.{Cipher}
@@ -16,9 +13,6 @@ use Rattle.sshkey_ciphers.specs.declared.kdf_alg.KdfAlg.{KdfAlg}
 use Rattle.sshkey_ciphers.specs.declared.kdf_alg.KdfAlg.TheVariants as alg
 use Rattle.sshkey_ciphers.specs.declared.kdf.Kdf.{Kdf}
 use Rattle.sshkey_ciphers.specs.declared.kdf.Kdf.TheVariants as kdf
--- under names that an attribute of this crate can unfold
-unfoldable pub use Rattle.sshkey_model.specs.KeyDerivation.{kdf_at, kdf_algorithm_at, bcrypt_options_at}
-unfoldable pub use Rattle.sshkey_base.specs.Labels.{label_at}
 
 abbrev pub cipher_of : Cipher → model.Cipher
 cipher_of cipher.None = model.NoCipher
@@ -75,16 +69,3 @@ cipher_short _ is = refl
 pub kdf_alg_short : (a : model.KdfAlgorithm) → Any a → nat_le (length (kdf_name a)) 73 ≡ true
 kdf_alg_short model.NoDerivation is = refl
 kdf_alg_short model.BcryptDerivation is = refl
-
--- ---- spellings
-
--- the bytes spell the key derivation
-abbrev pub SpellsKdf : model.Kdf → List ℕ → Type 0
-SpellsKdf = Spells Any model.kdf
-
-pub kdf_grammar : IsGrammar SpellsKdf kdf_at
-kdf_grammar = grammar kdf_reads
-
--- what is written is a spelling
-pub kdf_normal : (k : model.Kdf) → Any k → Fits (model.kdf k) → SpellsKdf k (flat (model.kdf k))
-kdf_normal k is fits = record { is = is; fits = fits; shape = refl }

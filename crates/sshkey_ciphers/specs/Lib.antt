@@ -1,5 +1,8 @@
 pub mod Ciphers
+pub mod ChoiceTrees
+pub mod StepReaders
 pub mod Ciphertexts
 pub mod Comparisons
 pub mod KdfFormats
 pub mod Paddings
+pub mod CipherExamples

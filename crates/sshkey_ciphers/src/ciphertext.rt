@@ -8,10 +8,9 @@ ghost use Rattle.sshkey_base.specs.Reading.{Gives};
 ghost use Rattle.sshkey_base.specs.Source.{Later};
 ghost use Rattle.sshkey_base.specs.Stops.{NoOverrun, OverrunsString, StopsBy};
 ghost use Rattle.sshkey_model.specs.KeyDerivation.{block_size, tag_size};
-ghost use Rattle.sshkey_model.specs.PrivateKeys.{blocks_from};
 ghost use Rattle.sshkey_model.specs.Reading.{bytes_at};
 ghost use Rattle.sshkey_ciphers.specs.Ciphers.{cipher_of};
-ghost use Rattle.sshkey_ciphers.specs.Ciphertexts.{blocks_at, tag_bytes};
+ghost use Rattle.sshkey_ciphers.specs.Ciphertexts.{blocks_at, blocks_from, tag_bytes};
 
 use crate::cipher::Cipher;
 use sshkey_base::{Decode, Error, Reader, Result, array_from};

@@ -9,10 +9,10 @@ ghost use Rattle.sshkey_base.specs.Needs.{Asks, NoNeed};
 ghost use Rattle.sshkey_base.specs.Reading.{Gives};
 ghost use Rattle.sshkey_base.specs.Source.{Later};
 ghost use Rattle.sshkey_base.specs.declared.error.Error.TheVariants as wide;
-ghost use Rattle.sshkey_model.specs.KeyDerivation.{Kdf as TheKdf, NoKdf, BcryptDerivation, no_options, kdf, bcrypt_options, derivation};
+ghost use Rattle.sshkey_model.specs.KeyDerivation.{Kdf as TheKdf, NoKdf, BcryptDerivation, kdf, bcrypt_options, derivation};
 ghost use Rattle.sshkey_model.specs.Parts.{Any};
-ghost use Rattle.sshkey_ciphers.specs.Ciphers.{kdf_algorithm_of, kdf_of, kdf_with_salt, kdf_normal};
-ghost use Rattle.sshkey_ciphers.specs.KdfFormats.{kdf_format, options_format, none_format, bcrypt_format};
+ghost use Rattle.sshkey_ciphers.specs.Ciphers.{kdf_algorithm_of, kdf_of, kdf_with_salt};
+ghost use Rattle.sshkey_ciphers.specs.KdfFormats.{kdf_format, kdf_normal, no_options, options_format, none_format, bcrypt_format};
 
 use crate::kdf_alg::KdfAlg;
 use rand_core::{CryptoRng, Rng};

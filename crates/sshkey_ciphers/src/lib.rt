@@ -4,6 +4,7 @@
 
 mod cipher;
 mod ciphertext;
+pub mod examples;
 mod kdf;
 mod kdf_alg;
 pub mod laws;

@@ -2,38 +2,28 @@
 use Rattle.std.proofs.Common.{◌≡◌, List, [], ℕ, Bool, true, false, cond, eqb, Result, Ok, Err, IfOk, refl, sym, ◌∙◌, arith}
 use Rattle.std.proofs.lemmas.Bool.{eqb-true}
 use Rattle.std.proofs.lemmas.List.{nil_from_length}
-use Rattle.std.proofs.lemmas.Result.{err_from_is_err_and}
-use Rattle.sshkey_model.specs.Reading.{Front, Whole, whole}
+use Rattle.sshkey_model.specs.Reading.{Front, whole}
 use Rattle.sshkey_model.specs.PrivateKeys.{PrivateKey, IsPrivateKey}
 use Rattle.sshkey_base.specs.Causes.{Cause}
 use Rattle.sshkey_base.specs.Source.{Source, announced_len}
 use Rattle.sshkey_base.specs.declared.encoding.Error as encoding
 use Rattle.sshkey_base.specs.declared.encoding.Error.TheVariants as encodings
-use Rattle.sshkey_base.specs.Reading.{Gives, Reads, ReadsAll, GivesWhole, AcceptsWhole}
-use Rattle.sshkey_private.specs.PrivateKeyReaders.{private_value_at}
-use Rattle.sshkey_private.specs.PrivateKeyGrammars.{private_takes}
+use Rattle.sshkey_base.specs.Reading.{Gives, Reads, ReadsAll}
+use Rattle.sshkey_base.proofs.Accepted.{spelled_whole_by, whole_spelled_by}
+use Rattle.sshkey_private.specs.PrivateKeyGrammars.{decoder, private_key_format, private_value_at, padded_key_format, padded_value_at}
+use Rattle.sshkey_private.specs.PrivateKeyTrees.{private_key_tree, plain_padding}
 
 -- ---- from the front
 
 -- what is read is well-formed
 pub formed : {X E : Type 0} (means : X → PrivateKey) (cause_of : E → Cause) (s t : Source) (r : Result X E) → Gives means cause_of private_value_at s r t → IfOk r (λ k. IsPrivateKey (means k))
-formed means cause_of s t (Ok k) h = (private_takes s.left (means k) t.left h.value).1.is
+formed means cause_of s t (Ok k) h = let read = (decoder 8).takes s.left (means k) t.left h.value in (private_key_tree.takes (means k) read.0 read.1).1.is
 formed means cause_of s t (Err e) h = tt
 
--- ---- from all the bytes
+-- ---- with more padding
 
--- the same of a reader that gives the same
-pub same_whole : {X E : Type 0} (means : X → PrivateKey) (cause_of : E → Cause) (read other : Front PrivateKey) (s : Source) (r : Result X E) → ((b : List ℕ) → read b ≡ other b) → GivesWhole means cause_of (whole read) s r → GivesWhole means cause_of (whole other) s r
-same_whole means cause_of read other s (Ok x) same h = record { value = rw (← same s.left) h.value; sound = h.sound }
-same_whole means cause_of read other s (Err e) same h = rw (← same s.left) h
-
-module _ {X E : Type 0} (means : X → PrivateKey) (cause_of : E → Cause) {Spelling : PrivateKey → List ℕ → Type 0} (read : Whole PrivateKey) (takes : (b : List ℕ) (k : PrivateKey) → read b ≡ Ok k → Spelling k b) (again : (b : List ℕ) (k : PrivateKey) → Spelling k b → read b ≡ Ok k) where
-  pub accepts_key : (s : Source) (r : Result X E) → GivesWhole means cause_of read s r → AcceptsWhole means Spelling cause_of s r
-  accepts_key s (Ok x) h = record { spelled = takes s.left (means x) h.value; sound = h.sound }
-  accepts_key s (Err e) h = λ other sound y spelled.
-      let refused = err_from_is_err_and (read s.left) (h.fault other sound) in
-      let is = again s.left y spelled in
-      let err = refused.1 in cc
+pub plain_read : (b : List ℕ) (k : PrivateKey) → whole private_value_at b ≡ Ok k → whole padded_value_at b ≡ Ok k
+plain_read b k e = spelled_whole_by padded_key_format.grammar b k (plain_padding k b (whole_spelled_by private_key_format.grammar b k e))
 
 -- ---- behind the value
 

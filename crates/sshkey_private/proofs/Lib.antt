@@ -1,11 +1,9 @@
 pub mod PaddedReaders
-pub mod InnerReaders
 pub mod ReadHalves
 pub mod KeyReaders
-pub mod PaddedKeyReaders
-pub mod PaddedKeys
 pub mod KeyValues
 pub mod KeyForms
+pub mod KeyPrefixes
 pub mod NewKeys
 pub mod WrittenKeys
 pub mod Stopping

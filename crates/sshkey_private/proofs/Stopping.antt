@@ -6,14 +6,16 @@ use Rattle.sshkey_model.specs.KeyDerivation.{Cipher, NoCipher, Kdf, NoKdf}
 use Rattle.sshkey_model.specs.PrivateKeys.{PrivateKey}
 use Rattle.sshkey_model.proofs.CombinedReaders.{bind_assoc}
 use Rattle.sshkey_base.specs.Causes.{Cause, Faulty}
-use Rattle.sshkey_base.specs.Needs.{NeedsString, NeedsBoxed}
+use Rattle.sshkey_base.specs.Needs.{NeedsString}
 use Rattle.sshkey_base.specs.Source.{Source}
 use Rattle.sshkey_base.specs.Stops.{NoOverrun, OverrunsString, OverrunsBoxed, RanOut, Stopped, StopsBy, StopsPast}
 use Rattle.sshkey_base.proofs.Stopping.{checked_stopped}
 use Rattle.sshkey_terms.specs.Terms.{IsChosen}
-use Rattle.sshkey_private.specs.Inner.{NeedsInner, NeedsPadded}
-use Rattle.sshkey_private.specs.PrivateKeyReaders.{not_encrypted, delimited_by, opening_at, last_of, sealed_with, sealed_at, unencrypted_below, last_encrypted_at, last_content_at, steps_at}
-use Rattle.sshkey_private.specs.PrivateKeyFormats.{NeedsContent, OverrunsContent}
+use Rattle.sshkey_ciphers.specs.Ciphertexts.{sealed_format}
+use Rattle.sshkey_private.specs.Inner.{part_format}
+use Rattle.sshkey_private.specs.Openings.{opening_at}
+use Rattle.sshkey_private.specs.PrivateKeyFormats.{NeedsContent, OverrunsContent, last_of, sealed_with, unencrypted_below, last_encrypted_at, last_content_at, steps_at}
+use Rattle.sshkey_private.specs.PrivateKeyGrammars.{not_encrypted, delimited_by}
 
 -- ---- a box of whose inside no length is told
 
@@ -30,7 +32,7 @@ box_stops cause read needs inner s (Err e) h = record { takes = h.takes; past = 
 module _ (c : Cipher) (k : Kdf) (public : Key) where
   none_delimited : {Z : Type 0} (b : List ℕ) → IsOk (delimited_by (last_encrypted_at c k public) b) → Z
   unfolding last_encrypted_at
-  none_delimited {Z} b = go (sealed_at c b)
+  none_delimited {Z} b = go ((sealed_format c).read b)
     where
       tested : PrivateKey × List ℕ → Result (PrivateKey × List ℕ) Fault
       tested x = not_encrypted x.0 >>= λ l. Ok (l, x.1)
@@ -48,10 +50,10 @@ module _ (c : Cipher) (k : Kdf) (public : Key) where
 
 -- ---- a key that is not encrypted
 
-pub plain_stops : {X E : Type 0} (limit : ℕ) (public : Key) (cause : E → Cause) (s : Source) (c : Cipher) (k : Kdf) (r : Result X E) → c ≡ NoCipher → k ≡ NoKdf → StopsBy cause (unencrypted_below limit public) (NeedsBoxed (NeedsPadded (NeedsInner public))) OverrunsString s r → StopsBy cause (delimited_by (last_content_at limit c k public)) (NeedsContent c k public) (OverrunsContent c k) s r
+pub plain_stops : {X E : Type 0} (limit : ℕ) (public : Key) (cause : E → Cause) (s : Source) (c : Cipher) (k : Kdf) (r : Result X E) → c ≡ NoCipher → k ≡ NoKdf → StopsBy cause (unencrypted_below limit public) (part_format limit public).needs OverrunsString s r → StopsBy cause (delimited_by (last_content_at limit c k public)) (NeedsContent c k public) (OverrunsContent c k) s r
 plain_stops limit public cause s c k (Ok x) none underived h = tt
 plain_stops limit public cause s c k (Err e) none underived h =
-    let t = checked_stopped (cause e) (unencrypted_below limit public) not_encrypted (NeedsBoxed (NeedsPadded (NeedsInner public))) OverrunsString s h in
+    let t = checked_stopped (cause e) (unencrypted_below limit public) not_encrypted (part_format limit public).needs OverrunsString s h in
     rw (none, underived) (record { takes = t.takes; past = λ o. t.past o.1 })
 
 -- ---- behind the opening

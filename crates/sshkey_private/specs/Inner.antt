@@ -1,20 +1,21 @@
--- The private part of a key that is not encrypted.
-use Rattle.std.specs.Prelude.{◌≡◌, ℕ, ◌+◌, ◌%◌, List, length, Option, option_map, Result, Ok, Err, ◌==◌, if◌then◌else◌}
-use Rattle.std.specs.Int.{w32}
-use Rattle.sshkey_model.specs.Reading.{Fault, Length, PublicKey, ◌>>=◌, Front, Whole, number_at, checked_at}
+-- The private part of a key that is not encrypted (PROTOCOL.key): the terms that it is read as.
+use Rattle.std.proofs.Common.{◌≡◌, ℕ, List, Option, option_map, Result, Ok, Err, refl}
+use Rattle.std.specs.Prelude.{◌==◌, if◌then◌else◌}
+use Rattle.sshkey_model.specs.Reading.{Fault, Crypto, PublicKey, ◌>>=◌, Front}
 use Rattle.sshkey_model.specs.Texts.{text_at}
 use Rattle.sshkey_model.specs.Keys.{Key}
-use Rattle.sshkey_model.specs.KeyDerivation.{NoCipher, block_size}
 use Rattle.sshkey_model.specs.KeyPairs.{KeyPair}
-use Rattle.sshkey_model.specs.PrivateKeys.{UnencryptedKey, same_checkint}
-use Rattle.sshkey_base.specs.Needs.{NoNeed, NeedsString, NeedsBoth}
-use Rattle.sshkey_terms.specs.Behind.{both_at}
-use Rattle.sshkey_ciphers.specs.Paddings.{end_padding_below}
+use Rattle.sshkey_model.specs.PrivateKeys.{UnencryptedKey}
+use Rattle.sshkey_model.proofs.CombinedReaders.{bind_assoc}
+use Rattle.sshkey_base.specs.Formats.{Format, number32_format, text_format}
+use Rattle.sshkey_terms.specs.Behind.{behind_at}
+use Rattle.sshkey_terms.specs.Terms.{◌then◌, boxed, tested, without_memory}
+use Rattle.sshkey_ciphers.specs.StepReaders.{read_as}
 use Rattle.sshkey_pairs.specs.Keypairs.{pair_of}
-use Rattle.sshkey_pairs.specs.KeypairReaders.{keypair_data_at}
 use Rattle.sshkey_pairs.specs.KeypairFormats.{keypair_format}
 use Rattle.sshkey_private.specs.declared.part.Inner.{Inner}
 use Rattle.sshkey_private.specs.Halves.{is_half}
+use Rattle.sshkey_private.specs.Padded.{padded_format}
 
 abbrev pub unencrypted : ℕ → Option KeyPair → List ℕ → Option UnencryptedKey
 unencrypted checkint pair comment = option_map (λ k. record { checkint = checkint; pair = k; comment = comment }) pair
@@ -22,22 +23,51 @@ unencrypted checkint pair comment = option_map (λ k. record { checkint = checki
 abbrev pub inner_of : Inner → Option UnencryptedKey
 inner_of p = unencrypted p.checkint (pair_of p.pair) p.comment
 
--- ---- reading
+-- ---- a checkint, and the same again
 
--- a checkint, and the same again
 abbrev pub one_checkint : ℕ × ℕ → Result ℕ Fault
-one_checkint n = same_checkint n.0 n.1 >>= λ again. Ok n.0
+one_checkint n = if n.1 == n.0 then Ok n.0 else Err Crypto
+
+abbrev pub checkint_term : Format ℕ
+checkint_term = without_memory (tested one_checkint (number32_format then number32_format))
 
 unfoldable pub checkint_at : Front ℕ
-checkint_at = checked_at one_checkint (both_at (number_at w32) (number_at w32))
+checkint_at = checkint_term.read
+
+pub checkint_is : (b : List ℕ) → checkint_at b ≡ checkint_term.read b
+unfolding checkint_at
+checkint_is b = refl
+
+abbrev pub checkint_format : Format ℕ
+checkint_format = read_as checkint_term checkint_at checkint_is (λ b. refl)
+
+-- ---- a pair whose public half is that key
 
 abbrev pub half_of : Key → Option KeyPair → Result (Option KeyPair) Fault
 half_of public k = if is_half k public then Ok k else Err PublicKey
 
--- a pair whose public half is that key
-unfoldable pub pair_with_at : Key → Front (Option KeyPair)
-pair_with_at public = checked_at (half_of public) keypair_data_at
+abbrev pub pair_term : Key → Format (Option KeyPair)
+pair_term public = tested (half_of public) keypair_format
 
+unfoldable pub pair_with_at : Key → Front (Option KeyPair)
+pair_with_at public = (pair_term public).read
+
+pub pair_is : (public : Key) (b : List ℕ) → pair_with_at public b ≡ (pair_term public).read b
+unfolding pair_with_at
+pair_is public b = refl
+
+abbrev pub pair_format : Key → Format (Option KeyPair)
+pair_format public = read_as (pair_term public) (pair_with_at public) (pair_is public) (λ b. refl)
+
+-- ---- these and the comment
+
+abbrev pub unencrypted_of_parts : ℕ × (Option KeyPair × List ℕ) → Result (Option UnencryptedKey) Fault
+unencrypted_of_parts a = Ok (unencrypted a.0 a.1.0 a.1.1)
+
+abbrev pub inner_term : Key → Format (Option UnencryptedKey)
+inner_term public = tested unencrypted_of_parts (checkint_format then pair_format public then text_format)
+
+-- in the steps of the call that reads it
 unfoldable pub inner_at : Key → Front (Option UnencryptedKey)
 inner_at public b = do
   checkint ← checkint_at b
@@ -45,14 +75,13 @@ inner_at public b = do
   comment ← text_at pair.1
   Ok (unencrypted checkint.0 pair.0 comment.0, comment.1)
 
--- whole blocks, which end in fewer bytes of padding than the limit
-unfoldable pub padded_below : {A : Type 0} → ℕ → Front A → Whole A
-padded_below limit read b = if length b % block_size NoCipher == 0 then (read b >>= λ x. end_padding_below limit x.0 x.1) else Err Length
+pub inner_is : (public : Key) (b : List ℕ) → inner_at public b ≡ (inner_term public).read b
+unfolding inner_at behind_at
+inner_is public b = simp bind_assoc
 
--- the pair or the comment
-abbrev pub NeedsInner : Key → List ℕ → ℕ → Type 0
-NeedsInner public = NeedsBoth NoNeed checkint_at (NeedsBoth keypair_format.needs (pair_with_at public) NeedsString)
+abbrev pub inner_format : Key → Format (Option UnencryptedKey)
+inner_format public = read_as (inner_term public) (inner_at public) (inner_is public) (λ b. refl)
 
--- where bytes that are whole blocks need memory
-abbrev pub NeedsPadded : (List ℕ → ℕ → Type 0) → List ℕ → ℕ → Type 0
-NeedsPadded needs b m = ((length b + m) % 8 ≡ 0) × needs b m
+-- in its string, with fewer bytes of padding than the limit
+abbrev pub part_format : ℕ → Key → Format (Option UnencryptedKey)
+part_format limit public = boxed (padded_format limit (inner_format public) (λ b. refl))

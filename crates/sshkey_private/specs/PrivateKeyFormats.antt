@@ -1,81 +1,79 @@
--- What a private key is read as: the terms of its opening, and where its parts need memory or have
--- lengths. The grammars are proved, and need not be believed.
-use Rattle.std.proofs.Common.{◌≡◌, ℕ, List, Bool, true, false, ◌==◌, Result, Ok, refl}
-use Rattle.std.specs.Int.{w32}
-use Rattle.sshkey_model.specs.Grammar.{IsGrammar, Spells}
+-- A private key file (PROTOCOL.key): the terms that it is read as, with a limit on the padding, and
+-- where it needs memory or has lengths. The lemmas are proved, and need not be believed.
+use Rattle.std.proofs.Common.{◌≡◌, inl, ℕ, List, length, Bool, true, false, Option, Some, None, Result, Ok, Err, refl, sym, ap, ◌∙◌}
+use Rattle.std.specs.Prelude.{if◌then◌else◌}
+use Rattle.sshkey_model.specs.Reading.{Fault, Crypto, PublicKey, TrailingKeyData, ◌>>=◌, Front}
+use Rattle.sshkey_model.specs.Grammar.{IsGrammar}
 use Rattle.sshkey_model.specs.Keys.{Key}
 use Rattle.sshkey_model.specs.KeyDerivation.{Cipher, NoCipher, Kdf, NoKdf, Bcrypt}
-use Rattle.sshkey_model.specs.Parts.{Any, number}
-use Rattle.sshkey_model.specs.PrivateKeys.{private_key_magic, one_key}
-use Rattle.sshkey_model.specs.Reading.{Fault, Length, number_at}
-use Rattle.sshkey_model.proofs.CombinedReaders.{wide32, bind_assoc, number_reads, checked_reads, kept}
-use Rattle.sshkey_model.proofs.Grammars.{grammar}
-use Rattle.sshkey_base.specs.Formats.{Format, number32_format, label_format}
-use Rattle.sshkey_base.specs.Labels.{label_at}
-use Rattle.sshkey_base.specs.Needs.{NoNeed, NeedsString, NeedsBoxed, NeedsThen}
-use Rattle.sshkey_base.specs.Stops.{OverrunsString, OverrunsThen}
-use Rattle.sshkey_terms.specs.Behind.{behind_at}
-use Rattle.sshkey_terms.specs.Terms.{◌then◌, boxed, literal_format, IsMapped, made_of}
-use Rattle.sshkey_keys.specs.KeyFormats.{key_format}
-use Rattle.sshkey_ciphers.specs.Ciphers.{cipher_checks}
-use Rattle.sshkey_ciphers.specs.KdfFormats.{kdf_format}
-use Rattle.sshkey_private.specs.Inner.{NeedsInner, NeedsPadded}
-use Rattle.sshkey_private.specs.PrivateKeyReaders.{Opening, cipher_at, one_at, opening_at}
+use Rattle.sshkey_model.specs.PrivateKeys.{UnencryptedKey, PrivateKey, Unencrypted, Encrypted, may_precede}
+use Rattle.sshkey_base.specs.Formats.{Format}
+use Rattle.sshkey_base.specs.Grammars.{AllEnd, all_end, by_itself}
+use Rattle.sshkey_base.specs.Needs.{NoNeed, NeedsString}
+use Rattle.sshkey_base.specs.Stops.{AreLengths, NoOverrun, OverrunsString}
+use Rattle.sshkey_terms.specs.Terms.{IsMapped, called, called_chosen, called_ends, tested}
+use Rattle.sshkey_ciphers.specs.Ciphertexts.{sealed_format}
+use Rattle.sshkey_ciphers.specs.StepReaders.{read_as}
+use Rattle.sshkey_private.specs.Inner.{part_format}
+use Rattle.sshkey_private.specs.Openings.{Opening, opening_at, opening_format}
 
--- ---- the magic bytes
+-- ---- not encrypted
 
-abbrev pub magic_format : Format (List ℕ)
-magic_format = literal_format private_key_magic
+-- the key of that part; a part that is encrypted is none
+abbrev pub key_of_part : Option UnencryptedKey → Result PrivateKey Fault
+key_of_part (Some k) = Ok (Unencrypted k)
+key_of_part None = Err PublicKey
 
--- ---- the number of keys, which is 1
+unfoldable pub unencrypted_below : ℕ → Key → Front PrivateKey
+unencrypted_below limit public = (tested key_of_part (part_format limit public)).read
 
-abbrev pub IsOne : ℕ → Type 0
-IsOne n = Any n × ((n == 1) ≡ true)
+pub unencrypted_read : (limit : ℕ) (public : Key) → IsMapped (unencrypted_below limit public) key_of_part (part_format limit public).read
+unfolding unencrypted_below
+unencrypted_read limit public = record { same = λ b. refl }
 
-pub one_grammar : IsGrammar (Spells IsOne (number w32)) one_at
-unfolding one_at
-one_grammar = grammar (checked_reads (kept (λ n. n == 1) Length) (number_reads w32 wide32))
+abbrev pub unencrypted_format : ℕ → Key → Format PrivateKey
+unencrypted_format limit public = read_as (tested key_of_part (part_format limit public)) (unencrypted_below limit public) (λ b. (unencrypted_read limit public).same b) (λ b. refl)
 
-pub one_read : IsMapped one_at one_key (number_at w32)
-unfolding one_at
-one_read = record { same = λ b. refl }
+-- ---- encrypted
 
-abbrev pub one_format : Format ℕ
-one_format = made_of number32_format one_read one_grammar
+abbrev pub sealed_with : Cipher → Kdf → Key → List ℕ → List ℕ → PrivateKey
+sealed_with c k public ciphertext tag = Encrypted (record { cipher = c; kdf = k; public = public; ciphertext = ciphertext; tag = tag })
 
--- ---- what stands before the private part
+abbrev pub encrypted_format : Cipher → Kdf → Key → Format PrivateKey
+encrypted_format c k public = tested (λ a. Ok (sealed_with c k public a.0 a.1)) (sealed_format c)
 
-abbrev pub Sealing : Type 0
-Sealing = List ℕ × (Cipher × Kdf)
+-- ---- the private part
 
--- the magic bytes, the cipher and the key derivation
-abbrev pub sealing_format : Format Sealing
-sealing_format = magic_format then label_format NoNeed cipher_checks then kdf_format
+pub refused_grammar : {A : Type 0} (fault : Fault) → IsGrammar (λ (x : A) (b : List ℕ). ⊥) (λ b. Err fault)
+refused_grammar fault = record { takes = λ b x rest e. absurd (cc e); again = λ x front rest s. absurd s }
 
--- and behind them the number of keys and the public key
-abbrev pub opening_parts : Format (Sealing × (ℕ × Key))
-opening_parts = sealing_format then one_format then boxed key_format
+-- nothing is read, and this fault is met
+abbrev pub refused_format : {A : Type 0} → Fault → Format A
+refused_format fault = record {
+  Spells = λ x b. ⊥;
+  read = λ b. Err fault;
+  needs = NoNeed;
+  overruns = NoOverrun;
+  grammar = by_itself (refused_grammar fault);
+  lengths = λ b m o. absurd o;
+}
 
-abbrev pub opening_of_parts : Sealing × (ℕ × Key) → Result Opening Fault
-opening_of_parts a = Ok (record { cipher = a.0.1.0; kdf = a.0.1.1; public = a.1.1 })
+-- A key derivation without a cipher is refused.
+abbrev pub content_term : ℕ → Cipher → Kdf → Key → Format PrivateKey
+content_term limit NoCipher NoKdf public = unencrypted_format limit public
+content_term limit NoCipher (Bcrypt o) public = refused_format Crypto
+content_term limit c k public = encrypted_format c k public
 
-pub opening_parts_read : IsMapped opening_at opening_of_parts opening_parts.read
-unfolding opening_at behind_at cipher_at label_at
-opening_parts_read = record { same = λ b. simp bind_assoc }
-
--- ---- where memory is needed
+pub content_ends : (limit : ℕ) (c : Cipher) (k : Kdf) (public : Key) → AllEnd (content_term limit c k public).grammar
+content_ends limit NoCipher NoKdf public b = refl
+content_ends limit NoCipher (Bcrypt o) public b = refl
+content_ends limit c k public b = refl
 
 -- what the part of a key that is not encrypted needs, or a ciphertext of one byte or more
 abbrev pub NeedsContent : Cipher → Kdf → Key → List ℕ → ℕ → Type 0
-NeedsContent NoCipher NoKdf public = NeedsBoxed (NeedsPadded (NeedsInner public))
+NeedsContent NoCipher NoKdf public = (part_format 8 public).needs
 NeedsContent NoCipher (Bcrypt o) public = NoNeed
 NeedsContent c k public = NeedsString
-
--- what stands before the private part, or that part
-abbrev pub NeedsPrivateKey : List ℕ → ℕ → Type 0
-NeedsPrivateKey = NeedsThen opening_parts.needs opening_at (λ h. NeedsContent h.cipher h.kdf h.public)
-
--- ---- where a stated length passes
 
 -- a private part is read: not where there is a key derivation without a cipher
 abbrev pub is_held : Cipher → Kdf → Bool
@@ -86,6 +84,90 @@ is_held _ _ = true
 abbrev pub OverrunsContent : Cipher → Kdf → List ℕ → ℕ → Type 0
 OverrunsContent c k b m = (is_held c k ≡ true) × OverrunsString b m
 
+pub content_lengths : (limit : ℕ) (c : Cipher) (k : Kdf) (public : Key) → AreLengths (content_term limit c k public).read (OverrunsContent c k)
+content_lengths limit NoCipher NoKdf public b m o = (unencrypted_format limit public).lengths b m (inl o.1)
+content_lengths limit NoCipher (Bcrypt p) public b m o = absurd (cc o.0)
+content_lengths limit c k public b m o = (encrypted_format c k public).lengths b m (inl o.1)
+
+-- What it needs, and where its length passes, does not depend on the limit.
+abbrev pub content_format : ℕ → Opening → Format PrivateKey
+content_format limit h = record {
+  Spells = (content_term limit h.cipher h.kdf h.public).Spells;
+  read = (content_term limit h.cipher h.kdf h.public).read;
+  needs = NeedsContent h.cipher h.kdf h.public;
+  overruns = OverrunsContent h.cipher h.kdf;
+  grammar = (content_term limit h.cipher h.kdf h.public).grammar;
+  lengths = content_lengths limit h.cipher h.kdf h.public;
+}
+
+-- ---- the whole file
+
+-- the opening, and the private part that it calls for
+abbrev pub file_format : ℕ → Format PrivateKey
+file_format limit = called opening_format (content_format limit)
+
+pub file_grammar : (limit : ℕ) → IsGrammar (file_format limit).Spells (file_format limit).read
+file_grammar limit = all_end (file_format limit).grammar (called_ends opening_format (content_format limit) (λ b. refl) (λ h. content_ends limit h.cipher h.kdf h.public))
+
+-- what stands before the private part, or that part
+abbrev pub NeedsPrivateKey : List ℕ → ℕ → Type 0
+NeedsPrivateKey = (file_format 8).needs
+
 -- a length of the opening, or behind it that of the private part
 abbrev pub OverrunsPrivateKey : List ℕ → ℕ → Type 0
-OverrunsPrivateKey = OverrunsThen opening_parts.overruns opening_at (λ h. OverrunsContent h.cipher h.kdf)
+OverrunsPrivateKey = (file_format 8).overruns
+
+-- ---- in the steps of the calls that read it
+
+-- nothing may stand behind an encrypted key
+abbrev pub last_of : PrivateKey × List ℕ → Result (PrivateKey × List ℕ) Fault
+last_of x = if may_precede x.0 x.1 then Ok x else Err (TrailingKeyData (length x.1))
+
+unfoldable pub last_encrypted_at : Cipher → Kdf → Key → Front PrivateKey
+last_encrypted_at c k public b = do
+  sealed ← (sealed_format c).read b
+  last_of (sealed_with c k public sealed.0.0 sealed.0.1, sealed.1)
+
+abbrev pub last_content_at : ℕ → Cipher → Kdf → Key → Front PrivateKey
+last_content_at limit NoCipher NoKdf public b = unencrypted_below limit public b
+last_content_at limit NoCipher (Bcrypt o) public b = Err Crypto
+last_content_at limit c k public b = last_encrypted_at c k public b
+
+unfoldable pub steps_at : ℕ → Front PrivateKey
+steps_at limit b = do
+  h ← opening_at b
+  last_content_at limit h.0.cipher h.0.kdf h.0.public h.1
+
+unencrypted_last : (limit : ℕ) (public : Key) (b : List ℕ) → unencrypted_below limit public b ≡ (unencrypted_below limit public b >>= last_of)
+unfolding unencrypted_below
+unencrypted_last limit public b = go ((part_format limit public).read b)
+  where
+    one : (k : Option UnencryptedKey) (rest : List ℕ) → (key_of_part k >>= λ x. Ok (x, rest)) ≡ ((key_of_part k >>= λ x. Ok (x, rest)) >>= last_of)
+    one (Some k) rest = refl
+    one None rest = refl
+
+    go : (r : Result (Option UnencryptedKey × List ℕ) Fault) → (r >>= λ x. key_of_part x.0 >>= λ y. Ok (y, x.1)) ≡ ((r >>= λ x. key_of_part x.0 >>= λ y. Ok (y, x.1)) >>= last_of)
+    go (Ok x) = one x.0 x.1
+    go (Err e) = refl
+
+encrypted_last : (c : Cipher) (k : Kdf) (public : Key) (b : List ℕ) → last_encrypted_at c k public b ≡ ((encrypted_format c k public).read b >>= last_of)
+unfolding last_encrypted_at
+encrypted_last c k public b = go ((sealed_format c).read b)
+  where
+    go : (r : Result ((List ℕ × List ℕ) × List ℕ) Fault) → (r >>= λ x. last_of (sealed_with c k public x.0.0 x.0.1, x.1)) ≡ ((r >>= λ x. Ok (sealed_with c k public x.0.0 x.0.1, x.1)) >>= last_of)
+    go (Ok x) = refl
+    go (Err e) = refl
+
+content_last : (limit : ℕ) (c : Cipher) (k : Kdf) (public : Key) (b : List ℕ) → last_content_at limit c k public b ≡ ((content_term limit c k public).read b >>= last_of)
+content_last limit NoCipher NoKdf public b = unencrypted_last limit public b
+content_last limit NoCipher (Bcrypt o) public b = refl
+content_last limit c k public b = encrypted_last c k public b
+
+-- They give what the term gives, where nothing stands behind an encrypted key.
+pub steps_are : (limit : ℕ) (b : List ℕ) → steps_at limit b ≡ ((file_format limit).read b >>= last_of)
+unfolding steps_at
+steps_are limit b = go (opening_at b) ∙ ap (λ (r : Result (PrivateKey × List ℕ) Fault). r >>= last_of) (sym ((called_chosen opening_at (λ h. (content_format limit h).read)).same b))
+  where
+    go : (r : Result (Opening × List ℕ) Fault) → (r >>= λ h. last_content_at limit h.0.cipher h.0.kdf h.0.public h.1) ≡ ((r >>= λ h. (content_format limit h.0).read h.1) >>= last_of)
+    go (Ok h) = content_last limit h.0.cipher h.0.kdf h.0.public h.1
+    go (Err e) = refl

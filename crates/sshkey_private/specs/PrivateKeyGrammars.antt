@@ -1,134 +1,111 @@
--- The format of a private key. The lemmas are proved, and need not be believed: which spellings are
--- read, which keys end by themselves, and where a stated length passes.
-use Rattle.std.proofs.Common.{◌≡◌, inl, inr, ℕ, List, [], ◌∷◌, ◌++◌, append-nil, append_assoc, true, Ok, refl, sym, ap, ◌∙◌}
-use Rattle.sshkey_model.specs.KeyDerivation.{Cipher, NoCipher, Kdf, NoKdf, Bcrypt}
-use Rattle.sshkey_model.specs.Keys.{Key}
-use Rattle.sshkey_model.specs.Parts.{flat, Fits}
-use Rattle.sshkey_model.specs.PrivateKeys.{PrivateKey, Unencrypted, Encrypted, PrivateKeyChoices, plain_private_key, private_key, normal_private_key, IsPrivateKey, private_part_at, blocks_from, may_precede, decoded_private_key_at}
-use Rattle.sshkey_model.specs.Reading.{◌>>=◌}
-use Rattle.sshkey_model.proofs.CombinedReaders.{bind_ok, ok_is}
-use Rattle.sshkey_model.proofs.PrivateKeyReaders.{decoder, plain_private_key_has}
+-- The formats of private keys, behind which nothing may stand if they are encrypted: with the
+-- padding that is written, and with more. The lemmas are proved, and need not be believed.
+use Rattle.std.proofs.Common.{◌≡◌, inl, inr, ℕ, List, [], ◌∷◌, ◌++◌, length, append-nil, append_assoc, true, Result, Ok, Err, refl, sym, ap, subst, ◌∙◌}
+use Rattle.sshkey_model.specs.PrivateKeys.{PrivateKey, Unencrypted, Encrypted, may_precede}
+use Rattle.sshkey_model.specs.Reading.{Fault, Length, TrailingKeyData, ◌>>=◌, Front, checked_at}
+use Rattle.sshkey_model.proofs.CombinedReaders.{bind_ok, met, ok_is}
 use Rattle.sshkey_base.specs.Formats.{Format}
 use Rattle.sshkey_base.specs.Grammars.{MayFollow}
-use Rattle.sshkey_base.specs.Lengths.{box_lengths, checked_lengths, string_lengths}
-use Rattle.sshkey_base.specs.Stops.{OverrunsString, AreLengths}
-use Rattle.sshkey_terms.specs.Behind.{behind_at}
-use Rattle.sshkey_terms.specs.Terms.{IsChosen, mapped_lengths, chosen_lengths}
-use Rattle.sshkey_ciphers.specs.Ciphertexts.{blocks_at}
-use Rattle.sshkey_private.specs.Inner.{padded_below}
-use Rattle.sshkey_private.specs.PrivateKeyReaders.{SpellsPrivateKey, private_value_at, not_encrypted, delimited_value_at, opening_at, sealed_at, unencrypted_below, last_encrypted_at, last_content_at, steps_at}
-use Rattle.sshkey_private.specs.PrivateKeyFormats.{opening_parts, opening_parts_read, NeedsPrivateKey, OverrunsContent, OverrunsPrivateKey}
-use Rattle.sshkey_private.specs.PrivateKeySteps.{bare, steps_are}
+use Rattle.sshkey_private.specs.PrivateKeyFormats.{file_format, file_grammar, last_of, steps_at, steps_are}
 
--- ---- with the choices of the spelling
+-- the key, where it is not encrypted
+abbrev pub not_encrypted : PrivateKey → Result PrivateKey Fault
+not_encrypted (Unencrypted k) = Ok (Unencrypted k)
+not_encrypted (Encrypted k) = Err (TrailingKeyData 0)
 
-chosen : (b : List ℕ) (k : PrivateKey) (rest : List ℕ) → private_value_at b ≡ Ok (k, rest) → (s : PrivateKeyChoices) × (decoded_private_key_at b ≡ Ok ((k, s), rest))
-unfolding private_value_at
-chosen b k rest e =
-    let x = bind_ok (decoded_private_key_at b) bare (k, rest) e in
-    let same : (x.0.0.0, x.0.1) ≡ (k, rest) = ok_is (x.0.0.0, x.0.1) (k, rest) x.2 in
-    (x.0.0.1, x.1 ∙ (λ i. Ok (((same i).0, x.0.0.1), (same i).1)))
+-- of the keys that a reader takes, those that end by themselves: they are not encrypted
+abbrev pub delimited_by : Front PrivateKey → Front PrivateKey
+delimited_by = checked_at not_encrypted
 
-without_choices : (b : List ℕ) (k : PrivateKey) (s : PrivateKeyChoices) (rest : List ℕ) → decoded_private_key_at b ≡ Ok ((k, s), rest) → private_value_at b ≡ Ok (k, rest)
-unfolding private_value_at
-without_choices b k s rest e = rw e refl
+-- What is read from the front is a key that may stand before the rest, and each such key is read.
+pub record IsDecoder (Spells : PrivateKey → List ℕ → Type 0) (read : Front PrivateKey) : Type 0 where
+  pub takes : (b : List ℕ) (k : PrivateKey) (rest : List ℕ) → read b ≡ Ok (k, rest) → (front : List ℕ) × Spells k front × (b ≡ front ++ rest) × (may_precede k rest ≡ true)
+  pub again : (k : PrivateKey) (front rest : List ℕ) → Spells k front → may_precede k rest ≡ true → read (front ++ rest) ≡ Ok (k, rest)
 
--- ---- alone
-
-pub nothing_behind : (k : PrivateKey) → may_precede k [] ≡ true
+nothing_behind : (k : PrivateKey) → may_precede k [] ≡ true
 nothing_behind (Unencrypted k) = refl
 nothing_behind (Encrypted k) = refl
-
-pub private_alone : (k : PrivateKey) (front : List ℕ) → SpellsPrivateKey k front → private_value_at front ≡ Ok (k, [])
-private_alone k front s =
-    let text = flat (private_key k s.choices) in
-    let all : front ≡ text ++ [] = s.shape ∙ sym (append-nil text) in
-    without_choices front k s.choices [] (ap decoded_private_key_at all ∙ decoder.again (k, s.choices) [] (record { is = s.is; place = s.place }) s.fits (nothing_behind k))
-
--- what is written of a private key is one of its spellings
-pub private_normal : (k : PrivateKey) → IsPrivateKey k → Fits (normal_private_key k) → SpellsPrivateKey k (flat (normal_private_key k))
-private_normal k is fits = record { is = is; choices = plain_private_key; place = plain_private_key_has k; fits = fits; shape = refl }
-
--- ---- from the front
-
-may_follow : (k : PrivateKey) (front rest : List ℕ) → SpellsPrivateKey k front → may_precede k rest ≡ true → MayFollow delimited_value_at k front rest
-may_follow (Unencrypted k) front rest s may = inr (rw (private_alone (Unencrypted k) front s) refl)
-may_follow (Encrypted k) front [] s may = inl refl
-may_follow (Encrypted k) front (d ∷ rest) s may = absurd cc
-
-pub private_takes : (b : List ℕ) (k : PrivateKey) (rest : List ℕ) → private_value_at b ≡ Ok (k, rest) → (front : List ℕ) × SpellsPrivateKey k front × (b ≡ front ++ rest) × MayFollow delimited_value_at k front rest
-private_takes b k rest e =
-    let c = chosen b k rest e in
-    let t = decoder.takes b (k, c.0) rest c.1 in
-    let front = flat (private_key k c.0) in
-    let spells : SpellsPrivateKey k front = record { is = t.0.is; choices = c.0; place = t.0.place; fits = t.1; shape = refl } in
-    (front, spells, t.3, may_follow k front rest spells t.2)
-
--- ---- those that end by themselves
 
 kept : (k l : PrivateKey) → not_encrypted k ≡ Ok l → k ≡ l
 kept (Unencrypted k) l e = ok_is (Unencrypted k) l e
 kept (Encrypted k) l e = absurd cc
 
-pub private_same : (b : List ℕ) (x : PrivateKey × List ℕ) → delimited_value_at b ≡ Ok x → private_value_at b ≡ Ok x
-private_same b x e =
-    let y = bind_ok (private_value_at b) (λ y. not_encrypted y.0 >>= λ k. Ok (k, y.1)) x e in
-    let k = bind_ok (not_encrypted y.0.0) (λ k. Ok (k, y.0.1)) x y.2 in
-    let is : y.0.0 ≡ k.0 = kept y.0.0 k.0 k.1 in
-    y.1 ∙ (λ i. Ok (is i, y.0.1)) ∙ k.2
+may_be_last : (k : PrivateKey) (rest : List ℕ) → may_precede k rest ≡ true → last_of (k, rest) ≡ Ok (k, rest)
+may_be_last k rest may = rw may refl
 
-pub private_before : (b : List ℕ) (k : PrivateKey) (r rest : List ℕ) → delimited_value_at b ≡ Ok (k, r) → delimited_value_at (b ++ rest) ≡ Ok (k, r ++ rest)
-private_before b (Unencrypted k) r rest e =
-    let key = Unencrypted k in
-    let c = chosen b key r (private_same b (key, r) e) in
-    let t = decoder.takes b (key, c.0) r c.1 in
-    let front = flat (private_key key c.0) in
-    let more : b ++ rest ≡ front ++ (r ++ rest) = ap (λ (l : List ℕ). l ++ rest) t.3 ∙ append_assoc front r rest in
-    let read = decoder.again (key, c.0) (r ++ rest) t.0 t.1 refl in
-    rw (without_choices (b ++ rest) key c.0 (r ++ rest) (ap decoded_private_key_at more ∙ read)) refl
-private_before b (Encrypted k) r rest e = let same = private_same b (Encrypted k, r) e in absurd (cc (rw same at e))
+module _ (limit : ℕ) where
+  abbrev pub SpellsFile : PrivateKey → List ℕ → Type 0
+  SpellsFile = (file_format limit).Spells
 
--- ---- where a stated length passes
+  pub decoder : IsDecoder SpellsFile (steps_at limit)
+  decoder = record {
+    takes = λ b k rest e.
+        let x = bind_ok ((file_format limit).read b) last_of (k, rest) (sym (steps_are limit b) ∙ e) in
+        let last = met (may_precede x.0.0 x.0.1) (TrailingKeyData (length x.0.1)) (Ok x.0) (k, rest) x.2 in
+        let t = (file_grammar limit).takes b x.0.0 x.0.1 x.1 in
+        subst (λ (z : PrivateKey × List ℕ). (front : List ℕ) × SpellsFile z.0 front × (b ≡ front ++ z.1) × (may_precede z.0 z.1 ≡ true)) (ok_is x.0 (k, rest) last.1) (t.0, t.1, t.2, last.0);
+    again = λ k front rest s may. steps_are limit (front ++ rest) ∙ ap (λ (r : Result (PrivateKey × List ℕ) Fault). r >>= last_of) ((file_grammar limit).again k front rest s) ∙ may_be_last k rest may;
+  }
 
-pub blocks_lengths : (c : Cipher) → AreLengths (blocks_at c) OverrunsString
-unfolding blocks_at
-blocks_lengths c = checked_lengths (blocks_from c) string_lengths
+  pub file_alone : (k : PrivateKey) (front : List ℕ) → SpellsFile k front → steps_at limit front ≡ Ok (k, [])
+  file_alone k front s = ap (steps_at limit) (sym (append-nil front)) ∙ decoder.again k front [] s (nothing_behind k)
 
-pub sealed_lengths : (c : Cipher) → AreLengths (sealed_at c) OverrunsString
-unfolding behind_at
-sealed_lengths c b m o = rw (blocks_lengths c b m o) refl
+  may_follow : (k : PrivateKey) (front rest : List ℕ) → SpellsFile k front → may_precede k rest ≡ true → MayFollow (delimited_by (steps_at limit)) k front rest
+  may_follow (Unencrypted k) front rest s may = inr (rw (file_alone (Unencrypted k) front s) refl)
+  may_follow (Encrypted k) front [] s may = inl refl
+  may_follow (Encrypted k) front (d ∷ rest) s may = absurd cc
 
-encrypted_lengths : (c : Cipher) (k : Kdf) (public : Key) → AreLengths (last_encrypted_at c k public) OverrunsString
-unfolding last_encrypted_at
-encrypted_lengths c k public b m o = rw (sealed_lengths c b m o) refl
+  pub file_takes : (b : List ℕ) (k : PrivateKey) (rest : List ℕ) → steps_at limit b ≡ Ok (k, rest) → (front : List ℕ) × SpellsFile k front × (b ≡ front ++ rest) × MayFollow (delimited_by (steps_at limit)) k front rest
+  file_takes b k rest e = let t = decoder.takes b k rest e in (t.0, t.1, t.2, may_follow k t.0 rest t.1 t.3)
 
-unencrypted_lengths : (limit : ℕ) (public : Key) → AreLengths (unencrypted_below limit public) OverrunsString
-unfolding unencrypted_below
-unencrypted_lengths limit public b m o = rw (box_lengths (padded_below limit (private_part_at public)) b m o) refl
+  pub file_same : (b : List ℕ) (x : PrivateKey × List ℕ) → delimited_by (steps_at limit) b ≡ Ok x → steps_at limit b ≡ Ok x
+  file_same b x e =
+      let y = bind_ok (steps_at limit b) (λ y. not_encrypted y.0 >>= λ k. Ok (k, y.1)) x e in
+      let k = bind_ok (not_encrypted y.0.0) (λ k. Ok (k, y.0.1)) x y.2 in
+      let is : y.0.0 ≡ k.0 = kept y.0.0 k.0 k.1 in
+      y.1 ∙ (λ i. Ok (is i, y.0.1)) ∙ k.2
 
-content_lengths : (limit : ℕ) (c : Cipher) (k : Kdf) (public : Key) → AreLengths (last_content_at limit c k public) (OverrunsContent c k)
-content_lengths limit NoCipher NoKdf public b m o = unencrypted_lengths limit public b m o.1
-content_lengths limit NoCipher (Bcrypt p) public b m o = absurd (cc o.0)
-content_lengths limit c k public b m o = encrypted_lengths c k public b m o.1
+  pub file_before : (b : List ℕ) (k : PrivateKey) (r rest : List ℕ) → delimited_by (steps_at limit) b ≡ Ok (k, r) → delimited_by (steps_at limit) (b ++ rest) ≡ Ok (k, r ++ rest)
+  file_before b (Unencrypted k) r rest e =
+      let key = Unencrypted k in
+      let t = decoder.takes b key r (file_same b (key, r) e) in
+      let more : b ++ rest ≡ t.0 ++ (r ++ rest) = ap (λ (l : List ℕ). l ++ rest) t.2 ∙ append_assoc t.0 r rest in
+      rw (ap (steps_at limit) more ∙ decoder.again key t.0 (r ++ rest) t.1 refl) refl
+  file_before b (Encrypted k) r rest e = let same = file_same b (Encrypted k, r) e in absurd (cc (rw same at e))
 
-pub opening_lengths : AreLengths opening_at opening_parts.overruns
-opening_lengths = mapped_lengths opening_parts_read opening_parts.lengths
+  pub file_lengths : (b : List ℕ) (m : ℕ) → (file_format limit).overruns b m → steps_at limit b ≡ Err Length
+  file_lengths b m o = steps_are limit b ∙ ap (λ (r : Result (PrivateKey × List ℕ) Fault). r >>= last_of) ((file_format limit).lengths b m o)
 
-content_chosen : (limit : ℕ) → IsChosen (steps_at limit) opening_at (λ h. last_content_at limit h.cipher h.kdf h.public)
-unfolding steps_at
-content_chosen limit = record { same = λ b. refl }
+  abbrev pub private_key_below : Format PrivateKey
+  private_key_below = record {
+    Spells = SpellsFile;
+    read = steps_at limit;
+    needs = (file_format limit).needs;
+    overruns = (file_format limit).overruns;
+    grammar = record { delimited_at = delimited_by (steps_at limit); same = file_same; before = file_before; takes = file_takes; alone = file_alone };
+    lengths = file_lengths;
+  }
 
-pub private_lengths : AreLengths private_value_at OverrunsPrivateKey
-private_lengths b m o = sym (steps_are b) ∙ chosen_lengths (λ _ _ e. e) (content_chosen 8) opening_lengths (λ h. content_lengths 8 h.cipher h.kdf h.public) b m o
-
--- ---- the format
+-- ---- with fewer than eight bytes of padding, as it is written
 
 abbrev pub private_key_format : Format PrivateKey
-private_key_format = record {
-  Spells = SpellsPrivateKey;
-  read = private_value_at;
-  needs = NeedsPrivateKey;
-  overruns = OverrunsPrivateKey;
-  grammar = record { delimited_at = delimited_value_at; same = private_same; before = private_before; takes = private_takes; alone = private_alone };
-  lengths = private_lengths;
-}
+private_key_format = private_key_below 8
+
+-- the bytes spell the private key
+abbrev pub SpellsPrivateKey : PrivateKey → List ℕ → Type 0
+SpellsPrivateKey = private_key_format.Spells
+
+abbrev pub private_value_at : Front PrivateKey
+private_value_at = private_key_format.read
+
+-- ---- with up to 255: other programs pad to 16 bytes, or by a whole block more
+
+abbrev pub padded_key_format : Format PrivateKey
+padded_key_format = private_key_below 256
+
+-- the bytes spell the private key, with any such padding
+abbrev pub SpellsPaddedKey : PrivateKey → List ℕ → Type 0
+SpellsPaddedKey = padded_key_format.Spells
+
+abbrev pub padded_value_at : Front PrivateKey
+padded_value_at = padded_key_format.read

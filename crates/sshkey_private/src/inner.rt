@@ -3,7 +3,7 @@
 ghost use Rattle.std.specs.Prelude.{◌≡◌, true, IfOk, suc};
 ghost use Rattle.sshkey_base.specs.Answers.{AnswersAlways};
 ghost use Rattle.sshkey_base.specs.Causes.{cause};
-ghost use Rattle.sshkey_base.specs.Needs.{Asks, NoNeed, NeedsBoxed};
+ghost use Rattle.sshkey_base.specs.Needs.{Asks, NoNeed};
 ghost use Rattle.sshkey_base.specs.Reading.{Gives, to_end};
 ghost use Rattle.sshkey_base.specs.Source.{Later};
 ghost use Rattle.sshkey_base.specs.Stops.{OverrunsString, StopsBy};
@@ -15,10 +15,10 @@ ghost use Rattle.sshkey_kinds.specs.Kinds.{opaque_of};
 ghost use Rattle.sshkey_pairs.specs.OpaquePairs.{opaque_pair_of};
 ghost use Rattle.sshkey_model.specs.KeyPairs.{public_half};
 ghost use Rattle.sshkey_model.specs.PrivateKeys.{key_eq};
-ghost use Rattle.sshkey_model.specs.Reading.{box_at};
 ghost use Rattle.sshkey_pair_kinds.specs.Pairs.{ecdsa_pair_of};
 ghost use Rattle.sshkey_private.specs.Halves.{is_half};
-ghost use Rattle.sshkey_private.specs.Inner.{inner_of, inner_at, padded_below, checkint_at, one_checkint, half_of, pair_with_at, NeedsInner, NeedsPadded};
+ghost use Rattle.sshkey_private.specs.Inner.{inner_of, inner_at, inner_format, part_format, checkint_at, one_checkint, half_of, pair_with_at};
+ghost use Rattle.sshkey_private.specs.Padded.{padded_below, NeedsPadded};
 
 use crate::part::Inner;
 use sshkey_base::{Decode, Error, Reader, Result, Text, encoding};
@@ -43,14 +43,13 @@ pub(crate) fn decode_inner<R: Reader>(
     public: &KeyData,
     most: u8,
 ) -> Result<Inner>
-    ensures gives { Gives inner_of cause
-        (box_at (padded_below (suc most) (inner_at (key_of public.now))))
+    ensures gives { Gives inner_of cause (part_format (suc most) (key_of public.now)).read
         (R.source reader.old) result (R.source reader.new) }
     ensures later { Later (R.source reader.old) (R.source reader.new) }
-    ensures asks { Asks cause (NeedsBoxed (NeedsPadded (NeedsInner (key_of public.now))))
+    ensures asks { Asks cause (part_format (suc most) (key_of public.now)).needs
         (R.source reader.old) result }
-    ensures past { StopsBy cause (box_at (padded_below (suc most) (inner_at (key_of public.now))))
-        (NeedsBoxed (NeedsPadded (NeedsInner (key_of public.now)))) OverrunsString
+    ensures past { StopsBy cause (part_format (suc most) (key_of public.now)).read
+        (part_format (suc most) (key_of public.now)).needs OverrunsString
         (R.source reader.old) result }
 {
     reader.read_prefixed(|part| padded_inner_from(alloc, part, public, most))
@@ -67,7 +66,7 @@ fn padded_inner_from<R: Reader>(
         (to_end (padded_below (suc most) (inner_at (key_of public.now))))
         (R.source reader.old) result (R.source reader.new) }
     ensures later { Later (R.source reader.old) (R.source reader.new) }
-    ensures asks { Asks cause (NeedsPadded (NeedsInner (key_of public.now)))
+    ensures asks { Asks cause (NeedsPadded (inner_format (key_of public.now)).needs)
         (R.source reader.old) result }
 {
     if reader.remaining_len() % 8 != 0 {
@@ -84,7 +83,8 @@ fn inner_from<R: Reader>(alloc: Global, reader: &mut R, public: &KeyData) -> Res
     ensures gives { Gives inner_of cause (inner_at (key_of public.now))
         (R.source reader.old) result (R.source reader.new) }
     ensures later { Later (R.source reader.old) (R.source reader.new) }
-    ensures asks { Asks cause (NeedsInner (key_of public.now)) (R.source reader.old) result }
+    ensures asks { Asks cause (inner_format (key_of public.now)).needs
+        (R.source reader.old) result }
 {
     let checkint = checkint_from(alloc, reader)?;
     let pair = pair_from(alloc, reader, public)?;

@@ -1,18 +1,19 @@
 //! Laws of private keys: each stands for all values.
 
-ghost use Rattle.std.specs.Prelude.{◌≡◌, ℕ, List, Ok};
+ghost use Rattle.std.specs.Prelude.{◌≡◌, ◌↔◌, ℕ, List, Ok};
 ghost use Rattle.sshkey_base.specs.Comparisons.{EqualMeanSame, IsEqualityAmong};
-ghost use Rattle.sshkey_model.specs.Grammar.{IsSpelled, spelled};
+ghost use Rattle.sshkey_model.specs.Grammar.{IsGrammar, IsSpelled, SpellsWith, spelled};
+ghost use Rattle.sshkey_model.specs.Laws.{DetermineValues, ReadBack};
 ghost use Rattle.sshkey_model.specs.Parts.{IsPrefixFree};
-ghost use Rattle.sshkey_model.specs.PrivateKeys.{PrivateKey as ThePrivateKey, IsPrivateKey};
+ghost use Rattle.sshkey_model.specs.PrivateKeys.{PrivateKey as ThePrivateKey, HasPrivateKeyPlaces, IsPrivateKey, normal_private_key, private_key};
 ghost use Rattle.sshkey_model.specs.Reading.{whole};
 ghost use Rattle.sshkey_private.specs.Comparisons.{IsBesideKey, seen};
-ghost use Rattle.sshkey_private.specs.PaddedKeys.{HasPaddedPlaces, SpellsPaddedKey, padded_private_key};
-ghost use Rattle.sshkey_private.specs.PrivateKeyReaders.{SpellsPrivateKey, private_value_at, padded_value_at};
+ghost use Rattle.sshkey_private.specs.PaddedKeys.{HasPaddedPlaces, padded_private_key};
+ghost use Rattle.sshkey_private.specs.PrivateKeyFormats.{file_format};
+ghost use Rattle.sshkey_private.specs.PrivateKeyGrammars.{IsDecoder, SpellsPaddedKey, SpellsPrivateKey, padded_value_at, private_value_at};
 
 use crate::private_key::PrivateKey;
 use sshkey_ciphers::laws::{compared_ciphers, equal_kdfs};
-pub use sshkey_model::laws::private::prefix_private_key;
 use sshkey_pairs::laws::equal_pairs;
 use sshkey_public::laws::compared_public_keys;
 
@@ -29,15 +30,56 @@ pub fn compared_private_keys()
     equal_pairs();
 }
 
+/// The term of a private key spells exactly what PROTOCOL.key lays out, with each way to name its
+/// keys and to write a private scalar.
+pub fn spelled_private_key()
+    ensures { (k : ThePrivateKey) (b : List ℕ) → SpellsPrivateKey k b
+        ↔ SpellsWith IsPrivateKey HasPrivateKeyPlaces private_key k b }
+{}
+
+/// The same with up to 255 bytes of padding.
+pub fn spelled_padded_private_key()
+    ensures { (k : ThePrivateKey) (b : List ℕ) → SpellsPaddedKey k b
+        ↔ SpellsWith IsPrivateKey HasPaddedPlaces padded_private_key k b }
+{}
+
+/// The term of a private key is read exactly where it is spelled, whatever follows.
+#[tactic(auto, using(crate::specs::PrivateKeyFormats::file_grammar))]
+pub fn exact_private_key()
+    ensures { IsGrammar SpellsPrivateKey (file_format 8).read }
+{}
+
+/// A private key is decoded exactly where it may stand before what follows: an encrypted one must
+/// be the last.
+#[tactic(auto, using(crate::specs::PrivateKeyGrammars::decoder))]
+pub fn decode_private_key()
+    ensures { IsDecoder SpellsPrivateKey private_value_at }
+{}
+
+/// Two private keys have equal normal forms exactly if they are equal, checkint and tag included.
+pub fn normal_private_keys()
+    ensures { DetermineValues IsPrivateKey normal_private_key }
+{}
+
+/// The normal form of a private key is read as that key.
+pub fn read_back_private_key()
+    ensures { ReadBack IsPrivateKey normal_private_key private_value_at }
+{}
+
+/// No private key begins another.
+pub fn prefix_private_key()
+    ensures { IsPrefixFree (IsSpelled IsPrivateKey HasPrivateKeyPlaces) (spelled private_key) }
+{}
+
 /// No private key begins another, however long their padding is.
-#[tactic(auto, using(crate::proofs::PaddedKeyReaders::padded_prefix))]
+#[tactic(auto, using(crate::proofs::KeyPrefixes::padded_prefix))]
 pub fn prefix_padded_private_key()
     ensures { IsPrefixFree (IsSpelled IsPrivateKey HasPaddedPlaces) (spelled padded_private_key) }
 {}
 
 /// What spells a private key spells the same one where more padding is let be; so what
 /// `PrivateKey::from_bytes` gives of bytes, `PrivateKey::from_padded_bytes` gives of them.
-#[tactic(auto, using(crate::proofs::PaddedKeys::plain_padding, crate::proofs::PaddedKeys::plain_read))]
+#[tactic(auto, using(crate::specs::PrivateKeyTrees::plain_padding, crate::proofs::KeyReaders::plain_read))]
 pub fn plain_padded_private_key()
     ensures spelled { (k : ThePrivateKey) → (b : List ℕ) → SpellsPrivateKey k b
         → SpellsPaddedKey k b }

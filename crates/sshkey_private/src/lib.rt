@@ -1,6 +1,7 @@
 //! Private keys (OpenSSH, PROTOCOL.key).
 #![tactic(auto)]
 
+pub mod examples;
 mod inner;
 pub mod laws;
 mod opening;

@@ -7,11 +7,9 @@ ghost use Rattle.sshkey_base.specs.Needs.{Asks};
 ghost use Rattle.sshkey_base.specs.Reading.{Gives};
 ghost use Rattle.sshkey_base.specs.Source.{Later};
 ghost use Rattle.sshkey_base.specs.Stops.{StopsBy};
-ghost use Rattle.sshkey_model.specs.PrivateKeys.{private_key_magic, one_key};
+ghost use Rattle.sshkey_model.specs.PrivateKeys.{private_key_magic};
 ghost use Rattle.sshkey_model.specs.Reading.{literal_from};
-ghost use Rattle.sshkey_private.specs.Openings.{opening_of, magic_of, one_of};
-ghost use Rattle.sshkey_private.specs.PrivateKeyReaders.{opening_at};
-ghost use Rattle.sshkey_private.specs.PrivateKeyFormats.{magic_format, one_format, opening_parts};
+ghost use Rattle.sshkey_private.specs.Openings.{opening_of, magic_of, one_of, one_key, magic_format, one_format, opening_parts, opening_at};
 
 use sshkey_base::{Decode, Error, Reader, Result, array_from, encoding};
 use sshkey_ciphers::{Cipher, Kdf};
@@ -48,7 +46,7 @@ type Keys = Then<One, Boxed<KeyData>>;
 ///
 /// Fails with `FormatEncoding` for other bytes than the magic ones, with `Label` for names of none,
 /// the errors of `Kdf`, with `Length` for another number of keys, and the errors of `KeyData`.
-#[tactic(auto, using(sshkey_terms::proofs::Mapped::mapped, crate::specs::PrivateKeyFormats::opening_parts_read), unfolding(crate::specs::PrivateKeyReaders::cipher_at, sshkey_ciphers::specs::Ciphers::label_at))]
+#[tactic(auto, using(sshkey_terms::proofs::Mapped::mapped, crate::specs::Openings::opening_parts_read))]
 pub(crate) fn opening_from<R: Reader>(alloc: Global, reader: &mut R) -> Result<Opening>
     ensures gives { Gives opening_of cause opening_at
         (R.source reader.old) result (R.source reader.new) }
@@ -68,7 +66,7 @@ pub(crate) fn opening_from<R: Reader>(alloc: Global, reader: &mut R) -> Result<O
 }
 
 /// The magic bytes. Fails with `FormatEncoding` for others.
-#[tactic(auto, using(sshkey_base::proofs::Steps::steps, sshkey_base::proofs::Stopping::stopping), unfolding(crate::specs::PrivateKeyReaders::literal_at))]
+#[tactic(auto, using(sshkey_base::proofs::Steps::steps, sshkey_base::proofs::Stopping::stopping), unfolding(sshkey_model::specs::Reading::literal_at))]
 impl Decode for Magic {
     type Error = Error;
 
@@ -95,7 +93,7 @@ fn check_magic(bytes: [u8; 15]) -> Result<Magic>
 }
 
 /// The number of keys, which is 1. Fails with `Length` for another.
-#[tactic(auto, using(sshkey_base::proofs::Steps::steps, sshkey_base::proofs::Stopping::stopping), unfolding(crate::specs::PrivateKeyReaders::one_at))]
+#[tactic(auto, using(sshkey_base::proofs::Steps::steps, sshkey_base::proofs::Stopping::stopping, sshkey_terms::specs::Terms::checked_read))]
 impl Decode for One {
     type Error = Error;
 

@@ -1,8 +1,8 @@
 //! How private keys are read.
 
-ghost use Rattle.std.specs.Prelude.{◌≡◌, ◌%◌, [], false, true, length, suc, Some, option_map, IfOk};
+ghost use Rattle.std.specs.Prelude.{◌≡◌, ◌%◌, [], false, true, length, suc, Ok, IfOk};
 ghost use Rattle.sshkey_base.specs.Causes.{cause};
-ghost use Rattle.sshkey_base.specs.Needs.{Asks, NeedsBoxed, NeedsString};
+ghost use Rattle.sshkey_base.specs.Needs.{Asks, NeedsString};
 ghost use Rattle.sshkey_base.specs.Reading.{Gives, GivesWhole};
 ghost use Rattle.sshkey_base.specs.Source.{Later, all_of};
 ghost use Rattle.sshkey_base.specs.Stops.{OverrunsString, StopsBy, StopsPast};
@@ -10,14 +10,13 @@ ghost use Rattle.sshkey_pairs.specs.Keypairs.{pair_of};
 ghost use Rattle.sshkey_keys.specs.Keys.{key_of};
 ghost use Rattle.sshkey_model.specs.KeyDerivation.{Kdf as TheKdf, NoCipher, block_size, tag_size};
 ghost use Rattle.sshkey_model.specs.Keys.{Key};
-ghost use Rattle.sshkey_model.specs.PrivateKeys.{Unencrypted};
 ghost use Rattle.sshkey_model.specs.Reading.{whole};
 ghost use Rattle.sshkey_ciphers.specs.Ciphers.{cipher_of, kdf_of};
-ghost use Rattle.sshkey_ciphers.specs.Ciphertexts.{tag_bytes};
+ghost use Rattle.sshkey_ciphers.specs.Ciphertexts.{sealed_format, tag_bytes};
 ghost use Rattle.sshkey_private.specs.Halves.{is_half};
-ghost use Rattle.sshkey_private.specs.Inner.{NeedsInner, NeedsPadded, inner_of};
-ghost use Rattle.sshkey_private.specs.PrivateKeyReaders.{delimited_by, steps_at, sealed_at, sealed_with, unencrypted_below, last_content_at, last_encrypted_at};
-ghost use Rattle.sshkey_private.specs.PrivateKeyFormats.{NeedsContent, NeedsPrivateKey, OverrunsContent, OverrunsPrivateKey};
+ghost use Rattle.sshkey_private.specs.Inner.{inner_of, part_format};
+ghost use Rattle.sshkey_private.specs.PrivateKeyFormats.{NeedsContent, NeedsPrivateKey, OverrunsContent, OverrunsPrivateKey, key_of_part, steps_at, sealed_with, unencrypted_below, last_content_at, last_encrypted_at};
+ghost use Rattle.sshkey_private.specs.PrivateKeyGrammars.{delimited_by};
 ghost use Rattle.sshkey_private.specs.PrivateKeys.{private_of, is_encrypted, outer_of, HasWrittenComment};
 ghost use Rattle.sshkey_public.specs.PublicKeys.{comment_of};
 
@@ -46,7 +45,7 @@ pub(super) fn whole_key_from(alloc: Global, bytes: &[u8], most: u8) -> Result<Pr
 
 /// A private key from the front, with at most so many bytes of padding; nothing may follow an
 /// encrypted one.
-#[tactic(auto, using(sshkey_base::proofs::Steps::steps), unfolding(crate::specs::PrivateKeyReaders::steps_at))]
+#[tactic(auto, using(sshkey_base::proofs::Steps::steps), unfolding(crate::specs::PrivateKeyFormats::steps_at))]
 pub(super) fn private_key_from<R: Reader>(
     alloc: Global,
     reader: &mut R,
@@ -104,10 +103,10 @@ fn unencrypted_from<R: Reader>(
     ensures gives { Gives private_of cause (unencrypted_below (suc most) (key_of public))
         (R.source reader.old) result (R.source reader.new) }
     ensures later { Later (R.source reader.old) (R.source reader.new) }
-    ensures asks { Asks cause (NeedsBoxed (NeedsPadded (NeedsInner (key_of public))))
+    ensures asks { Asks cause (part_format (suc most) (key_of public)).needs
         (R.source reader.old) result }
     ensures past { StopsBy cause (unencrypted_below (suc most) (key_of public))
-        (NeedsBoxed (NeedsPadded (NeedsInner (key_of public)))) OverrunsString
+        (part_format (suc most) (key_of public)).needs OverrunsString
         (R.source reader.old) result }
     ensures plain { IfOk result (λ k. is_encrypted (private_of k) ≡ false) }
 {
@@ -118,7 +117,7 @@ fn unencrypted_from<R: Reader>(
 /// The private key of that part and its public key.
 fn from_inner(inner: Inner, public: KeyData) -> PrivateKey
     requires { is_half (pair_of inner.pair) (key_of public) ≡ true }
-    ensures { Some (private_of result) ≡ option_map Unencrypted (inner_of inner) }
+    ensures { key_of_part (inner_of inner) ≡ Ok (private_of result) }
 {
     let Inner {
         checkint,
@@ -190,14 +189,15 @@ fn last_sealed_from<R: Reader>(
 }
 
 /// A ciphertext in its string, and its tag after it.
-#[tactic(auto, using(sshkey_base::proofs::Steps::steps, crate::specs::PrivateKeyGrammars::blocks_lengths, sshkey_base::proofs::Stopping::read_past), unfolding(sshkey_terms::specs::Behind::behind_at))]
+#[tactic(auto, using(sshkey_base::proofs::Steps::steps, sshkey_ciphers::specs::Ciphertexts::blocks_lengths, sshkey_base::proofs::Stopping::read_past), unfolding(sshkey_terms::specs::Behind::behind_at))]
 fn sealed_from<R: Reader>(
     alloc: Global,
     reader: &mut R,
     cipher: Cipher,
 ) -> Result<(Vec<u8>, Option<[u8; 16]>)>
     ensures gives { Gives (λ p. (p.0.items, tag_bytes p.1)) cause
-        (sealed_at (cipher_of cipher)) (R.source reader.old) result (R.source reader.new) }
+        (sealed_format (cipher_of cipher)).read
+        (R.source reader.old) result (R.source reader.new) }
     ensures later { Later (R.source reader.old) (R.source reader.new) }
     ensures asks { Asks cause NeedsString (R.source reader.old) result }
     ensures past { StopsPast cause NeedsString OverrunsString (R.source reader.old) result }

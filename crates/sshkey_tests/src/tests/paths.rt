@@ -132,6 +132,10 @@ pub mod laws {
     pub use ssh_key::laws::equal_sk_ecdsa_pairs;
     pub use ssh_key::laws::equal_sk_ed25519_pairs;
     pub use ssh_key::laws::equal_verdicts;
+    pub use ssh_key::laws::exact_cipher;
+    pub use ssh_key::laws::exact_kdf;
+    pub use ssh_key::laws::exact_kdf_name;
+    pub use ssh_key::laws::exact_private_key;
     pub use ssh_key::laws::exact_ssh_signature;
     pub use ssh_key::laws::fingerprint_texts;
     pub use ssh_key::laws::key_fits;
@@ -212,6 +216,9 @@ pub mod laws {
     pub use ssh_key::laws::signed_fields;
     pub use ssh_key::laws::signed_fields_fit;
     pub use ssh_key::laws::signed_parts_fit;
+    pub use ssh_key::laws::spelled_kdf;
+    pub use ssh_key::laws::spelled_padded_private_key;
+    pub use ssh_key::laws::spelled_private_key;
     pub use ssh_key::laws::spelled_ssh_signature;
     pub use ssh_key::laws::ssh_signature_fits;
 }

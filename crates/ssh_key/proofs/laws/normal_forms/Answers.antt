@@ -2,10 +2,11 @@ use Rattle.sshkey_model.specs.Certificates.{certificate, plain_choices, to_be_si
 use Rattle.sshkey_model.specs.KeyPairs.{LeadingZeros, keypair, pair, plain_pair, scalar}
 use Rattle.sshkey_model.specs.Keys.{Head, key}
 use Rattle.sshkey_model.specs.Options.{options, plain_nestings}
-use Rattle.sshkey_model.specs.PrivateKeys.{plain_private_key, private_key}
+use Rattle.sshkey_model.specs.Parts.{flat}
+use Rattle.sshkey_model.specs.PrivateKeys.{normal_private_key}
 use Rattle.sshkey_model.proofs.CertificateNameReaders.{certificate_algorithm_reads}
 use Rattle.sshkey_model.proofs.CertificateReaders.{certificate_reads, end_reads, signed_fields_reads, time_reads, type_reads}
-use Rattle.sshkey_model.proofs.KeyDerivationReaders.{cipher_reads, kdf_algorithm_reads, kdf_reads}
+use Rattle.sshkey_model.proofs.CombinedReaders.{checked_string_reads}
 use Rattle.sshkey_model.proofs.KeyPairReaders.{keypair_reads, pair_reads, plain_keypair_has, rsa_private_reads, scalar_reads}
 use Rattle.sshkey_model.proofs.KeyReaders.{body_reads, key_reads}
 use Rattle.sshkey_model.proofs.MpintReaders.{mpint_reads}
@@ -13,10 +14,15 @@ use Rattle.sshkey_model.proofs.NameReaders.{algorithm_reads, curve_reads, hash_r
 use Rattle.sshkey_model.proofs.NormalForms.{plain_choices_have, plain_options_have}
 use Rattle.sshkey_model.proofs.OptionReaders.{options_reads}
 use Rattle.sshkey_model.proofs.PointReaders.{point_reads}
-use Rattle.sshkey_model.proofs.PrivateKeyReaders.{plain_private_key_has, private_key_reads}
 use Rattle.sshkey_model.proofs.SignatureReaders.{signature_reads}
 use Rattle.sshkey_model.proofs.TextReaders.{text_reads, texts_reads}
+use Rattle.sshkey_base.specs.Labels.{label_at}
 use Rattle.sshkey_terms.proofs.Trees.{determined, read_back}
+use Rattle.sshkey_ciphers.specs.Ciphers.{cipher_checks, kdf_algorithm_checks}
+use Rattle.sshkey_ciphers.specs.KdfFormats.{kdf_grammar, kdf_normal}
+use Rattle.sshkey_private.specs.PrivateKeyFormats.{file_grammar}
+use Rattle.sshkey_private.specs.PrivateKeyGrammars.{file_alone}
+use Rattle.sshkey_private.specs.PrivateKeyTrees.{private_normal}
 use Rattle.sshkey_sshsig.specs.SshSignatureReaders.{ssh_signature_grammar, ssh_signature_normal}
 use Rattle.ssh_key.proofs.NormalForms.{normal_forms, plain_forms}
 use Rattle.ssh_key.proofs.laws.normal_forms.Goals as goal
@@ -76,13 +82,15 @@ pub returns-clause-certificates : goal.returns-clause-certificates
 returns-clause-certificates c = plain_forms certificate certificate_reads (λ c. plain_choices c.signed) (λ c _. plain_choices_have c.signed)
 
 pub returns-clause-ciphers : goal.returns-clause-ciphers
-returns-clause-ciphers c = normal_forms cipher_reads
+unfolding label_at
+returns-clause-ciphers c = normal_forms (checked_string_reads cipher_checks)
 
 pub returns-clause-kdf_names : goal.returns-clause-kdf_names
-returns-clause-kdf_names c = normal_forms kdf_algorithm_reads
+unfolding label_at
+returns-clause-kdf_names c = normal_forms (checked_string_reads kdf_algorithm_checks)
 
 pub returns-clause-kdfs : goal.returns-clause-kdfs
-returns-clause-kdfs c = normal_forms kdf_reads
+returns-clause-kdfs c = record { determine = determined kdf_grammar kdf_normal; again = read_back kdf_grammar kdf_normal }
 
 pub returns-clause-scalars : goal.returns-clause-scalars
 returns-clause-scalars c = λ size. plain_forms scalar (scalar_reads size) (λ _. LeadingZeros.Plain) (λ _ _. tt)
@@ -97,4 +105,4 @@ pub returns-clause-keypairs : goal.returns-clause-keypairs
 returns-clause-keypairs c = plain_forms keypair keypair_reads (λ _. plain_pair) (λ k _. plain_keypair_has k)
 
 pub returns-clause-private_keys : goal.returns-clause-private_keys
-returns-clause-private_keys c = plain_forms private_key private_key_reads (λ _. plain_private_key) (λ k _. plain_private_key_has k)
+returns-clause-private_keys c = record { determine = determined (file_grammar 8) private_normal; again = λ k is fits. file_alone 8 k (flat (normal_private_key k)) (private_normal k is fits) }

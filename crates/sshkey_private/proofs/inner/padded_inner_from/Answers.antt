@@ -2,7 +2,7 @@ use Rattle.std.proofs.Common.{◌%◌, ◌∙◌, ap, sym, ℕ, suc}
 use Rattle.std.proofs.lemmas.Result.{err_from_is_err_and}
 use Rattle.sshkey_keys.specs.Keys.{key_of}
 use Rattle.sshkey_base.proofs.Places.{later_then}
-use Rattle.sshkey_private.specs.Inner.{inner_of, inner_at, NeedsInner}
+use Rattle.sshkey_private.specs.Inner.{inner_of, inner_at, inner_format}
 use Rattle.sshkey_private.proofs.PaddedReaders.{not_whole, value_refused, padding_refused, padded_read, asks_padded}
 use Rattle.sshkey_private.proofs.inner.padded_inner_from.Goals as goal
 
@@ -17,7 +17,7 @@ returns-in_err-inner-clause-gives g c =
 pub returns-in_err-inner-clause-asks : goal.returns-in_err-inner-clause-asks
 returns-in_err-inner-clause-asks g c =
     let p = err_from_is_err_and c.from_residual.result c.from_residual.ensures.1 in
-    rw (p.1, p.2) (asks_padded (NeedsInner (key_of c.args.public.now)) (g.R.Reader.source c.args.reader.now) _ (sym (ap (λ (n : ℕ). n % 8) c.remaining_len.ensures) ∙ c.if-remaining_len-ne0.false) c.in_err-inner.ensures.asks)
+    rw (p.1, p.2) (asks_padded (inner_format (key_of c.args.public.now)).needs (g.R.Reader.source c.args.reader.now) _ (sym (ap (λ (n : ℕ). n % 8) c.remaining_len.ensures) ∙ c.if-remaining_len-ne0.false) c.in_err-inner.ensures.asks)
 
 pub returns-in_err-padding_from-clause-gives : goal.returns-in_err-padding_from-clause-gives
 returns-in_err-padding_from-clause-gives g c =

@@ -1,11 +1,11 @@
 use Rattle.sshkey_base.proofs.Judging.{judged}
 use Rattle.sshkey_base.specs.Causes.{cause}
 use Rattle.sshkey_pairs.specs.Keypairs.{pair_of}
-use Rattle.sshkey_pairs.specs.KeypairReaders.{keypair_data_at}
+use Rattle.sshkey_pairs.specs.KeypairFormats.{keypair_format}
 use Rattle.sshkey_keys.specs.Keys.{key_of}
 use Rattle.sshkey_private.specs.Inner.{half_of, pair_with_at}
 use Rattle.sshkey_private.proofs.inner.pair_from.Goals as goal
 
 pub returns-clause-gives : goal.returns-clause-gives
 unfolding pair_with_at
-returns-clause-gives g c = judged pair_of pair_of cause keypair_data_at (half_of (key_of c.args.public.now)) _ _ _ _ c.in_ok-pair.ensures.gives c.check_half.ensures.answers
+returns-clause-gives g c = judged pair_of pair_of cause keypair_format.read (half_of (key_of c.args.public.now)) _ _ _ _ c.in_ok-pair.ensures.gives c.check_half.ensures.answers

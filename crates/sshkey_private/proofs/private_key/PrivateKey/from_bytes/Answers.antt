@@ -3,13 +3,7 @@ use Rattle.sshkey_base.specs.Source.{all_of}
 use Rattle.sshkey_base.proofs.Accepted.{accepts_whole_by}
 use Rattle.sshkey_private.specs.PrivateKeys.{private_of}
 use Rattle.sshkey_private.specs.PrivateKeyGrammars.{private_key_format}
-use Rattle.sshkey_private.specs.PrivateKeyReaders.{steps_at, private_value_at}
-use Rattle.sshkey_private.specs.PrivateKeySteps.{steps_are}
-use Rattle.sshkey_private.proofs.KeyReaders.{same_whole}
 use Rattle.sshkey_private.proofs.private_key.PrivateKey.from_bytes.Goals as goal
 
-pub returns-clause-gives : goal.returns-clause-gives
-returns-clause-gives c = same_whole private_of cause (steps_at 8) private_value_at _ _ steps_are c.whole_key_from.ensures.gives
-
 pub returns-clause-accepts : goal.returns-clause-accepts
-returns-clause-accepts c = accepts_whole_by private_of cause private_key_format.grammar (all_of c.args.bytes.now) _ (returns-clause-gives c)
+returns-clause-accepts c = accepts_whole_by private_of cause private_key_format.grammar (all_of c.args.bytes.now) _ c.whole_key_from.ensures.gives

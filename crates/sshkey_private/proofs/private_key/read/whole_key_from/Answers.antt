@@ -8,7 +8,7 @@ use Rattle.sshkey_base.proofs.Steps.{refused_first}
 use Rattle.std.proofs.Common.{◌≡◌, ℕ, suc, Bool, true, false, cond, Result, Ok, Err, ◌∙◌, sym, ap, subst}
 use Rattle.sshkey_private.specs.declared.private_key.PrivateKey.{PrivateKey}
 use Rattle.sshkey_private.specs.PrivateKeys.{private_of, HasWrittenComment}
-use Rattle.sshkey_private.specs.PrivateKeyReaders.{steps_at}
+use Rattle.sshkey_private.specs.PrivateKeyFormats.{steps_at}
 use Rattle.sshkey_private.proofs.KeyReaders.{finished}
 use Rattle.sshkey_private.proofs.private_key.read.whole_key_from.Goals as goal
 

@@ -1,0 +1,6 @@
+use Rattle.sshkey_ciphers.specs.ChoiceTrees.{plain_alike}
+use Rattle.sshkey_ciphers.specs.KdfFormats.{kdf_tree}
+use Rattle.sshkey_ciphers.proofs.laws.spelled_kdf.Goals as goal
+
+pub returns : goal.returns
+returns c = plain_alike kdf_tree

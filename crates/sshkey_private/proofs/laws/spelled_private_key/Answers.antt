@@ -1,0 +1,6 @@
+use Rattle.sshkey_terms.proofs.Trees.{spelled_alike}
+use Rattle.sshkey_private.specs.PrivateKeyTrees.{private_key_tree}
+use Rattle.sshkey_private.proofs.laws.spelled_private_key.Goals as goal
+
+pub returns : goal.returns
+returns c = spelled_alike private_key_tree
