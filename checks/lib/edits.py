@@ -70,7 +70,7 @@ def written_out(path, block):
     word, _, names = block[0].partition(":")
     names = names.split() if word == "for" else []
     lines = block[1:] if word == "for" else block
-    turned = re.search(f"/(wrong|wrong-definitions)/(?:{MORE}/)?([^.]*)[.]edits$", path)
+    turned = re.search(rf"\bcrates/\w+/(wrong|wrong-definitions)/(?:{MORE}/)?([^.]*)[.]edits$", path)
     first = next((at for at, it in enumerate(lines) if it.startswith(("file:", "behind:", "old:"))), None)
     if turned and first is not None and not lines[first].startswith("file:"):
         file = f"src/{turned[2]}.rt" if turned[1] == "wrong" else f"specs/{turned[2]}.antt"
