@@ -51,9 +51,9 @@ class Kept:
 
     def keep(self, trial, path):
         """Keeps what passed there, if nothing that it was judged by has changed since, and that the part that a trial has without
-        those of wrong/more passed with it."""
+        those of wrong/more passed with it. Returns whether all passed and nothing changed."""
         if trial.failures or self.path(trial) != path:
-            return
+            return False
         passed = {path: trial.passed}
         if trial.plain:
             passed[self.path(trial.plain)] = len(trial.plain.blocks)
@@ -64,6 +64,7 @@ class Kept:
                     file.write(str(count))
         except OSError as error:
             print(f"{trial.crate.name}: what passed could not be kept: {error}", flush=True)
+        return True
 
 
 class Tried:
@@ -75,17 +76,12 @@ class Tried:
         with open(self.path, encoding="utf-8") as file:
             self.sums = dict(line.split() for line in file)
 
-    @staticmethod
-    def sum_of(trial):
-        files = [*sorted(trial.crate.sources()), *sorted(trial.files)]
-        return Kept.sum_of(files, trial.crate.folder)[:16]
-
     def has(self, trial):
-        return self.sums.get(trial.crate.name) == self.sum_of(trial)
+        return self.sums.get(trial.crate.name) == trial.sum
 
     def note(self, trials):
         """Writes down that all wrong bodies of these crates were refused."""
-        found = {**self.sums, **{it.crate.name: self.sum_of(it) for it in trials}}
+        found = {**self.sums, **{it.crate.name: it.sum for it in trials}}
         if found != self.sums:
             with open(self.path, "w", encoding="utf-8") as file:
                 file.writelines(f"{name} {found[name]}\n" for name in sorted(found))
