@@ -26,6 +26,7 @@ pub mod options
 pub mod to_be_signed
 pub mod cert
 pub mod cert_ref
+pub mod krl
 pub mod builder
 pub mod types
 pub mod NormalForms

@@ -26,3 +26,4 @@ pub mod known_hosts
 pub mod patterns
 pub mod private
 pub mod public
+pub mod revocation

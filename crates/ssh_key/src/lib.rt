@@ -15,6 +15,7 @@ pub mod laws;
 pub mod patterns;
 pub mod private;
 pub mod public;
+pub mod revocation;
 
 pub use sshkey_authorized_keys::AuthorizedKeys;
 pub use sshkey_base::{Algorithm, AlgorithmName, EcdsaCurve, Error, HashAlg, Mpint, Result};

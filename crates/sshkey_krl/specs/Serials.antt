@@ -47,13 +47,14 @@ abbrev pub is_negative : List ℕ → Bool
 is_negative [] = false
 is_negative (byte ∷ bytes) = nat_lt 127 byte
 
--- The number has at most 2,048 bytes, and all its bits stand for numbers below 2^64.
+-- The number has at most 2,048 bytes without zeros in front, and all its bits are for numbers below 2^64.
 abbrev pub fits : ℕ → List ℕ → Bool
 fits first number = nat_le (length number) 2048 && nat_le (first + bit_len number) (2 ^ 64)
 
--- The bytes are a number that is not negative, and its bits stand for numbers from 1 to 2^64 - 1.
+-- The bytes are a number that is not negative, at most 2,049 of them, and its bits are for numbers from
+-- 1 to 2^64 - 1.
 abbrev pub is_bitmap : ℕ → List ℕ → Bool
-is_bitmap first bytes = not (is_negative bytes) && fits first (significant bytes) && not (first == 0 && has_bit bytes 0)
+is_bitmap first bytes = nat_le (length bytes) 2049 && not (is_negative bytes) && fits first (significant bytes) && not (first == 0 && has_bit bytes 0)
 
 abbrev pub bitmap_from : ℕ × List ℕ → Result Serials Fault
 bitmap_from b = if is_bitmap b.0 b.1 then Ok (Bitmap b.0 b.1) else Err FormatEncoding

@@ -36,15 +36,16 @@ impl<'a> KrlRef<'a> {
     /// passes the bytes or a digest that is too short, `TrailingData` and the number of bytes after
     /// a value, and `FormatEncoding` for each of these: a section or a part of another number,
     /// signatures of a list among them; the serial number 0; a range that ends before it begins; a
-    /// bitmap that is negative, has more than 2,048 bytes, or has a bit for 0 or for a number above
-    /// 2^64 - 1; and a zero byte before the end of a text.
+    /// bitmap that is negative, has more than 2,048 bytes without one zero in front, or has a bit
+    /// for 0 or for a number above 2^64 - 1; and a zero byte before the end of a text.
     ///
     /// An authority is empty, for every key, or a key, and else the list fails as
     /// `KeyDataRef::from_bytes` does. An RSA key under the name `rsa-sha2-256` or `rsa-sha2-512`
-    /// counts as the one under `ssh-rsa`. ssh-keygen(1) rejects more lists: those whose authority
-    /// has a private-use name, is an RSA key below 1,024 bits, or is a point off its curve. Here
-    /// such an authority names itself alone. A zero byte at the end of the application of a
-    /// security key counts here, and not there.
+    /// counts as the one under `ssh-rsa`. ssh-keygen(1) rejects a list for the key of an authority
+    /// that it does not read: a private-use name, an RSA key below 1,024 or above 16,384 bits, a
+    /// negative number, a point that is compressed or off its curve, or a zero byte inside an
+    /// application. Here such an authority names itself alone. A zero byte at the end of an
+    /// application counts here, and not there.
     pub fn from_bytes(bytes: &'a [u8]) -> Result<KrlRef<'a>>
         ensures keeps { Keeps krl_bytes cause (whole krl_format.read bytes.now) bytes.now result }
         ensures accepts { AcceptsAll krl_of SpellsKrl bytes.now result }

@@ -1,8 +1,7 @@
 //! Key revocation lists, as ssh-keygen(1) writes and sshd(8) reads them (OpenSSH's PROTOCOL.krl).
 //!
 //! `KrlRef` reads a list in place and says which keys and certificates it revokes. It has no list
-//! that owns its bytes, writes none, and rejects the signatures of a list. No crate asks it yet,
-//! and it has not been compared with ssh-keygen(1).
+//! that owns its bytes, writes none, and rejects the signatures of a list.
 #![tactic(auto)]
 
 mod asked_key;

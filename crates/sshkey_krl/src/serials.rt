@@ -27,8 +27,8 @@ pub(crate) fn check_range(first: u64, last: u64) -> Result<()>
     Ok(())
 }
 
-/// Fails with `FormatEncoding` if the bytes are a negative number or one of more than 2,048 bytes,
-/// or if one of its bits stands for 0 or for a number above 2^64 - 1.
+/// Fails with `FormatEncoding` if the bytes are a negative number, if they are more than 2,048
+/// without one zero in front, or if one of its bits is for 0 or for a number above 2^64 - 1.
 pub(crate) fn check_bitmap(first: u64, bytes: &[u8]) -> Result<()>
     ensures { AnswersAlways (λ _. Bitmap first bytes.now) cause (bitmap_from (first, bytes.now))
         result }
@@ -55,7 +55,10 @@ pub(crate) fn has_bit(bytes: &[u8], place: u64) -> bool
 fn is_bitmap(first: u64, bytes: &[u8]) -> bool
     ensures { result ≡ is_bitmap first bytes.now }
 {
-    !is_negative(bytes) && fits(first, significant(bytes)) && !(first == 0 && has_bit(bytes, 0))
+    bytes.len() <= 2049
+        && !is_negative(bytes)
+        && fits(first, significant(bytes))
+        && !(first == 0 && has_bit(bytes, 0))
 }
 
 /// Whether the first bit is a one.

@@ -71,6 +71,11 @@ pub mod public {
     };
 }
 
+/// Revocation lists.
+pub mod revocation {
+    pub use ssh_key::revocation::KrlRef;
+}
+
 /// The laws.
 pub mod laws {
     pub use ssh_key::laws::apart;
@@ -138,6 +143,7 @@ pub mod laws {
     pub use ssh_key::laws::exact_private_key;
     pub use ssh_key::laws::exact_ssh_signature;
     pub use ssh_key::laws::fingerprint_texts;
+    pub use ssh_key::laws::joined_krls;
     pub use ssh_key::laws::key_fits;
     pub use ssh_key::laws::lines;
     pub use ssh_key::laws::lines_apart;
@@ -168,6 +174,7 @@ pub mod laws {
     pub use ssh_key::laws::one_key_line;
     pub use ssh_key::laws::one_key_options;
     pub use ssh_key::laws::one_known_host;
+    pub use ssh_key::laws::one_krl;
     pub use ssh_key::laws::one_options;
     pub use ssh_key::laws::one_signature;
     pub use ssh_key::laws::one_ssh_signature;

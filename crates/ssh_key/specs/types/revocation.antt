@@ -1,0 +1,1 @@
+pub use Rattle.sshkey_krl.specs.declared.krl_ref.KrlRef
