@@ -20,7 +20,7 @@ use Rattle.agent_codec.specs.declared.constraint.Constraint.TheVariants as varia
 use Rattle.agent_codec.specs.declared.constraint.kind.ConstraintKind.{ConstraintKind}
 use Rattle.agent_codec.specs.declared.constraint.kind.ConstraintKind.TheVariants as kinds
 
--- for so many seconds, only where the user confirms it, or what stands under a name
+-- for that many seconds, only where the user confirms it, or an extension with its name
 pub data Constraint : Type 0 where
   Lifetime : ℕ → Constraint
   Confirm : Constraint
@@ -49,7 +49,7 @@ kind_from n =
 abbrev pub kind_format : Format ConstraintKind
 kind_format = numbered kind_from
 
--- what stands behind the number
+-- what follows the number
 abbrev pub body_format : ConstraintKind → Format Constraint
 body_format kinds.Lifetime = tested (λ seconds. Ok (Lifetime seconds)) number32_format
 body_format kinds.Confirm = nothing_format Confirm

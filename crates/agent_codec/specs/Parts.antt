@@ -11,11 +11,12 @@ use Rattle.ssh_key.specs.base.Needs.{NoNeed}
 use Rattle.ssh_key.specs.base.Stops.{NoOverrun}
 use Rattle.ssh_key.specs.base.Lengths.{no_lengths}
 use Rattle.ssh_key.specs.format.Behind.{SpellsBoth, SpellsThen}
-use Rattle.ssh_key.specs.format.Terms.{IsMapped, boxed, called, tested}
+use Rattle.ssh_key.specs.format.Terms.{boxed, called, tested}
+pub use Rattle.ssh_key.specs.format.Terms.{checked_read}
 use Rattle.ssh_key.specs.format.Tested.{SpellsTested}
 use Rattle.ssh_key.specs.model.Grammar.{IsGrammar}
 use Rattle.ssh_key.specs.model.Parts.{Parts, ◌&◌, box, flat, number, Fits}
-use Rattle.ssh_key.specs.model.Reading.{Fault, Front, checked_at}
+use Rattle.ssh_key.specs.model.Reading.{Fault, Front}
 use Rattle.ssh_key.proofs.CombinedReaders.{fits_first, fits_inside, fits_length, fits_second, ok_is}
 use Rattle.ssh_key.proofs.Writing.{length_number8}
 
@@ -36,12 +37,7 @@ nothing_grammar {A} value = record {
 abbrev pub nothing_format : {A : Type 0} → A → Format A
 nothing_format value = record { Spells = SpellsNothing value; read = nothing_at value; needs = NoNeed; overruns = NoOverrun; grammar = by_itself (nothing_grammar value); lengths = no_lengths (nothing_at value) }
 
--- ---- a value that another form is made of
-
-pub checked_read : {A B : Type 0} (test : A → Result B Fault) (read : Front A) → IsMapped (checked_at test read) test read
-checked_read test read = record { same = λ b. refl }
-
--- ---- what is written of two values, one behind the other
+-- ---- what is written of two values, one after the other
 
 pub both_spelled : {A B : Type 0} (f : Format A) (all : AllEnd f.grammar) (T : B → List ℕ → Type 0) (x : A) (y : B) (p q : Parts) → (Fits p → f.Spells x (flat p)) → (Fits q → T y (flat q)) → Fits (p & q) → SpellsBoth f.Spells f.grammar.delimited_at T (x, y) (flat (p & q))
 unfolding flat
@@ -92,7 +88,7 @@ module _ {K M : Type 0} (kind_from : ℕ → Result K Fault) (Body : K → M →
         makes = refl;
       }
 
-  -- nothing stands behind it
+  -- nothing follows it
   pub number_alone : (n : ℕ) (k : K) (m : M) → kind_from n ≡ Ok k → Body k m [] → Fits (number w8 n) → SpellsNumbered m (flat (number w8 n))
   number_alone n k m is second fits = record {
     inner = (k, m);

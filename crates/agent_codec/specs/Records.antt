@@ -4,7 +4,7 @@ use Rattle.std.proofs.Common.{◌≡◌, ℕ, List, Option, Result, Ok, Err, tru
 use Rattle.std.specs.Int.{w32}
 use Rattle.ssh_key.specs.base.Formats.{Format, number32_format, string_format}
 use Rattle.ssh_key.specs.base.Leaves.{SpellsNumber32, SpellsString, number32_normal, string_normal}
-use Rattle.ssh_key.specs.format.Terms.{◌then◌, IsMapped, tested}
+use Rattle.ssh_key.specs.format.Terms.{◌then◌, tested}
 use Rattle.ssh_key.specs.keypairs.KeypairFormats.{keypair_format}
 use Rattle.ssh_key.specs.keypairs.Keypairs.{keypair_parts, pair_of}
 use Rattle.ssh_key.specs.keypairs.NormalPairs.{IsWellFormedPair, keypair_normal}
@@ -58,7 +58,7 @@ sign_request_of_parts a = Ok (record { key = a.0; message = a.1.0; flags = a.1.1
 abbrev pub sign_request_format : Format SignRequest
 sign_request_format = tested sign_request_of_parts (string_format then string_format then number32_format)
 
--- ---- a pair that is added: behind its name, and its comment (section 4.2)
+-- ---- a pair that is added, after its name, and its comment (section 4.2)
 
 pub record Addition : Type 0 where
   pub pair : Option KeyPair
@@ -90,15 +90,6 @@ abbrev pub IsWellFormedAddition : code_addition.Addition → Type 0
 IsWellFormedAddition a = IsWellFormedPair (pair_of a.keypair)
 
 -- ---- what is proved of them
-
-pub identity_parts_read : IsMapped identity_format.read identity_of_parts (string_format then string_format).read
-identity_parts_read = record { same = λ b. refl }
-
-pub sign_request_parts_read : IsMapped sign_request_format.read sign_request_of_parts (string_format then string_format then number32_format).read
-sign_request_parts_read = record { same = λ b. refl }
-
-pub addition_parts_read : IsMapped addition_format.read addition_of_parts (keypair_format then string_format).read
-addition_parts_read = record { same = λ b. refl }
 
 pub identity_normal : (i : Identity) → Fits (identity i) → identity_format.Spells i (flat (identity i))
 identity_normal i fits = record {

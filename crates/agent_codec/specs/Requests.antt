@@ -48,15 +48,19 @@ constrained a cs = number w8 25 & addition a & each constraint cs
 abbrev pub to_sign : SignRequest → Parts
 to_sign r = number w8 13 & sign_request r
 
+-- the message of that number that holds a string
+abbrev pub string_message : ℕ → List ℕ → Parts
+string_message n bytes = number w8 n & string bytes
+
 -- the number, and what it holds
 abbrev pub request : code.Request → Parts
 request variants.RequestIdentities = number w8 11
 request (variants.SignRequest r) = to_sign (sign_request_of r)
 request (variants.AddIdentity a) = number w8 17 & addition a
-request (variants.RemoveIdentity key) = number w8 18 & string key
+request (variants.RemoveIdentity key) = string_message 18 key
 request variants.RemoveAllIdentities = number w8 19
-request (variants.Lock passphrase) = number w8 22 & string passphrase
-request (variants.Unlock passphrase) = number w8 23 & string passphrase
+request (variants.Lock passphrase) = string_message 22 passphrase
+request (variants.Unlock passphrase) = string_message 23 passphrase
 request (variants.AddIdentityConstrained a cs) = constrained a cs.items
 
 -- ---- as a format
@@ -73,9 +77,13 @@ kind_from n =
     else if n == 25 then Ok kinds.AddIdentityConstrained
     else Err FormatEncoding
 
--- ---- what stands behind the number
+-- ---- what follows the number
 
--- constraints stand up to the end of the frame
+-- a string, and the request that it makes
+abbrev pub string_body : (List ℕ → Request) → Format Request
+string_body make = tested (λ bytes. Ok (make bytes)) string_format
+
+-- constraints go up to the end of the frame
 abbrev pub constrained_body : Format Request
 constrained_body = tested (λ a. Ok (AddConstrained a.0 a.1)) (addition_format then constraints)
 
@@ -83,10 +91,10 @@ abbrev pub body : RequestKind → Format Request
 body kinds.RequestIdentities = nothing_format Identities
 body kinds.SignRequest = tested (λ r. Ok (Sign r)) sign_request_format
 body kinds.AddIdentity = tested (λ a. Ok (Add a)) addition_format
-body kinds.RemoveIdentity = tested (λ key. Ok (Remove key)) string_format
+body kinds.RemoveIdentity = string_body Remove
 body kinds.RemoveAllIdentities = nothing_format RemoveAll
-body kinds.Lock = tested (λ passphrase. Ok (Lock passphrase)) string_format
-body kinds.Unlock = tested (λ passphrase. Ok (Unlock passphrase)) string_format
+body kinds.Lock = string_body Lock
+body kinds.Unlock = string_body Unlock
 body kinds.AddIdentityConstrained = constrained_body
 
 -- a request in its frame
@@ -115,6 +123,9 @@ IsWellFormed (variants.Lock passphrase) = Unit {0}
 IsWellFormed (variants.Unlock passphrase) = Unit {0}
 IsWellFormed (variants.AddIdentityConstrained a cs) = IsWellFormedAddition a × AllByRecursion IsWellFormedConstraint cs.items
 
+string_spelled : (make : List ℕ → Request) (bytes : List ℕ) → Fits (string bytes) → (string_body make).Spells (make bytes) (flat (string bytes))
+string_spelled make bytes fits = record { inner = bytes; spelled = string_normal bytes tt fits; makes = refl }
+
 abbrev SpellsBody : RequestKind → Request → List ℕ → Type 0
 SpellsBody k = (body k).Spells
 
@@ -122,10 +133,10 @@ message_normal : (r : code.Request) → IsWellFormed r → Fits (request r) → 
 message_normal variants.RequestIdentities is fits = number_alone kind_from SpellsBody 11 kinds.RequestIdentities Identities refl (refl, refl) fits
 message_normal (variants.SignRequest r) is fits = after_number kind_from SpellsBody 13 kinds.SignRequest (Sign (sign_request_of r)) (sign_request (sign_request_of r)) refl (λ f. record { inner = sign_request_of r; spelled = sign_request_normal (sign_request_of r) f; makes = refl }) fits
 message_normal (variants.AddIdentity a) is fits = after_number kind_from SpellsBody 17 kinds.AddIdentity (Add (addition_of a)) (addition a) refl (λ f. record { inner = addition_of a; spelled = addition_normal a is f; makes = refl }) fits
-message_normal (variants.RemoveIdentity key) is fits = after_number kind_from SpellsBody 18 kinds.RemoveIdentity (Remove key) (string key) refl (λ f. record { inner = key; spelled = string_normal key tt f; makes = refl }) fits
+message_normal (variants.RemoveIdentity key) is fits = after_number kind_from SpellsBody 18 kinds.RemoveIdentity (Remove key) (string key) refl (string_spelled Remove key) fits
 message_normal variants.RemoveAllIdentities is fits = number_alone kind_from SpellsBody 19 kinds.RemoveAllIdentities RemoveAll refl (refl, refl) fits
-message_normal (variants.Lock passphrase) is fits = after_number kind_from SpellsBody 22 kinds.Lock (Lock passphrase) (string passphrase) refl (λ f. record { inner = passphrase; spelled = string_normal passphrase tt f; makes = refl }) fits
-message_normal (variants.Unlock passphrase) is fits = after_number kind_from SpellsBody 23 kinds.Unlock (Unlock passphrase) (string passphrase) refl (λ f. record { inner = passphrase; spelled = string_normal passphrase tt f; makes = refl }) fits
+message_normal (variants.Lock passphrase) is fits = after_number kind_from SpellsBody 22 kinds.Lock (Lock passphrase) (string passphrase) refl (string_spelled Lock passphrase) fits
+message_normal (variants.Unlock passphrase) is fits = after_number kind_from SpellsBody 23 kinds.Unlock (Unlock passphrase) (string passphrase) refl (string_spelled Unlock passphrase) fits
 message_normal (variants.AddIdentityConstrained a cs) is fits = after_number kind_from SpellsBody 25 kinds.AddIdentityConstrained (AddConstrained (addition_of a) (map constraint_of cs.items)) (addition a & each constraint cs.items) refl (λ f. record {
   inner = (addition_of a, map constraint_of cs.items);
   spelled = both_spelled addition_format (λ b. refl) constraints.Spells (addition_of a) (map constraint_of cs.items) (addition a) (each constraint cs.items) (addition_normal a is.0) (constraints_normal cs.items is.1) f;

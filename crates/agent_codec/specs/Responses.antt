@@ -44,7 +44,7 @@ given_of variants.Success = None
 given_of (variants.IdentitiesAnswer keys) = None
 given_of (variants.SignResponse g) = Some g
 
--- the keys, behind their number
+-- the keys, after their number
 abbrev pub answer : List code_identity.Identity → Parts
 answer keys = counted (λ i. identity (identity_of i)) keys
 
@@ -76,7 +76,7 @@ kind_from n =
     else if n == 14 then Ok kinds.SignResponse
     else Err FormatEncoding
 
--- what stands behind the number
+-- what follows the number
 abbrev pub body : ResponseKind → Format Response
 body kinds.Failure = nothing_format Failure
 body kinds.Success = nothing_format Success

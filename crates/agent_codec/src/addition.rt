@@ -57,7 +57,7 @@ impl Addition {
 /// after the certificate's name, as of an ECDSA key, it is read as a pair under that name, so an
 /// agent answers `Response::Failure` where `Algorithm::from_fixed_certificate_name` knows the name.
 /// Where there are more, bytes are left over, and reading the request fails.
-#[tactic(auto, using(ssh_key::proofs::Mapped::mapped, crate::specs::Records::addition_parts_read))]
+#[tactic(auto, using(ssh_key::proofs::Mapped::mapped, crate::specs::Parts::checked_read))]
 impl Decode for Addition {
     ghost use Rattle.agent_codec.specs.Records as model;
     ghost use Rattle.agent_codec.specs.Records.{addition_format, addition_of};

@@ -6,7 +6,6 @@ ghost use Rattle.ssh_key.specs.base.Formats.{Stops};
 ghost use Rattle.ssh_key.specs.base.Needs.{Asks};
 ghost use Rattle.ssh_key.specs.base.Reading.{Gives};
 ghost use Rattle.ssh_key.specs.base.Source.{Later};
-ghost use Rattle.agent_codec.specs.declared.constraint.kind.ConstraintKind.TheVariants as kinds;
 ghost use Rattle.agent_codec.specs.Constraints as model;
 ghost use Rattle.agent_codec.specs.Constraints.{IsWellFormedConstraint, body_format, constraint, constraint_format, constraint_normal, constraint_of};
 
@@ -24,7 +23,7 @@ use std::alloc::Global;
 /// A limit on the use of a key that an agent is given (draft-miller-ssh-agent, section 4.2.6).
 #[derive(Drop)]
 pub enum Constraint {
-    /// Forget the key after so many seconds.
+    /// Forget the key after that many seconds.
     Lifetime(u32),
     /// Ask the user before each signature.
     Confirm,
@@ -62,8 +61,7 @@ impl Decode for Constraint {
     }
 }
 
-/// What stands after the number of a constraint of that kind.
-#[tactic(auto, using(ssh_key::proofs::Places::places, ssh_key::proofs::Mapped::mapped, crate::specs::Parts::checked_read, crate::proofs::Frames::nothing_reads))]
+/// What follows the number of a constraint of that kind.
 fn constraint_from<R: Reader>(
     alloc: Global,
     reader: &mut R,
@@ -81,21 +79,11 @@ fn constraint_from<R: Reader>(
             Ok(Constraint::Lifetime(seconds))
         }
         ConstraintKind::Confirm => Ok(Constraint::Confirm),
-        ConstraintKind::Extension => extension_from(alloc, reader),
+        ConstraintKind::Extension => {
+            let Wide(Then(name, details)) = Wide::<Then<Text, Bytes>>::decode(alloc, reader)?;
+            Ok(Constraint::Extension { name, details })
+        }
     }
-}
-
-/// The name and the details.
-#[tactic(auto, using(ssh_key::proofs::Mapped::mapped, crate::specs::Parts::checked_read))]
-fn extension_from<R: Reader>(alloc: Global, reader: &mut R) -> Result<Constraint>
-    ensures gives { Gives constraint_of cause (body_format kinds.Extension).read
-        (R.source reader.old) result (R.source reader.new) }
-    ensures later { Later (R.source reader.old) (R.source reader.new) }
-    ensures asks { Asks cause (body_format kinds.Extension).needs (R.source reader.old) result }
-    ensures past { Stops cause (body_format kinds.Extension) (R.source reader.old) result }
-{
-    let Wide(Then(name, details)) = Wide::<Then<Text, Bytes>>::decode(alloc, reader)?;
-    Ok(Constraint::Extension { name, details })
 }
 
 /// Fails with `Length` where a string of an extension is too long.

@@ -17,7 +17,7 @@ use ssh_key::encoding::{Encode, Reader, Writer, both_len, u32_of};
 use ssh_key::{Result, encoding};
 use std::alloc::Global;
 
-/// A message, which stands in a frame: its number, and what that calls for.
+/// A message in a frame: its number, and what that calls for.
 pub(crate) trait Framed: Sized {
     /// What its number stands for.
     type Kind: Kind;
@@ -28,13 +28,13 @@ pub(crate) trait Framed: Sized {
     /// The meaning of a message.
     ghost means: { Self → Meaning };
 
-    /// What stands after the number, to the end of the frame.
+    /// What follows the number, to the end of the frame.
     ghost body: { Self.Kind → Format Meaning };
 
-    /// What stands in the frame, as it is written.
+    /// The contents of the frame, as they are written.
     ghost message: { Self → Parts };
 
-    /// Reads what stands after a number of that kind, up to the end of the reader.
+    /// Reads what follows a number of that kind, up to the end of the reader.
     fn body_from<R: Reader>(alloc: Global, reader: &mut R, kind: Self::Kind) -> Result<Self>
         ensures gives { Gives means cause (body kind).read
             (R.source reader.old) result (R.source reader.new) }
@@ -42,12 +42,12 @@ pub(crate) trait Framed: Sized {
         ensures asks { Asks cause (body kind).needs (R.source reader.old) result }
         ensures past { Stops cause (body kind) (R.source reader.old) result };
 
-    /// How many bytes stand in the frame. Fails with `Length` exactly if it can't hold them, or a
+    /// How many bytes are in the frame. Fails with `Length` exactly if it can't hold them, or a
     /// string in them is too long.
     fn message_len(&self) -> encoding::Result<u32>
         ensures { MeasuresBoxed (message self.now) result };
 
-    /// Writes what stands in the frame.
+    /// Writes the contents of the frame.
     fn encode_message<W: Writer>(&self, writer: &mut W) -> encoding::Result<()>
         ensures { Encodes W.fault (message self.now)
             (W.sink writer.old) result (W.sink writer.new) };
@@ -75,7 +75,7 @@ pub(crate) fn encode_frame<M: Framed, W: Writer>(
     message.encode_message(writer)
 }
 
-/// How many bytes a message has that is its number and what stands after it. Fails with `Length`
+/// How many bytes a message has that is its number and what follows it. Fails with `Length`
 /// exactly if a frame can't hold them, or a box in them is too long.
 pub(crate) fn message_len<A: Encode, B: Encode>(number: &A, body: &B) -> encoding::Result<u32>
     requires { A.max_len + B.max_len < 2 ^ 64 }

@@ -20,7 +20,7 @@ pub struct Identity {
 }
 
 /// Two strings.
-#[tactic(auto, using(ssh_key::proofs::Mapped::mapped, crate::specs::Records::identity_parts_read))]
+#[tactic(auto, using(ssh_key::proofs::Mapped::mapped, crate::specs::Parts::checked_read))]
 impl Decode for Identity {
     type Error = Error;
 

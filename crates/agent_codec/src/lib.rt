@@ -1,7 +1,7 @@
 //! The messages of an SSH agent: what a client asks, and what the agent answers
 //! (draft-miller-ssh-agent, section 4).
 //!
-//! A message stands in a frame, a length of four bytes before it. It names `ssh_key` alone, and is
+//! A message is in a frame, with a length of four bytes before it. It names `ssh_key` alone, and is
 //! proved from its contracts. Copy it.
 #![tactic(auto)]
 

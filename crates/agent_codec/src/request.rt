@@ -7,7 +7,6 @@ ghost use Rattle.agent_codec.specs.Requests.{IsWellFormed, body, request, reques
 
 mod constrained;
 mod kind;
-mod read;
 
 use crate::addition::Addition;
 use crate::constraint::Constraint;
@@ -17,12 +16,9 @@ use crate::numbers::{
     UNLOCK,
 };
 use crate::sign_request::SignRequest;
-use constrained::{constrained_len, encode_constrained};
+use constrained::{constrained_from, constrained_len, encode_constrained};
 use kind::RequestKind;
-use read::{
-    addition_from, constrained_from, lock_from, removal_from, sign_request_from, unlock_from,
-};
-use ssh_key::encoding::{Bytes, Decode, Encode, NormalForm, Reader, Writer, encode_both};
+use ssh_key::encoding::{Bytes, Decode, Encode, NormalForm, Reader, Wide, Writer, encode_both};
 use ssh_key::{Error, Result, encoding};
 use std::alloc::Global;
 
@@ -78,7 +74,7 @@ impl Drop for Request {
 /// Fails with `Length` where a stated length passes what is left, unless memory ran out for a value
 /// before it, with `TrailingData` where bytes of the frame are left over, with `FormatEncoding` for
 /// the number of no request, and with the errors of what it holds. Such a length allocates nothing.
-/// Constraints stand up to the end of the frame, so bytes after them are read as one more.
+/// Constraints go up to the end of the frame, so bytes after them are read as one more.
 impl Decode for Request {
     type Error = Error;
 
@@ -126,16 +122,30 @@ impl Framed for Request {
 
     ghost message = { request };
 
-    #[tactic(auto, using(ssh_key::proofs::Places::places, crate::proofs::Frames::nothing_reads))]
     fn body_from<R: Reader>(alloc: Global, reader: &mut R, kind: RequestKind) -> Result<Request> {
         match kind {
             RequestKind::RequestIdentities => Ok(Request::RequestIdentities),
-            RequestKind::SignRequest => sign_request_from(alloc, reader),
-            RequestKind::AddIdentity => addition_from(alloc, reader),
-            RequestKind::RemoveIdentity => removal_from(alloc, reader),
+            RequestKind::SignRequest => {
+                let request = SignRequest::decode(alloc, reader)?;
+                Ok(Request::SignRequest(request))
+            }
+            RequestKind::AddIdentity => {
+                let addition = Addition::decode(alloc, reader)?;
+                Ok(Request::AddIdentity(addition))
+            }
+            RequestKind::RemoveIdentity => {
+                let Wide(key) = Wide::<Bytes>::decode(alloc, reader)?;
+                Ok(Request::RemoveIdentity(key))
+            }
             RequestKind::RemoveAllIdentities => Ok(Request::RemoveAllIdentities),
-            RequestKind::Lock => lock_from(alloc, reader),
-            RequestKind::Unlock => unlock_from(alloc, reader),
+            RequestKind::Lock => {
+                let Wide(passphrase) = Wide::<Bytes>::decode(alloc, reader)?;
+                Ok(Request::Lock(passphrase))
+            }
+            RequestKind::Unlock => {
+                let Wide(passphrase) = Wide::<Bytes>::decode(alloc, reader)?;
+                Ok(Request::Unlock(passphrase))
+            }
             RequestKind::AddIdentityConstrained => constrained_from(alloc, reader),
         }
     }

@@ -1,14 +1,8 @@
 //! What an agent answers.
 
 ghost use Rattle.std.specs.Prelude.{◌≡◌, ◌+◌, ◌^◌};
-ghost use Rattle.ssh_key.specs.base.Causes.{cause};
-ghost use Rattle.ssh_key.specs.base.Formats.{Stops};
-ghost use Rattle.ssh_key.specs.base.Needs.{Asks};
-ghost use Rattle.ssh_key.specs.base.Reading.{Gives};
 ghost use Rattle.ssh_key.specs.base.Sink.{Encodes, MeasuresBoxed};
-ghost use Rattle.ssh_key.specs.base.Source.{Later};
 ghost use Rattle.ssh_key.specs.model.Parts.{box};
-ghost use Rattle.agent_codec.specs.declared.response.kind.ResponseKind.TheVariants as kinds;
 ghost use Rattle.agent_codec.specs.Responses as model;
 ghost use Rattle.agent_codec.specs.Responses.{IsWellFormed, answered, body, given, given_of, response, response_format, response_normal, response_of};
 
@@ -114,13 +108,18 @@ impl Framed for Response {
 
     ghost message = { response };
 
-    #[tactic(auto, using(ssh_key::proofs::Places::places, crate::proofs::Frames::nothing_reads))]
     fn body_from<R: Reader>(alloc: Global, reader: &mut R, kind: ResponseKind) -> Result<Response> {
         match kind {
             ResponseKind::Failure => Ok(Response::Failure),
             ResponseKind::Success => Ok(Response::Success),
-            ResponseKind::IdentitiesAnswer => answer_from(alloc, reader),
-            ResponseKind::SignResponse => signed_from(alloc, reader),
+            ResponseKind::IdentitiesAnswer => {
+                let Wide(Counted(identities)) = Wide::<Counted<Identity>>::decode(alloc, reader)?;
+                Ok(Response::IdentitiesAnswer(identities))
+            }
+            ResponseKind::SignResponse => {
+                let Boxed(signature) = Boxed::<Signature>::decode(alloc, reader)?;
+                Ok(Response::SignResponse(signature))
+            }
         }
     }
 
@@ -175,30 +174,4 @@ fn encode_signed<W: Writer>(signature: &Signature, writer: &mut W) -> encoding::
 {
     SIGN_RESPONSE.encode(writer)?;
     signature.encode_prefixed(writer)
-}
-
-/// The keys, after their number.
-#[tactic(auto, using(ssh_key::proofs::Mapped::mapped, crate::specs::Parts::checked_read))]
-fn answer_from<R: Reader>(alloc: Global, reader: &mut R) -> Result<Response>
-    ensures gives { Gives response_of cause (body kinds.IdentitiesAnswer).read
-        (R.source reader.old) result (R.source reader.new) }
-    ensures later { Later (R.source reader.old) (R.source reader.new) }
-    ensures asks { Asks cause (body kinds.IdentitiesAnswer).needs (R.source reader.old) result }
-    ensures past { Stops cause (body kinds.IdentitiesAnswer) (R.source reader.old) result }
-{
-    let Wide(Counted(identities)) = Wide::<Counted<Identity>>::decode(alloc, reader)?;
-    Ok(Response::IdentitiesAnswer(identities))
-}
-
-/// The signature, in a string.
-#[tactic(auto, using(ssh_key::proofs::Mapped::mapped, crate::specs::Parts::checked_read))]
-fn signed_from<R: Reader>(alloc: Global, reader: &mut R) -> Result<Response>
-    ensures gives { Gives response_of cause (body kinds.SignResponse).read
-        (R.source reader.old) result (R.source reader.new) }
-    ensures later { Later (R.source reader.old) (R.source reader.new) }
-    ensures asks { Asks cause (body kinds.SignResponse).needs (R.source reader.old) result }
-    ensures past { Stops cause (body kinds.SignResponse) (R.source reader.old) result }
-{
-    let Boxed(signature) = Boxed::<Signature>::decode(alloc, reader)?;
-    Ok(Response::SignResponse(signature))
 }

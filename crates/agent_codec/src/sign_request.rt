@@ -22,7 +22,7 @@ pub struct SignRequest {
 }
 
 /// Two strings and a number.
-#[tactic(auto, using(ssh_key::proofs::Mapped::mapped, crate::specs::Records::sign_request_parts_read))]
+#[tactic(auto, using(ssh_key::proofs::Mapped::mapped, crate::specs::Parts::checked_read))]
 impl Decode for SignRequest {
     type Error = Error;
 

@@ -1,6 +1,6 @@
 use Rattle.std.proofs.lemmas.Result.{err_from_is_err_and}
 use Rattle.ssh_key.proofs.Writing.{boxes_inside}
-use Rattle.agent_codec.proofs.Frames.{behind_number, second_past}
+use Rattle.agent_codec.proofs.Frames.{number_measured, second_past}
 use Rattle.agent_codec.proofs.response.answer_len.Goals as goal
 
 pub returns-in_err-counted_len : goal.returns-in_err-counted_len
@@ -10,4 +10,4 @@ returns-in_err-counted_len c =
     rw (p.1, p.2) (second_past _ _ m.0, m.1)
 
 pub returns : goal.returns
-returns c = let m = c.in_ok-counted_len.ensures in behind_number 12 _ _ _ (boxes_inside _ m.0, m.1) c.u32_of.ensures
+returns c = let m = c.in_ok-counted_len.ensures in number_measured 12 _ _ _ (boxes_inside _ m.0, m.1) c.u32_of.ensures

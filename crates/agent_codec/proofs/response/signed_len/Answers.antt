@@ -1,5 +1,5 @@
 use Rattle.std.proofs.lemmas.Result.{err_from_is_err_and}
-use Rattle.agent_codec.proofs.Frames.{behind_number, second_misfit}
+use Rattle.agent_codec.proofs.Frames.{number_measured, second_misfit}
 use Rattle.agent_codec.proofs.response.signed_len.Goals as goal
 
 pub returns-in_err-encoded_len_prefixed : goal.returns-in_err-encoded_len_prefixed
@@ -9,4 +9,4 @@ returns-in_err-encoded_len_prefixed c =
     rw (p.1, p.2) (second_misfit _ _ m.0, m.1)
 
 pub returns : goal.returns
-returns c = behind_number 14 _ _ _ c.in_ok-encoded_len_prefixed.ensures.measures c.u32_of.ensures
+returns c = number_measured 14 _ _ _ c.in_ok-encoded_len_prefixed.ensures.measures c.u32_of.ensures

@@ -1,8 +1,12 @@
 use Rattle.std.proofs.Common.{refl}
+use Rattle.ssh_key.specs.counted.Counted.{counted_format}
+use Rattle.ssh_key.specs.format.Terms.{boxed}
+use Rattle.ssh_key.specs.keys.KeyFormats.{signature_format}
 use Rattle.ssh_key.proofs.Places.{later_none}
-use Rattle.agent_codec.specs.Responses.{Failure, Success, response_of}
+use Rattle.agent_codec.specs.Records.{identity_format}
+use Rattle.agent_codec.specs.Responses.{Failure, Identities, Signed, Success, response_of}
 use Rattle.agent_codec.specs.declared.response.Response.TheVariants as responses
-use Rattle.agent_codec.proofs.Frames.{nothing_reads}
+use Rattle.agent_codec.proofs.Frames.{held_reads, held_refused, nothing_reads}
 use Rattle.agent_codec.proofs.response.ResponseFramed.body_from.Goals as goal
 
 pub returns-in-Failure : goal.returns-in-Failure
@@ -11,8 +15,24 @@ returns-in-Failure g c = rw c.in-Failure.is (record { gives = nothing_reads resp
 pub returns-in-Success : goal.returns-in-Success
 returns-in-Success g c = rw c.in-Success.is (record { gives = nothing_reads response_of Success responses.Success _ refl; later = later_none _; asks = tt; past = tt })
 
-pub returns-in-IdentitiesAnswer : goal.returns-in-IdentitiesAnswer
-returns-in-IdentitiesAnswer g c = let e = c.answer_from.ensures in rw c.in-IdentitiesAnswer.is (record { gives = e.gives; later = e.later; asks = e.asks; past = e.past })
+pub returns-in_err-identities-in-IdentitiesAnswer : goal.returns-in_err-identities-in-IdentitiesAnswer
+returns-in_err-identities-in-IdentitiesAnswer g c =
+    let e = c.in_err-identities-in-IdentitiesAnswer.ensures in
+    let h = held_refused (counted_format identity_format) Identities response_of _ _ _ _ c.from_residual.ensures.1 e.gives e.asks e.past in
+    rw c.in-IdentitiesAnswer.is (record { gives = h.0; later = e.later; asks = h.1; past = h.2 })
 
-pub returns-in-SignResponse : goal.returns-in-SignResponse
-returns-in-SignResponse g c = let e = c.signed_from.ensures in rw c.in-SignResponse.is (record { gives = e.gives; later = e.later; asks = e.asks; past = e.past })
+pub returns-in_ok-identities-in-IdentitiesAnswer : goal.returns-in_ok-identities-in-IdentitiesAnswer
+returns-in_ok-identities-in-IdentitiesAnswer g c =
+    let e = c.in_ok-identities-in-IdentitiesAnswer.ensures in
+    rw c.in-IdentitiesAnswer.is (record { gives = held_reads (counted_format identity_format) Identities response_of _ _ _ _ _ e.gives refl; later = e.later; asks = tt; past = tt })
+
+pub returns-in_err-signature-in-SignResponse : goal.returns-in_err-signature-in-SignResponse
+returns-in_err-signature-in-SignResponse g c =
+    let e = c.in_err-signature-in-SignResponse.ensures in
+    let h = held_refused (boxed signature_format) Signed response_of _ _ _ _ c.from_residual-in_err-signature-in-SignResponse.ensures.1 e.gives e.asks e.past in
+    rw c.in-SignResponse.is (record { gives = h.0; later = e.later; asks = h.1; past = h.2 })
+
+pub returns-in_ok-signature-in-SignResponse : goal.returns-in_ok-signature-in-SignResponse
+returns-in_ok-signature-in-SignResponse g c =
+    let e = c.in_ok-signature-in-SignResponse.ensures in
+    rw c.in-SignResponse.is (record { gives = held_reads (boxed signature_format) Signed response_of _ _ _ _ _ e.gives refl; later = e.later; asks = tt; past = tt })

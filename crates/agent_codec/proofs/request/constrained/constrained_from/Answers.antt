@@ -8,7 +8,7 @@ use Rattle.ssh_key.proofs.Stopping.{mapped_stopped, stopped_first, stopped_later
 use Rattle.agent_codec.specs.Constraints.{constraint_of, constraints, has_bytes}
 use Rattle.agent_codec.specs.Records.{addition_format, addition_of}
 use Rattle.agent_codec.specs.Requests.{constrained_ends, constrained_read, request_of}
-use Rattle.agent_codec.proofs.request.read.constrained_from.Goals as goal
+use Rattle.agent_codec.proofs.request.constrained.constrained_from.Goals as goal
 
 pub returns-in_err-addition-clause-gives : goal.returns-in_err-addition-clause-gives
 returns-in_err-addition-clause-gives g c =
