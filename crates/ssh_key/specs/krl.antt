@@ -4,3 +4,4 @@ pub use Rattle.sshkey_krl.specs.Parts
 pub use Rattle.sshkey_krl.specs.Sections
 pub use Rattle.sshkey_krl.specs.Krls
 pub use Rattle.sshkey_krl.specs.KrlRef
+pub use Rattle.sshkey_krl.specs.Revocations

@@ -6,3 +6,4 @@ pub mod Sections
 pub mod Krls
 pub mod Asked
 pub mod KrlRef
+pub mod Revocations

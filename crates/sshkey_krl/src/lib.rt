@@ -13,8 +13,10 @@ pub mod laws;
 mod numbered;
 mod part;
 mod question;
+mod revocations;
 mod section;
 mod serials;
 mod text;
 
 pub use krl_ref::KrlRef;
+pub use revocations::{NoRevocations, Revocations};

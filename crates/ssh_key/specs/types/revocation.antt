@@ -1,1 +1,2 @@
 pub use Rattle.sshkey_krl.specs.declared.krl_ref.KrlRef
+pub use Rattle.sshkey_krl.specs.declared.revocations.NoRevocations

@@ -73,7 +73,7 @@ pub mod public {
 
 /// Revocation lists.
 pub mod revocation {
-    pub use ssh_key::revocation::KrlRef;
+    pub use ssh_key::revocation::{KrlRef, NoRevocations, Revocations};
 }
 
 /// The laws.

@@ -1,0 +1,185 @@
+//! Who says what is revoked.
+
+ghost use Rattle.std.specs.List.{list_any};
+ghost use Rattle.std.specs.Prelude.{◌≡◌, ℕ, Bool, false, IfOk, List};
+ghost use Rattle.sshkey_cert.specs.CertificateValues.{certificate_of};
+ghost use Rattle.sshkey_keys.specs.Keys.{key_of};
+ghost use Rattle.sshkey_krl.specs.KrlRef.{krl_of};
+ghost use Rattle.sshkey_krl.specs.Revocation as list;
+ghost use Rattle.sshkey_krl.specs.Revocation.{Grant, grant};
+ghost use Rattle.sshkey_krl.specs.Revocations as values;
+ghost use Rattle.sshkey_krl.specs.Revocations.{unless_read};
+ghost use Rattle.sshkey_model.specs.Keys.{normal_key};
+ghost use Rattle.sshkey_model.specs.Parts.{flat};
+
+use crate::krl_ref::KrlRef;
+use sshkey_base::encode_vec;
+use sshkey_cert::Certificate;
+use sshkey_keys::KeyData;
+use std::alloc::{AllocError, Global};
+
+/// Who says which keys and certificates are revoked: a list, several of them, `NoRevocations`, or
+/// code of yours.
+///
+/// A `Result` is one too, and its `Err` revokes everything. So pass on what reading gave you: a
+/// list that could not be read lets nobody in.
+pub trait Revocations {
+    /// Whether a certificate of the key with those bytes is revoked.
+    ghost revokes: { Self → List ℕ → Grant → Bool };
+
+    /// Whether the key with those bytes is revoked.
+    ghost revokes_key: { Self → List ℕ → Bool };
+
+    /// Returns whether the key is revoked. The bytes are its normal form. Does not allocate.
+    fn revokes_key(&self, key: &[u8]) -> bool
+        ensures { result ≡ revokes_key self.now key.now };
+
+    /// Returns whether a certificate of the key with that serial number and key id is revoked,
+    /// which the signature key signed. Both keys are the bytes of their normal form. Does not
+    /// allocate.
+    fn revokes_certificate(
+        &self,
+        key: &[u8],
+        signature_key: &[u8],
+        serial: u64,
+        key_id: &str,
+    ) -> bool
+        ensures { result ≡ revokes self.now key.now (grant signature_key.now serial key_id.now) };
+
+    /// Returns whether the key is revoked. Fails with `AllocError` if it runs out of memory, or if
+    /// a part of the key has more than 2^32 - 1 bytes, which no reader gives.
+    final fn is_key_revoked(&self, alloc: Global, key: &KeyData) -> Result<bool, AllocError>
+    where
+        Self: Sized,
+        ensures { IfOk result
+            (λ yes. yes ≡ values.is_key_revoked (revokes_key self.now) (key_of key.now)) }
+    {
+        let key = normal_form(alloc, key)?;
+        Ok(self.revokes_key(key.as_slice()))
+    }
+
+    /// Returns whether the certificate is revoked. Fails with `AllocError` as `is_key_revoked`
+    /// does.
+    final fn is_certificate_revoked(
+        &self,
+        alloc: Global,
+        certificate: &Certificate,
+    ) -> Result<bool, AllocError>
+    where
+        Self: Sized,
+        ensures { IfOk result (λ yes. yes
+            ≡ values.is_certificate_revoked (revokes self.now) (certificate_of certificate.now)) }
+    {
+        let key = normal_form(alloc, certificate.public_key())?;
+        let signature_key = normal_form(alloc, certificate.signature_key())?;
+        Ok(self.revokes_certificate(
+            key.as_slice(),
+            signature_key.as_slice(),
+            certificate.serial(),
+            certificate.key_id(),
+        ))
+    }
+}
+
+/// The bytes of the key's normal form.
+fn normal_form(alloc: Global, key: &KeyData) -> Result<Vec<u8>, AllocError>
+    ensures { IfOk result (λ bytes. bytes.items ≡ flat (normal_key (key_of key.now))) }
+{
+    match encode_vec(alloc, key) {
+        Ok(bytes) => Ok(bytes),
+        Err(_) => Err(AllocError),
+    }
+}
+
+/// Revokes nothing.
+#[derive(Clone, Copy, Debug)]
+pub struct NoRevocations;
+
+impl Revocations for NoRevocations {
+    ghost revokes = { λ _ _ _. false };
+
+    ghost revokes_key = { λ _ _. false };
+
+    fn revokes_key(&self, _key: &[u8]) -> bool {
+        false
+    }
+
+    fn revokes_certificate(
+        &self,
+        _key: &[u8],
+        _signature_key: &[u8],
+        _serial: u64,
+        _key_id: &str,
+    ) -> bool {
+        false
+    }
+}
+
+/// Revokes what the list does.
+impl Revocations for KrlRef<'_> {
+    ghost revokes = { λ krl key asked. list.revokes (krl_of krl) key asked };
+
+    ghost revokes_key = { λ krl key. list.revokes_key (krl_of krl) key };
+
+    fn revokes_key(&self, key: &[u8]) -> bool {
+        KrlRef::revokes_key(self, key)
+    }
+
+    fn revokes_certificate(
+        &self,
+        key: &[u8],
+        signature_key: &[u8],
+        serial: u64,
+        key_id: &str,
+    ) -> bool {
+        KrlRef::revokes_certificate(self, key, signature_key, serial, key_id)
+    }
+}
+
+/// Revokes what was read, and everything where nothing could be read.
+impl<R: Revocations, E> Revocations for Result<R, E> {
+    ghost revokes = { λ read key asked. unless_read (λ it. R.revokes it key asked) read };
+
+    ghost revokes_key = { λ read key. unless_read (λ it. R.revokes_key it key) read };
+
+    fn revokes_key(&self, key: &[u8]) -> bool {
+        match self {
+            Ok(revocations) => revocations.revokes_key(key),
+            Err(_) => true,
+        }
+    }
+
+    fn revokes_certificate(
+        &self,
+        key: &[u8],
+        signature_key: &[u8],
+        serial: u64,
+        key_id: &str,
+    ) -> bool {
+        match self {
+            Ok(revocations) => revocations.revokes_certificate(key, signature_key, serial, key_id),
+            Err(_) => true,
+        }
+    }
+}
+
+/// Revokes what one of them does.
+impl<R: Revocations> Revocations for &[R] {
+    ghost revokes = { λ all key asked. list_any (λ it. R.revokes it key asked) all.now };
+
+    ghost revokes_key = { λ all key. list_any (λ it. R.revokes_key it key) all.now };
+
+    fn revokes_key(&self, key: &[u8]) -> bool {
+        self.iter().any(|it| it.revokes_key(key))
+    }
+
+    fn revokes_certificate(
+        &self,
+        key: &[u8],
+        signature_key: &[u8],
+        serial: u64,
+        key_id: &str,
+    ) -> bool {
+        self.iter().any(|it| it.revokes_certificate(key, signature_key, serial, key_id))
+    }
+}
