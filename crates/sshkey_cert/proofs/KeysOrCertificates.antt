@@ -2,7 +2,7 @@
 use Rattle.std.proofs.Common.{◌≡◌, ◌≢◌, ℕ, List, [], true, false, Result, Ok, Err, refl, sym, ap, ◌∙◌, append-nil, inl}
 use Rattle.std.specs.Prelude.{is_ok, IsOkAnd}
 use Rattle.sshkey_model.specs.CertificateNames.{certificate_algorithm_at}
-use Rattle.sshkey_model.specs.Certificates.{Certificate, certificate_at, signed_fields_at}
+use Rattle.sshkey_model.specs.Certificates.{Certificate}
 use Rattle.sshkey_model.specs.Names.{Algorithm}
 use Rattle.sshkey_model.specs.Reading.{Fault}
 use Rattle.sshkey_base.specs.Causes.{NoMemory, cause}
@@ -10,6 +10,7 @@ use Rattle.sshkey_base.specs.NameFormats.{certified_format}
 use Rattle.sshkey_base.specs.Reading.{NoSpelling}
 use Rattle.sshkey_base.specs.Source.{IsSound, all_of}
 use Rattle.sshkey_base.specs.declared.error.Error.{Error}
+use Rattle.sshkey_terms.specs.Behind.{behind_at}
 use Rattle.sshkey_keys.specs.Keys.{SpellsKey}
 use Rattle.sshkey_cert.specs.CertificateReaders.{SpellsCertificate, certificate_grammar, certificate_value_at}
 use Rattle.sshkey_cert.specs.KeysOrCertificates.{AcceptsEither, NeedsEither, names_certificate}
@@ -17,9 +18,9 @@ use Rattle.sshkey_cert.specs.declared.key_or_certificate.KeyOrCertificate.TheVar
 
 -- what has no name in front is no certificate
 named_or : (bytes : List ℕ) (c : Certificate) (r : Result (Algorithm × List ℕ) Fault) → certificate_algorithm_at bytes ≡ r → certificate_value_at bytes ≡ Ok (c, []) → is_ok r ≡ true
-unfolding certificate_value_at certificate_at signed_fields_at
+unfolding behind_at
 named_or bytes c (Ok name) is read = refl
-named_or bytes c (Err f) is read = absurd cc
+named_or bytes c (Err f) is read = let none = rw is at read in absurd cc
 
 named_first : (c : Certificate) (bytes : List ℕ) → SpellsCertificate c bytes → names_certificate bytes ≡ true
 named_first c bytes spelled = named_or bytes c (certificate_algorithm_at bytes) refl (ap certificate_value_at (sym (append-nil bytes)) ∙ certificate_grammar.again c bytes [] spelled)

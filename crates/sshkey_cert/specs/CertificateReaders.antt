@@ -1,24 +1,39 @@
--- How certificates are read, without the choices that their spelling leaves.
-use Rattle.std.specs.Prelude.{ℕ, List, refl}
+-- Which bytes spell a certificate, and how they are read. The lemmas are proved, and need not be
+-- believed.
+use Rattle.std.proofs.Common.{◌≡◌, ℕ, List, refl}
+use Rattle.std.specs.Prelude.{◌↔◌}
 use Rattle.sshkey_model.specs.Parts.{Fits, flat}
 use Rattle.sshkey_model.specs.Reading.{Front}
 use Rattle.sshkey_model.specs.Grammar.{IsGrammar, SpellsWith, value_at}
 use Rattle.sshkey_model.specs.Certificates.{Certificate, IsCertificate, HasCertificatePlaces, certificate, plain_choices, normal_certificate, certificate_at}
 use Rattle.sshkey_model.proofs.CertificateReaders.{certificate_reads}
+use Rattle.sshkey_model.proofs.CombinedReaders.{bind_assoc}
 use Rattle.sshkey_model.proofs.NormalForms.{plain_choices_have}
-use Rattle.sshkey_model.proofs.Grammars.{grammar_with}
+use Rattle.sshkey_model.proofs.Grammars.{grammar_with, same_grammar}
+use Rattle.sshkey_base.proofs.Accepted.{spelled_whole, spelled_whole_by, whole_spelled, whole_spelled_by}
+use Rattle.sshkey_terms.specs.Behind.{behind_at}
+use Rattle.sshkey_cert_fields.specs.ToBeSignedReaders.{to_be_signed_is}
+use Rattle.sshkey_cert.specs.CertificateFormats.{certificate_format}
+
+abbrev pub certificate_value_at : Front Certificate
+certificate_value_at = certificate_format.read
 
 -- the bytes spell the certificate
 abbrev pub SpellsCertificate : Certificate → List ℕ → Type 0
 SpellsCertificate = SpellsWith IsCertificate HasCertificatePlaces certificate
 
-unfoldable pub certificate_value_at : Front Certificate
-certificate_value_at = value_at certificate_at
+-- The reader that gives the choices of the spelling too reads the same certificate.
+pub certificate_is : (b : List ℕ) → value_at certificate_at b ≡ certificate_value_at b
+unfolding certificate_at behind_at
+certificate_is b = rw (← to_be_signed_is b) (simp bind_assoc)
 
 pub certificate_grammar : IsGrammar SpellsCertificate certificate_value_at
-unfolding certificate_value_at
-certificate_grammar = grammar_with certificate_reads
+certificate_grammar = same_grammar (grammar_with certificate_reads) certificate_is
+
+-- The term spells what PROTOCOL.certkeys lays out.
+pub certificate_spelled : (c : Certificate) (b : List ℕ) → certificate_format.Spells c b ↔ SpellsCertificate c b
+certificate_spelled c b = (λ s. whole_spelled certificate_grammar b c (spelled_whole_by certificate_format.grammar b c s), λ s. whole_spelled_by certificate_format.grammar b c (spelled_whole certificate_grammar b c s))
 
 -- what is written is a spelling
-pub certificate_normal : (c : Certificate) → IsCertificate c → Fits (normal_certificate c) → SpellsCertificate c (flat (normal_certificate c))
-certificate_normal c is fits = record { is = is; choices = plain_choices c.signed; place = plain_choices_have c.signed; fits = fits; shape = refl }
+pub certificate_normal : (c : Certificate) → IsCertificate c → Fits (normal_certificate c) → certificate_format.Spells c (flat (normal_certificate c))
+certificate_normal c is fits = (certificate_spelled c (flat (normal_certificate c))).1 (record { is = is; choices = plain_choices c.signed; place = plain_choices_have c.signed; fits = fits; shape = refl })

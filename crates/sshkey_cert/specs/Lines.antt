@@ -10,7 +10,8 @@ use Rattle.sshkey_base.specs.Causes.{cause, NoMemory}
 use Rattle.sshkey_base.specs.declared.error.Error.{Error}
 use Rattle.sshkey_base.proofs.CertificateTypes.{certificate_length}
 use Rattle.sshkey_public.specs.Blobs.{StandsInLines}
-use Rattle.sshkey_cert.specs.CertificateReaders.{SpellsCertificate}
+use Rattle.sshkey_cert.specs.CertificateFormats.{certificate_format}
+use Rattle.sshkey_cert.specs.CertificateReaders.{SpellsCertificate, certificate_spelled}
 use Rattle.sshkey_cert.specs.CertificateValues.{certificate_of, comment_of}
 use Rattle.sshkey_cert.specs.declared.certificate.Certificate.{Certificate}
 
@@ -38,10 +39,10 @@ short_name SkEcdsa is = omega arith
 short_name SkEd25519 is = omega arith
 short_name (Other n) is = let h = certificate_length n (and_parts (is_own_name n) _ is.0).0 in omega (arith, h.0, h.1)
 
-pub certificates_stand : StandsInLines certificate_of SpellsCertificate certificate_of SpellsCertificate name_of_certificate
+pub certificates_stand : StandsInLines certificate_of certificate_format.Spells certificate_of SpellsCertificate name_of_certificate
 certificates_stand = record {
-  is = λ c b s. s;
-  every = λ c b s. (c, s);
+  is = λ c b s. (certificate_spelled (certificate_of c) b).0 s;
+  every = λ c b s. (c, (certificate_spelled c b).1 s);
   blobs = certificate_blobs;
   short = λ c b s. short_name (key_algorithm c.signed.key) s.is.0.name;
 }

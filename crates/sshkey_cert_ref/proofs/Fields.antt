@@ -4,12 +4,12 @@ use Rattle.sshkey_model.specs.Reading.{◌>>=◌, Front}
 use Rattle.sshkey_model.specs.Certificates.{SignedFields, CertificateChoices, signed_fields_at, type_at, time_at, end_at}
 use Rattle.sshkey_model.proofs.CombinedReaders.{bind_assoc}
 use Rattle.sshkey_terms.specs.Behind.{behind_at}
-use Rattle.sshkey_cert_fields.specs.ToBeSignedReaders.{subject_at}
+use Rattle.sshkey_cert_fields.specs.ToBeSignedFormats.{subject_format}
 use Rattle.sshkey_cert_ref.specs.Fields.{behind_key_format}
 
 unfoldable pub fields_at : Front (SignedFields × CertificateChoices)
 fields_at b = do
-  subject ← subject_at b
+  subject ← subject_format.read b
   rest ← behind_key_format.read subject.1
   Ok (
     (
@@ -20,5 +20,5 @@ fields_at b = do
   )
 
 pub fields_are : (b : List ℕ) → fields_at b ≡ signed_fields_at b
-unfolding fields_at subject_at behind_at signed_fields_at type_at time_at end_at
+unfolding fields_at behind_at signed_fields_at type_at time_at end_at
 fields_are b = simp bind_assoc

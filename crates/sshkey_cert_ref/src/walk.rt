@@ -4,7 +4,7 @@ ghost use Rattle.sshkey_base.specs.Causes.{cause};
 ghost use Rattle.sshkey_model.specs.Certificates.{signed_fields_at};
 ghost use Rattle.sshkey_cert_ref.specs.Parts.{AreParts, AreSubject};
 ghost use Rattle.sshkey_cert_ref.specs.Taking.{Cuts};
-ghost use Rattle.sshkey_cert_fields.specs.ToBeSignedReaders.{subject_at};
+ghost use Rattle.sshkey_cert_fields.specs.ToBeSignedFormats.{subject_format};
 
 use crate::certificate_name::CertificateName;
 use crate::leaves::{Field, KeyInString};
@@ -62,7 +62,7 @@ pub(crate) fn split_parts<'a>(bytes: &'a [u8]) -> Result<(Parts<'a>, &'a [u8])>
 
 /// The name, the nonce, and the key's body.
 fn split_subject<'a>(bytes: &'a [u8]) -> Result<((&'a str, &'a [u8], &'a [u8]), &'a [u8])>
-    ensures { Cuts AreSubject cause subject_at bytes.now result }
+    ensures { Cuts AreSubject cause subject_format.read bytes.now result }
 {
     let mut rest = bytes;
     let Then(opening, nonce) = Opening::<'a>::read_from(&mut rest)?;

@@ -5,7 +5,7 @@ use Rattle.sshkey_cert_values.specs.CertTypes.{type_of}
 use Rattle.sshkey_cert_values.specs.Times.{time_of, end_of}
 use Rattle.sshkey_cert_ref.specs.Views.{texts_of, spelled_options_of}
 use Rattle.sshkey_cert_ref.specs.Fields.{behind_key_format, spelled_key_of}
-use Rattle.sshkey_cert_fields.specs.ToBeSignedReaders.{subject_at}
+use Rattle.sshkey_cert_fields.specs.ToBeSignedFormats.{subject_format}
 use Rattle.sshkey_cert_ref.proofs.Boxed.{key_is}
 use Rattle.sshkey_cert_ref.proofs.Fields.{fields_at, fields_are}
 use Rattle.sshkey_cert_ref.proofs.walk.split_parts.Goals as goal
@@ -14,7 +14,7 @@ pub returns-in_err-name : goal.returns-in_err-name
 unfolding fields_at
 returns-in_err-name c =
     let p = err_from_is_err_and c.from_residual.result c.from_residual.ensures.1 in
-    rw (p.1, p.2, ← fields_are c.args.bytes.now) (refuses_first 0 _ (subject_at c.args.bytes.now) _ c.in_err-name.ensures)
+    rw (p.1, p.2, ← fields_are c.args.bytes.now) (refuses_first 0 _ (subject_format.read c.args.bytes.now) _ c.in_err-name.ensures)
 
 pub returns-in_err-grant : goal.returns-in_err-grant
 unfolding fields_at
