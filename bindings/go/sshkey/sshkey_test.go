@@ -112,6 +112,9 @@ func TestMakeCertificate(t *testing.T) {
 	draft.ValidBefore = sshkey.SecondOf(time.Unix(-1, 0))
 	_, err = draft.ToBeSigned()
 	same(t, "an end before 1970", err, sshkey.ErrTime)
+	draft.ValidBefore, draft.AllPrincipals = sshkey.Forever, true
+	_, err = draft.ToBeSigned()
+	same(t, "some principals and all", err, sshkey.ErrPrincipals)
 }
 
 func TestSecond(t *testing.T) {
