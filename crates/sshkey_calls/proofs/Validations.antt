@@ -1,5 +1,5 @@
 -- Whether a certificate is valid, given what the caller's verification said.
-use Rattle.std.proofs.Common.{◌≡◌, ◌≢◌, ◌↔◌, ℕ, List, [], ◌∷◌, Bool, true, false, ◌||◌, Option, Some, None, refl, sym, ap, subst, ◌∙◌, arith, bytes_eq}
+use Rattle.std.proofs.Common.{◌≡◌, ◌≢◌, ◌↔◌, ℕ, List, [], ◌∷◌, Bool, true, false, ◌||◌, IsTrue, MatchOption, Option, Some, None, option_map, refl, sym, ap, ◌∙◌, arith, bytes_eq}
 use Rattle.std.specs.List.{list_any}
 use Rattle.sshkey_model.specs.Keys.{Dsa, Ecdsa, Ed25519, Head, Key, Plain, Rsa, SkEcdsa, SkEd25519, key}
 use Rattle.sshkey_model.specs.Names.{Algorithm, Sha256}
@@ -8,18 +8,19 @@ use Rattle.sshkey_model.specs.Points.{curve_eq}
 use Rattle.sshkey_model.specs.Signatures.{Signature}
 use Rattle.sshkey_model.specs.Certificates.{Certificate}
 use Rattle.sshkey_model.specs.Fingerprints.{Fingerprint, same_fingerprint}
-use Rattle.sshkey_model.specs.Principals.{IsValidFor}
+use Rattle.sshkey_model.specs.Principals.{Allows, IsValidFor}
 use Rattle.sshkey_model.specs.Refusals.{Refusal, NotSigned, UntrustedAuthority, InvalidTime, OutOfWindow, UnlistedPrincipal, allows, first_refusal, first_refusal_for, has_trusted_authority, is_signed, or_else, refusal_of_authority_or_time, unless}
 use Rattle.sshkey_model.specs.Validity.{IsValid}
 use Rattle.sshkey_model.specs.Verification.{Question, question, question_under}
 use Rattle.sshkey_model.specs.Verification as model
 use Rattle.sshkey_model.proofs.Grammars.{one_front}
 use Rattle.sshkey_model.proofs.Refusals.{none_where_valid, none_where_wanted}
-use Rattle.sshkey_base.specs.Reading.{NoSpelling}
+use Rattle.sshkey_base.specs.Acceptance.{SpellsSome}
 use Rattle.sshkey_cert.specs.CertificateReaders.{SpellsCertificate, certificate_grammar}
 use Rattle.sshkey_cert.specs.Questions.{certificate_question}
 use Rattle.sshkey_cert_ref.specs.CertificateRef.{certificate_bytes, certificate_of, choices_of}
 use Rattle.sshkey_cert_ref.specs.declared.certificate_ref.CertificateRef.{CertificateRef}
+use Rattle.sshkey_cert_ref.proofs.Answered.{allows_is}
 use Rattle.sshkey_cert_ref.proofs.Certificates.{spelled_by}
 use Rattle.sshkey_fingerprints.specs.Fingerprints.{digest_of}
 use Rattle.sshkey_fingerprints.specs.declared.fingerprint.Fingerprint as code
@@ -27,7 +28,7 @@ use Rattle.sshkey_keys.specs.Fingerprints.{IsFingerprint}
 use Rattle.sshkey_keys.specs.Keys.{SpellsKey}
 use Rattle.sshkey_keys_ref.specs.NormalBytes.{IsRenamed}
 use Rattle.sshkey_calls.specs.Numbers.{refusal_number}
-use Rattle.sshkey_calls.specs.Validations.{HasRenamedAuthority, IsGood, IsGoodFor, Says, TellsFirst, TellsFirstFor, Verified, authorities_of, is_yes}
+use Rattle.sshkey_calls.specs.Validations.{HasRenamedAuthority, IsGood, IsGoodFor, Says, TellsFirst, TellsFirstFor, TellsRefusal, Verified, authorities_of, first_refusal_of, is_yes}
 use Rattle.sshkey_calls.specs.declared.digest.Sha256Digest.{Sha256Digest}
 
 -- the bytes spell one certificate only
@@ -44,21 +45,27 @@ module _ (accepts : Question → Bool) (bytes : List ℕ) (is_verified : ℕ) (v
   same_signed : is_signed (λ _. is_yes is_verified) c ≡ is_signed accepts c
   same_signed = same_answer (certificate_question c) refl
 
-  pub same_first : (authorities : List Fingerprint) (t : ℕ) → first_refusal (λ _. is_yes is_verified) authorities t c ≡ first_refusal accepts authorities t c
+  same_first : (authorities : List Fingerprint) (t : ℕ) → first_refusal (λ _. is_yes is_verified) authorities t c ≡ first_refusal accepts authorities t c
   same_first authorities t = ap (λ (b : Bool). unless b NotSigned (refusal_of_authority_or_time (has_trusted_authority authorities c) (c.signed.valid_after, c.signed.valid_before) t)) same_signed
 
-  pub same_first_for : (authorities : List Fingerprint) (t : ℕ) (wanted : List ℕ) → first_refusal_for (λ _. is_yes is_verified) authorities t wanted c ≡ first_refusal_for accepts authorities t wanted c
-  same_first_for authorities t wanted = ap (λ (r : Option Refusal). or_else r (unless (allows c.signed.valid_principals wanted) UnlistedPrincipal None)) (same_first authorities t)
+  same_first_of : (authorities : List Fingerprint) (t : ℕ) (wanted : Option (List ℕ)) → first_refusal_of (λ _. is_yes is_verified) authorities t wanted c ≡ first_refusal_of accepts authorities t wanted c
+  same_first_of authorities t None = same_first authorities t
+  same_first_of authorities t (Some wanted) = ap (λ (r : Option Refusal). or_else r (unless (allows c.signed.valid_principals wanted) UnlistedPrincipal None)) (same_first authorities t)
 
-  -- ---- what is answered
+  pub first_told : (authorities : List Fingerprint) (t : ℕ) (wanted : Option (List ℕ)) (n : ℕ) → (n ≢ 1 → n ≡ refusal_number (first_refusal_of (λ _. is_yes is_verified) authorities t wanted c)) → TellsRefusal (first_refusal_of accepts authorities t wanted) bytes n
+  first_told authorities t wanted n told d other not_memory =
+      told not_memory ∙ ap refusal_number (same_first_of authorities t wanted) ∙ ap (λ (x : Certificate). refusal_number (first_refusal_of accepts authorities t wanted x)) (one_spelled c d bytes spelled other)
 
-  pub first_told : (authorities : List Fingerprint) (t n : ℕ) → (n ≢ 1 → n ≡ refusal_number (first_refusal (λ _. is_yes is_verified) authorities t c)) → TellsFirst accepts authorities t bytes n
-  first_told authorities t n told d other not_memory =
-      told not_memory ∙ ap refusal_number (same_first authorities t) ∙ ap (λ (x : Certificate). refusal_number (first_refusal accepts authorities t x)) (one_spelled c d bytes spelled other)
+none_last : (first : Option Refusal) → or_else first None ≡ first
+none_last None = refl
+none_last (Some refusal) = refl
 
-  pub first_told_for : (authorities : List Fingerprint) (t : ℕ) (wanted : List ℕ) (n : ℕ) → (n ≢ 1 → n ≡ refusal_number (first_refusal_for (λ _. is_yes is_verified) authorities t wanted c)) → TellsFirstFor accepts authorities t wanted bytes n
-  first_told_for authorities t wanted n told d other not_memory =
-      told not_memory ∙ ap refusal_number (same_first_for authorities t wanted) ∙ ap (λ (x : Certificate). refusal_number (first_refusal_for accepts authorities t wanted x)) (one_spelled c d bytes spelled other)
+-- the principal comes last, if there is one
+pub principal_last : {X : Type 0} (name_of : X → List ℕ) (accepts : Question → Bool) (authorities : List Fingerprint) (t : ℕ) (c : Certificate) (wanted : Option X) (b : Bool) → MatchOption wanted (IsTrue b) (λ x. IsTrue b ↔ Allows c (name_of x)) → or_else (first_refusal accepts authorities t c) (unless b UnlistedPrincipal None) ≡ first_refusal_of accepts authorities t (option_map name_of wanted) c
+principal_last name_of accepts authorities t c None b is = rw is (none_last (first_refusal accepts authorities t c))
+principal_last name_of accepts authorities t c (Some x) b is = rw (allows_is b c.signed.valid_principals (name_of x) is) refl
+
+-- ---- 0 says that it is valid
 
 nothing_wrong : (first : Option Refusal) → refusal_number first ≡ 0 → first ≡ None
 nothing_wrong None e = refl
@@ -68,46 +75,32 @@ nothing_wrong (Some InvalidTime) e = absurd (omega (arith, e))
 nothing_wrong (Some OutOfWindow) e = absurd (omega (arith, e))
 nothing_wrong (Some UnlistedPrincipal) e = absurd (omega (arith, e))
 
--- the first refusal of the certificate decides
-says : (Valid : Certificate → Type 0) (Holds : Type 0) (c : Certificate) (first : Option Refusal) (n : ℕ) → (first ≡ None) ↔ Valid c → (Valid c → Holds) → (Holds → Valid c) → (n ≢ 1 → n ≡ refusal_number first) → Says Holds n
-says Valid Holds c first n exactly there back told = record {
-  yes_ = λ zero_. there (exactly.0 (nothing_wrong first (sym (told (λ one. absurd (omega (arith, zero_, one)))) ∙ zero_)));
-  no_ = λ not_zero not_one holds. not_zero (told not_one ∙ ap refusal_number (exactly.1 (back holds)));
-}
+-- the refusal of the certificate decides
+module _ (Valid : Certificate → Type 0) (refusal : Certificate → Option Refusal) (exactly : (c : Certificate) → (refusal c ≡ None) ↔ Valid c) (Holds : Type 0) (bytes : List ℕ) (make : (c : Certificate) → SpellsCertificate c bytes → Valid c → Holds) (parts : Holds → (c : Certificate) × SpellsCertificate c bytes × Valid c) where
+  pub says : (n : ℕ) → (n ≡ 0 → SpellsSome SpellsCertificate bytes) → TellsRefusal refusal bytes n → Says Holds n
+  says n spelled told = record {
+    yes_ = λ zero_.
+        let (c, s) = spelled zero_ in
+        make c s ((exactly c).0 (nothing_wrong (refusal c) (sym (told c s (λ one. absurd (omega (arith, zero_, one)))) ∙ zero_)));
+    no_ = λ not_zero not_one holds.
+        let (c, s, valid) = parts holds in
+        not_zero (told c s not_one ∙ ap refusal_number ((exactly c).1 valid));
+  }
 
-module _ (accepts : Question → Bool) (bytes : List ℕ) (is_verified : ℕ) (v : Verified accepts bytes is_verified) (c : Certificate) (spelled : SpellsCertificate c bytes) where
-  pub says_good : (authorities : List Fingerprint) (t n : ℕ) → (n ≢ 1 → n ≡ refusal_number (first_refusal (λ _. is_yes is_verified) authorities t c)) → Says (IsGood accepts authorities t bytes) n
-  says_good authorities t n told = says (IsValid accepts authorities t) _ c (first_refusal accepts authorities t c) n
-      (none_where_valid accepts authorities t c)
-      (λ valid. record { certificate = c; spelled = spelled; valid = valid })
-      (λ good. subst (IsValid accepts authorities t) (one_spelled good.certificate c bytes good.spelled spelled) good.valid)
-      (λ not_memory. told not_memory ∙ ap refusal_number (same_first accepts bytes is_verified v c spelled authorities t))
+module _ (accepts : Question → Bool) (authorities : List Fingerprint) (t : ℕ) (bytes : List ℕ) (n : ℕ) (spelled : n ≡ 0 → SpellsSome SpellsCertificate bytes) where
+  pub says_good : TellsFirst accepts authorities t bytes n → Says (IsGood accepts authorities t bytes) n
+  says_good = says (IsValid accepts authorities t) (first_refusal accepts authorities t) (none_where_valid accepts authorities t) (IsGood accepts authorities t bytes) bytes
+      (λ c s valid. record { certificate = c; spelled = s; valid = valid })
+      (λ good. (good.certificate, good.spelled, good.valid)) n spelled
 
-  pub says_good_for : (authorities : List Fingerprint) (t : ℕ) (wanted : List ℕ) (n : ℕ) → (n ≢ 1 → n ≡ refusal_number (first_refusal_for (λ _. is_yes is_verified) authorities t wanted c)) → Says (IsGoodFor accepts authorities t wanted bytes) n
-  says_good_for authorities t wanted n told = says (IsValidFor accepts authorities t wanted) _ c (first_refusal_for accepts authorities t wanted c) n
-      (none_where_wanted accepts authorities t wanted c)
-      (λ valid. record { certificate = c; spelled = spelled; valid = valid })
-      (λ good. subst (IsValidFor accepts authorities t wanted) (one_spelled good.certificate c bytes good.spelled spelled) good.valid)
-      (λ not_memory. told not_memory ∙ ap refusal_number (same_first_for accepts bytes is_verified v c spelled authorities t wanted))
+  pub says_good_for : (principal : List ℕ) → TellsFirstFor accepts authorities t principal bytes n → Says (IsGoodFor accepts authorities t principal bytes) n
+  says_good_for principal = says (IsValidFor accepts authorities t principal) (first_refusal_for accepts authorities t principal) (none_where_wanted accepts authorities t principal) (IsGoodFor accepts authorities t principal bytes) bytes
+      (λ c s valid. record { certificate = c; spelled = s; valid = valid })
+      (λ good. (good.certificate, good.spelled, good.valid)) n spelled
 
--- ---- bytes that spell no certificate
+-- ---- what is not assembled
 
-module _ (accepts : Question → Bool) (authorities : List Fingerprint) (t : ℕ) (bytes : List ℕ) (n : ℕ) (none : NoSpelling SpellsCertificate bytes) where
-  pub none_good : n ≢ 0 → Says (IsGood accepts authorities t bytes) n
-  none_good some = record { yes_ = λ zero_. absurd (some zero_); no_ = λ _ _ good. none good.certificate good.spelled }
-
-  pub none_good_for : (wanted : List ℕ) → n ≢ 0 → Says (IsGoodFor accepts authorities t wanted bytes) n
-  none_good_for wanted some = record { yes_ = λ zero_. absurd (some zero_); no_ = λ _ _ good. none good.certificate good.spelled }
-
-  pub none_first : TellsFirst accepts authorities t bytes n
-  none_first c spelled _ = absurd (none c spelled)
-
-  pub none_first_for : (wanted : List ℕ) → TellsFirstFor accepts authorities t wanted bytes n
-  none_first_for wanted c spelled _ = absurd (none c spelled)
-
--- ---- what was not put together
-
--- Whether there is a question does not hang on the message.
+-- Whether there is a question does not depend on the message.
 same_asking : (b : Bool) (a : Algorithm) (k : Key) (m n : List ℕ) (g : Signature) → model.is_yes (λ _. b) (question_under a k m g) ≡ model.is_yes (λ _. b) (question_under a k n g)
 same_asking b Algorithm.Dsa (Dsa k) m n g = refl
 same_asking b Algorithm.Dsa _ m n g = refl
@@ -150,7 +143,7 @@ module _ (b : Bool) (given : List Sha256Digest) (t : ℕ) (c : Certificate) (f :
   trusted_is : list_any (λ d. bytes_eq (digest_of f) d.bytes) given ≡ has_trusted_authority (authorities_of given) c
   trusted_is = rw is.digest (listed_is _ given)
 
-  -- what is wrong first behind the signature
+  -- what is wrong first after the signature
   pub first_signed : is_signed (λ _. b) c ≡ true → (is_trusted : Bool) → is_trusted ≡ list_any (λ d. bytes_eq (digest_of f) d.bytes) given → refusal_of_authority_or_time is_trusted (c.signed.valid_after, c.signed.valid_before) t ≡ first_refusal (λ _. b) (authorities_of given) t c
   first_signed signed is_trusted same = rw (signed, same, trusted_is) refl
 

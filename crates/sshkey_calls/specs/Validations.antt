@@ -1,5 +1,5 @@
 -- Whether a certificate is valid, given what the caller's verification said.
-use Rattle.std.specs.Prelude.{◌≡◌, ◌≢◌, ℕ, List, map, Bool, ◌==◌, Option, Some, option_map, Result, Ok, Err}
+use Rattle.std.specs.Prelude.{◌≡◌, ◌≢◌, ℕ, List, map, Bool, ◌==◌, Option, Some, None, option_map, Result, Ok, Err}
 use Rattle.sshkey_model.specs.Certificates.{Certificate}
 use Rattle.sshkey_model.specs.Fingerprints.{Fingerprint}
 use Rattle.sshkey_model.specs.Keys.{Plain}
@@ -46,13 +46,22 @@ pub record Says (Holds : Type 0) (n : ℕ) : Type 0 where
   pub yes_ : n ≡ 0 → Holds
   pub no_ : n ≢ 0 → n ≢ 1 → Holds → ⊥
 
--- The number is that of the first refusal of the certificate that the bytes spell, memory aside.
+-- The number is that of the refusal of the certificate that the bytes spell, memory aside.
+abbrev pub TellsRefusal : (Certificate → Option Refusal) → List ℕ → ℕ → Type 0
+TellsRefusal refusal bytes n = (c : Certificate) → SpellsCertificate c bytes → n ≢ 1 → n ≡ refusal_number (refusal c)
+
+-- It is the first refusal.
 abbrev pub TellsFirst : (Question → Bool) → List Fingerprint → ℕ → List ℕ → ℕ → Type 0
-TellsFirst accepts authorities t bytes n = (c : Certificate) → SpellsCertificate c bytes → n ≢ 1 → n ≡ refusal_number (first_refusal accepts authorities t c)
+TellsFirst accepts authorities t = TellsRefusal (first_refusal accepts authorities t)
 
 -- The same for a principal.
 abbrev pub TellsFirstFor : (Question → Bool) → List Fingerprint → ℕ → List ℕ → List ℕ → ℕ → Type 0
-TellsFirstFor accepts authorities t principal bytes n = (c : Certificate) → SpellsCertificate c bytes → n ≢ 1 → n ≡ refusal_number (first_refusal_for accepts authorities t principal c)
+TellsFirstFor accepts authorities t principal = TellsRefusal (first_refusal_for accepts authorities t principal)
+
+-- the first refusal, for the principal if there is one
+abbrev pub first_refusal_of : (Question → Bool) → List Fingerprint → ℕ → Option (List ℕ) → Certificate → Option Refusal
+first_refusal_of accepts authorities t None = first_refusal accepts authorities t
+first_refusal_of accepts authorities t (Some principal) = first_refusal_for accepts authorities t principal
 
 -- It is that refusal, or none; or memory ran out, which may be asked for.
 abbrev pub FindsFirstOr : Type 0 → Option Refusal → Result (Option CertificateRefusal) Error → Type 0

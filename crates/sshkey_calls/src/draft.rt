@@ -21,7 +21,7 @@ use std::alloc::Global;
 pub struct CertificateDraft<'a> {
     /// The blob of the key that is certified.
     pub key: &'a [u8],
-    /// Random bytes, of which PROTOCOL.certkeys wants 16 or 32.
+    /// Random bytes: PROTOCOL.certkeys wants 16 or 32.
     pub nonce: &'a [u8],
     /// The key id, a text for logs.
     pub key_id: &'a [u8],

@@ -3,7 +3,7 @@
 //!
 //! Cryptography stays the caller's, so a check is two calls: what has to be verified, and whether
 //! the certificate is valid, given what the verification said. Each call answers with a number, and
-//! the bytes that it answers with stand in the caller's room.
+//! the bytes that it answers with are in the caller's room.
 #![tactic(auto)]
 
 mod certified_key;

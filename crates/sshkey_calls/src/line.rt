@@ -18,8 +18,8 @@ use sshkey_keys::KeyData;
 use std::alloc::Global;
 use std::str;
 
-/// What stands in a line of a key file or of a certificate file. The parts are parts of the room
-/// that was given.
+/// What a line of a key file or of a certificate file holds. The parts are parts of the room that
+/// was given.
 #[repr(C)]
 #[derive(Clone, Copy, Debug)]
 pub struct Line {
@@ -154,7 +154,7 @@ fn lay_out(alloc: Global, text: &str, comment: &str, kind: u32) -> Result<(Vec<u
     ))
 }
 
-/// The blob of a line, in memory that is enough for so many bytes after it.
+/// The blob of a line, in memory that has room for that many bytes after it.
 fn blob_in(alloc: Global, text: &str, behind: usize) -> Result<Vec<u8>>
     ensures { (first blob comment : List ℕ) → IsLine text.now first blob comment → IsBytes blob
         → IfOk result (λ read. read.items ≡ blob) }

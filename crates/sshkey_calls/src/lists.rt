@@ -1,4 +1,4 @@
-//! Where the parts of a certificate stand in its bytes.
+//! Where the parts of a certificate are in its bytes.
 
 ghost use Rattle.std.specs.Prelude.{◌≡◌, ◌≢◌, ◌-◌, Err};
 ghost use Rattle.sshkey_cert_ref.specs.CertificateRef.{certificate_bytes, certificate_of};
@@ -11,7 +11,7 @@ use crate::number::{DONE, error_number};
 use crate::part::Part;
 use sshkey_cert_ref::CertificateRef;
 
-/// Where parts of a certificate stand in its bytes.
+/// Where parts of a certificate are in its bytes.
 #[repr(C)]
 #[derive(Clone, Copy, Debug)]
 pub struct CertificateParts {
@@ -27,7 +27,7 @@ pub struct CertificateParts {
     pub authority: Part,
 }
 
-/// Where the parts of the certificate stand that all the bytes spell.
+/// Where the parts are of the certificate that all the bytes spell.
 ///
 /// Returns 0 if they spell one, and else from 10 to 29 their fault. `next_string` goes over the
 /// principals, and `next_option` over the critical options and over the extensions. Does not
@@ -48,7 +48,7 @@ pub fn certificate_parts(certificate: &[u8], answer: &mut CertificateParts) -> u
     }
 }
 
-/// Where the parts of a certificate stand that was read: they are counted from its end.
+/// Where the parts of a certificate are, counted from its end.
 fn parts_of(read: &CertificateRef<'_>) -> CertificateParts
     ensures { ArePartsOf (certificate_of read.now) (certificate_bytes read.now) result }
 {
@@ -72,7 +72,7 @@ fn parts_of(read: &CertificateRef<'_>) -> CertificateParts
     }
 }
 
-/// The content of a string of so many bytes that ends there. It stands there, so that nothing
+/// The content of that length of the string that ends there. All of it is there, so nothing
 /// saturates.
 fn string_before(end: usize, length: usize) -> Part
     ensures { result ≡ record { start = end - length; length = length } }

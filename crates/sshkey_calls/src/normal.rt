@@ -25,7 +25,7 @@ use sshkey_sshsig::SshSig;
 use std::alloc::Global;
 
 /// The normal form of the key that all the bytes spell, at the front of the room, and its length:
-/// an RSA key stands in it under the name `ssh-rsa`. Other keys have one spelling.
+/// an RSA key has the name `ssh-rsa` there. Other keys have one spelling.
 ///
 /// Returns 0 if they spell one, 2 where the room is too short for it, 1 if memory ran out, and else
 /// from 10 to 29 their fault. With 2 the room is as it was. Memory is taken only for a key that is
@@ -59,8 +59,7 @@ fn write_key(alloc: Global, read: &KeyDataRef<'_>, room: &mut [u8], length: &mut
 }
 
 /// The normal form of the certificate that all the bytes spell, at the front of the room, and its
-/// length: the key that signed stands in its own, and an empty value of an option as an empty
-/// string.
+/// length: the key that signed is in its own, and an empty value of an option is an empty string.
 ///
 /// Returns 0 if they spell one, 2 where the room is too short for it, 1 if memory ran out, and else
 /// from 10 to 29 their fault. With 2 the room is as it was. Memory is taken only for a certificate.
@@ -100,11 +99,11 @@ fn write_certificate(
 }
 
 /// The normal form of the SSH signature that all the bytes spell, at the front of the room, and its
-/// length: the key in it stands in its own.
+/// length: the key in it is in its own.
 ///
 /// Returns 0 if they spell one, 2 where the room is too short for it, 1 if memory ran out, and else
 /// from 10 to 29 their fault. With 2 the room is as it was. Memory is taken only for a part that
-/// stands whole.
+/// is whole.
 pub fn sshsig_normal(alloc: Global, signature: &[u8], room: &mut [u8], length: &mut usize) -> u32
     ensures normal { Writes (IsNormalSshSignature signature.now)
         result length.old length.new room.old room.new }

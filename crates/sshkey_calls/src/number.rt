@@ -26,11 +26,11 @@ pub const TEXT: u32 = 4;
 pub(crate) const BASE64: u32 = 10;
 /// A text is not UTF-8, or has a character that no name has.
 pub(crate) const CHARACTER_ENCODING: u32 = 11;
-/// A name may not stand there.
+/// A name is not allowed there.
 pub(crate) const LABEL: u32 = 12;
 /// A length passes the bytes, or is not the one wanted.
 pub(crate) const LENGTH: u32 = 13;
-/// Bytes stand after the end.
+/// Bytes follow the end.
 pub(crate) const TRAILING_DATA: u32 = 14;
 /// A value does not keep the form of its kind.
 pub(crate) const FORMAT: u32 = 15;

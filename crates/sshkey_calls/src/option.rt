@@ -1,4 +1,4 @@
-//! Options of certificates that stand in bytes, one after the other.
+//! Options of certificates in bytes, one after the other.
 
 ghost use Rattle.std.specs.Prelude.{◌≡◌, ℕ, List, IfSome, IfNone};
 ghost use Rattle.sshkey_model.specs.Options.{HasNesting, Nesting, option_value};
@@ -9,7 +9,7 @@ use crate::number::{DONE, END, LENGTH};
 use crate::part::Part;
 use sshkey_terms::split_string;
 
-/// Where the name and the value of an option stand, and where the next one begins.
+/// Where the name and the value of an option are, and where the next one begins.
 #[repr(C)]
 #[derive(Clone, Copy, Debug)]
 pub struct OptionParts {
@@ -55,7 +55,7 @@ pub fn next_option(bytes: &[u8], place: usize, answer: &mut OptionParts) -> u32
     }
 }
 
-/// The name and the value of the option that the bytes begin with, and what stands after it.
+/// The name and the value of the option that the bytes begin with, and what follows it.
 fn split_option(bytes: &[u8]) -> Option<(&[u8], &[u8], &[u8])>
     ensures split { IfSome result
         (λ found. BeginsWithOption found.0.now found.1.now bytes.now found.2.now) }
@@ -74,7 +74,7 @@ fn split_option(bytes: &[u8]) -> Option<(&[u8], &[u8], &[u8])>
     }
 }
 
-/// The value in the string that stands after a name: nothing, or what the one string in it holds.
+/// The value in the string after a name: nothing, or what the one string in it holds.
 fn value_in(string: &[u8]) -> Option<&[u8]>
     ensures value { IfSome result (λ value. (nesting : Nesting) × HasNesting value.now nesting
         × Fits (option_value value.now nesting)

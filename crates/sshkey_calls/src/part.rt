@@ -15,14 +15,14 @@ use std::alloc::Global;
 #[repr(C)]
 #[derive(Clone, Copy, Debug)]
 pub struct Part {
-    /// How many bytes stand before it.
+    /// How many bytes are before it.
     pub start: usize,
     /// How many bytes it has.
     pub length: usize,
 }
 
-/// No bytes yet, with memory for the value's normal form and for so many more. Fails with `Length`
-/// exactly where `encoded_len` does, and else only when out of memory.
+/// No bytes yet, with memory for the value's normal form and for that many more. Fails with
+/// `Length` exactly where `encoded_len` does, and else only when out of memory.
 pub fn with_capacity<T: Encode>(alloc: Global, value: &T, more: usize) -> Result<Vec<u8>>
     ensures empty { IfOk result (λ content. content.items ≡ []) }
     ensures capacity { IfOk result
@@ -54,7 +54,7 @@ pub fn add(bytes: &[u8], content: &mut Vec<u8>) -> Result<Part>
 
 /// Adds the value's normal form to the bytes that the room is to hold. Fails as `encode` does, with
 /// `Length` only where a string in it is too long, and else only when out of memory; then a
-/// beginning of it may stand after these bytes.
+/// beginning of it may follow these bytes.
 pub fn add_encoded<T: Encode>(value: &T, content: &mut Vec<u8>) -> Result<Part>
     ensures added { IfOk result
         (λ _. content.new.items ≡ content.old.items ++ flat (T.normal value.now)) }

@@ -24,15 +24,15 @@ use sshkey_keys::{KeyData, Question as Asked};
 use sshkey_sshsig::SshSig;
 use std::alloc::Global;
 
-/// What has to be verified of the SSH signature that all the bytes spell, which are what stands in
-/// the armour, decoded: as a signature of the message in that namespace. And by whom it is: the
+/// What has to be verified of the SSH signature that all the bytes spell, which are the decoded
+/// content of the armour: as a signature of the message in that namespace. And by whom it is: the
 /// SHA-256 fingerprint of its key. Whether that key may sign there is the caller's to judge.
 ///
 /// Returns 0 with the question in the room, 2 where the room is too short for it, 1 if memory ran
 /// out, from 10 to 29 the fault of bytes that are no SSH signature, 41 for a signature in another
 /// namespace, and 40 where the key and the signature's algorithm do not go together: such a
 /// signature is not valid. Where the question is answered, the signature is valid exactly if the
-/// verification says yes. Memory is taken only for a part that stands whole.
+/// verification says yes. Memory is taken only for a part that is whole.
 pub fn sshsig_question(
     alloc: Global,
     signature: &[u8],

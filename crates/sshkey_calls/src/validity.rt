@@ -1,15 +1,18 @@
 //! Whether a certificate is valid, given what the caller's verification said.
 
-ghost use Rattle.std.specs.Prelude.{◌≡◌, ◌≢◌, Bool, Err};
+ghost use Rattle.std.specs.Prelude.{◌≡◌, ◌≢◌, ◌↔◌, Bool, Err, IsTrue, MatchOption, option_map};
 ghost use Rattle.std.specs.Str.{IsUtf8};
+ghost use Rattle.sshkey_base.specs.Acceptance.{SpellsSome};
+ghost use Rattle.sshkey_cert.specs.CertificateReaders.{SpellsCertificate};
 ghost use Rattle.sshkey_cert_ref.specs.CertificateRef.{certificate_of, choices_of};
 ghost use Rattle.sshkey_model.specs.Certificates.{certificate_at};
 ghost use Rattle.sshkey_model.specs.Keys.{Plain};
+ghost use Rattle.sshkey_model.specs.Principals.{Allows};
 ghost use Rattle.sshkey_model.specs.Reading.{Fault, whole};
-ghost use Rattle.sshkey_model.specs.Refusals.{first_refusal, first_refusal_for, is_signed};
+ghost use Rattle.sshkey_model.specs.Refusals.{first_refusal, is_signed};
 ghost use Rattle.sshkey_model.specs.Verification.{Question};
 ghost use Rattle.sshkey_calls.specs.Numbers.{fault_number, refusal_number};
-ghost use Rattle.sshkey_calls.specs.Validations.{FindsFirstOr, HasRenamedAuthority, IsGood, IsGoodFor, Says, TellsFirst, TellsFirstFor, Verified, authorities_of, is_yes};
+ghost use Rattle.sshkey_calls.specs.Validations.{FindsFirstOr, HasRenamedAuthority, IsGood, IsGoodFor, Says, TellsFirst, TellsFirstFor, TellsRefusal, Verified, authorities_of, first_refusal_of, is_yes};
 
 use crate::digest::{Sha256Digest, contains_digest};
 use crate::number::{MEMORY, TEXT, error_number, refusal_number};
@@ -46,10 +49,14 @@ pub fn certificate_validate(
         → result ≡ fault_number fault }
     ensures memory { result ≡ 1 → HasRenamedAuthority certificate.now }
 {
-    match CertificateRef::from_bytes(certificate) {
-        Ok(read) => judge(alloc, &read, unix_timestamp, authorities, is_verified),
-        Err(error) => error_number(error),
-    }
+    validate(
+        alloc,
+        certificate,
+        unix_timestamp,
+        None,
+        authorities,
+        is_verified,
+    )
 }
 
 /// The same for a principal: the certificate lists it, or no principals, and 34, the last of what
@@ -79,11 +86,11 @@ pub fn certificate_validate_for(
     ensures memory { result ≡ 1 → HasRenamedAuthority certificate.now }
 {
     match str::from_utf8(principal) {
-        Ok(principal) => validate_for(
+        Ok(principal) => validate(
             alloc,
             certificate,
             unix_timestamp,
-            principal,
+            Some(principal),
             authorities,
             is_verified,
         ),
@@ -91,27 +98,25 @@ pub fn certificate_validate_for(
     }
 }
 
-/// The same for a principal that is a text.
-fn validate_for(
+/// The number of what is wrong first, with the principal too if there is one.
+fn validate(
     alloc: Global,
     certificate: &[u8],
     unix_timestamp: u64,
-    principal: &str,
+    principal: Option<&str>,
     authorities: &[Sha256Digest],
     is_verified: u32,
 ) -> u32
-    ensures exactly { (accepts : Question → Bool) → Verified accepts certificate.now is_verified
-        → Says (IsGoodFor accepts (authorities_of authorities.now) unix_timestamp principal.now
-        certificate.now) result }
     ensures first { (accepts : Question → Bool) → Verified accepts certificate.now is_verified
-        → TellsFirstFor accepts (authorities_of authorities.now) unix_timestamp principal.now
-        certificate.now result }
+        → TellsRefusal (first_refusal_of accepts (authorities_of authorities.now) unix_timestamp
+        (option_map (λ p. p.now) principal.entry)) certificate.now result }
+    ensures spelled { result ≡ 0 → SpellsSome SpellsCertificate certificate.now }
     ensures fault { (fault : Fault) → whole certificate_at certificate.now ≡ Err fault
         → result ≡ fault_number fault }
     ensures memory { result ≡ 1 → HasRenamedAuthority certificate.now }
 {
     match CertificateRef::from_bytes(certificate) {
-        Ok(read) => judge_for(
+        Ok(read) => judge(
             alloc,
             &read,
             unix_timestamp,
@@ -123,16 +128,18 @@ fn validate_for(
     }
 }
 
-/// The number of what is wrong with the certificate first.
+/// The same of a certificate.
 fn judge(
     alloc: Global,
     certificate: &CertificateRef<'_>,
     unix_timestamp: u64,
+    principal: Option<&str>,
     authorities: &[Sha256Digest],
     is_verified: u32,
 ) -> u32
-    ensures told { result ≢ 1 → result ≡ refusal_number (first_refusal (λ _. is_yes is_verified)
-        (authorities_of authorities.now) unix_timestamp (certificate_of certificate.now)) }
+    ensures told { result ≢ 1 → result ≡ refusal_number (first_refusal_of
+        (λ _. is_yes is_verified) (authorities_of authorities.now) unix_timestamp
+        (option_map (λ p. p.now) principal.entry) (certificate_of certificate.now)) }
     ensures memory { result ≡ 1 → (choices_of certificate.now).signature_key ≢ Plain }
 {
     match first_refusal(
@@ -142,38 +149,22 @@ fn judge(
         authorities,
         Verification::of(is_verified),
     ) {
-        Ok(first) => refusal_number(first),
+        Ok(first) => refusal_number(refusal_with_principal(
+            first,
+            is_allowed(certificate, principal),
+        )),
         Err(_) => MEMORY,
     }
 }
 
-/// The same for a principal.
-fn judge_for(
-    alloc: Global,
-    certificate: &CertificateRef<'_>,
-    unix_timestamp: u64,
-    principal: &str,
-    authorities: &[Sha256Digest],
-    is_verified: u32,
-) -> u32
-    ensures told { result ≢ 1 → result ≡ refusal_number (first_refusal_for
-        (λ _. is_yes is_verified) (authorities_of authorities.now) unix_timestamp principal.now
-        (certificate_of certificate.now)) }
-    ensures memory { result ≡ 1 → (choices_of certificate.now).signature_key ≢ Plain }
+/// Whether the certificate allows the principal, if there is one.
+fn is_allowed(certificate: &CertificateRef<'_>, principal: Option<&str>) -> bool
+    ensures { MatchOption principal.entry (IsTrue result)
+        (λ p. IsTrue result ↔ Allows (certificate_of certificate.now) p.now) }
 {
-    let verification = Verification::of(is_verified);
-    match first_refusal(
-        alloc,
-        certificate,
-        unix_timestamp,
-        authorities,
-        verification,
-    ) {
-        Ok(first) => refusal_number(refusal_with_principal(
-            first,
-            certificate.allows_principal(principal),
-        )),
-        Err(_) => MEMORY,
+    match principal {
+        Some(principal) => certificate.allows_principal(principal),
+        None => true,
     }
 }
 
@@ -202,7 +193,7 @@ fn first_refusal(
 
 /// Whether the certificate raises a question, and the verification said yes to it.
 ///
-/// Whether it raises one does not hang on what was signed, so that is not put together; and where
+/// Whether it raises one does not depend on the signed bytes, so they are not assembled. Where
 /// memory for the question is refused, it raises one.
 fn is_signed(alloc: Global, certificate: &CertificateRef<'_>, verification: Verification) -> bool
     ensures { result

@@ -1,4 +1,4 @@
-//! Strings that stand in bytes, one after the other.
+//! Strings in bytes, one after the other.
 
 ghost use Rattle.sshkey_calls.specs.Strings.{FindsString};
 
@@ -6,8 +6,8 @@ use crate::number::{DONE, END, LENGTH};
 use crate::part::Part;
 use sshkey_terms::split_string;
 
-/// The content of the string that begins at that place: what stands after a length of four bytes,
-/// as many bytes as it says (RFC 4251, section 5). The next one begins after it.
+/// The content of the string that begins at that place: what follows a length of four bytes, as
+/// many bytes as it says (RFC 4251, section 5). The next one begins after it.
 ///
 /// Returns 0, 3 exactly where the place is the end of the bytes, and 13 where the length or its
 /// bytes are not all there, or the place is after the end. Does not allocate.
