@@ -3,7 +3,7 @@ use Rattle.std.proofs.Common.{◌≡◌, ◌⊎◌, ℕ, suc, ◌<◌, ◌≤◌
 use Rattle.std.proofs.Math.ListN.{drop_of_length-le}
 use Rattle.std.proofs.Math.Seq.{drop-cons, drop-append-add, drop-append_seam, take-append_seam}
 use Rattle.std.proofs.lemmas.Bool.{cases_lt}
-use Rattle.std.proofs.lemmas.List.{take_all, get_or-take, length-take-le}
+use Rattle.std.proofs.lemmas.List.{get_or-take, length-take-le}
 use Rattle.std.proofs.lemmas.List.Elements.{All-cons, All-from_get_or, All-nil}
 use Rattle.std.proofs.lemmas.List.Quantifiers.{position-Some}
 use Rattle.std.proofs.lemmas.List.Splits.{slice_split_none, slice_split_at, length-slice_split}
@@ -15,10 +15,7 @@ use Rattle.sshkey_entries.specs.OptionEnds.{is_blank}
 use Rattle.sshkey_entries.proofs.Fronts as fronts
 use Rattle.sshkey_entry_calls.specs.Lines.{CutsLine, FindsLine, IsLineEnd, is_line_end}
 use Rattle.sshkey_calls.specs.declared.part.Part.{Part}
-
--- the slice from a place on
-pub whole_slice : (b : List ℕ) (place : ℕ) → take (length b - place) (drop place b) ≡ drop place b
-whole_slice b place = take_all (length b - place) (drop place b) (omega (arith, length-drop place b))
+use Rattle.sshkey_calls.proofs.Strings.{whole_slice}
 
 pub nothing_behind : (b : List ℕ) (place : ℕ) → length b ≤ place → [] ≡ drop place b
 nothing_behind b place h = sym (drop_of_length-le b h)

@@ -20,12 +20,12 @@ use sshkey_public::PublicKey;
 use std::alloc::Global;
 use std::str;
 
-/// Where the parts of an entry stand in the room that was given.
+/// Where the parts of an entry are in the room that was given.
 #[repr(C)]
 #[derive(Clone, Copy, Debug)]
 pub struct EntryParts {
-    /// What stands before the key: the options of an entry of authorized_keys, as they stand in the
-    /// line, or the hosts of one of known_hosts.
+    /// What precedes the key: the options of an entry of authorized_keys, as they are in the line,
+    /// or the hosts of one of known_hosts.
     pub front: Part,
     /// The key's blob in its normal form (RFC 4253, section 6.6).
     pub key: Part,
@@ -89,7 +89,7 @@ fn tell_authorized_key(
 /// The entry of a line of known_hosts as OpenSSH reads it (sshd(8), "SSH_KNOWN_HOSTS FILE FORMAT"):
 /// its marker, its hosts, its key and its comment. Patterns of hosts are joined by commas.
 ///
-/// Returns what `authorized_entry` does. Memory is taken only where hosts stand in the line.
+/// Returns what `authorized_entry` does. Memory is taken only where the line has hosts.
 pub fn known_host(alloc: Global, line: &[u8], room: &mut [u8], answer: &mut EntryParts) -> u32
     ensures entry { IsUtf8 line.now → FindsEntry (IsHostLine line.now) of_known_host
         result answer.old answer.new room.old room.new }

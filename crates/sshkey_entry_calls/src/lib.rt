@@ -3,7 +3,7 @@
 //! host's key.
 //!
 //! As those of `sshkey_calls`, each call answers with a number, and the bytes that it answers with
-//! stand in the caller's room. HMAC-SHA1 is that of `sshkey_known_hosts`.
+//! are in the caller's room. HMAC-SHA1 is that of `sshkey_known_hosts`.
 #![tactic(auto)]
 
 mod authority;

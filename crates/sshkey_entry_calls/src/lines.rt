@@ -56,7 +56,7 @@ fn is_filled(line: &[u8]) -> bool
     }
 }
 
-/// The first line of a text, without its end, and what stands after that.
+/// The first line of a text, without its end, and what follows that.
 fn split_line(text: &[u8]) -> (&[u8], &[u8])
     requires { 0 < length text.now }
     ensures { CutsLine text.now result.0.now result.1.now }
@@ -67,7 +67,7 @@ fn split_line(text: &[u8]) -> (&[u8], &[u8])
     }
 }
 
-/// What stands from that place on.
+/// The bytes from that place on.
 fn rest_from(text: &[u8], place: usize) -> &[u8]
     ensures { result.now ≡ drop place text.now }
 {

@@ -14,11 +14,11 @@ use sshkey_calls::part::{self, Part, add};
 use std::alloc::Global;
 use std::str;
 
-/// Where the name and the value of an option stand in the room that was given.
+/// Where the name and the value of an option are in the room that was given.
 #[repr(C)]
 #[derive(Clone, Copy, Debug)]
 pub struct OptionParts {
-    /// The name as it stands in the line; whether letters are small says nothing.
+    /// The name as it is in the line; whether letters are small says nothing.
     pub name: Part,
     /// The value, without its quotes and without each backslash before a quote; empty where there
     /// is none.

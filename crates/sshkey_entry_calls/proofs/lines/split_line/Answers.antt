@@ -1,4 +1,5 @@
-use Rattle.sshkey_entry_calls.proofs.CutLines.{cut_at, cut_last, whole_slice}
+use Rattle.sshkey_calls.proofs.Strings.{whole_slice}
+use Rattle.sshkey_entry_calls.proofs.CutLines.{cut_at, cut_last}
 use Rattle.sshkey_entry_calls.proofs.lines.split_line.Goals as goal
 
 pub returns-in-Some : goal.returns-in-Some
