@@ -66,6 +66,8 @@ MEANING = {
     Status.HOST_UNKNOWN: "no authority of the host", Status.OTHER_NAMESPACE: "another namespace",
     Status.UNSUPPORTED: "key and signature do not go together",
 }  # fmt: skip
+# the critical options that have an argument
+WITH_ARGUMENT = {"force-command", "source-address"}
 # the extensions in which nothing may stand (PROTOCOL.certkeys)
 FLAGS = {
     "no-touch-required", "permit-X11-forwarding", "permit-agent-forwarding", "permit-port-forwarding", "permit-pty",
@@ -132,6 +134,14 @@ def judge(certificate: bytes, now: int, principal: str | bytes | None, authoriti
     return sshkey.validate_certificate(certificate, now, authorities, is_verified, principal)
 
 
+def is_value(name: str, value: str) -> bool:
+    """Whether the critical option may have the value: nothing stands in verify-required, while a command and addresses have some
+    bytes, none of them 0. Of other names it says nothing."""
+    if name in WITH_ARGUMENT:
+        return value != "" and "\0" not in value
+    return name != "verify-required" or value == ""
+
+
 def is_readable(contents: sshkey.Contents) -> bool:
     """Whether sshd reads the texts and the principals: it reads up to 256 of these, and no byte 0 within one, in the key id or in
     the name of an extension."""
@@ -146,8 +156,10 @@ def validate_user(
     """Whether the certificate logs the user in at that second: Status.DONE, or what is wrong first, a Status or a Refusal.
 
     `key` is the blob of the key of which the client has proved that it holds it. `is_met` says of a critical option, by its name
-    and value, whether it is known and met at this login. Whether the certificate is revoked, whether somebody touched a security
-    key, and what its extensions say is not looked at (docs/FOREIGN.md)."""
+    and value, whether it is known and met at this login. It is asked of no force-command or source-address that is empty or has a
+    zero byte, and of no verify-required with a value: such a one is never met. It must refuse a source-address that is no list of
+    networks. Whether the certificate is revoked, whether somebody touched a security key, and what its extensions say is not looked
+    at (docs/FOREIGN.md)."""
     if not user:  # a certificate may list it
         return Status.UNLISTED_PRINCIPAL
     status = judge(certificate, now, user, authorities)
@@ -158,7 +170,7 @@ def validate_user(
         return Refusal.NOT_FOR_USERS
     if not fields.lists_principals:  # it would be for everybody
         return Refusal.NOBODY_LISTED
-    if not all(is_met(name, value) for name, value in contents.critical_options.items()):
+    if not all(is_value(name, value) and is_met(name, value) for name, value in contents.critical_options.items()):
         return Refusal.UNMET_OPTION
     if any(contents.extensions.get(it) for it in FLAGS):
         return Refusal.FLAG_DATA

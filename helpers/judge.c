@@ -127,6 +127,27 @@ static uint32_t judge_list(const uint8_t *options, size_t length, judge_is_met *
   return answer == SSHKEY_END ? SSHKEY_DONE : answer;
 }
 
+/* Whether the bytes are that text. */
+static bool is_text(const uint8_t *bytes, size_t length, const char *text) {
+  return strlen(text) == length && !memcmp(bytes, text, length);
+}
+
+/* Whether no byte of the text is 0. */
+static bool is_without_zero(const uint8_t *text, size_t length) {
+  return !length || !memchr(text, 0, length);
+}
+
+/* Whether the critical option may have the value: nothing stands in verify-required, while a
+ * command and addresses have some bytes, none of them 0. Of other names it says nothing. */
+static bool is_value(const uint8_t *name, size_t name_length, const uint8_t *value,
+                     size_t value_length, void *given) {
+  (void)given;
+  if (is_text(name, name_length, "verify-required")) return value_length == 0;
+  if (is_text(name, name_length, "force-command") || is_text(name, name_length, "source-address"))
+    return value_length && is_without_zero(value, value_length);
+  return true;
+}
+
 /* Whether nothing stands in the extension, if it is a flag (PROTOCOL.certkeys). */
 static bool is_empty_if_flag(const uint8_t *name, size_t name_length, const uint8_t *value,
                              size_t value_length, void *given) {
@@ -136,17 +157,11 @@ static bool is_empty_if_flag(const uint8_t *name, size_t name_length, const uint
   (void)value;
   (void)given;
   for (size_t at = 0; at < sizeof flags / sizeof *flags; at++)
-    if (strlen(flags[at]) == name_length && !memcmp(name, flags[at], name_length))
-      return value_length == 0;
+    if (is_text(name, name_length, flags[at])) return value_length == 0;
   return true;
 }
 
-/* Whether no byte of the text is 0. */
-static bool is_without_zero(const uint8_t *text, size_t length) {
-  return !length || !memchr(text, 0, length);
-}
-
-/* The same of the name of an extension. */
+/* Whether no byte of the extension's name is 0. */
 static bool is_name_without_zero(const uint8_t *name, size_t name_length, const uint8_t *value,
                                  size_t value_length, void *given) {
   (void)value;
@@ -177,9 +192,11 @@ static uint32_t judge_lists(judge_blob certificate, const judge_login *asked) {
   uint32_t answer = sshkey_certificate_parts(certificate.bytes, certificate.length, &parts);
   if (answer != SSHKEY_DONE) return answer;
   sshkey_part critical = parts.critical_options, extensions = parts.extensions;
+  const uint8_t *options = certificate.bytes + critical.start;
   const uint8_t *names = certificate.bytes + extensions.start;
-  answer = judge_list(certificate.bytes + critical.start, critical.length, asked->is_met,
-                      asked->given, JUDGE_UNMET_OPTION);
+  answer = judge_list(options, critical.length, is_value, NULL, JUDGE_UNMET_OPTION);
+  if (answer == SSHKEY_DONE)
+    answer = judge_list(options, critical.length, asked->is_met, asked->given, JUDGE_UNMET_OPTION);
   if (answer == SSHKEY_DONE)
     answer = judge_list(names, extensions.length, is_empty_if_flag, NULL, JUDGE_FLAG_DATA);
   if (answer == SSHKEY_DONE)

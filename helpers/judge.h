@@ -39,7 +39,9 @@ uint32_t judge_add_authority(judge_authorities *to, const char *line, size_t len
 uint32_t judge_certificate(judge_blob certificate, uint64_t unix_timestamp, const char *principal,
                            judge_authorities by);
 
-/* Whether a critical option of that name is known, and met at this login. */
+/* Whether a critical option of that name is known, and met at this login. It is asked of no
+ * force-command or source-address that is empty or has a zero byte, and of no verify-required with
+ * a value: such a one is never met. It must refuse a source-address that is no list of networks. */
 typedef bool judge_is_met(const uint8_t *name, size_t name_length, const uint8_t *value,
                            size_t value_length, void *given);
 

@@ -12,7 +12,7 @@ asked/rust over the packages. Words are bytes in hexadecimal (- for none), numbe
     sshsig-of-digest BYTES NAMESPACE DIGEST
     is-signature KEY MESSAGE SIGNATURE                       0 and 1 if it verifies, else 0
     user BYTES KEY SECOND USER AUTHORITIES OPTION            what validate_user says, as check.py prints it, where the critical
-                                                             option of that name is met if it has a value
+                                                             option of that name is met if its value is not "unmet"
     host-certificate BYTES SECOND HOST PORT TEXT ..          what validate_host says, as check.py prints it
     fields BYTES                                             0 SERIAL AFTER BEFORE TYPE 0|1 0|1
     lists BYTES                                              0 KEY-ID KEY AUTHORITY, principal=NAME and critical=NAME=VALUE and
@@ -137,7 +137,7 @@ class Answers:
 
     def user(self, data, key, second, user, by, known):
         def is_met(name, value):
-            return name.encode() == data_of(known) and value != ""
+            return name.encode() == data_of(known) and value != "unmet"
 
         given = (data_of(data), data_of(key), int(second), data_of(user), self.digests(by), is_met)
         return [self.check.said(self.check.validate_user(*given))]

@@ -13,12 +13,12 @@ bool __wrap_judge_is_signature(const sshkey_question *question, const uint8_t *r
   return __real_judge_is_signature(question, room);
 }
 
-/* Whether the option has the one name that is known, and a value. */
+/* Whether the option has the one name that is known, and another value than "unmet". */
 static bool is_met(const uint8_t *name, size_t name_length, const uint8_t *value,
                    size_t value_length, void *given) {
   const judge_blob *known = given;
-  (void)value;
-  return name_length == known->length && !memcmp(name, known->bytes, name_length) && value_length;
+  return name_length == known->length && !memcmp(name, known->bytes, name_length)
+         && (value_length != 5 || memcmp(value, "unmet", 5));
 }
 
 /* The bytes of the word as a text of malloc, which ends at its first zero byte. */

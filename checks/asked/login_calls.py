@@ -8,7 +8,7 @@ from unittest.mock import patch
 from lib.harness import ROOT, blob_of, string
 
 from .linked import HELPERS, PEDANTIC, SANITIZED, C, run, word
-from .login_options import CASES, FLAGS, MOST, TEXTS, certificate
+from .login_options import CASES, CRITICAL, FLAGS, MOST, TEXTS, certificate
 from .made import MIDDLE, WINDOW
 
 SOURCE, COMMAND = "source-address=192.0.2.0/24", "force-command=true"
@@ -50,7 +50,8 @@ def cases(maker):
         ("another is known", one, "force-command", "UNMET_OPTION"),
         ("a beginning of its name", one, "source-addres", "UNMET_OPTION"),
         ("the second of two", both, "source-address", "UNMET_OPTION"), ("the first of two", both, "force-command", "UNMET_OPTION"),
-        ("one that is not met", flag, "verify-required", "UNMET_OPTION"),
+        ("one that is not met", made("-n", "alice", "-O", "force-command=unmet"), "force-command", "UNMET_OPTION"),
+        ("a flag", flag, "", "UNMET_OPTION"), ("a flag that is met", flag, "verify-required", "DONE"),
     ):  # fmt: skip
         yield name, blob, own, middle, "alice", by, known, wanted
     # ssh-keygen lists no such name
@@ -113,8 +114,30 @@ def texts(maker):
         yield name, blob_of(line), held, int(time.time()), "alice", by, "source-address", status
 
 
+def values(maker):
+    """The same with values of critical options, about which checks/callers asks sshd, and more. Each option is known."""
+    key = maker.read("user0.pub")
+    own, other = (blob_of(maker.read(f"user{it}.pub")) for it in (0, 1))
+    by = hashlib.sha256(blob_of(maker.read("authority0.pub"))).digest()
+    for name, critical, held, wanted in (
+        *((name, it, own, wanted) for name, it, _, wanted, _ in CASES if it),
+        ("a zero byte behind addresses", {"source-address": string(b"::/0\0")}, own, CRITICAL),
+        *((f"a zero byte in {it}", {it: string(b"\0")}, own, CRITICAL) for it in ("force-command", "source-address", "verify-required")),
+        ("an empty command, and another key", {"force-command": b""}, other, CRITICAL),
+        ("the name of a flag and more, with data", {"verify-required2": string(b"1")}, own, "ok"),
+        ("a beginning of the name of a flag, with data", {"verify-require": string(b"1")}, own, "ok"),
+        *((f"without a value, and of a name like another's: {it}", {it: b""}, own, "ok") for it in ("force-comman", "source-address2")),
+        ("a zero byte in the value of another name", {"x@example.com": string(b"a\0b")}, own, "ok"),
+    ):  # fmt: skip
+        line = certificate(maker, "authority0", key, string(b"alice"), critical, {})
+        status = "UNMET_OPTION" if wanted == CRITICAL else "DONE"
+        if string(b"") in critical.values():  # that is no normal form, over which the signature would be
+            status = "NOT_SIGNED"
+        yield name, blob_of(line), held, int(time.time()), "alice", by, *critical, status
+
+
 def all_cases(maker):
-    return [*cases(maker), *extensions(maker), *texts(maker)]
+    return [*cases(maker), *extensions(maker), *texts(maker), *values(maker)]
 
 
 def turned(blob):

@@ -21,9 +21,9 @@ type Login struct {
 	// Authorities are the fingerprints of the keys that may sign certificates of users.
 	Authorities []sshkey.SHA256
 	// IsMet says of a critical option, by its name and value, whether it is known and met at this
-	// login. Where it is nil, none is. Say no to a force-command or a source-address that is empty
-	// or has a zero byte (docs/FORMATS.md says which of these sshd refuses), to a source-address
-	// that is no list of networks, and to a value of verify-required.
+	// login. Where it is nil, none is. It is asked of no force-command or source-address that is
+	// empty or has a zero byte, and of no verify-required with a value: such a one is never met.
+	// Say no to a source-address that is no list of networks.
 	IsMet func(name, value string) bool
 }
 
@@ -80,7 +80,7 @@ func ValidateUser(certificate []byte, login Login) error {
 // judgeOptions gives nil where each critical option is met and sshd reads the extensions.
 func judgeOptions(contents sshkey.Contents, isMet func(name, value string) bool) error {
 	for name, value := range contents.CriticalOptions {
-		if isMet == nil || !isMet(name, value) {
+		if isMet == nil || !isValue(name, value) || !isMet(name, value) {
 			return ErrUnmetOption
 		}
 	}
@@ -90,6 +90,18 @@ func judgeOptions(contents sshkey.Contents, isMet func(name, value string) bool)
 		}
 	}
 	return nil
+}
+
+// isValue says whether the critical option may have the value: nothing stands in verify-required,
+// while a command and addresses have some bytes, none of them 0. Of other names it says nothing.
+func isValue(name, value string) bool {
+	switch name {
+	case "force-command", "source-address":
+		return value != "" && strings.IndexByte(value, 0) < 0
+	case "verify-required":
+		return value == ""
+	}
+	return true
 }
 
 // isReadable says whether sshd reads the texts and the principals: it reads up to 256 of these, and

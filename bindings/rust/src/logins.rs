@@ -38,9 +38,9 @@ pub struct Login<'a> {
 
 /// Whether the certificate, given as its blob, logs the user in. `verify` is your cryptography, and
 /// `is_met` says of a critical option, by its name and value, whether it is known and met at this
-/// login; let it say no to a `force-command` or a `source-address` that is empty or has a zero byte
-/// (docs/FORMATS.md says which of these sshd refuses), to a `source-address` that is no list of
-/// networks, and to data in `verify-required`.
+/// login. It is asked of no `force-command` or `source-address` that is empty or has a zero byte,
+/// and of no `verify-required` with a value: such a one is never met. Let it say no to a
+/// `source-address` that is no list of networks.
 ///
 /// Fails with what is wrong first: as [`judge_certificate`] does, which may be [`Status::MEMORY`];
 /// with [`Refusal::NotForUsers`], [`Refusal::NobodyListed`], [`Refusal::UnmetOption`],
@@ -87,7 +87,7 @@ fn judge_options(
 ) -> Result<(), Refusal> {
     for option in contents.critical_options.clone() {
         let option = option?;
-        if !is_met(option.name, option.value) {
+        if !is_value(option.name, option.value) || !is_met(option.name, option.value) {
             return Err(Refusal::UnmetOption);
         }
     }
@@ -98,6 +98,16 @@ fn judge_options(
         }
     }
     Ok(())
+}
+
+/// Whether the critical option may have the value: nothing stands in `verify-required`, while a
+/// command and addresses have some bytes, none of them 0. Of other names it says nothing.
+fn is_value(name: &str, value: &str) -> bool {
+    match name {
+        "force-command" | "source-address" => !value.is_empty() && !value.contains('\0'),
+        "verify-required" => value.is_empty(),
+        _ => true,
+    }
 }
 
 /// Whether sshd reads the texts and the principals: it reads up to 256 of these, and no byte 0

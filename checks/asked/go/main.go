@@ -256,7 +256,7 @@ func user(of []string) string {
 		Key: data(of[1]), Now: at(of[2]), User: text(of[3]), Authorities: digests(of[4]),
 	}
 	if known := text(of[5]); known != "" {
-		login.IsMet = func(name, value string) bool { return name == known && value != "" }
+		login.IsMet = func(name, value string) bool { return name == known && value != "unmet" }
 	}
 	return judge.Said(judge.ValidateUser(data(of[0]), login))
 }

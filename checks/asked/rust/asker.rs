@@ -108,7 +108,7 @@ fn user(given: &[&str]) -> Answer {
         unix_timestamp: number(given[2]),
         authorities: &by,
     };
-    let is_met = |name: &str, value: &str| name.as_bytes() == known && !value.is_empty();
+    let is_met = |name: &str, value: &str| name.as_bytes() == known && value != "unmet";
     let verifies = check::verify::verifies;
     let answer = sshkey::validate_user(&data(given[0]), &login, verifies, is_met);
     Ok(check::line_for(answer))
