@@ -16,6 +16,7 @@ mod hosts;
 mod issued;
 mod keys;
 mod kinds;
+mod krl;
 mod messages;
 mod names;
 mod narrow;

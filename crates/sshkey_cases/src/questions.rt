@@ -3,7 +3,7 @@
 use crate::bytes::{NO_LINE, erase, part, parts, text};
 use crate::wire::shown;
 use crate::{
-    again, certificates, copies, drawn, entries, faulty, files, hosts, issued, keys, kinds,
+    again, certificates, copies, drawn, entries, faulty, files, hosts, issued, keys, kinds, krl,
     messages, names, narrow, openssh_lines, option_items, pairs, privates, signatures, slices,
     validity, wire, without_memory,
 };
@@ -212,6 +212,7 @@ fn answer_of_slices(alloc: Global, question: &str, parts: &[Vec<u8>]) -> Result<
         "certificate-parts" => certificates::parts(alloc, bytes),
         "validity-slice" | "validity-of-slice" => validity::slice(alloc, parts),
         "accepted-slice" => signatures::accepted_slice(alloc, parts),
+        "krl" => krl::said(alloc, parts),
         _ => answer_of_certificates(alloc, question, parts),
     }
 }
