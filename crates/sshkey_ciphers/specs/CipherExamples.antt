@@ -1,9 +1,10 @@
--- Worked examples: names of ciphers, and key derivations.
+-- Worked examples: names of ciphers, key derivations, and padding.
 use Rattle.std.specs.Prelude.{◌≡◌, ℕ, List, [], ◌∷◌, ◌++◌, length, Ok, Err, codes}
 use Rattle.sshkey_model.specs.Parts.{flat}
-use Rattle.sshkey_model.specs.Reading.{Length, Label, AlgorithmUnknown, TrailingData}
+use Rattle.sshkey_model.specs.Reading.{Length, Label, FormatEncoding, AlgorithmUnknown, TrailingData}
 use Rattle.sshkey_model.specs.KeyDerivation.{Kdf, NoKdf, Bcrypt, kdf}
 use Rattle.sshkey_ciphers.specs.KdfFormats.{cipher_at, kdf_at}
+use Rattle.sshkey_ciphers.specs.Paddings.{padding_end}
 
 abbrev pub UnknownCipher : Type 0
 UnknownCipher = cipher_at (0 ∷ 0 ∷ 0 ∷ 4 ∷ codes "None") ≡ Err Label
@@ -26,3 +27,8 @@ KdfHeaders = (flat (kdf example_kdf) ≡ example_kdf_bytes) × (length example_k
 abbrev pub KdfOptions : Type 0
 KdfOptions = (kdf_at (0 ∷ 0 ∷ 0 ∷ 6 ∷ codes "bcrypt" ++ 0 ∷ 0 ∷ 0 ∷ 9 ∷ 0 ∷ 0 ∷ 0 ∷ 0 ∷ 0 ∷ 0 ∷ 0 ∷ 16 ∷ 0 ∷ []) ≡ Err (TrailingData 1))
     × (kdf_at (0 ∷ 0 ∷ 0 ∷ 6 ∷ codes "bcrypt" ++ 0 ∷ 0 ∷ 0 ∷ 7 ∷ 0 ∷ 0 ∷ 0 ∷ 0 ∷ 0 ∷ 0 ∷ 0 ∷ []) ≡ Err Length)
+
+-- fewer bytes than the limit, 01, 02, 03 and so on
+abbrev pub PaddingEnds : Type 0
+PaddingEnds = (padding_end 8 [] ≡ Ok tt) × (padding_end 8 (1 ∷ 2 ∷ 3 ∷ 4 ∷ 5 ∷ 6 ∷ 7 ∷ []) ≡ Ok tt)
+    × (padding_end 8 (1 ∷ 2 ∷ 3 ∷ 4 ∷ 5 ∷ 6 ∷ 7 ∷ 8 ∷ []) ≡ Err Length) × (padding_end 8 (0 ∷ []) ≡ Err FormatEncoding)

@@ -5,7 +5,7 @@ use Rattle.sshkey_model.specs.Reading.{Fault, Label, AlgorithmUnknown, Whole}
 use Rattle.sshkey_model.specs.Names.{named, or_label, are_ascii}
 use Rattle.sshkey_model.specs.KeyDerivation as model
 use Rattle.sshkey_model.specs.KeyDerivation.{cipher_name, ciphers, kdf_name, kdf_algorithms}
-pub use Rattle.sshkey_model.proofs.KeyDerivationReaders.{cipher_checks, kdf_algorithm_checks}
+pub use Rattle.sshkey_model.proofs.CipherNames.{cipher_checks, kdf_algorithm_checks}
 use Rattle.sshkey_base.specs.LabelLaws.{unlisted_label}
 use Rattle.sshkey_ciphers.specs.declared.cipher.Cipher.{Cipher}
 use Rattle.sshkey_ciphers.specs.declared.cipher.Cipher.TheVariants as cipher

@@ -1,7 +1,7 @@
-//! Worked examples of ciphers and key derivations, and both sides of each edge.
+//! Worked examples of ciphers, key derivations and padding, and both sides of each edge.
 #![tactic(auto, unfolding(sshkey_model::specs::Parts::flat, sshkey_model::specs::Reading::string_at, sshkey_model::specs::Reading::number_at, sshkey_model::specs::Reading::bytes_at, sshkey_model::specs::Reading::box_at, sshkey_model::specs::Names::named, sshkey_base::specs::Labels::label_at, sshkey_terms::specs::Behind::behind_at, crate::specs::KdfFormats::kdf_at))]
 
-ghost use Rattle.sshkey_ciphers.specs.CipherExamples.{KdfHeaders, KdfOptions, UnknownCipher};
+ghost use Rattle.sshkey_ciphers.specs.CipherExamples.{KdfHeaders, KdfOptions, PaddingEnds, UnknownCipher};
 
 /// Names of ciphers are told apart by case.
 pub fn unknown_cipher()
@@ -16,4 +16,9 @@ pub fn kdf_headers()
 /// The options of bcrypt are a string that salt and rounds cover exactly.
 pub fn kdf_options()
     ensures { KdfOptions }
+{}
+
+/// Padding is shorter than a block, and may be missing.
+pub fn padding_ends()
+    ensures { PaddingEnds }
 {}

@@ -9,10 +9,9 @@ pub mod KeyReaders
 pub mod SignatureReaders
 pub mod OptionReaders
 pub mod CertificateReaders
-pub mod KeyDerivationReaders
+pub mod CipherNames
 pub mod KeyPairReaders
-pub mod Padding
-pub mod PrivateKeyReaders
+pub mod EqualKeys
 pub mod NormalForms
 pub mod NormalFits
 pub mod SignedBytes

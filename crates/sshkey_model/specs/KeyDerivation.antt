@@ -1,11 +1,9 @@
 -- Ciphers and key derivation of private keys (PROTOCOL.key; RFC 4253, section 6.3; RFC 4344,
 -- section 4; PROTOCOL; PROTOCOL.chacha20poly1305).
-use Rattle.std.specs.Prelude.{ℕ, ◌-◌, ◌%◌, List, [], ◌∷◌, Result, Ok, Err, ◌==◌, if◌then◌else◌, codes}
+use Rattle.std.specs.Prelude.{ℕ, ◌-◌, ◌%◌, List, [], ◌∷◌, codes}
 use Rattle.std.specs.Int.{w32}
 use Rattle.sshkey_model.specs.Parts.{Parts, number, box, ◌&◌}
-use Rattle.sshkey_model.specs.Reading.{Fault, AlgorithmUnknown, ◌>>=◌, Front, whole, box_at, string_at, number_at, checked_at}
 use Rattle.sshkey_model.specs.Texts.{string}
-use Rattle.sshkey_model.specs.Names.{named, or_label}
 
 -- ---- ciphers
 
@@ -100,32 +98,3 @@ kdf_options (Bcrypt o) = box (bcrypt_options o)
 
 abbrev pub kdf : Kdf → Parts
 kdf k = kdf_algorithm (derivation k) & kdf_options k
-
--- ---- reading
-
-unfoldable pub cipher_at : Front Cipher
-cipher_at = checked_at (λ n. or_label (named cipher_name ciphers n)) string_at
-
-unfoldable pub kdf_algorithm_at : Front KdfAlgorithm
-kdf_algorithm_at = checked_at (λ n. or_label (named kdf_name kdf_algorithms n)) string_at
-
-abbrev pub no_options : ℕ → Result Kdf Fault
-no_options n = if n == 0 then Ok NoKdf else Err AlgorithmUnknown
-
-unfoldable pub bcrypt_options_at : Front BcryptOptions
-bcrypt_options_at b = do
-  salt ← string_at b
-  rounds ← number_at w32 salt.1
-  Ok (record { salt = salt.0; rounds = rounds.0 }, rounds.1)
-
-abbrev pub kdf_options_at : KdfAlgorithm → Front Kdf
-kdf_options_at NoDerivation b = checked_at no_options (number_at w32) b
-kdf_options_at BcryptDerivation b = do
-  options ← box_at (whole bcrypt_options_at) b
-  Ok (Bcrypt options.0, options.1)
-
-unfoldable pub kdf_at : Front Kdf
-kdf_at b = do
-  name ← kdf_algorithm_at b
-  k ← kdf_options_at name.0 name.1
-  Ok k

@@ -1,14 +1,14 @@
--- Worked examples of key derivations, key pairs and private keys.
+-- Worked examples of ciphers, key pairs and private keys.
 use Rattle.std.specs.Prelude.{◌≡◌, ℕ, List, [], ◌∷◌, ◌++◌, length, map, replicate, true, false, Some, None, Ok, Err, codes}
 use Rattle.sshkey_model.specs.Parts.{flat}
-use Rattle.sshkey_model.specs.Reading.{Length, Label, FormatEncoding, AlgorithmUnknown, Crypto, PublicKey, TrailingData, TrailingKeyData, whole}
+use Rattle.sshkey_model.specs.Reading.{Length, FormatEncoding, AlgorithmUnknown, Crypto, TrailingData}
 use Rattle.sshkey_model.specs.Names.{Nistp256, Nistp384, Algorithm}
-use Rattle.sshkey_model.specs.Keys.{Ed25519, SecurityKey, Head512}
-use Rattle.sshkey_model.specs.KeyDerivation.{Cipher, Aes256Ctr, cipher_name, ciphers, block_size, tag_size, padding_length, cipher_at, Kdf, NoKdf, Bcrypt, kdf, kdf_at}
+use Rattle.sshkey_model.specs.Keys.{SecurityKey, Head512}
+use Rattle.sshkey_model.specs.KeyDerivation.{Cipher, cipher_name, ciphers, block_size, tag_size, padding_length}
 use Rattle.sshkey_model.specs.KeyPairs.{SecurityPrivate, pair, Plain, WithoutZero, WithZero, Short, is_high, scalar, scalar_at, KeyPair, DsaPair, EcdsaPair, Ed25519Pair, RsaPair, SkEcdsaPair, SkEd25519Pair, OpaquePair, pair_at, keypair_at, normal_keypair, derived_checkint, written_checkint}
-use Rattle.sshkey_model.specs.PrivateKeys.{PrivateKey, Encrypted, new_private_key, plain_private_key, normal_private_key, padding, end_padding, padded_from, private_part_at, decoded_private_key_at}
+use Rattle.sshkey_model.specs.PrivateKeys.{PrivateKey, new_private_key, normal_private_key, padding}
 
--- ---- ciphers and key derivation
+-- ---- ciphers
 
 abbrev pub row : Cipher → List ℕ × (ℕ × ℕ)
 row c = (cipher_name c, (block_size c, tag_size c))
@@ -21,32 +21,10 @@ CipherTable = map row ciphers ≡
     ∷ (codes "aes128-ctr", (16, 0)) ∷ (codes "aes192-ctr", (16, 0)) ∷ (codes "aes256-ctr", (16, 0))
     ∷ (codes "aes128-gcm@openssh.com", (16, 16)) ∷ (codes "aes256-gcm@openssh.com", (16, 16)) ∷ (codes "chacha20-poly1305@openssh.com", (8, 16)) ∷ []
 
-abbrev pub UnknownCipher : Type 0
-UnknownCipher = cipher_at (0 ∷ 0 ∷ 0 ∷ 4 ∷ codes "None") ≡ Err Label
-
 -- a multiple of the block needs none, one byte less needs one, one byte more needs the most
 abbrev pub PaddingLengths : Type 0
 PaddingLengths = (padding_length 8 136 ≡ 0) × (padding_length 8 135 ≡ 1) × (padding_length 8 137 ≡ 7) × (padding_length 8 0 ≡ 0)
     × (padding_length 16 32 ≡ 0) × (padding_length 16 31 ≡ 1) × (padding_length 16 33 ≡ 15)
-
-abbrev pub example_kdf : Kdf
-example_kdf = Bcrypt (record { salt = 0 ∷ 1 ∷ 2 ∷ 3 ∷ 4 ∷ 5 ∷ 6 ∷ 7 ∷ 8 ∷ 9 ∷ 10 ∷ 11 ∷ 12 ∷ 13 ∷ 14 ∷ 15 ∷ []; rounds = 16 })
-
-abbrev pub example_kdf_bytes : List ℕ
-example_kdf_bytes = 0 ∷ 0 ∷ 0 ∷ 6 ∷ 98 ∷ 99 ∷ 114 ∷ 121 ∷ 112 ∷ 116 ∷ 0 ∷ 0 ∷ 0 ∷ 24 ∷ 0 ∷ 0 ∷ 0 ∷ 16 ∷ 0 ∷ 1 ∷ 2 ∷ 3 ∷ 4 ∷ 5 ∷ 6 ∷ 7 ∷ 8 ∷ 9 ∷ 10 ∷ 11 ∷ 12 ∷ 13 ∷ 14 ∷ 15 ∷ 0 ∷ 0 ∷ 0 ∷ 16 ∷ []
-
-abbrev pub no_kdf_bytes : ℕ → List ℕ
-no_kdf_bytes last = 0 ∷ 0 ∷ 0 ∷ 4 ∷ 110 ∷ 111 ∷ 110 ∷ 101 ∷ 0 ∷ 0 ∷ 0 ∷ last ∷ []
-
-abbrev pub KdfHeaders : Type 0
-KdfHeaders = (flat (kdf example_kdf) ≡ example_kdf_bytes) × (length example_kdf_bytes ≡ 38) × (kdf_at example_kdf_bytes ≡ Ok (example_kdf, []))
-    × (flat (kdf NoKdf) ≡ no_kdf_bytes 0) × (kdf_at (no_kdf_bytes 0) ≡ Ok (NoKdf, [])) × (kdf_at (no_kdf_bytes 1) ≡ Err AlgorithmUnknown)
-    × (kdf_at (0 ∷ 0 ∷ 0 ∷ 6 ∷ codes "scrypt" ++ 0 ∷ 0 ∷ 0 ∷ 0 ∷ []) ≡ Err Label)
-
--- a byte too much among the options of bcrypt, and one too few
-abbrev pub KdfOptions : Type 0
-KdfOptions = (kdf_at (0 ∷ 0 ∷ 0 ∷ 6 ∷ codes "bcrypt" ++ 0 ∷ 0 ∷ 0 ∷ 9 ∷ 0 ∷ 0 ∷ 0 ∷ 0 ∷ 0 ∷ 0 ∷ 0 ∷ 16 ∷ 0 ∷ []) ≡ Err (TrailingData 1))
-    × (kdf_at (0 ∷ 0 ∷ 0 ∷ 6 ∷ codes "bcrypt" ++ 0 ∷ 0 ∷ 0 ∷ 7 ∷ 0 ∷ 0 ∷ 0 ∷ 0 ∷ 0 ∷ 0 ∷ 0 ∷ []) ≡ Err Length)
 
 -- ---- private scalars
 
@@ -186,29 +164,6 @@ example_bytes = front_bytes ++ 0 ∷ 0 ∷ 0 ∷ 0x88 ∷ [] ++ part_bytes one o
 abbrev pub WrittenKey : Type 0
 WrittenKey = (flat (normal_private_key example_key) ≡ example_bytes) × (length example_bytes ≡ 234) × (length (part_bytes one one []) ≡ 131)
 
-abbrev pub ReadKey : Type 0
-ReadKey = (whole decoded_private_key_at example_bytes ≡ Ok (example_key, plain_private_key)) × (whole decoded_private_key_at (example_bytes ++ 0 ∷ []) ≡ Err (TrailingData 1))
-    × (decoded_private_key_at (example_bytes ++ 0 ∷ []) ≡ Ok ((example_key, plain_private_key), 0 ∷ []))
-
--- a checkint that is not repeated, a pair of another public key, a part that is no multiple of 8
-abbrev pub RefusedParts : Type 0
-RefusedParts = (padded_from (private_part_at (Ed25519 example_public)) (part_bytes one (2 ∷ 0 ∷ 0 ∷ 0 ∷ []) (1 ∷ 2 ∷ 3 ∷ 4 ∷ 5 ∷ [])) ≡ Err Crypto)
-    × (padded_from (private_part_at (Ed25519 (replicate 32 0))) (part_bytes one one (1 ∷ 2 ∷ 3 ∷ 4 ∷ 5 ∷ [])) ≡ Err PublicKey)
-    × (padded_from (private_part_at (Ed25519 example_public)) (part_bytes one one (1 ∷ 2 ∷ 3 ∷ 4 ∷ [])) ≡ Err Length)
-
--- another magic, two keys, no key, and too few bytes
-abbrev pub RefusedFronts : Type 0
-RefusedFronts = (decoded_private_key_at (codes "openssh-key-v2" ++ 0 ∷ []) ≡ Err FormatEncoding)
-    × (decoded_private_key_at (codes "openssh-key-v1" ++ 0 ∷ [] ++ short_string 4 (codes "none") ++ no_kdf_bytes 0 ++ 0 ∷ 0 ∷ 0 ∷ 2 ∷ []) ≡ Err Length)
-    × (decoded_private_key_at (codes "openssh-key-v1" ++ 0 ∷ [] ++ short_string 4 (codes "none") ++ no_kdf_bytes 0 ++ 0 ∷ 0 ∷ 0 ∷ 0 ∷ []) ≡ Err Length)
-    × (decoded_private_key_at (codes "openssh-key-v1") ≡ Err Length)
-
--- a wrong last byte of the padding, a block of it too much, and a whole block where none is wanted
-abbrev pub RefusedPaddings : Type 0
-RefusedPaddings = (padded_from (private_part_at (Ed25519 example_public)) (part_bytes one one (1 ∷ 2 ∷ 3 ∷ 4 ∷ 6 ∷ [])) ≡ Err FormatEncoding)
-    × (padded_from (private_part_at (Ed25519 example_public)) (part_bytes one one (1 ∷ 2 ∷ 3 ∷ 4 ∷ 5 ∷ 6 ∷ 7 ∷ 8 ∷ 9 ∷ 10 ∷ 11 ∷ 12 ∷ 13 ∷ [])) ≡ Err Length)
-    × (padded_from (private_part_at (Ed25519 example_public)) (one ++ one ++ short_string 11 (codes "ssh-ed25519") ++ pair_bytes example_public ++ short_string 5 (replicate 5 0x78) ++ 1 ∷ 2 ∷ 3 ∷ 4 ∷ 5 ∷ 6 ∷ 7 ∷ 8 ∷ []) ≡ Err Length)
-
 -- with a comment of 5 bytes no padding, with one of 6 bytes seven
 abbrev pub commented_key : ℕ → PrivateKey
 commented_key n = new_private_key example_pair (replicate n 0x78)
@@ -216,35 +171,3 @@ commented_key n = new_private_key example_pair (replicate n 0x78)
 abbrev pub PaddingEdges : Type 0
 PaddingEdges = (length (flat (normal_private_key (commented_key 5))) ≡ 234) × (length (flat (normal_private_key (commented_key 6))) ≡ 242)
     × (padding 136 ≡ []) × (padding 137 ≡ 1 ∷ 2 ∷ 3 ∷ 4 ∷ 5 ∷ 6 ∷ 7 ∷ []) × (padding 143 ≡ 1 ∷ [])
-    × (end_padding example_key [] ≡ Ok example_key) × (end_padding example_key (1 ∷ 2 ∷ 3 ∷ 4 ∷ 5 ∷ 6 ∷ 7 ∷ []) ≡ Ok example_key)
-    × (end_padding example_key (1 ∷ 2 ∷ 3 ∷ 4 ∷ 5 ∷ 6 ∷ 7 ∷ 8 ∷ []) ≡ Err Length) × (end_padding example_key (0 ∷ []) ≡ Err FormatEncoding)
-
--- ---- encrypted keys
-
-abbrev pub sealed_key : List ℕ → PrivateKey
-sealed_key ciphertext = Encrypted (record { cipher = Aes256Ctr; kdf = Bcrypt (record { salt = replicate 16 0x11; rounds = 16 }); public = Ed25519 example_public; ciphertext = ciphertext; tag = [] })
-
-abbrev pub sealed_bytes : List ℕ → List ℕ → List ℕ
-sealed_bytes name ciphertext = codes "openssh-key-v1" ++ 0 ∷ [] ++ name ++ short_string 6 (codes "bcrypt") ++ short_string 24 (short_string 16 (replicate 16 0x11)) ++ 0 ∷ 0 ∷ 0 ∷ 16 ∷ 0 ∷ 0 ∷ 0 ∷ 1 ∷ [] ++ short_string 51 example_key_bytes ++ ciphertext
-
-abbrev pub aes256_ctr : List ℕ
-aes256_ctr = short_string 10 (codes "aes256-ctr")
-
-abbrev pub block : List ℕ
-block = short_string 16 (replicate 16 0)
-
-abbrev pub EncryptedKeys : Type 0
-EncryptedKeys = (flat (normal_private_key (sealed_key (replicate 16 0))) ≡ sealed_bytes aes256_ctr block) × (length (sealed_bytes aes256_ctr block) ≡ 146)
-    × (whole decoded_private_key_at (sealed_bytes aes256_ctr block) ≡ Ok (sealed_key (replicate 16 0), plain_private_key))
-    × (whole decoded_private_key_at (sealed_bytes aes256_ctr (short_string 0 [])) ≡ Ok (sealed_key [], plain_private_key))
-
--- 15 bytes of ciphertext, a byte behind the key, and the cipher `none` with a key derivation
-abbrev pub RefusedEncryptedKeys : Type 0
-RefusedEncryptedKeys = (decoded_private_key_at (sealed_bytes aes256_ctr (short_string 15 (replicate 15 0))) ≡ Err Crypto)
-    × (decoded_private_key_at (sealed_bytes aes256_ctr (block ++ 0 ∷ [])) ≡ Err (TrailingKeyData 1))
-    × (decoded_private_key_at (sealed_bytes (short_string 4 (codes "none")) block) ≡ Err Crypto)
-
--- behind the ciphertext of an authenticating cipher stand 16 bytes, no fewer
-abbrev pub Tags : Type 0
-Tags = (decoded_private_key_at (sealed_bytes (short_string 22 (codes "aes256-gcm@openssh.com")) (block ++ replicate 15 7)) ≡ Err Length)
-    × (decoded_private_key_at (sealed_bytes (short_string 22 (codes "aes256-gcm@openssh.com")) (block ++ replicate 17 7)) ≡ Err (TrailingKeyData 1))

@@ -1,14 +1,12 @@
 -- Private keys (PROTOCOL.key).
-use Rattle.std.specs.Prelude.{◌≡◌, ℕ, zero, suc, ◌%◌, List, [], ◌∷◌, ◌++◌, length, Bool, true, false, ◌&&◌, Result, Ok, Err, nat_lt, ◌==◌, if◌then◌else◌, codes, bytes_eq}
+use Rattle.std.specs.Prelude.{◌≡◌, ℕ, zero, suc, ◌%◌, List, [], ◌∷◌, ◌++◌, length, Bool, true, false, ◌&&◌, codes, bytes_eq}
 use Rattle.std.specs.Int.{w32}
-use Rattle.sshkey_model.specs.Parts.{Parts, bytes, number, box, ◌&◌, flat, Fits}
-use Rattle.sshkey_model.specs.Reading.{Fault, Length, FormatEncoding, Crypto, PublicKey, TrailingKeyData, ◌>>=◌, Front, Whole, whole, box_at, string_at, number_at, bytes_at, checked_at, literal_at}
-use Rattle.sshkey_model.specs.Grammar.{IsSpelled, spelled}
-use Rattle.sshkey_model.specs.Texts.{string, IsText, text_at}
+use Rattle.sshkey_model.specs.Parts.{Parts, bytes, number, box, ◌&◌, flat}
+use Rattle.sshkey_model.specs.Texts.{string, IsText}
 use Rattle.sshkey_model.specs.Points.{curve_eq}
-use Rattle.sshkey_model.specs.Keys.{Key, Dsa, Ecdsa, Ed25519, Rsa, SkEcdsa, SkEd25519, Opaque, DsaKey, IsKey, key, key_at, key_algorithm, Head, Plain, HasHead}
-use Rattle.sshkey_model.specs.KeyDerivation.{Cipher, NoCipher, block_size, tag_size, padding_length, cipher, cipher_at, Kdf, NoKdf, Bcrypt, kdf, kdf_at}
-use Rattle.sshkey_model.specs.KeyPairs.{KeyPair, public_half, KeyPairChoices, plain_pair, IsKeyPair, HasKeyPairPlaces, keypair, keypair_at, derived_checkint}
+use Rattle.sshkey_model.specs.Keys.{Key, Dsa, Ecdsa, Ed25519, Rsa, SkEcdsa, SkEd25519, Opaque, DsaKey, IsKey, key, key_algorithm, Head, Plain, HasHead}
+use Rattle.sshkey_model.specs.KeyDerivation.{Cipher, NoCipher, block_size, tag_size, padding_length, cipher, Kdf, NoKdf, kdf}
+use Rattle.sshkey_model.specs.KeyPairs.{KeyPair, public_half, KeyPairChoices, plain_pair, IsKeyPair, HasKeyPairPlaces, keypair, derived_checkint}
 
 pub record UnencryptedKey : Type 0 where
   pub checkint : ℕ
@@ -110,7 +108,7 @@ HasContentPlaces (Encrypted k) s = s ≡ plain_pair
 abbrev pub HasPrivateKeyPlaces : PrivateKey → PrivateKeyChoices → Type 0
 HasPrivateKeyPlaces k s = HasHead (key_algorithm (public_key k)) s.outer × HasContentPlaces k s.pair
 
--- ---- reading
+-- ---- equal keys
 
 abbrev pub dsa_eq : DsaKey → DsaKey → Bool
 dsa_eq k l = bytes_eq k.p l.p && bytes_eq k.q l.q && bytes_eq k.g l.g && bytes_eq k.y l.y
@@ -125,63 +123,6 @@ key_eq (SkEd25519 k) (SkEd25519 l) = bytes_eq k.key l.key && bytes_eq k.applicat
 key_eq (Opaque n k) (Opaque m l) = bytes_eq n m && bytes_eq k l
 key_eq _ _ = false
 
--- the checkint again
-abbrev pub same_checkint : ℕ → ℕ → Result ℕ Fault
-same_checkint checkint again = if again == checkint then Ok again else Err Crypto
-
--- a pair whose public half is the public key
-abbrev pub of_key : Key → KeyPair × KeyPairChoices → Result (KeyPair × KeyPairChoices) Fault
-of_key public x = if key_eq (public_half x.0) public then Ok x else Err PublicKey
-
-unfoldable pub private_part_at : Key → Front (UnencryptedKey × KeyPairChoices)
-private_part_at public b = do
-  checkint ← number_at w32 b
-  again ← checked_at (same_checkint checkint.0) (number_at w32) checkint.1
-  pair ← checked_at (of_key public) keypair_at again.1
-  comment ← text_at pair.1
-  Ok ((record { checkint = checkint.0; pair = pair.0.0; comment = comment.0 }, pair.0.1), comment.1)
-
--- the rest must be padding
-abbrev pub end_padding : {A : Type 0} → A → List ℕ → Result A Fault
-end_padding x rest =
-    if nat_lt (length rest) (block_size NoCipher) then (if bytes_eq rest (rising 1 (length rest)) then Ok x else Err FormatEncoding)
-    else Err Length
-
-unfoldable pub padded_from : {A : Type 0} → Front A → Whole A
-padded_from read b = if length b % block_size NoCipher == 0 then (read b >>= λ x. end_padding x.0 x.1) else Err Length
-
-unfoldable pub unencrypted_at : Key → Front (PrivateKey × KeyPairChoices)
-unencrypted_at public b = do
-  part ← box_at (padded_from (private_part_at public)) b
-  Ok ((Unencrypted part.0.0, part.0.1), part.1)
-
-abbrev pub blocks_from : Cipher → List ℕ → Result (List ℕ) Fault
-blocks_from c b = if length b % block_size c == 0 then Ok b else Err Crypto
-
-unfoldable pub encrypted_at : Cipher → Kdf → Key → Front (PrivateKey × KeyPairChoices)
-encrypted_at c k public b = do
-  ciphertext ← checked_at (blocks_from c) string_at b
-  tag ← bytes_at (tag_size c) ciphertext.1
-  Ok ((Encrypted (record { cipher = c; kdf = k; public = public; ciphertext = ciphertext.0; tag = tag.0 }), plain_pair), tag.1)
-
-abbrev pub content_at : Cipher → Kdf → Key → Front (PrivateKey × KeyPairChoices)
-content_at NoCipher NoKdf public b = unencrypted_at public b
-content_at NoCipher (Bcrypt o) public b = Err Crypto
-content_at c k public b = encrypted_at c k public b
-
-abbrev pub one_key : ℕ → Result ℕ Fault
-one_key n = if n == 1 then Ok n else Err Length
-
-unfoldable pub private_key_at : Front (PrivateKey × PrivateKeyChoices)
-private_key_at b = do
-  start ← literal_at private_key_magic b
-  c ← cipher_at start.1
-  k ← kdf_at c.1
-  one ← checked_at one_key (number_at w32) k.1
-  public ← box_at (whole key_at) one.1
-  x ← content_at c.0 k.0 public.0.0 public.1
-  Ok ((x.0.0, record { outer = public.0.1; pair = x.0.1 }), x.1)
-
 -- ---- decoding
 
 -- The tag of an encrypted key stands behind the private part with no length of its own, so a byte
@@ -191,13 +132,3 @@ abbrev pub may_precede : PrivateKey → List ℕ → Bool
 may_precede (Unencrypted k) rest = true
 may_precede (Encrypted k) [] = true
 may_precede (Encrypted k) (b ∷ rest) = false
-
-unfoldable pub decoded_private_key_at : Front (PrivateKey × PrivateKeyChoices)
-decoded_private_key_at b = do
-  x ← private_key_at b
-  if may_precede x.0.0 x.1 then Ok x else Err (TrailingKeyData (length x.1))
-
--- What is decoded is a key that may stand before the rest, and each such key is.
-pub record IsDecoder (read : Front (PrivateKey × PrivateKeyChoices)) : Type 0 where
-  pub takes : (b : List ℕ) (x : PrivateKey × PrivateKeyChoices) (rest : List ℕ) → read b ≡ Ok (x, rest) → IsSpelled IsPrivateKey HasPrivateKeyPlaces x × Fits (spelled private_key x) × (may_precede x.0 rest ≡ true) × (b ≡ flat (spelled private_key x) ++ rest)
-  pub again : (x : PrivateKey × PrivateKeyChoices) (rest : List ℕ) → IsSpelled IsPrivateKey HasPrivateKeyPlaces x → Fits (spelled private_key x) → may_precede x.0 rest ≡ true → read (flat (spelled private_key x) ++ rest) ≡ Ok (x, rest)

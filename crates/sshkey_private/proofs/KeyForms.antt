@@ -5,7 +5,7 @@ use Rattle.sshkey_model.specs.KeyDerivation.{Cipher, NoCipher, Kdf, NoKdf, Bcryp
 use Rattle.sshkey_model.specs.KeyPairs.{KeyPair, IsKeyPair, public_half}
 use Rattle.sshkey_model.specs.Keys.{IsKey}
 use Rattle.sshkey_model.specs.PrivateKeys.{PrivateKey, Unencrypted, Encrypted, EncryptedKey, IsPrivateKey, key_eq, key_cipher, key_kdf, public_key}
-use Rattle.sshkey_model.proofs.PrivateKeyReaders.{same_key, key_itself}
+use Rattle.sshkey_model.proofs.EqualKeys.{same_key, key_itself}
 use Rattle.sshkey_private.specs.Forms.{is_no_cipher, is_no_kdf, has_form}
 use Rattle.sshkey_private.specs.Halves.{is_half}
 use Rattle.sshkey_private.specs.PrivateKeys.{of_pair}

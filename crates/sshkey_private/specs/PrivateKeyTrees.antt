@@ -14,7 +14,7 @@ use Rattle.sshkey_model.specs.KeyDerivation.{Cipher, NoCipher, block_size, tag_s
 use Rattle.sshkey_model.specs.KeyPairs.{KeyPair, public_half, KeyPairChoices, plain_pair, IsKeyPair, HasKeyPairPlaces, keypair}
 use Rattle.sshkey_model.specs.PrivateKeys.{UnencryptedKey, PrivateKey, Unencrypted, Encrypted, key_cipher, key_kdf, public_key, rising, private_key_magic, private_part, private_key, normal_private_key, PrivateKeyChoices, plain_private_key, IsUnencryptedKey, IsPrivateKey, HasContentPlaces, HasPrivateKeyPlaces, key_eq}
 use Rattle.sshkey_model.proofs.CombinedReaders.{met, ok_is, fits_both, fits_first, fits_bytes}
-use Rattle.sshkey_model.proofs.PrivateKeyReaders.{same_key, key_itself}
+use Rattle.sshkey_model.proofs.EqualKeys.{same_key, key_itself}
 use Rattle.sshkey_model.proofs.KeyPairReaders.{plain_keypair_has}
 use Rattle.sshkey_base.specs.Grammars.{ends}
 use Rattle.sshkey_base.specs.Formats.{number32_format}

@@ -1,30 +1,15 @@
-//! Worked examples of key derivations, key pairs and private keys.
+//! Worked examples of ciphers, key pairs and private keys.
 
-ghost use Rattle.sshkey_model.specs.PrivateExamples.{CipherTable, UnknownCipher, PaddingLengths, KdfHeaders, KdfOptions, FirstBits, WrittenScalars, ReadScalars, ReadShortScalars, RefusedScalars, Ed25519Pairs, RsaPairs, EcdsaPairs, Checkints, RefusedFronts, WrittenPairs, WrittenKey, ReadKey, RefusedParts, RefusedPaddings, PaddingEdges, EncryptedKeys, RefusedEncryptedKeys, Tags};
+ghost use Rattle.sshkey_model.specs.PrivateExamples.{CipherTable, PaddingLengths, FirstBits, WrittenScalars, ReadScalars, ReadShortScalars, RefusedScalars, Ed25519Pairs, RsaPairs, EcdsaPairs, Checkints, WrittenPairs, WrittenKey, PaddingEdges};
 
 /// The name, block and tag of each cipher.
 pub fn cipher_table()
     ensures { CipherTable }
 {}
 
-/// Names of ciphers are told apart by case.
-pub fn unknown_cipher()
-    ensures { UnknownCipher }
-{}
-
 /// How many bytes a block wants, on both sides of a multiple.
 pub fn padding_lengths()
     ensures { PaddingLengths }
-{}
-
-/// The 38 bytes of bcrypt with a salt of 16 bytes, the 12 of no key derivation, and refusals.
-pub fn kdf_headers()
-    ensures { KdfHeaders }
-{}
-
-/// The options of bcrypt are a string that salt and rounds cover exactly.
-pub fn kdf_options()
-    ensures { KdfOptions }
 {}
 
 /// A first byte of 7f and one of 80.
@@ -83,43 +68,7 @@ pub fn written_key()
     ensures { WrittenKey }
 {}
 
-/// They are read as that key, also with a byte after them that is left over.
-pub fn read_key()
-    ensures { ReadKey }
-{}
-
-/// Another magic, another number of keys, and too few bytes.
-pub fn refused_fronts()
-    ensures { RefusedFronts }
-{}
-
-/// A checkint that is not repeated, a foreign public key, and a part that is no multiple of 8.
-pub fn refused_parts()
-    ensures { RefusedParts }
-{}
-
-/// A wrong byte of padding, a block too much, and a whole block where none is wanted.
-pub fn refused_paddings()
-    ensures { RefusedPaddings }
-{}
-
 /// A multiple of 8 has no padding, one byte more has 7.
 pub fn padding_edges()
     ensures { PaddingEdges }
-{}
-
-/// The 146 bytes of an encrypted key with one block, and a key with none.
-pub fn encrypted_keys()
-    ensures { EncryptedKeys }
-{}
-
-/// A ciphertext that is no multiple of the block, a byte after the key, and a key derivation
-/// without a cipher.
-pub fn refused_encrypted_keys()
-    ensures { RefusedEncryptedKeys }
-{}
-
-/// A tag has just its size.
-pub fn tags()
-    ensures { Tags }
 {}

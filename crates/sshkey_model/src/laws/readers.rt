@@ -13,9 +13,7 @@ ghost use Rattle.sshkey_model.specs.Keys.{IsBodyUnder, body, body_at, IsKey, Has
 ghost use Rattle.sshkey_model.specs.Signatures.{IsSignature, signature, signature_at};
 ghost use Rattle.sshkey_model.specs.Options.{AreOptions, HasOptionPlaces, options, options_at};
 ghost use Rattle.sshkey_model.specs.Certificates.{IsCertificate, HasCertificatePlaces, certificate, certificate_at, certificate_type, type_at, IsTime, time_at, IsEnd, end_at, AreSignedFields, HaveSignedPlaces, to_be_signed, signed_fields_at};
-ghost use Rattle.sshkey_model.specs.KeyDerivation.{cipher, cipher_at, kdf, kdf_at, kdf_algorithm, kdf_algorithm_at};
 ghost use Rattle.sshkey_model.specs.KeyPairs.{IsScalar, HasScalarPlaces, scalar, scalar_at, IsPairUnder, HasPairPlaces, pair, pair_at, IsKeyPair, HasKeyPairPlaces, keypair, keypair_at, IsRsaPrivate, rsa_private, rsa_private_at, IsEcdsaPair, any_ecdsa_pair_at};
-ghost use Rattle.sshkey_model.specs.PrivateKeys.{IsPrivateKey, HasPrivateKeyPlaces, private_key, private_key_at};
 ghost use Rattle.std.specs.List.{AllByRecursion};
 ghost use Rattle.std.specs.Int.{w64};
 ghost use Rattle.sshkey_model.specs.Points.{IsPointOf, point_at};
@@ -128,24 +126,6 @@ pub fn exact_certificate()
     ensures { IsGrammar (SpellsAs IsCertificate HasCertificatePlaces certificate) certificate_at }
 {}
 
-/// Names of ciphers are read exactly where they are spelled.
-#[tactic(auto, using(crate::proofs::Grammars::grammar, crate::proofs::KeyDerivationReaders::cipher_reads))]
-pub fn exact_cipher()
-    ensures { IsGrammar (Spells Any cipher) cipher_at }
-{}
-
-/// Names of key derivations are read exactly where they are spelled.
-#[tactic(auto, using(crate::proofs::Grammars::grammar, crate::proofs::KeyDerivationReaders::kdf_algorithm_reads))]
-pub fn exact_kdf_name()
-    ensures { IsGrammar (Spells Any kdf_algorithm) kdf_algorithm_at }
-{}
-
-/// Key derivations are read exactly where they are spelled.
-#[tactic(auto, using(crate::proofs::Grammars::grammar, crate::proofs::KeyDerivationReaders::kdf_reads))]
-pub fn exact_kdf()
-    ensures { IsGrammar (Spells Any kdf) kdf_at }
-{}
-
 /// Private scalars of a size are read exactly where they are spelled, with a leading 00 and
 /// without, and as the shortest mpint.
 #[tactic(auto, using(crate::proofs::Grammars::grammar, crate::proofs::KeyPairReaders::scalar_reads))]
@@ -177,10 +157,4 @@ pub fn exact_pair()
 #[tactic(auto, using(crate::proofs::Grammars::grammar, crate::proofs::KeyPairReaders::keypair_reads))]
 pub fn exact_keypair()
     ensures { IsGrammar (SpellsAs IsKeyPair HasKeyPairPlaces keypair) keypair_at }
-{}
-
-/// Private keys are read exactly where they are spelled.
-#[tactic(auto, using(crate::proofs::Grammars::grammar, crate::proofs::PrivateKeyReaders::private_key_reads))]
-pub fn exact_private_key()
-    ensures { IsGrammar (SpellsAs IsPrivateKey HasPrivateKeyPlaces private_key) private_key_at }
 {}
