@@ -1,6 +1,4 @@
 pub use Rattle.sshkey_ciphers.specs.Ciphers
-pub use Rattle.sshkey_ciphers.specs.ChoiceTrees
-pub use Rattle.sshkey_ciphers.specs.StepReaders
 pub use Rattle.sshkey_ciphers.specs.Ciphertexts
 pub use Rattle.sshkey_ciphers.specs.Comparisons
 pub use Rattle.sshkey_ciphers.specs.KdfFormats

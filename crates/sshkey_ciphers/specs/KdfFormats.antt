@@ -13,11 +13,9 @@ use Rattle.sshkey_model.proofs.CombinedReaders.{met, ok_is}
 use Rattle.sshkey_base.specs.Formats.{Format, number32_format, string_format, label_format}
 use Rattle.sshkey_base.specs.Grammars.{AllEnd, all_end, ends}
 use Rattle.sshkey_base.specs.Needs.{NoNeed}
-use Rattle.sshkey_terms.specs.Terms.{◌then◌, boxed, called, called_chosen, called_ends, tested, IsChosen, IsMapped}
-use Rattle.sshkey_terms.proofs.Trees.{IsTree, Alike, leaf_tree, then_tree, box_tree, made_tree}
+use Rattle.sshkey_terms.specs.Terms.{◌then◌, boxed, called, called_chosen, called_ends, tested, IsChosen, IsMapped, read_as}
+use Rattle.sshkey_terms.proofs.Trees.{IsTree, Alike, alike, leaf_tree, choice_tree, then_tree, box_tree, tested_tree, made_tree}
 use Rattle.sshkey_ciphers.specs.Ciphers.{cipher_checks, kdf_algorithm_checks}
-use Rattle.sshkey_ciphers.specs.ChoiceTrees.{alike, choice_tree, tested_tree}
-use Rattle.sshkey_ciphers.specs.StepReaders.{read_as}
 
 abbrev pub cipher_format : Format Cipher
 cipher_format = label_format NoNeed cipher_checks

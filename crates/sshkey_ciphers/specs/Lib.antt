@@ -1,6 +1,4 @@
 pub mod Ciphers
-pub mod ChoiceTrees
-pub mod StepReaders
 pub mod Ciphertexts
 pub mod Comparisons
 pub mod KdfFormats

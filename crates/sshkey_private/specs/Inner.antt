@@ -9,8 +9,7 @@ use Rattle.sshkey_model.specs.PrivateKeys.{UnencryptedKey}
 use Rattle.sshkey_model.proofs.CombinedReaders.{bind_assoc}
 use Rattle.sshkey_base.specs.Formats.{Format, number32_format, text_format}
 use Rattle.sshkey_terms.specs.Behind.{behind_at}
-use Rattle.sshkey_terms.specs.Terms.{◌then◌, boxed, tested, without_memory}
-use Rattle.sshkey_ciphers.specs.StepReaders.{read_as}
+use Rattle.sshkey_terms.specs.Terms.{◌then◌, boxed, tested, without_memory, read_as}
 use Rattle.sshkey_pairs.specs.Keypairs.{pair_of}
 use Rattle.sshkey_pairs.specs.KeypairFormats.{keypair_format}
 use Rattle.sshkey_private.specs.declared.part.Inner.{Inner}

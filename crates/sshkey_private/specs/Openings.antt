@@ -7,12 +7,11 @@ use Rattle.sshkey_model.specs.Keys.{Key}
 use Rattle.sshkey_model.specs.KeyDerivation.{Cipher, Kdf}
 use Rattle.sshkey_model.specs.PrivateKeys.{private_key_magic}
 use Rattle.sshkey_base.specs.Formats.{Format, number32_format}
-use Rattle.sshkey_terms.specs.Terms.{◌then◌, boxed, literal_format, tested, IsMapped}
+use Rattle.sshkey_terms.specs.Terms.{◌then◌, boxed, literal_format, tested, IsMapped, read_as}
 use Rattle.sshkey_keys.specs.KeyFormats.{key_format}
 use Rattle.sshkey_keys.specs.Keys.{key_of}
 use Rattle.sshkey_ciphers.specs.Ciphers.{cipher_of, kdf_of}
 use Rattle.sshkey_ciphers.specs.KdfFormats.{cipher_format, kdf_format}
-use Rattle.sshkey_ciphers.specs.StepReaders.{read_as}
 use Rattle.sshkey_private.specs.declared.opening.Opening as code
 use Rattle.sshkey_private.specs.declared.opening.Magic.{Magic}
 use Rattle.sshkey_private.specs.declared.opening.One.{One}

@@ -11,9 +11,8 @@ use Rattle.sshkey_base.specs.Formats.{Format}
 use Rattle.sshkey_base.specs.Grammars.{AllEnd, all_end, by_itself}
 use Rattle.sshkey_base.specs.Needs.{NoNeed, NeedsString}
 use Rattle.sshkey_base.specs.Stops.{AreLengths, NoOverrun, OverrunsString}
-use Rattle.sshkey_terms.specs.Terms.{IsMapped, called, called_chosen, called_ends, tested}
+use Rattle.sshkey_terms.specs.Terms.{IsMapped, called, called_chosen, called_ends, tested, read_as}
 use Rattle.sshkey_ciphers.specs.Ciphertexts.{sealed_format}
-use Rattle.sshkey_ciphers.specs.StepReaders.{read_as}
 use Rattle.sshkey_private.specs.Inner.{part_format}
 use Rattle.sshkey_private.specs.Openings.{Opening, opening_at, opening_format}
 

@@ -11,7 +11,7 @@ use Rattle.sshkey_model.proofs.CombinedReaders.{ok_is, met, fits_both, fits_firs
 use Rattle.sshkey_model.proofs.Grammars.{one_front}
 use Rattle.sshkey_base.specs.Grammars.{MayFollow}
 use Rattle.sshkey_base.specs.Reading.{SpellsBoxed}
-use Rattle.sshkey_terms.specs.Behind.{SpellsBoth}
+use Rattle.sshkey_terms.specs.Behind.{SpellsBoth, SpellsThen}
 use Rattle.sshkey_terms.specs.Tested.{SpellsTested}
 
 pub record IsTree {A S : Type 0} (Spelling : A → List ℕ → Type 0) (Is : A × S → Type 0) (tree : A × S → Parts) : Type 0 where
@@ -25,6 +25,17 @@ pub record Alike (p q : Parts) : Type 0 where
   pub bytes : flat p ≡ flat q
   pub there : Fits p → Fits q
   pub back : Fits q → Fits p
+
+pub alike : (p q : Parts) → p ≡ q → Alike p q
+alike p q e = subst (λ (r : Parts). Alike p r) e (record { bytes = refl; there = λ f. f; back = λ f. f })
+
+pub grouped : (p q r : Parts) → Alike ((p & q) & r) (p & q & r)
+unfolding flat InRange BoxesFit
+grouped p q r = record {
+  bytes = append_assoc (flat p) (flat q) (flat r);
+  there = λ f. record { range = (f.range.0.0, (f.range.0.1, f.range.1)); boxes = (f.boxes.0.0, (f.boxes.0.1, f.boxes.1)) };
+  back = λ f. record { range = ((f.range.0, f.range.1.0), f.range.1.1); boxes = ((f.boxes.0, f.boxes.1.0), f.boxes.1.1) };
+}
 
 pub regrouped : (p q r s : Parts) → Alike ((p & q & r) & s) (p & q & r & s)
 unfolding flat InRange BoxesFit
@@ -48,19 +59,23 @@ open_tree = record {
 -- ---- of terms
 
 -- the first always ends by itself
-module _ {A B S T : Type 0} {First : A → List ℕ → Type 0} {delimited_at : Front A} {Second : B → List ℕ → Type 0} {Is : A × S → Type 0} {IsNext : B × T → Type 0} {tree : A × S → Parts} {next : B × T → Parts} (ends : (a : A) (front rest : List ℕ) → First a front → MayFollow delimited_at a front rest) (first : IsTree First Is tree) (second : IsTree Second IsNext next) where
-  pub then_tree : IsTree (SpellsBoth First delimited_at Second) (λ (x : (A × B) × (S × T)). Is (x.0.0, x.1.0) × IsNext (x.0.1, x.1.1)) (λ (x : (A × B) × (S × T)). tree (x.0.0, x.1.0) & next (x.0.1, x.1.1))
+module _ {A B S T : Type 0} {First : A → List ℕ → Type 0} {delimited_at : Front A} {Second : A → B → List ℕ → Type 0} {Is : A × S → Type 0} {IsNext : A → B × T → Type 0} {tree : A × S → Parts} {next : A → B × T → Parts} (ends : (a : A) (front rest : List ℕ) → First a front → MayFollow delimited_at a front rest) (first : IsTree First Is tree) (second : (a : A) → IsTree (Second a) (IsNext a) (next a)) where
+  pub choice_tree : IsTree (SpellsThen First delimited_at Second) (λ (x : (A × B) × (S × T)). Is (x.0.0, x.1.0) × IsNext x.0.0 (x.0.1, x.1.1)) (λ (x : (A × B) × (S × T)). tree (x.0.0, x.1.0) & next x.0.0 (x.0.1, x.1.1))
   unfolding flat
-  then_tree = record {
+  choice_tree = record {
     takes = λ p b s.
         let x = first.takes p.0 s.front s.first in
-        let y = second.takes p.1 s.behind s.second in
-        ((x.0, y.0), (x.1, y.1), fits_both (tree (p.0, x.0)) (next (p.1, y.0)) x.2 y.2, s.all ∙ ap (λ (l : List ℕ). l ++ s.behind) x.3 ∙ ap (λ (l : List ℕ). flat (tree (p.0, x.0)) ++ l) y.3);
+        let y = (second p.0).takes p.1 s.behind s.second in
+        ((x.0, y.0), (x.1, y.1), fits_both (tree (p.0, x.0)) (next p.0 (p.1, y.0)) x.2 y.2, s.all ∙ ap (λ (l : List ℕ). l ++ s.behind) x.3 ∙ ap (λ (l : List ℕ). flat (tree (p.0, x.0)) ++ l) y.3);
     again = λ x is fits.
-        let a = first.again (x.0.0, x.1.0) is.0 (fits_first (tree (x.0.0, x.1.0)) (next (x.0.1, x.1.1)) fits) in
-        let c = second.again (x.0.1, x.1.1) is.1 (fits_second (tree (x.0.0, x.1.0)) (next (x.0.1, x.1.1)) fits) in
-        record { front = flat (tree (x.0.0, x.1.0)); behind = flat (next (x.0.1, x.1.1)); first = a; second = c; all = refl; may_follow = ends x.0.0 (flat (tree (x.0.0, x.1.0))) (flat (next (x.0.1, x.1.1))) a };
+        let a = first.again (x.0.0, x.1.0) is.0 (fits_first (tree (x.0.0, x.1.0)) (next x.0.0 (x.0.1, x.1.1)) fits) in
+        let c = (second x.0.0).again (x.0.1, x.1.1) is.1 (fits_second (tree (x.0.0, x.1.0)) (next x.0.0 (x.0.1, x.1.1)) fits) in
+        record { front = flat (tree (x.0.0, x.1.0)); behind = flat (next x.0.0 (x.0.1, x.1.1)); first = a; second = c; all = refl; may_follow = ends x.0.0 (flat (tree (x.0.0, x.1.0))) (flat (next x.0.0 (x.0.1, x.1.1))) a };
   }
+
+module _ {A B S T : Type 0} {First : A → List ℕ → Type 0} {delimited_at : Front A} {Second : B → List ℕ → Type 0} {Is : A × S → Type 0} {IsNext : B × T → Type 0} {tree : A × S → Parts} {next : B × T → Parts} (ends : (a : A) (front rest : List ℕ) → First a front → MayFollow delimited_at a front rest) (first : IsTree First Is tree) (second : IsTree Second IsNext next) where
+  pub then_tree : IsTree (SpellsBoth First delimited_at Second) (λ (x : (A × B) × (S × T)). Is (x.0.0, x.1.0) × IsNext (x.0.1, x.1.1)) (λ (x : (A × B) × (S × T)). tree (x.0.0, x.1.0) & next (x.0.1, x.1.1))
+  then_tree = choice_tree ends first (λ _. second)
 
 module _ {A S : Type 0} {Spelling : A → List ℕ → Type 0} {Is : A × S → Type 0} {tree : A × S → Parts} (t : IsTree Spelling Is tree) where
   pub box_tree : IsTree (SpellsBoxed Spelling) Is (λ x. box (tree x))
@@ -82,19 +97,25 @@ module _ {A S : Type 0} {Spelling : A → List ℕ → Type 0} {Is : A × S → 
     again = λ x is fits. record { inner = x.0; spelled = t.again x is.0 fits; makes = rw is.1 refl };
   }
 
-  -- values that are made of these
-  pub made_tree : {B U : Type 0} {IsMade : B × U → Type 0} {made : B × U → Parts} (to : A → B) → ((x : A × S) → Is x → (u : U) × IsMade (to x.0, u) × Alike (tree x) (made (to x.0, u))) → ((y : B × U) → IsMade y → (x : A × S) × Is x × (to x.0 ≡ y.0) × Alike (tree x) (made y)) → IsTree (SpellsTested Spelling (λ a. Ok (to a))) IsMade made
-  made_tree {B} {U} {IsMade} {made} to there back = record {
+  -- values that a test makes of these
+  pub tested_tree : {B U : Type 0} {IsMade : B × U → Type 0} {made : B × U → Parts} (test : A → Result B Fault) → ((x : A × S) (y : B) → Is x → test x.0 ≡ Ok y → (u : U) × IsMade (y, u) × Alike (tree x) (made (y, u))) → ((y : B × U) → IsMade y → (x : A × S) × Is x × (test x.0 ≡ Ok y.0) × Alike (tree x) (made y)) → IsTree (SpellsTested Spelling test) IsMade made
+  tested_tree test there back = record {
     takes = λ c b s.
         let x = t.takes s.inner b s.spelled in
-        let y = there (s.inner, x.0) x.1 in
-        subst (λ (z : B). (u : U) × IsMade (z, u) × Fits (made (z, u)) × (b ≡ flat (made (z, u)))) (ok_is (to s.inner) c s.makes) (y.0, y.1, y.2.there x.2, x.3 ∙ y.2.bytes);
+        let y = there (s.inner, x.0) c x.1 s.makes in
+        (y.0, y.1, y.2.there x.2, x.3 ∙ y.2.bytes);
     again = λ y is fits.
         let x = back y is in
-        record { inner = x.0.0; spelled = subst (Spelling x.0.0) x.3.bytes (t.again x.0 x.1 (x.3.back fits)); makes = ap (λ (z : B). Ok z) x.2 };
+        record { inner = x.0.0; spelled = subst (Spelling x.0.0) x.3.bytes (t.again x.0 x.1 (x.3.back fits)); makes = x.2 };
   }
 
--- ---- what follows
+  -- values that are made of these
+  pub made_tree : {B U : Type 0} {IsMade : B × U → Type 0} {made : B × U → Parts} (to : A → B) → ((x : A × S) → Is x → (u : U) × IsMade (to x.0, u) × Alike (tree x) (made (to x.0, u))) → ((y : B × U) → IsMade y → (x : A × S) × Is x × (to x.0 ≡ y.0) × Alike (tree x) (made y)) → IsTree (SpellsTested Spelling (λ a. Ok (to a))) IsMade made
+  made_tree {B} {U} {IsMade} {made} to there back = tested_tree (λ a. Ok (to a))
+      (λ x y is e. subst (λ (z : B). (u : U) × IsMade (z, u) × Alike (tree x) (made (z, u))) (ok_is (to x.0) y e) (there x is))
+      (λ y is. let x = back y is in (x.0, x.1, ap (λ (z : B). Ok z) x.2, x.3))
+
+-- ---- where choices are left open
 
 module _ {V S : Type 0} {Spelling : V → List ℕ → Type 0} {Is : V → Type 0} {HasPlace : V → S → Type 0} {spell : V → S → Parts} (t : IsTree Spelling (IsSpelled Is HasPlace) (spelled spell)) where
   -- The term spells what the tree spells.
@@ -108,11 +129,29 @@ module _ {V S : Type 0} {Spelling : V → List ℕ → Type 0} {Is : V → Type 
   pub prefix_free : {read : Front V} → IsGrammar Spelling read → ((v : V) (s u : S) → IsSpelled Is HasPlace (v, s) → Fits (spell v s) → IsSpelled Is HasPlace (v, u) → Fits (spell v u) → flat (spell v s) ≡ flat (spell v u) → s ≡ u) → IsPrefixFree (IsSpelled Is HasPlace) (spelled spell)
   prefix_free g one (v, s) (w, u) r q v-is v-fits w-is w-fits e =
       let x = one_front g v w (flat (spell v s)) (flat (spell w u)) r q (t.again (v, s) v-is v-fits) (t.again (w, u) w-is w-fits) e in
-      (alike v w s u x.0 v-is v-fits w-is w-fits x.1, x.2)
+      (same_choices v w s u x.0 v-is v-fits w-is w-fits x.1, x.2)
     where
-      alike : (v w : V) (s u : S) → v ≡ w → IsSpelled Is HasPlace (v, s) → Fits (spell v s) → IsSpelled Is HasPlace (w, u) → Fits (spell w u) → flat (spell v s) ≡ flat (spell w u) → ◌≡◌ {A = V × S} (v, s) (w, u)
-      alike v w s u same v-is v-fits w-is w-fits e =
+      same_choices : (v w : V) (s u : S) → v ≡ w → IsSpelled Is HasPlace (v, s) → Fits (spell v s) → IsSpelled Is HasPlace (w, u) → Fits (spell w u) → flat (spell v s) ≡ flat (spell w u) → ◌≡◌ {A = V × S} (v, s) (w, u)
+      same_choices v w s u same v-is v-fits w-is w-fits e =
           subst (λ (z : V). IsSpelled Is HasPlace (z, u) → Fits (spell z u) → flat (spell v s) ≡ flat (spell z u) → ◌≡◌ {A = V × S} (v, s) (z, u)) same (λ is fits e. ap (λ (c : S). (v, c)) (one v s u v-is v-fits is fits e)) w-is w-fits e
+
+-- ---- where nothing is left open
+
+module _ {V : Type 0} {Spelling : V → List ℕ → Type 0} {Is : V → Type 0} {spell : V → Parts} (t : IsTree Spelling (λ (x : V × Unit {0}). Is x.0) (λ x. spell x.0)) where
+  -- The term spells what the tree spells.
+  pub plain_alike : (v : V) (b : List ℕ) → Spelling v b ↔ Spells Is spell v b
+  plain_alike v b = (
+    λ s. let x = t.takes v b s in record { is = x.1; fits = x.2; shape = x.3 },
+    λ s. rw s.shape (t.again (v, tt) s.is s.fits),
+  )
+
+-- No spelling begins another.
+pub plain_prefix : {V : Type 0} {Spelling : V → List ℕ → Type 0} (Is : V → Type 0) (spell : V → Parts) {read : Front V} → IsTree Spelling (λ (x : V × Unit {0}). Is x.0) (λ x. spell x.0) → IsGrammar Spelling read → IsPrefixFree Is spell
+plain_prefix Is spell t g v w r q v-is v-fits w-is w-fits e =
+    let x = one_front g v w (flat (spell v)) (flat (spell w)) r q (t.again (v, tt) v-is v-fits) (t.again (w, tt) w-is w-fits) e in
+    (x.0, x.2)
+
+-- ---- the normal form
 
 -- The normal form of a value is one of its spellings: so it determines the value, and is read back.
 module _ {V : Type 0} {Spelling : V → List ℕ → Type 0} {read : Front V} {Is : V → Type 0} {normal : V → Parts} (g : IsGrammar Spelling read) (spells : (v : V) → Is v → Fits (normal v) → Spelling v (flat (normal v))) where

@@ -1,14 +1,14 @@
 -- The terms that formats are made of. A format is read aloud as it stands: `mpint_format then
 -- mpint_format` is two numbers, one behind the other.
-use Rattle.std.proofs.Common.{◌≡◌, inl, inr, ℕ, List, Result, Ok, Err, refl}
+use Rattle.std.proofs.Common.{◌≡◌, inl, inr, ℕ, List, Result, Ok, Err, refl, sym, ◌∙◌}
 use Rattle.std.specs.Prelude.{IsOkAnd}
 use Rattle.sshkey_model.specs.Reading.{Fault, Length, ◌>>=◌, Front, whole, box_at, checked_at, literal_at}
 use Rattle.sshkey_model.specs.Grammar.{IsGrammar, Spells}
 use Rattle.sshkey_model.specs.Parts.{bytes}
 use Rattle.sshkey_model.proofs.CombinedReaders.{literal_reads}
-use Rattle.sshkey_model.proofs.Grammars.{grammar}
+use Rattle.sshkey_model.proofs.Grammars.{grammar, same_grammar}
 use Rattle.sshkey_base.specs.Formats.{Format}
-use Rattle.sshkey_base.specs.Grammars.{AllEnd, by_itself}
+use Rattle.sshkey_base.specs.Grammars.{AllEnd, all_end, by_itself}
 use Rattle.sshkey_base.specs.Lengths.{boxed_lengths, checked_lengths, no_lengths}
 use Rattle.sshkey_base.specs.Needs.{NoNeed, NeedsThen, NeedsBoxed}
 use Rattle.sshkey_base.specs.Reading.{SpellsBoxed}
@@ -83,6 +83,19 @@ literal_format text = record {
   overruns = NoOverrun;
   grammar = by_itself (grammar (literal_reads text));
   lengths = no_lengths (literal_at text);
+}
+
+-- ---- a term whose reader is written in the steps that a call takes, or has a name
+
+-- The reader gives what the term's gives, all of whose values end by themselves.
+abbrev pub read_as : {A : Type 0} (f : Format A) (read : Front A) → ((b : List ℕ) → read b ≡ f.read b) → AllEnd f.grammar → Format A
+read_as f read same all = record {
+  Spells = f.Spells;
+  read = read;
+  needs = f.needs;
+  overruns = f.overruns;
+  grammar = by_itself (same_grammar (all_end f.grammar all) (λ b. sym (same b)));
+  lengths = λ b m o. same b ∙ f.lengths b m o;
 }
 
 -- ---- a record, which has a spelling and a plain reader of its own
