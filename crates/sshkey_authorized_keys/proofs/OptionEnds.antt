@@ -12,7 +12,7 @@ use Rattle.sshkey_entries.specs.Entries.{hash}
 use Rattle.sshkey_entries.specs.Fields.{without_blanks, AreKeyFields, AreNoKeyFields}
 use Rattle.sshkey_entries.specs.OpenSshLines.{IsBehindOptions, IsAuthorizedLine}
 use Rattle.sshkey_entries.specs.OptionEnds.{EndsOptions, is_blank, is_inside}
-use Rattle.sshkey_entries.proofs.Fields.{blanks_are}
+use Rattle.sshkey_entries.proofs.BlankPlaces.{blank_ascii}
 use Rattle.sshkey_entries.proofs.OneEntry.{one_end}
 use Rattle.sshkey_entries.proofs.OneOpenSshLine.{same_front}
 use Rattle.sshkey_entries.specs.Answers.{ReadsEntry, RefusesFor}
@@ -46,9 +46,6 @@ ends_there text n inside l same before here = record { within = l; blank = here.
 
 pub no_end : (text : List ℕ) (n : ℕ) → length text ≤ n → NoEndBefore text n → HasNoEnd text
 no_end text n l before place e = cc (sym e.outside ∙ before place (omega (arith, e.within, l)) e.blank)
-
-blank_ascii : (c : ℕ) → is_blank c ≡ true → c < 128
-blank_ascii c e = elim (blanks_are c e) [ inl s ↦ omega (arith, s) | inr t ↦ omega (arith, t) ]
 
 pub cut_place : (text bytes : List ℕ) (n : ℕ) → bytes ≡ text → EndsOptions bytes n → IsCharBoundary text n
 cut_place text bytes n same e =

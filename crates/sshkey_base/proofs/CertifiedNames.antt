@@ -6,11 +6,12 @@ use Rattle.std.proofs.lemmas.Bool.{and_parts, le-leb}
 use Rattle.std.proofs.lemmas.List.{take_at, drop_at, take-append-drop, length-append}
 use Rattle.std.proofs.lemmas.Slice.Eq.{bytes_eq-Decides}
 use Rattle.sshkey_model.specs.Reading.{Fault, Label, string_at}
-use Rattle.sshkey_model.specs.Names.{Nistp256, Nistp384, Nistp521, Algorithm, Dsa, Ecdsa, Ed25519, Rsa, SkEcdsa, SkEd25519, Other, algorithm_name, algorithms, named, are_ascii, at_sign, cut, is_split, is_own_name, is_other_name, algorithm_or}
+use Rattle.sshkey_model.specs.Names.{Nistp256, Nistp384, Nistp521, Algorithm, Dsa, Ecdsa, Ed25519, Rsa, SkEcdsa, SkEd25519, Other, algorithm_name, algorithms, named, are_ascii, at_sign, cut, is_own_name, is_other_name, algorithm_or}
 use Rattle.sshkey_model.specs.CertificateNames.{IsCertified, suffix, certificate_name, certified, without_suffix, certified_or, certified_from, certificate_algorithm_at}
 use Rattle.sshkey_model.proofs.CertificateNameReaders.{certified_checks}
 use Rattle.sshkey_model.proofs.CombinedReaders.{chosen}
 use Rattle.sshkey_model.proofs.NameReaders.{found}
+use Rattle.sshkey_model.proofs.ShortNames.{other_parts, short_certificate_name}
 use Rattle.std.specs.Str.{IsUtf8}
 use Rattle.sshkey_base.specs.Causes.{Cause, NoMemory, cause}
 use Rattle.sshkey_base.specs.declared.algorithm.Algorithm as value
@@ -23,7 +24,7 @@ use Rattle.sshkey_base.proofs.Labels.{not_named}
 use Rattle.sshkey_base.specs.AlgorithmName.{HasCertificateName, JudgesCertified}
 use Rattle.sshkey_base.specs.Answers.{Judges}
 use Rattle.sshkey_base.proofs.AtSigns.{cut-at, cut-suffixed}
-use Rattle.sshkey_base.proofs.CertificateTypes.{parts_of, are_parts, are_ascii-append, certificate_name-cut, certificate_length}
+use Rattle.sshkey_base.proofs.CertificateTypes.{parts_of, are_parts, are_ascii-append, certificate_name-cut}
 
 -- A fixed name with an at sign has a fixed name in a certificate.
 abbrev pub HasFixed : Algorithm → Type 0
@@ -100,11 +101,10 @@ certified_judged cause t (Err e) fresh h = rw (certified_unknown t fresh h.none)
 -- ---- names in certificates as labels
 
 other_ascii : (n : List ℕ) → is_other_name n ≡ true → are_ascii (certificate_name (Other n)) ≡ true
-unfolding is_other_name is_own_name
+unfolding is_other_name
 other_ascii n is =
     let own = (and_parts (is_own_name n) (is_none (named algorithm_name algorithms n)) is).0 in
-    let short = (and_parts (are_ascii n && nat_le (length n) 64) (is_split (cut n)) own).0 in
-    let ascii = (and_parts (are_ascii n) (nat_le (length n) 64) short).0 in
+    let ascii = (other_parts n is).0 in
     let p = parts_of n (certificate_name (Other n)) own refl in
     let l = p.0 in
     let r = p.1 in
@@ -131,16 +131,7 @@ pub certified_refusals : (t : List ℕ) (fault : Fault) → certified_from t ≡
 certified_refusals t fault = certified_faults (named certificate_name certified t) t fault refl
 
 pub certified_short : (a : Algorithm) → IsCertified a → nat_le (length (certificate_name a)) 73 ≡ true
-unfolding is_other_name
-certified_short (Ecdsa Nistp256) is = refl
-certified_short (Ecdsa Nistp384) is = refl
-certified_short (Ecdsa Nistp521) is = refl
-certified_short (Rsa None) is = refl
-certified_short (Rsa (Some h)) is = absurd is
-certified_short (Other n) is =
-    let own = (and_parts (is_own_name n) (is_none (named algorithm_name algorithms n)) is.0).0 in
-    le-leb _ _ (omega (arith, certificate_length n own))
-certified_short _ is = refl
+certified_short a is = le-leb _ _ (short_certificate_name a is)
 
 -- Bytes that are no text are no name.
 pub no_certificate_name : (t : List ℕ) → (IsUtf8 t → ⊥) → certified_from t ≡ Err Label

@@ -1,11 +1,12 @@
 -- Names are ASCII, and what is no name is refused as such.
-use Rattle.std.specs.Prelude.{◌≡◌, ℕ, List, true, ◌&&◌, is_none, nat_le, length, Option, Some, None, Ok, Err, refl}
-use Rattle.std.proofs.Common.{inl, inr, arith}
-use Rattle.std.proofs.lemmas.Bool.{and_parts, leb-true, le-leb}
+use Rattle.std.specs.Prelude.{◌≡◌, ℕ, List, true, nat_le, length, Option, Some, None, Ok, Err, refl}
+use Rattle.std.proofs.Common.{inl, inr}
+use Rattle.std.proofs.lemmas.Bool.{le-leb}
 use Rattle.sshkey_model.specs.Parts.{Any}
 use Rattle.sshkey_model.specs.Reading.{Fault, Label}
-use Rattle.sshkey_model.specs.Names.{Curve, Nistp256, Nistp384, Nistp521, Hash, Sha256, Sha512, Algorithm, Dsa, Ecdsa, Ed25519, Rsa, SkEcdsa, SkEd25519, Other, curves, hashes, algorithms, curve_name, hash_name, algorithm_name, named, are_ascii, cut, is_split, is_own_name, is_other_name, IsAlgorithm, or_label, algorithm_or, curve_from, hash_from, algorithm_from}
+use Rattle.sshkey_model.specs.Names.{Curve, Nistp256, Nistp384, Nistp521, Hash, Sha256, Sha512, Algorithm, Dsa, Ecdsa, Ed25519, Rsa, SkEcdsa, SkEd25519, Other, curves, hashes, algorithms, curve_name, hash_name, algorithm_name, named, are_ascii, is_other_name, IsAlgorithm, or_label, algorithm_or, curve_from, hash_from, algorithm_from}
 use Rattle.sshkey_model.proofs.CombinedReaders.{chosen}
+use Rattle.sshkey_model.proofs.ShortNames.{other_parts, short_name}
 pub use Rattle.sshkey_model.proofs.NameReaders.{curve_checks, hash_checks, algorithm_checks}
 
 pub unlisted_label : {A : Type 0} (o : Option A) (fault : Fault) → or_label o ≡ Err fault → fault ≡ Label
@@ -36,13 +37,6 @@ hash_short Sha512 is = refl
 pub hash_refusals : (t : List ℕ) (fault : Fault) → hash_from t ≡ Err fault → fault ≡ Label
 hash_refusals t = unlisted_label (named hash_name hashes t)
 
-other_parts : (n : List ℕ) → is_other_name n ≡ true → (are_ascii n ≡ true) × (nat_le (length n) 64 ≡ true)
-unfolding is_other_name is_own_name
-other_parts n is =
-    let both = and_parts (is_own_name n) (is_none (named algorithm_name algorithms n)) is in
-    let own = and_parts (are_ascii n && nat_le (length n) 64) (is_split (cut n)) both.0 in
-    and_parts (are_ascii n) (nat_le (length n) 64) own.0
-
 pub algorithm_ascii : (a : Algorithm) → IsAlgorithm a → are_ascii (algorithm_name a) ≡ true
 algorithm_ascii (Ecdsa Nistp256) is = refl
 algorithm_ascii (Ecdsa Nistp384) is = refl
@@ -54,14 +48,7 @@ algorithm_ascii (Other n) is = (other_parts n is).0
 algorithm_ascii _ is = refl
 
 pub algorithm_short : (a : Algorithm) → IsAlgorithm a → nat_le (length (algorithm_name a)) 73 ≡ true
-algorithm_short (Ecdsa Nistp256) is = refl
-algorithm_short (Ecdsa Nistp384) is = refl
-algorithm_short (Ecdsa Nistp521) is = refl
-algorithm_short (Rsa None) is = refl
-algorithm_short (Rsa (Some Sha256)) is = refl
-algorithm_short (Rsa (Some Sha512)) is = refl
-algorithm_short (Other n) is = le-leb _ _ (omega (arith, leb-true _ _ (other_parts n is).1))
-algorithm_short _ is = refl
+algorithm_short a is = le-leb _ _ (short_name a is)
 
 algorithm_unknown : (o : Option Algorithm) (t : List ℕ) (fault : Fault) → algorithm_or o t ≡ Err fault → fault ≡ Label
 algorithm_unknown (Some a) t fault e = absurd cc

@@ -6,5 +6,4 @@ pub mod Signing
 pub mod Lines
 pub mod OneLines
 pub mod KeysOfCertificates
-pub mod BlobsApart
 pub mod KeysOrCertificates

@@ -1,14 +1,11 @@
 -- Certificates stand in lines; what is read of a line.
-use Rattle.std.proofs.Common.{◌≢◌, ℕ, ◌≤◌, List, length, Result, Ok, Err, arith}
-use Rattle.sshkey_model.specs.CertificateNames.{certificate_name, IsCertified}
+use Rattle.std.proofs.Common.{◌≢◌, ℕ, List, Result, Ok, Err}
 use Rattle.sshkey_model.specs.Keys.{key_algorithm}
 use Rattle.sshkey_model.specs.Lines.{name_of_certificate, IsCertificateLine, IsNoLine}
-use Rattle.std.proofs.lemmas.Bool.{and_parts}
-use Rattle.sshkey_model.specs.Names.{Algorithm, Dsa, Ecdsa, Ed25519, Rsa, SkEcdsa, SkEd25519, Other, Nistp256, Nistp384, Nistp521, is_other_name, is_own_name}
 use Rattle.sshkey_model.proofs.Blobs.{certificate_blobs}
+use Rattle.sshkey_model.proofs.ShortNames.{short_certificate_name}
 use Rattle.sshkey_base.specs.Causes.{cause, NoMemory}
 use Rattle.sshkey_base.specs.declared.error.Error.{Error}
-use Rattle.sshkey_base.proofs.CertificateTypes.{certificate_length}
 use Rattle.sshkey_public.specs.Blobs.{StandsInLines}
 use Rattle.sshkey_cert.specs.CertificateFormats.{certificate_format}
 use Rattle.sshkey_cert.specs.CertificateReaders.{SpellsCertificate, certificate_spelled}
@@ -25,24 +22,10 @@ ReadsCertificate text (Err e) = cause e ≢ NoMemory → IsNoLine name_of_certif
 abbrev pub IsOfSomeLine : Certificate → Type 0
 IsOfSomeLine c = (text : List ℕ) × IsCertificateLine text (certificate_of c) (comment_of c)
 
--- ---- names are short
-
-short_name : (a : Algorithm) → IsCertified a → length (certificate_name a) ≤ 73
-unfolding is_other_name
-short_name Dsa is = omega arith
-short_name (Ecdsa Nistp256) is = omega arith
-short_name (Ecdsa Nistp384) is = omega arith
-short_name (Ecdsa Nistp521) is = omega arith
-short_name Ed25519 is = omega arith
-short_name (Rsa h) is = omega arith
-short_name SkEcdsa is = omega arith
-short_name SkEd25519 is = omega arith
-short_name (Other n) is = let h = certificate_length n (and_parts (is_own_name n) _ is.0).0 in omega (arith, h.0, h.1)
-
 pub certificates_stand : StandsInLines certificate_of certificate_format.Spells certificate_of SpellsCertificate name_of_certificate
 certificates_stand = record {
   is = λ c b s. (certificate_spelled (certificate_of c) b).0 s;
   every = λ c b s. (c, (certificate_spelled c b).1 s);
   blobs = certificate_blobs;
-  short = λ c b s. short_name (key_algorithm c.signed.key) s.is.0.name;
+  short = λ c b s. short_certificate_name (key_algorithm c.signed.key) s.is.0.name;
 }

@@ -28,7 +28,7 @@ stripped l x (inr e) =
     let front : take (length l - 1) l ≡ x = grind (arith, common_steps) in
     ap (λ (t : Bool). cond t (take (length l - 1) l) l) (eq-eqb _ 13 last) ∙ front
 
-more_lines : (x : List ℕ) (parts : List (List ℕ)) → 0 < length parts → lines_of_parts (x ∷ parts) ≡ strip_carriage_return x ∷ lines_of_parts parts
+pub more_lines : (x : List ℕ) (parts : List (List ℕ)) → 0 < length parts → lines_of_parts (x ∷ parts) ≡ strip_carriage_return x ∷ lines_of_parts parts
 more_lines x [] some = absurd (omega arith)
 more_lines x (y ∷ more) some = refl
 

@@ -13,6 +13,7 @@ use Rattle.std.specs.Str.Lines.{lines, lines_of_parts, strip_carriage_return}
 use Rattle.sshkey_entries.specs.Fields.{without_blanks, is_filled, filled_lines}
 use Rattle.sshkey_entries.specs.OptionEnds.{is_blank}
 use Rattle.sshkey_entries.proofs.Fronts as fronts
+use Rattle.sshkey_entries.proofs.TextLines.{more_lines}
 use Rattle.sshkey_entry_calls.specs.Lines.{CutsLine, FindsLine, IsLineEnd, is_line_end}
 use Rattle.sshkey_calls.specs.declared.part.Part.{Part}
 use Rattle.sshkey_calls.proofs.Strings.{whole_slice}
@@ -52,10 +53,6 @@ front_blanks [] = ([], sym (fronts.nothing_stays is_blank), no_blanks)
 front_blanks (c ∷ text) = by_blank c text (is_blank c) refl (front_blanks text)
 
 -- ---- the first line
-
-more_lines : (x : List ℕ) (parts : List (List ℕ)) → 0 < length parts → lines_of_parts (x ∷ parts) ≡ strip_carriage_return x ∷ lines_of_parts parts
-more_lines x [] some = absurd (omega arith)
-more_lines x (y ∷ more) some = refl
 
 line_before : (front behind : List ℕ) → All (λ c. is_line_end c ≡ false) front → lines (front ++ (10 ∷ behind)) ≡ strip_carriage_return front ∷ lines behind
 line_before front behind none =

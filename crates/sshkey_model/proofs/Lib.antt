@@ -3,6 +3,7 @@ pub mod Grammars
 pub mod TextReaders
 pub mod NameReaders
 pub mod CertificateNameReaders
+pub mod ShortNames
 pub mod MpintReaders
 pub mod PointReaders
 pub mod KeyReaders

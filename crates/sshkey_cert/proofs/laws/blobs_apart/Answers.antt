@@ -1,4 +1,4 @@
-use Rattle.sshkey_cert.proofs.BlobsApart.{blobs_apart}
+use Rattle.sshkey_model.proofs.LinesApart.{blobs_apart}
 use Rattle.sshkey_cert.proofs.laws.blobs_apart.Goals as goal
 
 pub returns : goal.returns
