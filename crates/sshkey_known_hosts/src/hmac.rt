@@ -11,7 +11,7 @@ use sha1::Sha1;
 #[derive(Clone, Copy, Debug)]
 pub struct Hmac;
 
-/// The byte at that place, and zero behind the last.
+/// The byte at that place, and zero after the last.
 fn byte_at(key: &[u8], place: usize) -> u8
     ensures { result ≡ slice_index key.now place }
 {
@@ -25,10 +25,12 @@ fn byte_at(key: &[u8], place: usize) -> u8
 fn begun(key: &[u8], mask: u8) -> Sha1
     ensures { Holds result (masked key.now mask) }
 {
-    let mut hasher = Sha1::new();
+    let mut block = [0; 64];
     for place in 0..64_usize {
-        hasher.update(&[byte_at(key, place) ^ mask]);
+        block[place] = byte_at(key, place) ^ mask;
     }
+    let mut hasher = Sha1::new();
+    hasher.update(&block);
     hasher
 }
 
