@@ -1,4 +1,4 @@
-use Rattle.std.proofs.Common.{ℕ, List, ◌+◌, ◌≤◌, map, slice_index, bit_xor, subst, sym, ap, arith, ◌∙◌, ◌++◌, [], ◌∷◌, length, take, refl, ◌≡◌}
+use Rattle.std.proofs.Common.{ℕ, List, ◌+◌, ◌≤◌, map, slice_index, bit_xor, subst, sym, ap, arith, ◌∙◌, ◌++◌, [], ◌∷◌, refl}
 use Rattle.std.specs.List.{range_with_len}
 use Rattle.std.proofs.lemmas.Grind.{take-set_at}
 use Rattle.std.proofs.lemmas.List.{length-set, take_all}
@@ -23,5 +23,5 @@ returns c =
     let f = λ (i : ℕ). bit_xor (slice_index c.args.key.now i) c.args.mask in
     subst (Holds c.update.new.self)
     (sym (take_all n c.loop-place.block (subst (λ (m : ℕ). m ≤ n) (sym c.loop-place.invariant.0) c.loop-place-test.false))
-     ∙ c.loop-place.invariant.1 ∙ ap (λ (m : ℕ). map f (range_with_len 0 m)) (omega arith))
+     ∙ c.loop-place.invariant.1 ∙ ap (λ (m : ℕ). map f (range_with_len 0 m)) {x = n} {y = 64} (omega arith))
     (c.update.ensures [] c.new-hasher.ensures)
