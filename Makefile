@@ -1,6 +1,6 @@
 # Builds what other languages link, of the proved crate sshkey_c, and the programs of helpers/:
 #
-#     out/libsshkey.a  out/libsshkey.so  out/sshkey.pc
+#     out/libsshkey.a  out/libsshkey.so  out/libsshkey.so.0  out/sshkey.pc
 #     out/check_certificate  out/principals  out/authorized_keys
 #
 # and with `make go`, which takes Go (Debian: golang-go), the example in Go: out/check-go;
@@ -21,8 +21,11 @@ KIT := $(patsubst %/,%,$(dir $(shell rt doc)))
 LIBRARY := $(ROOT)/crates/sshkey_c/out/libsshkey_c.a
 HEAP := $(KIT)/c/liblibc_c.a
 
+VERSION := $(shell cat $(ROOT)/VERSION)
 # of the header, whose # would begin a comment here
-VERSION := $(shell sed -n 's/^.define SSHKEY_LIBRARY_VERSION "\(.*\)"$$/\1/p' $(ROOT)/include/sshkey.h)
+ABI := $(shell sed -n 's/^.define SSHKEY_ABI //p' $(ROOT)/include/sshkey.h)
+# the name by which the loader asks for the library
+SONAME := libsshkey.so.$(ABI)
 FILL := sed -e 's|@version@|$(VERSION)|'
 
 CC := cc
@@ -41,7 +44,7 @@ $(error the toolchain's command rt is not found)
 endif
 endif
 
-all: $(OUT)/libsshkey.a $(OUT)/libsshkey.so $(OUT)/sshkey.pc $(PROGRAMS)
+all: $(OUT)/libsshkey.a $(OUT)/libsshkey.so $(OUT)/$(SONAME) $(OUT)/sshkey.pc $(PROGRAMS)
 
 # it knows itself whether the library is current
 $(ROOT)/crates/sshkey_c/out/libsshkey_c.a: always
@@ -54,11 +57,14 @@ $(OUT)/libsshkey.a: $(LIBRARY) $(HEAP)
 	cd $(OUT)/heap && $(AR) x $(HEAP) && $(AR) rcs $@ *.o
 
 $(OUT)/libsshkey.so: $(OUT)/libsshkey.a $(ROOT)/bindings/sshkey.map
-	$(CC) -shared -o $@ -Wl,-soname,libsshkey.so -Wl,--version-script=$(ROOT)/bindings/sshkey.map \
+	$(CC) -shared -o $@ -Wl,-soname,$(SONAME) -Wl,--version-script=$(ROOT)/bindings/sshkey.map \
 		-Wl,--no-undefined -Wl,--whole-archive $(OUT)/libsshkey.a -Wl,--no-whole-archive
 
+$(OUT)/$(SONAME): $(OUT)/libsshkey.so
+	ln -sf libsshkey.so $@
+
 # where header and libraries are: here, or where they are installed
-$(OUT)/sshkey.pc: $(ROOT)/bindings/sshkey.pc.in $(ROOT)/include/sshkey.h
+$(OUT)/sshkey.pc: $(ROOT)/bindings/sshkey.pc.in $(ROOT)/VERSION
 	@mkdir -p $(OUT)
 	$(FILL) -e 's|@include@|$(ROOT)/include|' -e 's|@lib@|$(OUT)|' $< >$@
 
@@ -89,13 +95,16 @@ install: all
 	install -d $(INCLUDE) $(LIB)/pkgconfig $(DESTDIR)$(PREFIX)/bin
 	install -m 644 $(ROOT)/include/sshkey.h $(INCLUDE)
 	install -m 644 $(OUT)/libsshkey.a $(LIB)
-	install -m 755 $(OUT)/libsshkey.so $(LIB)
+	install -m 755 $(OUT)/libsshkey.so $(LIB)/libsshkey.so.$(VERSION)
+	ln -sf libsshkey.so.$(VERSION) $(LIB)/$(SONAME)
+	ln -sf $(SONAME) $(LIB)/libsshkey.so
 	$(FILL) -e 's|@include@|$(PREFIX)/include|' -e 's|@lib@|$(PREFIX)/lib|' \
 		$(ROOT)/bindings/sshkey.pc.in >$(LIB)/pkgconfig/sshkey.pc
 	$(foreach it,$(PROGRAMS),install -m 755 $(it) $(call INSTALLED,$(it)) &&) true
 
 uninstall:
-	rm -f $(INCLUDE)/sshkey.h $(LIB)/libsshkey.a $(LIB)/libsshkey.so $(LIB)/pkgconfig/sshkey.pc \
+	rm -f $(INCLUDE)/sshkey.h $(LIB)/libsshkey.a $(LIB)/pkgconfig/sshkey.pc \
+		$(LIB)/libsshkey.so $(LIB)/$(SONAME) $(LIB)/libsshkey.so.$(VERSION) \
 		$(foreach it,$(PROGRAMS),$(call INSTALLED,$(it)))
 
 clean:

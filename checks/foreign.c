@@ -11,7 +11,8 @@
  *     string-places BYTES | option-places BYTES
  *                                         what is found from each place, and after the end
  *     verifications .. as `user`          how often the verifier was asked
- *     names                               the version, and numbers of answers with their names
+ *     names                               version and ABI of the header and of the library, and
+ *                                         numbers of answers with their names
  *     meanings                            the words of judge.h for each of these numbers
  */
 #include <inttypes.h>

@@ -28,7 +28,7 @@ try:
     import sshkey
     from host import judge_signed
     from sshkey import Algorithm, CertificateType, Status
-except (AttributeError, ImportError, OSError) as fault:  # a library is not there, or is another
+except (ImportError, OSError) as fault:  # a library is not there, or is another
     if __name__ != "__main__":
         raise
     print(f"check.py: {fault}", file=sys.stderr)

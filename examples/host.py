@@ -16,7 +16,7 @@ from collections.abc import Collection
 try:
     import sshkey
     from sshkey import Status
-except (AttributeError, ImportError, OSError) as fault:  # the library is not there, or is another
+except (ImportError, OSError) as fault:  # the library is not there, or is another
     if __name__ != "__main__":
         raise
     print(f"host.py: {fault}", file=sys.stderr)

@@ -23,7 +23,7 @@ try:
 
     import check
     import sshkey
-except (AttributeError, ImportError, OSError) as fault:  # a library is not there, or is another
+except (ImportError, OSError) as fault:  # a library is not there, or is another
     if __name__ != "__main__":
         raise
     print(f"issue.py: {fault}", file=sys.stderr)

@@ -43,12 +43,26 @@
 #include <stddef.h>
 #include <stdint.h>
 
-/* The version of this header and of the library; 0 before the first release. */
-#define SSHKEY_LIBRARY_VERSION "0"
+/* The version of this header, as sshkey_version tells that of the library: 100 is 0.1.0. */
+#define SSHKEY_VERSION 100
+
+/* What sshkey_abi answers where the library has the structs, the calls and the numbers below. */
+#define SSHKEY_ABI 0
 
 #ifdef __cplusplus
 extern "C" {
 #endif
+
+/* ---- which library it is --------------------------------------------------------------------- */
+
+/* The version of the library: the first of its three numbers by 10,000, the second by 100, and the
+ * third. Takes no memory. */
+uint32_t sshkey_version(void);
+
+/* The number of its ABI, with which its name ends: libsshkey.so.0. It stays while calls and numbers
+ * are only added; where it is not SSHKEY_ABI, make no other call. A program that is linked with the
+ * library need not ask: its linker and its loader do. Takes no memory. */
+uint32_t sshkey_abi(void);
 
 /* ---- what calls return ----------------------------------------------------------------------- */
 

@@ -31,6 +31,8 @@ typedef struct {
 #define PORT (uint16_t)it->numbers[0]
 #define BY (const sshkey_sha256 *)it->spans[2].bytes, it->spans[2].length / sizeof(sshkey_sha256)
 #define CALLS                                                                                    \
+  CALL(version, )                                                                                \
+  CALL(abi, )                                                                                    \
   CALL(certificate_question, BYTES(0), ROOM, &it->question)                                      \
   CALL(certificate_validate, BYTES(0), it->numbers[0], BY, (uint32_t)it->numbers[1])             \
   CALL(certificate_validate_for, BYTES(0), it->numbers[0], BYTES(1), BY,                         \

@@ -8,6 +8,7 @@ import sys
 from lib.signatures import armoured
 
 from .linked import BINDINGS, EXAMPLES, run
+from .stubs import OTHER_ABI, check_other_abi, stub_library
 
 # the status that a program has promised
 VALID, INVALID, UNTOLD = 0, 1, 2
@@ -123,11 +124,14 @@ def check_closed(count, built, maker):
     inputs = {"check.py certificates": maker.read("holder-cert.pub"), "check.py signature": armoured(maker.signature("holder", "x"))}
     inputs["host.py"] = maker.read("holder.pub")
     os.makedirs(maker.path("lacking"), exist_ok=True)
+    stub_library(count, maker.path("abi"), lambda call: 77, OTHER_ABI)
+    other = maker.path("abi/libsshkey.so")
+    check_other_abi(count, "Python", [sys.executable, "-c", "import sshkey"], env={**os.environ, "SSHKEY_LIBRARY": other})
     maker.write("lacking/cryptography.py", "raise ImportError('there is no cryptography')\n")
     for name, (script, *words) in PROGRAMS.items():
         words, given = [it.format(**paths) for it in words], inputs.get(name, "")
         _, _, *program = python(built, script)
-        for case, library in (("no library", maker.path("none")), ("another library", "libc.so.6"), ("a text for a library", paths["key"])):
+        for case, library in (("no library", maker.path("none")), ("another library", "libc.so.6"), ("another ABI", other), ("a text for a library", paths["key"])):
             ran = run([*program, *words], input=given, env={**os.environ, "SSHKEY_LIBRARY": library})
             count.check(f"{name}: {case}", is_untold(ran, script), ran.returncode, ran.stdout, ran.stderr)
         if script != "host.py":

@@ -70,7 +70,7 @@ static void ask_host(char **words, size_t count) {
 }
 
 static void ask_names(void) {
-  printf("%s", SSHKEY_LIBRARY_VERSION);
+  printf("%d %d %" PRIu32 " %" PRIu32, SSHKEY_VERSION, SSHKEY_ABI, sshkey_version(), sshkey_abi());
   for (uint32_t answer = 0; answer < 200; answer++)
     printf(",%" PRIu32 " %s", answer, sshkey_answer_name(answer));
   printf(",%" PRIu32 " %s", UINT32_MAX, sshkey_answer_name(UINT32_MAX));

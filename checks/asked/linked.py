@@ -58,6 +58,10 @@ def header():
         return file.read()
 
 
+# the numbers of the header that are those of the library
+VERSION, ABI = (int(re.search(rf"^#define SSHKEY_{it} (\d+)$", header(), re.M)[1]) for it in ("VERSION", "ABI"))
+
+
 def declared():
     """The calls that the header declares."""
     return set(re.findall(r"^uint32_t (sshkey_\w+)\(", header(), re.M))
@@ -114,18 +118,20 @@ def check_symbols(count, built, sshkey):
 
 
 def check_names(count, built):
-    """Answers have the names of the header, no other number has one, and the version is that of pkg-config and of CHANGELOG.md."""
-    version, *said = run([f"{built.plain}/foreign"], input="names\n").stdout.rstrip("\n").split(",")
+    """Answers have the names of the header, and no other number has one. Header, library, pkg-config and loader tell one version and
+    one ABI."""
+    numbers, *said = run([f"{built.plain}/foreign"], input="names\n").stdout.rstrip("\n").split(",")
     answers = next(it for it in enumerations() if "SSHKEY_DONE" in it)
     named = {number: name.removeprefix("SSHKEY_") for name, number in answers.items()}
     wanted = [f"{it} {named.get(it, 'no answer')}" for it in (*range(200), 2**32 - 1)]
     count.check(f"{len(named)} answers have their names", said == wanted, set(said) ^ set(wanted))
-    with open(f"{ROOT}/CHANGELOG.md", encoding="utf-8") as file:
-        newest = re.search(r"^## (\S+)", file.read(), re.M)[1]
+    version, abi, *of_library = numbers.split()
+    count.check("the library has the version and the ABI of the header", of_library == [version, abi], numbers)
     package = run(["pkg-config", "--modversion", f"{built.plain}/sshkey.pc"]).stdout.strip()
-    told = "0" if newest == "Unreleased" else newest
-    same = version == package == told
-    count.check("the version of the header, of the package and of CHANGELOG.md is one", same, version, package, told)
+    first, second, third = map(int, package.split("."))
+    count.check("pkg-config tells that version", int(version) == 10_000 * first + 100 * second + third, version, package)
+    dynamic = run(["readelf", "-d", f"{built.plain}/libsshkey.so"]).stdout
+    count.check("the loader asks for that ABI", f"Library soname: [libsshkey.so.{abi}]" in dynamic, dynamic)
 
 
 def check_layout(count, sshkey):
@@ -158,7 +164,8 @@ def is_found(folder, package, library):
 # what is installed below a prefix
 INSTALLED = {
     "bin/sshkey-authorized-keys", "bin/sshkey-check-certificate", "bin/sshkey-principals", "include/sshkey.h", "lib/libsshkey.a",
-    "lib/libsshkey.so", "lib/pkgconfig/sshkey.pc",
+    "lib/libsshkey.so", f"lib/libsshkey.so.{ABI}", f"lib/libsshkey.so.{VERSION // 10_000}.{VERSION // 100 % 100}.{VERSION % 100}",
+    "lib/pkgconfig/sshkey.pc",
 }  # fmt: skip
 
 

@@ -7,7 +7,7 @@ import re
 from lib.harness import ssh_keygen, string
 
 from .key_calls import all_of, encoded, keys_of, renamed, signed_by
-from .linked import declared, header, word
+from .linked import ABI, VERSION, declared, header, word
 
 SPANS, NUMBERS = 7, 5
 # how many bytes the texts of fingerprints have, which no call tells
@@ -130,6 +130,8 @@ def cases(made):
         yield call, [renamed(keys["rsa -b 2048"], OTHER_NAME.encode())], [], "DONE"
     yield "fingerprint_text", [bytes(32)], [], "DONE"
     yield "fingerprint_sha512_text", [bytes(64)], [], "DONE"
+    yield "version", [], [], VERSION
+    yield "abi", [], [], ABI
     yield from of_files(maker, keys["ed25519"])
 
 
@@ -143,7 +145,7 @@ def questions(sshkey, asked):
     """Calls, questions and what is wanted, those with a room also with one of a byte."""
     for call, spans, numbers, wanted in asked:
         if call not in ROOMS:
-            yield call, question_of("memory", call, spans, numbers, 0), sshkey.Status[wanted]
+            yield call, question_of("memory", call, spans, numbers, 0), sshkey.Status[wanted] if isinstance(wanted, str) else wanted
             continue
         yield call, question_of("memory", call, spans, numbers, 2 * sum(map(len, spans)) + 512), sshkey.Status[wanted]
         if wanted == "DONE":

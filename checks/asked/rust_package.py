@@ -108,7 +108,7 @@ def calls_of(text, pattern):
 
 def calls_of_header():
     """The parameters of each call of the header, as Rust has them."""
-    found = calls_of(header(), r"uint32_t (sshkey_\w+)\((.*?)\);")
+    found = calls_of(header().replace("(void)", "()"), r"uint32_t (sshkey_\w+)\((.*?)\);")
     for name, given in found.items():
         given = re.sub(r"(const )?(\w+) \*(\w+)(, size_t (?:\w+_)?(?:length|count)\b)?", parameter_in_rust, given)
         found[name] = re.sub(r"\b(\w+_t) (\w+)", lambda it: f"{it[2]}: {in_rust(it[1])}", given)

@@ -1,8 +1,33 @@
-"""How a package of another language behaves over a library that only answers a number, for checks/bindings."""
+"""Libraries that only answer a number, and how a package of another language behaves over one, for checks/bindings and
+checks/foreign."""
+import os
 import re
 import subprocess
 
-from .linked import run
+from .linked import ABI, declared, run
+
+# the number of an ABI that no header has yet
+OTHER_ABI = 77
+
+
+def stub_library(count, folder, answer, abi=ABI):
+    """Builds there libsshkey.a and libsshkey.so, which answer each call the number that `answer` gives of its name."""
+    os.makedirs(folder)
+    answers = {it: answer(it) for it in sorted(declared())} | {"sshkey_abi": abi}
+    with open(f"{folder}/stub.c", "w", encoding="ascii") as file:
+        file.write("".join(f"unsigned {call}(void) {{ return {number}; }}\n" for call, number in answers.items()))
+    made = [
+        run(it, cwd=folder)
+        for it in (["cc", "-c", "-fPIC", "stub.c"], ["ar", "rcs", "libsshkey.a", "stub.o"], ["cc", "-shared", "-o", "libsshkey.so", "stub.o"])
+    ]
+    count.check(f"the library that answers {os.path.basename(folder)} is built", not any(it.returncode for it in made), made)
+
+
+def check_other_abi(count, language, words, **how):
+    """A program over a library of another ABI ends at once, and says which ABI it has."""
+    ran = run(words, timeout=30, **how)
+    told = f"the ABI {OTHER_ABI} (version " in ran.stderr and not ran.stdout
+    count.check(f"{language}: a library of another ABI is refused", ran.returncode and told, ran)
 
 
 def check_stub(count, asker, made, number):

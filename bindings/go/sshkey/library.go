@@ -6,7 +6,24 @@ package sshkey
 // #include "sshkey.h"
 import "C"
 
-import "unsafe"
+import (
+	"fmt"
+	"unsafe"
+)
+
+// Version is that of this package.
+const Version = "0.1.0"
+
+// abi is SSHKEY_ABI of the header from which this package is written.
+const abi = 0
+
+// init ends the program where the library has another ABI than this package needs.
+func init() {
+	if its := C.sshkey_abi(); its != abi {
+		panic(fmt.Sprintf("sshkey: the library has the ABI %d (version %d), and this package needs %d",
+			its, C.sshkey_version(), abi))
+	}
+}
 
 // input is bytes as a call takes them: a copy, with a byte more of room, so that there is something
 // to point to where there are none.

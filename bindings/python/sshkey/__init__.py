@@ -16,8 +16,8 @@ UnicodeEncodeError, a ValueError too, for a text that UTF-8 can't write.
 
 The library is the file that SSHKEY_LIBRARY names in the environment, or else out/libsshkey.so of the sources (`make`
 builds it), or else the system's. Whoever sets SSHKEY_LIBRARY has their code run: it is ignored where the effective and the real
-user or group differ, and a helper that keeps its caller's environment in another way has to clear it. Calls from several threads
-at once are fine.
+user or group differ, and a helper that keeps its caller's environment in another way has to clear it. A library of another ABI, or
+without one of the calls, is refused: OSError, when this package is imported. Calls from several threads at once are fine.
 """
 from ._certificates import (
     certificate_contents,
@@ -65,6 +65,8 @@ from ._values import (
     Refused,
     Status,
 )
+
+__version__ = "0.1.0"
 
 __all__ = [
     "ALL_PRINCIPALS", "FOREVER", "Algorithm", "AllPrincipals", "AuthorizedEntry", "BytesLike", "CertificateFields",

@@ -112,6 +112,8 @@ HERE = os.path.dirname(os.path.realpath(__file__))
 # where the sources have what is built; a copy of the package elsewhere has nothing there
 BUILT = os.path.join(HERE, "..", "..", "..", "out", "libsshkey.so")
 IS_IN_SOURCES = HERE.split(os.sep)[-3:-1] == ["bindings", "python"]
+# SSHKEY_ABI of the header from which this is written
+ABI = 0
 # bytes that are only read: a pointer and a length
 BYTES = (ctypes.c_char_p, ctypes.c_size_t)
 # bytes, and a place in them
@@ -123,6 +125,8 @@ WRITTEN = (*ROOM, ctypes.POINTER(Length))
 DIGESTS = (ctypes.POINTER(Sha256), ctypes.c_size_t)
 # what each call takes
 CALLS = {
+    "sshkey_version": (),
+    "sshkey_abi": (),
     "sshkey_certificate_question": (*BYTES, *ROOM, ctypes.POINTER(Question)),
     "sshkey_certificate_validate": (*BYTES, ctypes.c_uint64, *DIGESTS, ctypes.c_uint32),
     "sshkey_certificate_validate_for": (*BYTES, ctypes.c_uint64, *BYTES, *DIGESTS, ctypes.c_uint32),
@@ -160,12 +164,26 @@ def _named() -> str | None:
     return os.environ.get("SSHKEY_LIBRARY") if is_own else None
 
 
+def _fault(library: ctypes.CDLL) -> str | None:
+    """What is wrong with a library that is not one for this package."""
+    if not (hasattr(library, "sshkey_abi") and hasattr(library, "sshkey_version")):
+        return "is no libsshkey, or one from before 0.1.0"
+    abi, version = library.sshkey_abi(), library.sshkey_version()
+    if abi != ABI:
+        return f"has the ABI {abi} (version {version}), and this package needs {ABI}"
+    missing = [it for it in CALLS if not hasattr(library, it)]
+    return f"is older than this package: it has no {missing[0]}" if missing else None
+
+
 def _loaded() -> ctypes.CDLL:
     built = BUILT if IS_IN_SOURCES and os.path.exists(BUILT) else None
     path = _named() or built or find_library("sshkey")
     if not path:
         raise OSError("libsshkey.so is not built: run make")
     library = ctypes.CDLL(path)
+    fault = _fault(library)
+    if fault:
+        raise OSError(f"{path} {fault}")
     for name, takes in CALLS.items():
         call = getattr(library, name)
         call.argtypes, call.restype = takes, ctypes.c_uint32

@@ -32,7 +32,7 @@
 //! input stands in it, and nothing is kept of it. Calls from several threads at once are fine; make
 //! none from a signal handler, or from the forked child of a process with threads. What no call
 //! answers, as is proved, would be a panic: a part that lies outside its bytes, and a fault of
-//! [`entry_lines`].
+//! [`entry_lines`]. So is the first call of a library that has another ABI.
 #![deny(missing_docs)]
 
 mod certificates;

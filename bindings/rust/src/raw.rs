@@ -2,6 +2,7 @@
 //! [`Question`] and its [`Part`]s.
 
 use std::marker::PhantomData;
+use std::sync::Once;
 
 use crate::digests::{Sha256, Sha512};
 
@@ -106,41 +107,71 @@ pub(crate) struct Draft<'a> {
 // the library is one for x86-64
 const _: () = assert!(std::mem::size_of::<usize>() == 8);
 
+/// SSHKEY_ABI of the header from which this crate is written.
+const ABI: u32 = 0;
+
+/// Panics where the library has another ABI than this crate needs, which is asked once.
+fn expect_abi() {
+    static ASKED: Once = Once::new();
+    ASKED.call_once(|| {
+        let (abi, version) = (sshkey_abi(), sshkey_version());
+        let its = format!("libsshkey has the ABI {abi} (version {version})");
+        assert!(abi == ABI, "{its}, and this crate needs {ABI}");
+    });
+}
+
 /// The calls of sshkey.h as functions that are safe: of a slice C gets the pointer and the length,
-/// and a reference as a pointer.
+/// and a reference as a pointer. In brackets stands what each does first.
 macro_rules! calls {
-    (@ $call:ident [$($rust:tt)*] [$($c:tt)*] [$($got:tt)*] $it:ident: &mut [u8], $($more:tt)*) => {
+    (
+        @ $first:tt $call:ident [$($rust:tt)*] [$($c:tt)*] [$($got:tt)*]
+        $it:ident: &mut [u8], $($more:tt)*
+    ) => {
         calls! {
-            @ $call [$($rust)* $it: &mut [u8],] [$($c)* _: *mut u8, _: usize,]
+            @ $first $call [$($rust)* $it: &mut [u8],] [$($c)* _: *mut u8, _: usize,]
             [$($got)* $it.as_mut_ptr(), $it.len(),] $($more)*
         }
     };
-    (@ $call:ident [$($rust:tt)*] [$($c:tt)*] [$($got:tt)*] $it:ident: &[$of:ty], $($more:tt)*) => {
+    (
+        @ $first:tt $call:ident [$($rust:tt)*] [$($c:tt)*] [$($got:tt)*]
+        $it:ident: &[$of:ty], $($more:tt)*
+    ) => {
         calls! {
-            @ $call [$($rust)* $it: &[$of],] [$($c)* _: *const $of, _: usize,]
+            @ $first $call [$($rust)* $it: &[$of],] [$($c)* _: *const $of, _: usize,]
             [$($got)* $it.as_ptr(), $it.len(),] $($more)*
         }
     };
-    (@ $call:ident [$($rust:tt)*] [$($c:tt)*] [$($got:tt)*] $it:ident: $of:ty, $($more:tt)*) => {
-        calls! { @ $call [$($rust)* $it: $of,] [$($c)* _: $of,] [$($got)* $it,] $($more)* }
+    (
+        @ $first:tt $call:ident [$($rust:tt)*] [$($c:tt)*] [$($got:tt)*]
+        $it:ident: $of:ty, $($more:tt)*
+    ) => {
+        calls! { @ $first $call [$($rust)* $it: $of,] [$($c)* _: $of,] [$($got)* $it,] $($more)* }
     };
-    (@ $call:ident [$($rust:tt)*] [$($c:tt)*] [$($got:tt)*]) => {
+    (@ [$($first:tt)*] $call:ident [$($rust:tt)*] [$($c:tt)*] [$($got:tt)*] $(,)?) => {
         pub(crate) fn $call($($rust)*) -> u32 {
             extern "C" {
                 fn $call($($c)*) -> u32;
             }
+            $($first)*
             // SAFETY: these are the parameters of sshkey.h, which checks/bindings compares. Each
             // pointer has the length of its slice beside it, what is read is lent for longer than
             // the call, and what is written is borrowed by it alone.
             unsafe { $call($($got)*) }
         }
     };
-    ($(fn $call:ident($($parameters:tt)*);)*) => {
-        $(calls! { @ $call [] [] [] $($parameters)*, })*
+    ($first:tt $(fn $call:ident($($parameters:tt)*);)*) => {
+        $(calls! { @ $first $call [] [] [] $($parameters)*, })*
     };
 }
 
 calls! {
+    []
+    fn sshkey_version();
+    fn sshkey_abi();
+}
+
+calls! {
+    [expect_abi();]
     fn sshkey_read_line(line: &[u8], room: &mut [u8], answer: &mut Line);
     fn sshkey_certificate_question(certificate: &[u8], room: &mut [u8], answer: &mut Question);
     fn sshkey_certificate_validate(

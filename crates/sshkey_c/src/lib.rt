@@ -1,8 +1,9 @@
 //! The library for programs in C, and for whoever calls C. `include/sshkey.h` declares what it
 //! exports.
 //!
-//! Each export makes one call of `sshkey_calls` or of `sshkey_entry_calls`, whose clauses it states
-//! again. In C a slice is a pointer and a length, and an allocator is nothing.
+//! Each export, but for those of `version`, makes one call of `sshkey_calls` or of
+//! `sshkey_entry_calls`, whose clauses it states again. In C a slice is a pointer and a length, and
+//! an allocator is nothing.
 #![tactic(auto)]
 
 mod certificate;
@@ -16,4 +17,5 @@ mod parts;
 mod sha512;
 mod signature;
 mod sshsig;
+mod version;
 mod walk;
