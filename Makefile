@@ -1,14 +1,14 @@
 # Builds what other languages link, of the proved crate sshkey_c, and the programs of helpers/:
 #
 #     out/libsshkey.a  out/libsshkey.so  out/libsshkey.so.0  out/sshkey.pc
-#     out/check_certificate  out/principals  out/authorized_keys
+#     out/sshkey-check  out/sshkey-principals  out/sshkey-authorized-keys
 #
 # and with `make go`, which takes Go (Debian: golang-go), the example in Go: out/check-go;
 # with `make rust`, which takes Rust (Debian: cargo), the one in Rust: out/check-rust.
 #
 # The helpers take OpenSSL's libcrypto (Debian: libssl-dev). `make install PREFIX=/usr/local` copies
-# header, libraries, a sshkey.pc of their own and the helpers, as bin/sshkey-principals and so on;
-# `make uninstall` removes them. docs/FOREIGN.md is the page to read.
+# header, libraries, a sshkey.pc of their own, the helpers and their manual pages; `make uninstall`
+# removes them. docs/FOREIGN.md is the page to read.
 
 ROOT := $(abspath $(dir $(lastword $(MAKEFILE_LIST))))
 OUT := $(ROOT)/out
@@ -36,7 +36,10 @@ LINKED := -pie -Wl,-z,relro,-z,now
 WARNED := -std=c11 -D_POSIX_C_SOURCE=200809L -Wall -Wextra -pedantic -I$(ROOT)/include
 CRYPTO := -lcrypto
 HEADERS := $(ROOT)/include/sshkey.h $(wildcard $(ROOT)/helpers/*.h)
-PROGRAMS := $(OUT)/check_certificate $(OUT)/principals $(OUT)/authorized_keys
+PROGRAMS := $(OUT)/sshkey-check $(OUT)/sshkey-principals $(OUT)/sshkey-authorized-keys
+# what they are linked with, each with what it takes of it
+PARTS := $(addprefix $(OUT)/,program.o show.o sshsig.o judge.o verify.o)
+PAGES := $(notdir $(wildcard $(ROOT)/helpers/*.[18]))
 
 ifeq ($(KIT),)
 ifneq ($(if $(MAKECMDGOALS),$(filter-out clean uninstall,$(MAKECMDGOALS)),all),)
@@ -72,7 +75,11 @@ $(OUT)/%.o: $(ROOT)/helpers/%.c $(HEADERS)
 	@mkdir -p $(OUT)
 	$(CC) $(WARNED) $(CFLAGS) $(HARDENED) -c -o $@ $<
 
-$(PROGRAMS): $(OUT)/%: $(OUT)/%.o $(OUT)/judge.o $(OUT)/verify.o $(OUT)/libsshkey.a
+$(OUT)/parts.a: $(PARTS)
+	rm -f $@
+	$(AR) rcs $@ $^
+
+$(PROGRAMS): $(OUT)/%: $(OUT)/%.o $(OUT)/parts.a $(OUT)/libsshkey.a
 	$(CC) $(CFLAGS) $(LINKED) -o $@ $^ $(CRYPTO)
 
 # Go does not see that the library is another, so the program is always linked
@@ -88,11 +95,13 @@ rust: $(OUT)/libsshkey.a $(OUT)/verify.o
 
 INCLUDE := $(DESTDIR)$(PREFIX)/include
 LIB := $(DESTDIR)$(PREFIX)/lib
-# a helper's name where it is installed
-INSTALLED = $(DESTDIR)$(PREFIX)/bin/sshkey-$(subst _,-,$(notdir $(1)))
+BIN := $(DESTDIR)$(PREFIX)/bin
+MAN := $(DESTDIR)$(PREFIX)/share/man
+# where the manual page is installed: sshkey-check.1 in man1
+INSTALLED = $(MAN)/man$(patsubst .%,%,$(suffix $(1)))/$(1)
 
 install: all
-	install -d $(INCLUDE) $(LIB)/pkgconfig $(DESTDIR)$(PREFIX)/bin
+	install -d $(INCLUDE) $(LIB)/pkgconfig $(BIN) $(MAN)/man1 $(MAN)/man8
 	install -m 644 $(ROOT)/include/sshkey.h $(INCLUDE)
 	install -m 644 $(OUT)/libsshkey.a $(LIB)
 	install -m 755 $(OUT)/libsshkey.so $(LIB)/libsshkey.so.$(VERSION)
@@ -100,12 +109,13 @@ install: all
 	ln -sf $(SONAME) $(LIB)/libsshkey.so
 	$(FILL) -e 's|@include@|$(PREFIX)/include|' -e 's|@lib@|$(PREFIX)/lib|' \
 		$(ROOT)/bindings/sshkey.pc.in >$(LIB)/pkgconfig/sshkey.pc
-	$(foreach it,$(PROGRAMS),install -m 755 $(it) $(call INSTALLED,$(it)) &&) true
+	install -m 755 $(PROGRAMS) $(BIN)
+	$(foreach it,$(PAGES),install -m 644 $(ROOT)/helpers/$(it) $(call INSTALLED,$(it)) &&) true
 
 uninstall:
 	rm -f $(INCLUDE)/sshkey.h $(LIB)/libsshkey.a $(LIB)/pkgconfig/sshkey.pc \
 		$(LIB)/libsshkey.so $(LIB)/$(SONAME) $(LIB)/libsshkey.so.$(VERSION) \
-		$(foreach it,$(PROGRAMS),$(call INSTALLED,$(it)))
+		$(addprefix $(BIN)/,$(notdir $(PROGRAMS))) $(foreach it,$(PAGES),$(call INSTALLED,$(it)))
 
 clean:
 	rm -rf $(OUT)

@@ -33,10 +33,9 @@ uint32_t judge_read_words(const char *type, const char *base64, uint32_t kind, j
   return status;
 }
 
-bool judge_read_file(const char *path, judge_blob *answer) {
-  FILE *file = fopen(path, "rb");
+bool judge_read_stream(FILE *file, judge_blob *answer) {
   judge_blob text = {NULL, 0};
-  bool good = file != NULL;
+  bool good = true;
   for (size_t room = 0, read = 1; good && read;) {
     if (text.length == room) {
       uint8_t *more = realloc(text.bytes, room = 2 * room + 4096);
@@ -47,11 +46,17 @@ bool judge_read_file(const char *path, judge_blob *answer) {
     text.length += read;
   }
   good = good && !ferror(file);
-  if (file) fclose(file);
   if (good)
     *answer = text;
   else
     free(text.bytes);
+  return good;
+}
+
+bool judge_read_file(const char *path, judge_blob *answer) {
+  FILE *file = fopen(path, "rb");
+  bool good = file && judge_read_stream(file, answer);
+  if (file) fclose(file);
   return good;
 }
 

@@ -5,6 +5,7 @@
 #include <stdbool.h>
 #include <stddef.h>
 #include <stdint.h>
+#include <stdio.h>
 #include <time.h>
 #include "sshkey.h"
 
@@ -26,7 +27,10 @@ uint32_t judge_read_line(const char *line, size_t length, uint32_t kind, judge_b
 /* The same of two words, as sshd gives them: a type, and Base64. */
 uint32_t judge_read_words(const char *type, const char *base64, uint32_t kind, judge_blob *answer);
 
-/* Reads a file; false where it can't, and errno says why. */
+/* Reads what is left of a file; false where it can't, and errno says why. */
+bool judge_read_stream(FILE *file, judge_blob *answer);
+
+/* Reads a file of that path, likewise. */
 bool judge_read_file(const char *path, judge_blob *answer);
 
 /* Adds the key of the line to the authorities: SSHKEY_DONE, or why not. */

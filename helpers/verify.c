@@ -149,3 +149,17 @@ bool judge_is_signature(const sshkey_question *question, const uint8_t *room) {
     return false;
   }
 }
+
+bool judge_digest(FILE *file, uint8_t *digest, size_t length) {
+  static uint8_t room[65536];
+  EVP_MD_CTX *context = EVP_MD_CTX_new();
+  bool yes = context && (length == 32 || length == 64) &&
+             EVP_DigestInit_ex(context, length == 32 ? EVP_sha256() : EVP_sha512(), NULL) == 1;
+  for (size_t read = 1; yes && read;) {
+    read = fread(room, 1, sizeof room, file);
+    yes = EVP_DigestUpdate(context, room, read) == 1;
+  }
+  yes = yes && !ferror(file) && EVP_DigestFinal_ex(context, digest, NULL) == 1;
+  EVP_MD_CTX_free(context);
+  return yes;
+}

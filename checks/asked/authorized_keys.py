@@ -1,4 +1,4 @@
-"""Logins at a real sshd that asks helpers/authorized_keys by which lines it may let a key in, for checks/foreign. The judge is
+"""Logins at a real sshd that asks helpers/sshkey-authorized-keys by which lines it may let a key in, for checks/foreign. The judge is
 the same sshd where it reads the files itself."""
 import base64
 import getpass
@@ -8,7 +8,7 @@ from concurrent.futures import ThreadPoolExecutor
 from lib.harness import line_of
 
 from .linked import run
-from .principals import SSHD, logs_in
+from .principals import HELPER, SSHD, logs_in
 from .security_key_agent import Agent
 from .security_key_calls import COUNTER, TOUCHED, SecurityKey, certified
 
@@ -68,7 +68,7 @@ class Files:
         maker.write(f"keys/{me}", "\r\n".join(["# keys", "", *lines]) + "\n")
         maker.write("keys/nobody", f"{self.fields('nobody')}\n")
         maker.write("reading", (CONFIGURATION + READING).format(maker.folder))
-        maker.write("asking", (CONFIGURATION + ASKING).format(maker.folder, program, me))
+        maker.write("asking", (CONFIGURATION + ASKING).format(maker.folder, program, HELPER))
 
     def plug(self, name, device, flags=TOUCHED):
         """A security key under that name, and an agent that has it."""
@@ -166,7 +166,7 @@ def check_key_logins(count, built, folder, maker_in):
     for name, out in (("plain", built.plain), ("with sanitizers", built.sanitized)):
         room = f"{folder}/keys-{os.path.basename(out)}"
         os.mkdir(room)
-        files = Files(maker_in(room), f"{out}/authorized_keys", getpass.getuser())
+        files = Files(maker_in(room), f"{out}/sshkey-authorized-keys", getpass.getuser())
         check_printed(count, name, files)
         if out == built.plain:
             check_offers(count, files)

@@ -38,29 +38,29 @@ def certificate_cases(maker, kind, middle):
 
 
 def check_certificates(count, built, maker, kind, middle):
-    """check_certificate has the status 2 where it can't tell."""
+    """sshkey-check has the status 2 where it can't tell."""
     good, line, wrong = kind.path, f"{kind.line}\n", maker.path("wrong")
     cases = list(certificate_cases(maker, kind, middle))
-    programs = {"check_certificate": built.plain, "check_certificate with sanitizers": built.sanitized}
+    programs = {"sshkey-check": built.plain, "sshkey-check with sanitizers": built.sanitized}
     folder = os.open(maker.folder, os.O_RDONLY)
     for program, out in programs.items():
-        words = [f"{out}/check_certificate"]
+        words = [f"{out}/sshkey-check", "--user", "alice", "--ca"]
         for name, authorities, second, given, wanted in cases:
-            ran = run([*words, authorities, "alice", second], input=given)
-            told = bool(ran.stderr) == (wanted == UNTOLD) and (wanted != UNTOLD or ran.stderr.count("\n") == 1 and not ran.stdout)
+            ran = run([*words, authorities, "--at", second], input=given)
+            told = ran.stderr.count("\n") == (wanted != VALID) and bool(ran.stdout) == (wanted != UNTOLD)
             count.check(f"{program}: {name}", ran.returncode == wanted and told, ran.returncode, ran.stdout, ran.stderr[-500:])
         with open("/dev/full", "wb") as full:
-            ran = run([*words, good, "alice", str(middle)], input=line, capture_output=False, stdout=full, stderr=-1)
+            ran = run([*words, good, "--at", str(middle)], input=line, capture_output=False, stdout=full, stderr=-1)
         count.check(f"{program}: nothing is written", ran.returncode == UNTOLD and ran.stderr, ran.returncode, ran.stderr)
-        ran = run([*words, good, "alice", str(middle)], stdin=folder)
+        ran = run([*words, good, "--at", str(middle)], stdin=folder)
         count.check(f"{program}: a folder on standard input", ran.returncode == UNTOLD and ran.stderr, ran.returncode, ran.stderr)
     os.close(folder)
-    ran = run([f"{built.plain}/check_certificate", wrong, "alice"], input=line)
-    count.check("check_certificate names the line that is no key", f"{wrong}:4: no key" in ran.stderr, ran.stderr)
+    ran = run([f"{built.plain}/sshkey-check", "--ca", wrong], input=line)
+    count.check("sshkey-check names the line that is no key", f"{wrong}:4: no key" in ran.stderr, ran.stderr)
 
 
 def check_helpers(count, built, maker, kind):
-    """principals and authorized_keys end with 1 where they can't tell, and principals prints nothing then."""
+    """The helpers for sshd end with 1 where they can't tell, and sshkey-principals prints nothing then."""
     key, now = " ".join(maker.read(f"{kind.authority}.pub").split()[:2]), ["-V", "-5m:+5m"]
     offered = maker.certificate(kind.authority, "user0", "-n", "alice", *now).split()[:2]
     good = maker.write("helped", f"# authorities\r\n  bob,alice\t {key} a comment\r\nbob ssh-ed25519 AAAA\n")
@@ -75,10 +75,14 @@ def check_helpers(count, built, maker, kind):
             ("a folder", [maker.folder, "alice", *offered], (1, "")), ("no such file", [maker.path("none"), "alice", *offered], (1, "")),
             ("no certificate", [good, "alice", *maker.read("user0.pub").split()[:2]], (1, "")),
         ):  # fmt: skip
-            ran = run([f"{out}/principals", *words])
+            ran = run([f"{out}/sshkey-principals", *words])
             same = (ran.returncode, ran.stdout) == wanted and bool(ran.stderr) == (wanted[0] == 1)
             count.check(f"principals, {name}: {case}", same, ran.returncode, ran.stdout, ran.stderr)
-        for program, words in (("principals", [good, "alice", *offered]), ("authorized_keys", [own, "alice", *maker.read("own").split()[:2]])):
+        ran = run([f"{out}/sshkey-principals", wrong, "alice", *offered])
+        count.check(f"sshkey-principals, {name}, names the line", f"{wrong}:2: no key" in ran.stderr, ran.stderr)
+        for program, words in (
+            ("sshkey-principals", [good, "alice", *offered]), ("sshkey-authorized-keys", [own, "alice", *maker.read("own").split()[:2]]),
+        ):  # fmt: skip
             with open("/dev/full", "wb") as full:
                 ran = run([f"{out}/{program}", *words], capture_output=False, stdout=full, stderr=-1)
             count.check(f"{program}, {name}: nothing is written", ran.returncode == 1 and ran.stderr, ran.returncode, ran.stderr)

@@ -163,10 +163,17 @@ def is_found(folder, package, library):
 
 # what is installed below a prefix
 INSTALLED = {
-    "bin/sshkey-authorized-keys", "bin/sshkey-check-certificate", "bin/sshkey-principals", "include/sshkey.h", "lib/libsshkey.a",
+    "bin/sshkey-authorized-keys", "bin/sshkey-check", "bin/sshkey-principals", "include/sshkey.h", "lib/libsshkey.a",
     "lib/libsshkey.so", f"lib/libsshkey.so.{ABI}", f"lib/libsshkey.so.{VERSION // 10_000}.{VERSION // 100 % 100}.{VERSION % 100}",
-    "lib/pkgconfig/sshkey.pc",
+    "lib/pkgconfig/sshkey.pc", "share/man/man1/sshkey-check.1", "share/man/man8/sshkey-authorized-keys.8",
+    "share/man/man8/sshkey-principals.8",
 }  # fmt: skip
+
+
+def is_hardened(program):
+    """Whether it lies anywhere in memory, is linked before it runs, and tells a broken stack and a buffer that is too short."""
+    told = [run(["readelf", "-W", it, program]).stdout for it in ("-d", "-l")]
+    return "NOW PIE" in told[0] and "GNU_RELRO" in told[1] and {"__stack_chk_fail", "__fprintf_chk"} <= symbols(program, "--undefined-only")
 
 
 def files_below(folder):
@@ -186,8 +193,9 @@ def check_installed(count, built, folder):
         count.check(f"what is installed in {name}", found, files_below(at), made.stderr[-2000:])
         if not staged:
             count.check("pkg-config finds it there", is_found(folder, f"{at}/lib/pkgconfig", f"{at}/lib"))
-        ran = run([f"{at}/bin/sshkey-principals"])
-        count.check("a helper runs there", ran.returncode == 1 and ran.stderr.startswith("usage: "), ran)
+        for helper in (it for it in sorted(INSTALLED) if it.startswith("bin/")):
+            ran = run([f"{at}/{helper}", "--version"])
+            count.check(f"{helper} runs there, and is hardened", ran.returncode == 0 and is_hardened(f"{at}/{helper}"), ran)
         removed = run([*words, "uninstall", f"PREFIX={prefix}", f"DESTDIR={staged}"])
         count.check("and it is taken away", removed.returncode == 0 and not files_below(at), files_below(at), removed.stderr)
 

@@ -1,4 +1,4 @@
-"""Logins at a real sshd that asks helpers/principals whom a certificate lets in, for checks/foreign."""
+"""Logins at a real sshd that asks helpers/sshkey-principals whom a certificate lets in, for checks/foreign."""
 import base64
 import getpass
 import os
@@ -24,6 +24,8 @@ KbdInteractiveAuthentication no
 PermitRootLogin yes
 LogLevel VERBOSE
 """
+# as whom sshd runs the helpers: without its rights
+HELPER = "nobody" if os.getuid() == 0 else getpass.getuser()
 # sshd wants a program that nobody else can change, on its whole path, which a new folder is not: env is, and runs it
 COMMAND = """\
 AuthorizedPrincipalsCommand /usr/bin/env {1} {0}/authorities %u %t %k
@@ -62,7 +64,11 @@ class Logins:
         lines += [f"{me} {it}" for it in devices]
         maker.write("authorities", "# who may sign for whom\n" + "".join(f"{it}\n" for it in lines))
         maker.write("plain", CONFIGURATION.format(maker.folder))
-        maker.write("asking", CONFIGURATION.format(maker.folder) + COMMAND.format(maker.folder, program, me))
+        maker.write("asking", CONFIGURATION.format(maker.folder) + COMMAND.format(maker.folder, program, HELPER))
+        maker.write("lost", CONFIGURATION.format(maker.folder) + COMMAND.format(f"{maker.folder}/none", program, HELPER))
+        # the helper has to get there
+        for folder in (maker.folder, os.path.dirname(maker.folder)):
+            os.chmod(folder, 0o711)
 
     def is_let_in(self, number, user, authority, words, configuration="asking"):
         key = f"login{number}"
@@ -90,6 +96,7 @@ class Logins:
         yield "too early", me, "own", ["-n", me, "-V", "+5m:+6m"], "asking", False
         yield "too late", me, "own", ["-n", me, "-V", "-6m:-5m"], "asking", False
         yield "nobody is listed", me, "own", now, "asking", False
+        yield "a file of authorities that is not there", me, "own", ["-n", me, *now], "lost", False
         for kind in self.devices:
             device, turned = (kind, COUNTER), (kind, COUNTER + 1)
             yield f"its user, by a security key of {kind}", me, device, ["-n", me, *now], "asking", True
@@ -113,7 +120,7 @@ def check_logins(count, built, folder, maker_in):
     for name, out in (("plain", built.plain), ("with sanitizers", built.sanitized)):
         room = f"{folder}/logins-{os.path.basename(out)}"
         os.mkdir(room)
-        logins = Logins(maker_in(room), f"{out}/principals", getpass.getuser())
+        logins = Logins(maker_in(room), f"{out}/sshkey-principals", getpass.getuser())
         cases = list(logins.cases()) if out == built.plain else list(logins.cases())[:4]
         with ThreadPoolExecutor(len(os.sched_getaffinity(0))) as pool:
             found = pool.map(lambda it: logins.is_let_in(it[0], *it[1][1:5]), list(enumerate(cases)))

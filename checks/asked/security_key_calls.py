@@ -12,8 +12,9 @@ from lib.harness import blob_of, line_of, ssh_keygen, string, take
 from lib.signatures import mpint, signed_data, ssh_signature
 
 from .key_calls import question_of
-from .linked import run, turned, word
+from .linked import turned, word
 from .made import MIDDLE, WINDOW, is_verified
+from .verdicts import said_by_checker, said_by_python
 
 TOUCHED, VERIFIED = 1, 4
 COUNTER = 5
@@ -102,12 +103,11 @@ class Judges:
         self.sshkey, self.check = judge.made.sshkey, judge.made.check
 
     def of_certificates(self, lines, authority, principal, second):
-        """What check_certificate and check.py say of each line."""
+        """What sshkey-check and check.py say of each line."""
         path = self.maker.write("authority.pub", f"{authority}\n")
-        words = [f"{self.built.sanitized}/check_certificate", path, principal, str(second)]
-        by_c = run(words, input="".join(f"{it}\n" for it in lines)).stdout.splitlines()
+        by_c = said_by_checker([f"{self.built.sanitized}/sshkey-check"], path, principal, second, lines)
         by = [self.sshkey.fingerprint(blob_of(authority))]
-        return by_c, [self.check.said(self.check.judge_line(it, second, principal, by)) for it in lines]
+        return by_c, said_by_python(self.sshkey, self.check, by, principal, second, lines)
 
     def is_taken(self, lines):
         """Whether ssh-keygen takes each line for one of a certificate: it verifies what the authority signed."""

@@ -1,16 +1,6 @@
-/* Says by which lines of a file in the form of authorized_keys sshd may let a user in by a key.
- *
- *     # sshd_config
- *     AuthorizedKeysFile none
- *     AuthorizedKeysCommand /usr/local/bin/sshkey-authorized-keys /etc/ssh/keys/%u %u %t %k
- *     AuthorizedKeysCommandUser nobody
- *
- * It prints the lines that have the key that the client offers, as they stand in the file, and
- * nothing else; of a certificate those that have the key that signed it, and the option
- * cert-authority, which no line of a key alone may have. sshd reads them again, and judges their
- * options and the certificate. A line with a zero byte is left out, which sshd would not read to
- * its end. The status is 0, also where there is no such line, and 1 where it can't tell: then sshd
- * lets nobody in, whatever was printed. */
+/* Says by which lines of a file in the form of authorized_keys sshd may let a user in by a key. See
+ * sshkey-authorized-keys(8). */
+#include <errno.h>
 #include <stdbool.h>
 #include <stdio.h>
 #include <stdlib.h>
@@ -18,12 +8,22 @@
 #include <strings.h>
 
 #include "judge.h"
+#include "program.h"
+
+const char program_name[] = "sshkey-authorized-keys";
+static const char help[] =
+    "usage: sshkey-authorized-keys FILE USER TYPE KEY\n"
+    "\n"
+    "sshd_config: AuthorizedKeysCommand PATH/sshkey-authorized-keys /etc/ssh/keys/%u %u %t %k\n"
+    "Prints the lines of FILE, in the form of authorized_keys, that have the key which the client\n"
+    "offers. Status 0: all are printed; 1: it can't tell, as standard error says.\n";
 
 /* a line with more options is left out: each takes time for all */
 #define MOST_OPTIONS 64
 
 /* What the client offers: a key, or a certificate, of which it is the key that signed. */
 typedef struct {
+  const char *path; /* of the file whose lines are looked at */
   sshkey_sha256 digest;
   bool is_authority;
 } offered;
@@ -67,12 +67,17 @@ static uint32_t judge_options(const uint8_t *options, size_t length, bool is_aut
   return SSHKEY_FORMAT;
 }
 
-/* SSHKEY_DONE where the line is one for what is offered, or why not. */
-static uint32_t judge_line(const uint8_t *line, size_t length, const offered *wanted) {
+/* SSHKEY_DONE where the line is one for what is offered; or else why not, in words too where it has
+ * the key or a zero byte. */
+static uint32_t judge_line(const uint8_t *line, size_t length, const offered *wanted,
+                           const char **why) {
   sshkey_entry entry;
   sshkey_sha256 digest = {{0}};
   memset(&entry, 0, sizeof entry);
-  if (memchr(line, 0, length)) return SSHKEY_FORMAT;
+  if (memchr(line, 0, length)) {
+    *why = "it has a zero byte";
+    return SSHKEY_FORMAT;
+  }
   /* one for the entry, and one for its options */
   uint8_t *room = calloc(2, length + 1);
   if (!room) return SSHKEY_MEMORY;
@@ -81,47 +86,52 @@ static uint32_t judge_line(const uint8_t *line, size_t length, const offered *wa
     answer = sshkey_fingerprint(room + entry.key.start, entry.key.length, &digest);
   if (answer == SSHKEY_DONE && memcmp(&digest, &wanted->digest, sizeof digest))
     answer = SSHKEY_END;
-  if (answer == SSHKEY_DONE)
+  if (answer == SSHKEY_DONE) {
     answer = judge_options(room + entry.front.start, entry.front.length, wanted->is_authority,
                            room + length + 1);
+    *why = answer != SSHKEY_END    ? "its options are no list, or above 64"
+           : wanted->is_authority ? "it has no option cert-authority"
+                                  : "it has the option cert-authority";
+  }
   free(room);
   return answer;
 }
 
-/* Prints the lines of the text; false where that fails. */
-static bool print_lines(judge_blob text, const offered *wanted) {
-  sshkey_part part = {0, 0};
-  for (size_t place = 0;
-       sshkey_next_line(text.bytes, text.length, place, &part) == SSHKEY_DONE;
-       place = part.start + part.length) {
-    const uint8_t *line = text.bytes + part.start;
-    uint32_t answer = judge_line(line, part.length, wanted);
-    if (answer == SSHKEY_MEMORY) return false;
-    if (answer != SSHKEY_DONE) continue;
-    fwrite(line, 1, part.length, stdout);
+/* Prints the line where it is one for what is offered; SSHKEY_MEMORY where it can't tell. Of one
+ * that has the key or a zero byte it says why it is left out. */
+static uint32_t print_line(const char *line, size_t length, size_t number, void *given) {
+  const offered *wanted = given;
+  const char *why = NULL;
+  uint32_t answer = judge_line((const uint8_t *)line, length, wanted, &why);
+  if (answer == SSHKEY_DONE) {
+    fwrite(line, 1, length, stdout);
     putchar('\n');
+  } else if (why && answer != SSHKEY_MEMORY) {
+    program_complain("%s:%zu: left out: %s", wanted->path, number, why);
   }
-  return fflush(stdout) == 0 && !ferror(stdout);
+  return answer == SSHKEY_MEMORY ? answer : SSHKEY_DONE;
 }
 
 int main(int count, char **words) {
-  offered wanted = {{{0}}, false};
-  judge_blob text = {NULL, 0};
+  int shown = program_show(count, words, help);
+  if (shown >= 0) return shown;
   if (count != 5) {
-    fprintf(stderr, "usage: authorized_keys FILE USER TYPE KEY\n");
+    fputs(help, stderr);
     return 1;
   }
-  int status = 1;
+  offered wanted = {words[1], {{0}}, false};
+  judge_blob text = {NULL, 0};
+  size_t number;
+  bool is_told = false;
   uint32_t answer = read_offered(words[3], words[4], &wanted);
   if (answer != SSHKEY_DONE)
-    fprintf(stderr, "authorized_keys: what %s offers is no key: %s\n", words[2],
-            sshkey_answer_name(answer));
+    program_complain("what is offered is no key: %s", judge_meaning(answer));
   else if (!judge_read_file(words[1], &text))
-    perror(words[1]);
-  else if (!print_lines(text, &wanted))
-    fprintf(stderr, "authorized_keys: can't tell what %s may do\n", words[2]);
+    program_complain("%s: %s", words[1], strerror(errno));
+  else if (program_each_line(text, print_line, &wanted, &number) != SSHKEY_DONE)
+    program_complain("%s:%zu: no memory", words[1], number);
   else
-    status = 0;
+    is_told = program_is_written();
   free(text.bytes);
-  return status;
+  return is_told ? 0 : 1;
 }

@@ -1,0 +1,188 @@
+"""helpers/sshkey-check, for checks/foreign: what it shows of a certificate against `ssh-keygen -L`, whether certificates are valid
+against check.py, and whether signatures are against `ssh-keygen -Y verify`."""
+import os
+import random
+import re
+
+from lib.harness import ROOT, line_of, ssh_keygen, string
+from lib.signatures import armoured, ssh_signature_over
+
+from .certificate_calls import CASES
+from .example_calls import INVALID, SPACE, UNTOLD, VALID, armour_cases
+from .linked import VALGRIND, run, turned
+from .login_options import certificate
+from .made import MIDDLE, is_verified
+
+KINDS = ("ed25519", "ecdsa -b 256", "ecdsa -b 384", "ecdsa -b 521", "rsa -b 2048")
+# of how many hostile byte strings the programs for sshd are given one
+HOSTILE_WORDS = 150
+WINDOWS = ("always:forever", "20240101:forever", "always:20240101000000", "20240101000000:20240201000000")
+# texts of a certificate that a terminal would take for commands, and how they are shown
+HOSTILE = ("\x1b[2J\x7f\x80\u0085\nx\\y\xa0\u00a9", "\\033[2J\\177\\302\\200\\302\\205\\012x\\134y\xa0\u00a9")
+
+
+# ---- what is shown
+
+
+def check_shown(count, programs, maker):
+    """It shows what ssh-keygen does, also of several lines and of standard input."""
+    for at, kind in enumerate(KINDS):
+        maker.key(f"shower{at}", kind)
+        maker.key(f"shown{at}", kind)
+    cases = {**CASES, **{f"valid {it}": ["-V", it] for it in WINDOWS}}
+    shown = [(f"{name}, {KINDS[0]}", 0, words) for name, words in cases.items()]
+    shown += [(f"all options, {kind}", at, CASES["all options"]) for at, kind in enumerate(KINDS) if at]
+    lines = ["# certificates", ""]
+    for name, at, words in shown:
+        given = words if "-I" in words else ["-I", "id", *words]
+        ssh_keygen("-q", "-s", maker.path(f"shower{at}"), *given, maker.path(f"shown{at}.pub"))
+        path = maker.path(f"shown{at}-cert.pub")
+        lines.append(maker.read(f"shown{at}-cert.pub"))
+        wanted = run(["ssh-keygen", "-L", "-f", path]).stdout
+        for program in programs:
+            ran = run([program, path])
+            count.check(f"sshkey-check shows {name}", (ran.returncode, ran.stdout, ran.stderr) == (VALID, wanted, ""), ran, wanted)
+    text = maker.write("shown", "".join(f"{it}\n" for it in lines))
+    wanted = [run(["ssh-keygen", "-L", "-f", it], input="\n".join(lines)).stdout for it in (text, "-")]
+    for words, of in (([text], wanted[0]), ([], wanted[1]), (["-"], wanted[1])):
+        ran = run([programs[0], *words], input="\n".join(lines))
+        count.check(f"sshkey-check shows {len(shown)} lines of {words or 'its input'}", (ran.returncode, ran.stdout) == (VALID, of), ran)
+    check_hostile_texts(count, programs, maker)
+
+
+def check_hostile_texts(count, programs, maker):
+    """What a terminal would take for commands is shown by octal digits, and a line that is no certificate is named."""
+    text, wanted = HOSTILE
+    of = string(text.encode())
+    line = certificate(maker, "shower0", maker.read("shown0.pub"), of, {"force-command": of}, {}, text.encode())
+    path = maker.write("hostile", f"{line}\n# a comment\nssh-ed25519 AAAA\n")
+    for program in programs:
+        ran = run([program, path])
+        found = [it.strip() for it in ran.stdout.splitlines()]
+        told = {f'Key ID: "{wanted}"', wanted, f"force-command {wanted}"} <= {*found} and "\x1b" not in ran.stdout
+        count.check("sshkey-check shows what would be a terminal's commands", told and ran.returncode == INVALID, ran)
+        count.check("and names a line that is no certificate", re.fullmatch(rf"sshkey-check: {re.escape(path)}:3: .*\n", ran.stderr), ran)
+
+
+# ---- signatures
+
+
+def check_verified(count, programs, maker):
+    """A signature is valid exactly where ssh-keygen says so, and an armour is one where it reads it."""
+    for at, kind in enumerate(KINDS):
+        key, other = f"shown{at}", f"shown{(at + 1) % len(KINDS)}"
+        signature = maker.signature(key, "a text", SPACE)
+        keys = maker.write("both", f"# who may sign\n{maker.read('user0.pub')}\n{maker.read(f'{key}.pub')}\n")
+        for name, words, text, wanted in (
+            ("as it is", (keys, SPACE), "a text", "valid"), ("of another text", (keys, SPACE), "a texts", "not signed (30)"),
+            ("in another namespace", (keys, "git"), "a text", "another namespace (41)"),
+            ("by another key", (maker.path(f"{other}.pub"), SPACE), "a text", "another key (103)"),
+            ("by no key", (maker.write("none-of-these", ""), SPACE), "a text", "another key (103)"),
+        ):  # fmt: skip
+            check_signature(count, programs, maker, f"by {kind}, {name}", signature, words, text, wanted)
+    line = maker.read("shown0.pub")
+    reserved = ssh_signature_over(b"reserved", maker.path("shown0"), line, b"a text")
+    check_signature(count, programs, maker, "over reserved bytes", reserved, (maker.path("shown0.pub"), "file"), "a text", "not signed (30)")
+    good, strange = (armoured(maker.signature("shown0", it, SPACE)) for it in ("a text", "another text"))
+    for case, text, wanted in armour_cases(good, strange):
+        given = ["verify", "-k", maker.path("shown0.pub"), "-n", SPACE, "-s", maker.write("armour.sig", text)]
+        for program in programs:
+            ran = run([program, *given], input="a text")
+            count.check(f"sshkey-check, an armour: {case}", ran.returncode == wanted and ran.stderr.count("\n") == (wanted != VALID), ran)
+
+
+def check_signature(count, programs, maker, name, signature, words, text, wanted):
+    """What is said of a text, from its file and from standard input, and by ssh-keygen."""
+    keys, space = words
+    path, is_valid = maker.write("armour.sig", armoured(signature)), wanted == "valid"
+    given = ["verify", "--keys", keys, "--namespace", space, "--signature", path]
+    with open(keys, encoding="utf-8") as file:
+        allowed = "".join(f"signer {it}" for it in file if not it.startswith("#"))
+    judged = is_verified(maker.folder, "checked", signature, text, "signer", MIDDLE, allowed, space)
+    count.check(f"ssh-keygen, a signature {name}", judged == is_valid, judged)
+    said = ("valid\n", "") if is_valid else ("refused\n", f"sshkey-check: {path}: {wanted}\n")
+    for program in programs:
+        for more, how in (([maker.write("asked", text)], {}), ([], {"input": text})):
+            ran = run([program, *given, *more], **how)
+            same = (ran.returncode, (ran.stdout, ran.stderr)) == (VALID if is_valid else INVALID, said)
+            count.check(f"sshkey-check, a signature {name}", same, ran)
+
+
+def check_hostile_signatures(count, programs, maker):
+    """Turned, cut and drawn bytes in an armour are no valid signature, and read nothing that is not theirs."""
+    draw, signature = random.Random(69), maker.signature("shown0", "a text", SPACE)
+    blobs = [*turned(signature)[::9], *(signature[:at] for at in range(0, len(signature), 9)), *(draw.randbytes(it) for it in range(40))]
+    given = ["verify", "-k", maker.path("shown0.pub"), "-n", SPACE, "-s", maker.path("armour.sig")]
+    for program, every in ((programs[1:], 1), ([*VALGRIND, programs[0]], 20)):
+        wrong = []
+        for blob in blobs[::every]:
+            maker.write("armour.sig", armoured(blob))
+            ran = run([*program, *given], input="a text")
+            is_refused = ran.returncode == INVALID and ran.stderr.count("\n") == 1
+            wrong += [] if is_refused else [(blob.hex(), ran)]
+        # the version is not signed, and another one is as good as ssh-keygen takes it
+        count.check(f"sshkey-check, {len(blobs[::every])} hostile signatures", len(wrong) < 2 and not any(it[1].stderr for it in wrong), *wrong[:2])
+
+
+# ---- hostile words and files
+
+
+def check_hostile_words(count, built, made):
+    """What a client sends, and files of any bytes, make the programs for sshd read nothing that is not theirs."""
+    maker, draw = made.maker, random.Random(70)
+    lines = [line_of(data) for kind, data, _ in made.hostile[::HOSTILE_WORDS] if kind in ("certificate", "key")]
+    offered = [it.split(" ")[:2] for it in lines if "\0" not in it]
+    text = "".join(f"alice {it}\nalice,\t{it}\n{it}\n" for it in lines).encode()
+    for name in ("sshkey-principals", "sshkey-authorized-keys"):
+        program, wrong = f"{built.sanitized}/{name}", []
+        files = [text, b"", b"\0", b"alice", b"alice ", b"alice\t\xff\n", *(draw.randbytes(it * it) for it in range(20))]
+        asked = [(text, *it) for it in offered] + [(it, *made.kinds[0].line.split(" ")[:2]) for it in files]
+        for of, *words in asked:
+            with open(maker.path("any-bytes"), "wb") as file:
+                file.write(of)
+            ran = run([program, maker.path("any-bytes"), "alice", *words], text=False)
+            is_sound = ran.returncode in (0, 1) and not re.search(rb"Sanitizer|runtime error", ran.stderr)
+            wrong += [] if is_sound else [(words, ran)]
+        count.check(f"{name} with sanitizers, {len(asked)} hostile keys and files", not wrong, *wrong[:2])
+
+
+# ---- how it is called
+
+
+def check_words(count, programs, maker):
+    """What is no call, what says the program, and streams that are closed or full."""
+    ca, key = maker.path("shower0.pub"), maker.path("shown0.pub")
+    with open(f"{ROOT}/VERSION", encoding="ascii") as file:
+        version = file.read().strip()
+    folder = os.path.dirname(programs[0])
+    for name, status in (("sshkey-check", UNTOLD), ("sshkey-principals", 1), ("sshkey-authorized-keys", 1)):
+        shown = run([f"{folder}/{name}", "--help"])
+        count.check(f"{name} --help", shown.returncode == 0 and shown.stdout.startswith(f"usage: {name} ") and not shown.stderr, shown)
+        told = run([f"{folder}/{name}", "--version"])
+        count.check(f"{name} --version", (told.returncode, told.stdout, told.stderr) == (0, f"{name} {version}\n", ""), told)
+        with open("/dev/full", "wb") as full:
+            ran = run([f"{folder}/{name}", "--help"], capture_output=False, stdout=full, stderr=-1)
+        count.check(f"{name} --help, and nothing is written", ran.returncode == status and ran.stderr, ran)
+        ran = run([f"{folder}/{name}", "--other"])
+        count.check(f"{name} --other", ran.returncode == status and not ran.stdout and ran.stderr, ran)
+    signed = ["-k", key, "-n", SPACE, "-s", key]
+    for words in (
+        [key, key], ["--user", "alice"], ["--at", "1"], ["--ca"], ["--ca", ca, "--ca", ca], ["--ca", ca, "--keys", key], signed,
+        ["verify"], ["verify", *signed[:4]], ["verify", *signed, "--ca", ca], ["verify", *signed, key, key], ["verify", "--help"],
+    ):  # fmt: skip
+        ran = run([programs[0], *words], input="")
+        same = ran.returncode == UNTOLD and ran.stderr.startswith("usage: ") and not ran.stdout
+        count.check(f"sshkey-check {' '.join(map(os.path.basename, words))} is no call", same, ran)
+    for words in (["verify", *signed[:4], "-s", maker.path("none")], ["verify", "-k", maker.folder, *signed[2:]], [maker.path("none")]):
+        ran = run([programs[0], *words], input="")
+        count.check(f"sshkey-check can't tell of {words[-1]}", ran.returncode == UNTOLD and ran.stderr.count("\n") == 1, ran)
+
+
+def check_checker(count, built, made):
+    maker = made.maker
+    programs = [f"{it}/sshkey-check" for it in (built.plain, built.sanitized)]
+    check_shown(count, programs, maker)
+    check_verified(count, programs, maker)
+    check_hostile_signatures(count, programs, maker)
+    check_hostile_words(count, built, made)
+    check_words(count, programs, maker)

@@ -1,0 +1,10 @@
+/* What a certificate says, as `ssh-keygen -L` shows it. */
+#ifndef SHOW_H
+#define SHOW_H
+#include "judge.h"
+
+/* Prints what a certificate says, if it is one: SSHKEY_DONE, or why it is none. Each control
+ * character and each backslash of its texts is shown by three octal digits after a backslash. */
+uint32_t show_certificate(judge_blob certificate);
+
+#endif

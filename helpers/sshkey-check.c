@@ -1,0 +1,235 @@
+/* Shows certificates, and says whether certificates and SSH signatures are valid. See
+ * sshkey-check(1). */
+#include <errno.h>
+#include <getopt.h>
+#include <inttypes.h>
+#include <stdbool.h>
+#include <stdio.h>
+#include <stdlib.h>
+#include <string.h>
+
+#include "judge.h"
+#include "program.h"
+#include "show.h"
+#include "sshsig.h"
+#include "verify.h"
+
+const char program_name[] = "sshkey-check";
+static const char help[] =
+    "usage: sshkey-check [FILE]\n"
+    "       sshkey-check --ca FILE [--user NAME] [--at SECOND] [FILE]\n"
+    "       sshkey-check verify -k KEYS -n NAMESPACE -s SIGNATURE [FILE]\n"
+    "\n"
+    "The first shows each certificate of FILE, or of standard input, as ssh-keygen -L does. The\n"
+    "second says of each whether it is valid by an authority of the file, for logins as NAME, at\n"
+    "that second since 1970, or else now. The third says whether the signature of ssh-keygen -Y\n"
+    "sign is one of FILE in the namespace by a key of the file KEYS.\n"
+    "Status 0: all is shown, or valid; 1: not all, as standard error says; 2: it can't tell.\n";
+
+enum { VALID = 0, INVALID = 1, UNTOLD = 2 };
+
+/* What is asked. */
+typedef struct {
+  const char *path; /* of certificates or of what is signed; null for standard input */
+  const char *authorities, *user, *at;       /* null where they are not given */
+  const char *keys, *name_space, *signature; /* likewise */
+  bool is_verify;
+  judge_authorities by;
+  uint64_t second;
+  size_t count; /* of the lines that are answered */
+  bool is_valid;
+} request;
+
+/* Adds the authority of a line: SSHKEY_DONE, or why it has no key. */
+static uint32_t read_authority(const char *line, size_t length, size_t number, void *given) {
+  (void)number;
+  return judge_add_authority(given, line, length);
+}
+
+/* ---- certificates */
+
+/* Whether sshd knows the critical option, which it then judges itself. */
+static bool is_known(const uint8_t *name, size_t name_length, const uint8_t *value,
+                     size_t value_length, void *given) {
+  static const char *const known[] = {"force-command", "source-address", "verify-required"};
+  (void)value;
+  (void)value_length;
+  (void)given;
+  for (size_t at = 0; at < sizeof known / sizeof *known; at++)
+    if (strlen(known[at]) == name_length && !memcmp(known[at], name, name_length)) return true;
+  return false;
+}
+
+/* Whether the certificate is valid, and logs the user in, if one is asked for. */
+static uint32_t judge_asked(judge_blob certificate, const request *asked) {
+  if (!asked->user) return judge_certificate(certificate, asked->second, NULL, asked->by);
+  /* a room as long as the certificate is enough */
+  judge_blob key = {calloc(1, certificate.length), 0};
+  if (!key.bytes) return SSHKEY_MEMORY;
+  uint32_t answer = sshkey_certificate_key(certificate.bytes, certificate.length, key.bytes,
+                                           certificate.length, &key.length);
+  judge_login login = {asked->user, key, asked->second, asked->by, is_known, NULL};
+  if (answer == SSHKEY_DONE) answer = judge_validate_user(certificate, &login);
+  free(key.bytes);
+  return answer;
+}
+
+static const char *path_of(const request *asked) {
+  return asked->path ? asked->path : "(stdin)";
+}
+
+/* Shows the certificate of a line, below where it stands, as ssh-keygen does. */
+static uint32_t show_asked(judge_blob certificate, const request *asked, size_t number) {
+  if (asked->path && number == 1)
+    printf("%s:\n", asked->path);
+  else
+    printf("%s:%zu:\n", path_of(asked), number);
+  return show_certificate(certificate);
+}
+
+/* Answers what is asked about a line; SSHKEY_MEMORY where it can't tell. */
+static uint32_t answer_line(const char *line, size_t length, size_t number, void *given) {
+  request *asked = given;
+  judge_blob certificate = {NULL, 0};
+  uint32_t answer = judge_read_line(line, length, SSHKEY_LINE_CERTIFICATE, &certificate);
+  if (answer == SSHKEY_DONE)
+    answer = asked->authorities ? judge_asked(certificate, asked)
+                                : show_asked(certificate, asked, number);
+  free(certificate.bytes);
+  asked->count++;
+  if (answer == SSHKEY_MEMORY) return answer;
+  if (asked->authorities) puts(answer == SSHKEY_DONE ? "valid" : "refused");
+  if (answer == SSHKEY_DONE) return answer;
+  asked->is_valid = false;
+  program_complain("%s:%zu: %s (%" PRIu32 ")", path_of(asked), number, judge_meaning(answer),
+                   answer);
+  return SSHKEY_DONE;
+}
+
+/* Answers about each line of the text, and returns the program's status. */
+static int answer_text(judge_blob text, request *asked) {
+  size_t number;
+  uint32_t answer = program_each_line(text, answer_line, asked, &number);
+  if (answer != SSHKEY_DONE)
+    program_complain("%s:%zu: %s", path_of(asked), number, judge_meaning(answer));
+  else if (!asked->count)
+    program_complain("%s: no certificate was given", path_of(asked));
+  if (!program_is_written() || answer != SSHKEY_DONE || !asked->count) return UNTOLD;
+  return asked->is_valid ? VALID : INVALID;
+}
+
+/* ---- SSH signatures */
+
+/* Says whether the signature counts for what is left of the file, and returns the status. */
+static int verify_file(judge_blob signature, FILE *file, const request *asked) {
+  uint8_t bytes[64];
+  judge_blob digest = {bytes, judge_digest_length(signature)};
+  /* what names no hash is refused, whatever the digest is */
+  if (!digest.length) digest.length = 32;
+  if (!judge_digest(file, digest.bytes, digest.length)) {
+    program_complain("%s: %s", path_of(asked), strerror(errno));
+    return UNTOLD;
+  }
+  uint32_t answer = judge_sshsig_of_digest(signature, asked->name_space, digest, asked->by);
+  if (answer == SSHKEY_MEMORY) {
+    program_complain("%s", judge_meaning(answer));
+    return UNTOLD;
+  }
+  puts(answer == SSHKEY_DONE ? "valid" : "refused");
+  if (!program_is_written()) return UNTOLD;
+  if (answer == SSHKEY_DONE) return VALID;
+  program_complain("%s: %s (%" PRIu32 ")", asked->signature, judge_meaning(answer), answer);
+  return INVALID;
+}
+
+/* The same of the signature in the armour of the text. */
+static int verify_text(judge_blob text, FILE *file, const request *asked) {
+  judge_blob signature = {NULL, 0};
+  uint32_t answer = judge_read_armour(text, &signature);
+  if (answer != SSHKEY_DONE) {
+    program_complain("%s: %s", asked->signature,
+                     answer == SSHKEY_MEMORY ? judge_meaning(answer) : "no SSH signature");
+    return UNTOLD;
+  }
+  int status = verify_file(signature, file, asked);
+  free(signature.bytes);
+  return status;
+}
+
+/* ---- what is asked */
+
+/* The number of the digits; false where there is another character, none, or too many. */
+static bool read_second(const char *word, uint64_t *answer) {
+  char *end = NULL;
+  errno = 0;
+  *answer = strtoull(word, &end, 10);
+  return word[0] >= '0' && word[0] <= '9' && *end == 0 && errno == 0;
+}
+
+static int answer_request(request *asked) {
+  const char *keys = asked->is_verify ? asked->keys : asked->authorities;
+  judge_blob text = {NULL, 0};
+  if (asked->at && !read_second(asked->at, &asked->second)) {
+    program_complain("%s is no second", asked->at);
+    return UNTOLD;
+  }
+  if (keys && !program_read_keys(keys, read_authority, &asked->by)) return UNTOLD;
+  FILE *file = asked->path ? fopen(asked->path, "rb") : stdin;
+  const char *path = asked->is_verify ? asked->signature : path_of(asked);
+  int status = UNTOLD;
+  if (!file)
+    program_complain("%s: %s", path_of(asked), strerror(errno));
+  else if (!(asked->is_verify ? judge_read_file(path, &text) : judge_read_stream(file, &text)))
+    program_complain("%s: %s", path, strerror(errno));
+  else
+    status = asked->is_verify ? verify_text(text, file, asked) : answer_text(text, asked);
+  free(text.bytes);
+  if (asked->path && file) fclose(file);
+  return status;
+}
+
+/* Reads the words; false where they ask nothing. */
+static bool read_words(int count, char **words, request *asked) {
+  static const struct option options[] = {
+      {"ca", required_argument, NULL, 'c'},        {"user", required_argument, NULL, 'u'},
+      {"at", required_argument, NULL, 'a'},        {"keys", required_argument, NULL, 'k'},
+      {"namespace", required_argument, NULL, 'n'}, {"signature", required_argument, NULL, 's'},
+      {NULL, 0, NULL, 0}};
+  asked->is_verify = count > 1 && !strcmp(words[1], "verify");
+  optind = asked->is_verify ? 2 : 1;
+  opterr = 0;
+  const char *letters = asked->is_verify ? "k:n:s:" : "";
+  for (int letter; (letter = getopt_long(count, words, letters, options, NULL)) != -1;) {
+    const char **to = letter == 'c'   ? &asked->authorities
+                      : letter == 'u' ? &asked->user
+                      : letter == 'a' ? &asked->at
+                      : letter == 'k' ? &asked->keys
+                      : letter == 'n' ? &asked->name_space
+                                      : &asked->signature;
+    if (letter == '?' || *to) return false;
+    *to = optarg;
+  }
+  if (optind < count && strcmp(words[optind], "-")) asked->path = words[optind];
+  const char *of_login = asked->user ? asked->user : asked->at;
+  if (count - optind > 1) return false;
+  if (asked->is_verify)
+    return asked->keys && asked->name_space && asked->signature && !asked->authorities && !of_login;
+  return !asked->keys && !asked->name_space && !asked->signature &&
+         (asked->authorities || !of_login);
+}
+
+int main(int count, char **words) {
+  request asked;
+  memset(&asked, 0, sizeof asked);
+  asked.second = (uint64_t)time(NULL);
+  asked.is_valid = true;
+  int shown = program_show(count, words, help);
+  if (shown >= 0) return shown ? UNTOLD : VALID;
+  int status = UNTOLD;
+  if (read_words(count, words, &asked))
+    status = answer_request(&asked);
+  else
+    fputs(help, stderr);
+  free(asked.by.keys);
+  return status;
+}

@@ -1,0 +1,112 @@
+#include "sshsig.h"
+
+#include <stdlib.h>
+#include <string.h>
+
+#include "verify.h"
+
+/* where the strings of a signature begin, after SSHSIG and the version: key, namespace, reserved
+ * bytes, hash, signature (PROTOCOL.sshsig) */
+#define STRINGS 10
+enum { RESERVED = 2, HASH = 3 };
+
+/* ---- armour */
+
+/* The digit in Base64, or -1. */
+static int digit_of(uint8_t letter) {
+  static const char digits[] =
+      "ABCDEFGHIJKLMNOPQRSTUVWXYZabcdefghijklmnopqrstuvwxyz0123456789+/";
+  const char *found = letter ? strchr(digits, letter) : NULL;
+  return found ? (int)(found - digits) : -1;
+}
+
+/* Whether that many digits and padding are a whole text, and the bits that are left are 0. */
+static bool is_end(size_t digits, size_t padding, uint32_t bits) {
+  if (digits % 4 == 2) return padding == 2 && !(bits & 15);
+  if (digits % 4 == 3) return padding == 1 && !(bits & 3);
+  return digits % 4 == 0 && padding == 0;
+}
+
+/* Decodes Base64 with white space in it to the front of the same bytes: their number, or SIZE_MAX
+ * where it is none. */
+static size_t decode(uint8_t *bytes, size_t length) {
+  size_t digits = 0, padding = 0, decoded = 0;
+  uint32_t bits = 0;
+  for (size_t at = 0; at < length; at++) {
+    if (bytes[at] && strchr(" \t\n\v\f\r", bytes[at])) continue;
+    int digit = digit_of(bytes[at]);
+    if (bytes[at] == '=') padding++;
+    if (bytes[at] == '=') continue;
+    if (digit < 0 || padding) return SIZE_MAX;
+    bits = bits << 6 | (uint32_t)digit;
+    /* each digit but the first of four ends a byte */
+    if (digits % 4) bytes[decoded++] = (uint8_t)(bits >> (2 * (3 - digits % 4)));
+    digits++;
+  }
+  return is_end(digits, padding, bits) ? decoded : SIZE_MAX;
+}
+
+uint32_t judge_read_armour(judge_blob text, judge_blob *answer) {
+  static const char front[] = "-----BEGIN SSH SIGNATURE-----";
+  static const char end[] = "-----END SSH SIGNATURE-----";
+  size_t begin = sizeof front - 1, behind = sizeof end - 1, at = begin;
+  if (text.length < begin || memcmp(text.bytes, front, begin)) return SSHKEY_BASE64;
+  while (at < text.length && text.bytes[at] != '-') at++;
+  if (text.length - at < behind || memcmp(text.bytes + at, end, behind)) return SSHKEY_BASE64;
+  judge_blob made = {malloc(at), at - begin};
+  if (!made.bytes) return SSHKEY_MEMORY;
+  memcpy(made.bytes, text.bytes + begin, made.length);
+  made.length = decode(made.bytes, made.length);
+  if (made.length == SIZE_MAX) {
+    free(made.bytes);
+    return SSHKEY_BASE64;
+  }
+  *answer = made;
+  return SSHKEY_DONE;
+}
+
+/* ---- what it says */
+
+/* A string of the signature, which may be none: it has no bytes where there is no such string. */
+static sshkey_part string_of(judge_blob signature, int number) {
+  sshkey_part part = {STRINGS, 0}, none = {0, 0};
+  for (int at = 0; at <= number; at++)
+    if (sshkey_next_string(signature.bytes, signature.length, part.start + part.length, &part) !=
+        SSHKEY_DONE)
+      return none;
+  return part;
+}
+
+size_t judge_digest_length(judge_blob signature) {
+  sshkey_part hash = string_of(signature, HASH);
+  if (hash.length != 6) return 0;
+  if (!memcmp(signature.bytes + hash.start, "sha256", 6)) return 32;
+  return memcmp(signature.bytes + hash.start, "sha512", 6) ? 0 : 64;
+}
+
+/* SSHKEY_DONE where the fingerprint is that of one of the keys. */
+static uint32_t judge_signer(const sshkey_sha256 *signer, judge_authorities keys) {
+  for (size_t at = 0; at < keys.count; at++)
+    if (!memcmp(&keys.keys[at], signer, sizeof *signer)) return SSHKEY_DONE;
+  return JUDGE_OTHER_KEY;
+}
+
+uint32_t judge_sshsig_of_digest(judge_blob signature, const char *name_space, judge_blob digest,
+                                judge_authorities keys) {
+  /* a room of this length is enough */
+  size_t room_length = 2 * signature.length + 256;
+  uint8_t *room = calloc(1, room_length);
+  sshkey_question question;
+  sshkey_sha256 signer = {{0}};
+  memset(&question, 0, sizeof question);
+  if (!room) return SSHKEY_MEMORY;
+  uint32_t answer = sshkey_sshsig_question_of_digest(
+      signature.bytes, signature.length, (const uint8_t *)name_space, strlen(name_space),
+      digest.bytes, digest.length, room, room_length, &question, &signer);
+  if (answer == SSHKEY_DONE) answer = judge_signer(&signer, keys);
+  if (answer == SSHKEY_DONE &&
+      (string_of(signature, RESERVED).length || !judge_is_signature(&question, room)))
+    answer = SSHKEY_NOT_SIGNED;
+  free(room);
+  return answer;
+}

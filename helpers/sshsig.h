@@ -1,0 +1,23 @@
+/* SSH signatures, as `ssh-keygen -Y sign` writes them: their armour, and whether one counts. */
+#ifndef SSHSIG_H
+#define SSHSIG_H
+#include <stddef.h>
+#include <stdint.h>
+#include "judge.h"
+
+/* The bytes of the signature in an armour: SSHKEY_DONE, SSHKEY_BASE64 where it is none, or
+ * SSHKEY_MEMORY. What follows the armour is not looked at. */
+uint32_t judge_read_armour(judge_blob text, judge_blob *answer);
+
+/* How long the digest of a message is by the hash that the signature names: 32 by SHA-256 and 64 by
+ * SHA-512; 0 where it names none. */
+size_t judge_digest_length(judge_blob signature);
+
+/* Whether the signature counts, in that namespace, for a message with that digest: SSHKEY_DONE, or
+ * what is wrong first, JUDGE_OTHER_KEY where it is by none of the keys. No cryptography runs over
+ * the key of such a one. With reserved bytes it is SSHKEY_NOT_SIGNED: ssh-keygen verifies it as if
+ * there were none. */
+uint32_t judge_sshsig_of_digest(judge_blob signature, const char *name_space, judge_blob digest,
+                                judge_authorities keys);
+
+#endif
