@@ -24,6 +24,11 @@ use std::alloc::Global;
 
 /// A request (draft-miller-ssh-agent, section 4). It has no `Debug`: it may hold a passphrase, over
 /// which it writes zeros when it is dropped.
+///
+/// What ssh-agent does besides is left to an agent over this. A security key whose application does
+/// not begin with `ssh:` signs only messages of SSH itself, which are logins and SSH signatures: any
+/// other message may be a website's. A request that cannot be read is answered by
+/// `Response::Failure`, and the connection stays.
 pub enum Request {
     /// Which keys the agent holds.
     RequestIdentities,
