@@ -3,7 +3,7 @@ import base64
 import os
 import time
 
-from lib.harness import string
+from lib.harness import line_of, string
 from lib.signatures import TYPES, armoured, signed, signed_data, told, told_of_file, unarmoured
 
 from .security_key_calls import SecurityKey
@@ -12,7 +12,9 @@ NAMESPACE = "git"
 WHO = "alice@example.com"
 # 2024-01-01 12:00:00, UTC
 NOON = 1704110400
+ASK = "allowed-signer"
 OK, NO = "ok", "not allowed"
+REVOKED = "revoked"
 
 # the text of allowed signers, and the answer; where only the text is given, the identity, the namespace and the time are those above
 TEXTS = [
@@ -170,6 +172,17 @@ TIMES = [
     ("to the last of February 2000", '{who} valid-before="20000229235959Z" {key}\n', NO, 951868800),
 ]  # fmt: skip
 
+# what a list of ssh-keygen revokes, and the answer
+LISTS = [
+    ("her key", "{key}", REVOKED),
+    ("her key's SHA-1 digest", "sha1: {key}", REVOKED),
+    ("her key's SHA-256 digest", "sha256: {key}", REVOKED),
+    ("another key and hers", "{other}\n{key}", REVOKED),
+    ("another key", "{other}", OK),
+    ("another key's digests", "sha1: {other}\nsha256: {other}", OK),
+    ("nothing", "", OK),
+]
+
 
 def made_by(maker, name, message, *words):
     """The bytes of a signature of ssh-keygen by the key of that name."""
@@ -196,21 +209,32 @@ def by_device(device, message):
     """A signature by a security key; and the line that tells the program of what the device signed with the plain key within."""
     namespace, name_of_hash = NAMESPACE.encode(), b"sha512"
     said = device.device_message(signed_data(namespace, b"", name_of_hash, message))
-    raw, plain = device.raw(said), device.plain()
+    raw = device.raw(said)
     head = b"SSHSIG" + (1).to_bytes(4, "big") + string(device.blob())
     blob = head + b"".join(map(string, (namespace, b"", name_of_hash, device.signature(raw))))
-    line = f"{device.names[1].decode()} {base64.b64encode(plain).decode()}"
-    return blob, told(line, string(device.names[1]) + string(raw), said)
+    return blob, told(line_of(device.plain()), string(device.names[1]) + string(raw), said)
 
 
-def says(maker, text, blob, message, who, namespace, at):
-    """Whether ssh-keygen takes the signature for that identity's."""
+def list_of(maker, text):
+    """The bytes of ssh-keygen's list of what the text revokes."""
+    path = maker.path("revoked")
+    maker.run("-k", "-f", path, "-", text=True, input=text + "\n")
+    with open(path, "rb") as file:
+        return file.read()
+
+
+def says(maker, text, blob, message, who, namespace, at, revoked):
+    """Whether ssh-keygen takes the signature for that identity's, by a list of revoked keys if one is given."""
     with open(maker.path("allowed"), "wb") as file:
         file.write(text)
     with open(maker.path("armour"), "w", encoding="ascii") as file:
         file.write(armoured(blob))
     words = ["-Y", "verify", "-f", maker.path("allowed"), "-I", who, "-n", namespace, "-s", maker.path("armour")]
     words += ["-O", "verify-time=" + time.strftime("%Y%m%d%H%M%SZ", time.gmtime(at))]
+    if revoked is not None:
+        with open(maker.path("revoked"), "wb") as file:
+            file.write(revoked)
+        words += ["-r", maker.path("revoked")]
     return maker.run(*words, input=message, check=False).returncode == 0
 
 
@@ -220,10 +244,12 @@ def signers(maker):
     made = made_by(maker, "signer", message)
     of_made = told_of_file(made, message)
 
-    def case(name, text, wanted, who=WHO, namespace=NAMESPACE, at=NOON, of=message, blob=made, line=of_made, same=True):
+    def case(
+        name, text, wanted, who=WHO, namespace=NAMESPACE, at=NOON, of=message, blob=made, line=of_made, same=True, revoked=None, ask=ASK,
+    ):  # fmt: skip
         text = text.format(**keys).encode()
-        asked = "\t".join(["allowed-signer", text.hex(), who, namespace, str(at), of.hex(), blob.hex()])
-        if line and says(maker, text, blob, of, who, namespace, at) != ((wanted == OK) == same):
+        asked = "\t".join([ask, text.hex(), who, namespace, str(at), of.hex(), blob.hex(), *([] if revoked is None else [revoked.hex()])])
+        if line and says(maker, text, blob, of, who, namespace, at, revoked) != ((wanted in (OK, "1")) == same):
             wanted = f"{wanted}, and ssh-keygen says otherwise"
         return f"allowed signer: {name}", [line] if line else [], asked, wanted
 
@@ -241,6 +267,7 @@ def signers(maker):
     yield case("two days later", '{who} valid-before="20240102" {key}\n', NO, at=NOON + 2 * 86400)
     yield case("two days before", '{who} valid-after="20240101" {key}\n', NO, at=NOON - 2 * 86400)
     yield from others(maker, keys, message, made, case)
+    yield from revocations(maker, keys, message, case)
 
 
 def keys_of(maker):
@@ -260,6 +287,7 @@ def others(maker, keys, message, made, case):
         keys["by"] = maker.key(name, kind)
         blob = made_by(maker, name, message)
         yield case(f"by {kind}", "{who} {by}\n", OK, blob=blob, line=told_of_file(blob, message))
+        yield case(f"by {kind}, revoked", "{who} {by}\n", REVOKED, blob=blob, revoked=list_of(maker, keys["by"]))
     blob = made_by(maker, "signer", message, "-O", "hashalg=sha256")
     yield case("a digest of 256 bits", text, OK, blob=blob, line=told_of_file(blob, message))
     keys["fresh"] = maker.key("fresh-signer")
@@ -278,3 +306,21 @@ def others(maker, keys, message, made, case):
             keys["held"] = device.line()
             blob, line = by_device(device, message)
             yield case(f"by a security key ({kind}), {name}", "{who} {held}\n", wanted, blob=blob, line=line)
+
+
+def revocations(maker, keys, message, case):
+    """The same by lists of revoked keys."""
+    text = "{who} {key}\n"
+    for name, lines, wanted in LISTS:
+        yield case(f"revoked is {name}", text, wanted, revoked=list_of(maker, lines.format(**keys)))
+    hers, another = (list_of(maker, keys[it]) for it in ("key", "other"))
+    yield case("a list that breaks off", text, REVOKED, revoked=another[:-1])
+    yield case("revoked, and another identity", text, NO, who="bob@example.com", revoked=hers)
+    yield case("revoked, and another message", text, REVOKED, of=b"another commit\n", revoked=hers)
+    yield case("how often the verifier is asked", text, "1", revoked=another, ask=f"questions\t{ASK}")
+    yield case("how often about a revoked key", text, "0", revoked=hers, ask=f"questions\t{ASK}")
+    device = SecurityKey("Ed25519", b"ssh:")
+    keys["held"] = device.line()
+    blob, line = by_device(device, message)
+    for name, key, wanted in (("it", device.line(), REVOKED), ("its plain key", line_of(device.plain()), OK)):
+        yield case(f"by a security key, revoked is {name}", "{who} {held}\n", wanted, blob=blob, line=line, revoked=list_of(maker, key))

@@ -9,6 +9,7 @@ use Rattle.ssh_key.specs.entries.AuthorizedKeys.{AuthorizedKey}
 use Rattle.ssh_key.specs.entries.Fields.{filled_lines}
 use Rattle.ssh_key.specs.entries.OpenSshLines.{IsAuthorizedLine}
 use Rattle.ssh_key.specs.entries.Patterns.{MatchesList}
+use Rattle.ssh_key.specs.krl.Revocations.{is_key_revoked}
 use Rattle.ssh_key.specs.model.Keys.{Key}
 use Rattle.ssh_key.specs.model.Lines.{IsWithout}
 use Rattle.ssh_key.specs.model.SignedMessages.{IsVerified}
@@ -23,7 +24,7 @@ use Rattle.ssh_key.specs.types.SshSig.{SshSig}
 use Rattle.allowed_signers.specs.Principals.{HasPrincipals}
 use Rattle.allowed_signers.specs.SignerOptions.{Terms, AreTerms, Permits}
 use Rattle.allowed_signers.specs.declared.signers.Refusal.{Refusal}
-use Rattle.allowed_signers.specs.declared.signers.Refusal.TheVariants.{Memory, NoSignature, NotAllowed, NotVerified}
+use Rattle.allowed_signers.specs.declared.signers.Refusal.TheVariants.{Memory, NoSignature, NotAllowed, NotVerified, Revoked}
 
 -- ---- a line
 
@@ -67,9 +68,11 @@ pub record HasSigned (accepts : Question → Bool) (namespace message : List ℕ
   pub verified : IsVerified accepts f.key namespace message f
   pub nothing_reserved : f.reserved ≡ []
 
--- The signature counts: its key is allowed to sign, and has signed the message in the namespace.
-pub record Counts (accepts : Question → Bool) (signers identity namespace message : List ℕ) (time : ℕ) (f : SshSignature) : Type 0 where
+-- The signature counts: its key is allowed to sign and not revoked, and has signed the message in
+-- the namespace.
+pub record Counts (revokes : List ℕ → Bool) (accepts : Question → Bool) (signers identity namespace message : List ℕ) (time : ℕ) (f : SshSignature) : Type 0 where
   pub allowed : IsAllowed identity namespace time f.key signers
+  pub unrevoked : is_key_revoked revokes f.key ≡ false
   pub signed : HasSigned accepts namespace message f
 
 -- The bytes spell a signature of which this holds.
@@ -87,11 +90,12 @@ abbrev pub NeedsMemory : List ℕ → Type 0
 NeedsMemory bytes = ssh_signature_format.needs bytes 0 ⊎ SpellsSome SpellsSshSignature bytes
 
 -- What is wrong first, or memory ran out where some is needed.
-abbrev pub IsWhy : (Question → Bool) → List ℕ → List ℕ → List ℕ → List ℕ → ℕ → List ℕ → Refusal → Type 0
-IsWhy accepts signers identity namespace message time bytes NoSignature = NoSpelling SpellsSshSignature bytes
-IsWhy accepts signers identity namespace message time bytes NotAllowed = HasSignature bytes (λ f. ¬ IsAllowed identity namespace time f.key signers)
-IsWhy accepts signers identity namespace message time bytes NotVerified = HasSignature bytes (λ f. IsAllowed identity namespace time f.key signers × ¬ HasSigned accepts namespace message f)
-IsWhy accepts signers identity namespace message time bytes Memory = NeedsMemory bytes
+abbrev pub IsWhy : (List ℕ → Bool) → (Question → Bool) → List ℕ → List ℕ → List ℕ → List ℕ → ℕ → List ℕ → Refusal → Type 0
+IsWhy revokes accepts signers identity namespace message time bytes NoSignature = NoSpelling SpellsSshSignature bytes
+IsWhy revokes accepts signers identity namespace message time bytes NotAllowed = HasSignature bytes (λ f. ¬ IsAllowed identity namespace time f.key signers)
+IsWhy revokes accepts signers identity namespace message time bytes Revoked = HasSignature bytes (λ f. IsAllowed identity namespace time f.key signers × (is_key_revoked revokes f.key ≡ true))
+IsWhy revokes accepts signers identity namespace message time bytes NotVerified = HasSignature bytes (λ f. IsAllowed identity namespace time f.key signers × (is_key_revoked revokes f.key ≡ false) × ¬ HasSigned accepts namespace message f)
+IsWhy revokes accepts signers identity namespace message time bytes Memory = NeedsMemory bytes
 
 -- ---- the steps
 

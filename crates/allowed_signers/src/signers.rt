@@ -15,6 +15,7 @@ use ssh_key::authorized_keys::{Entry, FilledLines, OpenSshEntry, OpenSshOptions}
 use ssh_key::laws::{compared_keys, one_authorized_line, one_ssh_signature, signed_parts_fit};
 use ssh_key::patterns::{LetterCase, matches_pattern_list};
 use ssh_key::public::KeyData;
+use ssh_key::revocation::Revocations;
 use ssh_key::{Error, RawVerifier, Result, SshSig};
 use std::alloc::Global;
 
@@ -25,15 +26,17 @@ pub enum Refusal {
     NoSignature,
     /// No line lets its key sign for the identity, in the namespace and at the time.
     NotAllowed,
+    /// Its key is revoked.
+    Revoked,
     /// It is not the key's signature of the message in the namespace.
     NotVerified,
     /// Memory ran out.
     Memory,
 }
 
-/// Whether the bytes are a signature of the message, in the namespace, by a key that a line of
-/// `signers` lets sign for the identity at that time, in seconds since 1970. That is what
-/// `ssh-keygen -Y verify` asks (ssh-keygen(1), ALLOWED SIGNERS).
+/// Whether the bytes are a signature of the message, in the namespace, by a key that is not revoked
+/// and that a line of `signers` lets sign for the identity at that time, in seconds since 1970. That
+/// is what `ssh-keygen -Y verify -r` asks (ssh-keygen(1), ALLOWED SIGNERS).
 ///
 /// A line is a list of patterns, options or none, and a key, as in authorized_keys. It lets the key
 /// sign if one of the patterns matches the identity and none that begins with a `!` does, and if
@@ -46,17 +49,18 @@ pub enum Refusal {
 /// whose application has a zero byte: ssh-keygen takes it for another key's, or reads it not at all,
 /// and no verifier sees it.
 ///
-/// `signature` is what stands in the armour of `ssh-keygen -Y sign`, decoded. Unless memory runs
-/// out, it is refused for the first of these that holds: `NoSignature`, `NotAllowed`,
-/// `NotVerified`. Where the bytes are no signature, `Memory` means that an allocation for what
-/// stands in front of their fault failed: a length that they only state allocates nothing. One with
-/// reserved bytes is not verified. One by a security key counts whatever its flags say, also where
-/// nobody touched it, as for ssh-keygen: the flags are the fifth byte from the end of
-/// `Signature::as_bytes`, and the bit 0x01 says that somebody did. Keys that ssh-keygen does not
-/// read are left to the verifier: RSA keys of fewer than 1,024 bits or more than 16,384, keys with
-/// negative numbers, and points that are compressed or not on their curve. It does not ask whether
-/// the key is revoked, as `ssh-keygen -Y verify -r` does.
-pub fn verify<V: RawVerifier>(
+/// `signature` is what stands in the armour of `ssh-keygen -Y sign`, decoded. `revocations` is asked
+/// about its key: a list, `NoRevocations`, or what reading a list gave, whose `Err` revokes each key.
+///
+/// Unless memory runs out, it is refused for the first of these that holds: `NoSignature`,
+/// `NotAllowed`, `Revoked`, `NotVerified`. Where the bytes are no signature, `Memory` means that an
+/// allocation for what stands in front of their fault failed: a length that they only state
+/// allocates nothing. One with reserved bytes is not verified. One by a security key counts whatever
+/// its flags say, also where nobody touched it, as for ssh-keygen: the flags are the fifth byte from
+/// the end of `Signature::as_bytes`, and the bit 0x01 says that somebody did. Keys that ssh-keygen
+/// does not read are left to the verifier: RSA keys of fewer than 1,024 bits or more than 16,384,
+/// keys with negative numbers, and points that are compressed or not on their curve.
+pub fn verify<R: Revocations, V: RawVerifier>(
     alloc: Global,
     signers: &str,
     identity: &str,
@@ -64,12 +68,14 @@ pub fn verify<V: RawVerifier>(
     message: &[u8],
     signature: &[u8],
     unix_timestamp: u64,
+    revocations: &R,
     verifier: &V,
 ) -> std::result::Result<(), Refusal>
-    ensures exactly { OkExactly (HasSignature signature.now (Counts (V.accepts verifier.now)
+    ensures exactly { OkExactly (HasSignature signature.now (Counts
+        (R.revokes_key revocations.now) (V.accepts verifier.now)
         signers.now identity.now namespace.now message.now unix_timestamp)) result }
-    ensures refused { IfErr result (IsWhy (V.accepts verifier.now) signers.now identity.now
-        namespace.now message.now unix_timestamp signature.now) }
+    ensures refused { IfErr result (IsWhy (R.revokes_key revocations.now) (V.accepts verifier.now)
+        signers.now identity.now namespace.now message.now unix_timestamp signature.now) }
 {
     one_ssh_signature();
     let signature = read_signature(alloc, signature)?;
@@ -79,6 +85,12 @@ pub fn verify<V: RawVerifier>(
     };
     if !allowed {
         return Err(Refusal::NotAllowed);
+    }
+    let Ok(revoked) = revocations.is_key_revoked(alloc, key) else {
+        return Err(Refusal::Memory);
+    };
+    if revoked {
+        return Err(Refusal::Revoked);
     }
     let Ok(signed) = has_signed(alloc, &signature, namespace, message, verifier) else {
         return Err(Refusal::Memory);

@@ -1,20 +1,22 @@
 //! Asks whether a signature is an identity's.
 
+use crate::revoked::{lists, read_lists};
 use crate::verified::Told;
 use crate::words::{NO_LINE, bytes, number, text};
 use allowed_signers::{Refusal, verify};
 use ssh_key::Result;
 use std::alloc::{AllocError, Global};
 
-/// Whether the last word is the identity's signature of the message before it, by the text of
-/// allowed signers, all three in hexadecimal digits.
+/// Whether the signature is the identity's of the message before it, by the text of allowed signers
+/// and the lists of revoked keys behind it, all in hexadecimal digits.
 pub(crate) fn answer(alloc: Global, words: &[&str], told: &Told) -> Result<String> {
-    let [signers, identity, namespace, seconds, message, signature] = words else {
+    let [signers, identity, namespace, seconds, message, signature, revoked @ ..] = words else {
         return Err(NO_LINE);
     };
     let signers = text(alloc, signers)?;
     let message = bytes(alloc, message)?;
     let signature = bytes(alloc, signature)?;
+    let revoked = lists(alloc, revoked)?;
     let answer = verify(
         alloc,
         &signers,
@@ -23,6 +25,7 @@ pub(crate) fn answer(alloc: Global, words: &[&str], told: &Told) -> Result<Strin
         &message,
         &signature,
         number(seconds)?,
+        &read_lists(alloc, revoked.as_slice())?.as_slice(),
         told,
     );
     shown(alloc, answer)
@@ -33,6 +36,7 @@ fn shown(alloc: Global, answer: std::result::Result<(), Refusal>) -> Result<Stri
         Ok(()) => "ok",
         Err(Refusal::NoSignature) => "no signature",
         Err(Refusal::NotAllowed) => "not allowed",
+        Err(Refusal::Revoked) => "revoked",
         Err(Refusal::NotVerified) => "not verified",
         Err(Refusal::Memory) => return Err(ssh_key::Error::Memory),
     };

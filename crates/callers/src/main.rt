@@ -15,6 +15,7 @@ mod hashes;
 mod host;
 mod issue;
 mod login;
+mod revoked;
 mod signer;
 mod verified;
 mod words;
