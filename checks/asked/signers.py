@@ -286,8 +286,9 @@ def others(maker, keys, message, made, case):
         name = f"signer{number}"
         keys["by"] = maker.key(name, kind)
         blob = made_by(maker, name, message)
-        yield case(f"by {kind}", "{who} {by}\n", OK, blob=blob, line=told_of_file(blob, message))
-        yield case(f"by {kind}, revoked", "{who} {by}\n", REVOKED, blob=blob, revoked=list_of(maker, keys["by"]))
+        line = told_of_file(blob, message)
+        yield case(f"by {kind}", "{who} {by}\n", OK, blob=blob, line=line)
+        yield case(f"by {kind}, revoked", "{who} {by}\n", REVOKED, blob=blob, line=line, revoked=list_of(maker, keys["by"]))
     blob = made_by(maker, "signer", message, "-O", "hashalg=sha256")
     yield case("a digest of 256 bits", text, OK, blob=blob, line=told_of_file(blob, message))
     keys["fresh"] = maker.key("fresh-signer")
