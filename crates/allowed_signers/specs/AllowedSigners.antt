@@ -70,7 +70,7 @@ pub record HasSigned (accepts : Question → Bool) (namespace message : List ℕ
 
 -- The signature counts: its key is allowed to sign and not revoked, and has signed the message in
 -- the namespace.
-pub record Counts (revokes : List ℕ → Bool) (accepts : Question → Bool) (signers identity namespace message : List ℕ) (time : ℕ) (f : SshSignature) : Type 0 where
+pub record Counts (accepts : Question → Bool) (revokes : List ℕ → Bool) (signers identity namespace message : List ℕ) (time : ℕ) (f : SshSignature) : Type 0 where
   pub allowed : IsAllowed identity namespace time f.key signers
   pub unrevoked : is_key_revoked revokes f.key ≡ false
   pub signed : HasSigned accepts namespace message f
@@ -90,12 +90,12 @@ abbrev pub NeedsMemory : List ℕ → Type 0
 NeedsMemory bytes = ssh_signature_format.needs bytes 0 ⊎ SpellsSome SpellsSshSignature bytes
 
 -- What is wrong first, or memory ran out where some is needed.
-abbrev pub IsWhy : (List ℕ → Bool) → (Question → Bool) → List ℕ → List ℕ → List ℕ → List ℕ → ℕ → List ℕ → Refusal → Type 0
-IsWhy revokes accepts signers identity namespace message time bytes NoSignature = NoSpelling SpellsSshSignature bytes
-IsWhy revokes accepts signers identity namespace message time bytes NotAllowed = HasSignature bytes (λ f. ¬ IsAllowed identity namespace time f.key signers)
-IsWhy revokes accepts signers identity namespace message time bytes Revoked = HasSignature bytes (λ f. IsAllowed identity namespace time f.key signers × (is_key_revoked revokes f.key ≡ true))
-IsWhy revokes accepts signers identity namespace message time bytes NotVerified = HasSignature bytes (λ f. IsAllowed identity namespace time f.key signers × (is_key_revoked revokes f.key ≡ false) × ¬ HasSigned accepts namespace message f)
-IsWhy revokes accepts signers identity namespace message time bytes Memory = NeedsMemory bytes
+abbrev pub IsWhy : (Question → Bool) → (List ℕ → Bool) → List ℕ → List ℕ → List ℕ → List ℕ → ℕ → List ℕ → Refusal → Type 0
+IsWhy accepts revokes signers identity namespace message time bytes NoSignature = NoSpelling SpellsSshSignature bytes
+IsWhy accepts revokes signers identity namespace message time bytes NotAllowed = HasSignature bytes (λ f. ¬ IsAllowed identity namespace time f.key signers)
+IsWhy accepts revokes signers identity namespace message time bytes Revoked = HasSignature bytes (λ f. IsAllowed identity namespace time f.key signers × (is_key_revoked revokes f.key ≡ true))
+IsWhy accepts revokes signers identity namespace message time bytes NotVerified = HasSignature bytes (λ f. IsAllowed identity namespace time f.key signers × (is_key_revoked revokes f.key ≡ false) × ¬ HasSigned accepts namespace message f)
+IsWhy accepts revokes signers identity namespace message time bytes Memory = NeedsMemory bytes
 
 -- ---- the steps
 

@@ -71,10 +71,10 @@ pub fn verify<R: Revocations, V: RawVerifier>(
     revocations: &R,
     verifier: &V,
 ) -> std::result::Result<(), Refusal>
-    ensures exactly { OkExactly (HasSignature signature.now (Counts
-        (R.revokes_key revocations.now) (V.accepts verifier.now)
-        signers.now identity.now namespace.now message.now unix_timestamp)) result }
-    ensures refused { IfErr result (IsWhy (R.revokes_key revocations.now) (V.accepts verifier.now)
+    ensures exactly { OkExactly (HasSignature signature.now (Counts (V.accepts verifier.now)
+        (R.revokes_key revocations.now) signers.now identity.now namespace.now message.now
+        unix_timestamp)) result }
+    ensures refused { IfErr result (IsWhy (V.accepts verifier.now) (R.revokes_key revocations.now)
         signers.now identity.now namespace.now message.now unix_timestamp signature.now) }
 {
     one_ssh_signature();

@@ -10,7 +10,16 @@ use std::alloc::{AllocError, Global};
 /// Whether the signature is the identity's of the message before it, by the text of allowed signers
 /// and the lists of revoked keys behind it, all in hexadecimal digits.
 pub(crate) fn answer(alloc: Global, words: &[&str], told: &Told) -> Result<String> {
-    let [signers, identity, namespace, seconds, message, signature, revoked @ ..] = words else {
+    let [
+        signers,
+        identity,
+        namespace,
+        seconds,
+        message,
+        signature,
+        revoked @ ..,
+    ] = words
+    else {
         return Err(NO_LINE);
     };
     let signers = text(alloc, signers)?;
