@@ -35,8 +35,8 @@ pub enum Refusal {
 }
 
 /// Whether the bytes are a signature of the message, in the namespace, by a key that is not revoked
-/// and that a line of `signers` lets sign for the identity at that time, in seconds since 1970. That
-/// is what `ssh-keygen -Y verify -r` asks (ssh-keygen(1), ALLOWED SIGNERS).
+/// and that a line of `signers` lets sign for the identity at that time, in seconds since 1970.
+/// That is what `ssh-keygen -Y verify -r` asks (ssh-keygen(1), ALLOWED SIGNERS).
 ///
 /// A line is a list of patterns, options or none, and a key, as in authorized_keys. It lets the key
 /// sign if one of the patterns matches the identity and none that begins with a `!` does, and if
@@ -46,20 +46,21 @@ pub enum Refusal {
 /// it is passed over. So is each line in which something else stands, as ssh-keygen does, a line in
 /// which a byte is 0, and one with a carriage return in its list of patterns: ssh-keygen ends the
 /// line at the former, and an unquoted list at the latter. And so is the line of a security key
-/// whose application has a zero byte: ssh-keygen takes it for another key's, or reads it not at all,
-/// and no verifier sees it.
+/// whose application has a zero byte: ssh-keygen takes it for another key's, or reads it not at
+/// all, and no verifier sees it.
 ///
-/// `signature` is what stands in the armour of `ssh-keygen -Y sign`, decoded. `revocations` is asked
-/// about its key: a list, `NoRevocations`, or what reading a list gave, whose `Err` revokes each key.
+/// `signature` is what stands in the armour of `ssh-keygen -Y sign`, decoded. `revocations` is
+/// asked about its key: a list, `NoRevocations`, or what reading a list gave, whose `Err` revokes
+/// each key.
 ///
 /// Unless memory runs out, it is refused for the first of these that holds: `NoSignature`,
 /// `NotAllowed`, `Revoked`, `NotVerified`. Where the bytes are no signature, `Memory` means that an
 /// allocation for what stands in front of their fault failed: a length that they only state
-/// allocates nothing. One with reserved bytes is not verified. One by a security key counts whatever
-/// its flags say, also where nobody touched it, as for ssh-keygen: the flags are the fifth byte from
-/// the end of `Signature::as_bytes`, and the bit 0x01 says that somebody did. Keys that ssh-keygen
-/// does not read are left to the verifier: RSA keys of fewer than 1,024 bits or more than 16,384,
-/// keys with negative numbers, and points that are compressed or not on their curve.
+/// allocates nothing. One with reserved bytes is not verified. One by a security key counts
+/// whatever its flags say, also where nobody touched it, as for ssh-keygen: the flags are the fifth
+/// byte from the end of `Signature::as_bytes`, and the bit 0x01 says that somebody did. Keys that
+/// ssh-keygen does not read are left to the verifier: RSA keys of fewer than 1,024 bits or more
+/// than 16,384, keys with negative numbers, and points that are compressed or not on their curve.
 pub fn verify<R: Revocations, V: RawVerifier>(
     alloc: Global,
     signers: &str,
