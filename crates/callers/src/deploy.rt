@@ -1,21 +1,33 @@
 //! Asks which deploy key has signed.
 
+use crate::revoked::{lists, read_lists};
 use crate::verified::Told;
 use crate::words::{NO_LINE, bytes, text};
 use deploy_keys::find_signer;
 use ssh_key::Result;
 use std::alloc::{AllocError, Global};
 
-/// Whose signature it is. The deploy keys, the content and what stands in the armour of the
-/// signature are spelled in hexadecimal digits; the namespace stands before the content.
+/// Whose signature it is. The deploy keys, the content, what stands in the armour of the signature,
+/// and the lists of what is revoked behind it are spelled in hexadecimal digits; the namespace
+/// stands before the content.
 pub(crate) fn answer(alloc: Global, words: &[&str], told: &Told) -> Result<String> {
-    let [keys, namespace, content, signature] = words else {
+    let [keys, namespace, content, signature, revoked @ ..] = words else {
         return Err(NO_LINE);
     };
     let keys = text(alloc, keys)?;
     let content = bytes(alloc, content)?;
     let signature = bytes(alloc, signature)?;
-    let signer = find_signer(alloc, &keys, namespace, &content, &signature, told)?;
+    let lists = lists(alloc, revoked)?;
+    let revocations = read_lists(alloc, &lists)?;
+    let signer = find_signer(
+        alloc,
+        &keys,
+        namespace,
+        &content,
+        &signature,
+        &revocations.as_slice(),
+        told,
+    )?;
     Ok(shown(alloc, signer)?)
 }
 

@@ -1,19 +1,22 @@
 //! Asks whether a host is the known one.
 
 use crate::hashes::Hashes;
+use crate::revoked::{lists, read_lists};
 use crate::verified::Told;
 use crate::words::{NO_LINE, number, texts};
 use host_keys::{Refusal, check_certificate, check_key};
 use ssh_key::{Certificate, PublicKey, Result};
 use std::alloc::{AllocError, Global};
 
-/// Whether the key is the host's, by the texts of known_hosts in hexadecimal digits.
+/// Whether the key is the host's, by the texts of known_hosts in hexadecimal digits, and by the
+/// lists of what is revoked, which are the words behind it.
 pub(crate) fn key(alloc: Global, words: &[&str], hashes: &Hashes) -> Result<String> {
-    let [known_hosts, host, port, key] = words else {
+    let [known_hosts, host, port, key, revoked @ ..] = words else {
         return Err(NO_LINE);
     };
     let texts = texts(alloc, known_hosts)?;
     let key = PublicKey::from_openssh(alloc, key)?;
+    let lists = lists(alloc, revoked)?;
     let answer = check_key(
         alloc,
         &borrowed(alloc, &texts)?,
@@ -21,22 +24,24 @@ pub(crate) fn key(alloc: Global, words: &[&str], hashes: &Hashes) -> Result<Stri
         port_of(port)?,
         key.key_data(),
         hashes,
+        &read_lists(alloc, &lists)?.as_slice(),
     );
     shown(alloc, answer)
 }
 
-/// Whether the certificate is the host's at the second that is the last word.
+/// The same of a certificate at the second that is the word behind it.
 pub(crate) fn certificate(
     alloc: Global,
     words: &[&str],
     hashes: &Hashes,
     told: &Told,
 ) -> Result<String> {
-    let [known_hosts, host, port, certificate, seconds] = words else {
+    let [known_hosts, host, port, certificate, seconds, revoked @ ..] = words else {
         return Err(NO_LINE);
     };
     let texts = texts(alloc, known_hosts)?;
     let certificate = Certificate::from_openssh(alloc, certificate)?;
+    let lists = lists(alloc, revoked)?;
     let answer = check_certificate(
         alloc,
         &borrowed(alloc, &texts)?,
@@ -45,6 +50,7 @@ pub(crate) fn certificate(
         &certificate,
         number(seconds)?,
         hashes,
+        &read_lists(alloc, &lists)?.as_slice(),
         told,
     );
     shown(alloc, answer)

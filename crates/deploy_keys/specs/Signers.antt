@@ -5,6 +5,7 @@ use Rattle.ssh_key.specs.base.Causes.{Faulty, cause}
 use Rattle.ssh_key.specs.entries.AuthorizedKeys.{AuthorizedKey}
 use Rattle.ssh_key.specs.entries.Fields.{filled_lines}
 use Rattle.ssh_key.specs.entries.OpenSshLines.{IsAuthorizedLine}
+use Rattle.ssh_key.specs.krl.Revocations.{is_key_revoked}
 use Rattle.ssh_key.specs.model.Reading.{whole}
 use Rattle.ssh_key.specs.model.SignedMessages.{IsVerified}
 use Rattle.ssh_key.specs.model.SshSignatures.{SshSignature}
@@ -28,17 +29,22 @@ pub record IsSigner (accepts : Question → Bool) (namespace content : List ℕ)
   pub signed : HasSigned accepts namespace content f entry
   pub comment : entry.comment ≡ said
 
+-- The same, and the key of the entry is not revoked.
+pub record IsUnrevokedSigner (accepts : Question → Bool) (revokes_key : List ℕ → Bool) (namespace content : List ℕ) (f : SshSignature) (text said : List ℕ) : Type 0 where
+  pub signer : IsSigner accepts namespace content f text said
+  pub unrevoked : is_key_revoked revokes_key signer.entry.key ≡ false
+
 -- The comment of the first of the lines that is a signer; or none of them is one.
 pub data IsFirst (Signs : List ℕ → List ℕ → Type 0) : List (List ℕ) → Option (List ℕ) → Type 0 where
   Nobody : IsFirst Signs [] None
   Here : {line comment : List ℕ} {rest : List (List ℕ)} → Signs line comment → IsFirst Signs (line ∷ rest) (Some comment)
   Later : {line : List ℕ} {rest : List (List ℕ)} {found : Option (List ℕ)} → ((comment : List ℕ) → Signs line comment → ⊥) → IsFirst Signs rest found → IsFirst Signs (line ∷ rest) found
 
--- Ok with the comment of the first key in the text that has signed, or with None if none has; out
--- of memory aside, an error exactly if the bytes spell no SSH signature.
-abbrev pub NamesSigner : {Y : Type 0} → (Question → Bool) → List ℕ → List ℕ → List ℕ → List ℕ → Result (Option (String Y)) Error → Type 0
-NamesSigner accepts keys namespace content bytes (Ok found) = (f : SshSignature) × SpellsSshSignature f bytes × IsFirst (IsSigner accepts namespace content f) (filled_lines keys) (option_map string_bytes found)
-NamesSigner accepts keys namespace content bytes (Err e) = e ≢ Memory → (f : SshSignature) → SpellsSshSignature f bytes → ⊥
+-- Ok with the comment of the first key in the text that has signed and is not revoked, or with None
+-- if there is none; out of memory aside, an error exactly if the bytes spell no SSH signature.
+abbrev pub NamesSigner : {Y : Type 0} → (Question → Bool) → (List ℕ → Bool) → List ℕ → List ℕ → List ℕ → List ℕ → Result (Option (String Y)) Error → Type 0
+NamesSigner accepts revokes_key keys namespace content bytes (Ok found) = (f : SshSignature) × SpellsSshSignature f bytes × IsFirst (IsUnrevokedSigner accepts revokes_key namespace content f) (filled_lines keys) (option_map string_bytes found)
+NamesSigner accepts revokes_key keys namespace content bytes (Err e) = e ≢ Memory → (f : SshSignature) → SpellsSshSignature f bytes → ⊥
 
 -- Out of memory aside, the error is the first fault of the bytes, from the left.
 abbrev pub HasSignatureFault : List ℕ → Error → Type 0

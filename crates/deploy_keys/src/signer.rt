@@ -13,16 +13,17 @@ ghost use Rattle.deploy_keys.specs.Signers.{Answers, FindsAmong, HasSignatureFau
 
 use ssh_key::authorized_keys::OpenSshEntry;
 use ssh_key::laws::one_authorized_line;
+use ssh_key::revocation::Revocations;
 use ssh_key::{AuthorizedKeys, Error, RawVerifier, Result, SshSig};
 use std::alloc::Global;
 
 /// The comment of the first deploy key that has signed the content, in that namespace (git's is
 /// `git`), or `None` if none of them has.
 ///
-/// `keys` is read as sshd(8) reads authorized_keys. A line that is no entry, or one with options,
-/// is passed over: no deploy key stands there. The comment is what whoever wrote the line chose:
-/// several lines may have one, and a line without any gives an empty text. So it names a signer
-/// only where the text is yours.
+/// `keys` is read as sshd(8) reads authorized_keys. A line that is no entry, one with options, or
+/// one whose key `revocations` revokes, is passed over: no deploy key stands there. The comment is
+/// what whoever wrote the line chose: several lines may have one, and a line without any gives an
+/// empty text. So it names a signer only where the text is yours.
 ///
 /// `signature` is what stands in the armour of `ssh-keygen -Y sign`, decoded. One by a security key
 /// counts whatever its flags say, also where nobody touched it, as for ssh-keygen: the flags are
@@ -32,21 +33,25 @@ use std::alloc::Global;
 /// `SshSig::from_bytes`. Where they spell none, `Memory` means that an allocation for what stands
 /// in front of their fault failed: a length that they only state allocates nothing.
 ///
-/// It does not ask whether the key is revoked.
-pub fn find_signer<V: RawVerifier>(
+/// `revocations` is asked once, about the key that the signature names, before the verifier is.
+pub fn find_signer<R: Revocations, V: RawVerifier>(
     alloc: Global,
     keys: &str,
     namespace: &str,
     content: &[u8],
     signature: &[u8],
+    revocations: &R,
     verifier: &V,
 ) -> Result<Option<String>>
-    ensures names { NamesSigner (V.accepts verifier.now) keys.now namespace.now content.now
-        signature.now result }
+    ensures names { NamesSigner (V.accepts verifier.now) (R.revokes_key revocations.now) keys.now
+        namespace.now content.now signature.now result }
     ensures fault { IfErr result (HasSignatureFault signature.now) }
     ensures memory { IfErr result (λ e. e ≡ Memory → NeedsMemory signature.now) }
 {
     let signature = SshSig::from_bytes(alloc, signature)?;
+    if revocations.is_key_revoked(alloc, signature.public_key())? {
+        return Ok(None);
+    }
     find_among(alloc, keys, namespace, content, &signature, verifier)
 }
 

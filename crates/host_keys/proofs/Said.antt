@@ -1,11 +1,11 @@
 -- What is said of a host, by its name at the port or by its plain name, and what is answered.
-use Rattle.std.proofs.Common.{◌≡◌, ◌≢◌, ℕ, List, IfErr, Result, Ok, Err, inl, inr, subst, sym}
+use Rattle.std.proofs.Common.{◌≡◌, ◌≢◌, ℕ, Bool, true, false, List, IfErr, IfOk, Result, Ok, Err, inl, inr, refl, subst, sym}
 use Rattle.ssh_key.specs.entries.HostNames.{known_name, standard_port}
 use Rattle.ssh_key.specs.types.Error.{Error}
 use Rattle.ssh_key.specs.types.Error.TheVariants.{Memory}
 use Rattle.ssh_key.specs.types.known_hosts.Verdict.{Verdict}
 use Rattle.ssh_key.specs.types.known_hosts.Verdict.TheVariants.{Changed, Revoked, Trusted, Unknown, Unreadable}
-use Rattle.host_keys.specs.Answers.{IsWhy, Names, OkExactly, answer_of}
+use Rattle.host_keys.specs.Answers.{IsWhy, Names, OkExactly, answer_of, answer_of_revoked}
 use Rattle.host_keys.specs.Hosts.{IsSaid, IsSettled}
 use Rattle.host_keys.specs.declared.refusal.Refusal.{Refusal}
 use Rattle.host_keys.specs.declared.refusal.Refusal.TheVariants as refusal
@@ -30,27 +30,15 @@ module _ (Says : List ℕ → Verdict → Type 0) (host : List ℕ) (port : ℕ)
     one_said v w (inr s) (inr t) = one _ v w s.1 t.1
 
     -- only what is trusted is accepted
-    pub exactly : (v : Verdict) → IsSaid Says host port v → OkExactly (IsSaid Says host port Trusted) (answer_of v)
+    exactly : (v : Verdict) → IsSaid Says host port v → OkExactly (IsSaid Says host port Trusted) (answer_of v)
     exactly Trusted s = s
     exactly Revoked s = λ other t. cc (one_said Revoked Trusted s t)
     exactly Unreadable s = λ other t. cc (one_said Unreadable Trusted s t)
     exactly Changed s = λ other t. cc (one_said Changed Trusted s t)
     exactly Unknown s = λ other t. cc (one_said Unknown Trusted s t)
 
-    -- whatever else is wanted
-    pub refused : {Also : Type 0} (v : Verdict) (e : Refusal) → IsSaid Says host port v → answer_of v ≡ Err e → e ≢ refusal.Memory → IsSaid Says host port Trusted × Also → ⊥
-    refused v e s is other both = subst (OkExactly (IsSaid Says host port Trusted)) is (exactly v s) other both.0
-
--- and the refusal says what is said
-pub why : (Said : Verdict → Type 0) (Bad : Error → Type 0) (v : Verdict) → Said v → IfErr (answer_of v) (IsWhy Said Bad)
-why Said Bad Trusted s = tt
-why Said Bad Revoked s = s
-why Said Bad Unreadable s = s
-why Said Bad Changed s = s
-why Said Bad Unknown s = s
-
-pub why_refused : (Said : Verdict → Type 0) (Bad : Error → Type 0) (v : Verdict) (e : Refusal) → Said v → answer_of v ≡ Err e → IsWhy Said Bad e
-why_refused Said Bad v e s is = subst (λ (r : Result (Unit {0}) Refusal). IfErr r (IsWhy Said Bad)) is (why Said Bad v s)
+    pub refused : (v : Verdict) (e : Refusal) → IsSaid Says host port v → answer_of v ≡ Err e → e ≢ refusal.Memory → IsSaid Says host port Trusted → ⊥
+    refused v e s is = subst (OkExactly (IsSaid Says host port Trusted)) is (exactly v s)
 
 -- where that is answered, the host is trusted
 pub is_trusted : (Said : Verdict → Type 0) (v : Verdict) (u : Unit {0}) → Said v → answer_of v ≡ Ok u → Said Trusted
@@ -60,7 +48,33 @@ is_trusted Said Unreadable u s e = absurd cc
 is_trusted Said Changed u s e = absurd cc
 is_trusted Said Unknown u s e = absurd cc
 
--- what the certificate is refused for
-pub why_bad : (Said : Verdict → Type 0) (Bad : Error → Type 0) (e : Error) (r : Refusal) → Said Trusted → (e ≢ Memory → Bad e) → Names e r → IsWhy Said Bad r
-why_bad Said Bad e r said bad (inl m) = subst (IsWhy Said Bad) (sym m.1) tt
-why_bad Said Bad e r said bad (inr n) = subst (IsWhy Said Bad) (sym n.1) (said, bad n.0)
+-- only what is not revoked is accepted
+pub unrevoked : {E : Type 0} (revoked : Bool) (asked : Result Bool E) → IfOk asked (λ yes. yes ≡ revoked) → OkExactly (revoked ≡ false) (answer_of_revoked asked)
+unrevoked revoked (Ok false) is = sym is
+unrevoked revoked (Ok true) is = λ other not. cc
+unrevoked revoked (Err e) is = λ other. absurd (other refl)
+
+-- ---- why something is refused
+
+module _ (Said : Verdict → Type 0) (revoked : Bool) (Bad : Error → Type 0) where
+  -- for what is said
+  why_said : (v : Verdict) → Said v → IfErr (answer_of v) (IsWhy Said revoked Bad)
+  why_said Trusted s = tt
+  why_said Revoked s = inl s
+  why_said Unreadable s = s
+  why_said Changed s = s
+  why_said Unknown s = s
+
+  pub why_refused : (v : Verdict) (e : Refusal) → Said v → answer_of v ≡ Err e → IsWhy Said revoked Bad e
+  why_refused v e s is = subst (λ (r : Result (Unit {0}) Refusal). IfErr r (IsWhy Said revoked Bad)) is (why_said v s)
+
+  -- since it is revoked
+  pub why_revoked : {E : Type 0} (asked : Result Bool E) → Said Trusted → IfOk asked (λ yes. yes ≡ revoked) → IfErr (answer_of_revoked asked) (IsWhy Said revoked Bad)
+  why_revoked (Ok false) s is = tt
+  why_revoked (Ok true) s is = inr (s, sym is)
+  why_revoked (Err e) s is = tt
+
+  -- for what is wrong with the certificate
+  pub why_bad : (e : Error) (r : Refusal) → Said Trusted → revoked ≡ false → (e ≢ Memory → Bad e) → Names e r → IsWhy Said revoked Bad r
+  why_bad e r said not bad (inl m) = subst (IsWhy Said revoked Bad) (sym m.1) tt
+  why_bad e r said not bad (inr n) = subst (IsWhy Said revoked Bad) (sym n.1) (said, not, bad n.0)

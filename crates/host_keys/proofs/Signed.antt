@@ -1,5 +1,5 @@
 -- What is said of a key and of the key that signed it.
-use Rattle.std.proofs.Common.{◌≡◌, ◌≢◌, ℕ, List, Ok, Err, inl, inr, refl, subst}
+use Rattle.std.proofs.Common.{◌≡◌, ◌≢◌, ℕ, Bool, List, Ok, Err, inl, inr, refl, subst}
 use Rattle.ssh_key.specs.entries.HostVerdicts.{HidesSome, IsAuthority, IsRevoked}
 use Rattle.ssh_key.specs.known_hosts.Verdicts.{IsVerdict}
 use Rattle.ssh_key.specs.model.Certificates.{Certificate}
@@ -80,11 +80,11 @@ module _ (hmac : List ℕ → List ℕ → List ℕ) (host : List ℕ) (port : �
   said_of_both : IsSaidOfSigned hmac host port c.signed.key c.signed.signature_key lines v
   said_of_both = subst (λ (s : Key). IsSaidOfSigned hmac host port c.signed.key s lines v) by (subst (λ (x : Key). IsSaidOfSigned hmac host port x signer lines v) own said)
 
-  pub refused_keys : {Also : Type 0} (e : Refusal) → answer_of v ≡ Err e → e ≢ refusal.Memory → IsSaidOfSigned hmac host port c.signed.key c.signed.signature_key lines Trusted × Also → ⊥
+  pub refused_keys : (e : Refusal) → answer_of v ≡ Err e → e ≢ refusal.Memory → IsSaidOfSigned hmac host port c.signed.key c.signed.signature_key lines Trusted → ⊥
   refused_keys e = refused (λ (name : List ℕ). IsVerdictOfSigned hmac name c.signed.key c.signed.signature_key lines) host port (λ name. one_verdict hmac name lines c.signed.key c.signed.signature_key) v e said_of_both
 
-  pub why_keys : (Bad : Error → Type 0) (e : Refusal) → answer_of v ≡ Err e → IsWhy (IsSaidOfSigned hmac host port c.signed.key c.signed.signature_key lines) Bad e
-  why_keys Bad e = why_refused (IsSaidOfSigned hmac host port c.signed.key c.signed.signature_key lines) Bad v e said_of_both
+  pub why_keys : (revoked : Bool) (Bad : Error → Type 0) (e : Refusal) → answer_of v ≡ Err e → IsWhy (IsSaidOfSigned hmac host port c.signed.key c.signed.signature_key lines) revoked Bad e
+  why_keys revoked Bad e = why_refused (IsSaidOfSigned hmac host port c.signed.key c.signed.signature_key lines) revoked Bad v e said_of_both
 
   pub trusted_keys : (u : Unit {0}) → answer_of v ≡ Ok u → IsSaidOfSigned hmac host port c.signed.key c.signed.signature_key lines Trusted
   trusted_keys u = is_trusted (IsSaidOfSigned hmac host port c.signed.key c.signed.signature_key lines) v u said_of_both

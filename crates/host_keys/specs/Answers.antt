@@ -1,5 +1,7 @@
 -- What is answered about a host, and why it is refused.
-use Rattle.std.specs.Prelude.{◌≡◌, ◌≢◌, ◌⊎◌, ◌<◌, ℕ, List, length, Bool, Result, Ok, Err}
+use Rattle.std.specs.Prelude.{◌≡◌, ◌≢◌, ◌⊎◌, ◌<◌, ℕ, List, length, Bool, true, false, Result, Ok, Err}
+use Rattle.ssh_key.specs.krl.Revocation.{Grant}
+use Rattle.ssh_key.specs.krl.Revocations.{is_certificate_revoked, is_key_revoked}
 use Rattle.ssh_key.specs.model.Certificates.{Certificate}
 use Rattle.ssh_key.specs.model.Keys.{Key}
 use Rattle.ssh_key.specs.model.Verification.{Question}
@@ -33,18 +35,24 @@ answer_of Unreadable = Err refusal.Unreadable
 answer_of Changed = Err refusal.Changed
 answer_of Unknown = Err refusal.Unknown
 
--- That is said; or the host is trusted so far, and the certificate is bad for that error; or memory
--- ran out.
-abbrev pub IsWhy : (Verdict → Type 0) → (Error → Type 0) → Refusal → Type 0
-IsWhy Said Bad refusal.Revoked = Said Revoked
-IsWhy Said Bad refusal.Unreadable = Said Unreadable
-IsWhy Said Bad refusal.Changed = Said Changed
-IsWhy Said Bad refusal.Unknown = Said Unknown
-IsWhy Said Bad (refusal.Certificate e) = Said Trusted × Bad e
-IsWhy Said Bad refusal.Memory = Unit {0}
+-- what follows from whether something is revoked
+abbrev pub answer_of_revoked : {E : Type 0} → Result Bool E → Result Unit Refusal
+answer_of_revoked (Ok false) = Ok tt
+answer_of_revoked (Ok true) = Err refusal.Revoked
+answer_of_revoked (Err e) = Err refusal.Memory
 
-abbrev pub IsWhyNoKey : (List ℕ → List ℕ → List ℕ) → List ℕ → ℕ → Key → List (List ℕ) → Refusal → Type 0
-IsWhyNoKey hmac host port key lines = IsWhy (IsSaidOfKey hmac host port key lines) (λ e. ⊥)
+-- That is said; or the host is trusted so far, and is revoked, or the certificate is not, and is bad
+-- for that error; or memory ran out.
+abbrev pub IsWhy : (Verdict → Type 0) → Bool → (Error → Type 0) → Refusal → Type 0
+IsWhy Said revoked Bad refusal.Revoked = Said Revoked ⊎ (Said Trusted × (revoked ≡ true))
+IsWhy Said revoked Bad refusal.Unreadable = Said Unreadable
+IsWhy Said revoked Bad refusal.Changed = Said Changed
+IsWhy Said revoked Bad refusal.Unknown = Said Unknown
+IsWhy Said revoked Bad (refusal.Certificate e) = Said Trusted × (revoked ≡ false) × Bad e
+IsWhy Said revoked Bad refusal.Memory = Unit {0}
 
-abbrev pub IsWhyNoCertificate : (List ℕ → List ℕ → List ℕ) → (Question → Bool) → ℕ → List ℕ → ℕ → Certificate → List (List ℕ) → Refusal → Type 0
-IsWhyNoCertificate hmac accepts t host port c lines = IsWhy (IsSaidOfSigned hmac host port c.signed.key c.signed.signature_key lines) (IsBadFor accepts t (plain_name host) c)
+abbrev pub IsWhyNoKey : (List ℕ → List ℕ → List ℕ) → (List ℕ → Bool) → List ℕ → ℕ → Key → List (List ℕ) → Refusal → Type 0
+IsWhyNoKey hmac revokes_key host port key lines = IsWhy (IsSaidOfKey hmac host port key lines) (is_key_revoked revokes_key key) (λ e. ⊥)
+
+abbrev pub IsWhyNoCertificate : (List ℕ → List ℕ → List ℕ) → (Question → Bool) → (List ℕ → Grant → Bool) → ℕ → List ℕ → ℕ → Certificate → List (List ℕ) → Refusal → Type 0
+IsWhyNoCertificate hmac accepts revokes t host port c lines = IsWhy (IsSaidOfSigned hmac host port c.signed.key c.signed.signature_key lines) (is_certificate_revoked revokes c) (IsBadFor accepts t (plain_name host) c)

@@ -1,14 +1,17 @@
--- When a key or a certificate is a host's, by the lines of known_hosts (ssh(1), "VERIFYING HOST
--- KEYS"; sshd(8), "SSH_KNOWN_HOSTS FILE FORMAT"; PROTOCOL.certkeys).
+-- When a key or a certificate is a host's, by the lines of known_hosts and by who says what is
+-- revoked (ssh(1), "VERIFYING HOST KEYS"; sshd(8), "SSH_KNOWN_HOSTS FILE FORMAT"; ssh_config(5),
+-- RevokedHostKeys; PROTOCOL.certkeys).
 use denote.Ref.{Bor}
 use Rattle.openssh_limits.specs.Read.{AreReadPrincipals}
 use Rattle.std.specs.List.{flat_map}
-use Rattle.std.specs.Prelude.{◌≡◌, ◌≢◌, ◌⊎◌, ℕ, List, [], ◌∷◌, Bool, Some, option_map}
+use Rattle.std.specs.Prelude.{◌≡◌, ◌≢◌, ◌⊎◌, ℕ, List, [], ◌∷◌, Bool, false, Some, option_map}
 use Rattle.ssh_key.specs.cert.Validity.{refusal_error}
 use Rattle.ssh_key.specs.entries.Fields.{filled_lines}
 use Rattle.ssh_key.specs.entries.HostNames.{known_name, standard_port}
 use Rattle.ssh_key.specs.entries.HostVerdicts.{HidesSome, IsAuthority, IsRevoked}
 use Rattle.ssh_key.specs.known_hosts.Verdicts.{IsVerdict}
+use Rattle.ssh_key.specs.krl.Revocation.{Grant}
+use Rattle.ssh_key.specs.krl.Revocations.{is_certificate_revoked, is_key_revoked}
 use Rattle.ssh_key.specs.model.Certificates.{Certificate, Host}
 use Rattle.ssh_key.specs.model.Fingerprints.{Fingerprint, fingerprint}
 use Rattle.ssh_key.specs.model.Keys.{Key}
@@ -81,12 +84,15 @@ pub record IsGoodFor (accepts : Question → Bool) (t : ℕ) (host : List ℕ) (
   pub valid : IsValidFor accepts (signers c) t host c
 
 -- The key is the host's.
-abbrev pub IsTrustedKey : (List ℕ → List ℕ → List ℕ) → List ℕ → ℕ → Key → List (List ℕ) → Type 0
-IsTrustedKey hmac host port key lines = IsSaidOfKey hmac host port key lines Trusted
+pub record IsTrustedKey (hmac : List ℕ → List ℕ → List ℕ) (revokes_key : List ℕ → Bool) (host : List ℕ) (port : ℕ) (key : Key) (lines : List (List ℕ)) : Type 0 where
+  pub listed : IsSaidOfKey hmac host port key lines Trusted
+  pub unrevoked : is_key_revoked revokes_key key ≡ false
 
--- The certificate is the host's: by an authority of the host, and good for it.
-abbrev pub IsTrustedCertificate : (List ℕ → List ℕ → List ℕ) → (Question → Bool) → ℕ → List ℕ → ℕ → Certificate → List (List ℕ) → Type 0
-IsTrustedCertificate hmac accepts t host port c lines = IsSaidOfSigned hmac host port c.signed.key c.signed.signature_key lines Trusted × IsGoodFor accepts t (plain_name host) c
+-- The certificate is the host's: by an authority of the host, not revoked, and good for the host.
+pub record IsTrustedCertificate (hmac : List ℕ → List ℕ → List ℕ) (accepts : Question → Bool) (revokes : List ℕ → Grant → Bool) (t : ℕ) (host : List ℕ) (port : ℕ) (c : Certificate) (lines : List (List ℕ)) : Type 0 where
+  pub by_authority : IsSaidOfSigned hmac host port c.signed.key c.signed.signature_key lines Trusted
+  pub unrevoked : is_certificate_revoked revokes c ≡ false
+  pub good : IsGoodFor accepts t (plain_name host) c
 
 -- ---- what is wrong with a certificate first
 

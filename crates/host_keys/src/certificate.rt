@@ -10,39 +10,40 @@ ghost use Rattle.ssh_key.specs.types.Error.TheVariants.{Memory};
 ghost use Rattle.host_keys.specs.Answers.{AsksOfLines, IsWhyNoCertificate, OkExactly};
 ghost use Rattle.host_keys.specs.Hosts.{IsBadFor, IsGoodFor, IsTrustedCertificate, lines_of, plain_name};
 
-use crate::refusal::{Refusal, answer};
+use crate::refusal::{Refusal, answer, answer_revoked};
 use crate::verdict::signed_verdict;
 use openssh_limits::{are_read_principals, is_read_text};
 use ssh_key::certificate::Field;
 use ssh_key::known_hosts::HmacSha1;
 use ssh_key::laws::key_fits;
+use ssh_key::revocation::Revocations;
 use ssh_key::{Certificate, Error, HashAlg, RawVerifier};
 use std::alloc::Global;
 
 /// Accepts the certificate that a host shows if a line `@cert-authority` of the texts of
 /// known_hosts, as OpenSSH reads them, has the key that signed it for the host at that port, no
-/// line for it revokes that key or the certified one, and the certificate is one for hosts, without
-/// critical options, with texts that ssh(1) reads (at most 256 principals, and no zero byte in one
-/// or in the key id), valid at that time for the host's name in small letters, for which ssh asks
-/// it too. So one that lists the name with capitals alone is not the host's.
+/// line for it revokes that key or the certified one, `revocations`, such as the list of
+/// `RevokedHostKeys` (ssh_config(5)), does not revoke the certificate, and the certificate is one
+/// for hosts, without critical options, with texts that ssh(1) reads (at most 256 principals, and
+/// no zero byte in one or in the key id), valid at that time for the host's name in small letters,
+/// for which ssh asks it too. So one that lists the name with capitals alone is not the host's.
 ///
 /// The texts are those of all the files that count, as for `check_key`, and are given at once.
 ///
 /// Memory may run out only where a line may be an entry, so never of texts that are empty or have
 /// comments alone. Else it refuses all others: with `Revoked` where a line revokes one of the keys,
 /// else with `Unreadable` where a line that can't be read could be one for the host, else with
-/// `Unknown` where the key that signed is no authority of the host, and else with `Certificate`
-/// and what is wrong first: `CertificateFieldInvalid` with `CertType`, `CriticalOptions`, `KeyId`
-/// or `ValidPrincipals`, or a refusal of `Certificate::validate_principal_at`. So a certificate
-/// that lists nobody is for each host of its authority (PROTOCOL.certkeys). The verifier is asked
-/// only about a certificate by an authority of the host.
+/// `Unknown` where the key that signed is no authority of the host, else with `Revoked` where
+/// `revocations` revokes the certificate, and else with `Certificate` and what is wrong first:
+/// `CertificateFieldInvalid` with `CertType`, `CriticalOptions`, `KeyId` or `ValidPrincipals`, or a
+/// refusal of `Certificate::validate_principal_at`. So a certificate that lists nobody is for each
+/// host of its authority (PROTOCOL.certkeys). `revocations` is asked only about a certificate by an
+/// authority of the host, and the verifier only about one that is not revoked.
 ///
 /// Where it would refuse a host at another port than 22 with `Unknown`, it asks, as ssh(1) does,
 /// all the texts about the host's plain name. Whether the certified key is one that the host is
-/// known by is `check_key`'s question, and not asked here. Nor is it asked whether a list of
-/// revoked keys, as that of `RevokedHostKeys` (ssh_config(5)), has one of the keys or the
-/// certificate: of revocations it knows the lines `@revoked` alone.
-pub fn check_certificate<H: HmacSha1, V: RawVerifier>(
+/// known by is `check_key`'s question, and not asked here.
+pub fn check_certificate<H: HmacSha1, R: Revocations, V: RawVerifier>(
     alloc: Global,
     texts: &[&str],
     host: &str,
@@ -50,15 +51,16 @@ pub fn check_certificate<H: HmacSha1, V: RawVerifier>(
     certificate: &Certificate,
     unix_timestamp: u64,
     hmac: &H,
+    revocations: &R,
     verifier: &V,
 ) -> Result<(), Refusal>
     requires { IsCertificate (certificate_of certificate.now) }
-    ensures exactly { OkExactly (IsTrustedCertificate (H.hmac hmac.now) (V.accepts verifier.now)
-        unix_timestamp host.now port (certificate_of certificate.now)
-        (lines_of texts.now)) result }
-    ensures refused { IfErr result (IsWhyNoCertificate (H.hmac hmac.now) (V.accepts verifier.now)
-        unix_timestamp host.now port (certificate_of certificate.now)
-        (lines_of texts.now)) }
+    ensures exactly { OkExactly (IsTrustedCertificate (H.hmac hmac.now)
+        (V.accepts verifier.now) (R.revokes revocations.now) unix_timestamp host.now port
+        (certificate_of certificate.now) (lines_of texts.now)) result }
+    ensures refused { IfErr result (IsWhyNoCertificate (H.hmac hmac.now)
+        (V.accepts verifier.now) (R.revokes revocations.now) unix_timestamp host.now port
+        (certificate_of certificate.now) (lines_of texts.now)) }
     ensures asks { AsksOfLines (lines_of texts.now) result }
 {
     key_fits();
@@ -67,6 +69,7 @@ pub fn check_certificate<H: HmacSha1, V: RawVerifier>(
         return Err(Refusal::Memory);
     };
     answer(verdict)?;
+    answer_revoked(revocations.is_certificate_revoked(alloc, certificate))?;
     match validate(alloc, certificate, host, unix_timestamp, verifier) {
         Ok(()) => Ok(()),
         Err(error) => Err(Refusal::of_certificate(error)),

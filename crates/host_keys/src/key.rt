@@ -5,16 +5,18 @@ ghost use Rattle.ssh_key.specs.keys.Keys.{key_of};
 ghost use Rattle.host_keys.specs.Answers.{AsksOfLines, IsWhyNoKey, OkExactly};
 ghost use Rattle.host_keys.specs.Hosts.{IsTrustedKey, lines_of};
 
-use crate::refusal::{Refusal, answer};
+use crate::refusal::{Refusal, answer, answer_revoked};
 use crate::verdict::key_verdict;
 use ssh_key::known_hosts::HmacSha1;
 use ssh_key::laws::one_verdict;
 use ssh_key::public::KeyData;
+use ssh_key::revocation::Revocations;
 use std::alloc::Global;
 
 /// Accepts the key that a host shows if the texts of known_hosts, as OpenSSH reads them, list the
 /// key for the host at that port, and revoke it in no line for it
-/// (`ssh_key::known_hosts::judge_key`).
+/// (`ssh_key::known_hosts::judge_key`), and if `revocations`, such as the list of `RevokedHostKeys`
+/// (ssh_config(5)), does not revoke it either.
 ///
 /// The texts are those of all the files that count, the user's and the machine's: their lines are
 /// judged as if they stood in one, as by ssh(1). So give it all of them at once: asked about one
@@ -23,27 +25,30 @@ use std::alloc::Global;
 /// Memory may run out only where a line may be an entry, so never of texts that are empty or have
 /// comments alone. Else it refuses all others: with `Revoked` where a line revokes the key, else
 /// with `Unreadable` where a line that can't be read could be one for the host, else with `Changed`
-/// where other keys are listed for it, and else with `Unknown`.
+/// where other keys are listed for it, else with `Unknown` where the key is not listed, and else
+/// with `Revoked`. So `revocations` is asked only about a key that is listed for the host.
 ///
 /// Where it would refuse a host at another port than 22 with `Unknown`, it asks, as ssh(1) does,
 /// all the texts about the host's plain name, and that answer is the answer.
-pub fn check_key<H: HmacSha1>(
+pub fn check_key<H: HmacSha1, R: Revocations>(
     alloc: Global,
     texts: &[&str],
     host: &str,
     port: u16,
     key: &KeyData,
     hmac: &H,
+    revocations: &R,
 ) -> Result<(), Refusal>
-    ensures exactly { OkExactly (IsTrustedKey (H.hmac hmac.now) host.now port (key_of key.now)
-        (lines_of texts.now)) result }
-    ensures refused { IfErr result (IsWhyNoKey (H.hmac hmac.now) host.now port (key_of key.now)
-        (lines_of texts.now)) }
+    ensures exactly { OkExactly (IsTrustedKey (H.hmac hmac.now) (R.revokes_key revocations.now)
+        host.now port (key_of key.now) (lines_of texts.now)) result }
+    ensures refused { IfErr result (IsWhyNoKey (H.hmac hmac.now) (R.revokes_key revocations.now)
+        host.now port (key_of key.now) (lines_of texts.now)) }
     ensures asks { AsksOfLines (lines_of texts.now) result }
 {
     one_verdict();
     let Ok(verdict) = key_verdict(alloc, texts, host, port, key, hmac) else {
         return Err(Refusal::Memory);
     };
-    answer(verdict)
+    answer(verdict)?;
+    answer_revoked(revocations.is_key_revoked(alloc, key))
 }

@@ -2,21 +2,24 @@
 
 ghost use Rattle.std.specs.Prelude.{◌≡◌};
 ghost use Rattle.ssh_key.specs.types.Error.TheVariants.{Memory};
-ghost use Rattle.host_keys.specs.Answers.{Names, answer_of};
+ghost use Rattle.host_keys.specs.Answers.{Names, answer_of, answer_of_revoked};
 
 use ssh_key::Error;
 use ssh_key::known_hosts::Verdict;
+use std::alloc::AllocError;
 
 /// Why what a host shows is not taken for the host's.
 #[derive(Debug, Drop)]
 pub enum Refusal {
-    /// The key is revoked: of a certificate, the certified key or the one that signed it.
+    /// What the host shows is revoked: by a line, the key, or of a certificate one of its two keys;
+    /// or by who was asked what is revoked.
     Revoked,
     /// A line can't be read that could be one for the host, perhaps a revocation.
     Unreadable,
     /// The host is known by other keys.
     Changed,
     /// Nothing is known of the host, or the key that signed the certificate is no authority of it.
+    /// Nobody was asked about revocation: before you take the key for the host's, do.
     Unknown,
     /// The certificate is by an authority of the host, but not good for it now.
     Certificate(Error),
@@ -33,6 +36,17 @@ impl Refusal {
             return Refusal::Memory;
         }
         Refusal::Certificate(error)
+    }
+}
+
+/// What follows from whether something is revoked.
+pub(crate) fn answer_revoked(revoked: Result<bool, AllocError>) -> Result<(), Refusal>
+    ensures { result ≡ answer_of_revoked revoked }
+{
+    match revoked {
+        Ok(false) => Ok(()),
+        Ok(true) => Err(Refusal::Revoked),
+        Err(_) => Err(Refusal::Memory),
     }
 }
 
