@@ -48,6 +48,13 @@ is_trusted Said Unreadable u s e = absurd cc
 is_trusted Said Changed u s e = absurd cc
 is_trusted Said Unknown u s e = absurd cc
 
+-- ---- what is accepted
+
+-- what follows from one thing, where the other is the same
+pub as_much : {P Q : Type 0} (r : Result (Unit {0}) Refusal) → (P → Q) → (Q → P) → OkExactly P r → OkExactly Q r
+as_much (Ok u) to from holds = to holds
+as_much (Err e) to from none = λ other q. none other (from q)
+
 -- only what is not revoked is accepted
 pub unrevoked : {E : Type 0} (revoked : Bool) (asked : Result Bool E) → IfOk asked (λ yes. yes ≡ revoked) → OkExactly (revoked ≡ false) (answer_of_revoked asked)
 unrevoked revoked (Ok false) is = sym is
