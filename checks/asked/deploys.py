@@ -6,6 +6,8 @@ from lib.harness import string, take
 from lib.signatures import TYPES, armoured, signed_data, told_of_file, unarmoured
 from lib.signatures import signed as by_key
 
+from .revoked_lists import list_of, saved
+
 NAMESPACE = "git"
 CONTENT = b"object 0123\ntype commit\ntag v1\n\na tag\n"
 # in front of the fields of a signature, with its version (PROTOCOL.sshsig)
@@ -30,6 +32,12 @@ CASES = [
     ("the second of several", ["{other} another", "{key} the key", "{third} a third"], {}, "signed by the key"),
     ("under two comments", ["{other} another", "{key} first", "{key} second"], {}, "signed by first"),
     ("none of several", ["{other} another", "{third} a third"], {}, "nobody"),
+    ("revoked", ["{key} the key"], {"revoked": "{key}"}, "nobody"),
+    ("revoked by its digest", ["{key} the key"], {"revoked": "sha256: {key}"}, "nobody"),
+    ("revoked, under two comments", ["{key} first", "{other} another", "{key} second"], {"revoked": "{other}\n{key}"}, "nobody"),
+    ("another key is revoked", ["{other} another", "{key} the key"], {"revoked": "{other}"}, "signed by the key"),
+    ("nothing is revoked", ["{key} the key"], {"revoked": ""}, "signed by the key"),
+    ("a list of another key that breaks off", ["{key} the key"], {"revoked": "{other}", "end": -1}, "nobody"),
 ]  # fmt: skip
 
 
@@ -48,8 +56,9 @@ def deploys(maker):
             lines = [line.format(**keys) for line in lines]
             text = "".join(line + "\n" for line in lines).encode()
             before = told_of_file(blob, content)
-            words = ["deploy", text.hex(), asked[1], asked[0].hex(), blob.hex()]
-            answer = compared(maker, lines, blob, *asked, wanted)
+            lists = [list_of(maker, it.format(**keys))[: changes.get("end")] for it in [changes.get("revoked")] if it is not None]
+            words = ["deploy", text.hex(), asked[1], asked[0].hex(), blob.hex(), *(it.hex() for it in lists)]
+            answer = compared(maker, lines, blob, *asked, lists, wanted)
             yield f"deploy key of {kind}: {case}", [before] if before else [], "\t".join(words), answer
 
 
@@ -75,21 +84,23 @@ def signed(maker, name, content, flipped, reserved):
     return blob[:-1] + bytes([blob[-1] ^ 1]) if flipped else blob
 
 
-def compared(maker, lines, blob, content, namespace, wanted):
+def compared(maker, lines, blob, content, namespace, lists, wanted):
     """The answer that is wanted, or what ssh-keygen says instead: the comment of the first line of a key alone under which it
     verifies the signature."""
     found = "nobody"
     for line in reversed(lines):
         if line.startswith("ssh-") or line.startswith("ecdsa-"):
             key, comment = bare(line), " ".join(line.split(" ")[2:])
-            found = f"signed by {comment}" if verifies(maker, key, blob, content, namespace) else found
+            found = f"signed by {comment}" if verifies(maker, key, blob, content, namespace, lists) else found
     return wanted if found == wanted else f"{wanted}, and ssh-keygen says {found}"
 
 
-def verifies(maker, key, blob, content, namespace):
+def verifies(maker, key, blob, content, namespace, lists):
     with open(maker.path("allowed"), "w", encoding="ascii") as file:
         file.write(f"somebody {key}\n")
     with open(maker.path("signature"), "w", encoding="ascii") as file:
         file.write(armoured(blob))
     words = ["-Y", "verify", "-f", maker.path("allowed"), "-I", "somebody", "-n", namespace, "-s", maker.path("signature")]
+    for data in lists:
+        words += ["-r", saved(maker, data)]
     return maker.run(*words, input=content, check=False).returncode == 0

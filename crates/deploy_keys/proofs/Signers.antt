@@ -10,7 +10,8 @@ use Rattle.ssh_key.specs.entries.Entries.{IsNoEntry}
 use Rattle.ssh_key.specs.entries.Fields.{filled_lines}
 use Rattle.ssh_key.specs.entries.Laws.{EntriesDetermineValues}
 use Rattle.ssh_key.specs.entries.OpenSshLines.{IsAuthorizedLine}
-use Rattle.ssh_key.specs.model.Keys.{IsKey}
+use Rattle.ssh_key.specs.krl.Revocations.{is_key_revoked}
+use Rattle.ssh_key.specs.model.Keys.{IsKey, Key}
 use Rattle.ssh_key.specs.model.SshSignatures.{SshSignature}
 use Rattle.ssh_key.specs.model.Verification.{Question}
 use Rattle.ssh_key.specs.sshsig.SshSignatureFormats.{ssh_signature_format}
@@ -18,7 +19,7 @@ use Rattle.ssh_key.specs.sshsig.SshSignatureReaders.{SpellsSshSignature}
 use Rattle.ssh_key.specs.types.Error.{Error}
 use Rattle.ssh_key.specs.types.Error.TheVariants.{Memory}
 use Rattle.ssh_key.proofs.Acceptance.{other_cause}
-use Rattle.deploy_keys.specs.Signers.{Answers, FindsAmong, HasSignatureFault, HasSigned, Here, IsFirst, IsSigner, JudgesEntry, JudgesLine, Later, NamesSigner, NeedsMemory, Nobody, PassesOver}
+use Rattle.deploy_keys.specs.Signers.{Answers, FindsAmong, HasSignatureFault, HasSigned, Here, IsFirst, IsSigner, IsUnrevokedSigner, JudgesEntry, JudgesLine, Later, NamesSigner, NeedsMemory, Nobody, PassesOver}
 
 -- ---- from a verdict to an answer
 
@@ -75,11 +76,28 @@ taken Signs all left rest text None was is judged with_one = absurd cc
 pub nobody : (Signs : List ℕ → List ℕ → Type 0) (all left : List (List ℕ)) → ((first : Option (List ℕ)) → IsFirst Signs left first → IsFirst Signs all first) → left ≡ [] → IsFirst Signs all None
 nobody Signs all left was is = was None (subst (λ (l : List (List ℕ)). IsFirst Signs l None) (sym is) Nobody)
 
--- ---- the signature
+-- ---- the signature, whose key is that of each signer
 
-pub named : {Y : Type 0} (accepts : Question → Bool) (keys namespace content bytes : List ℕ) (f : SshSignature) → SpellsSshSignature f bytes → (r : Result (Option (String Y)) Error) → FindsAmong (IsSigner accepts namespace content f) (filled_lines keys) r → NamesSigner accepts keys namespace content bytes r
-named accepts keys namespace content bytes f spelled (Ok found) is = (f, spelled, is)
-named accepts keys namespace content bytes f spelled (Err e) memory = λ other g read. other memory
+module _ (accepts : Question → Bool) (revokes_key : List ℕ → Bool) (namespace content : List ℕ) (f : SshSignature) where
+  -- if the key is revoked, nobody is left
+  pub none_left : is_key_revoked revokes_key f.key ≡ true → (lines : List (List ℕ)) → IsFirst (IsUnrevokedSigner accepts revokes_key namespace content f) lines None
+  none_left revoked [] = Nobody
+  none_left revoked (line ∷ lines) = Later (λ comment is.
+      let same : is_key_revoked revokes_key is.signer.entry.key ≡ true = subst (λ (k : Key). is_key_revoked revokes_key k ≡ true) is.signer.signed.verified.same_key revoked in
+      let not = is.unrevoked in
+      absurd cc) (none_left revoked lines)
+
+  module _ (unrevoked : is_key_revoked revokes_key f.key ≡ false) where
+    -- else everybody is
+    all_left : (lines : List (List ℕ)) (found : Option (List ℕ)) → IsFirst (IsSigner accepts namespace content f) lines found → IsFirst (IsUnrevokedSigner accepts revokes_key namespace content f) lines found
+    all_left [] None Nobody = Nobody
+    all_left [] (Some comment) first = elim first [ ]
+    all_left (line ∷ lines) (Some comment) (Here is) = Here (record { signer = is; unrevoked = subst (λ (k : Key). is_key_revoked revokes_key k ≡ false) is.signed.verified.same_key unrevoked })
+    all_left (line ∷ lines) found (Later none first) = Later (λ comment is. none comment is.signer) (all_left lines found first)
+
+    pub named : {Y : Type 0} (keys bytes : List ℕ) → SpellsSshSignature f bytes → (r : Result (Option (String Y)) Error) → FindsAmong (IsSigner accepts namespace content f) (filled_lines keys) r → NamesSigner accepts revokes_key keys namespace content bytes r
+    named keys bytes spelled (Ok found) is = (f, spelled, all_left (filled_lines keys) (option_map string_bytes found) is)
+    named keys bytes spelled (Err e) memory = λ other g read. other memory
 
 -- who was found, or memory ran out
 pub faultless : {Y : Type 0} (Signs : List ℕ → List ℕ → Type 0) (lines : List (List ℕ)) (bytes : List ℕ) (r : Result (Option (String Y)) Error) → FindsAmong Signs lines r → IfErr r (HasSignatureFault bytes)
