@@ -20,25 +20,30 @@ use ssh_key::revocation::Revocations;
 use ssh_key::{Certificate, Error, HashAlg, RawVerifier};
 use std::alloc::Global;
 
-/// Accepts the certificate that a host shows if a line `@cert-authority` of the texts of
-/// known_hosts, as OpenSSH reads them, has the key that signed it for the host at that port, no
-/// line for it revokes that key or the certified one, `revocations`, such as the list of
-/// `RevokedHostKeys` (ssh_config(5)), does not revoke the certificate, and the certificate is one
-/// for hosts, without critical options, with texts that ssh(1) reads (at most 256 principals, and
-/// no zero byte in one or in the key id), valid at that time for the host's name in small letters,
-/// for which ssh asks it too. So one that lists the name with capitals alone is not the host's.
+/// Accepts the certificate that a host shows if all of these hold:
+/// - a line `@cert-authority` of the texts of known_hosts, as OpenSSH reads them, has the key that
+///   signed it for the host at that port, and no line for the host revokes one of the two keys;
+/// - `revocations`, such as the list of `RevokedHostKeys` (ssh_config(5)), does not revoke it;
+/// - it is one for hosts, without critical options, with texts that ssh(1) reads: at most 256
+///   principals, and no zero byte in one or in the key id;
+/// - it is valid at that time for the host's name in small letters, for which ssh asks it too.
+///
+/// So one that lists the name with capitals alone is not the host's, and one that lists nobody is
+/// for each host of its authority (PROTOCOL.certkeys).
 ///
 /// The texts are those of all the files that count, as for `check_key`, and are given at once.
 ///
 /// Memory may run out only where a line may be an entry, so never of texts that are empty or have
-/// comments alone. Else it refuses all others: with `Revoked` where a line revokes one of the keys,
-/// else with `Unreadable` where a line that can't be read could be one for the host, else with
-/// `Unknown` where the key that signed is no authority of the host, else with `Revoked` where
-/// `revocations` revokes the certificate, and else with `Certificate` and what is wrong first:
-/// `CertificateFieldInvalid` with `CertType`, `CriticalOptions`, `KeyId` or `ValidPrincipals`, or a
-/// refusal of `Certificate::validate_principal_at`. So a certificate that lists nobody is for each
-/// host of its authority (PROTOCOL.certkeys). `revocations` is asked only about a certificate by an
-/// authority of the host, and the verifier only about one that is not revoked.
+/// comments alone. Else it fails with the first of these that fits:
+/// - `Revoked`: a line revokes one of the keys;
+/// - `Unreadable`: a line that can't be read could be one for the host;
+/// - `Unknown`: the key that signed is no authority of the host;
+/// - `Revoked`: `revocations` revokes the certificate;
+/// - `Certificate`: `CertificateFieldInvalid` with `CertType`, `CriticalOptions`, `KeyId` or
+///   `ValidPrincipals`, or a refusal of `Certificate::validate_principal_at`.
+///
+/// So `revocations` is asked only about a certificate by an authority of the host, and the verifier
+/// only about one that is not revoked.
 ///
 /// Where it would refuse a host at another port than 22 with `Unknown`, it asks, as ssh(1) does,
 /// all the texts about the host's plain name. Whether the certified key is one that the host is

@@ -15,18 +15,22 @@ use std::alloc::Global;
 
 /// Accepts the key that a host shows if the texts of known_hosts, as OpenSSH reads them, list the
 /// key for the host at that port, and revoke it in no line for it
-/// (`ssh_key::known_hosts::judge_key`), and if `revocations`, such as the list of `RevokedHostKeys`
-/// (ssh_config(5)), does not revoke it either.
+/// (`ssh_key::known_hosts::judge_key`). `revocations`, such as the list of `RevokedHostKeys`
+/// (ssh_config(5)), must not revoke it either.
 ///
 /// The texts are those of all the files that count, the user's and the machine's: their lines are
 /// judged as if they stood in one, as by ssh(1). So give it all of them at once: asked about one
 /// file alone, it may accept a key that another file revokes, or has changed at that port.
 ///
 /// Memory may run out only where a line may be an entry, so never of texts that are empty or have
-/// comments alone. Else it refuses all others: with `Revoked` where a line revokes the key, else
-/// with `Unreadable` where a line that can't be read could be one for the host, else with `Changed`
-/// where other keys are listed for it, else with `Unknown` where the key is not listed, and else
-/// with `Revoked`. So `revocations` is asked only about a key that is listed for the host.
+/// comments alone. Else it fails with the first of these that fits:
+/// - `Revoked`: a line revokes the key;
+/// - `Unreadable`: a line that can't be read could be one for the host;
+/// - `Changed`: other keys are listed for the host, and not this one;
+/// - `Unknown`: no key is listed for it;
+/// - `Revoked`: `revocations` revokes the key.
+///
+/// So `revocations` is asked only about a key that is listed for the host.
 ///
 /// Where it would refuse a host at another port than 22 with `Unknown`, it asks, as ssh(1) does,
 /// all the texts about the host's plain name, and that answer is the answer.

@@ -11,15 +11,15 @@ use std::alloc::AllocError;
 /// Why what a host shows is not taken for the host's.
 #[derive(Debug, Drop)]
 pub enum Refusal {
-    /// What the host shows is revoked: by a line, the key, or of a certificate one of its two keys;
-    /// or by who was asked what is revoked.
+    /// What the host shows is revoked: a line revokes the key, or one of the two of a certificate, or
+    /// the `revocations` that were given do.
     Revoked,
     /// A line can't be read that could be one for the host, perhaps a revocation.
     Unreadable,
     /// The host is known by other keys.
     Changed,
     /// Nothing is known of the host, or the key that signed the certificate is no authority of it.
-    /// Nobody was asked about revocation: before you take the key for the host's, do.
+    /// `revocations` was not asked: ask it before you take the key for the host's.
     Unknown,
     /// The certificate is by an authority of the host, but not good for it now.
     Certificate(Error),
