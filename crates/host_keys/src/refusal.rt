@@ -11,8 +11,8 @@ use std::alloc::AllocError;
 /// Why what a host shows is not taken for the host's.
 #[derive(Debug, Drop)]
 pub enum Refusal {
-    /// What the host shows is revoked: a line revokes the key, or one of the two of a certificate, or
-    /// the `revocations` that were given do.
+    /// What the host shows is revoked: a line revokes the key, or of a certificate one of its two
+    /// keys, or `revocations` revokes the key or the certificate.
     Revoked,
     /// A line can't be read that could be one for the host, perhaps a revocation.
     Unreadable,
