@@ -4,3 +4,4 @@ mod Forms
 mod Histories
 mod Lists
 mod Requests
+pub mod Revoked

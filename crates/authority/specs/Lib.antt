@@ -1,3 +1,4 @@
 pub mod CertifiedKeys
 pub mod Requests
 pub mod Serials
+pub mod Revoked

@@ -1,17 +1,14 @@
 //! An authority.
 
-ghost use Rattle.std.specs.Prelude.{◌≡◌, ◌<◌, ◌+◌, ◌⊎◌, ◌↔◌, ◌++◌, ◌∷◌, [], IfErr, IfOk, OnErr, OnOk, IsTrue, Contains};
-ghost use Rattle.ssh_key.specs.cert.CertificateValues.{certificate_of};
-ghost use Rattle.ssh_key.specs.keys.Keys.{key_of};
-ghost use Rattle.ssh_key.specs.model.Certificates.{AreSignedFields};
-ghost use Rattle.ssh_key.specs.model.Keys.{IsKey};
-ghost use Rattle.authority.specs.Requests.{IsLeft, IssuesExactly, IsWithin, MayIssue, next_of};
-ghost use Rattle.authority.specs.Serials.{IsHistory, RefusesSerial, serial_of};
+ghost use Rattle.std.specs.Prelude.{◌≡◌, false};
+ghost use Rattle.ssh_key.specs.krl.Written.{has_zero};
 
 use crate::certify::certify;
 use crate::limits::Limits;
 use crate::request::Request;
 use ssh_key::certificate::Field;
+use ssh_key::public::KeyData;
+use ssh_key::revocation::Krl;
 use ssh_key::{Certificate, Error, Result, SigningKey};
 use std::alloc::Global;
 use std::num::NonZeroU64;
@@ -23,9 +20,20 @@ pub struct Authority {
     limits: Limits,
     next_serial: NonZeroU64,
     revoked: Vec<u64>,
+    ghost numbered: { has_zero revoked.items ≡ false },
 }
 
 impl Authority {
+    ghost use Rattle.std.specs.Prelude.{◌<◌, ◌+◌, ◌⊎◌, ◌↔◌, ◌++◌, ◌∷◌, [], IfErr, IfOk, OnErr, OnOk, IsTrue, Contains};
+    ghost use Rattle.ssh_key.specs.cert.CertificateValues.{certificate_of};
+    ghost use Rattle.ssh_key.specs.keys.Keys.{key_of};
+    ghost use Rattle.ssh_key.specs.krl.Owned.{krl_of};
+    ghost use Rattle.ssh_key.specs.model.Certificates.{AreSignedFields};
+    ghost use Rattle.ssh_key.specs.model.Keys.{IsKey};
+    ghost use Rattle.authority.specs.Requests.{IsLeft, IssuesExactly, IsWithin, MayIssue, next_of};
+    ghost use Rattle.authority.specs.Revoked.{IsStated, RefusesToList, TakesBack};
+    ghost use Rattle.authority.specs.Serials.{IsHistory, RefusesSerial, serial_of};
+
     /// An authority with these limits that took nothing back, and whose first certificate has that
     /// serial number. No certificate has the number 0: to OpenSSH that is none, and a list of
     /// revoked keys (KRL) can't name it. Takes no memory.
@@ -87,6 +95,7 @@ impl Authority {
     /// Takes back the certificate of that serial number. Refuses 0, which no certificate has, with
     /// `CertificateFieldInvalid(Field::Serial)`, and else only when out of memory; then nothing is
     /// changed.
+    #[tactic(auto, using(crate::proofs::Revoked::numbered))]
     pub fn revoke(&mut self, serial: u64) -> Result<()>
         ensures revoked { OnOk result
             (self.new.revoked.items ≡ self.old.revoked.items ++ serial ∷ []) }
@@ -107,6 +116,25 @@ impl Authority {
         ensures { result.now ≡ self.now.revoked.items }
     {
         &self.revoked
+    }
+
+    /// A key revocation list with that number and date, in seconds since 1970, for sshd(8) and
+    /// ssh(1): it revokes the certificates that were taken back, of those that this key signed, and
+    /// nothing else. Give each list a higher number than the one before.
+    ///
+    /// Fails with `Length` where the serial numbers or the key have 2^32 bytes or more, and
+    /// otherwise only when out of memory.
+    pub fn krl(&self, alloc: Global, number: u64, date: u64, public_key: &KeyData) -> Result<Krl>
+        requires { IsKey (key_of public_key.now) }
+        ensures stated { IfOk result (λ k. IsStated number date (krl_of k)) }
+        ensures revoked { IfOk result
+            (λ k. TakesBack (key_of public_key.now) self.now.revoked.items (krl_of k)) }
+        ensures refused { IfErr result (RefusesToList (key_of public_key.now)
+            self.now.revoked.items) }
+    {
+        let mut krl = Krl::new(alloc, number, date, "")?;
+        krl.revoke_serials(Some(public_key), &self.revoked)?;
+        Ok(krl)
     }
 
     /// Whether the certificate of that serial number was taken back.

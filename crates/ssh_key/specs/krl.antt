@@ -5,3 +5,5 @@ pub use Rattle.sshkey_krl.specs.Sections
 pub use Rattle.sshkey_krl.specs.Krls
 pub use Rattle.sshkey_krl.specs.KrlRef
 pub use Rattle.sshkey_krl.specs.Revocations
+pub use Rattle.sshkey_krl.specs.Written
+pub use Rattle.sshkey_krl.specs.Owned

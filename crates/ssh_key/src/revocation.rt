@@ -1,3 +1,3 @@
 //! Key revocation lists: which keys and certificates no longer count (PROTOCOL.krl).
 
-pub use sshkey_krl::{KrlRef, NoRevocations, Revocations};
+pub use sshkey_krl::{Krl, KrlRef, NoRevocations, Revocations};

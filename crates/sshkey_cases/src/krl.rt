@@ -1,8 +1,12 @@
 //! Key revocation lists.
 
-use crate::bytes::part;
-use sshkey_base::{Decode, Result};
-use sshkey_krl::KrlRef;
+ghost use Rattle.sshkey_krl.specs.Owned.{authority_of};
+ghost use Rattle.sshkey_krl.specs.Written.{IsAuthority};
+
+use crate::bytes::{NO_LINE, part};
+use sshkey_base::{Decode, Result, decode_whole};
+use sshkey_keys::KeyData;
+use sshkey_krl::{Krl, KrlRef};
 use std::alloc::Global;
 
 /// What the list that the first byte string spells says of the key that the second one is; and of
@@ -39,4 +43,66 @@ fn revokes(
 /// The words of ssh-keygen(1).
 fn word(is_revoked: bool) -> &'static str {
     if is_revoked { "REVOKED" } else { "ok" }
+}
+
+/// The bytes of a list, with the number 7, the date 8 and a comment, of what is revoked: the first
+/// byte string is the key of the authority, or empty for everybody. Each one after it is the number
+/// of a section or a part, and what is to stand there: one key, serial numbers, a range or a key id.
+pub(crate) fn made(alloc: Global, parts: &[Vec<u8>]) -> Result<String> {
+    let mut list = Krl::new(alloc, 7, 8, "a list")?;
+    if part(parts, 0).is_empty() {
+        add_all(alloc, None, parts, &mut list)?;
+    } else {
+        let authority: KeyData = decode_whole(alloc, part(parts, 0))?;
+        add_all(alloc, Some(&authority), parts, &mut list)?;
+    }
+    Ok(hex::encode(alloc, list.as_bytes())?)
+}
+
+fn add_all(
+    alloc: Global,
+    authority: Option<&KeyData>,
+    parts: &[Vec<u8>],
+    list: &mut Krl,
+) -> Result<()>
+    requires { IsAuthority (authority_of authority) }
+{
+    for it in parts.iter().skip(1) {
+        add(alloc, authority, it, list)?;
+    }
+    Ok(())
+}
+
+fn add(alloc: Global, authority: Option<&KeyData>, added: &[u8], list: &mut Krl) -> Result<()>
+    requires { IsAuthority (authority_of authority) }
+{
+    let Some((number, bytes)) = added.split_first() else {
+        return Err(NO_LINE);
+    };
+    match number {
+        2 => {
+            let key: KeyData = decode_whole(alloc, bytes)?;
+            list.revoke_key(&key)
+        }
+        0x20 => list.revoke_serials(authority, &numbers(alloc, bytes)?),
+        0x21 => {
+            let ends = numbers(alloc, bytes)?;
+            let (Some(first), Some(last)) = (ends.first(), ends.last()) else {
+                return Err(NO_LINE);
+            };
+            list.revoke_range(authority, *first, *last)
+        }
+        0x23 => list.revoke_key_id(authority, std::str::from_utf8(bytes)?),
+        _ => Err(NO_LINE),
+    }
+}
+
+/// The numbers of eight bytes up to the end.
+fn numbers(alloc: Global, bytes: &[u8]) -> Result<Vec<u64>> {
+    let mut rest = bytes;
+    let mut numbers = Vec::new(alloc);
+    for _ in 0..bytes.len() / 8 {
+        numbers.push(u64::decode(alloc, &mut rest)?)?;
+    }
+    Ok(numbers)
 }

@@ -213,6 +213,7 @@ fn answer_of_slices(alloc: Global, question: &str, parts: &[Vec<u8>]) -> Result<
         "validity-slice" | "validity-of-slice" => validity::slice(alloc, parts),
         "accepted-slice" => signatures::accepted_slice(alloc, parts),
         "krl" => krl::said(alloc, parts),
+        "krl-made" => krl::made(alloc, parts),
         _ => answer_of_certificates(alloc, question, parts),
     }
 }

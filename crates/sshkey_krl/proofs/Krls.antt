@@ -121,6 +121,17 @@ none_spelled b f e k s =
 
 -- ---- what it revokes
 
+-- each of three of both
+pub of_both : (a b c d e f : Bool) → ((a || d) || ((b || e) || (c || f))) ≡ ((a || (b || c)) || (d || (e || f)))
+of_both true b c d e f = refl
+of_both false true c true e f = refl
+of_both false true c false e f = refl
+of_both false false true true e f = refl
+of_both false false true false true f = refl
+of_both false false true false false f = refl
+of_both false false false true e f = refl
+of_both false false false false e f = refl
+
 any_or : {X : Type 0} (p q : X → Bool) (xs : List X) → list_any (λ x. p x || q x) xs ≡ (list_any p xs || list_any q xs)
 any_or p q [] = refl
 any_or p q (x ∷ xs) = rw (any_or p q xs) (go (p x) (q x) (list_any p xs) (list_any q xs))

@@ -6,3 +6,5 @@ pub mod Wholes
 pub mod Authorities
 pub mod Sections
 pub mod Krls
+pub mod Writing
+pub mod Grown

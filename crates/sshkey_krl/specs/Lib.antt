@@ -6,4 +6,6 @@ pub mod Sections
 pub mod Krls
 pub mod Asked
 pub mod KrlRef
+pub mod Written
+pub mod Owned
 pub mod Revocations

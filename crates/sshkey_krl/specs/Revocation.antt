@@ -1,5 +1,5 @@
 -- What a key revocation list says (OpenSSH's PROTOCOL.krl), and what it revokes.
-use Rattle.std.specs.Prelude.{ℕ, List, ◌++◌, length, take, ◌-◌, Bool, true, false, not, ◌&&◌, ◌||◌, ◌==◌, bytes_eq, if◌then◌else◌}
+use Rattle.std.specs.Prelude.{ℕ, List, [], ◌∷◌, ◌++◌, length, take, ◌-◌, Bool, true, false, not, ◌&&◌, ◌||◌, ◌==◌, bytes_eq, if◌then◌else◌}
 use Rattle.std.specs.List.{list_any, slice_index}
 use Rattle.sha1.specs.Sha1.{sha1}
 use Rattle.sha2.specs.Sha256.{sha256}
@@ -86,6 +86,16 @@ grant_of c = grant (flat (normal_key c.signed.signature_key)) c.signed.serial c.
 
 abbrev pub revokes_certificate : Krl → Certificate → Bool
 revokes_certificate krl c = revokes krl (flat (normal_key c.signed.key)) (grant_of c)
+
+-- ---- lists that are made
+
+-- a list without sections
+abbrev pub begun : ℕ → ℕ → List ℕ → Krl
+begun number date comment = record { number = number; date = date; flags = 0; reserved = []; comment = comment; sections = [] }
+
+-- the list with one section more
+abbrev pub with_section : Krl → Section → Krl
+with_section k s = record { number = k.number; date = k.date; flags = k.flags; reserved = k.reserved; comment = k.comment; sections = k.sections ++ s ∷ [] }
 
 -- ---- two lists
 

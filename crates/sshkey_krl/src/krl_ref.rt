@@ -19,7 +19,7 @@ use sshkey_terms::ReadFrom;
 /// A key revocation list as the bytes that spell it (PROTOCOL.krl). Reading does not allocate.
 #[derive(Clone, Copy, Debug)]
 pub struct KrlRef<'a> {
-    bytes: &'a [u8],
+    pub(crate) bytes: &'a [u8],
     pub ghost form: { is_taken (whole krl_format.read bytes.now) ≡ true },
 }
 

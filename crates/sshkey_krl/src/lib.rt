@@ -1,13 +1,15 @@
 //! Key revocation lists, as ssh-keygen(1) writes and sshd(8) reads them (OpenSSH's PROTOCOL.krl).
 //!
-//! `KrlRef` reads a list in place and says which keys and certificates it revokes. It has no list
-//! that owns its bytes, writes none, and rejects the signatures of a list.
+//! `KrlRef` reads a list in place and says which keys and certificates it revokes. `Krl` owns its
+//! bytes, and adds what is to be revoked. Both reject the signatures of a list.
 #![tactic(auto)]
 
 mod asked_key;
 mod authority;
+mod encode;
 mod header;
 mod item;
+mod krl;
 mod krl_ref;
 pub mod laws;
 mod numbered;
@@ -18,5 +20,6 @@ mod section;
 mod serials;
 mod text;
 
+pub use krl::Krl;
 pub use krl_ref::KrlRef;
 pub use revocations::{NoRevocations, Revocations};

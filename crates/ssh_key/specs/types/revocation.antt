@@ -1,2 +1,3 @@
+pub use Rattle.sshkey_krl.specs.declared.krl.Krl
 pub use Rattle.sshkey_krl.specs.declared.krl_ref.KrlRef
 pub use Rattle.sshkey_krl.specs.declared.revocations.NoRevocations

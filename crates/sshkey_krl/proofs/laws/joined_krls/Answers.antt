@@ -1,19 +1,8 @@
-use Rattle.std.proofs.Common.{◌≡◌, Bool, true, false, ◌||◌, refl}
 use Rattle.std.specs.List.{list_any}
 use Rattle.std.proofs.lemmas.List.Folds.{list_any-append}
 use Rattle.sshkey_krl.specs.Revocation.{has_key, lists}
+use Rattle.sshkey_krl.proofs.Krls.{of_both}
 use Rattle.sshkey_krl.proofs.laws.joined_krls.Goals as goal
-
--- each of three of both
-of_both : (a b c d e f : Bool) → ((a || d) || ((b || e) || (c || f))) ≡ ((a || (b || c)) || (d || (e || f)))
-of_both true b c d e f = refl
-of_both false true c true e f = refl
-of_both false true c false e f = refl
-of_both false false true true e f = refl
-of_both false false true false true f = refl
-of_both false false true false false f = refl
-of_both false false false true e f = refl
-of_both false false false false e f = refl
 
 pub returns-clause-keys : goal.returns-clause-keys
 returns-clause-keys c = λ k l key. list_any-append (has_key key) k.sections l.sections

@@ -1,0 +1,48 @@
+-- The list of what an authority took back revokes that, and nothing else.
+use Rattle.std.proofs.Common.{◌≡◌, inl, inr, ℕ, zero, suc, Bool, true, false, not, ◌&&◌, ◌||◌, List, [], ◌∷◌, ◌++◌, refl, sym, arith}
+use Rattle.std.specs.Prelude.{◌==◌, bytes_eq}
+use Rattle.std.specs.List.{list_any}
+use Rattle.ssh_key.specs.krl.Revocation.{Certificates, Krl, Numbers, Section, Signer, begun, with_section}
+use Rattle.ssh_key.specs.krl.Serials.{Listed}
+use Rattle.ssh_key.specs.krl.Written.{RefusesToWrite, certificates_section, has_zero, header, serials_part}
+use Rattle.ssh_key.specs.model.Keys.{Key, normal_key}
+use Rattle.ssh_key.specs.model.Parts.{BoxesFit, flat}
+use Rattle.ssh_key.specs.types.Error.{Error}
+use Rattle.authority.specs.Revoked.{IsStated, RefusesToList, TakesBack}
+
+or_none : (b : Bool) → ((b || false) || false) ≡ b
+or_none true = refl
+or_none false = refl
+
+said : (by : Bool) (n : ℕ) (ns : List ℕ) → has_zero ns ≡ false → ((by && ((not (n == 0) && list_any (λ m. m == n) ns) || false)) || false) ≡ (by && list_any (λ m. m == n) ns)
+said false n ns some = refl
+said true zero ns some = sym some
+said true (suc n) ns some = or_none (list_any (λ m. m == suc n) ns)
+
+pub takes_back : (authority : Key) (serials : List ℕ) (n d : ℕ) (comment : List ℕ) (k : Krl) → has_zero serials ≡ false → k ≡ with_section (begun n d comment) (Certificates (Signer authority) (Numbers (Listed serials) ∷ [])) → TakesBack authority serials k
+takes_back authority serials n d comment k some is = rw is (record { keys = λ key. refl; certificates = λ key grant. said (bytes_eq grant.signer (flat (normal_key authority))) grant.serial serials some })
+
+pub stated : (n d : ℕ) (comment : List ℕ) (s : Section) (k : Krl) → k ≡ with_section (begun n d comment) s → IsStated n d k
+stated n d comment s k is = rw is (refl, refl)
+
+-- one more that is not 0
+pub numbered : (ns : List ℕ) (n : ℕ) → has_zero ns ≡ false → (n == 0) ≡ false → has_zero (ns ++ n ∷ []) ≡ false
+numbered [] n none some = rw some refl
+numbered (m ∷ ns) n none some = go (m == 0) none
+  where
+    go : (b : Bool) → (b || has_zero ns) ≡ false → (b || has_zero (ns ++ n ∷ [])) ≡ false
+    go false e = numbered ns n e some
+
+-- ---- why no list is made
+
+header_fits : (n d : ℕ) → BoxesFit (header n d [])
+unfolding BoxesFit flat
+header_fits n d = ((tt, tt), ((tt, tt), (tt, ((omega arith, tt), (omega arith, tt)))))
+
+pub none_begun : (n d : ℕ) (authority : Key) (serials : List ℕ) (e : Error) → RefusesToWrite (header n d []) e → RefusesToList authority serials e
+none_begun n d authority serials e (inl long) = absurd (long.0 (header_fits n d))
+none_begun n d authority serials e (inr memory) = inr memory.1
+
+pub none_added : (authority : Key) (serials : List ℕ) (e : Error) → RefusesToWrite (certificates_section (Signer authority) (serials_part serials)) e → RefusesToList authority serials e
+none_added authority serials e (inl long) = inl long
+none_added authority serials e (inr memory) = inr memory.1

@@ -1,0 +1,58 @@
+-- How what is revoked is written: each time one section more, of one part (PROTOCOL.krl).
+use Rattle.std.specs.Prelude.{◌≡◌, ◌⊎◌, ◌==◌, ℕ, Bool, List, [], ◌++◌, Result, Ok, Err}
+use Rattle.std.specs.List.{list_any}
+use Rattle.std.specs.Int.{w8, w32, w64}
+use Rattle.sshkey_base.specs.declared.encoding.Error.TheVariants as encoding
+use Rattle.sshkey_base.specs.declared.error.Error.{Error}
+use Rattle.sshkey_base.specs.declared.error.Error.TheVariants as wide
+use Rattle.sshkey_model.specs.Keys.{IsKey, normal_key}
+use Rattle.sshkey_model.specs.Parts.{Parts, BoxesFit, Fits, number, box, each, flat, ◌&◌}
+use Rattle.sshkey_model.specs.Texts.{string}
+use Rattle.sshkey_krl.specs.Revocation.{Authority, Everybody, Signer}
+
+-- A number or a byte of them is 0, which no list may have there.
+abbrev pub has_zero : List ℕ → Bool
+has_zero xs = list_any (λ x. x == 0) xs
+
+-- The key is well-formed, where one is given.
+abbrev pub IsAuthority : Authority → Type 0
+IsAuthority Everybody = Unit {0}
+IsAuthority (Signer key) = IsKey key
+
+-- what stands before the sections, where nothing is flagged or reserved; the magic is a number here
+abbrev pub header : ℕ → ℕ → List ℕ → Parts
+header version date comment = (number w64 0x5353484b524c0a00 & number w32 1) & (number w64 version & number w64 date) & number w64 0 & string [] & string comment
+
+-- what a number calls for, in a string
+abbrev pub framed : ℕ → Parts → Parts
+framed n body = number w8 n & box body
+
+-- a section of the one key, whose parts are given
+abbrev pub key_section : Parts → Parts
+key_section key = framed 2 (box key)
+
+abbrev pub authority_string : Authority → Parts
+authority_string Everybody = string []
+authority_string (Signer key) = box (normal_key key)
+
+-- a section of the one part about certificates of the authority
+abbrev pub certificates_section : Authority → Parts → Parts
+certificates_section authority part = framed 1 (authority_string authority & string [] & part)
+
+abbrev pub serials_part : List ℕ → Parts
+serials_part serials = framed 0x20 (each (number w64) serials)
+
+abbrev pub range_part : ℕ → ℕ → Parts
+range_part first last = framed 0x21 (number w64 first & number w64 last)
+
+abbrev pub key_id_part : List ℕ → Parts
+key_id_part key_id = framed 0x23 (string key_id)
+
+-- A string in the parts is too long, or memory ran out.
+abbrev pub RefusesToWrite : Parts → Error → Type 0
+RefusesToWrite p e = ((BoxesFit p → ⊥) × (e ≡ wide.Encoding encoding.Length)) ⊎ (BoxesFit p × (e ≡ wide.Memory))
+
+-- The bytes of the parts are added; or none are, where they are too long or memory ran out.
+abbrev pub Appends : Parts → List ℕ → Result (Unit {0}) Error → List ℕ → Type 0
+Appends p before (Ok _) after = Fits p × (after ≡ before ++ flat p)
+Appends p before (Err e) after = RefusesToWrite p e × (after ≡ before)
