@@ -73,7 +73,7 @@ pub mod public {
 
 /// Revocation lists.
 pub mod revocation {
-    pub use ssh_key::revocation::{KrlRef, NoRevocations, Revocations};
+    pub use ssh_key::revocation::{Krl, KrlRef, NoRevocations, Revocations};
 }
 
 /// The laws.
@@ -143,6 +143,7 @@ pub mod laws {
     pub use ssh_key::laws::exact_private_key;
     pub use ssh_key::laws::exact_ssh_signature;
     pub use ssh_key::laws::fingerprint_texts;
+    pub use ssh_key::laws::grown_krls;
     pub use ssh_key::laws::joined_krls;
     pub use ssh_key::laws::key_fits;
     pub use ssh_key::laws::lines;
