@@ -1,29 +1,45 @@
 //! Asks the login policy.
 
+use crate::revoked::{lists, read_lists};
 use crate::verified::Told;
 use crate::words::{NO_LINE, fingerprints, number};
-use login_policy::{Grant, log_in};
-use ssh_key::{PublicKey, Result};
+use login_policy::{Grant, Refusal, log_in};
+use ssh_key::{Error, PublicKey, Result};
 use std::alloc::{AllocError, Global};
 
 /// Whether the user is let in, who is the first word, at the second that is the second one, with
-/// the offered key, by the certificate, and by the authorities with the fingerprints in the last
-/// word.
+/// the offered key, by the certificate, by the authorities with the fingerprints in the word behind
+/// it, and by the lists of what is revoked in all the others.
 pub(crate) fn answer(alloc: Global, words: &[&str], told: &Told) -> Result<String> {
-    let [user, seconds, offered, certificate, authorities] = words else {
+    let [
+        user,
+        seconds,
+        offered,
+        certificate,
+        authorities,
+        revoked @ ..,
+    ] = words
+    else {
         return Err(NO_LINE);
     };
     let offered = PublicKey::from_openssh(alloc, offered)?;
-    let grant = log_in(
+    let lists = lists(alloc, revoked)?;
+    let answer = log_in(
         alloc,
         certificate,
         user,
         offered.key_data(),
         number(seconds)?,
         &fingerprints(alloc, authorities)?,
+        &read_lists(alloc, &lists)?.as_slice(),
         told,
-    )?;
-    Ok(shown(alloc, &grant)?)
+    );
+    match answer {
+        Ok(grant) => Ok(shown(alloc, &grant)?),
+        Err(Refusal::Certificate(error)) => Err(error),
+        Err(Refusal::Revoked) => Ok(String::from_str(alloc, "revoked")?),
+        Err(Refusal::Memory) => Err(Error::Memory),
+    }
 }
 
 /// What a login is bound to, and what is permitted.

@@ -1,57 +1,62 @@
-//! Whether an authority vouches for a certificate.
+//! Whether an authority vouches for a certificate, and nobody has revoked it.
 
-ghost use Rattle.std.specs.Prelude.{◌≡◌, IfErr, IfOk, IsTrue, OnOk};
+ghost use Rattle.std.specs.Prelude.{◌≡◌, ◌≢◌, false, IfErr, IfOk, OnOk};
 ghost use Rattle.ssh_key.specs.cert.CertificateValues.{certificate_of};
-ghost use Rattle.ssh_key.specs.cert.Validity.{JudgesFor, fingerprints_of};
+ghost use Rattle.ssh_key.specs.cert.Validity.{fingerprints_of};
+ghost use Rattle.ssh_key.specs.keys.Fingerprints.{IsFingerprint};
+ghost use Rattle.ssh_key.specs.krl.Revocations.{is_certificate_revoked};
 ghost use Rattle.ssh_key.specs.model.Keys.{normal_key};
+ghost use Rattle.ssh_key.specs.model.Names.{Sha256};
 ghost use Rattle.ssh_key.specs.model.Parts.{BoxesFit};
-ghost use Rattle.ssh_key.specs.model.Refusals.{has_trusted_authority};
-ghost use Rattle.ssh_key.specs.types.Error.TheVariants.{Memory};
-ghost use Rattle.login_policy.specs.Logins.{NeedsFingerprint, NeedsJudging};
+ghost use Rattle.ssh_key.specs.model.Principals.{IsValidFor};
+ghost use Rattle.login_policy.specs.Refusals.{IsUntrusted, NeedsJudging};
+ghost use Rattle.login_policy.specs.declared.refusal.Refusal.TheVariants.{Memory};
 
+use crate::refusal::Refusal;
 use ssh_key::certificate::contains_digest;
-use ssh_key::laws::certificates::refused_or_wanted;
-use ssh_key::{Certificate, Error, Fingerprint, HashAlg, RawVerifier, Result};
+use ssh_key::revocation::Revocations;
+use ssh_key::{Certificate, Error, Fingerprint, HashAlg, RawVerifier};
 use std::alloc::Global;
 
-/// Validates the certificate as `Certificate::validate_principal_at` does, but asks the verifier
-/// only about one by one of the authorities: anybody can sign with a key of his own.
-pub(crate) fn validate<V: RawVerifier>(
+/// Validates the certificate as `Certificate::validate_principal_at` does, and returns the SHA-256
+/// fingerprint of the key that signed it. Before the verifier it asks whether that is the key of one
+/// of the authorities, since anybody can sign with a key of their own, and then whether the
+/// certificate is revoked.
+pub(crate) fn validate<R: Revocations, V: RawVerifier>(
     alloc: Global,
     certificate: &Certificate,
     user: &str,
     unix_timestamp: u64,
     authorities: &[Fingerprint],
+    revocations: &R,
     verifier: &V,
-) -> Result<()>
+) -> Result<Fingerprint, Refusal>
     requires { BoxesFit (normal_key (certificate_of certificate.now).signed.signature_key) }
-    ensures judged { JudgesFor (V.accepts verifier.now) authorities.now unix_timestamp user.now
-        (certificate_of certificate.now) result }
-    ensures trusted { OnOk result (IsTrue (has_trusted_authority (fingerprints_of authorities.now)
-        (certificate_of certificate.now))) }
-    ensures memory { IfErr result (λ e. e ≡ Memory → NeedsJudging (fingerprints_of authorities.now)
+    ensures valid { OnOk result (IsValidFor (V.accepts verifier.now)
+        (fingerprints_of authorities.now) unix_timestamp user.now
         (certificate_of certificate.now)) }
-{
-    refused_or_wanted();
-    if !is_by_one_of(alloc, certificate, authorities)? {
-        return Err(Error::CertificateValidation);
-    }
-    certificate.validate_principal_at(alloc, unix_timestamp, user, authorities, verifier)
-}
-
-/// Whether the key that signed has one of these SHA-256 fingerprints.
-fn is_by_one_of(
-    alloc: Global,
-    certificate: &Certificate,
-    authorities: &[Fingerprint],
-) -> Result<bool>
-    requires { BoxesFit (normal_key (certificate_of certificate.now).signed.signature_key) }
-    ensures answer { IfOk result (λ yes. yes ≡ has_trusted_authority
-        (fingerprints_of authorities.now) (certificate_of certificate.now)) }
-    ensures memory { IfErr result (NeedsFingerprint (certificate_of certificate.now)) }
+    ensures unrevoked { OnOk result (is_certificate_revoked (R.revokes revocations.now)
+        (certificate_of certificate.now) ≡ false) }
+    ensures authority { IfOk result
+        (IsFingerprint Sha256 (certificate_of certificate.now).signed.signature_key) }
+    ensures refused { IfErr result (λ r. r ≢ Memory → IsUntrusted (V.accepts verifier.now)
+        (R.revokes revocations.now) (fingerprints_of authorities.now) unix_timestamp user.now
+        (certificate_of certificate.now) r) }
+    ensures memory { IfErr result (λ r. r ≡ Memory → NeedsJudging (fingerprints_of authorities.now)
+        (certificate_of certificate.now)) }
 {
     let authority = certificate
         .signature_key()
         .fingerprint(alloc, HashAlg::Sha256)?;
-    Ok(contains_digest(authorities, authority.as_bytes()))
+    if !contains_digest(authorities, authority.as_bytes()) {
+        return Err(Refusal::Certificate(Error::CertificateValidation));
+    }
+    let Ok(is_revoked) = revocations.is_certificate_revoked(alloc, certificate) else {
+        return Err(Refusal::Memory);
+    };
+    if is_revoked {
+        return Err(Refusal::Revoked);
+    }
+    certificate.validate_principal_at(alloc, unix_timestamp, user, authorities, verifier)?;
+    Ok(authority)
 }

@@ -2,12 +2,14 @@
 
 ghost use Rattle.std.specs.Prelude.{◌≡◌, ◌↔◌, IfErr, IfOk, IsTrue, option_map, string_bytes};
 ghost use Rattle.ssh_key.specs.cert.CertificateValues.{certificate_of};
+ghost use Rattle.ssh_key.specs.keys.Fingerprints.{IsFingerprint};
+ghost use Rattle.ssh_key.specs.model.Names.{Sha256};
 ghost use Rattle.ssh_key.specs.types.Error.TheVariants.{Memory};
 ghost use Rattle.login_policy.specs.Logins.{IsGrantOf, IsUnbound};
 
 use crate::options::{FORCE_COMMAND, NO_TOUCH_REQUIRED, SOURCE_ADDRESS, VERIFY_REQUIRED};
 use ssh_key::certificate::OptionsMap;
-use ssh_key::{Certificate, Result};
+use ssh_key::{Certificate, Fingerprint, Result};
 use std::alloc::Global;
 
 /// What a certificate binds a login to, and what it permits (PROTOCOL.certkeys).
@@ -34,6 +36,12 @@ pub struct Grant {
     /// that the user's `~/.ssh/rc` runs by `permit-user-rc`. What has no extension here is not
     /// permitted, and an extension that is not known is to be ignored.
     pub extensions: OptionsMap,
+    /// The certificate's serial number, by which it can be revoked; 0 stands for none.
+    pub serial: u64,
+    /// The certificate's key id, which sshd(8) writes to its log.
+    pub key_id: String,
+    /// The SHA-256 fingerprint of the authority's key.
+    pub authority: Fingerprint,
 }
 
 impl Grant {
@@ -47,8 +55,15 @@ impl Grant {
     }
 }
 
-/// What the certificate's options say. Fails only when out of memory.
-pub(crate) fn grant_of(alloc: Global, certificate: &Certificate) -> Result<Grant>
+/// What the certificate's options say, which the key with that fingerprint signed. Fails only when
+/// out of memory.
+pub(crate) fn grant_of(
+    alloc: Global,
+    certificate: &Certificate,
+    authority: Fingerprint,
+) -> Result<Grant>
+    requires { IsFingerprint Sha256 (certificate_of certificate.now).signed.signature_key
+        authority }
     ensures value { IfOk result (λ g. IsGrantOf (certificate_of certificate.now) g) }
     ensures memory { IfErr result (λ e. e ≡ Memory) }
 {
@@ -61,6 +76,9 @@ pub(crate) fn grant_of(alloc: Global, certificate: &Certificate) -> Result<Grant
         verify_required: options.contains_key(VERIFY_REQUIRED),
         touch_required: !certificate.extensions().contains_key(NO_TOUCH_REQUIRED),
         extensions: certificate.extensions().try_clone(alloc)?,
+        serial: certificate.serial(),
+        key_id: String::from_str(alloc, certificate.key_id())?,
+        authority,
     })
 }
 

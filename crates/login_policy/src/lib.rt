@@ -9,6 +9,8 @@ mod key;
 mod login;
 mod options;
 mod principals;
+mod refusal;
 
 pub use grant::Grant;
 pub use login::log_in;
+pub use refusal::Refusal;
