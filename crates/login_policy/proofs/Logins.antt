@@ -1,35 +1,39 @@
 -- What the validation of a certificate decides.
-use Rattle.std.proofs.Common.{◌≡◌, ◌≢◌, ◌⊎◌, ◌==◌, ℕ, List, [], ◌∷◌, length, map, Bool, true, false, IsTrue, None, Some, option_map, Result, Ok, Err, IfOk, IfErr, OnOk, ap, arith, inl, inr, refl, subst, sym, ◌∙◌}
+use Rattle.std.proofs.Common.{◌≡◌, ◌≢◌, ◌⊎◌, ◌==◌, ℕ, List, [], ◌∷◌, length, map, Bool, true, false, IsTrue, None, Some, option_map, Result, Ok, Err, IfOk, IfErr, ap, arith, inl, inr, refl, subst, sym, ◌∙◌}
 use Rattle.std.proofs.lemmas.Bool.Decides.{nat_tests}
 use Rattle.std.specs.List.{list_any}
-use Rattle.std.specs.Prelude.{All, Contains, String, string_bytes}
-use Rattle.ssh_key.specs.base.Acceptance.{AcceptsExactly}
+use Rattle.std.specs.Prelude.{Contains, String, string_bytes}
 use Rattle.ssh_key.specs.base.Causes.{NoMemory, cause}
 use Rattle.ssh_key.specs.cert.CertificateFormats.{certificate_format}
 use Rattle.ssh_key.specs.cert.CertificateReaders.{SpellsCertificate}
-use Rattle.ssh_key.specs.cert.Validity.{JudgesFor, fingerprints_of, refusal_error}
-use Rattle.ssh_key.specs.model.Certificates.{Certificate, HasCertificatePlaces, IsCertificate, User, certificate, normal_certificate}
+use Rattle.ssh_key.specs.cert.Validity.{fingerprints_of, refusal_error}
 use Rattle.ssh_key.specs.fingerprints.Fingerprints.{digest_of}
 use Rattle.ssh_key.specs.keys.Fingerprints.{GivesFingerprint, IsFingerprint, IsShort}
+use Rattle.ssh_key.specs.krl.Revocation as krl
+use Rattle.ssh_key.specs.model.Certificates.{Certificate, HasCertificatePlaces, IsCertificate, certificate, normal_certificate}
 use Rattle.ssh_key.specs.model.Fingerprints.{Fingerprint, digest, same_fingerprint}
 use Rattle.ssh_key.specs.model.Keys.{Key, normal_key}
 use Rattle.ssh_key.specs.model.Laws.{NormalFits}
-use Rattle.ssh_key.specs.model.Lines.{name_of_certificate, IsCertificateLine, IsNoLine, IsWithout, LinesDetermineValues}
+use Rattle.ssh_key.specs.model.Lines.{name_of_certificate, IsCertificateLine, IsNoLine, LinesDetermineValues}
 use Rattle.ssh_key.specs.model.Names.{Sha256}
 use Rattle.ssh_key.specs.model.Parts.{BoxesFit, flat}
-use Rattle.ssh_key.specs.model.Principals.{Allows}
+use Rattle.ssh_key.specs.model.Principals.{Allows, IsValidFor}
 use Rattle.ssh_key.specs.model.Refusals.{RefuseTheUnwanted, first_refusal_for, has_trusted_authority, is_signed}
 use Rattle.ssh_key.specs.model.Verification.{Question}
 use Rattle.ssh_key.specs.public.LineNeeds.{HasComment, NeedsValue}
 use Rattle.ssh_key.specs.types.Error.{Error}
-use Rattle.ssh_key.specs.types.Error.TheVariants.{CertificateValidation, Memory}
+use Rattle.ssh_key.specs.types.Error.TheVariants as error
 use Rattle.ssh_key.specs.types.Fingerprint as code
 use Rattle.ssh_key.proofs.Acceptance.{other_cause}
 use Rattle.ssh_key.proofs.Validation.{fingerprint_memory, signer_fits}
-use Rattle.login_policy.specs.KnownOptions.{IsKnown, IsPlainExtension}
-use Rattle.login_policy.specs.Logins.{GrantsExactly, IsGrantOf, IsLogin, IsOwn, LetsIn, NeedsFingerprint, NeedsJudging, NeedsMemory, NotValid, Refuses}
+use Rattle.login_policy.specs.Logins.{GrantsExactly, HasRightFields, IsGrantOf, IsLogin, LetsIn}
 use Rattle.login_policy.specs.Principals.{AreFor}
+use Rattle.login_policy.specs.Refusals.{ForHosts, HasWrongField, IsRevoked, IsUntrusted, Names, NeedsMemory, NeedsJudging, NotValid, OtherAuthority, OtherExtension, OtherKey, OtherKeyId, OtherPrincipals, Refuses, RefusesLine, UnknownOption}
 use Rattle.login_policy.specs.declared.grant.Grant.{Grant}
+use Rattle.login_policy.specs.declared.refusal.Refusal.{Refusal}
+use Rattle.login_policy.specs.declared.refusal.Refusal.TheVariants.{Certificate as of_certificate, Memory}
+
+-- ---- principals
 
 pub somebody : {Y : Type 0} (names : List (String Y)) → (length names == 0) ≡ false → map string_bytes names ≢ []
 somebody [] some = absurd cc
@@ -46,80 +50,101 @@ listed : (c : Certificate) (user : List ℕ) → AreFor user c.signed.valid_prin
 listed c user names (inl none) = absurd (names.some none)
 listed c user names (inr among) = among
 
--- the validation decides
-pub lets_in : (accepts : Question → Bool) (given : List code.Fingerprint) (t : ℕ) (user : List ℕ) (offered : Key) (c : Certificate) → c.signed.certificate_type ≡ User → IsOwn offered c → All IsKnown c.signed.critical_options → All IsPlainExtension c.signed.extensions → IsWithout 0 c.signed.key_id → AreFor user c.signed.valid_principals → (r : Result (Unit {0}) Error) → JudgesFor accepts given t user c r → AcceptsExactly (LetsIn accepts (fingerprints_of given) t user offered c) r
-lets_in accepts given t user offered c users own known plain id names (Ok u) valid = record { for_users = users; own_key = own; known = known; plain = plain; key_id = id; principals = names; listed = listed c user names valid.allowed; valid = valid.valid }
-lets_in accepts given t user offered c users own known plain id names (Err e) judged = λ other lets. (judged other).0 (record { valid = lets.valid; allowed = inr lets.listed })
+-- ---- the refusal of an error
 
--- ---- why it is refused
+pub memory_of : (e : Error) (r : Refusal) → Names e r → r ≡ Memory → e ≡ error.Memory
+memory_of e r (inl ran_out) memory = ran_out.0
+memory_of e r (inr is) memory = let named = is.1 in absurd cc
 
-pub not_valid : (accepts : Question → Bool) (given : List code.Fingerprint) (t : ℕ) (user : List ℕ) (offered : Key) (c : Certificate) → c.signed.certificate_type ≡ User → IsOwn offered c → All IsKnown c.signed.critical_options → All IsPlainExtension c.signed.extensions → IsWithout 0 c.signed.key_id → AreFor user c.signed.valid_principals → (r : Result (Unit {0}) Error) → JudgesFor accepts given t user c r → IfErr r (λ e. e ≢ Memory → Refuses accepts (fingerprints_of given) t user offered c e)
-not_valid accepts given t user offered c users own known plain id names (Ok u) valid = tt
-not_valid accepts given t user offered c users own known plain id names (Err e) judged = λ other. NotValid users own known plain id names e (judged other).1
+pub other_of : (e : Error) (r : Refusal) → Names e r → r ≢ Memory → (e ≢ error.Memory) × (r ≡ of_certificate e)
+other_of e r (inl ran_out) other = absurd (other ran_out.1)
+other_of e r (inr is) other = is
 
-pub only_memory : {T : Type 0} (P : Error → Type 0) (r : Result T Error) → IfErr r (λ e. e ≡ Memory) → IfErr r (λ e. e ≢ Memory → P e)
-only_memory P (Ok x) memory = tt
-only_memory P (Err e) memory = λ other. absurd (other memory)
-
--- ---- the line
-
--- the line is of one certificate only, which decides
-pub no_other : (accepts : Question → Bool) (authorities : List Fingerprint) (t : ℕ) (user text comment : List ℕ) (offered : Key) (c : Certificate) → LinesDetermineValues name_of_certificate SpellsCertificate → IsCertificateLine text c comment → (LetsIn accepts authorities t user offered c → ⊥) → IsLogin accepts authorities t user offered text → ⊥
-no_other accepts authorities t user text comment offered c one line refused login = refused (subst (λ (d : Certificate). LetsIn accepts authorities t user offered d) (one text login.comment comment login.certificate c login.line line).0 login.lets_in)
-
--- a line of no certificate lets nobody in
-pub no_login : (accepts : Question → Bool) (authorities : List Fingerprint) (t : ℕ) (user text : List ℕ) (offered : Key) (e : Error) → (cause e ≢ NoMemory → IsNoLine name_of_certificate SpellsCertificate text) → e ≢ Memory → IsLogin accepts authorities t user offered text → ⊥
-no_login accepts authorities t user text offered e none other login = none (other_cause e other) login.certificate login.comment login.line
-
--- what the certificate grants is granted, or memory ran out
-pub granted : (accepts : Question → Bool) (authorities : List Fingerprint) (t : ℕ) (user text comment : List ℕ) (offered : Key) (c : Certificate) → IsCertificateLine text c comment → LetsIn accepts authorities t user offered c → (r : Result Grant Error) → IfOk r (λ g. IsGrantOf c g) → IfErr r (λ e. e ≡ Memory) → GrantsExactly accepts authorities t user offered text r
-granted accepts authorities t user text comment offered c line lets (Ok g) value memory = (record { certificate = c; comment = comment; line = line; lets_in = lets }, value)
-granted accepts authorities t user text comment offered c line lets (Err e) value memory = λ other login. other memory
+pub ran_out : (e : Error) (r : Refusal) → Names e r → e ≡ error.Memory → r ≡ Memory
+ran_out e r (inl both) memory = both.1
+ran_out e r (inr is) memory = absurd (is.0 memory)
 
 -- ---- the authority
 
 pub own_authority : (given : List code.Fingerprint) (c : Certificate) (k : Key) (f : code.Fingerprint) (d : List ℕ) (found : Bool) → k ≡ c.signed.signature_key → IsFingerprint Sha256 k f → d ≡ digest_of f → found ≡ list_any (same_fingerprint (record { hash = Sha256; digest = d })) (fingerprints_of given) → found ≡ has_trusted_authority (fingerprints_of given) c
 own_authority given c k f d found key is of told = told ∙ ap (λ (x : List ℕ). list_any (same_fingerprint (record { hash = Sha256; digest = x })) (fingerprints_of given)) (of ∙ is.digest ∙ ap (λ (j : Key). digest Sha256 (flat (normal_key j))) key)
 
-pub long_key : (c : Certificate) (k : Key) (e : Error) → k ≡ c.signed.signature_key → BoxesFit (normal_key c.signed.signature_key) → GivesFingerprint Sha256 k (Err e) → (IsShort k → ⊥) → NeedsFingerprint c e
+-- of a key that fits only memory is refused, and only if it is long
+pub long_key : (c : Certificate) (k : Key) (e : Error) → k ≡ c.signed.signature_key → BoxesFit (normal_key c.signed.signature_key) → GivesFingerprint Sha256 k (Err e) → (IsShort k → ⊥) → (e ≡ error.Memory) × (IsShort c.signed.signature_key → ⊥)
 long_key c k e key fits gives long = (fingerprint_memory Sha256 k (Err e) (subst (λ (j : Key). BoxesFit (normal_key j)) (sym key) fits) gives, subst (λ (j : Key). IsShort j → ⊥) key long)
 
--- ---- another authority
+module _ (law : RefuseTheUnwanted) (accepts : Question → Bool) (authorities : List Fingerprint) (t : ℕ) (user : List ℕ) (c : Certificate) where
+  by_another : has_trusted_authority authorities c ≡ false → option_map refusal_error (first_refusal_for accepts authorities t user c) ≡ Some error.CertificateValidation
+  by_another other = by_test (is_signed accepts c) refl
+    where
+      by_test : (signed : Bool) → is_signed accepts c ≡ signed → option_map refusal_error (first_refusal_for accepts authorities t user c) ≡ Some error.CertificateValidation
+      by_test true is = rw (is, other) refl
+      by_test false is = rw is refl
 
-pub other_authority : (accepts : Question → Bool) (authorities : List Fingerprint) (t : ℕ) (user : List ℕ) (c : Certificate) → has_trusted_authority authorities c ≡ false → option_map refusal_error (first_refusal_for accepts authorities t user c) ≡ Some CertificateValidation
-other_authority accepts authorities t user c other = by_test (is_signed accepts c) refl
-  where
-    by_test : (signed : Bool) → is_signed accepts c ≡ signed → option_map refusal_error (first_refusal_for accepts authorities t user c) ≡ Some CertificateValidation
-    by_test true is = rw (is, other) refl
-    by_test false is = rw is refl
+  invalid : (e : Error) → option_map refusal_error (first_refusal_for accepts authorities t user c) ≡ Some e → IsValidFor accepts authorities t user c → ⊥
+  invalid e refused valid =
+      let none : first_refusal_for accepts authorities t user c ≡ None = (law accepts authorities t user c).1 valid in
+      let some = rw none at refused in
+      cc some
 
--- and so the verifier need not be asked
-pub by_another : RefuseTheUnwanted → (accepts : Question → Bool) (given : List code.Fingerprint) (t : ℕ) (user : List ℕ) (c : Certificate) → has_trusted_authority (fingerprints_of given) c ≡ false → JudgesFor accepts given t user c (Err CertificateValidation)
-by_another law accepts given t user c other =
-    let refused = other_authority accepts (fingerprints_of given) t user c other in
-    λ memory. (
-      λ valid.
-          let none : first_refusal_for accepts (fingerprints_of given) t user c ≡ None = (law accepts (fingerprints_of given) t user c).1 valid in
-          let some = rw none at refused in
-          cc some,
-      refused,
-    )
+  pub trusted : IsValidFor accepts authorities t user c → IsTrue (has_trusted_authority authorities c)
+  trusted valid = by_test (has_trusted_authority authorities c) refl
+    where
+      by_test : (yes : Bool) → has_trusted_authority authorities c ≡ yes → IsTrue (has_trusted_authority authorities c)
+      by_test true is = is
+      by_test false is = absurd (invalid error.CertificateValidation (by_another is) valid)
 
-pub vouched : (authorities : List Fingerprint) (c : Certificate) (r : Result (Unit {0}) Error) → IsTrue (has_trusted_authority authorities c) → OnOk r (IsTrue (has_trusted_authority authorities c)) × IfErr r (λ e. e ≡ Memory → NeedsJudging authorities c)
-vouched authorities c (Ok x) trusted = (trusted, tt)
-vouched authorities c (Err e) trusted = (tt, λ memory. inr trusted)
+  -- ---- what is refused lets nobody in
+
+  untrusted : (revokes : List ℕ → krl.Grant → Bool) (offered : Key) (r : Refusal) → IsUntrusted accepts revokes authorities t user c r → LetsIn accepts revokes authorities t user offered c → ⊥
+  untrusted revokes offered r why lets = elim why [
+    | OtherAuthority other ↦ invalid error.CertificateValidation (by_another other) (record { valid = lets.valid; allowed = inr lets.listed })
+    | IsRevoked by revoked ↦ (let not = lets.unrevoked in cc revoked not)
+    | NotValid by unrevoked e refused ↦ invalid e refused (record { valid = lets.valid; allowed = inr lets.listed })
+  ]
+
+wrong_field : (user : List ℕ) (offered : Key) (c : Certificate) (r : Refusal) → HasWrongField user offered c r → HasRightFields user offered c → ⊥
+wrong_field user offered c r wrong right = elim wrong [
+  | ForHosts other ↦ other right.for_users
+  | OtherKey users other ↦ other right.own_key
+  | UnknownOption users own other ↦ other right.known
+  | OtherExtension users own known other ↦ other right.plain
+  | OtherKeyId users own known plain other ↦ other right.key_id
+  | OtherPrincipals users own known plain id other ↦ other right.principals
+]
+
+pub field_not_memory : (user : List ℕ) (offered : Key) (c : Certificate) (r : Refusal) → HasWrongField user offered c r → r ≢ Memory
+field_not_memory user offered c r wrong = elim wrong [
+  | ForHosts other ↦ (λ memory. cc)
+  | OtherKey users other ↦ (λ memory. cc)
+  | UnknownOption users own other ↦ (λ memory. cc)
+  | OtherExtension users own known other ↦ (λ memory. cc)
+  | OtherKeyId users own known plain other ↦ (λ memory. cc)
+  | OtherPrincipals users own known plain id other ↦ (λ memory. cc)
+]
+
+-- the line is of one certificate only, which decides
+pub refused : RefuseTheUnwanted → LinesDetermineValues name_of_certificate SpellsCertificate → (accepts : Question → Bool) (revokes : List ℕ → krl.Grant → Bool) (authorities : List Fingerprint) (t : ℕ) (user text comment : List ℕ) (offered : Key) (c : Certificate) (r : Refusal) → IsCertificateLine text c comment → Refuses accepts revokes authorities t user offered c r → IsLogin accepts revokes authorities t user offered text → ⊥
+refused law one accepts revokes authorities t user text comment offered c r line why login =
+    let lets = subst (λ (d : Certificate). LetsIn accepts revokes authorities t user offered d) (one text login.comment comment login.certificate c login.line line).0 login.lets_in in
+    elim why [
+      | inl wrong ↦ wrong_field user offered c r wrong lets.fields
+      | inr rest ↦ untrusted law accepts authorities t user c revokes offered r rest.1 lets
+    ]
+
+-- a line of no certificate lets nobody in
+pub no_login : (accepts : Question → Bool) (revokes : List ℕ → krl.Grant → Bool) (authorities : List Fingerprint) (t : ℕ) (user text : List ℕ) (offered : Key) → IsNoLine name_of_certificate SpellsCertificate text → IsLogin accepts revokes authorities t user offered text → ⊥
+no_login accepts revokes authorities t user text offered none login = none login.certificate login.comment login.line
+
+-- ---- what is granted
+
+pub lets_in : (accepts : Question → Bool) (revokes : List ℕ → krl.Grant → Bool) (authorities : List Fingerprint) (t : ℕ) (user text comment : List ℕ) (offered : Key) (c : Certificate) → IsCertificateLine text c comment → HasRightFields user offered c → is_certificate_revoked revokes c ≡ false → IsValidFor accepts authorities t user c → IsLogin accepts revokes authorities t user offered text
+lets_in accepts revokes authorities t user text comment offered c line right unrevoked valid = record { certificate = c; comment = comment; line = line; lets_in = record { fields = right; listed = listed c user right.principals valid.allowed; unrevoked = unrevoked; valid = valid.valid } }
 
 -- ---- where memory is asked for
 
-pub needed : (authorities : List Fingerprint) (text : List ℕ) (e : Error) → (cause e ≡ NoMemory → NeedsValue certificate_format text ⊎ HasComment name_of_certificate SpellsCertificate text) → e ≡ Memory → NeedsMemory authorities text
+pub needed : (authorities : List Fingerprint) (text : List ℕ) (e : Error) → (cause e ≡ NoMemory → NeedsValue certificate_format text ⊎ HasComment name_of_certificate SpellsCertificate text) → e ≡ error.Memory → NeedsMemory authorities text
 needed authorities text e asks memory = elim (asks (rw memory refl)) [ inl needs ↦ inl needs | inr comment ↦ inr (inl comment) ]
-
-pub judged : (authorities : List Fingerprint) (text comment : List ℕ) (c : Certificate) → IsCertificateLine text c comment → NeedsJudging authorities c → NeedsMemory authorities text
-judged authorities text comment c line needs = inr (inr (c, comment, line, needs))
-
-pub of_a_line : {T : Type 0} (authorities : List Fingerprint) (text comment : List ℕ) (c : Certificate) → IsCertificateLine text c comment → IsTrue (has_trusted_authority authorities c) → (r : Result T Error) → IfErr r (λ e. e ≡ Memory → NeedsMemory authorities text)
-of_a_line authorities text comment c line trusted (Ok x) = tt
-of_a_line authorities text comment c line trusted (Err e) = λ memory. judged authorities text comment c line (inr trusted)
 
 -- ---- the key that signed fits
 

@@ -24,16 +24,15 @@ use Rattle.login_policy.specs.Principals.{AreFor}
 use Rattle.login_policy.specs.declared.refusal.Refusal.{Refusal}
 use Rattle.login_policy.specs.declared.refusal.Refusal.TheVariants as refusal
 
--- the refusal for that error
-abbrev pub refusal_of : Error → Refusal
-refusal_of error.Memory = refusal.Memory
-refusal_of e = refusal.Certificate e
+-- The refusal is that of a certificate for the error, or memory ran out.
+abbrev pub Names : Error → Refusal → Type 0
+Names e r = ((e ≡ error.Memory) × (r ≡ refusal.Memory)) ⊎ ((e ≢ error.Memory) × (r ≡ refusal.Certificate e))
 
-abbrev pub invalid : Field → Error
-invalid f = error.CertificateFieldInvalid f
+abbrev pub invalid : Field → Refusal
+invalid f = refusal.Certificate (error.CertificateFieldInvalid f)
 
--- The error names the first field that is wrong.
-pub data HasWrongField (user : List ℕ) (offered : Key) (c : Certificate) : Error → Type 0 where
+-- The refusal names the first field that is wrong.
+pub data HasWrongField (user : List ℕ) (offered : Key) (c : Certificate) : Refusal → Type 0 where
   ForHosts : c.signed.certificate_type ≢ User → HasWrongField user offered c (invalid field.CertType)
   OtherKey : c.signed.certificate_type ≡ User → ¬ IsOwn offered c → HasWrongField user offered c (invalid field.PublicKey)
   UnknownOption : c.signed.certificate_type ≡ User → IsOwn offered c → ¬ All IsKnown c.signed.critical_options → HasWrongField user offered c (invalid field.CriticalOptions)
@@ -44,17 +43,17 @@ pub data HasWrongField (user : List ℕ) (offered : Key) (c : Certificate) : Err
 -- The refusal says what is wrong first behind the fields: the authority, then that the certificate is
 -- revoked, and only then what the verifier, the time or the user's name say.
 pub data IsUntrusted (accepts : Question → Bool) (revokes : List ℕ → krl.Grant → Bool) (authorities : List Fingerprint) (t : ℕ) (user : List ℕ) (c : Certificate) : Refusal → Type 0 where
-  OtherAuthority : has_trusted_authority authorities c ≡ false → IsUntrusted accepts revokes authorities t user c (refusal_of error.CertificateValidation)
+  OtherAuthority : has_trusted_authority authorities c ≡ false → IsUntrusted accepts revokes authorities t user c (refusal.Certificate error.CertificateValidation)
   IsRevoked : IsTrue (has_trusted_authority authorities c) → IsTrue (is_certificate_revoked revokes c) → IsUntrusted accepts revokes authorities t user c refusal.Revoked
-  NotValid : IsTrue (has_trusted_authority authorities c) → is_certificate_revoked revokes c ≡ false → (e : Error) → option_map refusal_error (first_refusal_for accepts authorities t user c) ≡ Some e → IsUntrusted accepts revokes authorities t user c (refusal_of e)
+  NotValid : IsTrue (has_trusted_authority authorities c) → is_certificate_revoked revokes c ≡ false → (e : Error) → option_map refusal_error (first_refusal_for accepts authorities t user c) ≡ Some e → IsUntrusted accepts revokes authorities t user c (refusal.Certificate e)
 
 -- The refusal says what is wrong with the certificate first.
 abbrev pub Refuses : (Question → Bool) → (List ℕ → krl.Grant → Bool) → List Fingerprint → ℕ → List ℕ → Key → Certificate → Refusal → Type 0
-Refuses accepts revokes authorities t user offered c r = ((e : Error) × HasWrongField user offered c e × (r ≡ refusal_of e)) ⊎ (HasRightFields user offered c × IsUntrusted accepts revokes authorities t user c r)
+Refuses accepts revokes authorities t user offered c r = HasWrongField user offered c r ⊎ (HasRightFields user offered c × IsUntrusted accepts revokes authorities t user c r)
 
 -- The text is the line of no certificate, and has that fault; or of one that is refused for that.
 abbrev pub RefusesLine : (Question → Bool) → (List ℕ → krl.Grant → Bool) → List Fingerprint → ℕ → List ℕ → Key → List ℕ → Refusal → Type 0
-RefusesLine accepts revokes authorities t user offered text r = (IsNoLine name_of_certificate SpellsCertificate text × ((e : Error) × HasFaultOfLine certificate_format name_of_certificate SpellsCertificate text e × (r ≡ refusal_of e))) ⊎ ((c : Certificate) × (comment : List ℕ) × IsCertificateLine text c comment × Refuses accepts revokes authorities t user offered c r)
+RefusesLine accepts revokes authorities t user offered text r = (IsNoLine name_of_certificate SpellsCertificate text × ((e : Error) × HasFaultOfLine certificate_format name_of_certificate SpellsCertificate text e × Names e r)) ⊎ ((c : Certificate) × (comment : List ℕ) × IsCertificateLine text c comment × Refuses accepts revokes authorities t user offered c r)
 
 -- ---- where memory is needed
 

@@ -7,7 +7,7 @@ ghost use Rattle.ssh_key.specs.keys.Keys.{key_of};
 ghost use Rattle.ssh_key.specs.model.Certificates.{IsCertificate};
 ghost use Rattle.ssh_key.specs.model.Keys.{IsKey};
 ghost use Rattle.login_policy.specs.Logins.{GrantsExactly, HasRightFields};
-ghost use Rattle.login_policy.specs.Refusals.{HasWrongField, NeedsMemory, RefusesLine};
+ghost use Rattle.login_policy.specs.Refusals.{HasWrongField, NeedsMemory, RefusesLine, invalid};
 ghost use Rattle.login_policy.specs.declared.refusal.Refusal.TheVariants.{Memory};
 
 use crate::authority::validate;
@@ -102,7 +102,7 @@ pub fn log_in<R: Revocations, V: RawVerifier>(
 }
 
 /// Whether the fields are those of a certificate that lets the user in. Does not allocate.
-fn check_fields(certificate: &Certificate, user: &str, offered: &KeyData) -> ssh_key::Result<()>
+fn check_fields(certificate: &Certificate, user: &str, offered: &KeyData) -> Result<(), Refusal>
     requires certificate { IsCertificate (certificate_of certificate.now) }
     requires offered { IsKey (key_of offered.now) }
     ensures right { OnOk result (HasRightFields user.now (key_of offered.now)
@@ -111,22 +111,29 @@ fn check_fields(certificate: &Certificate, user: &str, offered: &KeyData) -> ssh
         (certificate_of certificate.now)) }
 {
     if !certificate.cert_type().is_user() {
-        return Err(Error::CertificateFieldInvalid(Field::CertType));
+        return Err(invalid(Field::CertType));
     }
     if !is_key_of(certificate, offered) {
-        return Err(Error::CertificateFieldInvalid(Field::PublicKey));
+        return Err(invalid(Field::PublicKey));
     }
     if !are_known(certificate.critical_options()) {
-        return Err(Error::CertificateFieldInvalid(Field::CriticalOptions));
+        return Err(invalid(Field::CriticalOptions));
     }
     if !are_plain(certificate.extensions()) {
-        return Err(Error::CertificateFieldInvalid(Field::Extensions));
+        return Err(invalid(Field::Extensions));
     }
     if !is_read_text(certificate.key_id()) {
-        return Err(Error::CertificateFieldInvalid(Field::KeyId));
+        return Err(invalid(Field::KeyId));
     }
     if !are_for(certificate.valid_principals(), user) {
-        return Err(Error::CertificateFieldInvalid(Field::ValidPrincipals));
+        return Err(invalid(Field::ValidPrincipals));
     }
     Ok(())
+}
+
+/// The refusal of a certificate for that field.
+fn invalid(field: Field) -> Refusal
+    ensures { result ≡ invalid field }
+{
+    Refusal::Certificate(Error::CertificateFieldInvalid(field))
 }

@@ -1,7 +1,6 @@
 //! Why a login is refused.
 
-ghost use Rattle.std.specs.Prelude.{◌≡◌};
-ghost use Rattle.login_policy.specs.Refusals.{refusal_of};
+ghost use Rattle.login_policy.specs.Refusals.{Names};
 
 use ssh_key::Error;
 
@@ -21,12 +20,12 @@ pub enum Refusal {
 }
 
 impl From<Error> for Refusal {
-    ghost from_gives = { λ error refusal. refusal ≡ refusal_of error };
+    ghost from_gives = { Names };
 
     fn from(error: Error) -> Refusal {
-        match error {
-            Error::Memory => Refusal::Memory,
-            other => Refusal::Certificate(other),
+        if error.is_memory() {
+            return Refusal::Memory;
         }
+        Refusal::Certificate(error)
     }
 }

@@ -1,25 +1,15 @@
-use Rattle.std.proofs.Common.{sym, ◌∙◌, inl}
+use Rattle.std.proofs.Common.{sym, subst, ◌∙◌, inl, inr}
 use Rattle.std.proofs.lemmas.Result.{err_from_is_err_and}
 use Rattle.ssh_key.specs.cert.CertificateValues.{certificate_of}
-use Rattle.ssh_key.specs.cert.Validity.{fingerprints_of}
-use Rattle.login_policy.proofs.Logins.{by_another, vouched}
+use Rattle.ssh_key.specs.keys.Fingerprints.{IsFingerprint}
+use Rattle.ssh_key.specs.model.Keys.{Key}
+use Rattle.ssh_key.specs.model.Names.{Sha256}
+use Rattle.login_policy.specs.Refusals.{IsRevoked, NotValid, OtherAuthority}
+use Rattle.login_policy.proofs.Logins.{long_key, other_of, own_authority, ran_out}
 use Rattle.login_policy.proofs.authority.validate.Goals as goal
 
-pub returns-in_err-is_by_one_of-clause-judged : goal.returns-in_err-is_by_one_of-clause-judged
-returns-in_err-is_by_one_of-clause-judged g c =
+pub returns-in_err-authority-clause-refused : goal.returns-in_err-authority-clause-refused
+returns-in_err-authority-clause-refused g c =
     let p = err_from_is_err_and c.from_residual.result c.from_residual.ensures.1 in
-    rw (p.1, p.2) (λ other. absurd (other c.in_err-is_by_one_of.ensures.memory.0))
-
-pub returns-in_err-is_by_one_of-clause-memory : goal.returns-in_err-is_by_one_of-clause-memory
-returns-in_err-is_by_one_of-clause-memory g c =
-    let p = err_from_is_err_and c.from_residual.result c.from_residual.ensures.1 in
-    rw (p.1, p.2) (λ memory. inl c.in_err-is_by_one_of.ensures.memory.1)
-
-pub returns-then-not-branch-clause-judged : goal.returns-then-not-branch-clause-judged
-returns-then-not-branch-clause-judged g c = by_another c.refused_or_wanted.ensures _ c.args.authorities.now _ _ (certificate_of c.args.certificate.now) (sym c.in_ok-is_by_one_of.ensures.answer ∙ c.if-not-branch.true)
-
-pub returns-clause-trusted : goal.returns-clause-trusted
-returns-clause-trusted g c = (vouched (fingerprints_of c.args.authorities.now) (certificate_of c.args.certificate.now) c.validate_principal_at.result (sym c.in_ok-is_by_one_of.ensures.answer ∙ c.if-not-branch.false)).0
-
-pub returns-clause-memory : goal.returns-clause-memory
-returns-clause-memory g c = (vouched (fingerprints_of c.args.authorities.now) (certificate_of c.args.certificate.now) c.validate_principal_at.result (sym c.in_ok-is_by_one_of.ensures.answer ∙ c.if-not-branch.false)).1
+    let long = long_key (certificate_of c.args.certificate.now) _ _ c.signature_key.ensures.value c.requires c.in_err-authority.ensures.gives (λ short. cc (c.in_err-authority.ensures.short short)) in
+    rw p.1 (λ other. absurd (other (ran_out _ p.0 p.2 long.0)))
