@@ -10,6 +10,7 @@ use Rattle.ssh_key.specs.cert.Validity.{fingerprints_of, refusal_error}
 use Rattle.ssh_key.specs.fingerprints.Fingerprints.{digest_of}
 use Rattle.ssh_key.specs.keys.Fingerprints.{GivesFingerprint, IsFingerprint, IsShort}
 use Rattle.ssh_key.specs.krl.Revocation as krl
+use Rattle.ssh_key.specs.krl.Revocations.{is_certificate_revoked}
 use Rattle.ssh_key.specs.model.Certificates.{Certificate, HasCertificatePlaces, IsCertificate, certificate, normal_certificate}
 use Rattle.ssh_key.specs.model.Fingerprints.{Fingerprint, digest, same_fingerprint}
 use Rattle.ssh_key.specs.model.Keys.{Key, normal_key}
@@ -97,31 +98,25 @@ module _ (law : RefuseTheUnwanted) (accepts : Question → Bool) (authorities : 
   -- ---- what is refused lets nobody in
 
   untrusted : (revokes : List ℕ → krl.Grant → Bool) (offered : Key) (r : Refusal) → IsUntrusted accepts revokes authorities t user c r → LetsIn accepts revokes authorities t user offered c → ⊥
-  untrusted revokes offered r why lets = elim why [
-    | OtherAuthority other ↦ invalid error.CertificateValidation (by_another other) (record { valid = lets.valid; allowed = inr lets.listed })
-    | IsRevoked by revoked ↦ (let not = lets.unrevoked in cc revoked not)
-    | NotValid by unrevoked e refused ↦ invalid e refused (record { valid = lets.valid; allowed = inr lets.listed })
-  ]
+  untrusted revokes offered r (OtherAuthority other) lets = invalid error.CertificateValidation (by_another other) (record { valid = lets.valid; allowed = inr lets.listed })
+  untrusted revokes offered r (IsRevoked by revoked) lets = let unrevoked = lets.unrevoked in cc
+  untrusted revokes offered r (NotValid by unrevoked e refused) lets = invalid e refused (record { valid = lets.valid; allowed = inr lets.listed })
 
 wrong_field : (user : List ℕ) (offered : Key) (c : Certificate) (r : Refusal) → HasWrongField user offered c r → HasRightFields user offered c → ⊥
-wrong_field user offered c r wrong right = elim wrong [
-  | ForHosts other ↦ other right.for_users
-  | OtherKey users other ↦ other right.own_key
-  | UnknownOption users own other ↦ other right.known
-  | OtherExtension users own known other ↦ other right.plain
-  | OtherKeyId users own known plain other ↦ other right.key_id
-  | OtherPrincipals users own known plain id other ↦ other right.principals
-]
+wrong_field user offered c r (ForHosts other) right = other right.for_users
+wrong_field user offered c r (OtherKey users other) right = other right.own_key
+wrong_field user offered c r (UnknownOption users own other) right = other right.known
+wrong_field user offered c r (OtherExtension users own known other) right = other right.plain
+wrong_field user offered c r (OtherKeyId users own known plain other) right = other right.key_id
+wrong_field user offered c r (OtherPrincipals users own known plain id other) right = other right.principals
 
 pub field_not_memory : (user : List ℕ) (offered : Key) (c : Certificate) (r : Refusal) → HasWrongField user offered c r → r ≢ Memory
-field_not_memory user offered c r wrong = elim wrong [
-  | ForHosts other ↦ (λ memory. cc)
-  | OtherKey users other ↦ (λ memory. cc)
-  | UnknownOption users own other ↦ (λ memory. cc)
-  | OtherExtension users own known other ↦ (λ memory. cc)
-  | OtherKeyId users own known plain other ↦ (λ memory. cc)
-  | OtherPrincipals users own known plain id other ↦ (λ memory. cc)
-]
+field_not_memory user offered c r (ForHosts other) = λ memory. cc
+field_not_memory user offered c r (OtherKey users other) = λ memory. cc
+field_not_memory user offered c r (UnknownOption users own other) = λ memory. cc
+field_not_memory user offered c r (OtherExtension users own known other) = λ memory. cc
+field_not_memory user offered c r (OtherKeyId users own known plain other) = λ memory. cc
+field_not_memory user offered c r (OtherPrincipals users own known plain id other) = λ memory. cc
 
 -- the line is of one certificate only, which decides
 pub refused : RefuseTheUnwanted → LinesDetermineValues name_of_certificate SpellsCertificate → (accepts : Question → Bool) (revokes : List ℕ → krl.Grant → Bool) (authorities : List Fingerprint) (t : ℕ) (user text comment : List ℕ) (offered : Key) (c : Certificate) (r : Refusal) → IsCertificateLine text c comment → Refuses accepts revokes authorities t user offered c r → IsLogin accepts revokes authorities t user offered text → ⊥

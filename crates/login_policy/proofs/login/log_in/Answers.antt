@@ -23,3 +23,44 @@ pub returns-in_err-certificate-clause-memory : goal.returns-in_err-certificate-c
 returns-in_err-certificate-clause-memory g c =
     let p = err_from_is_err_and c.from_residual.result c.from_residual.ensures.1 in
     rw p.1 (λ memory. needed (fingerprints_of c.args.authorities.now) _ _ c.in_err-certificate.ensures.asks (memory_of _ p.0 p.2 memory))
+
+pub returns-in_err-check_fields-clause-exactly : goal.returns-in_err-check_fields-clause-exactly
+returns-in_err-check_fields-clause-exactly g c =
+    let p = err_from_is_err_and c.from_residual-in_err-check_fields.result c.from_residual-in_err-check_fields.ensures.1 in
+    rw (p.1, p.2) (λ other. refused c.refused_or_wanted.ensures c.lines.ensures.certificates _ _ _ _ _ _ _ _ _ _ c.in_ok-certificate.ensures.reads (inl c.in_err-check_fields.ensures.wrong))
+
+pub returns-in_err-check_fields-clause-refused : goal.returns-in_err-check_fields-clause-refused
+returns-in_err-check_fields-clause-refused g c =
+    let p = err_from_is_err_and c.from_residual-in_err-check_fields.result c.from_residual-in_err-check_fields.ensures.1 in
+    rw (p.1, p.2) (λ other. inr (_, _, c.in_ok-certificate.ensures.reads, inl c.in_err-check_fields.ensures.wrong))
+
+pub returns-in_err-check_fields-clause-memory : goal.returns-in_err-check_fields-clause-memory
+returns-in_err-check_fields-clause-memory g c =
+    let p = err_from_is_err_and c.from_residual-in_err-check_fields.result c.from_residual-in_err-check_fields.ensures.1 in
+    rw (p.1, p.2) (λ memory. absurd (field_not_memory _ _ _ _ c.in_err-check_fields.ensures.wrong memory))
+
+pub validate-requires : goal.validate-requires
+validate-requires g c = fits c.certificate_fits.ensures _ _ (certificate_of c.in_ok-certificate.certificate) c.in_ok-certificate.ensures.reads
+
+pub returns-in_err-authority-clause-exactly : goal.returns-in_err-authority-clause-exactly
+returns-in_err-authority-clause-exactly g c =
+    let p = err_from_is_err_and c.from_residual-in_err-authority.result c.from_residual-in_err-authority.ensures.1 in
+    rw (p.1, p.2) (λ other. refused c.refused_or_wanted.ensures c.lines.ensures.certificates _ _ _ _ _ _ _ _ _ _ c.in_ok-certificate.ensures.reads (inr (c.in_ok-check_fields.ensures.right, c.in_err-authority.ensures.refused other)))
+
+pub returns-in_err-authority-clause-refused : goal.returns-in_err-authority-clause-refused
+returns-in_err-authority-clause-refused g c =
+    let p = err_from_is_err_and c.from_residual-in_err-authority.result c.from_residual-in_err-authority.ensures.1 in
+    rw (p.1, p.2) (λ other. inr (_, _, c.in_ok-certificate.ensures.reads, inr (c.in_ok-check_fields.ensures.right, c.in_err-authority.ensures.refused other)))
+
+pub returns-in_err-authority-clause-memory : goal.returns-in_err-authority-clause-memory
+returns-in_err-authority-clause-memory g c =
+    let p = err_from_is_err_and c.from_residual-in_err-authority.result c.from_residual-in_err-authority.ensures.1 in
+    rw (p.1, p.2) (λ memory. inr (inr (_, _, c.in_ok-certificate.ensures.reads, c.in_err-authority.ensures.memory memory)))
+
+pub returns-in_err-grant_of-clause-memory : goal.returns-in_err-grant_of-clause-memory
+returns-in_err-grant_of-clause-memory g c =
+    let p = err_from_is_err_and c.from_residual-in_err-grant_of.result c.from_residual-in_err-grant_of.ensures.1 in
+    rw p.1 (λ memory. inr (inr (_, _, c.in_ok-certificate.ensures.reads, inr (trusted c.refused_or_wanted.ensures _ _ _ _ _ c.in_ok-authority.ensures.valid))))
+
+pub returns-clause-exactly : goal.returns-clause-exactly
+returns-clause-exactly g c = (lets_in _ _ _ _ _ _ _ _ _ c.in_ok-certificate.ensures.reads c.in_ok-check_fields.ensures.right c.in_ok-authority.ensures.unrevoked c.in_ok-authority.ensures.valid, c.in_ok-grant_of.ensures.value)
