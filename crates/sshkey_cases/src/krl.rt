@@ -41,7 +41,7 @@ fn revokes(
 }
 
 /// The words of ssh-keygen(1).
-fn word(is_revoked: bool) -> &'static str {
+pub(crate) fn word(is_revoked: bool) -> &'static str {
     if is_revoked { "REVOKED" } else { "ok" }
 }
 

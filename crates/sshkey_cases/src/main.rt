@@ -25,6 +25,7 @@ mod option_items;
 mod pairs;
 mod privates;
 mod questions;
+mod revoked;
 mod signatures;
 mod slices;
 mod validity;

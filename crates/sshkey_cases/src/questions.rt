@@ -4,7 +4,7 @@ use crate::bytes::{NO_LINE, erase, part, parts, text};
 use crate::wire::shown;
 use crate::{
     again, certificates, copies, drawn, entries, faulty, files, hosts, issued, keys, kinds, krl,
-    messages, names, narrow, openssh_lines, option_items, pairs, privates, signatures, slices,
+    messages, names, narrow, openssh_lines, option_items, pairs, privates, revoked, signatures, slices,
     validity, wire, without_memory,
 };
 use sshkey_base::{Algorithm, AlgorithmName, EcdsaCurve, Error, HashAlg, Mpint, Result};
@@ -214,6 +214,7 @@ fn answer_of_slices(alloc: Global, question: &str, parts: &[Vec<u8>]) -> Result<
         "accepted-slice" => signatures::accepted_slice(alloc, parts),
         "krl" => krl::said(alloc, parts),
         "krl-made" => krl::made(alloc, parts),
+        "revoked" => revoked::said(alloc, parts),
         _ => answer_of_certificates(alloc, question, parts),
     }
 }

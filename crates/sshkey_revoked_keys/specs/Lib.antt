@@ -1,0 +1,3 @@
+pub mod NamedWords
+pub mod RevokedLines
+pub mod RevokedKeys

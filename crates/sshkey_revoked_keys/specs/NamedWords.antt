@@ -1,0 +1,44 @@
+-- What a word of Base64 says under a name.
+use Rattle.std.specs.Prelude.{◌≡◌, ◌≢◌, ◌⊎◌, ℕ, List, Bool, true, false}
+use Rattle.sshkey_base.specs.Formats.{Format}
+use Rattle.sshkey_base.specs.declared.error.Error.{Error}
+use Rattle.sshkey_base.specs.declared.error.Error.TheVariants.{AlgorithmUnknown}
+use Rattle.sshkey_cert.specs.CertificateFormats.{certificate_format}
+use Rattle.sshkey_cert.specs.CertificateReaders.{SpellsCertificate}
+use Rattle.sshkey_keys.specs.KeyFormats.{key_format}
+use Rattle.sshkey_keys.specs.Keys.{SpellsKey}
+use Rattle.sshkey_model.specs.Certificates.{Certificate}
+use Rattle.sshkey_model.specs.Keys.{Key, normal_key}
+use Rattle.sshkey_model.specs.Lines.{key_name, name_of_certificate}
+use Rattle.sshkey_model.specs.Parts.{flat}
+use Rattle.sshkey_public.specs.LineFaults.{HasFaultOfWord}
+use Rattle.sshkey_public.specs.LineNeeds.{NeedsWord}
+use Rattle.sshkey_public.specs.Lines.{IsNoWord, IsWordOf}
+
+-- The word spells the value, and the first word is the value's name.
+pub record IsNamedWord {V : Type 0} (name : V → List ℕ) (Spells : V → List ℕ → Type 0) (first word : List ℕ) (value : V) : Type 0 where
+  pub named : first ≡ name value
+  pub spelled : IsWordOf Spells word value
+
+-- the fault of a word that spells no value, and `AlgorithmUnknown` of a value with another name
+pub record HasNameFault {V Y : Type 0} (f : Format Y) (name : V → List ℕ) (Spells : V → List ℕ → Type 0) (first word : List ℕ) (e : Error) : Type 0 where
+  pub bad_word : IsNoWord Spells word → HasFaultOfWord f word e
+  pub other_name : (value : V) → IsWordOf Spells word value → first ≢ name value → e ≡ AlgorithmUnknown
+
+-- ---- a key, as the bytes of its normal form: under a certificate's name that of a certificate
+
+abbrev pub SaysKey : Bool → List ℕ → List ℕ → List ℕ → Type 0
+SaysKey true first word key = (c : Certificate) × IsNamedWord name_of_certificate SpellsCertificate first word c × (key ≡ flat (normal_key c.signed.key))
+SaysKey false first word key = (k : Key) × IsNamedWord key_name SpellsKey first word k × (key ≡ flat (normal_key k))
+
+abbrev pub HasKeyFault : Bool → List ℕ → List ℕ → Error → Type 0
+HasKeyFault true = HasNameFault certificate_format name_of_certificate SpellsCertificate
+HasKeyFault false = HasNameFault key_format key_name SpellsKey
+
+-- Its bytes need memory, or it is a key.
+abbrev pub NeedsBytes : Bool → List ℕ → Type 0
+NeedsBytes true = NeedsWord certificate_format
+NeedsBytes false = NeedsWord key_format
+
+abbrev pub NeedsKey : Bool → List ℕ → List ℕ → Type 0
+NeedsKey certified first word = ((key : List ℕ) × SaysKey certified first word key) ⊎ NeedsBytes certified word

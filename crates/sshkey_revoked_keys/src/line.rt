@@ -1,0 +1,126 @@
+//! Lines of a revocation file that is a text.
+
+ghost use Rattle.std.specs.Prelude.{◌≡◌, ◌<◌, length, true, false, IfErr, IfOk, is_ok, if◌then◌else◌, ◌∷◌};
+ghost use Rattle.std.specs.Str.Lines.{strip_carriage_return};
+ghost use Rattle.sshkey_base.specs.declared.error.Error.TheVariants.{Memory};
+ghost use Rattle.sshkey_entries.specs.Answers.{AsksEntries, ReadsEntries};
+ghost use Rattle.sshkey_entries.specs.Fields.{is_filled};
+ghost use Rattle.sshkey_keys.specs.Keys.{key_of};
+ghost use Rattle.sshkey_model.specs.CertificateNames.{certified_from};
+ghost use Rattle.sshkey_model.specs.Keys.{normal_key};
+ghost use Rattle.sshkey_model.specs.Parts.{flat};
+ghost use Rattle.sshkey_revoked_keys.specs.NamedWords.{AsksKey, ReadsKey, RefusesKey};
+ghost use Rattle.sshkey_revoked_keys.specs.RevokedLines.{AsksLine, HasLineFault, NeedsLine, ReadsLine, RefusesLine, RevokesKey, revoked_lines};
+
+use crate::named_word::read_named;
+use sshkey_base::{Algorithm, Error, Result, encode_vec, encoding};
+use sshkey_cert::Certificate;
+use sshkey_entries::{skip_blanks, split_field};
+use sshkey_keys::KeyData;
+use std::alloc::Global;
+
+/// The normal forms of the keys that the lines of a text revoke, in order, or the error of the
+/// first line that cannot be read.
+pub(crate) fn read_lines(alloc: Global, text: &str) -> Result<Vec<Vec<u8>>>
+    ensures reads { ReadsEntries (λ key. key.items) RevokesKey HasLineFault
+        (revoked_lines text.now) result }
+    ensures asks { AsksEntries RevokesKey NeedsLine (revoked_lines text.now) result }
+{
+    let mut keys = Vec::new(alloc);
+    let mut rest = text;
+    'lines: while !rest.is_empty() {
+        let (line, behind) = split_line(rest);
+        if is_filled(line) {
+            keys.push(read_line(alloc, line)?)?;
+        }
+        rest = behind;
+    }
+    Ok(keys)
+}
+
+/// The text up to its first line feed, without the blanks at its front, and what follows the line
+/// feed.
+fn split_line(text: &str) -> (&str, &str)
+    requires { 0 < length text.now }
+    ensures lines { revoked_lines text.now ≡ (if is_filled result.0.now
+        then result.0.now ∷ revoked_lines result.1.now else revoked_lines result.1.now) }
+    ensures less { length result.1.now < length text.now }
+{
+    match text.split_once('\n') {
+        Some((line, rest)) => (skip_blanks(line), rest),
+        None => (skip_blanks(text), ""),
+    }
+}
+
+fn is_filled(line: &str) -> bool
+    ensures { result ≡ is_filled line.now }
+{
+    !line.is_empty() && !line.starts_with('#')
+}
+
+/// The normal form of the key that the line revokes.
+fn read_line(alloc: Global, line: &str) -> Result<Vec<u8>>
+    ensures reads { ReadsLine line.now result }
+    ensures fault { RefusesLine line.now result }
+    ensures asks { AsksLine line.now result }
+{
+    let (name, behind) = split_field(line);
+    let (word, _) = split_field(skip_blanks(behind));
+    let word = without_return(word);
+    if word.is_empty() {
+        return Err(Error::Encoding(encoding::Error::Length));
+    }
+    if names_certificate(name) {
+        read_certified_key(alloc, name, word)
+    } else {
+        read_key(alloc, name, word)
+    }
+}
+
+/// The text without a carriage return at its end.
+fn without_return(text: &str) -> &str
+    ensures { result.now ≡ strip_carriage_return text.now }
+{
+    match text.strip_suffix('\r') {
+        Some(front) => front,
+        None => text,
+    }
+}
+
+/// Whether it is the name of an algorithm in certificates.
+fn names_certificate(name: &str) -> bool
+    ensures { result ≡ is_ok (certified_from name.now) }
+{
+    Algorithm::check_certificate(name).is_ok()
+}
+
+/// The normal form of the key in a certificate.
+fn read_certified_key(alloc: Global, name: &str, word: &str) -> Result<Vec<u8>>
+    ensures reads { ReadsKey true name.now word.now result }
+    ensures fault { RefusesKey true name.now word.now result }
+    ensures asks { AsksKey true name.now word.now result }
+{
+    let certificate = read_named::<Certificate>(alloc, name, word)?;
+    normal_form(alloc, certificate.public_key())
+}
+
+/// The normal form of a key.
+fn read_key(alloc: Global, name: &str, word: &str) -> Result<Vec<u8>>
+    ensures reads { ReadsKey false name.now word.now result }
+    ensures fault { RefusesKey false name.now word.now result }
+    ensures asks { AsksKey false name.now word.now result }
+{
+    let key = read_named::<KeyData>(alloc, name, word)?;
+    normal_form(alloc, &key)
+}
+
+/// The bytes of the normal form of a key, whose parts were read. Fails only when out of memory.
+fn normal_form(alloc: Global, key: &KeyData) -> Result<Vec<u8>>
+    ensures bytes { IfOk result (λ bytes. bytes.items ≡ flat (normal_key (key_of key.now))) }
+    ensures memory { IfErr result (λ e. e ≡ Memory) }
+{
+    match encode_vec(alloc, key) {
+        Ok(bytes) => Ok(bytes),
+        Err(_) => Err(Error::Memory),
+    }
+}
