@@ -1,7 +1,8 @@
 -- What a revocation file says (sshd_config(5), "RevokedKeys"), and what it revokes.
+use Rattle.std.proofs.Common.{Global}
 use Rattle.std.specs.Prelude.{◌≡◌, ◌≢◌, ◌||◌, ℕ, List, Bool, eqb, bytes_eq, Result, Ok, Err, IsOkAnd, IsErrAnd, Vec}
 use Rattle.std.specs.List.{list_any, starts_with}
-use Rattle.sshkey_base.specs.Causes.{cause, Faulty}
+use Rattle.sshkey_base.specs.Causes.{cause, Faulty, NoMemory}
 use Rattle.sshkey_base.specs.declared.error.Error.{Error}
 use Rattle.sshkey_entries.specs.Answers.{AreEntries, AsksEntries, FirstIsNone}
 use Rattle.sshkey_krl.specs.KrlRef.{krl_bytes, krl_of}
@@ -9,7 +10,6 @@ use Rattle.sshkey_krl.specs.Krls.{magic}
 use Rattle.sshkey_krl.specs.Revocation as list
 use Rattle.sshkey_krl.specs.Revocation.{Grant}
 use Rattle.sshkey_model.specs.Reading.{Fault}
-use Rattle.sshkey_base.specs.Causes.{NoMemory}
 use Rattle.sshkey_revoked_keys.specs.RevokedLines.{HasLineFault, NeedsLine, RevokesKey, revoked_lines}
 use Rattle.sshkey_revoked_keys.specs.declared.revoked_keys.RevokedKeys.{RevokedKeys}
 use Rattle.sshkey_revoked_keys.specs.declared.revoked_keys.RevokedKeys.TheVariants.{Keys, Krl}
@@ -55,7 +55,7 @@ ReadsKrl (Err fault) bytes r = IsErrAnd r (λ e. cause e ≡ Faulty fault)
 -- the keys of all lines; or the first line that revokes none has that fault
 abbrev pub ReadsText : List ℕ → Result RevokedKeys Error → Type 0
 ReadsText text (Ok file) = AreKeys text file
-ReadsText text (Err e) = cause e ≢ NoMemory → FirstIsNone {X = Vec ℕ ℕ} (λ key. key.items) RevokesKey HasLineFault (revoked_lines text) e
+ReadsText text (Err e) = cause e ≢ NoMemory → FirstIsNone {X = Vec ℕ Global} (λ key. key.items) RevokesKey HasLineFault (revoked_lines text) e
 
 -- Memory was refused only where the first line revokes a key, or needs memory itself.
 abbrev pub AsksText : List ℕ → Result RevokedKeys Error → Type 0

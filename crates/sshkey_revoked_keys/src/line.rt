@@ -1,16 +1,15 @@
 //! Lines of a revocation file that is a text.
 
-ghost use Rattle.std.specs.Prelude.{◌≡◌, ◌<◌, length, true, false, IfErr, IfOk, is_ok, if◌then◌else◌, ◌∷◌};
+ghost use Rattle.std.specs.Prelude.{◌≡◌, ◌<◌, length, true, false, IfErr, IfOk, if◌then◌else◌, ◌∷◌};
 ghost use Rattle.std.specs.Str.Lines.{strip_carriage_return};
 ghost use Rattle.sshkey_base.specs.declared.error.Error.TheVariants.{Memory};
-ghost use Rattle.sshkey_entries.specs.Answers.{AsksEntries, ReadsEntries};
+ghost use Rattle.sshkey_entries.specs.Answers.{AsksEntries, AsksEntry, ReadsEntries, ReadsEntry, RefusesFor};
 ghost use Rattle.sshkey_entries.specs.Fields.{is_filled};
 ghost use Rattle.sshkey_keys.specs.Keys.{key_of};
-ghost use Rattle.sshkey_model.specs.CertificateNames.{certified_from};
 ghost use Rattle.sshkey_model.specs.Keys.{normal_key};
 ghost use Rattle.sshkey_model.specs.Parts.{flat};
-ghost use Rattle.sshkey_revoked_keys.specs.NamedWords.{AsksKey, ReadsKey, RefusesKey};
-ghost use Rattle.sshkey_revoked_keys.specs.RevokedLines.{AsksLine, HasLineFault, NeedsLine, ReadsLine, RefusesLine, RevokesKey, revoked_lines};
+ghost use Rattle.sshkey_revoked_keys.specs.NamedWords.{HasKeyFault, NeedsKey, SaysKey};
+ghost use Rattle.sshkey_revoked_keys.specs.RevokedLines.{HasLineFault, NeedsEntry, NeedsLine, RevokesKey, is_certified_name, revoked_lines};
 
 use crate::named_word::read_named;
 use sshkey_base::{Algorithm, Error, Result, encode_vec, encoding};
@@ -60,9 +59,9 @@ fn is_filled(line: &str) -> bool
 
 /// The normal form of the key that the line revokes.
 fn read_line(alloc: Global, line: &str) -> Result<Vec<u8>>
-    ensures reads { ReadsLine line.now result }
-    ensures fault { RefusesLine line.now result }
-    ensures asks { AsksLine line.now result }
+    ensures reads { ReadsEntry (λ key. key.items) RevokesKey line.now result }
+    ensures fault { RefusesFor HasLineFault line.now result }
+    ensures asks { AsksEntry NeedsEntry line.now result }
 {
     let (name, behind) = split_field(line);
     let (word, _) = split_field(skip_blanks(behind));
@@ -89,16 +88,16 @@ fn without_return(text: &str) -> &str
 
 /// Whether it is the name of an algorithm in certificates.
 fn names_certificate(name: &str) -> bool
-    ensures { result ≡ is_ok (certified_from name.now) }
+    ensures { result ≡ is_certified_name name.now }
 {
     Algorithm::check_certificate(name).is_ok()
 }
 
 /// The normal form of the key in a certificate.
 fn read_certified_key(alloc: Global, name: &str, word: &str) -> Result<Vec<u8>>
-    ensures reads { ReadsKey true name.now word.now result }
-    ensures fault { RefusesKey true name.now word.now result }
-    ensures asks { AsksKey true name.now word.now result }
+    ensures reads { ReadsEntry (λ key. key.items) (SaysKey true name.now) word.now result }
+    ensures fault { RefusesFor (HasKeyFault true name.now) word.now result }
+    ensures asks { AsksEntry (NeedsKey true name.now) word.now result }
 {
     let certificate = read_named::<Certificate>(alloc, name, word)?;
     normal_form(alloc, certificate.public_key())
@@ -106,9 +105,9 @@ fn read_certified_key(alloc: Global, name: &str, word: &str) -> Result<Vec<u8>>
 
 /// The normal form of a key.
 fn read_key(alloc: Global, name: &str, word: &str) -> Result<Vec<u8>>
-    ensures reads { ReadsKey false name.now word.now result }
-    ensures fault { RefusesKey false name.now word.now result }
-    ensures asks { AsksKey false name.now word.now result }
+    ensures reads { ReadsEntry (λ key. key.items) (SaysKey false name.now) word.now result }
+    ensures fault { RefusesFor (HasKeyFault false name.now) word.now result }
+    ensures asks { AsksEntry (NeedsKey false name.now) word.now result }
 {
     let key = read_named::<KeyData>(alloc, name, word)?;
     normal_form(alloc, &key)

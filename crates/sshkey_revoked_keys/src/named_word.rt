@@ -2,7 +2,8 @@
 
 ghost use Rattle.std.specs.Prelude.{◌≡◌, ◌↔◌, ◌≤◌, length, IsTrue};
 ghost use Rattle.sshkey_public.specs.LineNeeds.{AsksWord};
-ghost use Rattle.sshkey_revoked_keys.specs.NamedWords.{ReadsNamed, RefusesNamed};
+ghost use Rattle.sshkey_entries.specs.Answers.{ReadsEntry, RefusesFor};
+ghost use Rattle.sshkey_revoked_keys.specs.NamedWords.{HasNameFault, IsNamedWord};
 
 use sshkey_base::{Error, Result, SliceWriter};
 use sshkey_public::{Blob, read_word};
@@ -33,8 +34,8 @@ fn is_named<T: Blob>(value: &T, name: &str) -> bool
 /// Unless memory runs out, it fails exactly if there is none: with the errors of `read_word`, and
 /// with `AlgorithmUnknown` for a value of another name.
 pub(crate) fn read_named<T: Blob + Drop>(alloc: Global, name: &str, word: &str) -> Result<T>
-    ensures reads { ReadsNamed T.value T.name T.Spelling name.now word.now result }
-    ensures fault { RefusesNamed T.format T.name T.Spelling name.now word.now result }
+    ensures reads { ReadsEntry T.value (IsNamedWord T.name T.Spelling name.now) word.now result }
+    ensures fault { RefusesFor (HasNameFault T.format T.name T.Spelling name.now) word.now result }
     ensures asks { AsksWord T.format word.now result }
 {
     let value: T = read_word(alloc, word)?;

@@ -1,0 +1,3 @@
+pub mod NamedWords
+pub mod LineEnds
+pub mod RevokedLines

@@ -1,0 +1,50 @@
+-- A word is that of one value, whose key is copied.
+use Rattle.std.proofs.Common.{◌≡◌, ℕ, List, [], length, Bool, true, false, Result, Ok, Err, Vec, inl, sym, ap, subst, ◌∙◌, arith}
+use Rattle.std.specs.Prelude.{IfErr, IfOk, is_ok}
+use Rattle.sshkey_base.specs.Answers.{Judges}
+use Rattle.sshkey_base.specs.Causes.{cause}
+use Rattle.sshkey_base.specs.declared.error.Error.{Error}
+use Rattle.sshkey_base.specs.declared.error.Error.TheVariants.{Memory}
+use Rattle.sshkey_cert.specs.Lines.{certificates_stand}
+use Rattle.sshkey_entries.specs.Answers.{AsksEntry, ReadsEntry, RefusesFor}
+use Rattle.sshkey_model.proofs.Base64Words.{one_blob, some_word}
+use Rattle.sshkey_model.proofs.Blobs.{key_blobs}
+use Rattle.sshkey_model.proofs.CombinedReaders.{bytes_fit}
+use Rattle.sshkey_model.specs.Lines.{IsBlob}
+use Rattle.sshkey_model.specs.Names.{Algorithm}
+use Rattle.sshkey_model.specs.Reading.{Fault}
+use Rattle.sshkey_public.specs.Lines.{IsWordOf}
+use Rattle.sshkey_revoked_keys.specs.NamedWords.{HasKeyFault, NeedsKey, SaysKey}
+
+pub one_value : {V : Type 0} (Spells : V → List ℕ → Type 0) → IsBlob Spells → (word : List ℕ) (v w : V) → IsWordOf Spells word v → IsWordOf Spells word w → v ≡ w
+one_value Spells blobs word v w a b =
+    let same = one_blob a.blob b.blob (bytes_fit a.blob (blobs.bytes v a.blob a.spelled)) (bytes_fit b.blob (blobs.bytes w b.blob b.spelled)) (sym a.is ∙ b.is) in
+    blobs.one v w b.blob (subst (Spells v) same a.spelled) b.spelled
+
+-- Where a word is read, its value's key is copied.
+module _ (certified : Bool) (first word normal : List ℕ) (says : SaysKey certified first word normal) {Z : Type 0} where
+  pub key_reads : (r : Result (Vec ℕ Z) Error) → IfOk r (λ v. v.items ≡ normal) → IfErr r (λ e. e ≡ Memory) → ReadsEntry (λ v. v.items) (SaysKey certified first) word r
+  key_reads (Ok v) is memory = subst (SaysKey certified first word) (sym is) says
+  key_reads (Err e) is memory = λ other. absurd (other (ap cause memory))
+
+  pub key_refuses : (r : Result (Vec ℕ Z) Error) → IfErr r (λ e. e ≡ Memory) → RefusesFor (HasKeyFault certified first) word r
+  key_refuses (Ok v) memory = tt
+  key_refuses (Err e) memory = λ other. absurd (other (ap cause memory))
+
+  pub key_asks : (r : Result (Vec ℕ Z) Error) → AsksEntry (NeedsKey certified first) word r
+  key_asks (Ok v) = tt
+  key_asks (Err e) = λ _. inl (normal, says)
+
+-- A name is judged without memory.
+pub name_judged : (found : Result Algorithm Fault) (r : Result (Unit {0}) Error) (b : Bool) → Judges cause found r → b ≡ is_ok r → b ≡ is_ok found
+name_judged (Ok a) (Ok u) b judged is = is
+name_judged (Ok a) (Err e) b judged is = is ∙ judged
+name_judged (Err f) (Ok u) b judged is = absurd judged
+name_judged (Err f) (Err e) b judged is = is
+
+no_word : {V : Type 0} (Spells : V → List ℕ → Type 0) → IsBlob Spells → (v : V) → IsWordOf Spells [] v → ⊥
+no_word Spells blobs v w = omega (arith, ap length w.is, some_word w.blob (blobs.some v w.blob w.spelled))
+
+pub no_key : (certified : Bool) (first key : List ℕ) → SaysKey certified first [] key → ⊥
+no_key true first key says = no_word _ certificates_stand.blobs says.0 says.1.spelled
+no_key false first key says = no_word _ key_blobs says.0 says.1.spelled

@@ -1,0 +1,69 @@
+-- What a line is read as.
+use Rattle.std.proofs.Common.{◌≡◌, ℕ, ◌<◌, List, [], ◌∷◌, length, Bool, Result, Ok, Err, Vec, inl, inr, sym, ap, subst, refl, ◌∙◌, arith}
+use Rattle.std.specs.Str.Lines.{strip_carriage_return}
+use Rattle.sshkey_base.specs.declared.encoding.Error.TheVariants.{Length}
+use Rattle.sshkey_base.specs.declared.error.Error.{Error}
+use Rattle.sshkey_base.specs.declared.error.Error.TheVariants.{Encoding}
+use Rattle.sshkey_entries.specs.Answers.{AsksEntry, ReadsEntry, RefusesFor}
+use Rattle.sshkey_entries.specs.Cuts.{CutsField}
+use Rattle.sshkey_entries.specs.Fields.{without_blanks}
+use Rattle.sshkey_entries.proofs.FieldKeys.{fields_are}
+use Rattle.sshkey_entries.proofs.Fields.{same_field}
+use Rattle.sshkey_revoked_keys.proofs.NamedWords.{no_key}
+use Rattle.sshkey_revoked_keys.specs.NamedWords.{HasKeyFault, NeedsKey, SaysKey}
+use Rattle.sshkey_revoked_keys.specs.RevokedLines.{BeginsWith, HasLineFault, NeedsEntry, RevokesKey, is_certified_name}
+
+pub begins : (line name behind skipped field rest word : List ℕ) → CutsField line name behind → skipped ≡ without_blanks behind → CutsField skipped field rest → word ≡ strip_carriage_return field → BeginsWith line name word
+begins line name behind skipped field rest word first skips second is = record { field = field; rest = rest; fields = fields_are line name behind skipped field rest first skips second; word_is = is }
+
+-- A line begins with one name and one word.
+one_begin : (line n w m v : List ℕ) → BeginsWith line n w → BeginsWith line m v → (n ≡ m) × (w ≡ v)
+one_begin line n w m v a b =
+    let names = same_field n m a.fields.behind b.fields.behind a.fields.first.one_word b.fields.first.one_word a.fields.first.ends b.fields.first.ends (sym a.fields.first.is ∙ b.fields.first.is) in
+    let words = same_field a.field b.field a.rest b.rest a.fields.second.one_word b.fields.second.one_word a.fields.second.ends b.fields.second.ends (sym a.fields.second.is ∙ ap without_blanks names.1 ∙ b.fields.second.is) in
+    (names.0, a.word_is ∙ ap strip_carriage_return words.0 ∙ sym b.word_is)
+
+module _ (line name word : List ℕ) (begin : BeginsWith line name word) where
+  said_here : (key : List ℕ) → RevokesKey line key → SaysKey (is_certified_name name) name word key
+  said_here key r =
+      let same = one_begin line r.name r.word name word r.begins begin in
+      subst (λ (n : List ℕ). SaysKey (is_certified_name n) n word key) same.0 (subst (λ (w : List ℕ). SaysKey (is_certified_name r.name) r.name w key) same.1 r.says)
+
+  -- ---- no word
+
+  module _ (none : length word ≡ 0) where
+    empty : (w : List ℕ) → length w ≡ 0 → w ≡ []
+    empty [] e = refl
+    empty (c ∷ w) e = absurd (omega (arith, e))
+
+    pub no_word_said : (key : List ℕ) → RevokesKey line key → ⊥
+    no_word_said key r = no_key (is_certified_name name) name key (subst (λ (w : List ℕ). SaysKey (is_certified_name name) name w key) (empty word none) (said_here key r))
+
+    pub no_word_fault : HasLineFault line (Encoding Length)
+    no_word_fault = record {
+      no_word = λ n b. refl;
+      no_key = λ n w b some. absurd (omega (arith, some, none, ap length (one_begin line n w name word b begin).1));
+    }
+
+  -- ---- a word
+
+  module _ (certified : Bool) (is : is_certified_name name ≡ certified) {Z : Type 0} where
+    pub line_reads : (r : Result (Vec ℕ Z) Error) → ReadsEntry (λ v. v.items) (SaysKey certified name) word r → ReadsEntry (λ v. v.items) RevokesKey line r
+    line_reads (Ok v) says = record { name = name; word = word; begins = begin; says = subst (λ (b : Bool). SaysKey b name word v.items) (sym is) says }
+    line_reads (Err e) none = λ other key r. none other key (subst (λ (b : Bool). SaysKey b name word key) is (said_here key r))
+
+    pub line_refuses : (r : Result (Vec ℕ Z) Error) → 0 < length word → RefusesFor (HasKeyFault certified name) word r → RefusesFor HasLineFault line r
+    line_refuses (Ok v) some fault = tt
+    line_refuses (Err e) some fault = λ other. record {
+      no_word = λ n b. absurd (omega (arith, some, ap length (one_begin line n [] name word b begin).1));
+      no_key = λ n w b _.
+          let same = one_begin line name word n w begin b in
+          subst (λ (m : List ℕ). HasKeyFault (is_certified_name m) m w e) same.0 (subst (λ (v : List ℕ). HasKeyFault (is_certified_name name) name v e) same.1 (subst (λ (b : Bool). HasKeyFault b name word e) (sym is) (fault other)));
+    }
+
+    pub line_asks : (r : Result (Vec ℕ Z) Error) → AsksEntry (NeedsKey certified name) word r → AsksEntry NeedsEntry line r
+    line_asks (Ok v) needs = tt
+    line_asks (Err e) needs = λ memory. elim (subst (λ (b : Bool). NeedsKey b name word) (sym is) (needs memory)) [
+      | inl said ↦ inl (said.0, record { name = name; word = word; begins = begin; says = said.1 })
+      | inr bytes ↦ inr (record { name = name; word = word; begins = begin; needed = bytes })
+    ]
