@@ -27,6 +27,7 @@ pub mod to_be_signed
 pub mod cert
 pub mod cert_ref
 pub mod krl
+pub mod revoked_keys
 pub mod builder
 pub mod types
 pub mod NormalForms

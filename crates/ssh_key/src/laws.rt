@@ -174,6 +174,8 @@ pub use sshkey_private::laws::read_back_private_key;
 pub use sshkey_private::laws::spelled_padded_private_key;
 pub use sshkey_private::laws::spelled_private_key;
 pub use sshkey_public::laws::compared_public_keys;
+pub use sshkey_revoked_keys::laws::lines_revoke;
+pub use sshkey_revoked_keys::laws::one_revoked_key;
 pub use sshkey_sshsig::laws::compared_ssh_signatures;
 pub use sshkey_sshsig::laws::digest_parts_fit;
 pub use sshkey_sshsig::laws::exact_ssh_signature;

@@ -1,3 +1,4 @@
 pub mod NamedWords
 pub mod LineEnds
 pub mod RevokedLines
+pub mod KeyLines

@@ -10,7 +10,10 @@ use Rattle.sshkey_entries.specs.Answers.{AsksEntry, ReadsEntry, RefusesFor}
 use Rattle.sshkey_model.proofs.Base64Words.{one_blob, some_word}
 use Rattle.sshkey_model.proofs.Blobs.{key_blobs}
 use Rattle.sshkey_model.proofs.CombinedReaders.{bytes_fit}
+use Rattle.sshkey_model.specs.Certificates.{Certificate}
+use Rattle.sshkey_model.specs.Keys.{Key, normal_key}
 use Rattle.sshkey_model.specs.Lines.{IsBlob}
+use Rattle.sshkey_model.specs.Parts.{flat}
 use Rattle.sshkey_model.specs.Names.{Algorithm}
 use Rattle.sshkey_model.specs.Reading.{Fault}
 use Rattle.sshkey_public.specs.Lines.{IsWordOf}
@@ -48,3 +51,7 @@ no_word Spells blobs v w = omega (arith, ap length w.is, some_word w.blob (blobs
 pub no_key : (certified : Bool) (first key : List ℕ) → SaysKey certified first [] key → ⊥
 no_key true first key says = no_word _ certificates_stand.blobs says.0 says.1.spelled
 no_key false first key says = no_word _ key_blobs says.0 says.1.spelled
+
+pub one_said : (certified : Bool) (first word a b : List ℕ) → SaysKey certified first word a → SaysKey certified first word b → a ≡ b
+one_said true first word a b x y = x.2 ∙ ap (λ (c : Certificate). flat (normal_key c.signed.key)) (one_value _ certificates_stand.blobs word x.0 y.0 x.1.spelled y.1.spelled) ∙ sym y.2
+one_said false first word a b x y = x.2 ∙ ap (λ (k : Key). flat (normal_key k)) (one_value _ key_blobs word x.0 y.0 x.1.spelled y.1.spelled) ∙ sym y.2

@@ -9,7 +9,7 @@ use Rattle.sshkey_entries.specs.Cuts.{CutsField}
 use Rattle.sshkey_entries.specs.Fields.{without_blanks}
 use Rattle.sshkey_entries.proofs.FieldKeys.{fields_are}
 use Rattle.sshkey_entries.proofs.Fields.{same_field}
-use Rattle.sshkey_revoked_keys.proofs.NamedWords.{no_key}
+use Rattle.sshkey_revoked_keys.proofs.NamedWords.{no_key, one_said}
 use Rattle.sshkey_revoked_keys.specs.NamedWords.{HasKeyFault, NeedsKey, SaysKey}
 use Rattle.sshkey_revoked_keys.specs.RevokedLines.{BeginsWith, HasLineFault, NeedsEntry, RevokesKey, is_certified_name}
 
@@ -67,3 +67,7 @@ module _ (line name word : List ℕ) (begin : BeginsWith line name word) where
       | inl said ↦ inl (said.0, record { name = name; word = word; begins = begin; says = said.1 })
       | inr bytes ↦ inr (record { name = name; word = word; begins = begin; needed = bytes })
     ]
+
+-- A line revokes one key.
+pub one_key : (line a b : List ℕ) → RevokesKey line a → RevokesKey line b → a ≡ b
+one_key line a b r s = one_said (is_certified_name r.name) r.name r.word a b r.says (said_here line r.name r.word r.begins b s)

@@ -1,7 +1,7 @@
 -- What a revocation file says (sshd_config(5), "RevokedKeys"), and what it revokes.
 use Rattle.std.proofs.Common.{Global}
 use Rattle.std.specs.Prelude.{◌≡◌, ◌≢◌, ◌||◌, ℕ, List, Bool, eqb, bytes_eq, Result, Ok, Err, IsOkAnd, IsErrAnd, Vec}
-use Rattle.std.specs.List.{list_any, starts_with}
+use Rattle.std.specs.List.{Any, list_any, starts_with}
 use Rattle.sshkey_base.specs.Causes.{cause, Faulty, NoMemory}
 use Rattle.sshkey_base.specs.declared.error.Error.{Error}
 use Rattle.sshkey_entries.specs.Answers.{AreEntries, AsksEntries, FirstIsNone}
@@ -29,6 +29,10 @@ IsKrl bytes (Keys keys) = ⊥
 abbrev pub AreKeys : List ℕ → RevokedKeys → Type 0
 AreKeys text (Krl k) = ⊥
 AreKeys text (Keys keys) = AreEntries (λ key. key.items) RevokesKey (revoked_lines text) keys.items
+
+-- A line of the text revokes the key.
+abbrev pub HasLineOf : List ℕ → List ℕ → Type 0
+HasLineOf text key = Any (λ line. RevokesKey line key) (revoked_lines text)
 
 -- ---- what it revokes
 
