@@ -73,7 +73,7 @@ pub mod public {
 
 /// Revocation lists.
 pub mod revocation {
-    pub use ssh_key::revocation::{Krl, KrlRef, NoRevocations, Revocations};
+    pub use ssh_key::revocation::{Krl, KrlRef, NoRevocations, Revocations, RevokedKeys};
 }
 
 /// The laws.
@@ -148,6 +148,7 @@ pub mod laws {
     pub use ssh_key::laws::key_fits;
     pub use ssh_key::laws::lines;
     pub use ssh_key::laws::lines_apart;
+    pub use ssh_key::laws::lines_revoke;
     pub use ssh_key::laws::normal_bodies;
     pub use ssh_key::laws::normal_certificate_names;
     pub use ssh_key::laws::normal_certificates;
@@ -177,6 +178,7 @@ pub mod laws {
     pub use ssh_key::laws::one_known_host;
     pub use ssh_key::laws::one_krl;
     pub use ssh_key::laws::one_options;
+    pub use ssh_key::laws::one_revoked_key;
     pub use ssh_key::laws::one_signature;
     pub use ssh_key::laws::one_ssh_signature;
     pub use ssh_key::laws::one_verdict;

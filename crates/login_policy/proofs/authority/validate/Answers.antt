@@ -22,5 +22,5 @@ returns-in_err-validate_principal_at-clause-refused g c =
     let p = err_from_is_err_and c.from_residual-in_err-validate_principal_at.result c.from_residual-in_err-validate_principal_at.ensures.1 in
     let trusted = sym (own_authority c.args.authorities.now (certificate_of c.args.certificate.now) _ c.in_ok-authority.authority _ _ c.signature_key.ensures.value c.in_ok-authority.ensures.gives c.as_bytes.ensures c.contains_digest.ensures) ∙ c.if-not-contains_digest.false in
     rw p.1 (λ other.
-        let is = other_of _ p.0 p.2 other in
-        rw is.1 (NotValid trusted (sym c.in-Ok.ensures ∙ c.if-is_revoked.false) _ (c.in_err-validate_principal_at.ensures is.0).1))
+    let is = other_of _ p.0 p.2 other in
+    rw is.1 (NotValid trusted (sym c.in-Ok.ensures ∙ c.if-is_revoked.false) _ (c.in_err-validate_principal_at.ensures is.0).1))

@@ -16,8 +16,8 @@ pub returns-in_err-certificate-clause-refused : goal.returns-in_err-certificate-
 returns-in_err-certificate-clause-refused g c =
     let p = err_from_is_err_and c.from_residual.result c.from_residual.ensures.1 in
     rw p.1 (λ other.
-        let is = other_of _ p.0 p.2 other in
-        inl (c.in_err-certificate.ensures.reads (other_cause _ is.0), (_, c.in_err-certificate.ensures.fault (other_cause _ is.0), p.2)))
+    let is = other_of _ p.0 p.2 other in
+    inl (c.in_err-certificate.ensures.reads (other_cause _ is.0), (_, c.in_err-certificate.ensures.fault (other_cause _ is.0), p.2)))
 
 pub returns-in_err-certificate-clause-memory : goal.returns-in_err-certificate-clause-memory
 returns-in_err-certificate-clause-memory g c =
