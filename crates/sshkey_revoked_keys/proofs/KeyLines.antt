@@ -1,5 +1,5 @@
 -- The keys of lines, and the lines that revoke a key.
-use Rattle.std.proofs.Common.{◌≡◌, ◌⊎◌, ◌↔◌, ℕ, zero, suc, ◌<◌, List, [], ◌∷◌, length, slice_index_or, Bool, true, false, ◌||◌, IsTrue, Vec, Global, inl, inr, sym, subst, ◌∙◌, refl, arith, bytes_eq}
+use Rattle.std.proofs.Common.{◌≡◌, ◌⊎◌, ℕ, zero, suc, ◌<◌, List, [], ◌∷◌, length, slice_index_or, Bool, true, false, ◌||◌, Vec, Global, inl, inr, sym, subst, refl, arith, bytes_eq}
 use Rattle.std.specs.List.{Any}
 use Rattle.std.proofs.lemmas.Slice.Eq.{bytes_eq-Decides}
 use Rattle.std.proofs.Math.Bool.{or-true}

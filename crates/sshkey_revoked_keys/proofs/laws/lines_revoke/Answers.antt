@@ -1,4 +1,4 @@
-use Rattle.std.proofs.Common.{◌≡◌, ◌⊎◌, ◌↔◌, ℕ, List, IsTrue, inl, inr}
+use Rattle.std.proofs.Common.{◌⊎◌, ◌↔◌, ℕ, List, IsTrue, inl, inr}
 use Rattle.sshkey_krl.specs.Revocation.{Grant}
 use Rattle.sshkey_revoked_keys.proofs.KeyLines.{either, key_found, left, line_found, right}
 use Rattle.sshkey_revoked_keys.specs.RevokedKeys.{AreKeys, HasLineOf, has_key, revokes, revokes_key}
