@@ -133,8 +133,8 @@ no_login accepts revokes authorities t user text offered none login = none login
 
 -- ---- what is granted
 
-pub lets_in : (accepts : Question → Bool) (revokes : List ℕ → krl.Grant → Bool) (authorities : List Fingerprint) (t : ℕ) (user text comment : List ℕ) (offered : Key) (c : Certificate) → IsCertificateLine text c comment → HasRightFields user offered c → is_certificate_revoked revokes c ≡ false → IsValidFor accepts authorities t user c → IsLogin accepts revokes authorities t user offered text
-lets_in accepts revokes authorities t user text comment offered c line right unrevoked valid = record { certificate = c; comment = comment; line = line; lets_in = record { fields = right; listed = listed c user right.principals valid.allowed; unrevoked = unrevoked; valid = valid.valid } }
+pub granted : (accepts : Question → Bool) (revokes : List ℕ → krl.Grant → Bool) (authorities : List Fingerprint) (t : ℕ) (user text comment : List ℕ) (offered : Key) (c : Certificate) (g : Grant) → IsCertificateLine text c comment → HasRightFields user offered c → is_certificate_revoked revokes c ≡ false → IsValidFor accepts authorities t user c → IsGrantOf c g → GrantsExactly accepts revokes authorities t user offered text (Ok g)
+granted accepts revokes authorities t user text comment offered c g line right unrevoked valid is = (record { certificate = c; comment = comment; line = line; lets_in = record { fields = right; listed = listed c user right.principals valid.allowed; unrevoked = unrevoked; valid = valid.valid } }, is)
 
 -- ---- where memory is asked for
 

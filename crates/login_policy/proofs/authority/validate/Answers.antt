@@ -9,7 +9,7 @@ pub returns-in_err-authority-clause-refused : goal.returns-in_err-authority-clau
 returns-in_err-authority-clause-refused g c =
     let p = err_from_is_err_and c.from_residual.result c.from_residual.ensures.1 in
     let long = long_key (certificate_of c.args.certificate.now) _ _ c.signature_key.ensures.value c.requires c.in_err-authority.ensures.gives (λ short. cc (c.in_err-authority.ensures.short short)) in
-    rw p.1 (λ other. absurd {A = ⊥} (other (ran_out _ p.0 p.2 long.0)))
+    rw p.1 (λ other. absurd (other (ran_out _ p.0 p.2 long.0)))
 
 pub returns-then-not-contains_digest-clause-refused : goal.returns-then-not-contains_digest-clause-refused
 returns-then-not-contains_digest-clause-refused g c = λ other. OtherAuthority (sym (own_authority c.args.authorities.now (certificate_of c.args.certificate.now) _ c.in_ok-authority.authority _ _ c.signature_key.ensures.value c.in_ok-authority.ensures.gives c.as_bytes.ensures c.contains_digest.ensures) ∙ c.if-not-contains_digest.true)

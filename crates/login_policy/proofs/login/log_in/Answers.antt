@@ -2,9 +2,8 @@ use Rattle.std.proofs.Common.{inl, inr}
 use Rattle.std.proofs.lemmas.Result.{err_from_is_err_and}
 use Rattle.ssh_key.specs.cert.CertificateValues.{certificate_of}
 use Rattle.ssh_key.specs.cert.Validity.{fingerprints_of}
-use Rattle.ssh_key.specs.keys.Keys.{key_of}
 use Rattle.ssh_key.proofs.Acceptance.{other_cause}
-use Rattle.login_policy.proofs.Logins.{field_not_memory, fits, lets_in, memory_of, needed, no_login, other_of, ran_out, refused, trusted}
+use Rattle.login_policy.proofs.Logins.{field_not_memory, fits, granted, memory_of, needed, no_login, other_of, refused, trusted}
 use Rattle.login_policy.proofs.login.log_in.Goals as goal
 
 pub returns-in_err-certificate-clause-exactly : goal.returns-in_err-certificate-clause-exactly
@@ -63,4 +62,4 @@ returns-in_err-grant_of-clause-memory g c =
     rw p.1 (λ memory. inr (inr (_, _, c.in_ok-certificate.ensures.reads, inr (trusted c.refused_or_wanted.ensures _ _ _ _ _ c.in_ok-authority.ensures.valid))))
 
 pub returns-clause-exactly : goal.returns-clause-exactly
-returns-clause-exactly g c = (lets_in _ _ _ _ _ _ _ _ _ c.in_ok-certificate.ensures.reads c.in_ok-check_fields.ensures.right c.in_ok-authority.ensures.unrevoked c.in_ok-authority.ensures.valid, c.in_ok-grant_of.ensures.value)
+returns-clause-exactly g c = granted _ _ _ _ _ _ _ _ _ _ c.in_ok-certificate.ensures.reads c.in_ok-check_fields.ensures.right c.in_ok-authority.ensures.unrevoked c.in_ok-authority.ensures.valid c.in_ok-grant_of.ensures.value
