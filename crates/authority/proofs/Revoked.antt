@@ -1,5 +1,6 @@
 -- The list of what an authority took back revokes that, and nothing else.
-use Rattle.std.proofs.Common.{◌≡◌, inl, inr, ℕ, zero, suc, Bool, true, false, not, ◌&&◌, ◌||◌, List, [], ◌∷◌, ◌++◌, refl, sym, arith}
+use Rattle.std.proofs.Common.{◌≡◌, inl, inr, ℕ, Bool, true, false, not, ◌&&◌, ◌||◌, List, [], ◌∷◌, ◌++◌, refl, sym, arith}
+use Rattle.std.proofs.lemmas.Bool.{eqb-true}
 use Rattle.std.specs.Prelude.{◌==◌, bytes_eq}
 use Rattle.std.specs.List.{list_any}
 use Rattle.ssh_key.specs.krl.Revocation.{Certificates, Krl, Numbers, Section, Signer, begun, with_section}
@@ -16,8 +17,11 @@ or_none false = refl
 
 said : (by : Bool) (n : ℕ) (ns : List ℕ) → has_zero ns ≡ false → ((by && ((not (n == 0) && list_any (λ m. m == n) ns) || false)) || false) ≡ (by && list_any (λ m. m == n) ns)
 said false n ns some = refl
-said true zero ns some = sym some
-said true (suc n) ns some = or_none (list_any (λ m. m == suc n) ns)
+said true n ns some = go (n == 0) refl
+  where
+    go : (z : Bool) → (n == 0) ≡ z → (((not (n == 0) && list_any (λ m. m == n) ns) || false) || false) ≡ list_any (λ m. m == n) ns
+    go false e = rw e (or_none (list_any (λ m. m == n) ns))
+    go true e = rw (eqb-true n 0 e) (sym some)
 
 pub takes_back : (authority : Key) (serials : List ℕ) (n d : ℕ) (comment : List ℕ) (k : Krl) → has_zero serials ≡ false → k ≡ with_section (begun n d comment) (Certificates (Signer authority) (Numbers (Listed serials) ∷ [])) → TakesBack authority serials k
 takes_back authority serials n d comment k some is = rw is (record { keys = λ key. refl; certificates = λ key grant. said (bytes_eq grant.signer (flat (normal_key authority))) grant.serial serials some })
@@ -28,10 +32,11 @@ stated n d comment s k is = rw is (refl, refl)
 -- one more that is not 0
 pub numbered : (ns : List ℕ) (n : ℕ) → has_zero ns ≡ false → (n == 0) ≡ false → has_zero (ns ++ n ∷ []) ≡ false
 numbered [] n none some = rw some refl
-numbered (m ∷ ns) n none some = go (m == 0) none
+numbered (m ∷ ns) n none some = go (m == 0) none (λ e. numbered ns n e some)
   where
-    go : (b : Bool) → (b || has_zero ns) ≡ false → (b || has_zero (ns ++ n ∷ [])) ≡ false
-    go false e = numbered ns n e some
+    go : (b : Bool) → (b || has_zero ns) ≡ false → (has_zero ns ≡ false → has_zero (ns ++ n ∷ []) ≡ false) → (b || has_zero (ns ++ n ∷ [])) ≡ false
+    go false e more = more e
+    go true e more = absurd (cc e)
 
 -- ---- why no list is made
 

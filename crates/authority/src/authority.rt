@@ -133,7 +133,7 @@ impl Authority {
             self.now.revoked.items) }
     {
         let mut krl = Krl::new(alloc, number, date, "")?;
-        krl.revoke_serials(Some(public_key), &self.revoked)?;
+        krl.revoke_serials(Some(public_key), self.revoked.as_slice())?;
         Ok(krl)
     }
 

@@ -11,7 +11,8 @@ pub returns-clause-stated : goal.returns-clause-stated
 returns-clause-stated c =
     let section = Certificates (Signer (key_of c.args.public_key.now)) (Numbers (Listed c.args.self.now.revoked.items) ∷ []) in
     let first = c.in_ok-krl.ensures.begins refl in
-    let then = c.in_ok-revoke_serials.ensures.added c.args.self.now.numbered in
+    let added = rw c.as_slice.ensures.value at c.in_ok-revoke_serials.ensures.added in
+    let then = added c.args.self.now.numbered in
     stated c.args.number c.args.date [] section (krl_of c.revoke_serials.new.self) (then.0 ∙ ap (λ (z : Krl). with_section z section) first.0)
 
 pub returns-clause-revoked : goal.returns-clause-revoked
@@ -20,7 +21,8 @@ returns-clause-revoked c =
     let serials = c.args.self.now.revoked.items in
     let section = Certificates (Signer authority) (Numbers (Listed serials) ∷ []) in
     let first = c.in_ok-krl.ensures.begins refl in
-    let then = c.in_ok-revoke_serials.ensures.added c.args.self.now.numbered in
+    let added = rw c.as_slice.ensures.value at c.in_ok-revoke_serials.ensures.added in
+    let then = added c.args.self.now.numbered in
     takes_back authority serials c.args.number c.args.date [] (krl_of c.revoke_serials.new.self) c.args.self.now.numbered (then.0 ∙ ap (λ (z : Krl). with_section z section) first.0)
 
 pub returns-in_err-krl-clause-refused : goal.returns-in_err-krl-clause-refused
@@ -31,4 +33,5 @@ returns-in_err-krl-clause-refused c =
 pub returns-in_err-revoke_serials-clause-refused : goal.returns-in_err-revoke_serials-clause-refused
 returns-in_err-revoke_serials-clause-refused c =
     let p = err_from_is_err_and c.from_residual-in_err-revoke_serials.result c.from_residual-in_err-revoke_serials.ensures.1 in
-    rw (p.1, p.2) (none_added (key_of c.args.public_key.now) c.args.self.now.revoked.items _ (c.in_err-revoke_serials.ensures.added c.args.self.now.numbered).0)
+    let added = rw c.as_slice.ensures.value at c.in_err-revoke_serials.ensures.added in
+    rw (p.1, p.2) (none_added (key_of c.args.public_key.now) c.args.self.now.revoked.items _ (added c.args.self.now.numbered).0)
