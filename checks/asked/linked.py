@@ -149,6 +149,17 @@ def check_layout(count, sshkey):
     count.check("the end of a window that has none is the same", sshkey.FOREVER == 2**64 - 1 and "SSHKEY_FOREVER UINT64_MAX" in header())
 
 
+def check_judge_names(count, built):
+    """What programs copy of the helpers takes no name that they may have themselves."""
+    names = set()
+    for part in ("judge", "sshsig", "verify"):
+        names |= {it.split()[-1] for it in run(["nm", "-g", "--defined-only", f"{built.plain}/{part}.o"]).stdout.splitlines()}
+        with open(f"{HELPERS}/{part}.h", encoding="ascii") as file:
+            names |= set(re.findall(r"^(?:\} |typedef \w+ )(\w+)[;(]", file.read(), re.M))
+    other = {it for it in names if not it.startswith("judge_")}
+    count.check(f"{len(names)} names of judge.h, sshsig.h and verify.h begin with judge_", len(names) > 15 and not other, other)
+
+
 def is_found(folder, package, library):
     """Whether a program of one line finds header and library by pkg-config, and runs."""
     path = f"{folder}/linked"
@@ -207,3 +218,4 @@ def check_linked(count, built, sshkey, folder):
     count.check("pkg-config finds the library", is_found(folder, built.plain, built.plain))
     check_installed(count, built, folder)
     check_names(count, built)
+    check_judge_names(count, built)
