@@ -128,7 +128,7 @@ def check_hostile_signatures(count, programs, maker):
 
 
 def check_hostile_words(count, built, made):
-    """What a client sends, and files of any bytes, make the programs for sshd read nothing that is not theirs."""
+    """What a client sends, and files of any bytes, make the programs read nothing that is not theirs."""
     maker, draw = made.maker, random.Random(70)
     lines = [line_of(data) for kind, data, _ in made.hostile[::HOSTILE_WORDS] if kind in ("certificate", "key")]
     offered = [it.split(" ")[:2] for it in lines if "\0" not in it]
@@ -144,6 +144,11 @@ def check_hostile_words(count, built, made):
             is_sound = ran.returncode in (0, 1) and not re.search(rb"Sanitizer|runtime error", ran.stderr)
             wrong += [] if is_sound else [(words, ran)]
         count.check(f"{name} with sanitizers, {len(asked)} hostile keys and files", not wrong, *wrong[:2])
+    shown = [line_of(data) for kind, data, _ in made.hostile if kind == "certificate"]
+    ran = run([f"{built.sanitized}/sshkey-check"], input="".join(f"{it}\n" for it in shown))
+    named = ran.stderr.count("sshkey-check: (stdin):") + ran.stdout.count("        Type: ")
+    is_sound = ran.returncode == INVALID and named == len(shown) and not re.search("Sanitizer|runtime error", ran.stderr)
+    count.check(f"sshkey-check with sanitizers shows or names {len(shown):,} hostile certificates", is_sound, named, ran.stderr[-2000:])
 
 
 # ---- how it is called
