@@ -156,6 +156,14 @@ static void ask_verdict(given_call *it, const char *name) {
   printf("%" PRIu32, ask(it, "authority_verdict", NULL));
 }
 
+static void ask_revoked(given_call *it, const char *name) {
+  uint32_t answer = ask(it, name, NULL);
+  if (answer == SSHKEY_NOT_REVOKED)
+    printf("0 0");
+  else if (is_done(answer))
+    printf(" 1");
+}
+
 static void ask_key(given_call *it, const char *name) {
   uint8_t text[SSHKEY_FINGERPRINT_TEXT], longer[SSHKEY_FINGERPRINT_SHA512_TEXT];
   if (!is_done(ask(it, name, NULL))) return;
@@ -290,6 +298,8 @@ static const struct {
     {"host", ask_entry, "known_host", 1},
     {"options", ask_options, "nth_option", 1},
     {"verdict", ask_verdict, "host_verdict", 3},
+    {"revokes-key", ask_revoked, "krl_revokes_key", 2},
+    {"revokes-certificate", ask_revoked, "krl_revokes_certificate", 2},
     {"string-places", ask_places, "next_string", 1},
     {"option-places", ask_places, "next_option", 1},
 };

@@ -1,5 +1,5 @@
-/* sshkey.h: certificates, signatures, keys, authorized_keys and known_hosts of OpenSSH, for C and
- * whoever calls C.
+/* sshkey.h: certificates, signatures, keys, revocation lists, authorized_keys and known_hosts of
+ * OpenSSH, for C and whoever calls C.
  *
  * Cryptography is yours. A check is two calls with your verification between them:
  *
@@ -67,7 +67,7 @@ uint32_t sshkey_abi(void);
 /* ---- what calls return ----------------------------------------------------------------------- */
 
 enum {
-  SSHKEY_DONE = 0,   /* done; of a validation: it is valid */
+  SSHKEY_DONE = 0,   /* done; of a validation: it is valid; of a revocation list: it revokes */
   SSHKEY_MEMORY = 1, /* malloc refused; nothing is said of the input, and nothing is kept: the call
                         may be made again */
   SSHKEY_ROOM = 2,   /* the room is too short; `length` says how many bytes are needed */
@@ -76,9 +76,9 @@ enum {
                         options, a text of known_hosts or a host's name; nothing is said of the
                         rest. sshkey_read_line returns 11 for such a line */
 
-  /* 10 to 29: the bytes are no certificate, key or signature, which is the first fault from the
-   * left; or the line is none, which is a fault that it has. For logs: lines with one fault may
-   * answer different numbers */
+  /* 10 to 29: the bytes are no certificate, key, signature or revocation list, which is the first
+   * fault from the left; or the line is none, which is a fault that it has. For logs: lines with
+   * one fault may answer different numbers */
   SSHKEY_BASE64 = 10,             /* a word of a line is no Base64, or not the one of its bytes */
   SSHKEY_CHARACTER_ENCODING = 11, /* a text is not UTF-8, or has a character that no name has */
   SSHKEY_LABEL = 12,              /* a name that is none of those that may stand there */
@@ -95,7 +95,8 @@ enum {
   SSHKEY_TIME = 19,               /* a time above 2^63 - 1 in the certificate */
   SSHKEY_NAMESPACE = 20,          /* an empty namespace in the SSH signature */
   SSHKEY_PUBLIC_KEY = 21,         /* never returned: a fault of private keys */
-  SSHKEY_UNSUPPORTED_VERSION = 22, /* an SSH signature of a version above 1 */
+  SSHKEY_UNSUPPORTED_VERSION = 22, /* an SSH signature of a version above 1, or a revocation list
+                                      of another version than 1 */
   SSHKEY_OTHER_FAULT = 23,        /* never returned */
 
   /* 30 to 34: what is wrong with a certificate that is not valid; the first of these */
@@ -117,7 +118,10 @@ enum {
   SSHKEY_HOST_REVOKED = 50,    /* a line for the host revokes the key */
   SSHKEY_HOST_UNREADABLE = 51, /* a line is no entry, and may be one for the host */
   SSHKEY_HOST_CHANGED = 52,    /* a line for the host has another key, and none has this one */
-  SSHKEY_HOST_UNKNOWN = 53     /* no line without a marker is for the host */
+  SSHKEY_HOST_UNKNOWN = 53,    /* no line without a marker is for the host */
+
+  /* of a revocation list */
+  SSHKEY_NOT_REVOKED = 60 /* it does not revoke the key or the certificate */
 };
 
 /* The name of an answer as it stands above, without SSHKEY_; for logs. */
@@ -135,7 +139,7 @@ static inline const char *sshkey_answer_name(uint32_t answer) {
     SSHKEY_NAMED(UNSUPPORTED); SSHKEY_NAMED(OTHER_NAMESPACE);
     SSHKEY_NAMED(PRINCIPALS); SSHKEY_NAMED(EMPTY_WINDOW);
     SSHKEY_NAMED(HOST_REVOKED); SSHKEY_NAMED(HOST_UNREADABLE);
-    SSHKEY_NAMED(HOST_CHANGED); SSHKEY_NAMED(HOST_UNKNOWN);
+    SSHKEY_NAMED(HOST_CHANGED); SSHKEY_NAMED(HOST_UNKNOWN); SSHKEY_NAMED(NOT_REVOKED);
     default: return "no answer";
   }
 #undef SSHKEY_NAMED
@@ -454,6 +458,24 @@ uint32_t sshkey_signature_normal(const uint8_t *signature, size_t signature_leng
  * answer. The next begins at answer.start + answer.length. SSHKEY_DONE exactly if one stands there;
  * SSHKEY_END at the end of the bytes, else SSHKEY_LENGTH. Takes no memory. */
 uint32_t sshkey_next_string(const uint8_t *bytes, size_t length, size_t place, sshkey_part *answer);
+
+/* ---- revocation lists (PROTOCOL.krl) --------------------------------------------------------- */
+
+/* Whether a key revocation list, as `ssh-keygen -k` makes it, revokes the key of that blob: it has
+ * the key, or its digest by SHA-1 or SHA-256.
+ *
+ * Let in for SSHKEY_NOT_REVOKED alone: a caller that takes any other answer for "not revoked" is
+ * wrong. SSHKEY_DONE exactly if the list revokes the key (memory aside); else 10 to 29 for bytes
+ * that are no list, or else no key. An empty file is no list, nor is a text of keys, which sshd
+ * takes in place of one. SSHKEY_MEMORY only for a key that is not its normal form. */
+uint32_t sshkey_krl_revokes_key(const uint8_t *krl, size_t krl_length, const uint8_t *key,
+                                size_t key_length);
+
+/* The same of a certificate: the list has its key or the key that signed it, or revokes its serial
+ * number or its key id among the certificates of that key or of every key. The serial number 0
+ * revokes nothing. SSHKEY_MEMORY only where the bytes are a list and a certificate. */
+uint32_t sshkey_krl_revokes_certificate(const uint8_t *krl, size_t krl_length,
+                                        const uint8_t *certificate, size_t certificate_length);
 
 /* ---- authorized_keys and known_hosts (sshd(8)) ----------------------------------------------- */
 

@@ -21,6 +21,7 @@ asked/rust over the packages. Words are bytes in hexadecimal (- for none), numbe
     line BYTES                                               0 0|1 BLOB COMMENT, 1 for a certificate
     lines TEXT                                               0 CONTENT ..
     normal key|certificate|sshsig|signature BYTES            0 BYTES
+    revokes-key LIST KEY | revokes-certificate LIST BYTES    0 1 if the list revokes it, else 0 0
     draft KEY NONCE KEY-ID PRINCIPALS CRITICAL EXTENSIONS AUTHORITY SERIAL AFTER BEFORE TYPE ALL
                                                              0 BYTES that are to be signed; lists as a certificate has them, of
                                                              which a package makes lists of its own, ALL 1 for everybody
@@ -182,6 +183,12 @@ class Answers:
 
     def normal(self, kind, data):
         return ["0", word(getattr(self.sshkey, f"normal_{kind}")(data_of(data)))]
+
+    def revokes_key(self, krl, key):
+        return ["0", str(int(self.sshkey.krl_revokes_key(data_of(krl), data_of(key))))]
+
+    def revokes_certificate(self, krl, data):
+        return ["0", str(int(self.sshkey.krl_revokes_certificate(data_of(krl), data_of(data))))]
 
     def draft_in(self, words):
         """What the words tell, as the package takes it."""

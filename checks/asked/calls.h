@@ -57,6 +57,8 @@ typedef struct {
   CALL(sshsig_normal, BYTES(0), ROOM, &it->length)                                               \
   CALL(signature_normal, BYTES(0), ROOM, &it->length)                                            \
   CALL(next_string, BYTES(0), it->numbers[0], &it->part)                                         \
+  CALL(krl_revokes_key, BYTES(0), BYTES(1))                                                      \
+  CALL(krl_revokes_certificate, BYTES(0), BYTES(1))                                              \
   CALL(next_line, BYTES(0), it->numbers[0], &it->part)                                           \
   CALL(authorized_entry, BYTES(0), ROOM, &it->entry)                                             \
   CALL(known_host, BYTES(0), ROOM, &it->entry)                                                   \

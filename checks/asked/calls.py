@@ -9,6 +9,7 @@ from .linked import word
 from .login_calls import check_users
 from .made import MIDDLE
 from .memory_calls import question_of
+from .revocation_calls import EMPTY, check_revocations
 from .security_key_calls import check_signatures
 
 # of how many hostile byte strings a package is asked about one
@@ -18,10 +19,11 @@ OTHERS = 25 * SAMPLED
 # the calls that read the bytes of each kind
 FILE, DIGEST = b"file".hex(), "a5" * 64
 OF_KINDS = {
-    "certificate": ["certificate {}", "fields {}", "lists {}", "normal certificate {}"], "key": ["key {}", "normal key {}"],
+    "certificate": ["certificate {}", "fields {}", "lists {}", "normal certificate {}", f"revokes-certificate {EMPTY.hex()} {{}}"],
+    "key": ["key {}", "normal key {}", f"revokes-key {EMPTY.hex()} {{}}"],
     "ssh-signature": [f"sshsig {{}} {FILE} {b'message'.hex()}", "normal sshsig {}"],
 }  # fmt: skip
-OF_OTHERS = ["normal signature {}", "lines {}", "entry {}", "host {}", "options {}", "line {}"]
+OF_OTHERS = ["normal signature {}", "lines {}", "entry {}", "host {}", "options {}", "line {}", "revokes-key {} -"]
 # those that a package is asked too
 OF_PACKAGES = {
     "certificate": [f"validate {{}} {MIDDLE} * {'00' * 32} 1"], "others": ["strings {}", "certificate-options {}"],
@@ -100,6 +102,7 @@ def check_calls(judge):
     check_keys(judge)
     check_signatures(judge)
     check_digests(judge)
+    check_revocations(judge)
     check_entry_calls(judge)
     check_users(judge)
     check_hosts(judge)

@@ -8,6 +8,7 @@ from lib.harness import ssh_keygen, string
 
 from .key_calls import all_of, encoded, keys_of, renamed, signed_by
 from .linked import ABI, VERSION, declared, header, word
+from .revocation_calls import EMPTY
 
 SPANS, NUMBERS = 7, 5
 # how many bytes the texts of fingerprints have, which no call tells
@@ -16,8 +17,8 @@ TEXTS = {"fingerprint_text": 50, "fingerprint_sha512_text": 93}
 ROOMS = {call for call, given in re.findall(r"^uint32_t sshkey_(\w+)\(([^;]*)\);", header(), re.M) if "*room," in given}
 # those that take memory only where the bytes are values, and of these those that take it only for a key under another name than
 # its own, as the header says
-OF_VALUES = {"certificate_normal", "signature_question", "key_normal", "fingerprint_sha512"}
-OF_OTHER_NAMES = {"key_normal", "fingerprint_sha512"}
+OF_VALUES = {"certificate_normal", "signature_question", "key_normal", "fingerprint_sha512", "krl_revokes_key", "krl_revokes_certificate"}
+OF_OTHER_NAMES = {"key_normal", "fingerprint_sha512", "krl_revokes_key"}
 OTHER_NAME = "rsa-sha2-256"
 # those that do without the memory that they ask for, as the header says, where no authority's key is under another name
 DOING_WITHOUT = {"certificate_validate", "certificate_validate_for"}
@@ -103,6 +104,21 @@ def of_files(maker, key):
     yield "nth_option", [b"\xff"], [0], "TEXT"
 
 
+def of_lists(made, keys):
+    """Calls about lists that revoke a key, and another."""
+    blob, listed = made.kinds[0].blob, made.maker.blob(made.kinds[0].authority)
+    other = EMPTY + b"\2" + string(string(keys["ed25519"]))
+    for revoked, wanted in ((EMPTY + b"\2" + string(string(listed)), "DONE"), (other, "NOT_REVOKED")):
+        yield "krl_revokes_certificate", [revoked, blob], [], wanted
+        yield "krl_revokes_key", [revoked, listed], [], wanted
+    for key in (*keys.values(), renamed(keys["rsa -b 2048"], OTHER_NAME.encode())):
+        yield "krl_revokes_key", [other, key], [], "DONE" if key == keys["ed25519"] else "NOT_REVOKED"
+    for call, value in (("krl_revokes_key", listed), ("krl_revokes_certificate", blob)):
+        yield call, [other[:-1], value], [], "LENGTH"
+        yield call, [other, value[:-1]], [], "LENGTH"
+        yield call, [other, value + b"!"], [], "TRAILING_DATA"
+
+
 def of_drafts(key, authority):
     options = string(b"force-command") + string(string(b"ls"))
     spans = [key, bytes(32), b"id", string(b"alice"), options, string(b"permit-pty") + string(b""), authority]
@@ -133,6 +149,7 @@ def cases(made):
     yield "version", [], [], VERSION
     yield "abi", [], [], ABI
     yield from of_files(maker, keys["ed25519"])
+    yield from of_lists(made, keys)
 
 
 def question_of(what, call, spans, numbers, *more):
@@ -189,7 +206,7 @@ def check_memory(judge):
 
 def takes_early(call, question, wanted, answer):
     """Whether a call takes memory of which the header says otherwise."""
-    is_value, other = wanted in (0, 2), string(OTHER_NAME.encode()).hex() in question
+    is_value, other = wanted in (0, 2, 60), string(OTHER_NAME.encode()).hex() in question
     return answer.split()[1] != "0" and (call in OF_VALUES and not is_value or call in OF_OTHER_NAMES and not other)
 
 

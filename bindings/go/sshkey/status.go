@@ -25,8 +25,8 @@ const (
 	ErrText Status = C.SSHKEY_TEXT
 )
 
-// The bytes are no certificate, key or signature, or the line is none: a fault that they have. For
-// logs: lines with one fault may fail with different ones.
+// The bytes are no certificate, key, signature or revocation list, or the line is none: a fault that
+// they have. For logs: lines with one fault may fail with different ones.
 const (
 	// ErrBase64 is for a word of a line that is no Base64, or not the one of its bytes.
 	ErrBase64 Status = C.SSHKEY_BASE64
@@ -53,7 +53,8 @@ const (
 	ErrTime Status = C.SSHKEY_TIME
 	// ErrNamespace is for an empty namespace in an SSH signature.
 	ErrNamespace Status = C.SSHKEY_NAMESPACE
-	// ErrUnsupportedVersion is for an SSH signature of a version above 1.
+	// ErrUnsupportedVersion is for an SSH signature of a version above 1, and for a revocation list
+	// of another version than 1.
 	ErrUnsupportedVersion Status = C.SSHKEY_UNSUPPORTED_VERSION
 )
 

@@ -1,4 +1,5 @@
-"""Certificates, signatures, keys, authorized_keys and known_hosts of OpenSSH, by the proved library that include/sshkey.h declares.
+"""Certificates, signatures, keys, revocation lists, authorized_keys and known_hosts of OpenSSH, by the proved library that
+include/sshkey.h declares.
 
 Cryptography is yours. A certificate takes two calls, with your verification between them:
 
@@ -48,6 +49,7 @@ from ._keys import (
     string,
     strings,
 )
+from ._revocations import krl_revokes_certificate, krl_revokes_key
 from ._values import (
     ALL_PRINCIPALS,
     FOREVER,
@@ -73,7 +75,7 @@ __all__ = [
     "CertificateType", "Contents", "KnownHost", "Line", "Marker", "Question", "Refused", "Status", "authority_verdict",
     "authorized_entry", "certificate_contents", "certificate_fields", "certificate_question", "certificate_to_be_signed",
     "entry_lines", "entry_options", "fingerprint", "fingerprint_sha512", "fingerprint_sha512_text", "fingerprint_text",
-    "host_verdict", "join_certificate", "known_host", "make_certificate", "normal_certificate", "normal_key", "normal_signature",
-    "normal_sshsig", "options", "read_line", "signature_question", "sshsig_hash", "sshsig_question", "sshsig_question_of_digest",
-    "sshsig_reserved", "string", "strings", "validate_certificate",
+    "host_verdict", "join_certificate", "known_host", "krl_revokes_certificate", "krl_revokes_key", "make_certificate",
+    "normal_certificate", "normal_key", "normal_signature", "normal_sshsig", "options", "read_line", "signature_question",
+    "sshsig_hash", "sshsig_question", "sshsig_question_of_digest", "sshsig_reserved", "string", "strings", "validate_certificate",
 ]  # fmt: skip

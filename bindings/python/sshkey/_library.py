@@ -149,6 +149,8 @@ CALLS = {
     "sshkey_certificate_key": (*BYTES, *WRITTEN),
     "sshkey_certificate_to_be_signed": (ctypes.POINTER(Draft), *WRITTEN),
     "sshkey_certificate_make": (*BYTES, *BYTES, *WRITTEN),
+    "sshkey_krl_revokes_key": (*BYTES, *BYTES),
+    "sshkey_krl_revokes_certificate": (*BYTES, *BYTES),
     "sshkey_next_line": (*PLACE, ctypes.POINTER(Part)),
     "sshkey_authorized_entry": (*BYTES, *ROOM, ctypes.POINTER(Entry)),
     "sshkey_known_host": (*BYTES, *ROOM, ctypes.POINTER(Entry)),

@@ -46,6 +46,7 @@ class Status(enum.IntEnum):
     HOST_UNREADABLE = 51
     HOST_CHANGED = 52
     HOST_UNKNOWN = 53
+    NOT_REVOKED = 60
 
     def __bool__(self) -> NoReturn:
         raise TypeError("compare with Status.DONE: a Status is no truth value")

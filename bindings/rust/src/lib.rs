@@ -1,5 +1,5 @@
-//! Certificates, signatures, keys, authorized_keys and known_hosts of OpenSSH, by the proved
-//! library that include/sshkey.h declares. This crate is tested, and not proved.
+//! Certificates, signatures, keys, revocation lists, authorized_keys and known_hosts of OpenSSH, by
+//! the proved library that include/sshkey.h declares. This crate is tested, and not proved.
 //!
 //! Cryptography is yours: a call tells the question that has to be verified, and a function of
 //! yours answers it.
@@ -45,6 +45,7 @@ mod logins;
 mod questions;
 pub mod raw;
 mod refusal;
+mod revocations;
 mod rooms;
 mod sshsigs;
 mod status;
@@ -70,6 +71,7 @@ pub use keys::{
 pub use logins::{validate_user, Login};
 pub use questions::{Algorithm, Question};
 pub use refusal::Refusal;
+pub use revocations::{krl_revokes_certificate, krl_revokes_key};
 pub use sshsigs::{
     judge_sshsig, judge_sshsig_of_digest, sshsig_hash, sshsig_question, sshsig_question_of_digest,
     sshsig_reserved, HashAlgorithm,

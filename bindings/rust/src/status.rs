@@ -81,7 +81,7 @@ statuses! {
     NAMESPACE = 20;
     /// A fault of private keys, which no call tells.
     PUBLIC_KEY = 21;
-    /// The SSH signature is of a version above 1.
+    /// The SSH signature is of a version above 1, or the revocation list of another than 1.
     UNSUPPORTED_VERSION = 22;
     /// Another fault, which no call tells.
     OTHER_FAULT = 23;
@@ -111,6 +111,8 @@ statuses! {
     HOST_CHANGED = 52;
     /// No line without a marker is for the host.
     HOST_UNKNOWN = 53;
+    /// The list does not revoke it. No function of this crate fails with it.
+    NOT_REVOKED = 60;
 }
 
 impl fmt::Display for Status {

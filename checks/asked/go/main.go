@@ -98,6 +98,12 @@ var answers = map[string]func(of []string) ([]string, error){
 		return []string{marker, word(found.Hosts), word(found.Key), word(found.Comment)}, err
 	},
 	"options": options,
+	"revokes-key": func(of []string) ([]string, error) {
+		return revoked(sshkey.KRLRevokesKey(data(of[0]), data(of[1])))
+	},
+	"revokes-certificate": func(of []string) ([]string, error) {
+		return revoked(sshkey.KRLRevokesCertificate(data(of[0]), data(of[1])))
+	},
 }
 
 // said are whole answers, without a 0.
@@ -273,6 +279,10 @@ func verdict(of []string) string {
 	known, host, key, port := text(of[0]), text(of[1]), data(of[2]), uint16(number(of[3]))
 	ofHost := sshkey.HostVerdict(known, host, port, key)
 	return numberOf(ofHost) + " " + numberOf(sshkey.AuthorityVerdict(known, host, port, key))
+}
+
+func revoked(yes bool, err error) ([]string, error) {
+	return []string{bit(yes)}, err
 }
 
 // ---- what is listed

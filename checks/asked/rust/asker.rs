@@ -255,6 +255,10 @@ fn verdict(given: &[&str]) -> Answer {
     ))
 }
 
+fn revoked(answer: Result<bool, Status>) -> Answer {
+    words([u8::from(answer?).to_string()])
+}
+
 fn answer(question: &str) -> Answer {
     let parts: Vec<&str> = question.split(' ').collect();
     let (what, given) = (parts[0], &parts[1..]);
@@ -285,6 +289,8 @@ fn answer(question: &str) -> Answer {
         "host" => host(&at(0)),
         "options" => options(&at(0)),
         "verdict" => verdict(given),
+        "revokes-key" => revoked(sshkey::krl_revokes_key(&at(0), &at(1))),
+        "revokes-certificate" => revoked(sshkey::krl_revokes_certificate(&at(0), &at(1))),
         _ => panic!("no question: {question}"),
     }
 }

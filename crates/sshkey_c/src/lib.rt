@@ -14,6 +14,7 @@ mod key;
 mod line;
 mod normal;
 mod parts;
+mod revocation;
 mod sha512;
 mod signature;
 mod sshsig;

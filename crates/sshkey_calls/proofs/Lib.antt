@@ -14,3 +14,4 @@ pub mod OptionPlaces
 pub mod Drafts
 pub mod DraftNumbers
 pub mod Places
+pub mod Revocations

@@ -13,3 +13,4 @@ pub mod Lists
 pub mod Options
 pub mod Writing
 pub mod Drafts
+pub mod Revocations

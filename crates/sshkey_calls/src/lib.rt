@@ -1,5 +1,5 @@
 //! The calls of the library for C and for whoever calls C, as an ordinary library: keys,
-//! signatures, certificates.
+//! signatures, certificates, revocation lists.
 //!
 //! Cryptography stays the caller's, so a check is two calls: what has to be verified, and whether
 //! the certificate is valid, given what the verification said. Each call answers with a number, and
@@ -19,6 +19,7 @@ pub mod number;
 mod option;
 pub mod part;
 mod question;
+mod revocation;
 mod signature;
 mod signed;
 mod sshsig;
@@ -38,6 +39,7 @@ pub use normal::{certificate_normal, key_normal, signature_normal, sshsig_normal
 pub use option::{OptionParts, next_option};
 pub use part::Part;
 pub use question::{Question, certificate_question};
+pub use revocation::{krl_revokes_certificate, krl_revokes_key};
 pub use signature::signature_question;
 pub use signed::certificate_make;
 pub use sshsig::{sshsig_question, sshsig_question_of_digest};

@@ -46,7 +46,7 @@ pub(crate) const TIME: u32 = 19;
 pub(crate) const NAMESPACE: u32 = 20;
 /// A fault of private keys, which no call meets.
 pub(crate) const PUBLIC_KEY: u32 = 21;
-/// An SSH signature is of a version above 1.
+/// An SSH signature is of a version above 1, or a revocation list of another one.
 pub(crate) const UNSUPPORTED_VERSION: u32 = 22;
 /// An error that no call meets.
 pub(crate) const OTHER_FAULT: u32 = 23;
@@ -76,6 +76,8 @@ pub const HOST_UNREADABLE: u32 = 51;
 pub const HOST_CHANGED: u32 = 52;
 /// No line without a marker is for the host.
 pub const HOST_UNKNOWN: u32 = 53;
+/// The list does not revoke it.
+pub(crate) const NOT_REVOKED: u32 = 60;
 
 /// A question is asked by DSA.
 const ASK_DSA: u32 = 1;

@@ -1,0 +1,29 @@
+"""Whether a key revocation list (PROTOCOL.krl) revokes a key or a certificate."""
+from __future__ import annotations
+
+from collections.abc import Callable
+
+from ._library import LIBRARY, bytes_of, done
+from ._values import BytesLike, Status
+
+
+def krl_revokes_key(krl: BytesLike, key: BytesLike) -> bool:
+    """Whether a list, as `ssh-keygen -k` makes it, has the key, given as its blob, or its digest by SHA-1 or SHA-256. Let in for
+    False alone. Raises Refused where the bytes are no list (an empty file is none, nor is a text of keys), or else no key, and
+    MemoryError."""
+    return _revokes(LIBRARY.sshkey_krl_revokes_key, krl, key)
+
+
+def krl_revokes_certificate(krl: BytesLike, certificate: BytesLike) -> bool:
+    """The same of a certificate, given as its blob: the list has its key or the key that signed it, or revokes its serial number
+    or its key id among the certificates of that key or of every key. The serial number 0 revokes nothing. Raises what
+    krl_revokes_key does."""
+    return _revokes(LIBRARY.sshkey_krl_revokes_certificate, krl, certificate)
+
+
+def _revokes(call: Callable[..., int], krl: BytesLike, value: BytesLike) -> bool:
+    status = call(*bytes_of(krl), *bytes_of(value))
+    if status == Status.NOT_REVOKED:
+        return False
+    done(status)
+    return True

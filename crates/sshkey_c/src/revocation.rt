@@ -1,0 +1,46 @@
+//! Whether a key revocation list revokes a key or a certificate.
+
+ghost use Rattle.std.specs.Prelude.{◌≡◌, Err};
+ghost use Rattle.sshkey_base.specs.Acceptance.{SpellsSome};
+ghost use Rattle.sshkey_cert.specs.CertificateReaders.{SpellsCertificate};
+ghost use Rattle.sshkey_keys.specs.Keys.{key_data_at};
+ghost use Rattle.sshkey_krl.specs.Krls.{SpellsKrl, krl_format};
+ghost use Rattle.sshkey_model.specs.Certificates.{certificate_at};
+ghost use Rattle.sshkey_model.specs.Reading.{Fault, whole};
+ghost use Rattle.sshkey_calls.specs.NormalForms.{IsRenamedKey};
+ghost use Rattle.sshkey_calls.specs.Numbers.{fault_number};
+ghost use Rattle.sshkey_calls.specs.Revocations.{IsSaidOfCertificate, IsSaidOfKey, TellsRevoked};
+
+use sshkey_calls::{krl_revokes_certificate, krl_revokes_key};
+use std::alloc::Global;
+
+/// Whether a list revokes a key: `sshkey_calls::krl_revokes_key`.
+#[unsafe(no_mangle)]
+pub extern "C" fn sshkey_krl_revokes_key(alloc: Global, krl: &[u8], key: &[u8]) -> u32
+    ensures exactly { TellsRevoked (IsSaidOfKey krl.now key.now) result }
+    ensures list { (fault : Fault) → whole krl_format.read krl.now ≡ Err fault
+        → result ≡ fault_number fault }
+    ensures key { SpellsSome SpellsKrl krl.now → (fault : Fault)
+        → whole key_data_at key.now ≡ Err fault → result ≡ fault_number fault }
+    ensures memory { result ≡ 1 → SpellsSome SpellsKrl krl.now × IsRenamedKey key.now }
+{
+    krl_revokes_key(alloc, krl, key)
+}
+
+/// Whether a list revokes a certificate: `sshkey_calls::krl_revokes_certificate`.
+#[unsafe(no_mangle)]
+pub extern "C" fn sshkey_krl_revokes_certificate(
+    alloc: Global,
+    krl: &[u8],
+    certificate: &[u8],
+) -> u32
+    ensures exactly { TellsRevoked (IsSaidOfCertificate krl.now certificate.now) result }
+    ensures list { (fault : Fault) → whole krl_format.read krl.now ≡ Err fault
+        → result ≡ fault_number fault }
+    ensures certificate { SpellsSome SpellsKrl krl.now → (fault : Fault)
+        → whole certificate_at certificate.now ≡ Err fault → result ≡ fault_number fault }
+    ensures memory { result ≡ 1 → SpellsSome SpellsKrl krl.now
+        × SpellsSome SpellsCertificate certificate.now }
+{
+    krl_revokes_certificate(alloc, krl, certificate)
+}

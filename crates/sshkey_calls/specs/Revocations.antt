@@ -1,0 +1,29 @@
+-- What is answered of a key revocation list (OpenSSH's PROTOCOL.krl).
+use Rattle.std.specs.Prelude.{◌≡◌, ◌≢◌, ℕ, List, Bool, true, false}
+use Rattle.sshkey_cert.specs.CertificateReaders.{SpellsCertificate}
+use Rattle.sshkey_keys.specs.Keys.{SpellsKey}
+use Rattle.sshkey_krl.specs.Krls.{SpellsKrl}
+use Rattle.sshkey_krl.specs.Revocation.{Krl, revokes_certificate, revokes_key}
+use Rattle.sshkey_model.specs.Keys.{normal_key}
+use Rattle.sshkey_model.specs.Parts.{flat}
+
+-- The bytes spell a list and a value, and this is whether the list revokes the value.
+pub record IsSaid {V : Type 0} (Spells : V → List ℕ → Type 0) (revokes : Krl → V → Bool) (krl bytes : List ℕ) (yes : Bool) : Type 0 where
+  pub list : Krl
+  pub list_spelled : SpellsKrl list krl
+  pub value : V
+  pub value_spelled : Spells value bytes
+  pub answer : yes ≡ revokes list value
+
+abbrev pub IsSaidOfKey : List ℕ → List ℕ → Bool → Type 0
+IsSaidOfKey = IsSaid SpellsKey (λ list k. revokes_key list (flat (normal_key k)))
+
+abbrev pub IsSaidOfCertificate : List ℕ → List ℕ → Bool → Type 0
+IsSaidOfCertificate = IsSaid SpellsCertificate revokes_certificate
+
+-- 0 says that it is revoked, and 60 that it is not; 1 is memory, and every other number says that
+-- nothing is said of it.
+pub record TellsRevoked (Said : Bool → Type 0) (n : ℕ) : Type 0 where
+  pub revoked : n ≡ 0 → Said true
+  pub not_revoked : n ≡ 60 → Said false
+  pub others : n ≢ 0 → n ≢ 60 → n ≢ 1 → (yes : Bool) → Said yes → ⊥

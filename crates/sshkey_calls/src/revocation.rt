@@ -1,0 +1,120 @@
+//! Whether a key revocation list revokes a key or a certificate.
+
+ghost use Rattle.std.specs.Prelude.{◌≡◌, ◌≢◌, Bool, Err, IfErr, IfOk, IsErrAnd};
+ghost use Rattle.sshkey_base.specs.Acceptance.{SpellsSome};
+ghost use Rattle.sshkey_base.specs.Causes.{Faulty, NoMemory, cause};
+ghost use Rattle.sshkey_cert.specs.CertificateReaders.{SpellsCertificate};
+ghost use Rattle.sshkey_keys.specs.Keys.{key_data_at, key_of};
+ghost use Rattle.sshkey_krl.specs.Krls.{SpellsKrl, krl_format};
+ghost use Rattle.sshkey_model.specs.Certificates.{certificate_at};
+ghost use Rattle.sshkey_model.specs.Keys.{normal_key};
+ghost use Rattle.sshkey_model.specs.Parts.{flat};
+ghost use Rattle.sshkey_model.specs.Reading.{Fault, whole};
+ghost use Rattle.sshkey_calls.specs.NormalForms.{IsRenamedKey};
+ghost use Rattle.sshkey_calls.specs.Numbers.{fault_number};
+ghost use Rattle.sshkey_calls.specs.Revocations.{IsSaidOfCertificate, IsSaidOfKey, TellsRevoked};
+
+use crate::number::{DONE, NOT_REVOKED, error_number};
+use sshkey_base::{Error, Result, encode_vec};
+use sshkey_cert_ref::CertificateRef;
+use sshkey_keys::KeyData;
+use sshkey_keys_ref::KeyDataRef;
+use sshkey_krl::KrlRef;
+use std::alloc::Global;
+
+/// Whether the key revocation list that all the bytes spell (PROTOCOL.krl) has the key that all its
+/// bytes spell, or a digest of it.
+///
+/// Returns 0 if it has, 60 if it has not, from 10 to 29 the fault of bytes that are no list, or
+/// else of bytes that are no key, and 1 if memory ran out. So 60 alone says that the key is not
+/// revoked. Memory is taken only for an RSA key under another name than `ssh-rsa`.
+pub fn krl_revokes_key(alloc: Global, krl: &[u8], key: &[u8]) -> u32
+    ensures exactly { TellsRevoked (IsSaidOfKey krl.now key.now) result }
+    ensures list { (fault : Fault) → whole krl_format.read krl.now ≡ Err fault
+        → result ≡ fault_number fault }
+    ensures key { SpellsSome SpellsKrl krl.now → (fault : Fault)
+        → whole key_data_at key.now ≡ Err fault → result ≡ fault_number fault }
+    ensures memory { result ≡ 1 → SpellsSome SpellsKrl krl.now × IsRenamedKey key.now }
+{
+    match is_key_revoked(alloc, krl, key) {
+        Ok(true) => DONE,
+        Ok(false) => NOT_REVOKED,
+        Err(error) => error_number(error),
+    }
+}
+
+/// Whether the list has the key. Fails with the first fault of the list, or else of the key, and
+/// when out of memory.
+fn is_key_revoked(alloc: Global, krl: &[u8], key: &[u8]) -> Result<bool>
+    ensures said { IfOk result (IsSaidOfKey krl.now key.now) }
+    ensures list { (fault : Fault) → whole krl_format.read krl.now ≡ Err fault
+        → IsErrAnd result (λ e. cause e ≡ Faulty fault) }
+    ensures key { SpellsSome SpellsKrl krl.now → (fault : Fault)
+        → whole key_data_at key.now ≡ Err fault → IsErrAnd result (λ e. cause e ≡ Faulty fault) }
+    ensures unsaid { IfErr result (λ e. cause e ≢ NoMemory → (yes : Bool)
+        → IsSaidOfKey krl.now key.now yes → ⊥) }
+    ensures memory { IfErr result (λ e. cause e ≡ NoMemory
+        → SpellsSome SpellsKrl krl.now × IsRenamedKey key.now) }
+{
+    let list = KrlRef::from_bytes(krl)?;
+    let key = KeyDataRef::from_bytes(key)?;
+    if let Some(bytes) = key.normal_bytes() {
+        return Ok(list.revokes_key(bytes));
+    }
+    let bytes = normal_form(alloc, &key.to_key_data(alloc)?)?;
+    Ok(list.revokes_key(&bytes))
+}
+
+/// Whether the key revocation list that all the bytes spell (PROTOCOL.krl) revokes the certificate
+/// that all its bytes spell: by its key, by the key that signed it, or by its serial number or its
+/// key id among the certificates of that key or of every key.
+///
+/// Returns what `krl_revokes_key` does, with the fault of bytes that are no certificate. Memory is
+/// taken only where both are spelled.
+pub fn krl_revokes_certificate(alloc: Global, krl: &[u8], certificate: &[u8]) -> u32
+    ensures exactly { TellsRevoked (IsSaidOfCertificate krl.now certificate.now) result }
+    ensures list { (fault : Fault) → whole krl_format.read krl.now ≡ Err fault
+        → result ≡ fault_number fault }
+    ensures certificate { SpellsSome SpellsKrl krl.now → (fault : Fault)
+        → whole certificate_at certificate.now ≡ Err fault → result ≡ fault_number fault }
+    ensures memory { result ≡ 1 → SpellsSome SpellsKrl krl.now
+        × SpellsSome SpellsCertificate certificate.now }
+{
+    match is_certificate_revoked(alloc, krl, certificate) {
+        Ok(true) => DONE,
+        Ok(false) => NOT_REVOKED,
+        Err(error) => error_number(error),
+    }
+}
+
+/// Whether the list revokes the certificate. Fails with the first fault of the list, or else of the
+/// certificate, and when out of memory.
+fn is_certificate_revoked(alloc: Global, krl: &[u8], certificate: &[u8]) -> Result<bool>
+    ensures said { IfOk result (IsSaidOfCertificate krl.now certificate.now) }
+    ensures list { (fault : Fault) → whole krl_format.read krl.now ≡ Err fault
+        → IsErrAnd result (λ e. cause e ≡ Faulty fault) }
+    ensures certificate { SpellsSome SpellsKrl krl.now → (fault : Fault)
+        → whole certificate_at certificate.now ≡ Err fault
+        → IsErrAnd result (λ e. cause e ≡ Faulty fault) }
+    ensures unsaid { IfErr result (λ e. cause e ≢ NoMemory → (yes : Bool)
+        → IsSaidOfCertificate krl.now certificate.now yes → ⊥) }
+    ensures memory { IfErr result (λ e. cause e ≡ NoMemory
+        → SpellsSome SpellsKrl krl.now × SpellsSome SpellsCertificate certificate.now) }
+{
+    let list = KrlRef::from_bytes(krl)?;
+    let read = CertificateRef::from_bytes(certificate)?;
+    let key = normal_form(alloc, &read.public_key(alloc)?)?;
+    let signature_key = normal_form(alloc, &read.signature_key(alloc)?)?;
+    Ok(list.revokes_certificate(&key, &signature_key, read.serial(), read.key_id()))
+}
+
+/// The bytes of the key's normal form. Fails only when out of memory.
+fn normal_form(alloc: Global, key: &KeyData) -> Result<Vec<u8>>
+    ensures bytes { IfOk result (λ bytes. bytes.items ≡ flat (normal_key (key_of key.now))) }
+    ensures memory { IfErr result (λ e. cause e ≡ NoMemory) }
+{
+    match encode_vec(alloc, key) {
+        Ok(bytes) => Ok(bytes),
+        Err(_) => Err(Error::Memory),
+    }
+}
