@@ -5,9 +5,9 @@
     check.py signature SIGNERS NAMESPACE FILE <FILE.sig
 
 AUTHORITIES and SIGNERS are files of public keys, a line each. The first answers of each line of its input, as the example in C
-does. The status is 0 if all is valid, 1 if not, and 2 where it can't tell: so also where there is no certificate. A valid
-certificate may be for a host, or for nobody by name, and - is no name that a client may choose: who logs users in calls
-`validate_user`, and who is shown a host's certificate `validate_host`.
+does without a revocation list. The status is 0 if all is valid, 1 if not, and 2 where it can't tell: so also where there is no
+certificate. A valid certificate may be for a host, or for nobody by name, and - is no name that a client may choose: who logs
+users in calls `validate_user`, and who is shown a host's certificate `validate_host`.
 """
 from __future__ import annotations
 
@@ -46,6 +46,7 @@ class Refusal(enum.IntEnum):
     FLAG_DATA = 104
     NOT_FOR_HOSTS = 105
     UNREADABLE = 106
+    REVOKED = 107
 
     def __bool__(self) -> NoReturn:
         raise TypeError("compare with Status.DONE: a Refusal is no truth value")
@@ -62,10 +63,13 @@ MEANING = {
     Refusal.UNMET_OPTION: "a critical option that is not known or not met",
     Refusal.FLAG_DATA: "data in an extension that is a flag", Refusal.NOT_FOR_HOSTS: "not for hosts",
     Refusal.UNREADABLE: "texts or principals that sshd does not read",
+    Refusal.REVOKED: "revoked or no list that can be read",
     Status.HOST_REVOKED: "revoked", Status.HOST_UNREADABLE: "a line that may revoke it and can't be read",
     Status.HOST_UNKNOWN: "no authority of the host", Status.OTHER_NAMESPACE: "another namespace",
     Status.UNSUPPORTED: "key and signature do not go together",
 }  # fmt: skip
+# a key revocation list that revokes nothing (PROTOCOL.krl), for who has none: a list of no bytes lets nobody in
+NO_REVOCATIONS = b"SSHKRL\n\0\0\0\0\1" + bytes(32)
 # the critical options that have an argument
 WITH_ARGUMENT = {"force-command", "source-address"}
 # the extensions in which nothing may stand (PROTOCOL.certkeys)
@@ -122,12 +126,25 @@ def is_signature(question: sshkey.Question) -> bool:
     return True
 
 
-def judge(certificate: bytes, now: int, principal: str | bytes | None, authorities: Collection[bytes]) -> Status:
+def is_revoked(krl: bytes, certificate: bytes) -> bool:
+    """Whether the key revocation list revokes the certificate. Where it is no list, it revokes all."""
+    try:
+        return sshkey.krl_revokes_certificate(krl, certificate)
+    except sshkey.Refused:
+        return True
+
+
+def judge(
+    certificate: bytes, now: int, principal: str | bytes | None, authorities: Collection[bytes], krl: bytes
+) -> Status | Refusal:  # fmt: skip
     """Status.DONE, or what is wrong first. For each certificate of another authority it is Status.UNTRUSTED_AUTHORITY, signed or not:
-    its key may be one that the client made up, and no cryptography runs over it. Where the principal is None, any is meant."""
+    its key may be one that the client made up, and no cryptography runs over it. Where the principal is None, any is meant. The list
+    may be NO_REVOCATIONS."""
     try:
         if sshkey.fingerprint(sshkey.certificate_contents(certificate).authority) not in authorities:
             return Status.UNTRUSTED_AUTHORITY
+        if is_revoked(krl, certificate):
+            return Refusal.REVOKED
         is_verified = is_signature(sshkey.certificate_question(certificate))
     except sshkey.Refused:
         is_verified = False
@@ -151,18 +168,18 @@ def is_readable(contents: sshkey.Contents) -> bool:
 
 def validate_user(
     certificate: bytes, key: bytes, now: int, user: str | bytes, authorities: Collection[bytes],
-    is_met: Callable[[str, str], bool] = lambda name, value: False,
+    is_met: Callable[[str, str], bool] = lambda name, value: False, *, krl: bytes,
 ) -> Status | Refusal:  # fmt: skip
     """Whether the certificate logs the user in at that second: Status.DONE, or what is wrong first, a Status or a Refusal.
 
-    `key` is the blob of the key of which the client has proved that it holds it. `is_met` says of a critical option, by its name
-    and value, whether it is known and met at this login. It is asked of no force-command or source-address that is empty or has a
-    zero byte, and of no verify-required with a value: such a one is never met. It must refuse a source-address that is no list of
-    networks. Whether the certificate is revoked, whether somebody touched a security key, and what its extensions say is not looked
-    at (docs/FOREIGN.md)."""
+    `key` is the blob of the key of which the client has proved that it holds it, and `krl` a key revocation list, which may be
+    NO_REVOCATIONS; where it is no list, the certificate is Refusal.REVOKED. `is_met` says of a critical option, by its name and
+    value, whether it is known and met at this login. It is asked of no force-command or source-address that is empty or has a zero
+    byte, and of no verify-required with a value: such a one is never met. It must refuse a source-address that is no list of
+    networks. Whether somebody touched a security key, and what its extensions say is not looked at (docs/FOREIGN.md)."""
     if not user:  # a certificate may list it
         return Status.UNLISTED_PRINCIPAL
-    status = judge(certificate, now, user, authorities)
+    status = judge(certificate, now, user, authorities, krl)
     if status != Status.DONE:
         return status
     fields, contents = sshkey.certificate_fields(certificate), sshkey.certificate_contents(certificate)
@@ -182,13 +199,15 @@ def validate_user(
         return refused.status
 
 
-def validate_host(certificate: bytes, now: int, host: str | bytes, port: int, texts: Collection[bytes]) -> Status | Refusal:
+def validate_host(
+    certificate: bytes, now: int, host: str | bytes, port: int, texts: Collection[bytes], *, krl: bytes
+) -> Status | Refusal:  # fmt: skip
     """Whether the certificate is that of the host at the port, at that second: Status.DONE, or what is wrong first, a Status or a
     Refusal.
 
     `texts` are those of all the known_hosts files that count, the user's and the machine's, and `host` is the name that was asked
     for. The certificate has to list it in small letters, as ssh(1) asks; one that lists none is for each host of its authority.
-    That the host holds the certified key is not looked at (docs/FOREIGN.md)."""
+    `krl` is a key revocation list, as for `validate_user`. That the host holds the certified key is not looked at (docs/FOREIGN.md)."""
     try:
         fields, contents = sshkey.certificate_fields(certificate), sshkey.certificate_contents(certificate)
         verdict = judge_signed(texts, host, port, contents.key, contents.authority)
@@ -202,7 +221,7 @@ def validate_host(certificate: bytes, now: int, host: str | bytes, port: int, te
         return Refusal.UNMET_OPTION
     # of bytes these are the ASCII letters
     name = host.lower() if isinstance(host, bytes) else host.translate(SMALL)
-    return judge(certificate, now, name, {sshkey.fingerprint(contents.authority)})
+    return judge(certificate, now, name, {sshkey.fingerprint(contents.authority)}, krl)
 
 
 def judge_signature(signature: bytes, namespace: str, message: bytes, signers: Collection[bytes]) -> Status:
@@ -241,13 +260,15 @@ def read(line: str | bytes, is_certificate: bool) -> bytes:
     return found.blob
 
 
-def judge_line(line: str | bytes, now: int, principal: str | bytes | None, authorities: Collection[bytes]) -> Status:
+def judge_line(
+    line: str | bytes, now: int, principal: str | bytes | None, authorities: Collection[bytes], krl: bytes
+) -> Status | Refusal:  # fmt: skip
     """Status.DONE, or what is wrong first."""
     try:
         certificate = read(line, is_certificate=True)
     except sshkey.Refused as refused:
         return refused.status
-    return judge(certificate, now, principal, authorities)
+    return judge(certificate, now, principal, authorities, krl)
 
 
 def fingerprints(path: str) -> set[bytes]:
@@ -271,7 +292,7 @@ def certificates(authorities: str, principal: str, second: str | None = None) ->
     whom = None if principal == "-" else os.fsencode(principal)
     by, statuses = fingerprints(authorities), []
     for line in sys.stdin.buffer:
-        statuses.append(judge_line(line, now, whom, by))
+        statuses.append(judge_line(line, now, whom, by, NO_REVOCATIONS))
         print(said(statuses[-1]))
     if not statuses:
         raise ValueError("no certificate was given")

@@ -69,7 +69,7 @@ def issue(signer: Ed25519PrivateKey, key: bytes, key_id: str, seconds: int, prin
         key, by, sign, principals=principals, key_id=key_id, serial=1 + secrets.randbelow(2**63 - 1), valid_after=now,
         valid_before=now + seconds, extensions={"permit-pty": ""},
     )  # fmt: skip
-    status = check.judge(made, now, principals[0], [sshkey.fingerprint(by)])
+    status = check.judge(made, now, principals[0], [sshkey.fingerprint(by)], check.NO_REVOCATIONS)
     if status != sshkey.Status.DONE:
         raise sshkey.Refused(status)
     return made

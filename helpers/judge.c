@@ -60,6 +60,20 @@ bool judge_read_file(const char *path, judge_blob *answer) {
   return good;
 }
 
+/* PROTOCOL.krl: magic, version 1, three numbers and two empty strings */
+static uint8_t no_revocations[44] = "SSHKRL\n\0\0\0\0\1";
+const judge_blob judge_no_revocations = {no_revocations, sizeof no_revocations};
+
+uint32_t judge_revoked(judge_blob blob, bool is_certificate, judge_blob revoked) {
+  const uint8_t *list = sshkey_bytes(revoked.bytes), *bytes = sshkey_bytes(blob.bytes);
+  uint32_t answer =
+      is_certificate
+          ? sshkey_krl_revokes_certificate(list, revoked.length, bytes, blob.length)
+          : sshkey_krl_revokes_key(list, revoked.length, bytes, blob.length);
+  if (answer == SSHKEY_NOT_REVOKED) return SSHKEY_DONE;
+  return answer == SSHKEY_MEMORY ? answer : JUDGE_REVOKED;
+}
+
 uint32_t judge_add_authority(judge_authorities *to, const char *line, size_t length) {
   judge_blob key;
   sshkey_sha256 digest = {{0}};
@@ -91,9 +105,10 @@ static uint32_t judge_authority(judge_blob certificate, judge_authorities by) {
 }
 
 uint32_t judge_certificate(judge_blob certificate, uint64_t unix_timestamp, const char *principal,
-                           judge_authorities by) {
-  /* step 1: whether the authority is one of these */
+                           judge_authorities by, judge_blob revoked) {
+  /* step 1: whether the authority is one of these, and the list does not revoke it */
   uint32_t answer = judge_authority(certificate, by);
+  if (answer == SSHKEY_DONE) answer = judge_revoked(certificate, true, revoked);
   if (answer != SSHKEY_DONE) return answer;
   /* step 2: what has to be verified; a room of this length is enough */
   size_t room_length = 2 * certificate.length + 256;
@@ -235,7 +250,8 @@ uint32_t judge_validate_user(judge_blob certificate, const judge_login *asked) {
   memset(&fields, 0, sizeof fields);
   /* judge_certificate takes no principal for any, and a certificate may list an empty name */
   if (!asked->user || !*asked->user) return SSHKEY_UNLISTED_PRINCIPAL;
-  uint32_t answer = judge_certificate(certificate, asked->unix_timestamp, asked->user, asked->by);
+  uint32_t answer = judge_certificate(certificate, asked->unix_timestamp, asked->user, asked->by,
+                                      asked->revoked);
   if (answer == SSHKEY_DONE)
     answer = sshkey_certificate_fields(certificate.bytes, certificate.length, &fields);
   if (answer != SSHKEY_DONE) return answer;
@@ -300,7 +316,8 @@ static uint32_t judge_name(judge_blob certificate, const judge_host *asked, judg
     char letter = asked->host[at];
     name[at] = letter >= 'A' && letter <= 'Z' ? (char)(letter - 'A' + 'a') : letter;
   }
-  uint32_t answer = judge_certificate(certificate, asked->unix_timestamp, name, by);
+  uint32_t answer =
+      judge_certificate(certificate, asked->unix_timestamp, name, by, asked->revoked);
   free(name);
   return answer;
 }
@@ -352,6 +369,7 @@ const char *judge_meaning(uint32_t answer) {
   case JUDGE_FLAG_DATA: return "data in an extension that is a flag";
   case JUDGE_NOT_FOR_HOSTS: return "not for hosts";
   case JUDGE_UNREADABLE: return "texts or principals that sshd does not read";
+  case JUDGE_REVOKED: return "revoked or no list that can be read";
   case SSHKEY_HOST_REVOKED: return "revoked";
   case SSHKEY_HOST_UNREADABLE: return "a line that may revoke it and can't be read";
   case SSHKEY_HOST_UNKNOWN: return "no authority of the host";

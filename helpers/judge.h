@@ -33,15 +33,23 @@ bool judge_read_stream(FILE *file, judge_blob *answer);
 /* Reads a file of that path, likewise. */
 bool judge_read_file(const char *path, judge_blob *answer);
 
+/* A key revocation list that revokes nothing. Who has none passes it: a list of no bytes, as one
+ * that is forgotten, lets nobody in. */
+extern const judge_blob judge_no_revocations;
+
+/* SSHKEY_DONE where the list does not revoke the certificate or the key of that blob, else
+ * JUDGE_REVOKED or SSHKEY_MEMORY. */
+uint32_t judge_revoked(judge_blob blob, bool is_certificate, judge_blob revoked);
+
 /* Adds the key of the line to the authorities: SSHKEY_DONE, or why not. */
 uint32_t judge_add_authority(judge_authorities *to, const char *line, size_t length);
 
-/* Whether the certificate is valid: SSHKEY_DONE, or what is wrong first. For each certificate of
- * another authority it answers SSHKEY_UNTRUSTED_AUTHORITY, signed or not: its key may be one that
- * the client made up, and no cryptography runs over it. The principal may be null, and then any is
- * meant. */
+/* Whether the certificate is valid and not revoked: SSHKEY_DONE, or what is wrong first, a number
+ * of SSHKEY_* or JUDGE_REVOKED. For each certificate of another authority it answers
+ * SSHKEY_UNTRUSTED_AUTHORITY, signed or not: its key may be one that the client made up, and no
+ * cryptography runs over it. The principal may be null, and then any is meant. */
 uint32_t judge_certificate(judge_blob certificate, uint64_t unix_timestamp, const char *principal,
-                           judge_authorities by);
+                           judge_authorities by, judge_blob revoked);
 
 /* Whether a critical option of that name is known, and met at this login. It is asked of no
  * force-command or source-address that is empty or has a zero byte, and of no verify-required with
@@ -57,6 +65,7 @@ typedef struct {
   judge_authorities by;    /* who may certify users */
   judge_is_met *is_met;    /* may be null: then each critical option is one that is not known */
   void *given;             /* what is_met gets */
+  judge_blob revoked;      /* a key revocation list, which may be judge_no_revocations */
 } judge_login;
 
 /* What is wrong with a certificate that may be valid, and logs nobody in or is not the host's;
@@ -68,12 +77,13 @@ enum {
   JUDGE_OTHER_KEY = 103,      /* it is one of another key than the client holds */
   JUDGE_FLAG_DATA = 104,      /* data stand in an extension that is a flag */
   JUDGE_NOT_FOR_HOSTS = 105,  /* it is one for users */
-  JUDGE_UNREADABLE = 106      /* it has texts or principals that sshd does not read */
+  JUDGE_UNREADABLE = 106,     /* it has texts or principals that sshd does not read */
+  JUDGE_REVOKED = 107         /* the list revokes it, or is no list, as one of no bytes */
 };
 
 /* Whether the certificate logs the user in: SSHKEY_DONE, or what is wrong first, a number of
- * SSHKEY_* or of JUDGE_*. Whether it is revoked, whether somebody touched a security key, and what
- * its extensions say is not looked at (docs/FOREIGN.md). */
+ * SSHKEY_* or of JUDGE_*. Whether somebody touched a security key, and what its extensions say is
+ * not looked at (docs/FOREIGN.md). */
 uint32_t judge_validate_user(judge_blob certificate, const judge_login *asked);
 
 /* A host that shows a certificate. */
@@ -83,6 +93,7 @@ typedef struct {
   uint64_t unix_timestamp; /* when that is */
   const judge_blob *texts; /* those of all the known_hosts files that count */
   size_t text_count;
+  judge_blob revoked;      /* a key revocation list, which may be judge_no_revocations */
 } judge_host;
 
 /* Whether the certificate is that of the host: SSHKEY_DONE, or what is wrong first, a number of

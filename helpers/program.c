@@ -39,6 +39,24 @@ int program_show(int count, char **words, const char *help) {
   return program_is_written() ? 0 : 1;
 }
 
+bool program_read_revoked(int *count, char ***words, judge_blob *answer) {
+  judge_blob none = judge_no_revocations;
+  if (*count > 2 && !strcmp((*words)[1], "--revoked")) {
+    const char *path = (*words)[2];
+    *count -= 2;
+    *words += 2;
+    if (judge_read_file(path, answer)) return true;
+    program_complain("%s: %s", path, strerror(errno));
+    return false;
+  }
+  *answer = (judge_blob){malloc(none.length), none.length};
+  if (answer->bytes)
+    memcpy(answer->bytes, none.bytes, none.length);
+  else
+    program_complain("no memory");
+  return answer->bytes != NULL;
+}
+
 uint32_t program_each_line(judge_blob text, program_line *each, void *given, size_t *number) {
   sshkey_part line = {0, 0};
   uint32_t answer = SSHKEY_DONE;

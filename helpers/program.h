@@ -22,6 +22,11 @@ void program_show_version(void);
  * be written. Else -1. */
 int program_show(int count, char **words, const char *help);
 
+/* The list in the file of `--revoked FILE` in front of the words, from which it takes these two, in
+ * memory of malloc; without them one that revokes nothing. False, with a word to standard error,
+ * where it can't be read. */
+bool program_read_revoked(int *count, char ***words, judge_blob *answer);
+
 /* What is done with a line and its number: SSHKEY_DONE, or why no further one is to be given. */
 typedef uint32_t program_line(const char *line, size_t length, size_t number, void *given);
 

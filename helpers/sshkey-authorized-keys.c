@@ -1,6 +1,7 @@
 /* Says by which lines of a file in the form of authorized_keys sshd may let a user in by a key. See
  * sshkey-authorized-keys(8). */
 #include <errno.h>
+#include <inttypes.h>
 #include <stdbool.h>
 #include <stdio.h>
 #include <stdlib.h>
@@ -28,7 +29,8 @@ typedef struct {
   bool is_authority;
 } offered;
 
-static uint32_t read_offered(const char *type, const char *base64, offered *answer) {
+static uint32_t read_offered(const char *type, const char *base64, judge_blob revoked,
+                             offered *answer) {
   judge_blob found;
   sshkey_part key = {0, 0};
   uint32_t status = judge_read_words(type, base64, SSHKEY_LINE_KEY, &found);
@@ -45,6 +47,7 @@ static uint32_t read_offered(const char *type, const char *base64, offered *answ
   }
   if (status == SSHKEY_DONE)
     status = sshkey_fingerprint(found.bytes + key.start, key.length, &answer->digest);
+  if (status == SSHKEY_DONE) status = judge_revoked(found, answer->is_authority, revoked);
   free(found.bytes);
   return status;
 }
@@ -115,16 +118,20 @@ static uint32_t print_line(const char *line, size_t length, size_t number, void 
 int main(int count, char **words) {
   int shown = program_show(count, words, help);
   if (shown >= 0) return shown;
+  judge_blob text = {NULL, 0}, revoked = {NULL, 0};
+  if (!program_read_revoked(&count, &words, &revoked)) return 1;
   if (count != 5) {
     fputs(help, stderr);
+    free(revoked.bytes);
     return 1;
   }
   offered wanted = {words[1], {{0}}, false};
-  judge_blob text = {NULL, 0};
   size_t number;
   bool is_told = false;
-  uint32_t answer = read_offered(words[3], words[4], &wanted);
-  if (answer != SSHKEY_DONE)
+  uint32_t answer = read_offered(words[3], words[4], revoked, &wanted);
+  if (answer == JUDGE_REVOKED)
+    program_complain("refused: %s (%" PRIu32 ")", judge_meaning(answer), answer);
+  else if (answer != SSHKEY_DONE)
     program_complain("what is offered is no key: %s", judge_meaning(answer));
   else if (!judge_read_file(words[1], &text))
     program_complain("%s: %s", words[1], strerror(errno));
@@ -133,5 +140,6 @@ int main(int count, char **words) {
   else
     is_told = program_is_written();
   free(text.bytes);
+  free(revoked.bytes);
   return is_told ? 0 : 1;
 }

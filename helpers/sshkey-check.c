@@ -17,7 +17,7 @@
 const char program_name[] = "sshkey-check";
 static const char help[] =
     "usage: sshkey-check [FILE]\n"
-    "       sshkey-check --ca FILE [--user NAME] [--at SECOND] [FILE]\n"
+    "       sshkey-check --ca FILE [--user NAME] [--at SECOND] [--revoked FILE] [FILE]\n"
     "       sshkey-check verify -k KEYS -n NAMESPACE -s SIGNATURE [FILE]\n"
     "\n"
     "The first shows each certificate of FILE, or of standard input, as ssh-keygen -L does. The\n"
@@ -32,9 +32,11 @@ enum { VALID = 0, INVALID = 1, UNTOLD = 2 };
 typedef struct {
   const char *path; /* of certificates or of what is signed; null for standard input */
   const char *authorities, *user, *at;       /* null where they are not given */
+  const char *revoked;                       /* likewise */
   const char *keys, *name_space, *signature; /* likewise */
   bool is_verify;
   judge_authorities by;
+  judge_blob list; /* of what is revoked */
   uint64_t second;
   size_t count; /* of the lines that are answered */
   bool is_valid;
@@ -62,13 +64,14 @@ static bool is_known(const uint8_t *name, size_t name_length, const uint8_t *val
 
 /* Whether the certificate is valid, and logs the user in, if one is asked for. */
 static uint32_t judge_asked(judge_blob certificate, const request *asked) {
-  if (!asked->user) return judge_certificate(certificate, asked->second, NULL, asked->by);
+  if (!asked->user)
+    return judge_certificate(certificate, asked->second, NULL, asked->by, asked->list);
   /* a room as long as the certificate is enough */
   judge_blob key = {calloc(1, certificate.length), 0};
   if (!key.bytes) return SSHKEY_MEMORY;
   uint32_t answer = sshkey_certificate_key(certificate.bytes, certificate.length, key.bytes,
                                            certificate.length, &key.length);
-  judge_login login = {asked->user, key, asked->second, asked->by, is_known, NULL};
+  judge_login login = {asked->user, key, asked->second, asked->by, is_known, NULL, asked->list};
   if (answer == SSHKEY_DONE) answer = judge_validate_user(certificate, &login);
   free(key.bytes);
   return answer;
@@ -174,6 +177,10 @@ static int answer_request(request *asked) {
     return UNTOLD;
   }
   if (keys && !program_read_keys(keys, read_authority, &asked->by)) return UNTOLD;
+  if (asked->revoked && !judge_read_file(asked->revoked, &asked->list)) {
+    program_complain("%s: %s", asked->revoked, strerror(errno));
+    return UNTOLD;
+  }
   FILE *file = asked->path ? fopen(asked->path, "rb") : stdin;
   const char *path = asked->is_verify ? asked->signature : path_of(asked);
   int status = UNTOLD;
@@ -193,6 +200,7 @@ static bool read_words(int count, char **words, request *asked) {
   static const struct option options[] = {
       {"ca", required_argument, NULL, 'c'},        {"user", required_argument, NULL, 'u'},
       {"at", required_argument, NULL, 'a'},        {"keys", required_argument, NULL, 'k'},
+      {"revoked", required_argument, NULL, 'r'},
       {"namespace", required_argument, NULL, 'n'}, {"signature", required_argument, NULL, 's'},
       {NULL, 0, NULL, 0}};
   asked->is_verify = count > 1 && !strcmp(words[1], "verify");
@@ -203,6 +211,7 @@ static bool read_words(int count, char **words, request *asked) {
     const char **to = letter == 'c'   ? &asked->authorities
                       : letter == 'u' ? &asked->user
                       : letter == 'a' ? &asked->at
+                      : letter == 'r' ? &asked->revoked
                       : letter == 'k' ? &asked->keys
                       : letter == 'n' ? &asked->name_space
                                       : &asked->signature;
@@ -210,7 +219,7 @@ static bool read_words(int count, char **words, request *asked) {
     *to = optarg;
   }
   if (optind < count && strcmp(words[optind], "-")) asked->path = words[optind];
-  const char *of_login = asked->user ? asked->user : asked->at;
+  const char *of_login = asked->user ? asked->user : asked->at ? asked->at : asked->revoked;
   if (count - optind > 1) return false;
   if (asked->is_verify)
     return asked->keys && asked->name_space && asked->signature && !asked->authorities && !of_login;
@@ -223,6 +232,7 @@ int main(int count, char **words) {
   memset(&asked, 0, sizeof asked);
   asked.second = (uint64_t)time(NULL);
   asked.is_valid = true;
+  asked.list = judge_no_revocations;
   int shown = program_show(count, words, help);
   if (shown >= 0) return shown ? UNTOLD : VALID;
   int status = UNTOLD;
@@ -231,5 +241,6 @@ int main(int count, char **words) {
   else
     fputs(help, stderr);
   free(asked.by.keys);
+  if (asked.revoked && asked.list.bytes != judge_no_revocations.bytes) free(asked.list.bytes);
   return status;
 }

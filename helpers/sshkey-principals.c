@@ -12,11 +12,12 @@
 
 const char program_name[] = "sshkey-principals";
 static const char help[] =
-    "usage: sshkey-principals AUTHORITIES USER TYPE CERTIFICATE\n"
+    "usage: sshkey-principals [--revoked FILE] AUTHORITIES USER TYPE CERTIFICATE\n"
     "\n"
     "sshd_config: AuthorizedPrincipalsCommand PATH/sshkey-principals AUTHORITIES %u %t %k\n"
     "Prints USER if the certificate lets USER in by an authority of a line of AUTHORITIES:\n"
-    "USER[,USER..] TYPE BASE64 [COMMENT]. Status 0: printed; 1: not, as standard error tells.\n";
+    "USER[,USER..] TYPE BASE64 [COMMENT], and the key revocation list FILE does not revoke it.\n"
+    "Status 0: printed; 1: not, as standard error tells.\n";
 
 /* Whether the list, whose names are apart by commas, has the user. */
 static bool has_user(const char *list, size_t length, const char *user) {
@@ -41,6 +42,7 @@ static size_t run_of(bool are_blanks, const char *line, size_t length, size_t pl
 typedef struct {
   const char *user;
   judge_authorities by;
+  judge_blob revoked;
 } wanted;
 
 /* Adds the authority of a line if the line has the user: SSHKEY_DONE, or why it has no key. */
@@ -69,8 +71,8 @@ static bool let_in(judge_blob certificate, const wanted *asked) {
     program_complain("the certificate is not one for users that are listed");
     return false;
   }
-  uint32_t answer =
-      judge_certificate(certificate, (uint64_t)time(NULL), asked->user, asked->by);
+  uint32_t answer = judge_certificate(certificate, (uint64_t)time(NULL), asked->user, asked->by,
+                                      asked->revoked);
   if (answer != SSHKEY_DONE) {
     program_complain("refused: %s (%" PRIu32 ")", judge_meaning(answer), answer);
     return false;
@@ -82,11 +84,14 @@ static bool let_in(judge_blob certificate, const wanted *asked) {
 int main(int count, char **words) {
   int shown = program_show(count, words, help);
   if (shown >= 0) return shown;
+  judge_blob revoked = {NULL, 0};
+  if (!program_read_revoked(&count, &words, &revoked)) return 1;
   if (count != 5) {
     fputs(help, stderr);
+    free(revoked.bytes);
     return 1;
   }
-  wanted asked = {words[2], {NULL, 0}};
+  wanted asked = {words[2], {NULL, 0}, revoked};
   judge_blob certificate = {NULL, 0};
   bool is_let_in = false;
   if (program_read_keys(words[1], read_authority, &asked)) {
@@ -98,5 +103,6 @@ int main(int count, char **words) {
   }
   free(certificate.bytes);
   free(asked.by.keys);
+  free(revoked.bytes);
   return is_let_in ? 0 : 1;
 }

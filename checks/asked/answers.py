@@ -12,7 +12,8 @@ asked/rust over the packages. Words are bytes in hexadecimal (- for none), numbe
     sshsig-of-digest BYTES NAMESPACE DIGEST
     is-signature KEY MESSAGE SIGNATURE                       0 and 1 if it verifies, else 0
     user BYTES KEY SECOND USER AUTHORITIES OPTION            what validate_user says, as check.py prints it, where the critical
-                                                             option of that name is met if its value is not "unmet"
+                                                             option of that name is met if its value is not "unmet"; in C also
+                                                             with a LIST behind it, where no list revokes nothing
     host-certificate BYTES SECOND HOST PORT TEXT ..          what validate_host says, as check.py prints it
     fields BYTES                                             0 SERIAL AFTER BEFORE TYPE 0|1 0|1
     lists BYTES                                              0 KEY-ID KEY AUTHORITY, principal=NAME and critical=NAME=VALUE and
@@ -53,7 +54,7 @@ from .linked import VALGRIND, run, word
 # the numbers of helpers/judge.h
 REFUSALS = {
     "NOT_FOR_USERS": 100, "NOBODY_LISTED": 101, "UNMET_OPTION": 102, "OTHER_KEY": 103, "FLAG_DATA": 104, "NOT_FOR_HOSTS": 105,
-    "UNREADABLE": 106,
+    "UNREADABLE": 106, "REVOKED": 107,
 }  # fmt: skip
 
 
@@ -133,19 +134,19 @@ class Answers:
     def validate(self, data, second, principal, by, yes):
         whom = None if principal == "*" else data_of(principal)
         with patch.object(self.check, "is_signature", return_value=yes == "1") as verifier:
-            status = self.check.judge(data_of(data), int(second), whom, self.digests(by))
+            status = self.check.judge(data_of(data), int(second), whom, self.digests(by), self.check.NO_REVOCATIONS)
         return [str(int(status)), str(verifier.call_count)]
 
-    def user(self, data, key, second, user, by, known):
+    def user(self, data, key, second, user, by, known, *krl):
         def is_met(name, value):
             return name.encode() == data_of(known) and value != "unmet"
 
         given = (data_of(data), data_of(key), int(second), data_of(user), self.digests(by), is_met)
-        return [self.check.said(self.check.validate_user(*given))]
+        return [self.check.said(self.check.validate_user(*given, krl=data_of(krl[0]) if krl else self.check.NO_REVOCATIONS))]
 
     def host_certificate(self, data, second, host, port, *texts):
         given = (data_of(data), int(second), data_of(host), int(port), [data_of(it) for it in texts])
-        return [self.check.said(self.check.validate_host(*given))]
+        return [self.check.said(self.check.validate_host(*given, krl=self.check.NO_REVOCATIONS))]
 
     def fields(self, data):
         of = self.sshkey.certificate_fields(data_of(data))

@@ -8,6 +8,7 @@ import sys
 from lib.signatures import armoured
 
 from .linked import BINDINGS, EXAMPLES, run
+from .revocation_calls import EMPTY, made_list
 from .stubs import OTHER_ABI, check_other_abi, stub_library
 
 # the status that a program has promised
@@ -54,9 +55,39 @@ def check_certificates(count, built, maker, kind, middle):
         count.check(f"{program}: nothing is written", ran.returncode == UNTOLD and ran.stderr, ran.returncode, ran.stderr)
         ran = run([*words, good, "--at", str(middle)], stdin=folder)
         count.check(f"{program}: a folder on standard input", ran.returncode == UNTOLD and ran.stderr, ran.returncode, ran.stderr)
+        revoked = made_list(maker, None, [kind.line])
+        for name, data, wanted in (("nothing", EMPTY, VALID), ("no bytes", b"", INVALID), ("its key", revoked, INVALID)):
+            with open(maker.path("revocations"), "wb") as file:
+                file.write(data)
+            ran = run([*words, good, "--at", str(middle), "--revoked", maker.path("revocations")], input=line)
+            same = ran.returncode == wanted and ("(107)" in ran.stderr) == (wanted == INVALID)
+            count.check(f"{program}: a revocation list of {name}", same, ran.returncode, ran.stdout, ran.stderr)
+        ran = run([*words, good, "--at", str(middle), "--revoked", maker.path("none")], input=line)
+        count.check(f"{program}: no file of revocations", ran.returncode == UNTOLD and ran.stderr and not ran.stdout, ran.stdout)
     os.close(folder)
     ran = run([f"{built.plain}/sshkey-check", "--ca", wrong], input=line)
     count.check("sshkey-check names the line that is no key", f"{wrong}:4: no key" in ran.stderr, ran.stderr)
+
+
+def check_revoked(count, out, maker, programs):
+    """With a list of revocations the programs print what they print without it, unless the list revokes it or can't be read."""
+    lists = {
+        "a list of nothing": EMPTY, "a list that revokes it": made_list(maker, None, [maker.read("user0.pub")]), "an empty file": b"",
+        "a list of another key": made_list(maker, None, [maker.read("user1.pub")]), "a text of keys": maker.read("user1.pub").encode(),
+    }  # fmt: skip
+    for program, words in programs.items():
+        plain = run([f"{out}/{program}", *words])
+        for name, data in {**lists, "no such file": None}.items():
+            path = maker.path("none")
+            if data is not None:
+                path = maker.path("revocations")
+                with open(path, "wb") as file:
+                    file.write(data)
+            ran = run([f"{out}/{program}", "--revoked", path, *words])
+            is_good = name in ("a list of nothing", "a list of another key")
+            wanted = (0, plain.stdout) if is_good else (1, "")
+            same = (ran.returncode, ran.stdout) == wanted and bool(ran.stderr) != is_good and plain.stdout
+            count.check(f"{program}, {os.path.basename(out)}: {name}", same, ran.returncode, ran.stdout, ran.stderr)
 
 
 def check_helpers(count, built, maker, kind):
@@ -80,9 +111,10 @@ def check_helpers(count, built, maker, kind):
             count.check(f"principals, {name}: {case}", same, ran.returncode, ran.stdout, ran.stderr)
         ran = run([f"{out}/sshkey-principals", wrong, "alice", *offered])
         count.check(f"sshkey-principals, {name}, names the line", f"{wrong}:2: no key" in ran.stderr, ran.stderr)
-        for program, words in (
-            ("sshkey-principals", [good, "alice", *offered]), ("sshkey-authorized-keys", [own, "alice", *maker.read("own").split()[:2]]),
-        ):  # fmt: skip
+        own_words = [own, "alice", *maker.read("own").split()[:2]]
+        programs = {"sshkey-principals": [good, "alice", *offered], "sshkey-authorized-keys": own_words}
+        check_revoked(count, out, maker, programs)
+        for program, words in programs.items():
             with open("/dev/full", "wb") as full:
                 ran = run([f"{out}/{program}", *words], capture_output=False, stdout=full, stderr=-1)
             count.check(f"{program}, {name}: nothing is written", ran.returncode == 1 and ran.stderr, ran.returncode, ran.stderr)

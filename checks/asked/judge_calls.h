@@ -38,20 +38,21 @@ static void say_judged(uint32_t answer) {
     printf("refused: %s (%" PRIu32 ")", judge_meaning(answer), answer);
 }
 
-static void ask_user(char **words) {
+static void ask_user(char **words, size_t count) {
   judge_blob certificate = bytes_of(words[1]), key = bytes_of(words[2]);
-  judge_blob keys = bytes_of(words[5]), known = bytes_of(words[6]);
+  judge_blob keys = bytes_of(words[5]), known = bytes_of(words[6]), krl = bytes_of(words[7]);
   char *user = text_of(words[4]);
   judge_login asked = {user, key, strtoull(words[3], NULL, 10),
                        {(sshkey_sha256 *)keys.bytes, keys.length / sizeof(sshkey_sha256)},
-                       known.length ? is_met : NULL, &known};
+                       known.length ? is_met : NULL, &known,
+                       count > 7 ? krl : judge_no_revocations};
   verifications = 0;
   uint32_t answer = judge_validate_user(certificate, &asked);
   if (!strcmp(words[0], "user"))
     say_judged(answer);
   else
     printf("%zu", verifications);
-  judge_blob made[] = {certificate, key, keys, known};
+  judge_blob made[] = {certificate, key, keys, known, krl};
   for (size_t at = 0; at < sizeof made / sizeof *made; at++) free(made[at].bytes);
   free(user);
 }
@@ -62,7 +63,7 @@ static void ask_host(char **words, size_t count) {
   size_t text_count = count - 5;
   for (size_t at = 0; at < text_count; at++) texts[at] = bytes_of(words[5 + at]);
   judge_host asked = {host, (uint16_t)strtoul(words[4], NULL, 10), strtoull(words[2], NULL, 10),
-                      texts, text_count};
+                      texts, text_count, judge_no_revocations};
   say_judged(judge_validate_host(certificate, &asked));
   for (size_t at = 0; at < text_count; at++) free(texts[at].bytes);
   free(certificate.bytes);
@@ -88,7 +89,7 @@ static bool has_judged(char **words, size_t count) {
   else if (!strcmp(words[0], "meanings"))
     ask_meanings();
   else if (!strcmp(words[0], "user") || !strcmp(words[0], "verifications"))
-    ask_user(words);
+    ask_user(words, count);
   else if (!strcmp(words[0], "host-certificate"))
     ask_host(words, count);
   else if (!strcmp(words[0], "authority"))

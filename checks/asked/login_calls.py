@@ -10,6 +10,7 @@ from lib.harness import ROOT, blob_of, string
 from .linked import HELPERS, PEDANTIC, SANITIZED, C, run, word
 from .login_options import CASES, CRITICAL, FLAGS, MOST, TEXTS, certificate
 from .made import MIDDLE, WINDOW
+from .revocation_calls import EMPTY, made_list
 
 SOURCE, COMMAND = "source-address=192.0.2.0/24", "force-command=true"
 
@@ -158,7 +159,31 @@ def check_users(judge):
             asked.append((f"by an authority of {kind.name}, {name}", f"{blob.hex()} {words}", wanted))
     judge.hold("a login by a certificate", [(name, f"user {words}", judge.said_of(wanted)) for name, words, wanted in asked])
     if not judge.asker.is_package:
-        check_verifications(judge, asked)
+        check_verifications(judge, asked + check_revoked(judge))
+
+
+def check_revoked(judge):
+    """The same with a key revocation list, which is asked behind the authority and before the signature."""
+    maker, (own, other) = judge.made.maker, (judge.made.key(it) for it in (0, 1))
+    good = blob_of(maker.certificate("authority0", "user0", *WINDOW, "-n", "alice", "-z", "5"))
+    by, strange = (judge.made.authority(it) for it in (0, 1))
+    revoked, unlisted = (made_list(maker, "authority0", [f"serial: {it}"]) for it in (5, 6))
+    asked = []
+    for name, blob, key, by_whom, krl, wanted in (
+        ("a list of nothing", good, own, by, EMPTY, "DONE"), ("a list without it", good, own, by, unlisted, "DONE"),
+        ("a list that has its number", good, own, by, revoked, "REVOKED"),
+        ("a list that has its key", good, own, by, made_list(maker, None, [maker.read("user0.pub")]), "REVOKED"),
+        ("a list that has its authority", good, own, by, made_list(maker, None, [maker.read("authority0.pub")]), "REVOKED"),
+        ("no bytes for a list", good, own, by, b"", "REVOKED"), ("a list without its last byte", good, own, by, unlisted[:-1], "REVOKED"),
+        ("a text for a list", good, own, by, maker.read("user1.pub").encode(), "REVOKED"),
+        ("revoked, by another authority", good, own, strange, revoked, "UNTRUSTED_AUTHORITY"),
+        ("revoked, a turned bit", turned(good), own, by, revoked, "REVOKED"), ("revoked, another key", good, other, by, revoked, "REVOKED"),
+        ("another key, a list without it", good, other, by, unlisted, "OTHER_KEY"),
+    ):  # fmt: skip
+        words = f"{blob.hex()} {key.hex()} {judge.made.middle} {b'alice'.hex()} {by_whom.hex()} - {word(krl)}"
+        asked.append((name, words, wanted))
+    judge.hold("a login and a revocation list", [(name, f"user {words}", judge.said_of(wanted)) for name, words, wanted in asked])
+    return asked
 
 
 def check_verifications(judge, asked):
@@ -167,7 +192,7 @@ def check_verifications(judge, asked):
     for (name, words, wanted), answer in zip(asked, said):
         with patch.object(judge.made.check, "is_signature", wraps=judge.made.check.is_signature) as verifier:
             judge.answers.to(f"user {words}")
-        right = {"UNTRUSTED_AUTHORITY": "0", "NOT_SIGNED": "1", "DONE": "1"}.get(wanted, answer)
+        right = {"UNTRUSTED_AUTHORITY": "0", "REVOKED": "0", "NOT_SIGNED": "1", "DONE": "1"}.get(wanted, answer)
         judge.check(f"the verifications of a login: {name}", answer == str(verifier.call_count) == right, answer, verifier.call_count)
 
 

@@ -9,6 +9,7 @@ from concurrent.futures import ThreadPoolExecutor
 from lib.harness import line_of
 
 from .linked import run
+from .revocation_calls import made_list
 from .security_key_calls import COUNTER, SecurityKey, certified
 
 SSHD = "/usr/sbin/sshd"
@@ -28,7 +29,7 @@ LogLevel VERBOSE
 HELPER = "nobody" if os.getuid() == 0 else getpass.getuser()
 # sshd wants a program that nobody else can change, on its whole path, which a new folder is not: env is, and runs it
 COMMAND = """\
-AuthorizedPrincipalsCommand /usr/bin/env {1} {0}/authorities %u %t %k
+AuthorizedPrincipalsCommand /usr/bin/env {1} {3}{0}/authorities %u %t %k
 AuthorizedPrincipalsCommandUser {2}
 """
 
@@ -64,8 +65,14 @@ class Logins:
         lines += [f"{me} {it}" for it in devices]
         maker.write("authorities", "# who may sign for whom\n" + "".join(f"{it}\n" for it in lines))
         maker.write("plain", CONFIGURATION.format(maker.folder))
-        maker.write("asking", CONFIGURATION.format(maker.folder) + COMMAND.format(maker.folder, program, HELPER))
-        maker.write("lost", CONFIGURATION.format(maker.folder) + COMMAND.format(f"{maker.folder}/none", program, HELPER))
+        with open(maker.path("revoked"), "wb") as file:
+            file.write(made_list(maker, "own", ["serial: 5"]))
+        for name, folder, more in (
+            ("asking", "{0}", ""), ("lost", "{0}/none", ""), ("revoking", "{0}", "--revoked {0}/revoked "),
+            ("unread", "{0}", "--revoked {0}/none "),
+        ):  # fmt: skip
+            command = COMMAND.format(folder.format(maker.folder), program, HELPER, more.format(maker.folder))
+            maker.write(name, CONFIGURATION.format(maker.folder) + command)
         # the helper has to get there
         for folder in (maker.folder, os.path.dirname(maker.folder)):
             os.chmod(folder, 0o711)
@@ -97,6 +104,10 @@ class Logins:
         yield "too late", me, "own", ["-n", me, "-V", "-6m:-5m"], "asking", False
         yield "nobody is listed", me, "own", now, "asking", False
         yield "a file of authorities that is not there", me, "own", ["-n", me, *now], "lost", False
+        yield "a revoked number", me, "own", ["-n", me, "-z", "5", *now], "revoking", False
+        yield "another number", me, "own", ["-n", me, "-z", "6", *now], "revoking", True
+        yield "the number of another authority", me, "second", ["-n", me, "-z", "5", *now], "revoking", True
+        yield "no file of revocations", me, "own", ["-n", me, *now], "unread", False
         for kind in self.devices:
             device, turned = (kind, COUNTER), (kind, COUNTER + 1)
             yield f"its user, by a security key of {kind}", me, device, ["-n", me, *now], "asking", True

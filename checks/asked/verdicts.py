@@ -22,12 +22,13 @@ def said_by_python(sshkey, check, by, user, second, lines):
 
     def judged(line):
         if user is None:
-            return check.judge_line(line, second, None, by)
+            return check.judge_line(line, second, None, by, check.NO_REVOCATIONS)
         try:
             found = check.read(line, is_certificate=True)
             key = sshkey.certificate_contents(found).key
         except sshkey.Refused as refused:
             return refused.status
-        return check.validate_user(found, key, second, user, by, lambda name, _: name in KNOWN)
+        none = check.NO_REVOCATIONS
+        return check.validate_user(found, key, second, user, by, lambda name, _: name in KNOWN, krl=none)
 
     return [check.said(judged(it)) for it in lines]
