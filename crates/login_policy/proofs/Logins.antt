@@ -1,5 +1,5 @@
 -- What the validation of a certificate decides.
-use Rattle.std.proofs.Common.{◌≡◌, ◌≢◌, ◌⊎◌, ◌==◌, ℕ, List, [], ◌∷◌, length, map, Bool, true, false, IsTrue, None, Some, option_map, Result, Ok, Err, IfOk, IfErr, ap, arith, inl, inr, refl, subst, sym, ◌∙◌}
+use Rattle.std.proofs.Common.{◌≡◌, ◌≢◌, ◌⊎◌, ◌==◌, ℕ, List, [], ◌∷◌, length, map, Bool, true, false, IsTrue, None, Some, option_map, Ok, Err, ap, arith, inl, inr, refl, subst, sym, ◌∙◌}
 use Rattle.std.proofs.lemmas.Bool.Decides.{nat_tests}
 use Rattle.std.specs.List.{list_any}
 use Rattle.std.specs.Prelude.{Contains, String, string_bytes}
@@ -25,11 +25,10 @@ use Rattle.ssh_key.specs.public.LineNeeds.{HasComment, NeedsValue}
 use Rattle.ssh_key.specs.types.Error.{Error}
 use Rattle.ssh_key.specs.types.Error.TheVariants as error
 use Rattle.ssh_key.specs.types.Fingerprint as code
-use Rattle.ssh_key.proofs.Acceptance.{other_cause}
 use Rattle.ssh_key.proofs.Validation.{fingerprint_memory, signer_fits}
 use Rattle.login_policy.specs.Logins.{GrantsExactly, HasRightFields, IsGrantOf, IsLogin, LetsIn}
 use Rattle.login_policy.specs.Principals.{AreFor}
-use Rattle.login_policy.specs.Refusals.{ForHosts, HasWrongField, IsRevoked, IsUntrusted, Names, NeedsMemory, NeedsJudging, NotValid, OtherAuthority, OtherExtension, OtherKey, OtherKeyId, OtherPrincipals, Refuses, RefusesLine, UnknownOption}
+use Rattle.login_policy.specs.Refusals.{ForHosts, HasWrongField, IsRevoked, IsUntrusted, Names, NeedsMemory, NotValid, OtherAuthority, OtherExtension, OtherKey, OtherKeyId, OtherPrincipals, Refuses, UnknownOption}
 use Rattle.login_policy.specs.declared.grant.Grant.{Grant}
 use Rattle.login_policy.specs.declared.refusal.Refusal.{Refusal}
 use Rattle.login_policy.specs.declared.refusal.Refusal.TheVariants.{Certificate as of_certificate, Memory}
