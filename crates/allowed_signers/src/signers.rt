@@ -35,8 +35,8 @@ pub enum Refusal {
 }
 
 /// Whether the bytes are a signature of the message, in the namespace, by a key that is not revoked
-/// and that a line of `signers` lets sign for the identity at that time, in seconds since 1970.
-/// That is what `ssh-keygen -Y verify -r` asks (ssh-keygen(1), ALLOWED SIGNERS).
+/// and that a line of `signers` lets sign for the identity at that time. The time is in seconds
+/// since 1970. That is what `ssh-keygen -Y verify -r` asks (ssh-keygen(1), ALLOWED SIGNERS).
 ///
 /// A line is a list of patterns, options or none, and a key, as in authorized_keys. It lets the key
 /// sign if one of the patterns matches the identity and none that begins with a `!` does, and if
