@@ -3,6 +3,7 @@
 import time
 
 from .login_options import INVALID, compared
+from .revoked_lists import list_of, saved
 
 SERIAL, KEY_ID = 7, "jump"
 LET_IN, REVOKED = "ok touch-required", "revoked"
@@ -26,16 +27,6 @@ LISTS = [
 ]
 
 
-def made_list(maker, authority, lines):
-    """The path of the list that ssh-keygen makes of these lines, about certificates by that authority."""
-    path = maker.path("login.krl")
-    keys = {name: maker.read(f"{name}.pub") for name in ("user", "other", OWN, OTHER)}
-    signer = authority if authority == ALL else maker.path(f"{authority}.pub")
-    text = "".join(line.format(**keys) + "\n" for line in lines)
-    maker.run("-k", "-f", path, "-s", signer, "-", text=True, input=text)
-    return path
-
-
 def login_revocations(maker, user, lets_in, told_of_certificate):
     """Names, lines and answers: the configuration that trusts both authorities stands in the folder."""
     line = maker.certificate(OWN, "user", "-n", user, "-z", str(SERIAL), "-V", "-5m:+5m", "-O", "clear", "-I", KEY_ID)
@@ -50,17 +41,13 @@ def login_revocations(maker, user, lets_in, told_of_certificate):
         by_both = [query.returncode == 0, lets_in(maker, user, f"-oRevokedKeys={path}")]
         return compared(answer, [query, by_both], by_both == [answer == LET_IN] * 2)
 
-    made = {}
+    made, keys = {}, {name: maker.read(f"{name}.pub") for name in ("user", "other", OWN, OTHER)}
     for name, authority, lines, answer in LISTS:
-        path = made_list(maker, authority, lines)
-        with open(path, "rb") as file:
-            made[name] = file.read()
-        yield f"login where a list has {name}", told, asked(made[name]), said(path, answer)
+        made[name] = list_of(maker, "\n".join(lines).format(**keys), authority)
+        yield f"login where a list has {name}", told, asked(made[name]), said(saved(maker, made[name]), answer)
     nothing, revoked = made["nothing"], made["the serial number"]
     for name, text in (("cut off", revoked[:-1]), ("none", b"ssh-ed25519 AAAA\n")):
-        with open(maker.path("login.krl"), "wb") as file:
-            file.write(text)
-        yield f"login where a list is {name}", told, asked(text), said(maker.path("login.krl"), REVOKED)
+        yield f"login where a list is {name}", told, asked(text), said(saved(maker, text), REVOKED)
     yield "login where the second list revokes", told, asked(nothing, revoked), REVOKED
     yield "login where one of two lists is cut off", told, asked(nothing, revoked[:-1]), REVOKED
     # the authority is asked first, and the verifier not at all

@@ -6,6 +6,7 @@ import time
 from lib.harness import line_of, string
 from lib.signatures import TYPES, armoured, signed, signed_data, told, told_of_file, unarmoured
 
+from .revoked_lists import list_of, saved
 from .security_key_calls import SecurityKey
 
 NAMESPACE = "git"
@@ -215,14 +216,6 @@ def by_device(device, message):
     return blob, told(line_of(device.plain()), string(device.names[1]) + string(raw), said)
 
 
-def list_of(maker, text):
-    """The bytes of ssh-keygen's list of what the text revokes."""
-    path = maker.path("revoked")
-    maker.run("-k", "-f", path, "-", text=True, input=text + "\n")
-    with open(path, "rb") as file:
-        return file.read()
-
-
 def says(maker, text, blob, message, who, namespace, at, revoked):
     """Whether ssh-keygen takes the signature for that identity's, by a list of revoked keys if one is given."""
     with open(maker.path("allowed"), "wb") as file:
@@ -232,9 +225,7 @@ def says(maker, text, blob, message, who, namespace, at, revoked):
     words = ["-Y", "verify", "-f", maker.path("allowed"), "-I", who, "-n", namespace, "-s", maker.path("armour")]
     words += ["-O", "verify-time=" + time.strftime("%Y%m%d%H%M%SZ", time.gmtime(at))]
     if revoked is not None:
-        with open(maker.path("revoked"), "wb") as file:
-            file.write(revoked)
-        words += ["-r", maker.path("revoked")]
+        words += ["-r", saved(maker, revoked)]
     return maker.run(*words, input=message, check=False).returncode == 0
 
 
