@@ -1,6 +1,6 @@
 //! Asks whether a signature is an identity's.
 
-use crate::revoked::{lists, read_lists};
+use crate::revoked::read_lists;
 use crate::verified::Told;
 use crate::words::{NO_LINE, bytes, number, text};
 use allowed_signers::{Refusal, verify};
@@ -25,7 +25,6 @@ pub(crate) fn answer(alloc: Global, words: &[&str], told: &Told) -> Result<Strin
     let signers = text(alloc, signers)?;
     let message = bytes(alloc, message)?;
     let signature = bytes(alloc, signature)?;
-    let revoked = lists(alloc, revoked)?;
     let answer = verify(
         alloc,
         &signers,
@@ -34,7 +33,7 @@ pub(crate) fn answer(alloc: Global, words: &[&str], told: &Told) -> Result<Strin
         &message,
         &signature,
         number(seconds)?,
-        &read_lists(alloc, revoked.as_slice())?.as_slice(),
+        &read_lists(alloc, revoked)?.as_slice(),
         told,
     );
     shown(alloc, answer)

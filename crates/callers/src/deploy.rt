@@ -1,6 +1,6 @@
 //! Asks which deploy key has signed.
 
-use crate::revoked::{lists, read_lists};
+use crate::revoked::read_lists;
 use crate::verified::Told;
 use crate::words::{NO_LINE, bytes, text};
 use deploy_keys::find_signer;
@@ -17,8 +17,7 @@ pub(crate) fn answer(alloc: Global, words: &[&str], told: &Told) -> Result<Strin
     let keys = text(alloc, keys)?;
     let content = bytes(alloc, content)?;
     let signature = bytes(alloc, signature)?;
-    let lists = lists(alloc, revoked)?;
-    let revocations = read_lists(alloc, &lists)?;
+    let revocations = read_lists(alloc, revoked)?;
     let signer = find_signer(
         alloc,
         &keys,

@@ -1,7 +1,7 @@
 //! Asks whether a host is the known one.
 
 use crate::hashes::Hashes;
-use crate::revoked::{lists, read_lists};
+use crate::revoked::read_lists;
 use crate::verified::Told;
 use crate::words::{NO_LINE, number, texts};
 use host_keys::{Refusal, check_certificate, check_key};
@@ -16,7 +16,6 @@ pub(crate) fn key(alloc: Global, words: &[&str], hashes: &Hashes) -> Result<Stri
     };
     let texts = texts(alloc, known_hosts)?;
     let key = PublicKey::from_openssh(alloc, key)?;
-    let lists = lists(alloc, revoked)?;
     let answer = check_key(
         alloc,
         &borrowed(alloc, &texts)?,
@@ -24,7 +23,7 @@ pub(crate) fn key(alloc: Global, words: &[&str], hashes: &Hashes) -> Result<Stri
         port_of(port)?,
         key.key_data(),
         hashes,
-        &read_lists(alloc, &lists)?.as_slice(),
+        &read_lists(alloc, revoked)?.as_slice(),
     );
     shown(alloc, answer)
 }
@@ -41,7 +40,6 @@ pub(crate) fn certificate(
     };
     let texts = texts(alloc, known_hosts)?;
     let certificate = Certificate::from_openssh(alloc, certificate)?;
-    let lists = lists(alloc, revoked)?;
     let answer = check_certificate(
         alloc,
         &borrowed(alloc, &texts)?,
@@ -50,7 +48,7 @@ pub(crate) fn certificate(
         &certificate,
         number(seconds)?,
         hashes,
-        &read_lists(alloc, &lists)?.as_slice(),
+        &read_lists(alloc, revoked)?.as_slice(),
         told,
     );
     shown(alloc, answer)

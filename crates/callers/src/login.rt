@@ -1,6 +1,6 @@
 //! Asks the login policy.
 
-use crate::revoked::{lists, read_lists};
+use crate::revoked::read_lists;
 use crate::verified::Told;
 use crate::words::{NO_LINE, fingerprints, number};
 use login_policy::{Grant, Refusal, log_in};
@@ -23,7 +23,6 @@ pub(crate) fn answer(alloc: Global, words: &[&str], told: &Told) -> Result<Strin
         return Err(NO_LINE);
     };
     let offered = PublicKey::from_openssh(alloc, offered)?;
-    let lists = lists(alloc, revoked)?;
     let answer = log_in(
         alloc,
         certificate,
@@ -31,7 +30,7 @@ pub(crate) fn answer(alloc: Global, words: &[&str], told: &Told) -> Result<Strin
         offered.key_data(),
         number(seconds)?,
         &fingerprints(alloc, authorities)?,
-        &read_lists(alloc, &lists)?.as_slice(),
+        &read_lists(alloc, revoked)?.as_slice(),
         told,
     );
     match answer {
