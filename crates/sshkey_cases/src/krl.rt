@@ -8,6 +8,7 @@ use sshkey_base::{Decode, Result, decode_whole};
 use sshkey_keys::KeyData;
 use sshkey_krl::{Krl, KrlRef};
 use std::alloc::Global;
+use std::convert::TryFrom;
 
 /// What the list that the first byte string spells says of the key that the second one is; and of
 /// certificates of that key, which the third one signed. Each byte string after it is a serial
@@ -47,7 +48,8 @@ pub(crate) fn word(is_revoked: bool) -> &'static str {
 
 /// The bytes of a list, with the number 7, the date 8 and a comment, of what is revoked: the first
 /// byte string is the key of the authority, or empty for everybody. Each one after it is the number
-/// of a section or a part, and what is to stand there: one key, serial numbers, a range or a key id.
+/// of a section or a part, and what is to stand there: one key, the digest of one, serial numbers, a
+/// range or a key id.
 pub(crate) fn made(alloc: Global, parts: &[Vec<u8>]) -> Result<String> {
     let mut list = Krl::new(alloc, 7, 8, "a list")?;
     if part(parts, 0).is_empty() {
@@ -84,6 +86,8 @@ fn add(alloc: Global, authority: Option<&KeyData>, added: &[u8], list: &mut Krl)
             let key: KeyData = decode_whole(alloc, bytes)?;
             list.revoke_key(&key)
         }
+        3 => list.revoke_sha1(&digest(bytes)?),
+        5 => list.revoke_sha256(&digest(bytes)?),
         0x20 => list.revoke_serials(authority, &numbers(alloc, bytes)?),
         0x21 => {
             let ends = numbers(alloc, bytes)?;
@@ -95,6 +99,11 @@ fn add(alloc: Global, authority: Option<&KeyData>, added: &[u8], list: &mut Krl)
         0x23 => list.revoke_key_id(authority, std::str::from_utf8(bytes)?),
         _ => Err(NO_LINE),
     }
+}
+
+/// The bytes of a digest.
+fn digest<const N: usize>(bytes: &[u8]) -> Result<[u8; N]> {
+    <[u8; N]>::try_from(bytes).map_err(|_| NO_LINE)
 }
 
 /// The numbers of eight bytes up to the end.

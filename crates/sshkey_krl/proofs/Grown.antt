@@ -5,9 +5,9 @@ use Rattle.std.specs.Int.{w8, w32, w64}
 use Rattle.sshkey_base.proofs.Accepted.{spelled_whole}
 use Rattle.std.proofs.Math.Seq.{take-append_seam}
 use Rattle.sshkey_base.proofs.Writing.{length_both}
-use Rattle.sshkey_base.specs.Formats.{Format, byte_format, number32_format, number64_format, string_format}
+use Rattle.sshkey_base.specs.Formats.{Format, array_format, byte_format, number32_format, number64_format, string_format}
 use Rattle.sshkey_base.specs.Grammars.{AllEnd, ends}
-use Rattle.sshkey_base.specs.Leaves.{SpellsString, byte_normal, number32_normal, number64_normal, string_normal}
+use Rattle.sshkey_base.specs.Leaves.{SpellsString, array_normal, byte_normal, number32_normal, number64_normal, string_normal}
 use Rattle.sshkey_base.specs.Sink.{NotWritten, Sink, Written, after}
 use Rattle.sshkey_base.specs.declared.encoding.Error as narrow
 use Rattle.sshkey_base.specs.declared.encoding.Error.TheVariants as encoding
@@ -32,10 +32,10 @@ use Rattle.sshkey_krl.specs.Krls.{SpellsKrl, header_format, krl_format, krl_in, 
 use Rattle.sshkey_krl.specs.Owned.{Adds}
 use Rattle.sshkey_krl.specs.Parts as parts
 use Rattle.sshkey_krl.specs.Parts.{key_id_format, numbered, part_format, part_shows, serial_format, text_from}
-use Rattle.sshkey_krl.specs.Revocation.{Authority, Certificates, Everybody, KeyIds, Keys, Krl, Numbers, Part, Section, Signer, begun, with_section, without_zero}
+use Rattle.sshkey_krl.specs.Revocation.{Authority, Certificates, Everybody, KeyIds, Keys, Krl, Numbers, Part, Section, Sha1s, Sha256s, Signer, begun, with_section, without_zero}
 use Rattle.sshkey_krl.specs.Sections.{authority_from, body, kind_from, section_format}
 use Rattle.sshkey_krl.specs.Serials.{Listed, Range, range_from}
-use Rattle.sshkey_krl.specs.Written.{Appends, IsAuthority, RefusesToWrite, authority_string, certificates_section, framed, has_zero, header, key_id_part, key_section, range_part, serials_part}
+use Rattle.sshkey_krl.specs.Written.{Appends, IsAuthority, RefusesToWrite, authority_string, certificates_section, framed, has_zero, header, key_id_part, key_section, range_part, serials_part, sha1_section, sha256_section}
 use Rattle.sshkey_krl.specs.declared.part.PartKind.TheVariants as kinds
 use Rattle.sshkey_krl.specs.declared.section.SectionKind.TheVariants as sections
 use Rattle.sshkey_krl.proofs.Krls.{spelled}
@@ -130,6 +130,17 @@ key_spelled p fits = framed_spelled kind_from body 2 sections.Keys (Keys (flat p
   spelled = one string_format string_ends (flat p) (flat (box p)) (string_spelled p (framed_inside 2 (box p) fits));
   makes = refl;
 })
+
+-- ---- a section of a digest
+
+digests_spelled : (n k : ℕ) (d : List ℕ) → length d ≡ k → Fits (framed n (string d)) → SpellsEach (array_format k).Spells (array_format k).grammar.delimited_at (d ∷ []) (flat (string d))
+digests_spelled n k d is fits = one (array_format k) (λ b. refl) d (flat (string d)) (array_normal k d is (framed_inside n (string d) fits))
+
+pub sha1_spelled : (d : List ℕ) → length d ≡ 20 → Fits (sha1_section d) → section_format.Spells (Sha1s (d ∷ [])) (flat (sha1_section d))
+sha1_spelled d is fits = framed_spelled kind_from body 3 sections.Sha1 (Sha1s (d ∷ [])) (string d) refl fits (record { inner = d ∷ []; spelled = digests_spelled 3 20 d is fits; makes = refl })
+
+pub sha256_spelled : (d : List ℕ) → length d ≡ 32 → Fits (sha256_section d) → section_format.Spells (Sha256s (d ∷ [])) (flat (sha256_section d))
+sha256_spelled d is fits = framed_spelled kind_from body 5 sections.Sha256 (Sha256s (d ∷ [])) (string d) refl fits (record { inner = d ∷ []; spelled = digests_spelled 5 32 d is fits; makes = refl })
 
 -- ---- a section of a part about certificates
 

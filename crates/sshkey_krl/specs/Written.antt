@@ -31,6 +31,13 @@ framed n body = number w8 n & box body
 abbrev pub key_section : Parts → Parts
 key_section key = framed 2 (box key)
 
+-- sections of the one digest
+abbrev pub sha1_section : List ℕ → Parts
+sha1_section digest = framed 3 (string digest)
+
+abbrev pub sha256_section : List ℕ → Parts
+sha256_section digest = framed 5 (string digest)
+
 abbrev pub authority_string : Authority → Parts
 authority_string Everybody = string []
 authority_string (Signer key) = box (normal_key key)

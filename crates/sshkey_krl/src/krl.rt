@@ -34,10 +34,10 @@ impl Krl {
     ghost use Rattle.sshkey_krl.specs.KrlRef.{krl_bytes as ref_bytes};
     ghost use Rattle.sshkey_krl.specs.Krls.{SpellsKrl};
     ghost use Rattle.sshkey_krl.specs.Owned.{Adds, AddsPart, Begins, Rejects, authority_of, krl_bytes, krl_of};
-    ghost use Rattle.sshkey_krl.specs.Revocation.{KeyIds, Keys, Numbers};
+    ghost use Rattle.sshkey_krl.specs.Revocation.{KeyIds, Keys, Numbers, Sha1s, Sha256s};
     ghost use Rattle.sshkey_krl.specs.Serials.{Listed};
     ghost use Rattle.sshkey_krl.specs.Serials as serials;
-    ghost use Rattle.sshkey_krl.specs.Written.{IsAuthority, has_zero, key_id_part, key_section, range_part, serials_part};
+    ghost use Rattle.sshkey_krl.specs.Written.{IsAuthority, has_zero, key_id_part, key_section, range_part, serials_part, sha1_section, sha256_section};
 
     /// A list with that number, date and comment that revokes nothing. The date is in seconds since
     /// 1970.
@@ -102,6 +102,38 @@ impl Krl {
             &Framed {
                 number: 2,
                 body: KeyString(key),
+            },
+        )
+    }
+
+    /// Revokes the key with that SHA-1 digest of its encoding, and each certificate of it or that
+    /// it signed.
+    ///
+    /// Fails only when out of memory.
+    pub fn revoke_sha1(&mut self, digest: &[u8; 20]) -> Result<()>
+        ensures { Adds (Sha1s (digest.now ∷ [])) (sha1_section digest.now) (krl_bytes self.old)
+            result (krl_bytes self.new) }
+    {
+        append(
+            &mut self.bytes,
+            &Framed {
+                number: 3,
+                body: *digest,
+            },
+        )
+    }
+
+    /// Does by a SHA-256 digest what `revoke_sha1` does by a SHA-1 digest. OpenSSH reads it since
+    /// version 7.9.
+    pub fn revoke_sha256(&mut self, digest: &[u8; 32]) -> Result<()>
+        ensures { Adds (Sha256s (digest.now ∷ [])) (sha256_section digest.now) (krl_bytes self.old)
+            result (krl_bytes self.new) }
+    {
+        append(
+            &mut self.bytes,
+            &Framed {
+                number: 5,
+                body: *digest,
             },
         )
     }

@@ -1,0 +1,15 @@
+use Rattle.std.proofs.Common.{[], ◌∷◌}
+use Rattle.sshkey_krl.specs.Revocation.{Sha256s}
+use Rattle.sshkey_krl.specs.Written.{sha256_section}
+use Rattle.sshkey_krl.proofs.Grown.{adds, sha256_spelled, still_list}
+use Rattle.sshkey_krl.proofs.krl.Krl.revoke_sha256.Goals as goal
+
+pub invariant_of-self : goal.invariant_of-self
+invariant_of-self c =
+    let digest = c.args.digest.now in
+    record { form = still_list (Sha256s (digest ∷ [])) (sha256_section digest) c.args.self.now.bytes.items c.append.new.bytes.items c.append.result (sha256_spelled digest c.told-digest) c.args.self.now.form c.append.ensures }
+
+pub returns : goal.returns
+returns c =
+    let digest = c.args.digest.now in
+    adds (Sha256s (digest ∷ [])) (sha256_section digest) c.args.self.now.bytes.items c.append.new.bytes.items c.append.result (sha256_spelled digest c.told-digest) c.args.self.now.form c.append.ensures
