@@ -3,7 +3,7 @@ use Rattle.std.proofs.Common.{◌≡◌, ◌⊎◌, ℕ, suc, zero-add, ◌<◌,
 use Rattle.std.proofs.lemmas.Bool.{and_parts, cases_lt}
 use Rattle.std.proofs.lemmas.List.{length-append, append-nil, append_assoc, drop-drop, length-take-le, length-drop, take-append-drop}
 use Rattle.std.proofs.Math.Seq.{take-add}
-use Rattle.std.specs.Prelude.{slice_range}
+use Rattle.std.specs.Prelude.{slice_range, slice_index, slice_set}
 use Rattle.base64.specs.Engines.{standard}
 use Rattle.base64.specs.GeneralPurpose.{encode_of, decode_of, IsBytes}
 use Rattle.base64.specs.declared.decode.DecodeError.{DecodeError}
@@ -71,6 +71,22 @@ told_is held w are whole =
   where
     sums : (n a b m : ℕ) → n ≡ a + b → b ≤ m → n + (m - b) ≡ a + m
     sums n a b m e le = omega arith
+
+pub one_copied : (from to : List ℕ) → length to ≡ length from → length to ≡ 1 → slice_set to 0 (slice_index from 0) ≡ from
+one_copied (a ∷ []) (b ∷ []) same one = refl
+one_copied [] to same one = absurd (omega arith)
+one_copied (a ∷ x ∷ from) to same one = absurd (omega arith)
+one_copied (a ∷ []) [] same one = absurd (omega arith)
+one_copied (a ∷ []) (b ∷ y ∷ to) same one = absurd (omega arith)
+
+pub two_copied : (from to : List ℕ) → length to ≡ length from → length to ≡ 2 → slice_set (slice_set to 0 (slice_index from 0)) 1 (slice_index from 1) ≡ from
+two_copied (a ∷ x ∷ []) (b ∷ y ∷ []) same two = refl
+two_copied [] to same two = absurd (omega arith)
+two_copied (a ∷ []) to same two = absurd (omega arith)
+two_copied (a ∷ x ∷ z ∷ from) to same two = absurd (omega arith)
+two_copied (a ∷ x ∷ []) [] same two = absurd (omega arith)
+two_copied (a ∷ x ∷ []) (b ∷ []) same two = absurd (omega arith)
+two_copied (a ∷ x ∷ []) (b ∷ y ∷ z ∷ to) same two = absurd (omega arith)
 
 -- ---- whole groups
 

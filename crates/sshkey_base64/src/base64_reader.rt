@@ -51,18 +51,18 @@ fn announced(text: &[u8]) -> usize
     text.len() / 4 * 3 - padding(text)
 }
 
-/// Decodes groups of four characters, which have to give three bytes each.
-fn decode_groups(text: &[u8], bytes: &mut [u8]) -> Result<()>
+/// Decodes groups of four characters, of which the last may have padding, and says how many bytes
+/// they have. The engine stands on the stack, where groups without a fault do not pay for it.
+#[cold]
+#[inline(never)]
+fn decode_by_engine(text: &[u8], bytes: &mut [u8]) -> Option<usize>
     requires groups { length text.now % 4 ≡ 0 }
     requires room { 3 * (length text.now / 4) ≡ length bytes.old }
-    ensures { DecodesGroups text.now bytes.new result }
+    ensures { DecodesSome text.now bytes.new result }
 {
-    if decode_symbols(text, bytes) {
-        return Ok(());
-    }
     match STANDARD.decode_slice_unchecked(text, bytes) {
-        Ok(count) if count == bytes.len() => Ok(()),
-        _ => Err(Error::Base64),
+        Ok(count) => Some(count),
+        Err(_) => None,
     }
 }
 
@@ -76,9 +76,35 @@ fn decode_some(text: &[u8], bytes: &mut [u8]) -> Option<usize>
     if decode_symbols(text, bytes) {
         return Some(bytes.len());
     }
-    match STANDARD.decode_slice_unchecked(text, bytes) {
-        Ok(count) => Some(count),
-        Err(_) => None,
+    decode_by_engine(text, bytes)
+}
+
+/// Decodes groups of four characters, which have to give three bytes each.
+fn decode_groups(text: &[u8], bytes: &mut [u8]) -> Result<()>
+    requires groups { length text.now % 4 ≡ 0 }
+    requires room { 3 * (length text.now / 4) ≡ length bytes.old }
+    ensures { DecodesGroups text.now bytes.new result }
+{
+    match decode_some(text, bytes) {
+        Some(count) if count == bytes.len() => Ok(()),
+        _ => Err(Error::Base64),
+    }
+}
+
+/// Copies bytes, one or two of them without a call.
+#[tactic(auto, using(crate::proofs::WordSources::one_copied, crate::proofs::WordSources::two_copied))]
+#[inline(always)]
+fn copy_few(from: &[u8], to: &mut [u8])
+    requires { length to.old ≡ length from.now }
+    ensures { to.new ≡ from.now }
+{
+    if to.len() == 1 {
+        to[0] = from[0];
+    } else if to.len() == 2 {
+        to[0] = from[0];
+        to[1] = from[1];
+    } else {
+        to.copy_from_slice(from);
     }
 }
 
@@ -126,7 +152,7 @@ impl<'a> Base64Reader<'a> {
             return;
         }
         let end = self.from + bytes.len();
-        bytes.copy_from_slice(&self.held[self.from..end]);
+        copy_few(&self.held[self.from..end], bytes);
         self.from = end;
     }
 

@@ -3,14 +3,7 @@ use Rattle.base64.specs.Engines.{standard}
 use Rattle.base64.specs.GeneralPurpose.{decode_of}
 use Rattle.base64.proofs.EngineFacts.{decode_of-encode_of}
 use Rattle.sshkey_model.proofs.CombinedReaders.{fit_bytes}
-use Rattle.sshkey_base64.proofs.WordSources.{never_ok}
 use Rattle.sshkey_base64.proofs.base64_reader.decode_some.Goals as goal
-
-pub returns-in-Ok : goal.returns-in-Ok
-returns-in-Ok c = (c.in-Ok.ensures.ok.0, omega (arith, c.in-Ok.ensures.ok.2), fit_bytes c.decode_slice_unchecked.new.output (λ i. omega (arith, c.type_inv.bytes i)))
-
-pub returns-in-Err : goal.returns-in-Err
-returns-in-Err c = never_ok c.args.text.now _ c.in-Err.ensures.err
 
 pub returns-then-decode_symbols : goal.returns-then-decode_symbols
 returns-then-decode_symbols c =

@@ -8,6 +8,6 @@ pub returns-clause-taken : goal.returns-clause-taken
 returns-clause-taken c =
     let r = c.args.self.now in
     let n : ℕ = length c.args.bytes.now in
-    held_taken _ c.copy_from_slice.new.self _ r.text.now
-    (range_split r.held r.from n r.to c.requires ∙ ap (λ (l : List ℕ). l ++ slice_range r.held (r.from + n) r.to) (sym c.copy_from_slice.ensures.after))
-    (fit_bytes c.copy_from_slice.new.self (λ i. omega (arith, c.type_inv.bytes i)))
+    held_taken _ c.copy_few.new.to _ r.text.now
+    (range_split r.held r.from n r.to c.requires ∙ ap (λ (l : List ℕ). l ++ slice_range r.held (r.from + n) r.to) (sym c.copy_few.ensures))
+    (fit_bytes c.copy_few.new.to (λ i. omega (arith, c.type_inv.bytes i)))
