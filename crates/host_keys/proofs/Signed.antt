@@ -1,19 +1,16 @@
 -- What is said of a key and of the key that signed it.
-use Rattle.std.proofs.Common.{◌≡◌, ◌≢◌, ℕ, Bool, List, Ok, Err, inl, inr, refl, subst}
+use Rattle.std.proofs.Common.{◌≡◌, ℕ, Bool, false, List, IfErr, IfOk, Result, inl, inr, refl, subst}
 use Rattle.ssh_key.specs.entries.HostVerdicts.{HidesSome, IsAuthority, IsRevoked}
 use Rattle.ssh_key.specs.known_hosts.Verdicts.{IsVerdict}
 use Rattle.ssh_key.specs.model.Certificates.{Certificate}
-use Rattle.ssh_key.specs.model.Keys.{HasKeyPlaces, IsKey, Key, key, normal_key}
-use Rattle.ssh_key.specs.model.Laws.{NormalFits}
-use Rattle.ssh_key.specs.model.Parts.{BoxesFit}
+use Rattle.ssh_key.specs.model.Keys.{Key}
 use Rattle.ssh_key.specs.types.Error.{Error}
 use Rattle.ssh_key.specs.types.known_hosts.Verdict.{Verdict}
 use Rattle.ssh_key.specs.types.known_hosts.Verdict.TheVariants.{Changed, Revoked, Trusted, Unknown, Unreadable}
-use Rattle.host_keys.specs.Answers.{IsWhy, answer_of}
+use Rattle.host_keys.specs.Answers.{IsWhy, OkExactly, answer_of}
 use Rattle.host_keys.specs.Hosts.{IsEitherRevoked, IsSaidOfSigned, IsVerdictOfSigned}
 use Rattle.host_keys.specs.declared.refusal.Refusal.{Refusal}
-use Rattle.host_keys.specs.declared.refusal.Refusal.TheVariants as refusal
-use Rattle.host_keys.proofs.Said.{is_trusted, refused, why_refused}
+use Rattle.host_keys.proofs.Said.{exactly, one_said, why}
 
 module _ (hmac : List ℕ → List ℕ → List ℕ) (name : List ℕ) (lines : List (List ℕ)) where
   pub revoked : (k : Key) (v : Verdict) → v ≡ Revoked → IsVerdict hmac name k lines v → IsRevoked hmac name k lines
@@ -63,28 +60,19 @@ module _ (hmac : List ℕ → List ℕ → List ℕ) (name : List ℕ) (lines : 
     one_verdict Unknown Trusted a b = absurd (a.2 b.2)
     one_verdict Unknown Unknown a b = refl
 
-  -- the key of an authority stands in a line, and so has a fingerprint
-  authority_fits : (k : Key) → NormalFits IsKey HasKeyPlaces key normal_key → IsAuthority hmac name k lines → BoxesFit (normal_key k)
-  authority_fits k fits s =
-      let listed = s.4 in
-      let spelled = listed.read.fields.spelled in
-      subst (λ (j : Key). BoxesFit (normal_key j)) listed.key_is (fits listed.entry.key spelled.choices spelled.is spelled.place spelled.fits).boxes
+-- ---- what is answered of a certificate
 
-pub signer_fits : (hmac : List ℕ → List ℕ → List ℕ) (host : List ℕ) (port : ℕ) (k signer : Key) (lines : List (List ℕ)) → NormalFits IsKey HasKeyPlaces key normal_key → IsSaidOfSigned hmac host port k signer lines Trusted → BoxesFit (normal_key signer)
-signer_fits hmac host port k signer lines fits (inl s) = authority_fits hmac _ lines signer fits s.1.2
-signer_fits hmac host port k signer lines fits (inr s) = authority_fits hmac _ lines signer fits s.1.2
+module _ {E F : Type 0} (hmac : List ℕ → List ℕ → List ℕ) (host : List ℕ) (port : ℕ) (c : Certificate) (lines : List (List ℕ)) (revoked : Bool) (asked : Result Bool E) (says : Result Verdict F) (k signer : Key) (own : k ≡ c.signed.key) (by : signer ≡ c.signed.signature_key) (is : IfOk asked (λ yes. yes ≡ revoked)) (said : IfOk says (IsSaidOfSigned hmac host port k signer lines)) (r : Result (Unit {0}) Refusal) (was : answer_of asked says ≡ r) where
+  abbrev Said : Verdict → Type 0
+  Said = IsSaidOfSigned hmac host port c.signed.key c.signed.signature_key lines
 
--- ---- the keys that a certificate names
+  said_of_both : IfOk says Said
+  said_of_both = subst (λ (s : Key). IfOk says (IsSaidOfSigned hmac host port c.signed.key s lines)) by (subst (λ (x : Key). IfOk says (IsSaidOfSigned hmac host port x signer lines)) own said)
 
-module _ (hmac : List ℕ → List ℕ → List ℕ) (host : List ℕ) (port : ℕ) (c : Certificate) (lines : List (List ℕ)) (k signer : Key) (v : Verdict) (own : k ≡ c.signed.key) (by : signer ≡ c.signed.signature_key) (said : IsSaidOfSigned hmac host port k signer lines v) where
-  said_of_both : IsSaidOfSigned hmac host port c.signed.key c.signed.signature_key lines v
-  said_of_both = subst (λ (s : Key). IsSaidOfSigned hmac host port c.signed.key s lines v) by (subst (λ (x : Key). IsSaidOfSigned hmac host port x signer lines v) own said)
+  pub judged : OkExactly ((revoked ≡ false) × IsSaidOfSigned hmac host port c.signed.key c.signed.signature_key lines Trusted) r
+  judged =
+      let one = one_said (λ (name : List ℕ). IsVerdictOfSigned hmac name c.signed.key c.signed.signature_key lines) host port (λ name. one_verdict hmac name lines c.signed.key c.signed.signature_key) in
+      subst (OkExactly ((revoked ≡ false) × Said Trusted)) was (exactly Said revoked one asked says is said_of_both)
 
-  pub refused_keys : (e : Refusal) → answer_of v ≡ Err e → e ≢ refusal.Memory → IsSaidOfSigned hmac host port c.signed.key c.signed.signature_key lines Trusted → ⊥
-  refused_keys e = refused (λ (name : List ℕ). IsVerdictOfSigned hmac name c.signed.key c.signed.signature_key lines) host port (λ name. one_verdict hmac name lines c.signed.key c.signed.signature_key) v e said_of_both
-
-  pub why_keys : (revoked : Bool) (Bad : Error → Type 0) (e : Refusal) → answer_of v ≡ Err e → IsWhy (IsSaidOfSigned hmac host port c.signed.key c.signed.signature_key lines) revoked Bad e
-  why_keys revoked Bad e = why_refused (IsSaidOfSigned hmac host port c.signed.key c.signed.signature_key lines) revoked Bad v e said_of_both
-
-  pub trusted_keys : (u : Unit {0}) → answer_of v ≡ Ok u → IsSaidOfSigned hmac host port c.signed.key c.signed.signature_key lines Trusted
-  trusted_keys u = is_trusted (IsSaidOfSigned hmac host port c.signed.key c.signed.signature_key lines) v u said_of_both
+  pub why_judged : (Bad : Error → Type 0) → IfErr r (IsWhy (IsSaidOfSigned hmac host port c.signed.key c.signed.signature_key lines) revoked Bad)
+  why_judged Bad = subst (λ (x : Result (Unit {0}) Refusal). IfErr x (IsWhy Said revoked Bad)) was (why Said revoked Bad asked says is said_of_both)

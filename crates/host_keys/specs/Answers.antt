@@ -1,5 +1,5 @@
 -- What is answered about a host, and why it is refused.
-use Rattle.std.specs.Prelude.{◌≡◌, ◌≢◌, ◌⊎◌, ◌<◌, ℕ, List, length, Bool, true, false, Result, Ok, Err}
+use Rattle.std.specs.Prelude.{◌≡◌, ◌≢◌, ◌⊎◌, ℕ, List, Bool, true, false, Result, Ok, Err}
 use Rattle.ssh_key.specs.krl.Revocation.{Grant}
 use Rattle.ssh_key.specs.krl.Revocations.{is_certificate_revoked, is_key_revoked}
 use Rattle.ssh_key.specs.model.Certificates.{Certificate}
@@ -18,37 +18,33 @@ abbrev pub OkExactly : Type 0 → Result Unit Refusal → Type 0
 OkExactly Holds (Ok x) = Holds
 OkExactly Holds (Err e) = e ≢ refusal.Memory → Holds → ⊥
 
--- Memory was refused only where a line may be an entry.
-abbrev pub AsksOfLines : List (List ℕ) → Result Unit Refusal → Type 0
-AsksOfLines lines (Ok x) = Unit {0}
-AsksOfLines lines (Err e) = e ≡ refusal.Memory → 0 < length lines
-
 -- The refusal is that of a certificate for the error, or memory ran out.
 abbrev pub Names : Error → Refusal → Type 0
 Names e r = ((e ≡ Memory) × (r ≡ refusal.Memory)) ⊎ ((e ≢ Memory) × (r ≡ refusal.Certificate e))
 
 -- what follows from a verdict
-abbrev pub answer_of : Verdict → Result Unit Refusal
-answer_of Trusted = Ok tt
-answer_of Revoked = Err refusal.Revoked
-answer_of Unreadable = Err refusal.Unreadable
-answer_of Changed = Err refusal.Changed
-answer_of Unknown = Err refusal.Unknown
+abbrev pub verdict_answer : Verdict → Result Unit Refusal
+verdict_answer Trusted = Ok tt
+verdict_answer Revoked = Err refusal.Revoked
+verdict_answer Unreadable = Err refusal.Unreadable
+verdict_answer Changed = Err refusal.Changed
+verdict_answer Unknown = Err refusal.Unknown
 
--- what follows from whether something is revoked
-abbrev pub answer_of_revoked : {E : Type 0} → Result Bool E → Result Unit Refusal
-answer_of_revoked (Ok false) = Ok tt
-answer_of_revoked (Ok true) = Err refusal.Revoked
-answer_of_revoked (Err e) = Err refusal.Memory
+-- and from whether something is revoked, which comes first
+abbrev pub answer_of : {E F : Type 0} → Result Bool E → Result Verdict F → Result Unit Refusal
+answer_of (Ok true) said = Err refusal.Revoked
+answer_of (Ok false) (Ok v) = verdict_answer v
+answer_of (Ok false) (Err e) = Err refusal.Memory
+answer_of (Err e) said = Err refusal.Memory
 
--- That is said; or the host is trusted so far, and is revoked, or the certificate is not, and is bad
--- for that error; or memory ran out.
+-- It is revoked, or that is said. Or it is not revoked, and that is said; or the host is trusted so
+-- far, and the certificate is bad for that error; or memory ran out.
 abbrev pub IsWhy : (Verdict → Type 0) → Bool → (Error → Type 0) → Refusal → Type 0
-IsWhy Said revoked Bad refusal.Revoked = Said Revoked ⊎ (Said Trusted × (revoked ≡ true))
-IsWhy Said revoked Bad refusal.Unreadable = Said Unreadable
-IsWhy Said revoked Bad refusal.Changed = Said Changed
-IsWhy Said revoked Bad refusal.Unknown = Said Unknown
-IsWhy Said revoked Bad (refusal.Certificate e) = Said Trusted × (revoked ≡ false) × Bad e
+IsWhy Said revoked Bad refusal.Revoked = (revoked ≡ true) ⊎ Said Revoked
+IsWhy Said revoked Bad refusal.Unreadable = (revoked ≡ false) × Said Unreadable
+IsWhy Said revoked Bad refusal.Changed = (revoked ≡ false) × Said Changed
+IsWhy Said revoked Bad refusal.Unknown = (revoked ≡ false) × Said Unknown
+IsWhy Said revoked Bad (refusal.Certificate e) = (revoked ≡ false) × Said Trusted × Bad e
 IsWhy Said revoked Bad refusal.Memory = Unit {0}
 
 abbrev pub IsWhyNoKey : (List ℕ → List ℕ → List ℕ) → (List ℕ → Bool) → List ℕ → ℕ → Key → List (List ℕ) → Refusal → Type 0

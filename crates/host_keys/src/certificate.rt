@@ -7,10 +7,10 @@ ghost use Rattle.ssh_key.specs.model.Certificates.{IsCertificate};
 ghost use Rattle.ssh_key.specs.model.Keys.{normal_key};
 ghost use Rattle.ssh_key.specs.model.Parts.{BoxesFit};
 ghost use Rattle.ssh_key.specs.types.Error.TheVariants.{Memory};
-ghost use Rattle.host_keys.specs.Answers.{AsksOfLines, IsWhyNoCertificate, OkExactly};
+ghost use Rattle.host_keys.specs.Answers.{IsWhyNoCertificate, OkExactly};
 ghost use Rattle.host_keys.specs.Hosts.{IsBadFor, IsGoodFor, IsTrustedCertificate, lines_of, plain_name};
 
-use crate::refusal::{Refusal, answer, answer_revoked};
+use crate::refusal::{Refusal, answer};
 use crate::verdict::signed_verdict;
 use openssh_limits::{are_read_principals, is_read_text};
 use ssh_key::certificate::Field;
@@ -33,17 +33,14 @@ use std::alloc::Global;
 ///
 /// The texts are those of all the files that count, as for `check_key`, and are given at once.
 ///
-/// Memory may run out only where a line may be an entry, so never of texts that are empty or have
-/// comments alone. Else it fails with the first of these that fits:
-/// - `Revoked`: a line revokes one of the keys;
+/// Unless memory runs out, it fails with the first of these that fits:
+/// - `Revoked`: `revocations` revokes the certificate, or a line one of the keys;
 /// - `Unreadable`: a line that can't be read could be one for the host;
 /// - `Unknown`: the key that signed is no authority of the host;
-/// - `Revoked`: `revocations` revokes the certificate;
 /// - `Certificate`: `CertificateFieldInvalid` with `CertType`, `CriticalOptions`, `KeyId` or
 ///   `ValidPrincipals`, or a refusal of `Certificate::validate_principal_at`.
 ///
-/// So `revocations` is asked only about a certificate by an authority of the host, and the verifier
-/// only about one that is not revoked.
+/// So the verifier is asked only about a certificate by an authority of the host.
 ///
 /// Where it would refuse a host at another port than 22 with `Unknown`, it asks, as ssh(1) does,
 /// all the texts about the host's plain name. Whether the certified key is one that the host is
@@ -66,15 +63,14 @@ pub fn check_certificate<H: HmacSha1, R: Revocations, V: RawVerifier>(
     ensures refused { IfErr result (IsWhyNoCertificate (H.hmac hmac.now)
         (V.accepts verifier.now) (R.revokes revocations.now) unix_timestamp host.now port
         (certificate_of certificate.now) (lines_of texts.now)) }
-    ensures asks { AsksOfLines (lines_of texts.now) result }
 {
     key_fits();
     let (key, signer) = (certificate.public_key(), certificate.signature_key());
-    let Ok(verdict) = signed_verdict(alloc, texts, host, port, key, signer, hmac) else {
-        return Err(Refusal::Memory);
-    };
-    answer(verdict)?;
-    answer_revoked(revocations.is_certificate_revoked(alloc, certificate))?;
+    let revoked = revocations.is_certificate_revoked(alloc, certificate);
+    answer(
+        revoked,
+        signed_verdict(alloc, texts, host, port, key, signer, hmac),
+    )?;
     match validate(alloc, certificate, host, unix_timestamp, verifier) {
         Ok(()) => Ok(()),
         Err(error) => Err(Refusal::of_certificate(error)),

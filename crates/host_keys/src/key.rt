@@ -2,10 +2,10 @@
 
 ghost use Rattle.std.specs.Prelude.{IfErr};
 ghost use Rattle.ssh_key.specs.keys.Keys.{key_of};
-ghost use Rattle.host_keys.specs.Answers.{AsksOfLines, IsWhyNoKey, OkExactly};
+ghost use Rattle.host_keys.specs.Answers.{IsWhyNoKey, OkExactly};
 ghost use Rattle.host_keys.specs.Hosts.{IsTrustedKey, lines_of};
 
-use crate::refusal::{Refusal, answer, answer_revoked};
+use crate::refusal::{Refusal, answer};
 use crate::verdict::key_verdict;
 use ssh_key::known_hosts::HmacSha1;
 use ssh_key::laws::one_verdict;
@@ -22,15 +22,11 @@ use std::alloc::Global;
 /// judged as if they stood in one, as by ssh(1). So give it all of them at once: asked about one
 /// file alone, it may accept a key that another file revokes, or has changed at that port.
 ///
-/// Memory may run out only where a line may be an entry, so never of texts that are empty or have
-/// comments alone. Else it fails with the first of these that fits:
-/// - `Revoked`: a line revokes the key;
+/// Unless memory runs out, it fails with the first of these that fits:
+/// - `Revoked`: `revocations` or a line revokes the key;
 /// - `Unreadable`: a line that can't be read could be one for the host;
 /// - `Changed`: other keys are listed for the host, and not this one;
-/// - `Unknown`: no key is listed for it;
-/// - `Revoked`: `revocations` revokes the key.
-///
-/// So `revocations` is asked only about a key that is listed for the host.
+/// - `Unknown`: no key is listed for it.
 ///
 /// Where it would refuse a host at another port than 22 with `Unknown`, it asks, as ssh(1) does,
 /// all the texts about the host's plain name, and that answer is the answer.
@@ -47,12 +43,8 @@ pub fn check_key<H: HmacSha1, R: Revocations>(
         host.now port (key_of key.now) (lines_of texts.now)) result }
     ensures refused { IfErr result (IsWhyNoKey (H.hmac hmac.now) (R.revokes_key revocations.now)
         host.now port (key_of key.now) (lines_of texts.now)) }
-    ensures asks { AsksOfLines (lines_of texts.now) result }
 {
     one_verdict();
-    let Ok(verdict) = key_verdict(alloc, texts, host, port, key, hmac) else {
-        return Err(Refusal::Memory);
-    };
-    answer(verdict)?;
-    answer_revoked(revocations.is_key_revoked(alloc, key))
+    let revoked = revocations.is_key_revoked(alloc, key);
+    answer(revoked, key_verdict(alloc, texts, host, port, key, hmac))
 }

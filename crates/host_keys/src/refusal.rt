@@ -2,7 +2,7 @@
 
 ghost use Rattle.std.specs.Prelude.{◌≡◌};
 ghost use Rattle.ssh_key.specs.types.Error.TheVariants.{Memory};
-ghost use Rattle.host_keys.specs.Answers.{Names, answer_of, answer_of_revoked};
+ghost use Rattle.host_keys.specs.Answers.{Names, answer_of, verdict_answer};
 
 use ssh_key::Error;
 use ssh_key::known_hosts::Verdict;
@@ -19,7 +19,6 @@ pub enum Refusal {
     /// The host is known by other keys.
     Changed,
     /// Nothing is known of the host, or the key that signed the certificate is no authority of it.
-    /// `revocations` was not asked: ask it before you take the key for the host's.
     Unknown,
     /// The certificate is by an authority of the host, but not good for it now.
     Certificate(Error),
@@ -39,20 +38,9 @@ impl Refusal {
     }
 }
 
-/// What follows from whether something is revoked.
-pub(crate) fn answer_revoked(revoked: Result<bool, AllocError>) -> Result<(), Refusal>
-    ensures { result ≡ answer_of_revoked revoked }
-{
-    match revoked {
-        Ok(false) => Ok(()),
-        Ok(true) => Err(Refusal::Revoked),
-        Err(_) => Err(Refusal::Memory),
-    }
-}
-
 /// What follows from a verdict.
-pub(crate) fn answer(verdict: Verdict) -> Result<(), Refusal>
-    ensures { result ≡ answer_of verdict }
+fn verdict_answer(verdict: Verdict) -> Result<(), Refusal>
+    ensures { result ≡ verdict_answer verdict }
 {
     match verdict {
         Verdict::Trusted => Ok(()),
@@ -60,5 +48,19 @@ pub(crate) fn answer(verdict: Verdict) -> Result<(), Refusal>
         Verdict::Unreadable => Err(Refusal::Unreadable),
         Verdict::Changed => Err(Refusal::Changed),
         Verdict::Unknown => Err(Refusal::Unknown),
+    }
+}
+
+/// What follows from whether something is revoked, and from what known_hosts says of it.
+pub(crate) fn answer(
+    revoked: Result<bool, AllocError>,
+    said: ssh_key::Result<Verdict>,
+) -> Result<(), Refusal>
+    ensures { result ≡ answer_of revoked said }
+{
+    match (revoked, said) {
+        (Ok(true), _) => Err(Refusal::Revoked),
+        (Ok(false), Ok(verdict)) => verdict_answer(verdict),
+        (Err(_), _) | (_, Err(_)) => Err(Refusal::Memory),
     }
 }

@@ -1,7 +1,7 @@
 //! What the lines of several texts of known_hosts say, as if they stood in one.
 
 ghost use Rattle.std.specs.List.{Any};
-ghost use Rattle.std.specs.Prelude.{◌≡◌, ◌↔◌, ◌<◌, IfErr, IfOk, IsTrue, length};
+ghost use Rattle.std.specs.Prelude.{◌≡◌, ◌↔◌, IfErr, IfOk, IsTrue};
 ghost use Rattle.ssh_key.specs.entries.HostNames.{known_name};
 ghost use Rattle.ssh_key.specs.entries.HostVerdicts.{IsAuthority};
 ghost use Rattle.ssh_key.specs.keys.Keys.{key_of};
@@ -17,8 +17,7 @@ use ssh_key::public::KeyData;
 use ssh_key::{PublicKey, Result};
 use std::alloc::Global;
 
-/// What the texts say of a key at just that port. Fails only when out of memory, and never of texts
-/// that are empty or have comments alone.
+/// What the texts say of a key at just that port. Fails only when out of memory.
 pub(crate) fn judge_all<H: HmacSha1>(
     alloc: Global,
     texts: &[&str],
@@ -30,7 +29,6 @@ pub(crate) fn judge_all<H: HmacSha1>(
     ensures answer { IfOk result (IsVerdict (H.hmac hmac.now) (known_name host.now port)
         (key_of key.now) (lines_of texts.now)) }
     ensures memory { IfErr result (λ e. e ≡ Memory) }
-    ensures asks { IfErr result (λ _. 0 < length (lines_of texts.now)) }
 {
     let mut found = Verdict::Unknown;
     for text in texts {
@@ -40,7 +38,7 @@ pub(crate) fn judge_all<H: HmacSha1>(
 }
 
 /// Whether a line of one of the texts has the key as that of an authority of the host. Fails only
-/// when out of memory, and never of texts that are empty or have comments alone.
+/// when out of memory.
 pub(crate) fn has_authority<H: HmacSha1>(
     alloc: Global,
     texts: &[&str],
@@ -53,7 +51,6 @@ pub(crate) fn has_authority<H: HmacSha1>(
     ensures answer { IfOk result (λ yes. IsTrue yes ↔ IsAuthority (H.hmac hmac.now)
         (known_name host.now port) (key_of key.now) (lines_of texts.now)) }
     ensures memory { IfErr result (λ e. e ≡ Memory) }
-    ensures asks { IfErr result (λ _. 0 < length (lines_of texts.now)) }
 {
     for text in texts {
         let keys = authorities(alloc, text, host, port, hmac)?;

@@ -1,6 +1,6 @@
 //! What known_hosts says of what a host shows.
 
-ghost use Rattle.std.specs.Prelude.{◌≡◌, ◌↔◌, ◌<◌, IfErr, IfOk, IsTrue, length};
+ghost use Rattle.std.specs.Prelude.{◌≡◌, ◌↔◌, IfErr, IfOk, IsTrue};
 ghost use Rattle.ssh_key.specs.entries.HostNames.{known_name};
 ghost use Rattle.ssh_key.specs.keys.Keys.{key_of};
 ghost use Rattle.ssh_key.specs.model.Keys.{IsKey};
@@ -17,8 +17,7 @@ use std::alloc::Global;
 /// The port at which a host is known by its plain name.
 const STANDARD_PORT: u16 = 22;
 
-/// What the texts say of the host's key. Fails only when out of memory, and never of texts that are
-/// empty or have comments alone.
+/// What the texts say of the host's key. Fails only when out of memory.
 pub(crate) fn key_verdict<H: HmacSha1>(
     alloc: Global,
     texts: &[&str],
@@ -30,7 +29,6 @@ pub(crate) fn key_verdict<H: HmacSha1>(
     ensures answer { IfOk result (IsSaidOfKey (H.hmac hmac.now) host.now port (key_of key.now)
         (lines_of texts.now)) }
     ensures memory { IfErr result (λ e. e ≡ Memory) }
-    ensures asks { IfErr result (λ _. 0 < length (lines_of texts.now)) }
 {
     let verdict = judge_all(alloc, texts, host, port, key, hmac)?;
     if is_settled(verdict, port) {
@@ -40,7 +38,7 @@ pub(crate) fn key_verdict<H: HmacSha1>(
 }
 
 /// What the texts say of a key that the host shows and of the key that signed it. Fails only when
-/// out of memory, and never of texts that are empty or have comments alone.
+/// out of memory.
 pub(crate) fn signed_verdict<H: HmacSha1>(
     alloc: Global,
     texts: &[&str],
@@ -54,7 +52,6 @@ pub(crate) fn signed_verdict<H: HmacSha1>(
     ensures answer { IfOk result (IsSaidOfSigned (H.hmac hmac.now) host.now port
         (key_of key.now) (key_of signer.now) (lines_of texts.now)) }
     ensures memory { IfErr result (λ e. e ≡ Memory) }
-    ensures asks { IfErr result (λ _. 0 < length (lines_of texts.now)) }
 {
     let verdict = judge_signed(alloc, texts, host, port, key, signer, hmac)?;
     if is_settled(verdict, port) {
@@ -70,8 +67,7 @@ fn is_settled(verdict: Verdict, port: u16) -> bool
     port == STANDARD_PORT || !is_unknown(verdict)
 }
 
-/// What the texts say of both at just that port. Fails only when out of memory, and never of texts
-/// that are empty or have comments alone.
+/// What the texts say of both at just that port. Fails only when out of memory.
 fn judge_signed<H: HmacSha1>(
     alloc: Global,
     texts: &[&str],
@@ -85,7 +81,6 @@ fn judge_signed<H: HmacSha1>(
     ensures answer { IfOk result (IsVerdictOfSigned (H.hmac hmac.now) (known_name host.now port)
         (key_of key.now) (key_of signer.now) (lines_of texts.now)) }
     ensures memory { IfErr result (λ e. e ≡ Memory) }
-    ensures asks { IfErr result (λ _. 0 < length (lines_of texts.now)) }
 {
     let of_key = judge_all(alloc, texts, host, port, key, hmac)?;
     let of_signer = judge_all(alloc, texts, host, port, signer, hmac)?;
