@@ -210,6 +210,8 @@ def validate_host(
     `krl` is a key revocation list, as for `validate_user`. That the host holds the certified key is not looked at (docs/FOREIGN.md)."""
     try:
         fields, contents = sshkey.certificate_fields(certificate), sshkey.certificate_contents(certificate)
+        if is_revoked(krl, certificate):  # ssh(1) asks the list before it reads known_hosts
+            return Refusal.REVOKED
         verdict = judge_signed(texts, host, port, contents.key, contents.authority)
     except sshkey.Refused as refused:
         return refused.status

@@ -335,7 +335,9 @@ uint32_t judge_validate_host(judge_blob certificate, const judge_host *asked) {
   if (answer == SSHKEY_DONE) answer = sshkey_certificate_parts(bytes, certificate.length, &parts);
   if (answer != SSHKEY_DONE) return answer;
   judge_blob authority = {certificate.bytes + parts.authority.start, parts.authority.length};
-  answer = judge_keys(certificate, asked, authority);
+  /* ssh(1) asks the list before it reads known_hosts */
+  answer = judge_revoked(certificate, true, asked->revoked);
+  if (answer == SSHKEY_DONE) answer = judge_keys(certificate, asked, authority);
   if (answer != SSHKEY_DONE) return answer;
   if (fields.certificate_type != SSHKEY_HOST) return JUDGE_NOT_FOR_HOSTS;
   if (fields.has_critical_options) return JUDGE_UNMET_OPTION;

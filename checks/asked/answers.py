@@ -14,7 +14,8 @@ asked/rust over the packages. Words are bytes in hexadecimal (- for none), numbe
     user BYTES KEY SECOND USER AUTHORITIES OPTION            what validate_user says, as check.py prints it, where the critical
                                                              option of that name is met if its value is not "unmet"; in C also
                                                              with a LIST behind it, where no list revokes nothing
-    host-certificate BYTES SECOND HOST PORT TEXT ..          what validate_host says, as check.py prints it
+    host-certificate BYTES SECOND HOST PORT TEXT ..          what validate_host says, as check.py prints it, and in C
+    host-revoked BYTES SECOND HOST PORT LIST TEXT ..         with a list
     fields BYTES                                             0 SERIAL AFTER BEFORE TYPE 0|1 0|1
     lists BYTES                                              0 KEY-ID KEY AUTHORITY, principal=NAME and critical=NAME=VALUE and
                                                              extension=NAME=VALUE for each, options by rising names
@@ -145,8 +146,11 @@ class Answers:
         return [self.check.said(self.check.validate_user(*given, krl=data_of(krl[0]) if krl else self.check.NO_REVOCATIONS))]
 
     def host_certificate(self, data, second, host, port, *texts):
+        return self.host_revoked(data, second, host, port, word(self.check.NO_REVOCATIONS), *texts)
+
+    def host_revoked(self, data, second, host, port, krl, *texts):
         given = (data_of(data), int(second), data_of(host), int(port), [data_of(it) for it in texts])
-        return [self.check.said(self.check.validate_host(*given, krl=self.check.NO_REVOCATIONS))]
+        return [self.check.said(self.check.validate_host(*given, krl=data_of(krl)))]
 
     def fields(self, data):
         of = self.sshkey.certificate_fields(data_of(data))

@@ -7,6 +7,7 @@ from lib.harness import blob_of
 from .hosts import AROUND_NOW, AUTHORITY, BROKEN, CERTIFICATES, CERTIFICATES_OF_FILES, HOST, INVALID, NAMED, field, in_one_file, written
 from .linked import run, word
 from .login_calls import blocks, built_page, said_by_python
+from .revocation_calls import EMPTY, made_list
 
 # what the program callers answers, and what validate_host does
 WANTED = {
@@ -83,3 +84,22 @@ def check_hosts(judge):
         question = " ".join(["host-certificate", word(blob), str(now), spelled[0], str(port), *spelled[1:]])
         asked.append((name, question, judge.said_of(wanted)))
     judge.hold("a host's certificate", asked)
+    if not judge.asker.is_package:
+        check_revoked(judge, now)
+
+
+def check_revoked(judge, now):
+    """The same with a key revocation list, which is asked before known_hosts."""
+    maker = judge.made.maker
+    good, authority = blob_of(maker.certificate("host-authority", "host-key", *NAMED)), maker.read("host-authority.pub")
+    known, revoked = written(maker, [AUTHORITY], {"authority": authority}), made_list(maker, None, [maker.read("host-key.pub")])
+    asked = []
+    for name, krl, text, wanted in (
+        ("a list of nothing", EMPTY, known, "DONE"), ("of nothing, and the host is not known", EMPTY, b"", "HOST_UNKNOWN"),
+        ("a list that has its key", revoked, known, "REVOKED"), ("that has its key, and the host is not known", revoked, b"", "REVOKED"),
+        ("a list that has its authority", made_list(maker, None, [authority]), known, "REVOKED"),
+        ("no bytes for a list", b"", known, "REVOKED"),
+    ):  # fmt: skip
+        words = [word(good), str(now), word(HOST.encode()), "22", word(krl), word(text)]
+        asked.append((name, " ".join(["host-revoked", *words]), judge.said_of(wanted)))
+    judge.hold("a host's certificate and a revocation list", asked)

@@ -58,13 +58,15 @@ static void ask_user(char **words, size_t count) {
 }
 
 static void ask_host(char **words, size_t count) {
-  judge_blob certificate = bytes_of(words[1]), texts[MOST];
+  bool has_list = !strcmp(words[0], "host-revoked");
+  judge_blob certificate = bytes_of(words[1]), krl = bytes_of(words[5]), texts[MOST];
   char *host = text_of(words[3]);
-  size_t text_count = count - 5;
-  for (size_t at = 0; at < text_count; at++) texts[at] = bytes_of(words[5 + at]);
+  size_t first = has_list ? 6 : 5, text_count = count - first;
+  for (size_t at = 0; at < text_count; at++) texts[at] = bytes_of(words[first + at]);
   judge_host asked = {host, (uint16_t)strtoul(words[4], NULL, 10), strtoull(words[2], NULL, 10),
-                      texts, text_count, judge_no_revocations};
+                      texts, text_count, has_list ? krl : judge_no_revocations};
   say_judged(judge_validate_host(certificate, &asked));
+  free(krl.bytes);
   for (size_t at = 0; at < text_count; at++) free(texts[at].bytes);
   free(certificate.bytes);
   free(host);
@@ -90,7 +92,7 @@ static bool has_judged(char **words, size_t count) {
     ask_meanings();
   else if (!strcmp(words[0], "user") || !strcmp(words[0], "verifications"))
     ask_user(words, count);
-  else if (!strcmp(words[0], "host-certificate"))
+  else if (!strcmp(words[0], "host-certificate") || !strcmp(words[0], "host-revoked"))
     ask_host(words, count);
   else if (!strcmp(words[0], "authority"))
     ask_authority(words[1]);
