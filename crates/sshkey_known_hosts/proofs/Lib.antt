@@ -8,3 +8,4 @@ pub mod Verdicts
 pub mod OtherHosts
 pub mod AuthorityKeys
 pub mod ContainedCharacters
+mod Wholes

@@ -1,18 +1,25 @@
 -- Whether hosts that are for others stand in a line.
-use Rattle.std.proofs.Common.{◌≡◌, ℕ, List, ◌++◌, Option, refl, sym, subst}
+use Rattle.std.proofs.Common.{◌≡◌, ◌≢◌, ◌<◌, ℕ, List, ◌∷◌, ◌++◌, length, Option, refl, sym, subst}
+use Rattle.base64.specs.Engines.{standard}
+use Rattle.base64.specs.GeneralPurpose.{encode_of}
+use Rattle.sshkey_base.specs.Causes.{cause, NoMemory}
+use Rattle.sshkey_base.specs.declared.error.Error.{Error}
 use Rattle.sshkey_model.specs.Keys.{Key}
 use Rattle.sshkey_model.specs.Lines.{IsWithout}
-use Rattle.sshkey_entries.specs.Entries.{IsNoEntry}
+use Rattle.sshkey_entries.specs.Cuts.{CutsField}
 use Rattle.sshkey_entries.specs.Fields.{without_blanks}
-use Rattle.sshkey_entries.specs.HostNames.{AreFor}
+use Rattle.sshkey_entries.specs.HostNames.{AreFor, AreForName}
 use Rattle.sshkey_entries.specs.HostVerdicts.{IsForOthers, Lists}
-use Rattle.sshkey_entries.specs.KnownHosts.{Marker, Hosts, IsHosts}
+use Rattle.sshkey_entries.specs.Items.{patterns}
+use Rattle.sshkey_entries.specs.KnownHosts.{Marker, Hosts, HashedName, Patterns, IsHashedName, IsHosts, IsMarkedHashed, bar}
 use Rattle.sshkey_entries.specs.OpenSshLines.{IsMarkedLine}
 use Rattle.sshkey_entries.proofs.Fields.{same_field}
 use Rattle.sshkey_entries.proofs.OneHost.{one_hosts}
 use Rattle.sshkey_entries.proofs.OneOpenSshLine.{one_marked}
-use Rattle.sshkey_entries.specs.Cuts.{CutsField}
+use Rattle.sshkey_known_hosts.specs.HostFaults.{RefusesHosts}
+use Rattle.sshkey_known_hosts.specs.OtherHosts.{AreForOthers}
 use Rattle.sshkey_known_hosts.proofs.HostLines.{same_hosts}
+use Rattle.sshkey_known_hosts.proofs.Hosts.{refused_is_none}
 
 -- such a line lists no key for the name
 pub lists_none : (hmac : List ℕ → List ℕ → List ℕ) (name line : List ℕ) → IsForOthers hmac name line → (m : Option Marker) (k : Key) → Lists hmac name m k line → ⊥
@@ -36,22 +43,42 @@ module _ (hmac : List ℕ → List ℕ → List ℕ) (name line text : List ℕ)
     are_read : (f : IsForOthers hmac name line) → IsHosts hosts f.hosts
     are_read f = subst (λ (t : List ℕ). IsHosts t f.hosts) (sym (same_part f)) f.are
 
-    pub without_hosts : IsNoEntry IsHosts hosts → IsForOthers hmac name line → ⊥
-    without_hosts none f = none f.hosts (are_read f)
+    pub others_read : IsForOthers hmac name line → AreForOthers hmac name hosts
+    others_read f = (f.hosts, are_read f, f.not_for)
 
-    pub for_others : IsWithout 0 line → (h : Hosts) → IsHosts hosts h → (AreFor hmac name h → ⊥) → IsForOthers hmac name line
-    for_others no_zero h are never = record {
+    pub for_others : IsWithout 0 line → AreForOthers hmac name hosts → IsForOthers hmac name line
+    for_others no_zero x = record {
       no_zero = no_zero;
       marker = m;
       hosts_part = hosts;
       behind = rest;
-      hosts = h;
+      hosts = x.0;
       marked = subst (λ (t : List ℕ). IsMarkedLine m t (hosts ++ rest)) is (subst (IsMarkedLine m text) cut.is is_marked);
       one_word = cut.one_word;
       ends = cut.ends;
-      are = are;
-      not_for = never;
+      are = x.1;
+      not_for = x.2;
     }
 
-    pub not_for_others : (h : Hosts) → IsHosts hosts h → AreFor hmac name h → IsForOthers hmac name line → ⊥
-    not_for_others h are fits f = f.not_for (subst (AreFor hmac name) (one_hosts hosts h f.hosts are (are_read f)) fits)
+-- ---- the text of hosts
+
+pub no_others : (hmac : List ℕ → List ℕ → List ℕ) (name text : List ℕ) (e : Error) → RefusesHosts text e → cause e ≢ NoMemory → AreForOthers hmac name text → ⊥
+no_others hmac name text e refused other x = refused_is_none text e refused other x.0 x.1
+
+module _ (hmac : List ℕ → List ℕ → List ℕ) (name text salt hash : List ℕ) (is : IsHashedName text salt hash) where
+  pub other_hash : ((length salt ≡ 20) × (hash ≡ hmac salt name) → ⊥) → AreForOthers hmac name text
+  other_hash never = (HashedName salt hash, is, never)
+
+  pub own_hash : AreForOthers hmac name text → (length salt ≡ 20) × (hash ≡ hmac salt name) → ⊥
+  own_hash x fits = x.2 (subst (AreFor hmac name) (one_hosts text (HashedName salt hash) x.0 is x.1) fits)
+
+module _ (hmac : List ℕ → List ℕ → List ℕ) (name text : List ℕ) (plain : IsMarkedHashed text → ⊥) where
+  pub other_patterns : 0 < length text → (AreForName name (patterns text) → ⊥) → AreForOthers hmac name text
+  other_patterns some never = (Patterns (patterns text), record { some = some; not_hashed = plain; are = refl }, never)
+
+  never_named : (h : Hosts) → IsHosts text h → (AreFor hmac name h → ⊥) → AreForName name (patterns text) → ⊥
+  never_named (Patterns ps) is never named = never (subst (AreForName name) (sym is.are) named)
+  never_named (HashedName salt hash) is never named = plain (encode_of standard salt ++ (bar ∷ encode_of standard hash), is.is)
+
+  pub own_patterns : AreForOthers hmac name text → AreForName name (patterns text) → ⊥
+  own_patterns x = never_named x.0 x.1 x.2

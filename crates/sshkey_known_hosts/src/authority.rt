@@ -4,6 +4,7 @@ ghost use Rattle.std.specs.Prelude.{◌≡◌, ◌<◌, ℕ, List, IfOk, IfErr, 
 ghost use Rattle.sshkey_base.specs.declared.error.Error.TheVariants as wide;
 ghost use Rattle.sshkey_entries.specs.Fields.{filled_lines};
 ghost use Rattle.sshkey_entries.specs.HostNames.{known_name};
+ghost use Rattle.sshkey_entries.specs.HostVerdicts.{IsForOthers};
 ghost use Rattle.sshkey_entries.specs.OpenSshLines.{IsHostLine};
 ghost use Rattle.sshkey_known_hosts.specs.HostEntries.{known_host_of};
 ghost use Rattle.sshkey_known_hosts.specs.Verdicts.{AreAuthorities, AreInOrder, IsAuthorityLine, is_authority_of};
@@ -12,7 +13,8 @@ use crate::entry::Entry;
 use crate::hmac_sha1::HmacSha1;
 use crate::host_name::known_name;
 use crate::marker::Marker;
-use crate::verdict::{has_lines, is_for_others, read_entry};
+use crate::other_hosts::is_for_others;
+use crate::verdict::{has_lines, read_entry};
 use sshkey_base::Result;
 use sshkey_entries::FilledLines;
 use sshkey_public::PublicKey;
@@ -38,6 +40,7 @@ fn entry_authority<H: HmacSha1>(entry: Entry, name: &str, hmac: &H) -> Option<Pu
     Some(PublicKey::from(entry))
 }
 
+/// The key of a line of such an entry. Takes no memory for a line that is for others.
 fn line_authority<H: HmacSha1>(
     alloc: Global,
     line: &str,
@@ -46,8 +49,9 @@ fn line_authority<H: HmacSha1>(
 ) -> Result<Option<PublicKey>>
     ensures answer { IfOk result (IsAuthorityLine (H.hmac hmac.now) name.now line.now) }
     ensures memory { IfErr result (λ e. e ≡ wide.Memory) }
+    ensures asks { IfErr result (λ _. IsForOthers (H.hmac hmac.now) name.now line.now → ⊥) }
 {
-    if is_for_others(alloc, line, name, hmac)? {
+    if is_for_others(line, name, hmac) {
         return Ok(None);
     }
     let Some(entry) = read_entry(alloc, line)? else {

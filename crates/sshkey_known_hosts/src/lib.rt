@@ -12,6 +12,7 @@ pub mod laws;
 mod made;
 mod marker;
 mod openssh;
+mod other_hosts;
 mod verdict;
 
 pub use authority::authorities;

@@ -14,11 +14,10 @@ ghost use Rattle.sshkey_known_hosts.specs.Verdicts.{IsVerdict, ReadsOrNone, SayT
 use crate::entry::Entry;
 use crate::hmac_sha1::HmacSha1;
 use crate::host_name::known_name;
-use crate::host_patterns::HostPatterns;
 use crate::marker::Marker;
-use crate::openssh::split_marker_field;
+use crate::other_hosts::is_for_others;
 use sshkey_base::{Error, Result};
-use sshkey_entries::{FilledLines, skip_blanks, split_field};
+use sshkey_entries::FilledLines;
 use sshkey_keys::KeyData;
 use sshkey_keys::laws::compared_keys;
 use std::alloc::Global;
@@ -110,36 +109,7 @@ fn entry_verdict<H: HmacSha1>(entry: &Entry, name: &str, key: &KeyData, hmac: &H
     marked_verdict(entry.marker(), same)
 }
 
-/// Whether hosts stand in a line without a zero byte that are not for the name. Reads no key.
-pub(crate) fn is_for_others<H: HmacSha1>(
-    alloc: Global,
-    line: &str,
-    name: &str,
-    hmac: &H,
-) -> Result<bool>
-    ensures answer { IfOk result (λ yes. IsTrue yes ↔
-        IsForOthers (H.hmac hmac.now) name.now line.now) }
-    ensures memory { IfErr result (λ e. e ≡ wide.Memory) }
-{
-    if line.contains('\0') {
-        return Ok(false);
-    }
-    let Ok((_, unmarked)) = split_marker_field(skip_blanks(line)) else {
-        return Ok(false);
-    };
-    let (hosts, _) = split_field(unmarked);
-    match HostPatterns::from_text(alloc, hosts) {
-        Ok(hosts) => Ok(!hosts.are_for(name, hmac)),
-        Err(error) => {
-            if error.is_memory() {
-                return Err(Error::Memory);
-            }
-            Ok(false)
-        }
-    }
-}
-
-/// What a line says of a key of that name.
+/// What a line says of a key of that name. Takes no memory for a line that is for others.
 fn line_verdict<H: HmacSha1>(
     alloc: Global,
     line: &str,
@@ -150,8 +120,9 @@ fn line_verdict<H: HmacSha1>(
     ensures answer { IfOk result
         (IsVerdict (H.hmac hmac.now) name.now (key_of key.now) (line.now ∷ [])) }
     ensures memory { IfErr result (λ e. e ≡ wide.Memory) }
+    ensures asks { IfErr result (λ _. IsForOthers (H.hmac hmac.now) name.now line.now → ⊥) }
 {
-    if is_for_others(alloc, line, name, hmac)? {
+    if is_for_others(line, name, hmac) {
         return Ok(Verdict::Unknown);
     }
     let Some(entry) = read_entry(alloc, line)? else {
@@ -181,7 +152,8 @@ pub(crate) fn has_lines(text: &str) -> bool
 /// counts, and join the verdicts by `Verdict::graver`, as `host_keys::check_key` does.
 ///
 /// `HostPatterns::matches` says which entries are for a host at a port. Fails only when out of
-/// memory, and never of a text that is empty or has comments alone.
+/// memory, which the host's name takes, and a line that could be for the host: a text that is empty
+/// or has comments alone takes none.
 ///
 /// ```rust
 /// // as in crates/host_keys/src/texts.rt

@@ -7,8 +7,8 @@ use Rattle.sshkey_known_hosts.specs.declared.entry.Entry.{Entry}
 use Rattle.sshkey_known_hosts.proofs.OtherHosts.{lists_none}
 use Rattle.sshkey_known_hosts.proofs.authority.line_authority.Goals as goal
 
-pub returns-then-branch-clause-answer : goal.returns-then-branch-clause-answer
-returns-then-branch-clause-answer g c key = lists_none (g.H.HmacSha1.hmac c.args.hmac.now) c.args.name.now c.args.line.now (c.in_ok-is_for_others.ensures.answer.0 c.if-branch.true) (Some CertAuthority) key
+pub returns-then-is_for_others-clause-answer : goal.returns-then-is_for_others-clause-answer
+returns-then-is_for_others-clause-answer g c key = lists_none (g.H.HmacSha1.hmac c.args.hmac.now) c.args.name.now c.args.line.now (c.is_for_others.ensures.0 c.if-is_for_others.true) (Some CertAuthority) key
 
 pub returns-in_default-clause-answer : goal.returns-in_default-clause-answer
 returns-in_default-clause-answer g c key listed =

@@ -7,12 +7,12 @@ use Rattle.sshkey_known_hosts.specs.declared.entry.Entry.{Entry}
 use Rattle.sshkey_known_hosts.proofs.Verdicts.{passed_over, hides}
 use Rattle.sshkey_known_hosts.proofs.verdict.line_verdict.Goals as goal
 
-pub returns-then-branch-clause-answer : goal.returns-then-branch-clause-answer
-returns-then-branch-clause-answer g c =
-    passed_over (g.H.HmacSha1.hmac c.args.hmac.now) c.args.name.now (key_of c.args.key.now) c.args.line.now (c.in_ok-is_for_others.ensures.answer.0 c.if-branch.true)
+pub returns-then-is_for_others-clause-answer : goal.returns-then-is_for_others-clause-answer
+returns-then-is_for_others-clause-answer g c =
+    passed_over (g.H.HmacSha1.hmac c.args.hmac.now) c.args.name.now (key_of c.args.key.now) c.args.line.now (c.is_for_others.ensures.0 c.if-is_for_others.true)
 
 pub returns-in_default-clause-answer : goal.returns-in_default-clause-answer
 returns-in_default-clause-answer g c =
     let none = subst (λ (x : Option Entry). ReadsOrNone known_host_of IsHostLine c.args.line.now x) c.in_default.is c.in_ok-entry.ensures.answer in
     hides (g.H.HmacSha1.hmac c.args.hmac.now) c.args.name.now (key_of c.args.key.now) c.args.line.now none
-    (none, λ f. cc (sym c.if-branch.false ∙ c.in_ok-is_for_others.ensures.answer.1 f))
+    (none, λ f. cc (sym c.if-is_for_others.false ∙ c.is_for_others.ensures.1 f))
