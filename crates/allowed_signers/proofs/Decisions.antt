@@ -1,26 +1,26 @@
 -- What a verdict, an entry and a line decide.
 use Rattle.std.proofs.Common.{◌≡◌, ◌≢◌, ◌⊎◌, ◌↔◌, ◌==◌, ◌∙◌, ℕ, List, [], ◌∷◌, length, eqb-true, arith, sym, Bool, true, false, Option, Some, None, Result, Ok, Err, IfErr, IfOk, IsTrue, refl, subst, inl, inr}
-use Rattle.ssh_key.specs.base.Acceptance.{AcceptsExactly}
-use Rattle.ssh_key.specs.base.Causes.{NoMemory, cause}
-use Rattle.ssh_key.specs.base.Reading.{NoSpelling}
-use Rattle.ssh_key.specs.base.Source.{IsSound, all_of}
-use Rattle.ssh_key.specs.entries.AuthorizedKeys.{AuthorizedKey}
-use Rattle.ssh_key.specs.entries.Entries.{IsNoEntry}
-use Rattle.ssh_key.specs.entries.Laws.{EntriesDetermineValues}
-use Rattle.ssh_key.specs.entries.OpenSshLines.{IsAuthorizedLine}
-use Rattle.ssh_key.specs.entries.Patterns.{MatchesList}
-use Rattle.ssh_key.specs.model.Keys.{Key}
-use Rattle.ssh_key.specs.model.Lines.{IsWithout}
-use Rattle.ssh_key.specs.model.Parts.{BoxesFit, Parts}
-use Rattle.ssh_key.specs.model.SignedMessages.{signed_by}
-use Rattle.ssh_key.specs.model.SshSignatures.{SshSignature}
-use Rattle.ssh_key.specs.model.Verification.{IsAccepted, Question}
-use Rattle.ssh_key.specs.sshsig.SshSignatureFormats.{ssh_signature_format}
-use Rattle.ssh_key.specs.sshsig.SshSignatureReaders.{SpellsSshSignature}
-use Rattle.ssh_key.specs.types.Error.{Error}
-use Rattle.ssh_key.specs.types.Error.TheVariants.{Encoding, Memory}
-use Rattle.ssh_key.specs.types.encoding.Error.TheVariants.{Length}
-use Rattle.ssh_key.proofs.Acceptance.{other_cause}
+use Rattle.sshkey_base.specs.Acceptance.{AcceptsExactly}
+use Rattle.sshkey_base.specs.Causes.{NoMemory, cause}
+use Rattle.sshkey_base.specs.Reading.{NoSpelling}
+use Rattle.sshkey_base.specs.Source.{IsSound, all_of}
+use Rattle.sshkey_entries.specs.AuthorizedKeys.{AuthorizedKey}
+use Rattle.sshkey_entries.specs.Entries.{IsNoEntry}
+use Rattle.sshkey_entries.specs.Laws.{EntriesDetermineValues}
+use Rattle.sshkey_entries.specs.OpenSshLines.{IsAuthorizedLine}
+use Rattle.sshkey_entries.specs.Patterns.{MatchesList}
+use Rattle.sshkey_model.specs.Keys.{Key}
+use Rattle.sshkey_model.specs.Lines.{IsWithout}
+use Rattle.sshkey_model.specs.Parts.{BoxesFit, Parts}
+use Rattle.sshkey_model.specs.SignedMessages.{signed_by}
+use Rattle.sshkey_model.specs.SshSignatures.{SshSignature}
+use Rattle.sshkey_model.specs.Verification.{IsAccepted, Question}
+use Rattle.sshkey_sshsig.specs.SshSignatureFormats.{ssh_signature_format}
+use Rattle.sshkey_sshsig.specs.SshSignatureReaders.{SpellsSshSignature}
+use Rattle.sshkey_base.specs.declared.error.Error.{Error}
+use Rattle.sshkey_base.specs.declared.error.Error.TheVariants.{Encoding, Memory}
+use Rattle.sshkey_base.specs.declared.encoding.Error.TheVariants.{Length}
+use Rattle.sshkey_base.proofs.Acceptance.{other_cause}
 use Rattle.allowed_signers.specs.AllowedSigners.{Allows, Answers, HasEntryFor, HasSignature, HasSigned, IsEntryFor, IsNo, Names, OkExactly, OptionsPermit, ReadsSignature}
 use Rattle.allowed_signers.specs.OneValue.{IsTheOne}
 use Rattle.allowed_signers.specs.Principals.{ArePrincipals}

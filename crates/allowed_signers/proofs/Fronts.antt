@@ -2,13 +2,13 @@
 use Rattle.std.proofs.Common.{◌≡◌, ◌≢◌, ℕ, ◌<◌, List, [], ◌∷◌, ◌++◌, length, get_or, Option, None, Some, sym, ap, ◌∙◌, arith, inl, inr, lit<, subst}
 use Rattle.std.proofs.lemmas.Str.Pattern.{IsSplitOnceResult, split_after, split_parts}
 use Rattle.std.specs.Prelude.{slice_index}
-use Rattle.ssh_key.specs.entries.Fields.{EndsField}
-use Rattle.ssh_key.specs.entries.OptionItems.{quote}
-use Rattle.ssh_key.specs.entries.OptionEnds.{is_blank}
-use Rattle.ssh_key.specs.files.Cuts.{CutsField}
-use Rattle.ssh_key.specs.model.Lines.{IsWithout}
-use Rattle.ssh_key.specs.public.OneLine.{carriage_return}
-use Rattle.ssh_key.proofs.Entries.{same_field}
+use Rattle.sshkey_entries.specs.Fields.{EndsField}
+use Rattle.sshkey_entries.specs.OptionItems.{quote}
+use Rattle.sshkey_entries.specs.OptionEnds.{is_blank}
+use Rattle.sshkey_entries.specs.Cuts.{CutsField}
+use Rattle.sshkey_model.specs.Lines.{IsWithout}
+use Rattle.sshkey_public.specs.OneLine.{carriage_return}
+use Rattle.sshkey_entries.proofs.Fields.{same_field}
 use Rattle.allowed_signers.specs.OneValue.{IsTheOne}
 use Rattle.allowed_signers.specs.Principals.{ArePrincipals, CutsFront, IsFront, IsPlainFront, IsUnquoted, parts_of}
 use denote.Ref.{Bor}

@@ -1,7 +1,7 @@
 -- What options say, one after the other.
 use Rattle.std.proofs.Common.{◌≡◌, ℕ, ◌<◌, List, [], ◌∷◌, length, refl, ap, subst, arith}
-use Rattle.ssh_key.specs.entries.OptionItems.{KeyOption, AreKeyOptions, IsNoOption, IsOptionAt, without_commas}
-use Rattle.ssh_key.proofs.Entries.{one_option, some_option}
+use Rattle.sshkey_entries.specs.OptionItems.{KeyOption, AreKeyOptions, IsNoOption, IsOptionAt, without_commas}
+use Rattle.sshkey_entries.proofs.OneOption.{one_option, some_option}
 use Rattle.allowed_signers.specs.SignerOptions.{AddOptions, AddsOption, Terms}
 
 -- The text is options that add this to what is said.

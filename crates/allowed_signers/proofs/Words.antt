@@ -1,7 +1,7 @@
 -- An option has one name, and a time one second.
 use Rattle.std.proofs.Common.{◌≡◌, ℕ, List, length, Option, None, Some, refl, sym, ap, subst, ◌∙◌, arith}
 use Rattle.std.proofs.lemmas.List.{length-map}
-use Rattle.ssh_key.specs.entries.OptionItems.{IsSameName, KeyOption}
+use Rattle.sshkey_entries.specs.OptionItems.{IsSameName, KeyOption}
 use Rattle.allowed_signers.specs.OneValue.{IsTheOne}
 use Rattle.allowed_signers.specs.SignerOptions.{AddsOption, AddsValue, IsTimeValue, Terms, terms_of, word_text}
 use Rattle.allowed_signers.specs.Times.{ReadsTime}

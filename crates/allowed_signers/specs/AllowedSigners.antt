@@ -3,24 +3,24 @@
 use Rattle.std.specs.Prelude.{◌≡◌, ◌≢◌, ◌⊎◌, ℕ, List, [], Bool, true, false, Result, Ok, Err}
 use Rattle.std.specs.List.{Any}
 use Rattle.openssh_limits.specs.Read.{HasReadApplication}
-use Rattle.ssh_key.specs.base.Acceptance.{SpellsSome}
-use Rattle.ssh_key.specs.base.Reading.{NoSpelling}
-use Rattle.ssh_key.specs.entries.AuthorizedKeys.{AuthorizedKey}
-use Rattle.ssh_key.specs.entries.Fields.{filled_lines}
-use Rattle.ssh_key.specs.entries.OpenSshLines.{IsAuthorizedLine}
-use Rattle.ssh_key.specs.entries.Patterns.{MatchesList}
-use Rattle.ssh_key.specs.krl.Revocations.{is_key_revoked}
-use Rattle.ssh_key.specs.model.Keys.{Key}
-use Rattle.ssh_key.specs.model.Lines.{IsWithout}
-use Rattle.ssh_key.specs.model.SignedMessages.{IsVerified}
-use Rattle.ssh_key.specs.model.SshSignatures.{SshSignature}
-use Rattle.ssh_key.specs.model.Verification.{Question}
-use Rattle.ssh_key.specs.sshsig.SshSignatureFormats.{ssh_signature_format}
-use Rattle.ssh_key.specs.sshsig.SshSignatureReaders.{SpellsSshSignature}
-use Rattle.ssh_key.specs.sshsig.SshSignatures.{ssh_signature_of}
-use Rattle.ssh_key.specs.types.Error.{Error}
-use Rattle.ssh_key.specs.types.Error.TheVariants as error
-use Rattle.ssh_key.specs.types.SshSig.{SshSig}
+use Rattle.sshkey_base.specs.Acceptance.{SpellsSome}
+use Rattle.sshkey_base.specs.Reading.{NoSpelling}
+use Rattle.sshkey_entries.specs.AuthorizedKeys.{AuthorizedKey}
+use Rattle.sshkey_entries.specs.Fields.{filled_lines}
+use Rattle.sshkey_entries.specs.OpenSshLines.{IsAuthorizedLine}
+use Rattle.sshkey_entries.specs.Patterns.{MatchesList}
+use Rattle.sshkey_krl.specs.Revocations.{is_key_revoked}
+use Rattle.sshkey_model.specs.Keys.{Key}
+use Rattle.sshkey_model.specs.Lines.{IsWithout}
+use Rattle.sshkey_model.specs.SignedMessages.{IsVerified}
+use Rattle.sshkey_model.specs.SshSignatures.{SshSignature}
+use Rattle.sshkey_model.specs.Verification.{Question}
+use Rattle.sshkey_sshsig.specs.SshSignatureFormats.{ssh_signature_format}
+use Rattle.sshkey_sshsig.specs.SshSignatureReaders.{SpellsSshSignature}
+use Rattle.sshkey_sshsig.specs.SshSignatures.{ssh_signature_of}
+use Rattle.sshkey_base.specs.declared.error.Error.{Error}
+use Rattle.sshkey_base.specs.declared.error.Error.TheVariants as error
+use Rattle.sshkey_sshsig.specs.declared.sshsig.SshSig.{SshSig}
 use Rattle.allowed_signers.specs.Principals.{HasPrincipals}
 use Rattle.allowed_signers.specs.SignerOptions.{Terms, AreTerms, Permits}
 use Rattle.allowed_signers.specs.declared.signers.Refusal.{Refusal}

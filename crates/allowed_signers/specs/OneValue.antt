@@ -1,7 +1,7 @@
 -- What a reader answers.
 use Rattle.std.specs.Prelude.{◌≡◌, Option, Some, None, Result, Ok, Err}
-use Rattle.ssh_key.specs.types.Error.{Error}
-use Rattle.ssh_key.specs.types.Error.TheVariants.{Memory}
+use Rattle.sshkey_base.specs.declared.error.Error.{Error}
+use Rattle.sshkey_base.specs.declared.error.Error.TheVariants.{Memory}
 
 -- The one value of which it holds; or it holds of none.
 abbrev pub IsTheOne : {X Y : Type 0} → (X → Y) → (Y → Type 0) → Option X → Type 0

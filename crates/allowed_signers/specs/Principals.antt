@@ -1,9 +1,9 @@
 -- The front of a line of allowed signers (ssh-keygen(1), ALLOWED SIGNERS).
 use Rattle.std.specs.Prelude.{◌≡◌, ◌⊎◌, ℕ, List, ◌∷◌, ◌++◌}
-use Rattle.ssh_key.specs.entries.OptionItems.{quote}
-use Rattle.ssh_key.specs.files.Cuts.{CutsField}
-use Rattle.ssh_key.specs.model.Lines.{IsWithout}
-use Rattle.ssh_key.specs.public.OneLine.{carriage_return}
+use Rattle.sshkey_entries.specs.OptionItems.{quote}
+use Rattle.sshkey_entries.specs.Cuts.{CutsField}
+use Rattle.sshkey_model.specs.Lines.{IsWithout}
+use Rattle.sshkey_public.specs.OneLine.{carriage_return}
 use denote.Ref.{Bor}
 
 -- No double quote stands in it.

@@ -1,8 +1,8 @@
 -- What the options of a line of allowed signers say (ssh-keygen(1), ALLOWED SIGNERS).
 use Rattle.std.specs.Prelude.{◌≡◌, ◌≢◌, ◌<◌, ◌≤◌, ◌-◌, ℕ, List, [], ◌∷◌, Bool, true, false, Option, Some, None, IfSome, codes, length, slice_index, option_map, string_bytes}
-use Rattle.ssh_key.specs.entries.KnownHosts.{comma}
-use Rattle.ssh_key.specs.entries.OptionItems.{KeyOption, AreKeyOptions, IsSameName}
-use Rattle.ssh_key.specs.entries.Patterns.{MatchesList}
+use Rattle.sshkey_entries.specs.KnownHosts.{comma}
+use Rattle.sshkey_entries.specs.OptionItems.{KeyOption, AreKeyOptions, IsSameName}
+use Rattle.sshkey_entries.specs.Patterns.{MatchesList}
 use Rattle.allowed_signers.specs.Times.{IsTime}
 use Rattle.allowed_signers.specs.declared.options.SignerOptions.{SignerOptions}
 use Rattle.allowed_signers.specs.declared.options.Word.{Word}

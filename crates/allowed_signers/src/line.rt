@@ -3,7 +3,7 @@
 ghost use Rattle.allowed_signers.specs.OneValue.{IsTheOne};
 ghost use Rattle.allowed_signers.specs.Principals.{ArePrincipals, IsFront, IsPlainFront, parts_of};
 
-use ssh_key::authorized_keys::split_field;
+use sshkey_entries::split_field;
 
 /// The principals at the front of a line, and what follows them. None are read where a carriage
 /// return stands in them: it ends an unquoted word for ssh-keygen, which would read other

@@ -1,16 +1,16 @@
 //! What the options of a line say.
 
 ghost use Rattle.std.specs.Prelude.{◌≡◌, ◌↔◌, ◌≤◌, IfSome, IsTrue, option_map, string_bytes};
-ghost use Rattle.ssh_key.specs.authorized_keys.OpenSshItems.{key_option_of};
-ghost use Rattle.ssh_key.specs.entries.OptionItems.{IsSameName};
-ghost use Rattle.ssh_key.specs.entries.Patterns.{MatchesList};
+ghost use Rattle.sshkey_authorized_keys.specs.OpenSshItems.{key_option_of};
+ghost use Rattle.sshkey_entries.specs.OptionItems.{IsSameName};
+ghost use Rattle.sshkey_entries.specs.Patterns.{MatchesList};
 ghost use Rattle.allowed_signers.specs.OneValue.{IsTheOne, ReadsTheOne};
 ghost use Rattle.allowed_signers.specs.SignerOptions.{AddsOption, AddsValue, AreInOrder, AreTerms, IsTimeValue, Permits, no_terms, terms_of, word_text};
 
 use crate::times::read_time;
-use ssh_key::Result;
-use ssh_key::authorized_keys::{OpenSshOption, OpenSshOptions};
-use ssh_key::patterns::{LetterCase, matches_pattern_list};
+use sshkey_authorized_keys::{OpenSshOption, OpenSshOptions};
+use sshkey_base::Result;
+use sshkey_entries::{LetterCase, matches_pattern_list};
 use std::alloc::Global;
 
 /// The name of an option.

@@ -1,22 +1,25 @@
 //! Lines of allowed signers, and whether a signature counts.
 
 ghost use Rattle.std.specs.Prelude.{◌≡◌, ◌↔◌, IfErr, IfOk, IsTrue};
-ghost use Rattle.ssh_key.specs.authorized_keys.OpenSshEntries.{openssh_entry_of};
-ghost use Rattle.ssh_key.specs.keys.Keys.{key_of};
-ghost use Rattle.ssh_key.specs.model.Keys.{IsKey};
-ghost use Rattle.ssh_key.specs.sshsig.SshSignatures.{ssh_signature_of};
-ghost use Rattle.ssh_key.specs.types.Error.TheVariants.{Memory};
+ghost use Rattle.sshkey_authorized_keys.specs.OpenSshEntries.{openssh_entry_of};
+ghost use Rattle.sshkey_keys.specs.Keys.{key_of};
+ghost use Rattle.sshkey_model.specs.Keys.{IsKey};
+ghost use Rattle.sshkey_sshsig.specs.SshSignatures.{ssh_signature_of};
+ghost use Rattle.sshkey_base.specs.declared.error.Error.TheVariants.{Memory};
 ghost use Rattle.allowed_signers.specs.AllowedSigners.{Allows, Answers, Counts, HasEntryFor, HasSignature, HasSigned, IsAllowed, IsEntryFor, IsNo, IsWhy, Names, OkExactly, OptionsPermit, ReadsSignature, SpelledBySome};
 
 use crate::line::split_principals;
 use crate::options::SignerOptions;
 use openssh_limits::{has_read_application, is_read_text};
-use ssh_key::authorized_keys::{Entry, FilledLines, OpenSshEntry, OpenSshOptions};
-use ssh_key::laws::{compared_keys, one_authorized_line, one_ssh_signature, signed_parts_fit};
-use ssh_key::patterns::{LetterCase, matches_pattern_list};
-use ssh_key::public::KeyData;
-use ssh_key::revocation::Revocations;
-use ssh_key::{Error, RawVerifier, Result, SshSig};
+use sshkey_authorized_keys::{Entry, OpenSshEntry, OpenSshOptions};
+use sshkey_base::{Error, Result};
+use sshkey_entries::laws::one_authorized_line;
+use sshkey_entries::{FilledLines, LetterCase, matches_pattern_list};
+use sshkey_keys::laws::compared_keys;
+use sshkey_keys::{KeyData, RawVerifier};
+use sshkey_krl::Revocations;
+use sshkey_sshsig::SshSig;
+use sshkey_sshsig::laws::{one_ssh_signature, signed_parts_fit};
 use std::alloc::Global;
 
 /// Why a signature does not count.

@@ -4,7 +4,7 @@ use Rattle.std.proofs.lemmas.Bool.{cases_lt}
 use Rattle.std.proofs.lemmas.List.{get_or_default, length-map}
 use Rattle.std.proofs.lemmas.List.Elements.{All-cons, All-head, All-map, All-nil, All-tail}
 use Rattle.std.specs.Prelude.{All, String, string_bytes}
-use Rattle.ssh_key.specs.model.Lines.{IsWithout}
+use Rattle.sshkey_model.specs.Lines.{IsWithout}
 use Rattle.openssh_limits.specs.Read.{AreReadPrincipals}
 
 pub without : (text : List ℕ) (found : Bool) → (found ≡ true → (k : ℕ) × (k < length text) × (get_or text k 0 ≡ 0)) × ((k : ℕ) → k < length text → get_or text k 0 ≡ 0 → found ≡ true) → IsTrue (not found) ↔ IsWithout 0 text

@@ -1,8 +1,8 @@
 -- What OpenSSH reads as it is: no byte of a text is 0. (It takes a text to end at a zero byte that
 -- is its last, and refuses one with another zero byte.)
 use Rattle.std.specs.Prelude.{◌≤◌, ℕ, List, All, length}
-use Rattle.ssh_key.specs.model.Keys.{Key, Dsa, Ecdsa, Ed25519, Rsa, SkEcdsa, SkEd25519, Opaque}
-use Rattle.ssh_key.specs.model.Lines.{IsWithout}
+use Rattle.sshkey_model.specs.Keys.{Key, Dsa, Ecdsa, Ed25519, Rsa, SkEcdsa, SkEd25519, Opaque}
+use Rattle.sshkey_model.specs.Lines.{IsWithout}
 
 -- The principals of a certificate, at most 256.
 pub record AreReadPrincipals (names : List (List ℕ)) : Type 0 where

@@ -1,11 +1,11 @@
 //! The applications of security keys that OpenSSH reads.
 
 ghost use Rattle.std.specs.Prelude.{◌↔◌, IsTrue};
-ghost use Rattle.ssh_key.specs.keys.Keys.{key_of};
+ghost use Rattle.sshkey_keys.specs.Keys.{key_of};
 ghost use Rattle.openssh_limits.specs.Read.{HasReadApplication};
 
 use crate::texts::is_read_text;
-use ssh_key::public::KeyData;
+use sshkey_keys::KeyData;
 
 /// Returns whether OpenSSH reads the application of a security key as it is: no byte of it is 0.
 /// `true` for a key of another kind.

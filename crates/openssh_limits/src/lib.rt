@@ -1,7 +1,5 @@
-//! What OpenSSH does not read of keys and certificates that `ssh_key` reads.
-//!
-//! For callers that are to accept nothing that OpenSSH refuses. It names `ssh_key` alone, and is
-//! proved from its contracts.
+//! What OpenSSH does not read of keys and certificates that `ssh_key` reads, for callers that are to
+//! accept nothing that OpenSSH refuses.
 #![tactic(auto)]
 
 mod application;

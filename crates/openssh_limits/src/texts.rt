@@ -1,7 +1,7 @@
 //! The texts that OpenSSH reads.
 
 ghost use Rattle.std.specs.Prelude.{◌↔◌, IsTrue, All, map, string_bytes};
-ghost use Rattle.ssh_key.specs.model.Lines.{IsWithout};
+ghost use Rattle.sshkey_model.specs.Lines.{IsWithout};
 ghost use Rattle.openssh_limits.specs.Read.{AreReadPrincipals};
 
 /// How many principals OpenSSH reads of a certificate.

@@ -1,6 +1,6 @@
 use Rattle.std.proofs.Common.{None, Some, lit<}
 use Rattle.std.proofs.lemmas.Str.Pattern.{strip_prefix_char}
-use Rattle.ssh_key.specs.entries.OptionItems.{quote}
+use Rattle.sshkey_entries.specs.OptionItems.{quote}
 use Rattle.allowed_signers.proofs.Fronts.{plain_front, quoted_front}
 use Rattle.allowed_signers.proofs.line.split_front.Goals as goal
 

@@ -1,6 +1,6 @@
 use Rattle.std.proofs.Common.{◌∙◌, lit<, sym}
 use Rattle.std.proofs.lemmas.Str.Pattern.{contains_char}
-use Rattle.ssh_key.specs.public.OneLine.{carriage_return}
+use Rattle.sshkey_public.specs.OneLine.{carriage_return}
 use Rattle.allowed_signers.proofs.Fronts.{principals, returned}
 use Rattle.allowed_signers.proofs.line.split_principals.Goals as goal
 

@@ -1,6 +1,6 @@
 use Rattle.std.proofs.Common.{◌∙◌, lit<, sym}
 use Rattle.std.proofs.lemmas.Str.Pattern.{contains_char}
-use Rattle.ssh_key.specs.entries.OptionItems.{quote}
+use Rattle.sshkey_entries.specs.OptionItems.{quote}
 use Rattle.allowed_signers.proofs.Fronts.{one_word, quoted_word}
 use Rattle.allowed_signers.proofs.line.split_word.Goals as goal
 

@@ -1,6 +1,6 @@
 use Rattle.std.proofs.Common.{◌≡◌, true}
 use Rattle.allowed_signers.specs.declared.options.Word.TheVariants.{CertAuthority, Namespaces, ValidAfter, ValidBefore}
-use Rattle.ssh_key.specs.authorized_keys.OpenSshItems.{key_option_of}
+use Rattle.sshkey_authorized_keys.specs.OpenSshItems.{key_option_of}
 use Rattle.allowed_signers.proofs.Words.{no_word, one_word}
 use Rattle.allowed_signers.proofs.options.word_of.Goals as goal
 

@@ -1,5 +1,5 @@
 use Rattle.std.proofs.Common.{◌≡◌, true}
-use Rattle.ssh_key.specs.keys.Keys.{key_of}
+use Rattle.sshkey_keys.specs.Keys.{key_of}
 use Rattle.allowed_signers.specs.AllowedSigners.{Allows}
 use Rattle.allowed_signers.proofs.Decisions.{line_decides, never, no_front, not_listed}
 use Rattle.allowed_signers.proofs.signers.allows.Goals as goal

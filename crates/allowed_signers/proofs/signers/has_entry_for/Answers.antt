@@ -1,5 +1,5 @@
-use Rattle.ssh_key.specs.authorized_keys.OpenSshEntries.{openssh_entry_of}
-use Rattle.ssh_key.specs.keys.Keys.{key_of}
+use Rattle.sshkey_authorized_keys.specs.OpenSshEntries.{openssh_entry_of}
+use Rattle.sshkey_keys.specs.Keys.{key_of}
 use Rattle.allowed_signers.proofs.Decisions.{entry_decides, no_entry, only_memory}
 use Rattle.allowed_signers.proofs.signers.has_entry_for.Goals as goal
 

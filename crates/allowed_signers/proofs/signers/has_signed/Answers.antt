@@ -1,6 +1,6 @@
 use Rattle.std.proofs.Common.{◌≡◌, ◌∙◌, sym, true}
 use Rattle.std.proofs.lemmas.Result.{err_from_is_err_and}
-use Rattle.ssh_key.specs.sshsig.SshSignatures.{ssh_signature_of}
+use Rattle.sshkey_sshsig.specs.SshSignatures.{ssh_signature_of}
 use Rattle.allowed_signers.specs.AllowedSigners.{HasSigned}
 use Rattle.allowed_signers.proofs.Decisions.{answered_memory, made, never, none_reserved, signed, some_reserved}
 use Rattle.allowed_signers.proofs.signers.has_signed.Goals as goal

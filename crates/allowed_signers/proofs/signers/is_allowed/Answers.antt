@@ -1,6 +1,6 @@
 use Rattle.std.proofs.Common.{◌≡◌, List, subst, sym, true, ℕ}
 use Rattle.std.specs.List.{Any}
-use Rattle.ssh_key.specs.keys.Keys.{key_of}
+use Rattle.sshkey_keys.specs.Keys.{key_of}
 use Rattle.allowed_signers.specs.AllowedSigners.{Allows}
 use Rattle.allowed_signers.proofs.SomeLine.{later, not_first}
 use Rattle.allowed_signers.proofs.signers.is_allowed.Goals as goal

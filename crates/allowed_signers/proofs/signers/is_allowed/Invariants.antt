@@ -1,7 +1,7 @@
 use Rattle.std.proofs.Common.{ℕ, List}
 use Rattle.std.specs.List.{Any}
-use Rattle.ssh_key.specs.entries.Fields.{filled_lines}
-use Rattle.ssh_key.specs.keys.Keys.{key_of}
+use Rattle.sshkey_entries.specs.Fields.{filled_lines}
+use Rattle.sshkey_keys.specs.Keys.{key_of}
 use Rattle.allowed_signers.specs.AllowedSigners.{Allows}
 use Rattle.allowed_signers.proofs.signers.is_allowed.Given as goal
 

@@ -1,7 +1,7 @@
 use Rattle.std.proofs.Common.{◌≡◌, ◌∙◌, ap, subst, sym, true}
-use Rattle.ssh_key.specs.authorized_keys.OpenSshEntries.{openssh_entry_of}
-use Rattle.ssh_key.specs.keys.Keys.{key_of}
-use Rattle.ssh_key.specs.public.PublicKeys.{public_of}
+use Rattle.sshkey_authorized_keys.specs.OpenSshEntries.{openssh_entry_of}
+use Rattle.sshkey_keys.specs.Keys.{key_of}
+use Rattle.sshkey_public.specs.PublicKeys.{public_of}
 use Rattle.allowed_signers.specs.AllowedSigners.{IsEntryFor, OptionsPermit}
 use Rattle.allowed_signers.proofs.Decisions.{never, told_as}
 use Rattle.allowed_signers.proofs.signers.is_entry_for.Goals as goal

@@ -1,11 +1,11 @@
 use Rattle.std.proofs.Common.{◌≡◌, ◌∙◌, [], ap, refl, subst, sym, false, true}
 use Rattle.std.proofs.lemmas.Bool.{true≢false}
 use Rattle.std.proofs.lemmas.Result.{err_from_is_err_and}
-use Rattle.ssh_key.specs.keys.Keys.{key_of}
-use Rattle.ssh_key.specs.krl.Revocations.{is_key_revoked}
-use Rattle.ssh_key.specs.model.Keys.{Key}
-use Rattle.ssh_key.specs.model.SshSignatures.{SshSignature}
-use Rattle.ssh_key.specs.sshsig.SshSignatures.{ssh_signature_of}
+use Rattle.sshkey_keys.specs.Keys.{key_of}
+use Rattle.sshkey_krl.specs.Revocations.{is_key_revoked}
+use Rattle.sshkey_model.specs.Keys.{Key}
+use Rattle.sshkey_model.specs.SshSignatures.{SshSignature}
+use Rattle.sshkey_sshsig.specs.SshSignatures.{ssh_signature_of}
 use Rattle.allowed_signers.specs.AllowedSigners.{Counts, HasSigned, IsAllowed}
 use Rattle.allowed_signers.proofs.Decisions.{nothing_counts}
 use Rattle.allowed_signers.proofs.signers.verify.Goals as goal

@@ -1,6 +1,6 @@
 use Rattle.std.proofs.Common.{IsTrue, refl, sym, subst, ◌∙◌, arith}
 use Rattle.std.specs.Prelude.{string_bytes}
-use Rattle.ssh_key.specs.model.Lines.{IsWithout}
+use Rattle.sshkey_model.specs.Lines.{IsWithout}
 use Rattle.openssh_limits.proofs.PlainTexts.{one_more}
 use Rattle.openssh_limits.proofs.texts.are_read_texts.Goals as goal
 

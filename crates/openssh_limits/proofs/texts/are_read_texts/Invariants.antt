@@ -1,6 +1,6 @@
 use Rattle.std.proofs.Common.{ℕ, ◌<◌, Global, get_or}
 use Rattle.std.specs.Prelude.{String, string_bytes}
-use Rattle.ssh_key.specs.model.Lines.{IsWithout}
+use Rattle.sshkey_model.specs.Lines.{IsWithout}
 use Rattle.openssh_limits.proofs.texts.are_read_texts.Given as goal
 
 -- none of the names so far has one

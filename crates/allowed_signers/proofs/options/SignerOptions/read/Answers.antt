@@ -1,7 +1,7 @@
 use Rattle.std.proofs.Common.{◌≡◌, ◌∙◌, ◌-◌, List, Option, Some, eq-eqb, length, lit<, subst, sym, true, ℕ}
 use Rattle.std.specs.Prelude.{slice_index}
-use Rattle.ssh_key.specs.authorized_keys.OpenSshItems.{YieldsOption, key_option_of}
-use Rattle.ssh_key.specs.entries.KnownHosts.{comma}
+use Rattle.sshkey_authorized_keys.specs.OpenSshItems.{YieldsOption, key_option_of}
+use Rattle.sshkey_entries.specs.KnownHosts.{comma}
 use Rattle.allowed_signers.specs.OneValue.{IsTheOne}
 use Rattle.allowed_signers.specs.SignerOptions.{AddsOption, AreInOrder, terms_of}
 use Rattle.allowed_signers.specs.declared.options.SignerOptions.{SignerOptions}

@@ -1,5 +1,5 @@
 use Rattle.std.proofs.Common.{List, Option, subst, ℕ}
-use Rattle.ssh_key.specs.authorized_keys.OpenSshItems.{key_option_of}
+use Rattle.sshkey_authorized_keys.specs.OpenSshItems.{key_option_of}
 use Rattle.allowed_signers.specs.OneValue.{IsTheOne}
 use Rattle.allowed_signers.specs.SignerOptions.{AddsValue, terms_of}
 use Rattle.allowed_signers.proofs.Words.{adds}
