@@ -156,6 +156,10 @@ static void ask_verdict(given_call *it, const char *name) {
   printf("%" PRIu32, ask(it, "authority_verdict", NULL));
 }
 
+static void ask_number(given_call *it, const char *name) {
+  printf("%" PRIu32, ask(it, name, NULL));
+}
+
 static void ask_revoked(given_call *it, const char *name) {
   uint32_t answer = ask(it, name, NULL);
   if (answer == SSHKEY_NOT_REVOKED)
@@ -298,6 +302,7 @@ static const struct {
     {"host", ask_entry, "known_host", 1},
     {"options", ask_options, "nth_option", 1},
     {"verdict", ask_verdict, "host_verdict", 3},
+    {"signer", ask_number, "signer_verdict", 5},
     {"revokes-key", ask_revoked, "krl_revokes_key", 2},
     {"revokes-certificate", ask_revoked, "krl_revokes_certificate", 2},
     {"string-places", ask_places, "next_string", 1},

@@ -9,14 +9,15 @@
  *   3. sshkey_certificate_validate and .._validate_for say whether the certificate is valid, given
  *      what you found, or what is wrong with it first.
  *
- * An SSH signature (`ssh-keygen -Y sign`) needs no third step: it is valid exactly if
- * sshkey_sshsig_question answers SSHKEY_DONE, your verification says yes, and the signer's key is
- * one that you trust for that namespace. The digest of the message does in place of the message.
+ * An SSH signature (`ssh-keygen -Y sign`) is valid exactly if sshkey_sshsig_question answers
+ * SSHKEY_DONE, your verification says yes, and the signer's key is one that you trust for that
+ * namespace: sshkey_signer_verdict says so by a file of allowed signers. The digest of the message
+ * does in place of the message.
  *
  * What you owe, which nothing checks:
  *
- *  - Both calls get the SAME certificate, of which no byte changed in between, and `is_verified` is
- *    what your verification said of the question of that certificate.
+ *  - Both calls get the SAME certificate or signature, of which no byte changed in between, and
+ *    `is_verified` is what your verification said of the question of that one.
  *  - No pointer is null, also where the length beside it is 0: sshkey_bytes(p) below gives one that
  *    may be passed.
  *  - A length is the true one: so many bytes, all initialised, lie behind the pointer, in one
@@ -67,14 +68,16 @@ uint32_t sshkey_abi(void);
 /* ---- what calls return ----------------------------------------------------------------------- */
 
 enum {
-  SSHKEY_DONE = 0,   /* done; of a validation: it is valid; of a revocation list: it revokes */
+  SSHKEY_DONE = 0,   /* done; of a validation: it is valid; of a revocation list: it revokes; of a
+                        signer: the signature counts */
   SSHKEY_MEMORY = 1, /* malloc refused; nothing is said of the input, and nothing is kept: the call
                         may be made again */
   SSHKEY_ROOM = 2,   /* the room is too short; `length` says how many bytes are needed */
   SSHKEY_END = 3,    /* nothing is left: the place is the end, or there is no such line or option */
   SSHKEY_TEXT = 4,   /* the principal is not UTF-8, or a line of authorized_keys or known_hosts,
-                        options, a text of known_hosts or a host's name; nothing is said of the
-                        rest. sshkey_read_line returns 11 for such a line */
+                        options, a text of known_hosts or of signers, a host's name, an identity or
+                        a namespace; nothing is said of the rest. sshkey_read_line returns 11 for
+                        such a line */
 
   /* 10 to 29: the bytes are no certificate, key, signature or revocation list, which is the first
    * fault from the left; or the line is none, which is a fault that it has. For logs: lines with
@@ -100,7 +103,8 @@ enum {
   SSHKEY_OTHER_FAULT = 23,        /* never returned */
 
   /* 30 to 34: what is wrong with a certificate that is not valid; the first of these */
-  SSHKEY_NOT_SIGNED = 30,          /* it raises no question, or `is_verified` is not 1 */
+  SSHKEY_NOT_SIGNED = 30,          /* it raises no question, or `is_verified` is not 1; a signature
+                                      also where it is in another namespace, or has reserved bytes */
   SSHKEY_UNTRUSTED_AUTHORITY = 31, /* the key that signed it is none of the authorities' */
   SSHKEY_INVALID_TIME = 32,        /* the time is above 2^63 - 1 */
   SSHKEY_OUT_OF_WINDOW = 33,       /* it is not yet valid, or no longer */
@@ -119,6 +123,10 @@ enum {
   SSHKEY_HOST_UNREADABLE = 51, /* a line is no entry, and may be one for the host */
   SSHKEY_HOST_CHANGED = 52,    /* a line for the host has another key, and none has this one */
   SSHKEY_HOST_UNKNOWN = 53,    /* no line without a marker is for the host */
+
+  /* 55, 56, and then 30: a signature does not count; the first of these that holds */
+  SSHKEY_SIGNER_NOT_ALLOWED = 55, /* no line lets its key sign for the identity, there and then */
+  SSHKEY_SIGNER_REVOKED = 56,     /* its key is revoked, or the revocation file can't be read */
 
   /* of a revocation list */
   SSHKEY_NOT_REVOKED = 60 /* it does not revoke the key or the certificate */
@@ -139,7 +147,8 @@ static inline const char *sshkey_answer_name(uint32_t answer) {
     SSHKEY_NAMED(UNSUPPORTED); SSHKEY_NAMED(OTHER_NAMESPACE);
     SSHKEY_NAMED(PRINCIPALS); SSHKEY_NAMED(EMPTY_WINDOW);
     SSHKEY_NAMED(HOST_REVOKED); SSHKEY_NAMED(HOST_UNREADABLE);
-    SSHKEY_NAMED(HOST_CHANGED); SSHKEY_NAMED(HOST_UNKNOWN); SSHKEY_NAMED(NOT_REVOKED);
+    SSHKEY_NAMED(HOST_CHANGED); SSHKEY_NAMED(HOST_UNKNOWN);
+    SSHKEY_NAMED(SIGNER_NOT_ALLOWED); SSHKEY_NAMED(SIGNER_REVOKED); SSHKEY_NAMED(NOT_REVOKED);
     default: return "no answer";
   }
 #undef SSHKEY_NAMED
@@ -246,7 +255,7 @@ uint32_t sshkey_certificate_question(const uint8_t *certificate, size_t certific
  * unix_timestamp <= 2^63 - 1; SSHKEY_MEMORY aside, which is answered only where the key that signed
  * is not in its normal form: an RSA key under another name than ssh-rsa. Else 10 to 29 for bytes
  * that are no certificate, and 30 to 33 for what is wrong first. Its type, its critical options and
- * whether it is revoked are yours to judge. */
+ * whether it is revoked are yours to judge: docs/CHECKLIST.md, "A login", "A host". */
 uint32_t sshkey_certificate_validate(const uint8_t *certificate, size_t certificate_length,
                                      uint64_t unix_timestamp, const sshkey_sha256 *authorities,
                                      size_t authority_count, uint32_t is_verified);
@@ -350,9 +359,10 @@ typedef struct {
  * string of the algorithm's name, and the string of what it makes.
  *
  * SSHKEY_DONE exactly if the draft tells a certificate, memory and room aside. Else what is wrong,
- * in this order: SSHKEY_FORMAT for another certificate_type, SSHKEY_TIME for a time above
- * 2^63 - 1, SSHKEY_EMPTY_WINDOW, SSHKEY_PRINCIPALS; then 10 to 29 for a key, a text or a list that
- * is none. A key to be certified that has a private-use name is rejected: SSHKEY_LABEL. */
+ * in this order: SSHKEY_FORMAT for another certificate_type, SSHKEY_TIME for a time above 2^63 - 1,
+ * SSHKEY_EMPTY_WINDOW, SSHKEY_PRINCIPALS; then 10 to 29 for a key, a text or a list that is none. A
+ * key to be certified that has a private-use name is rejected: SSHKEY_LABEL. Ask besides:
+ * docs/CHECKLIST.md, "An authority". */
 uint32_t sshkey_certificate_to_be_signed(const sshkey_draft *draft, uint8_t *room,
                                          size_t room_length, size_t *length);
 
@@ -390,7 +400,7 @@ uint32_t sshkey_fingerprint_sha512_text(const sshkey_sha512 *digest, uint8_t *ro
                                         size_t room_length);
 
 /* What has to be verified of a signature (RFC 4253, section 6.6) of the message under the key of
- * that blob: as an agent gives it, or a client at a login.
+ * that blob: as an agent gives it, or a client at a login (docs/CHECKLIST.md, "A login").
  *
  * SSHKEY_DONE exactly if the bytes are a key and a signature that go together (memory and room
  * aside); else SSHKEY_UNSUPPORTED, or 10 to 29 for bytes that are no key, or else no signature.
@@ -404,8 +414,8 @@ uint32_t sshkey_signature_question(const uint8_t *key, size_t key_length, const 
 /* ---- SSH signatures (PROTOCOL.sshsig) -------------------------------------------------------- */
 
 /* What has to be verified of an SSH signature of the message in that namespace, and the SHA-256
- * fingerprint of the key that signed: whether that key may sign is yours to judge. The signature is
- * what stands in the armour, Base64 decoded.
+ * fingerprint of the key that signed: whether that key may sign is yours to judge
+ * (docs/CHECKLIST.md, "A signature"). The signature is what stands in the armour, Base64 decoded.
  *
  * SSHKEY_DONE exactly if the bytes are an SSH signature for that namespace whose key and signature
  * go together (memory and room aside); else SSHKEY_OTHER_NAMESPACE, SSHKEY_UNSUPPORTED, or 10 to 29
@@ -424,6 +434,26 @@ uint32_t sshkey_sshsig_question_of_digest(const uint8_t *signature, size_t signa
                                           const uint8_t *digest, size_t digest_length,
                                           uint8_t *room, size_t room_length,
                                           sshkey_question *answer, sshkey_sha256 *signer);
+
+/* Whether an SSH signature counts as the identity's in that namespace, by a text of allowed
+ * signers (ssh-keygen(1)), at that second (since 1970), as `ssh-keygen -Y verify` says, or more
+ * strictly (docs/CALLING.md). `revoked` is what the file of its `-r` has: a list, or keys, one a
+ * line; no bytes where there is none. `is_verified` is 1 if the answer to the question of this
+ * signature, in the namespace and of the message, is yes; any other number is no. Ask with 0
+ * first: SSHKEY_NOT_SIGNED says that its key may sign, and with any other answer there is nothing
+ * to verify.
+ *
+ * SSHKEY_DONE exactly if the bytes are a signature in the namespace that raises a question,
+ * without reserved bytes, `is_verified` is 1, a line lets its key sign for the identity in the
+ * namespace at that time, and the key is not revoked (memory aside). Else 55, 56 or
+ * SSHKEY_NOT_SIGNED, 10 to 29 for bytes that are no signature, or SSHKEY_TEXT. SSHKEY_MEMORY only
+ * where a part of the signature is whole. Ask besides: docs/CHECKLIST.md, "A signature". */
+uint32_t sshkey_signer_verdict(const uint8_t *signers, size_t signers_length,
+                               const uint8_t *identity, size_t identity_length,
+                               const uint8_t *name_space, size_t name_space_length,
+                               const uint8_t *signature, size_t signature_length,
+                               uint64_t unix_timestamp, const uint8_t *revoked,
+                               size_t revoked_length, uint32_t is_verified);
 
 /* ---- normal forms ---------------------------------------------------------------------------- */
 
@@ -465,9 +495,10 @@ uint32_t sshkey_next_string(const uint8_t *bytes, size_t length, size_t place, s
  * the key, or its digest by SHA-1 or SHA-256.
  *
  * Let in for SSHKEY_NOT_REVOKED alone: a caller that takes any other answer for "not revoked" is
- * wrong. SSHKEY_DONE exactly if the list revokes the key (memory aside); else 10 to 29 for bytes
- * that are no list, or else no key. An empty file is no list, nor is a text of keys, which sshd
- * takes in place of one. SSHKEY_MEMORY only for a key that is not its normal form. */
+ * wrong (docs/CHECKLIST.md, "All of them"). SSHKEY_DONE exactly if the list revokes the key (memory
+ * aside); else 10 to 29 for bytes that are no list, or else no key. An empty file is no list, nor
+ * is a text of keys, which sshd takes in place of one. SSHKEY_MEMORY only for a key that is not its
+ * normal form. */
 uint32_t sshkey_krl_revokes_key(const uint8_t *krl, size_t krl_length, const uint8_t *key,
                                 size_t key_length);
 
@@ -499,7 +530,8 @@ typedef struct {
 
 /* The entry of a line of authorized_keys, as sshd reads it. SSHKEY_DONE exactly if the line is one
  * (memory and room aside); SSHKEY_TEXT for a line that is not UTF-8, else 10 to 29. A room of the
- * line's length is enough. Which options there may be is yours to judge: sshkey_nth_option.
+ * line's length is enough. Which options there may be is yours to judge: sshkey_nth_option;
+ * docs/CHECKLIST.md, "A login".
  *
  * An option cert-authority says that the key is an authority's, which signs certificates: whoever
  * only has that key is not to be let in. And refuse a line with a zero byte: here it is a byte like
@@ -543,7 +575,8 @@ uint32_t sshkey_nth_option(const uint8_t *options, size_t options_length, size_t
  * could. Else 50 to 53, 10 to 29 for bytes that are no key, or SSHKEY_TEXT where the text or the
  * host is not UTF-8. Ask it of each file: the first of these counts that one of them says, revoked,
  * unreadable, trusted, changed. Where all say SSHKEY_HOST_UNKNOWN of a port other than 22, and only
- * there, ssh(1) asks about port 22 too. Of authorities nothing is said. */
+ * there, ssh(1) asks about port 22 too. Of authorities nothing is said. Ask besides:
+ * docs/CHECKLIST.md, "A host". */
 uint32_t sshkey_host_verdict(const uint8_t *known_hosts, size_t known_hosts_length,
                              const uint8_t *host, size_t host_length, uint16_t port,
                              const uint8_t *key, size_t key_length);

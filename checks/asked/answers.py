@@ -23,6 +23,7 @@ asked/rust over the packages. Words are bytes in hexadecimal (- for none), numbe
     line BYTES                                               0 0|1 BLOB COMMENT, 1 for a certificate
     lines TEXT                                               0 CONTENT ..
     normal key|certificate|sshsig|signature BYTES            0 BYTES
+    signer TEXT IDENTITY NAMESPACE BYTES REVOKED SECOND 0|1  what a text of allowed signers says, where a verification says no or yes
     revokes-key LIST KEY | revokes-certificate LIST BYTES    0 1 if the list revokes it, else 0 0
     draft KEY NONCE KEY-ID PRINCIPALS CRITICAL EXTENSIONS AUTHORITY SERIAL AFTER BEFORE TYPE ALL
                                                              0 BYTES that are to be signed; lists as a certificate has them, of
@@ -188,6 +189,11 @@ class Answers:
 
     def normal(self, kind, data):
         return ["0", word(getattr(self.sshkey, f"normal_{kind}")(data_of(data)))]
+
+    def signer(self, *given):
+        text, *who, second, yes = given
+        signers, identity, namespace, signature, revoked = map(data_of, (text, *who))
+        return [str(int(self.sshkey.signer_verdict(signers, identity, namespace, signature, int(second), revoked, yes == "1")))]
 
     def revokes_key(self, krl, key):
         return ["0", str(int(self.sshkey.krl_revokes_key(data_of(krl), data_of(key))))]

@@ -52,6 +52,8 @@ typedef struct {
   CALL(sshsig_question, BYTES(0), BYTES(1), BYTES(2), ROOM, &it->question, &it->sha256)          \
   CALL(sshsig_question_of_digest, BYTES(0), BYTES(1), BYTES(2), ROOM, &it->question,             \
        &it->sha256)                                                                              \
+  CALL(signer_verdict, BYTES(0), BYTES(1), BYTES(2), BYTES(3), it->numbers[0], BYTES(4),         \
+       (uint32_t)it->numbers[1])                                                                 \
   CALL(key_normal, BYTES(0), ROOM, &it->length)                                                  \
   CALL(certificate_normal, BYTES(0), ROOM, &it->length)                                          \
   CALL(sshsig_normal, BYTES(0), ROOM, &it->length)                                               \

@@ -11,6 +11,7 @@ from .made import MIDDLE
 from .memory_calls import question_of
 from .revocation_calls import EMPTY, check_revocations
 from .security_key_calls import check_signatures
+from .signer_calls import check_signers
 
 # of how many hostile byte strings a package is asked about one
 SAMPLED = 12
@@ -21,7 +22,7 @@ FILE, DIGEST = b"file".hex(), "a5" * 64
 OF_KINDS = {
     "certificate": ["certificate {}", "fields {}", "lists {}", "normal certificate {}", f"revokes-certificate {EMPTY.hex()} {{}}"],
     "key": ["key {}", "normal key {}", f"revokes-key {EMPTY.hex()} {{}}"],
-    "ssh-signature": [f"sshsig {{}} {FILE} {b'message'.hex()}", "normal sshsig {}"],
+    "ssh-signature": [f"sshsig {{}} {FILE} {b'message'.hex()}", "normal sshsig {}", f"signer - {FILE} {FILE} {{}} - {MIDDLE} 1"],
 }  # fmt: skip
 OF_OTHERS = ["normal signature {}", "lines {}", "entry {}", "host {}", "options {}", "line {}", "revokes-key {} -"]
 # those that a package is asked too
@@ -38,7 +39,7 @@ def is_as_wanted(judge, wanted, answer):
         return number == judge.number({"trailing": "TRAILING_DATA", "length": "LENGTH"}[wanted])
     if wanted == "refused":
         return 10 <= number < 30
-    read = map(judge.number, ("DONE", "UNSUPPORTED", "OTHER_NAMESPACE"))
+    read = map(judge.number, ("DONE", "UNSUPPORTED", "OTHER_NAMESPACE", "SIGNER_NOT_ALLOWED"))
     return number in read or wanted != "read" and 10 <= number < 30
 
 
@@ -106,3 +107,4 @@ def check_calls(judge):
     check_entry_calls(judge)
     check_users(judge)
     check_hosts(judge)
+    check_signers(judge)

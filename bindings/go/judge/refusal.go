@@ -52,6 +52,8 @@ var meanings = map[error]string{
 	sshkey.ErrHostRevoked:        "revoked",
 	sshkey.ErrHostUnreadable:     "a line that may revoke it and can't be read",
 	sshkey.ErrHostUnknown:        "no authority of the host",
+	sshkey.ErrSignerNotAllowed:   "no allowed signer",
+	sshkey.ErrSignerRevoked:      "revoked or no file that can be read",
 	ErrNotForUsers:               "not for users",
 	ErrNobodyListed:              "no principals",
 	ErrUnmetOption:               "a critical option that is not known or not met",

@@ -9,6 +9,7 @@ import (
 	_ "crypto/sha512" // for crypto.SHA512
 	"encoding/binary"
 	"math"
+	"time"
 )
 
 // question is what a call writes, which is given a room of that length at first.
@@ -173,6 +174,33 @@ func sshsigFields(signature []byte) ([][]byte, error) {
 		return nil, err
 	}
 	return Strings(normal[sshsigFront:])
+}
+
+// SignerVerdict gives nil exactly if an SSH signature counts as the identity's in that namespace,
+// by a text of allowed signers, at that time, as `ssh-keygen -Y verify` says, or more strictly
+// (docs/CALLING.md). revoked is what the file of its -r has, a list or keys, and empty where there
+// is none. isVerified is what the verifier said of the question of this signature, in the namespace
+// and of the message.
+//
+// It fails with ErrSignerNotAllowed, ErrSignerRevoked or ErrNotSigned, the first that holds: ask
+// with false first, and verify only where it fails with the last. It fails with a Status for bytes
+// that are no signature, with ErrText for a text that is not UTF-8, with ErrInvalidTime for a time
+// before 1970, and with ErrMemory.
+func SignerVerdict(
+	signers, identity, namespace string, signature []byte, now time.Time, revoked []byte,
+	isVerified bool,
+) error {
+	if now.Unix() < 0 {
+		return ErrInvalidTime
+	}
+	by, whose, space := inputOf(signers), inputOf(identity), inputOf(namespace)
+	in, list, yes := inputOf(signature), inputOf(revoked), C.uint32_t(0)
+	if isVerified {
+		yes = 1
+	}
+	return errorOf(C.sshkey_signer_verdict(by.pointer(), by.length(), whose.pointer(),
+		whose.length(), space.pointer(), space.length(), in.pointer(), in.length(),
+		C.uint64_t(now.Unix()), list.pointer(), list.length(), yes))
 }
 
 // ---- normal forms

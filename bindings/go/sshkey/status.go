@@ -61,7 +61,7 @@ const (
 // What is wrong first with a certificate that is not valid, and why nothing is asked of a
 // signature.
 const (
-	// ErrNotSigned is for a certificate that the verifier did not take.
+	// ErrNotSigned is for a certificate or a signature that the verifier did not take.
 	ErrNotSigned Status = C.SSHKEY_NOT_SIGNED
 	// ErrUntrustedAuthority is for one that none of the authorities signed.
 	ErrUntrustedAuthority Status = C.SSHKEY_UNTRUSTED_AUTHORITY
@@ -73,6 +73,11 @@ const (
 	ErrUnlistedPrincipal Status = C.SSHKEY_UNLISTED_PRINCIPAL
 	// ErrUnsupported is for a key and a signature that do not go together.
 	ErrUnsupported Status = C.SSHKEY_UNSUPPORTED
+	// ErrSignerNotAllowed is for an SSH signature whose key no line lets sign for the identity, in
+	// the namespace and at the time.
+	ErrSignerNotAllowed Status = C.SSHKEY_SIGNER_NOT_ALLOWED
+	// ErrSignerRevoked is for one whose key is revoked, or by a revocation file that can't be read.
+	ErrSignerRevoked Status = C.SSHKEY_SIGNER_REVOKED
 	// ErrOtherNamespace is for an SSH signature that is for another namespace.
 	ErrOtherNamespace Status = C.SSHKEY_OTHER_NAMESPACE
 )

@@ -9,7 +9,7 @@ Cryptography is yours. A certificate takes two calls, with your verification bet
 
 It is valid exactly if `status == Status.DONE`; any other says what is wrong first. An SSH signature takes one call: it is valid
 exactly if sshsig_question gives a question, your verification of it says yes, and the signer is one that you trust for that
-namespace; sshsig_question_of_digest takes the digest of the message.
+namespace, by signer_verdict for example; sshsig_question_of_digest takes the digest of the message.
 
 Each call says what it raises: Refused, which is a ValueError, for bytes that are not what they have to be, and MemoryError, of
 which nothing follows about them. All raise TypeError for a text in place of bytes and for a number that is not whole, and
@@ -30,7 +30,7 @@ from ._certificates import (
     options,
     validate_certificate,
 )
-from ._files import authority_verdict, authorized_entry, entry_lines, entry_options, host_verdict, known_host
+from ._files import authority_verdict, authorized_entry, entry_lines, entry_options, host_verdict, known_host, signer_verdict
 from ._keys import (
     fingerprint,
     fingerprint_sha512,
@@ -77,5 +77,5 @@ __all__ = [
     "entry_lines", "entry_options", "fingerprint", "fingerprint_sha512", "fingerprint_sha512_text", "fingerprint_text",
     "host_verdict", "join_certificate", "known_host", "krl_revokes_certificate", "krl_revokes_key", "make_certificate",
     "normal_certificate", "normal_key", "normal_signature", "normal_sshsig", "options", "read_line", "signature_question",
-    "sshsig_hash", "sshsig_question", "sshsig_question_of_digest", "sshsig_reserved", "string", "strings", "validate_certificate",
+    "signer_verdict", "sshsig_hash", "sshsig_question", "sshsig_question_of_digest", "sshsig_reserved", "string", "strings", "validate_certificate",
 ]  # fmt: skip

@@ -1,4 +1,4 @@
-"""Lines of authorized_keys and known_hosts, and what known_hosts says of a key."""
+"""Lines of authorized_keys and known_hosts, and what known_hosts says of a key and a file of allowed signers of a signature."""
 from __future__ import annotations
 
 import ctypes
@@ -90,3 +90,23 @@ def authority_verdict(known_hosts: BytesLike, host: str | BytesLike, port: int, 
     HOST_REVOKED, the certificate has to be one for hosts, without critical options, and valid by that authority for the host's
     name in small letters. `validate_host` of examples/check.py asks all of it, of several files (docs/FOREIGN.md)."""
     return _judged(LIBRARY.sshkey_authority_verdict, known_hosts, host, port, key)
+
+
+def signer_verdict(
+    signers: BytesLike, identity: str | BytesLike, namespace: str | BytesLike, signature: BytesLike, unix_timestamp: int,
+    revoked: BytesLike, is_verified: bool,
+) -> Status:  # fmt: skip
+    """Status.DONE exactly if an SSH signature (what stands in its armour, decoded) counts as the identity's in that namespace, by
+    a text of allowed signers, at that second, as `ssh-keygen -Y verify` says, or more strictly (docs/CALLING.md). `revoked` is
+    what the file of its -r has, a list or keys, and b"" where there is none. `is_verified` is your answer to the question of this
+    signature, in the namespace and of the message (sshsig_question, sshsig_question_of_digest).
+
+    Else SIGNER_NOT_ALLOWED, SIGNER_REVOKED or NOT_SIGNED, the first that holds. Ask with False first: only where that is
+    NOT_SIGNED there is something to verify. Raises Refused where the bytes are no signature, or a text is not UTF-8, and
+    MemoryError."""
+    texts = (*bytes_of(signers), *text_of(identity), *text_of(namespace), *bytes_of(signature))
+    second, given = number_of(unix_timestamp, 64), bytes_of(revoked)
+    status = Status(LIBRARY.sshkey_signer_verdict(*texts, second, *given, 1 if is_verified is True else 0))
+    if status < Status.NOT_SIGNED:
+        done(status)
+    return status

@@ -135,6 +135,7 @@ CALLS = {
     "sshkey_fingerprint_text": (ctypes.POINTER(Sha256), *ROOM),
     "sshkey_sshsig_question": (*BYTES, *BYTES, *BYTES, *ROOM, ctypes.POINTER(Question), ctypes.POINTER(Sha256)),
     "sshkey_sshsig_question_of_digest": (*BYTES, *BYTES, *BYTES, *ROOM, ctypes.POINTER(Question), ctypes.POINTER(Sha256)),
+    "sshkey_signer_verdict": (*BYTES, *BYTES, *BYTES, *BYTES, ctypes.c_uint64, *BYTES, ctypes.c_uint32),
     "sshkey_read_line": (*BYTES, *ROOM, ctypes.POINTER(Line)),
     "sshkey_fingerprint_sha512": (*BYTES, ctypes.POINTER(Sha512)),
     "sshkey_fingerprint_sha512_text": (ctypes.POINTER(Sha512), *ROOM),

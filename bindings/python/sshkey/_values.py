@@ -46,6 +46,8 @@ class Status(enum.IntEnum):
     HOST_UNREADABLE = 51
     HOST_CHANGED = 52
     HOST_UNKNOWN = 53
+    SIGNER_NOT_ALLOWED = 55
+    SIGNER_REVOKED = 56
     NOT_REVOKED = 60
 
     def __bool__(self) -> NoReturn:

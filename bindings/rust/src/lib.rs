@@ -73,8 +73,8 @@ pub use questions::{Algorithm, Question};
 pub use refusal::Refusal;
 pub use revocations::{krl_revokes_certificate, krl_revokes_key};
 pub use sshsigs::{
-    judge_sshsig, judge_sshsig_of_digest, sshsig_hash, sshsig_question, sshsig_question_of_digest,
-    sshsig_reserved, HashAlgorithm,
+    judge_sshsig, judge_sshsig_of_digest, signer_verdict, sshsig_hash, sshsig_question,
+    sshsig_question_of_digest, sshsig_reserved, HashAlgorithm,
 };
 pub use status::Status;
 pub use strings::{string, strings, Strings};

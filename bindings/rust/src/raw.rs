@@ -204,6 +204,10 @@ calls! {
         signature: &[u8], name_space: &[u8], digest: &[u8], room: &mut [u8],
         answer: &mut Question, signer: &mut Sha256
     );
+    fn sshkey_signer_verdict(
+        signers: &[u8], identity: &[u8], name_space: &[u8], signature: &[u8], unix_timestamp: u64,
+        revoked: &[u8], is_verified: u32
+    );
     fn sshkey_key_normal(key: &[u8], room: &mut [u8], length: &mut usize);
     fn sshkey_certificate_normal(certificate: &[u8], room: &mut [u8], length: &mut usize);
     fn sshkey_sshsig_normal(signature: &[u8], room: &mut [u8], length: &mut usize);

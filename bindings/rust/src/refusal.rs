@@ -75,6 +75,8 @@ fn meaning(status: Status) -> &'static str {
         Status::HOST_REVOKED => "revoked",
         Status::HOST_UNREADABLE => "a line that may revoke it and can't be read",
         Status::HOST_UNKNOWN => "no authority of the host",
+        Status::SIGNER_NOT_ALLOWED => "no allowed signer",
+        Status::SIGNER_REVOKED => "revoked or no file that can be read",
         _ => "not in its format",
     }
 }

@@ -85,7 +85,7 @@ statuses! {
     UNSUPPORTED_VERSION = 22;
     /// Another fault, which no call tells.
     OTHER_FAULT = 23;
-    /// The certificate raises no question, or its signature was not verified.
+    /// The certificate or the signature raises no question, or was not verified.
     NOT_SIGNED = 30;
     /// The key that signed is none of those that are trusted.
     UNTRUSTED_AUTHORITY = 31;
@@ -111,6 +111,10 @@ statuses! {
     HOST_CHANGED = 52;
     /// No line without a marker is for the host.
     HOST_UNKNOWN = 53;
+    /// No line lets the signature's key sign for the identity, in the namespace and at the time.
+    SIGNER_NOT_ALLOWED = 55;
+    /// The signature's key is revoked, or the revocation file cannot be read.
+    SIGNER_REVOKED = 56;
     /// The list does not revoke it. No function of this crate fails with it.
     NOT_REVOKED = 60;
 }

@@ -109,6 +109,7 @@ var answers = map[string]func(of []string) ([]string, error){
 // said are whole answers, without a 0.
 var said = map[string]func(of []string) string{
 	"validate": validate, "user": user, "host-certificate": hostCertificate, "verdict": verdict,
+	"signer": signer,
 }
 
 func main() {
@@ -279,6 +280,11 @@ func verdict(of []string) string {
 	known, host, key, port := text(of[0]), text(of[1]), data(of[2]), uint16(number(of[3]))
 	ofHost := sshkey.HostVerdict(known, host, port, key)
 	return numberOf(ofHost) + " " + numberOf(sshkey.AuthorityVerdict(known, host, port, key))
+}
+
+func signer(of []string) string {
+	return numberOf(sshkey.SignerVerdict(text(of[0]), text(of[1]), text(of[2]), data(of[3]),
+		at(of[5]), data(of[4]), of[6] == "1"))
 }
 
 func revoked(yes bool, err error) ([]string, error) {

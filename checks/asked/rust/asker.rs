@@ -255,6 +255,14 @@ fn verdict(given: &[&str]) -> Answer {
     ))
 }
 
+fn signer(given: &[&str]) -> String {
+    let [signers, identity, namespace, signature, revoked] =
+        [0, 1, 2, 3, 4].map(|at| data(given[at]));
+    let (second, yes) = (number(given[5]), given[6] == "1");
+    let (who, space) = (&identity, &namespace);
+    number_of(sshkey::signer_verdict(&signers, who, space, &signature, second, &revoked, yes))
+}
+
 fn revoked(answer: Result<bool, Status>) -> Answer {
     words([u8::from(answer?).to_string()])
 }
@@ -289,6 +297,7 @@ fn answer(question: &str) -> Answer {
         "host" => host(&at(0)),
         "options" => options(&at(0)),
         "verdict" => verdict(given),
+        "signer" => Ok(signer(given)),
         "revokes-key" => revoked(sshkey::krl_revokes_key(&at(0), &at(1))),
         "revokes-certificate" => revoked(sshkey::krl_revokes_certificate(&at(0), &at(1))),
         _ => panic!("no question: {question}"),

@@ -17,6 +17,7 @@ mod parts;
 mod revocation;
 mod sha512;
 mod signature;
+mod signer;
 mod sshsig;
 mod version;
 mod walk;

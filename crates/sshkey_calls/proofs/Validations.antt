@@ -101,7 +101,7 @@ module _ (accepts : Question → Bool) (authorities : List Fingerprint) (t : ℕ
 -- ---- what is not assembled
 
 -- Whether there is a question does not depend on the message.
-same_asking : (b : Bool) (a : Algorithm) (k : Key) (m n : List ℕ) (g : Signature) → model.is_yes (λ _. b) (question_under a k m g) ≡ model.is_yes (λ _. b) (question_under a k n g)
+pub same_asking : (b : Bool) (a : Algorithm) (k : Key) (m n : List ℕ) (g : Signature) → model.is_yes (λ _. b) (question_under a k m g) ≡ model.is_yes (λ _. b) (question_under a k n g)
 same_asking b Algorithm.Dsa (Dsa k) m n g = refl
 same_asking b Algorithm.Dsa _ m n g = refl
 same_asking b (Algorithm.Ecdsa d) (Ecdsa c point) m n g = go (curve_eq c d) refl

@@ -44,4 +44,5 @@ pub use signature::signature_question;
 pub use signed::certificate_make;
 pub use sshsig::{sshsig_question, sshsig_question_of_digest};
 pub use validity::{certificate_validate, certificate_validate_for};
+pub use verification::Verification;
 pub use walk::next_string;

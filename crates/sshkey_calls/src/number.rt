@@ -50,8 +50,8 @@ pub(crate) const PUBLIC_KEY: u32 = 21;
 pub(crate) const UNSUPPORTED_VERSION: u32 = 22;
 /// An error that no call meets.
 pub(crate) const OTHER_FAULT: u32 = 23;
-/// The certificate raises no question, or the verification did not say yes.
-pub(crate) const NOT_SIGNED: u32 = 30;
+/// It raises no question, or the verification did not say yes.
+pub const NOT_SIGNED: u32 = 30;
 /// The key that signed is none of the authorities'.
 pub(crate) const UNTRUSTED_AUTHORITY: u32 = 31;
 /// The time that is asked about is above 2^63 - 1.
@@ -76,6 +76,10 @@ pub const HOST_UNREADABLE: u32 = 51;
 pub const HOST_CHANGED: u32 = 52;
 /// No line without a marker is for the host.
 pub const HOST_UNKNOWN: u32 = 53;
+/// No allowed signer is the key, or not for that identity, there and then.
+pub const SIGNER_NOT_ALLOWED: u32 = 55;
+/// The signer's key is revoked.
+pub const SIGNER_REVOKED: u32 = 56;
 /// The list does not revoke it.
 pub(crate) const NOT_REVOKED: u32 = 60;
 

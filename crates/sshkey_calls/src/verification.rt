@@ -9,14 +9,14 @@ use std::alloc::AllocError;
 
 /// What the caller's verification said about the one question that it was asked.
 #[derive(Clone, Copy, Debug)]
-pub(crate) struct Verification {
+pub struct Verification {
     /// It is a signature.
     pub is_yes: bool,
 }
 
 impl Verification {
     /// What the number says: yes if it is 1, and else no.
-    pub(crate) fn of(is_verified: u32) -> Verification
+    pub fn of(is_verified: u32) -> Verification
         ensures { result.is_yes ≡ is_yes is_verified }
     {
         Verification {

@@ -2,3 +2,4 @@ pub mod Lines
 pub mod Entries
 pub mod Options
 pub mod Verdicts
+pub mod Signers

@@ -1,0 +1,46 @@
+//! Whether an SSH signature counts, by a text of allowed signers.
+
+ghost use Rattle.std.specs.Prelude.{◌≡◌, ◌≢◌, Err};
+ghost use Rattle.std.specs.Str.{IsUtf8};
+ghost use Rattle.allowed_signers.specs.AllowedSigners.{NeedsMemory};
+ghost use Rattle.sshkey_model.specs.Reading.{Fault, whole};
+ghost use Rattle.sshkey_sshsig.specs.SshSignatureReaders.{ssh_signature_value_at};
+ghost use Rattle.sshkey_calls.specs.Numbers.{fault_number};
+ghost use Rattle.sshkey_entry_calls.specs.Signers.{TellsSigner};
+
+use sshkey_entry_calls::signer_verdict;
+use std::alloc::Global;
+
+/// Whether an SSH signature counts as an identity's: `sshkey_entry_calls::signer_verdict`.
+#[unsafe(no_mangle)]
+pub extern "C" fn sshkey_signer_verdict(
+    alloc: Global,
+    signers: &[u8],
+    identity: &[u8],
+    namespace: &[u8],
+    signature: &[u8],
+    unix_timestamp: u64,
+    revoked: &[u8],
+    is_verified: u32,
+) -> u32
+    ensures verdict { IsUtf8 signers.now → IsUtf8 identity.now → IsUtf8 namespace.now
+        → TellsSigner signers.now identity.now namespace.now unix_timestamp revoked.now is_verified
+        signature.now result }
+    ensures fault { IsUtf8 signers.now → IsUtf8 identity.now → IsUtf8 namespace.now
+        → (fault : Fault) → whole ssh_signature_value_at signature.now ≡ Err fault → result ≢ 1
+        → result ≡ fault_number fault }
+    ensures text { (IsUtf8 signers.now → IsUtf8 identity.now → IsUtf8 namespace.now → ⊥)
+        → result ≡ 4 }
+    ensures memory { result ≡ 1 → NeedsMemory signature.now }
+{
+    signer_verdict(
+        alloc,
+        signers,
+        identity,
+        namespace,
+        signature,
+        unix_timestamp,
+        revoked,
+        is_verified,
+    )
+}

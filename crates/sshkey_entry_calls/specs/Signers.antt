@@ -1,0 +1,60 @@
+-- What is answered of an SSH signature, by a text of allowed signers (ssh-keygen(1), ALLOWED
+-- SIGNERS).
+use Rattle.std.specs.Prelude.{◌≡◌, ◌≢◌, ℕ, List, Bool, true, false, Some, Result, Ok, Err, IfErr, IsErrAnd}
+use Rattle.std.specs.Str.{is_utf8}
+use Rattle.allowed_signers.specs.AllowedSigners.{Counts, HasSignature, IsWhy}
+use Rattle.allowed_signers.specs.declared.signers.Refusal.{Refusal}
+use Rattle.allowed_signers.specs.declared.signers.Refusal.TheVariants.{Memory, NoSignature, NotAllowed, NotVerified, Revoked}
+use Rattle.sshkey_base.specs.Acceptance.{SpellsSome}
+use Rattle.sshkey_base.specs.Causes.{NoMemory, cause}
+use Rattle.sshkey_base.specs.declared.encoding.Error.TheVariants.{CharacterEncoding}
+use Rattle.sshkey_base.specs.declared.error.Error.{Error}
+use Rattle.sshkey_base.specs.declared.error.Error.TheVariants.{Encoding}
+use Rattle.sshkey_calls.specs.Validations.{Says, is_yes}
+use Rattle.sshkey_krl.specs.Krls.{krl_format}
+use Rattle.sshkey_krl.specs.Revocations.{unless_read}
+use Rattle.sshkey_model.specs.Reading.{whole}
+use Rattle.sshkey_model.specs.SignedMessages.{signed_by}
+use Rattle.sshkey_model.specs.SshSignatures.{SshSignature}
+use Rattle.sshkey_model.specs.Verification.{Question, question}
+use Rattle.sshkey_revoked_keys.specs.RevokedKeys.{ReadsKrl, ReadsText, begins_krl, revokes_key}
+use Rattle.sshkey_revoked_keys.specs.declared.revoked_keys.RevokedKeys.{RevokedKeys}
+use Rattle.sshkey_sshsig.specs.SshSignatureReaders.{SpellsSshSignature}
+
+abbrev pub verdict_number : Result (Unit {0}) Refusal → ℕ
+verdict_number (Ok x) = 0
+verdict_number (Err Memory) = 1
+verdict_number (Err NoSignature) = 30
+verdict_number (Err NotVerified) = 30
+verdict_number (Err NotAllowed) = 55
+verdict_number (Err Revoked) = 56
+
+-- ---- the revocation file
+
+-- What reading the file gives, for which memory was enough: a list, keys, or an error.
+pub record IsReadOf (file : List ℕ) (read : Result RevokedKeys Error) : Type 0 where
+  pub list : begins_krl file ≡ true → ReadsKrl (whole krl_format.read file) file read
+  pub no_text : begins_krl file ≡ false → is_utf8 file ≡ false → IsErrAnd read (λ e. e ≡ Encoding CharacterEncoding)
+  pub text : begins_krl file ≡ false → is_utf8 file ≡ true → ReadsText file read
+  pub some_memory : IfErr read (λ e. cause e ≢ NoMemory)
+
+-- which keys it revokes: all where it was not read
+abbrev pub revokes_of : Result RevokedKeys Error → List ℕ → Bool
+revokes_of read key = unless_read (λ it. revokes_key it key) read
+
+-- ---- the verdict
+
+-- That verifier says so about the question of the signature that the bytes spell, as one of the
+-- message, if it raises one, and may say anything about all others.
+abbrev pub SaysOf : (Question → Bool) → List ℕ → List ℕ → ℕ → Type 0
+SaysOf accepts bytes message is_verified = (f : SshSignature) → SpellsSshSignature f bytes → (q : Question) → question f.key (signed_by f message) f.signature ≡ Some q → accepts q ≡ is_yes is_verified
+
+-- 0 says exactly that the signature counts, and another number what is wrong first; 1 is memory.
+pub record IsJudged (accepts : Question → Bool) (revokes : List ℕ → Bool) (signers identity namespace message : List ℕ) (time : ℕ) (bytes : List ℕ) (n : ℕ) : Type 0 where
+  pub counts : Says (HasSignature bytes (Counts accepts revokes signers identity namespace message time)) n
+  pub first : n ≢ 0 → n ≢ 1 → (r : Refusal) × IsWhy accepts revokes signers identity namespace message time bytes r × (n ≡ verdict_number (Err r))
+
+-- For bytes that spell a signature the number says this, memory aside, of each message of which the
+-- verification said so.
+abbrev pub TellsSigner : List ℕ → List ℕ → List ℕ → ℕ → List ℕ → ℕ → List ℕ → ℕ → Type 0
+TellsSigner signers identity namespace time revoked is_verified bytes n = SpellsSome SpellsSshSignature bytes → n ≢ 1 → (read : Result RevokedKeys Error) × IsReadOf revoked read × ((accepts : Question → Bool) (message : List ℕ) → SaysOf accepts bytes message is_verified → IsJudged accepts (revokes_of read) signers identity namespace message time bytes n)
