@@ -66,6 +66,7 @@ MEANING = {
     Refusal.REVOKED: "revoked or no list that can be read",
     Status.HOST_REVOKED: "revoked", Status.HOST_UNREADABLE: "a line that may revoke it and can't be read",
     Status.HOST_UNKNOWN: "no authority of the host", Status.OTHER_NAMESPACE: "another namespace",
+    Status.SIGNER_NOT_ALLOWED: "no allowed signer", Status.SIGNER_REVOKED: "revoked or no file that can be read",
     Status.UNSUPPORTED: "key and signature do not go together",
 }  # fmt: skip
 # a key revocation list that revokes nothing (PROTOCOL.krl), for who has none: a list of no bytes lets nobody in

@@ -375,6 +375,8 @@ const char *judge_meaning(uint32_t answer) {
   case SSHKEY_HOST_REVOKED: return "revoked";
   case SSHKEY_HOST_UNREADABLE: return "a line that may revoke it and can't be read";
   case SSHKEY_HOST_UNKNOWN: return "no authority of the host";
+  case SSHKEY_SIGNER_NOT_ALLOWED: return "no allowed signer";
+  case SSHKEY_SIGNER_REVOKED: return "revoked or no file that can be read";
   default: return "not in its format";
   }
 }

@@ -19,11 +19,14 @@ static const char help[] =
     "usage: sshkey-check [FILE]\n"
     "       sshkey-check --ca FILE [--user NAME] [--at SECOND] [--revoked FILE] [FILE]\n"
     "       sshkey-check verify -k KEYS -n NAMESPACE -s SIGNATURE [FILE]\n"
+    "       sshkey-check verify -f SIGNERS -I IDENTITY -n NAMESPACE -s SIGNATURE [-r REVOKED]\n"
+    "                           [--at SECOND] [FILE]\n"
     "\n"
     "The first shows each certificate of FILE, or of standard input, as ssh-keygen -L does. The\n"
     "second says of each whether it is valid by an authority of the file, for logins as NAME, at\n"
     "that second since 1970, or else now. The third says whether the signature of ssh-keygen -Y\n"
-    "sign is one of FILE in the namespace by a key of the file KEYS.\n"
+    "sign is one of FILE in the namespace by a key of the file KEYS, and the fourth whether it is\n"
+    "the identity's by the file of allowed signers, as ssh-keygen -Y verify does.\n"
     "Status 0: all is shown, or valid; 1: not all, as standard error says; 2: it can't tell.\n";
 
 enum { VALID = 0, INVALID = 1, UNTOLD = 2 };
@@ -34,9 +37,11 @@ typedef struct {
   const char *authorities, *user, *at;       /* null where they are not given */
   const char *revoked;                       /* likewise */
   const char *keys, *name_space, *signature; /* likewise */
+  const char *signers;                       /* likewise */
+  judge_signers allowed;
   bool is_verify;
   judge_authorities by;
-  judge_blob list; /* of what is revoked */
+  judge_blob list; /* of what is revoked; of a signature likewise a text of keys */
   uint64_t second;
   size_t count; /* of the lines that are answered */
   bool is_valid;
@@ -133,7 +138,10 @@ static int verify_file(judge_blob signature, FILE *file, const request *asked) {
     program_complain("%s: %s", path_of(asked), strerror(errno));
     return UNTOLD;
   }
-  uint32_t answer = judge_sshsig_of_digest(signature, asked->name_space, digest, asked->by);
+  uint32_t answer =
+      asked->signers
+          ? judge_signer_of_digest(signature, asked->name_space, digest, &asked->allowed)
+          : judge_sshsig_of_digest(signature, asked->name_space, digest, asked->by);
   if (answer == SSHKEY_MEMORY) {
     program_complain("%s", judge_meaning(answer));
     return UNTOLD;
@@ -161,6 +169,13 @@ static int verify_text(judge_blob text, FILE *file, const request *asked) {
 
 /* ---- what is asked */
 
+/* Reads the file where one is named; false, with a word to standard error, where it can't. */
+static bool read_named(const char *path, judge_blob *answer) {
+  if (!path || judge_read_file(path, answer)) return true;
+  program_complain("%s: %s", path, strerror(errno));
+  return false;
+}
+
 /* The number of the digits; false where there is another character, none, or too many. */
 static bool read_second(const char *word, uint64_t *answer) {
   char *end = NULL;
@@ -177,10 +192,10 @@ static int answer_request(request *asked) {
     return UNTOLD;
   }
   if (keys && !program_read_keys(keys, read_authority, &asked->by)) return UNTOLD;
-  if (asked->revoked && !judge_read_file(asked->revoked, &asked->list)) {
-    program_complain("%s: %s", asked->revoked, strerror(errno));
-    return UNTOLD;
-  }
+  if (!read_named(asked->revoked, &asked->list)) return UNTOLD;
+  if (!read_named(asked->signers, &asked->allowed.text)) return UNTOLD;
+  asked->allowed.unix_timestamp = asked->second;
+  asked->allowed.revoked = asked->list;
   FILE *file = asked->path ? fopen(asked->path, "rb") : stdin;
   const char *path = asked->is_verify ? asked->signature : path_of(asked);
   int status = UNTOLD;
@@ -202,11 +217,12 @@ static bool read_words(int count, char **words, request *asked) {
       {"at", required_argument, NULL, 'a'},        {"keys", required_argument, NULL, 'k'},
       {"revoked", required_argument, NULL, 'r'},
       {"namespace", required_argument, NULL, 'n'}, {"signature", required_argument, NULL, 's'},
+      {"signers", required_argument, NULL, 'f'},   {"identity", required_argument, NULL, 'I'},
       {NULL, 0, NULL, 0}};
   asked->is_verify = count > 1 && !strcmp(words[1], "verify");
   optind = asked->is_verify ? 2 : 1;
   opterr = 0;
-  const char *letters = asked->is_verify ? "k:n:s:" : "";
+  const char *letters = asked->is_verify ? "k:n:s:f:I:r:" : "";
   for (int letter; (letter = getopt_long(count, words, letters, options, NULL)) != -1;) {
     const char **to = letter == 'c'   ? &asked->authorities
                       : letter == 'u' ? &asked->user
@@ -214,17 +230,21 @@ static bool read_words(int count, char **words, request *asked) {
                       : letter == 'r' ? &asked->revoked
                       : letter == 'k' ? &asked->keys
                       : letter == 'n' ? &asked->name_space
+                      : letter == 'f' ? &asked->signers
+                      : letter == 'I' ? &asked->allowed.identity
                                       : &asked->signature;
     if (letter == '?' || *to) return false;
     *to = optarg;
   }
   if (optind < count && strcmp(words[optind], "-")) asked->path = words[optind];
-  const char *of_login = asked->user ? asked->user : asked->at ? asked->at : asked->revoked;
   if (count - optind > 1) return false;
+  bool is_bound = asked->at || asked->revoked;
+  bool is_signers = asked->signers && asked->allowed.identity;
   if (asked->is_verify)
-    return asked->keys && asked->name_space && asked->signature && !asked->authorities && !of_login;
-  return !asked->keys && !asked->name_space && !asked->signature &&
-         (asked->authorities || !of_login);
+    return asked->name_space && asked->signature && !asked->authorities && !asked->user &&
+           (asked->keys ? !asked->signers && !asked->allowed.identity && !is_bound : is_signers);
+  return !asked->keys && !asked->name_space && !asked->signature && !asked->signers &&
+         !asked->allowed.identity && (asked->authorities || !(asked->user || is_bound));
 }
 
 int main(int count, char **words) {
@@ -241,6 +261,7 @@ int main(int count, char **words) {
   else
     fputs(help, stderr);
   free(asked.by.keys);
+  free(asked.allowed.text.bytes);
   if (asked.revoked && asked.list.bytes != judge_no_revocations.bytes) free(asked.list.bytes);
   return status;
 }

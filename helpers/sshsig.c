@@ -91,8 +91,9 @@ static uint32_t judge_signer(const sshkey_sha256 *signer, judge_authorities keys
   return JUDGE_OTHER_KEY;
 }
 
-uint32_t judge_sshsig_of_digest(judge_blob signature, const char *name_space, judge_blob digest,
-                                judge_authorities keys) {
+/* SSHKEY_DONE where the signature is verified, and by one of the keys, if some are given. */
+static uint32_t judge_question(judge_blob signature, const char *name_space, judge_blob digest,
+                               const judge_authorities *keys) {
   /* a room of this length is enough */
   size_t room_length = 2 * signature.length + 256;
   uint8_t *room = calloc(1, room_length);
@@ -103,10 +104,34 @@ uint32_t judge_sshsig_of_digest(judge_blob signature, const char *name_space, ju
   uint32_t answer = sshkey_sshsig_question_of_digest(
       signature.bytes, signature.length, (const uint8_t *)name_space, strlen(name_space),
       digest.bytes, digest.length, room, room_length, &question, &signer);
-  if (answer == SSHKEY_DONE) answer = judge_signer(&signer, keys);
+  if (answer == SSHKEY_DONE && keys) answer = judge_signer(&signer, *keys);
   if (answer == SSHKEY_DONE &&
       (string_of(signature, RESERVED).length || !judge_is_signature(&question, room)))
     answer = SSHKEY_NOT_SIGNED;
   free(room);
   return answer;
+}
+
+uint32_t judge_sshsig_of_digest(judge_blob signature, const char *name_space, judge_blob digest,
+                                judge_authorities keys) {
+  return judge_question(signature, name_space, digest, &keys);
+}
+
+/* Whether it counts, where that is what the verification said. */
+static uint32_t judge_allowed(judge_blob signature, const char *name_space,
+                              const judge_signers *by, bool is_verified) {
+  return sshkey_signer_verdict(
+      sshkey_bytes(by->text.bytes), by->text.length, (const uint8_t *)by->identity,
+      strlen(by->identity), (const uint8_t *)name_space, strlen(name_space), signature.bytes,
+      signature.length, by->unix_timestamp, sshkey_bytes(by->revoked.bytes), by->revoked.length,
+      is_verified);
+}
+
+uint32_t judge_signer_of_digest(judge_blob signature, const char *name_space, judge_blob digest,
+                                const judge_signers *by) {
+  /* no cryptography runs over a key that may not sign */
+  uint32_t answer = judge_allowed(signature, name_space, by, false);
+  if (answer != SSHKEY_NOT_SIGNED) return answer;
+  answer = judge_question(signature, name_space, digest, NULL);
+  return answer == SSHKEY_DONE ? judge_allowed(signature, name_space, by, true) : answer;
 }

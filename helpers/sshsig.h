@@ -20,4 +20,17 @@ size_t judge_digest_length(judge_blob signature);
 uint32_t judge_sshsig_of_digest(judge_blob signature, const char *name_space, judge_blob digest,
                                 judge_authorities keys);
 
+/* By whom a signature has to be, as `ssh-keygen -Y verify` asks. */
+typedef struct {
+  judge_blob text;         /* that of a file of allowed signers */
+  const char *identity;    /* one of those whom it names */
+  uint64_t unix_timestamp; /* when that is */
+  judge_blob revoked;      /* a key revocation list, or keys, one a line; no bytes revoke nothing */
+} judge_signers;
+
+/* The same, as the identity's by allowed signers: SSHKEY_DONE, or what is wrong first, a number of
+ * SSHKEY_*. */
+uint32_t judge_signer_of_digest(judge_blob signature, const char *name_space, judge_blob digest,
+                                const judge_signers *by);
+
 #endif

@@ -3,6 +3,7 @@ against check.py, and whether signatures are against `ssh-keygen -Y verify`."""
 import os
 import random
 import re
+import time
 
 from lib.harness import ROOT, line_of, ssh_keygen, string
 from lib.signatures import armoured, ssh_signature_over
@@ -17,6 +18,24 @@ KINDS = ("ed25519", "ecdsa -b 256", "ecdsa -b 384", "ecdsa -b 521", "rsa -b 2048
 # of how many hostile byte strings the programs for sshd are given one
 HOSTILE_WORDS = 150
 WINDOWS = ("always:forever", "20240101:forever", "always:20240101000000", "20240101000000:20240201000000")
+# lines of allowed signers with a signature by {key} of "a text" in SPACE, what it is asked about, what is revoked, and what is said at
+# the middle of a window
+NOBODY, REVOKED = "no allowed signer (55)", "revoked or no file that can be read (56)"
+ALLOWED = [
+    ("as it is", "alice {key}", {}, None, "valid"), ("of one of two", "bob,alice {key}", {}, None, "valid"),
+    ("of another text", "alice {key}", {"text": "a texts"}, None, "not signed (30)"),
+    ("in another namespace", "alice {key}", {"space": "git"}, None, "another namespace (41)"),
+    ("of somebody else", "alice {key}", {"who": "bob"}, None, NOBODY), ("by another key", "alice {other}", {}, None, NOBODY),
+    ("by nobody", "# alice {key}", {}, None, NOBODY), ("by an authority", "alice cert-authority {key}", {}, None, NOBODY),
+    ("in its namespace", f'alice namespaces="{SPACE}" {{key}}', {}, None, "valid"),
+    ("by a key for another namespace", 'alice namespaces="git" {key}', {}, None, NOBODY),
+    ("within its time", 'alice valid-after="20240101Z",valid-before="20240201Z" {key}', {}, None, "valid"),
+    ("before its time", 'alice valid-after="20240201Z" {key}', {}, None, NOBODY),
+    ("after its time", 'alice valid-before="20240101Z" {key}', {}, None, NOBODY),
+    ("while another key is revoked", "alice {key}", {}, "{other}", "valid"), ("by a revoked key", "alice {key}", {}, "{key}", REVOKED),
+    ("by a revoked key of nobody", "bob {key}", {}, "{key}", NOBODY),
+    ("while a line revokes no key", "alice {key}", {}, "ssh-ed25519 AAAA", REVOKED),
+]  # fmt: skip
 # texts of a certificate that a terminal would take for commands, and how they are shown
 HOSTILE = ("\x1b[2J\x7f\x80\u0085\nx\\y\xa0\u00a9", "\\033[2J\\177\\302\\200\\302\\205\\012x\\134y\xa0\u00a9")
 
@@ -108,6 +127,31 @@ def check_signature(count, programs, maker, name, signature, words, text, wanted
             count.check(f"sshkey-check, a signature {name}", same, ran)
 
 
+def check_allowed(count, programs, maker):
+    """A signature counts as an identity's exactly where ssh-keygen says so, by a text of revoked keys and by a list of them."""
+    keys = {"key": maker.read("shown0.pub"), "other": maker.read("shown1.pub")}
+    path = maker.write("armour.sig", armoured(maker.signature("shown0", "a text", SPACE)))
+    at = time.strftime("verify-time=%Y%m%d%H%M%SZ", time.gmtime(MIDDLE))
+    for name, line, asked, revoked, wanted in ALLOWED:
+        words = ["-f", maker.write("signers", line.format(**keys) + "\n"), "-I", asked.get("who", "alice")]
+        words += ["-n", asked.get("space", SPACE), "-s", path]
+        files, text, is_valid = [[]], asked.get("text", "a text"), wanted == "valid"
+        if revoked:
+            file = maker.write("revoked", f"# revoked\n{revoked.format(**keys)}\n")
+            files = [["-r", file]]
+        if revoked and revoked.startswith("{"):
+            ssh_keygen("-q", "-k", "-f", maker.path("revoked.krl"), file)
+            files += [["-r", maker.path("revoked.krl")]]
+        for more in files:
+            judged = run(["ssh-keygen", "-Y", "verify", "-O", at, *words, *more], input=text).returncode == 0
+            count.check(f"ssh-keygen, a signature {name}, by {more or 'no file'}", judged == is_valid, judged)
+            said = ("valid\n", "") if is_valid else ("refused\n", f"sshkey-check: {path}: {wanted}\n")
+            for program in programs:
+                ran = run([program, "verify", *words, *more, "--at", str(MIDDLE)], input=text)
+                same = (ran.returncode, (ran.stdout, ran.stderr)) == (VALID if is_valid else INVALID, said)
+                count.check(f"sshkey-check, a signature {name}", same, ran)
+
+
 def check_hostile_signatures(count, programs, maker):
     """Turned, cut and drawn bytes in an armour are no valid signature, and read nothing that is not theirs."""
     draw, signature = random.Random(69), maker.signature("shown0", "a text", SPACE)
@@ -171,14 +215,18 @@ def check_words(count, programs, maker):
         ran = run([f"{folder}/{name}", "--other"])
         count.check(f"{name} --other", ran.returncode == status and not ran.stdout and ran.stderr, ran)
     signed = ["-k", key, "-n", SPACE, "-s", key]
+    allowed = ["verify", "-f", key, "-I", "alice", *signed[2:]]
     for words in (
+        allowed[:3] + allowed[5:], [*allowed[:1], *allowed[3:]], [*allowed, "-k", key], [*allowed, "--user", "alice"], allowed[1:],
+        ["verify", *signed, "-r", key], ["verify", *signed, "--at", "1"],
         [key, key], ["--user", "alice"], ["--at", "1"], ["--ca"], ["--ca", ca, "--ca", ca], ["--ca", ca, "--keys", key], signed,
         ["verify"], ["verify", *signed[:4]], ["verify", *signed, "--ca", ca], ["verify", *signed, key, key], ["verify", "--help"],
     ):  # fmt: skip
         ran = run([programs[0], *words], input="")
         same = ran.returncode == UNTOLD and ran.stderr.startswith("usage: ") and not ran.stdout
         count.check(f"sshkey-check {' '.join(map(os.path.basename, words))} is no call", same, ran)
-    for words in (["verify", *signed[:4], "-s", maker.path("none")], ["verify", "-k", maker.folder, *signed[2:]], [maker.path("none")]):
+    for words in (["verify", *signed[:4], "-s", maker.path("none")], ["verify", "-k", maker.folder, *signed[2:]], [*allowed, "-r", maker.path("none")],
+                  ["verify", "-f", maker.path("none"), *allowed[3:]], [maker.path("none")]):
         ran = run([programs[0], *words], input="")
         count.check(f"sshkey-check can't tell of {words[-1]}", ran.returncode == UNTOLD and ran.stderr.count("\n") == 1, ran)
 
@@ -188,6 +236,7 @@ def check_checker(count, built, made):
     programs = [f"{it}/sshkey-check" for it in (built.plain, built.sanitized)]
     check_shown(count, programs, maker)
     check_verified(count, programs, maker)
+    check_allowed(count, programs, maker)
     check_hostile_signatures(count, programs, maker)
     check_hostile_words(count, built, made)
     check_words(count, programs, maker)
