@@ -1,15 +1,13 @@
 //! What has to be verified of a certificate, and whether it is valid.
 
-ghost use Rattle.std.specs.Prelude.{◌≡◌, ◌≢◌, Bool, Err};
+ghost use Rattle.std.specs.Prelude.{◌≡◌, Bool, Err};
 ghost use Rattle.std.specs.Str.{IsUtf8};
-ghost use Rattle.sshkey_base.specs.Acceptance.{SpellsSome};
-ghost use Rattle.sshkey_cert.specs.CertificateReaders.{SpellsCertificate};
 ghost use Rattle.sshkey_model.specs.Certificates.{certificate_at};
 ghost use Rattle.sshkey_model.specs.Reading.{Fault, whole};
 ghost use Rattle.sshkey_model.specs.Verification.{Question as TheQuestion};
 ghost use Rattle.sshkey_calls.specs.Fields.{GivesFields};
 ghost use Rattle.sshkey_calls.specs.Numbers.{fault_number};
-ghost use Rattle.sshkey_calls.specs.Questions.{GivesQuestion, RaisedBy, TellsNone};
+ghost use Rattle.sshkey_calls.specs.Questions.{TellsCertificateQuestion};
 ghost use Rattle.sshkey_calls.specs.Validations.{HasRenamedAuthority, IsGood, IsGoodFor, Says, TellsFirst, TellsFirstFor, Verified, authorities_of};
 
 use sshkey_calls::{
@@ -26,12 +24,8 @@ pub extern "C" fn sshkey_certificate_question(
     room: &mut [u8],
     answer: &mut Question,
 ) -> u32
-    ensures raised { GivesQuestion (RaisedBy certificate.now)
+    ensures { TellsCertificateQuestion certificate.now
         result answer.old answer.new room.old room.new }
-    ensures unsupported { TellsNone certificate.now result }
-    ensures fault { (fault : Fault) → whole certificate_at certificate.now ≡ Err fault
-        → result ≡ fault_number fault }
-    ensures memory { result ≡ 1 → SpellsSome SpellsCertificate certificate.now }
 {
     certificate_question(alloc, certificate, room, answer)
 }
@@ -97,11 +91,7 @@ pub extern "C" fn sshkey_certificate_fields(
     certificate: &[u8],
     answer: &mut CertificateFields,
 ) -> u32
-    ensures fields { GivesFields certificate.now result answer.new }
-    ensures stays { result ≢ 0 → answer.new ≡ answer.old }
-    ensures fault { (fault : Fault) → whole certificate_at certificate.now ≡ Err fault
-        → result ≡ fault_number fault }
-    ensures memory { result ≢ 1 }
+    ensures { GivesFields certificate.now result answer.old answer.new }
 {
     certificate_fields(certificate, answer)
 }

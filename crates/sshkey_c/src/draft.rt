@@ -1,12 +1,9 @@
 //! How a certificate is made.
 
-ghost use Rattle.std.specs.Prelude.{◌≡◌, ◌≢◌, ℕ, List, Err};
+ghost use Rattle.std.specs.Prelude.{◌≡◌, ◌≢◌};
 ghost use Rattle.sshkey_base.specs.Acceptance.{SpellsSome};
 ghost use Rattle.sshkey_keys.specs.Keys.{SpellsKey};
-ghost use Rattle.sshkey_model.specs.Certificates.{certificate_at};
-ghost use Rattle.sshkey_model.specs.Reading.{Fault, whole};
-ghost use Rattle.sshkey_calls.specs.Drafts.{FitsString, IsJoined, IsSigned, IsToBeSigned, TellsWrong, draft_fault};
-ghost use Rattle.sshkey_calls.specs.Numbers.{fault_number};
+ghost use Rattle.sshkey_calls.specs.Drafts.{IsToBeSigned, TellsWrong, WritesSigned, draft_fault};
 ghost use Rattle.sshkey_calls.specs.Writing.{Writes};
 
 use sshkey_calls::{CertificateDraft, certificate_make, certificate_to_be_signed};
@@ -38,12 +35,8 @@ pub extern "C" fn sshkey_certificate_make(
     room: &mut [u8],
     length: &mut usize,
 ) -> u32
-    ensures written { Writes (IsSigned to_be_signed.now signature.now)
+    ensures { WritesSigned to_be_signed.now signature.now
         result length.old length.new room.old room.new }
-    ensures fault { (s : List ℕ) (fault : Fault) → IsJoined to_be_signed.now signature.now s
-        → whole certificate_at s ≡ Err fault → result ≢ 1 → result ≡ fault_number fault }
-    ensures long { (FitsString signature.now → ⊥) → result ≡ 13 }
-    ensures memory { result ≡ 1 → FitsString signature.now }
 {
     certificate_make(alloc, to_be_signed, signature, room, length)
 }

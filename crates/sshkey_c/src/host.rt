@@ -1,11 +1,7 @@
 //! What a text of known_hosts says of a host's key and of the authority that signed it.
 
-ghost use Rattle.std.specs.Prelude.{◌≡◌, Err};
+ghost use Rattle.std.specs.Prelude.{◌≡◌};
 ghost use Rattle.std.specs.Str.{IsUtf8};
-ghost use Rattle.sshkey_base.specs.Acceptance.{SpellsSome};
-ghost use Rattle.sshkey_keys.specs.Keys.{SpellsKey, key_data_at};
-ghost use Rattle.sshkey_model.specs.Reading.{Fault, whole};
-ghost use Rattle.sshkey_calls.specs.Numbers.{fault_number};
 ghost use Rattle.sshkey_entry_calls.specs.Verdicts.{TellsAuthority, TellsVerdict};
 
 use sshkey_entry_calls::{authority_verdict, host_verdict};
@@ -22,10 +18,7 @@ pub extern "C" fn sshkey_host_verdict(
 ) -> u32
     ensures verdict { IsUtf8 known_hosts.now → IsUtf8 host.now
         → TellsVerdict known_hosts.now host.now port key.now result }
-    ensures fault { IsUtf8 known_hosts.now → IsUtf8 host.now → (fault : Fault)
-        → whole key_data_at key.now ≡ Err fault → result ≡ fault_number fault }
     ensures text { (IsUtf8 known_hosts.now → IsUtf8 host.now → ⊥) → result ≡ 4 }
-    ensures memory { result ≡ 1 → SpellsSome SpellsKey key.now }
 {
     host_verdict(alloc, known_hosts, host, port, key)
 }
@@ -42,10 +35,7 @@ pub extern "C" fn sshkey_authority_verdict(
 ) -> u32
     ensures verdict { IsUtf8 known_hosts.now → IsUtf8 host.now
         → TellsAuthority known_hosts.now host.now port key.now result }
-    ensures fault { IsUtf8 known_hosts.now → IsUtf8 host.now → (fault : Fault)
-        → whole key_data_at key.now ≡ Err fault → result ≡ fault_number fault }
     ensures text { (IsUtf8 known_hosts.now → IsUtf8 host.now → ⊥) → result ≡ 4 }
-    ensures memory { result ≡ 1 → SpellsSome SpellsKey key.now }
 {
     authority_verdict(alloc, known_hosts, host, port, key)
 }

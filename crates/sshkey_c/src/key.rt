@@ -1,12 +1,8 @@
 //! Fingerprints of keys.
 
-ghost use Rattle.std.specs.Prelude.{◌≡◌, Err};
-ghost use Rattle.sshkey_keys.specs.Keys.{key_data_at};
 ghost use Rattle.sshkey_model.specs.Fingerprints.{digest_text};
 ghost use Rattle.sshkey_model.specs.Names.{Sha256};
-ghost use Rattle.sshkey_model.specs.Reading.{Fault, whole};
 ghost use Rattle.sshkey_calls.specs.Fingerprints.{GivesDigest, Prints};
-ghost use Rattle.sshkey_calls.specs.Numbers.{fault_number};
 
 use sshkey_calls::{Sha256Digest, fingerprint, fingerprint_text};
 use std::alloc::Global;
@@ -14,9 +10,7 @@ use std::alloc::Global;
 /// The SHA-256 fingerprint of a key: `sshkey_calls::fingerprint`.
 #[unsafe(no_mangle)]
 pub extern "C" fn sshkey_fingerprint(alloc: Global, key: &[u8], answer: &mut Sha256Digest) -> u32
-    ensures fingerprint { GivesDigest Sha256 key.now result answer.old.bytes answer.new.bytes }
-    ensures fault { (fault : Fault) → whole key_data_at key.now ≡ Err fault
-        → result ≡ fault_number fault }
+    ensures { GivesDigest Sha256 key.now result answer.old.bytes answer.new.bytes }
 {
     fingerprint(alloc, key, answer)
 }

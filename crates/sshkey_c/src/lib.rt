@@ -2,7 +2,7 @@
 //! exports.
 //!
 //! Each export, but for those of `version`, makes one call of `sshkey_calls` or of
-//! `sshkey_entry_calls`, whose clauses it states again. In C a slice is a pointer and a length, and
+//! `sshkey_entry_calls`, whose contract it has too. In C a slice is a pointer and a length, and
 //! an allocator is nothing.
 #![tactic(auto)]
 

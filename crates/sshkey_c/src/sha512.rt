@@ -1,12 +1,8 @@
 //! SHA-512 fingerprints of keys.
 
-ghost use Rattle.std.specs.Prelude.{◌≡◌, Err};
-ghost use Rattle.sshkey_keys.specs.Keys.{key_data_at};
 ghost use Rattle.sshkey_model.specs.Fingerprints.{digest_text};
 ghost use Rattle.sshkey_model.specs.Names.{Sha512};
-ghost use Rattle.sshkey_model.specs.Reading.{Fault, whole};
 ghost use Rattle.sshkey_calls.specs.Fingerprints.{GivesDigest, Prints};
-ghost use Rattle.sshkey_calls.specs.Numbers.{fault_number};
 
 use sshkey_calls::{Sha512Digest, fingerprint_sha512, fingerprint_sha512_text};
 use std::alloc::Global;
@@ -18,9 +14,7 @@ pub extern "C" fn sshkey_fingerprint_sha512(
     key: &[u8],
     answer: &mut Sha512Digest,
 ) -> u32
-    ensures fingerprint { GivesDigest Sha512 key.now result answer.old.bytes answer.new.bytes }
-    ensures fault { (fault : Fault) → whole key_data_at key.now ≡ Err fault
-        → result ≡ fault_number fault }
+    ensures { GivesDigest Sha512 key.now result answer.old.bytes answer.new.bytes }
 {
     fingerprint_sha512(alloc, key, answer)
 }

@@ -1,5 +1,5 @@
 -- The digest of the key that bytes spell.
-use Rattle.std.proofs.Common.{◌≡◌, ℕ, List, Ok, Err, refl, arith, subst, sym, ◌∙◌}
+use Rattle.std.proofs.Common.{◌≡◌, ℕ, List, Ok, Err, inl, inr, refl, subst, sym, ◌∙◌}
 use Rattle.sshkey_base.specs.Acceptance.{SpellsSome}
 use Rattle.sshkey_fingerprints.specs.Fingerprints.{digest_of}
 use Rattle.sshkey_fingerprints.specs.declared.fingerprint.Fingerprint.{Fingerprint}
@@ -17,22 +17,13 @@ module _ (h : Hash) (bytes : List ℕ) where
     fingerprint_found f = subst (λ (b : List ℕ). (k : Key) × SpellsKey k b × IsFingerprint h k f) same
 
     pub memory_out : SpellsSome SpellsKey bytes → IsRenamed own → FindsFingerprint h bytes (Err 1)
-    memory_out some renamed = (λ e. omega (arith, e), λ _. (some.0, some.1, (subst IsRenamed same renamed some.0 some.1).1), λ other _ _. other refl)
+    memory_out some renamed = inl (some.0, some.1, (refl, (subst IsRenamed same renamed some.0 some.1).1))
 
   -- the digest of the fingerprint is given
   pub digest_given : (f : Fingerprint) (before after : List ℕ) → FindsFingerprint h bytes (Ok f) → digest_of f ≡ after → GivesDigest h bytes 0 before after
-  digest_given f before after found is = record {
-    given = λ _. (found.0, found.1, sym is ∙ found.2.digest);
-    memory = λ one. absurd (omega (arith, one));
-    none = λ not_zero _ _ _. not_zero refl;
-    stays = λ not_zero. absurd (not_zero refl);
-  }
+  digest_given f before after found is = inl (found.0, found.1, inl (refl, sym is ∙ found.2.digest))
 
   -- or the number, and nothing is written
   pub no_digest : (n : ℕ) (before : List ℕ) → FindsFingerprint h bytes (Err n) → GivesDigest h bytes n before before
-  no_digest n before none = record {
-    given = λ zero_. absurd (none.0 zero_);
-    memory = none.1;
-    none = λ _. none.2;
-    stays = λ _. refl;
-  }
+  no_digest n before (inl known) = inl (known.0, known.1, inr (known.2, refl))
+  no_digest n before (inr faulty) = inr (faulty.0, faulty.1, faulty.2, refl)

@@ -1,12 +1,12 @@
 pub mod Kept
 pub mod Rooms
+pub mod Outcomes
 pub mod Strings
 pub mod Questions
 pub mod Digests
 pub mod SshSignatures
 pub mod Validations
 pub mod KeyLines
-pub mod NormalForms
 pub mod Signatures
 pub mod Options
 pub mod OptionValues

@@ -1,26 +1,24 @@
--- The one SSH signature that bytes spell.
-use Rattle.std.proofs.Common.{◌≡◌, ℕ, List, [], refl, subst}
+-- Bytes that spell no SSH signature.
+use Rattle.std.proofs.Common.{◌≡◌, ◌≢◌, ℕ, List, Result, Ok, Err, inl, inr, refl}
+use Rattle.sshkey_model.specs.Reading.{Fault, whole}
 use Rattle.sshkey_model.specs.SshSignatures.{SshSignature}
-use Rattle.sshkey_model.specs.Verification as model
-use Rattle.sshkey_model.proofs.Grammars.{one_front}
-use Rattle.sshkey_sshsig.specs.SshSignatureReaders.{SpellsSshSignature, ssh_signature_grammar}
-use Rattle.sshkey_calls.specs.Questions.{GivesQuestion}
-use Rattle.sshkey_calls.specs.SshSignatures.{IsFoundIn, IsNoneFoundIn, RaisedIn}
-use Rattle.sshkey_calls.proofs.Rooms.{none_given, told_as}
-use Rattle.sshkey_calls.specs.declared.question.Question.{Question}
+use Rattle.sshkey_base.specs.Causes.{Cause, Faulty, NoMemory, Other}
+use Rattle.sshkey_base.specs.Reading.{IsRefused}
+use Rattle.sshkey_sshsig.specs.SshSignatureFormats.{ssh_signature_format}
+use Rattle.sshkey_sshsig.specs.SshSignatureReaders.{ssh_signature_value_at}
+use Rattle.sshkey_calls.specs.Numbers.{fault_number}
+use Rattle.sshkey_calls.specs.SshSignatures.{TellsOfSshSignature}
 
-one_signature : (f g : SshSignature) (bytes : List ℕ) → SpellsSshSignature f bytes → SpellsSshSignature g bytes → f ≡ g
-one_signature f g bytes spelled other = (one_front ssh_signature_grammar f g bytes bytes [] [] spelled other refl).0
+fault_of : {W : Type 0} (found : Result W Fault) (of_error : Cause) (n : ℕ) → of_error ≢ NoMemory → IsRefused 0 of_error found → ((fault : Fault) → of_error ≡ Faulty fault → n ≡ fault_number fault) → (fault : Fault) × (found ≡ Err fault) × (n ≡ fault_number fault)
+fault_of (Ok f) of_error n other refused number = absurd (refused.fault other refl)
+fault_of (Err fault) of_error n other refused number = (fault, refl, number fault (refused.fault other refl))
 
--- what is so of one reading is so of the other
-pub of_each : (P : SshSignature → Type 0) (f g : SshSignature) (bytes : List ℕ) → SpellsSshSignature f bytes → SpellsSshSignature g bytes → P f → P g
-of_each P f g bytes spelled other is = subst P (one_signature f g bytes spelled other) is
-
-module _ (Raises : SshSignature → model.Question → Type 0) (bytes namespace : List ℕ) (n : ℕ) (was answer : Question) (before after : List ℕ) where
-  pub asked_in : (f : SshSignature) → IsFoundIn bytes namespace f → GivesQuestion (Raises f) n was answer before after → GivesQuestion (RaisedIn Raises bytes namespace) n was answer before after
-  asked_in f found = told_as n was answer before after
-      (λ q is. record { signature = f; spelled = found.spelled; in_namespace = found.in_namespace; raised = is })
-      (λ q is. of_each (λ (g : SshSignature). Raises g q) is.signature f bytes is.spelled found.spelled is.raised)
-
-  pub none_asked : (answer ≡ was) × (after ≡ before) → IsNoneFoundIn bytes namespace n → GivesQuestion (RaisedIn Raises bytes namespace) n was answer before after
-  none_asked stays none = none_given n was answer before after stays none.some none.apart (λ not_memory q is. (none.other not_memory is.signature is.spelled).0 is.in_namespace)
+-- Their fault is told, or that memory ran out.
+pub unread : {Told : SshSignature → Type 0} {Stays : Type 0} (of_error : Cause) (bytes : List ℕ) (n : ℕ) → IsRefused 0 of_error (whole ssh_signature_value_at bytes) → (of_error ≡ NoMemory → ◌≡◌ {A = ℕ} 0 0 → ssh_signature_format.needs bytes 0) → (of_error ≡ NoMemory → n ≡ 1) → ((fault : Fault) → of_error ≡ Faulty fault → n ≡ fault_number fault) → Stays → TellsOfSshSignature bytes Told n Stays
+unread NoMemory bytes n refused asks memory number stays = inr (memory refl, asks refl refl, stays)
+unread (Faulty fault) bytes n refused asks memory number stays =
+    let met = fault_of (whole ssh_signature_value_at bytes) (Faulty fault) n (λ e. cc e) refused number in
+    inl (inr (met.0, met.1, met.2, stays))
+unread Other bytes n refused asks memory number stays =
+    let met = fault_of (whole ssh_signature_value_at bytes) Other n (λ e. cc e) refused number in
+    inl (inr (met.0, met.1, met.2, stays))

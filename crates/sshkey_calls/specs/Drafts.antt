@@ -5,8 +5,8 @@ use Rattle.std.proofs.Math.Bool.{beq}
 use Rattle.sshkey_base.specs.TextLists.{SpellsTexts}
 use Rattle.sshkey_cert.specs.CertificateReaders.{SpellsCertificate}
 use Rattle.sshkey_keys.specs.Keys.{SpellsKey, key_data_at}
-use Rattle.sshkey_model.specs.Certificates.{Certificate, SignedFields, IsTime, IsEnd, end_from, normal_to_be_signed, time_from, type_from, type_number}
-use Rattle.sshkey_model.specs.Keys.{Key, Dsa, Ecdsa, Ed25519, Rsa, SkEcdsa, SkEd25519, Opaque, normal_key}
+use Rattle.sshkey_model.specs.Certificates.{SignedFields, IsTime, IsEnd, certificate_at, end_from, normal_to_be_signed, time_from, type_from, type_number}
+use Rattle.sshkey_model.specs.Keys.{Key, Dsa, Ecdsa, Ed25519, Rsa, SkEcdsa, SkEd25519, Opaque}
 use Rattle.sshkey_model.specs.Parts.{Fits, flat}
 use Rattle.sshkey_model.specs.Reading.{Fault, Front, whole}
 use Rattle.sshkey_model.specs.Texts.{string, texts_at, IsText}
@@ -17,6 +17,7 @@ use Rattle.sshkey_cert_values.specs.declared.cert_type.CertType.{CertType}
 use Rattle.sshkey_cert_values.specs.declared.end_time.EndTime.{EndTime}
 use Rattle.sshkey_cert_values.specs.declared.unix_time.UnixTime.{UnixTime}
 use Rattle.sshkey_calls.specs.Numbers.{fault_number}
+use Rattle.sshkey_calls.specs.Writing.{WritesOf}
 use Rattle.sshkey_calls.specs.declared.draft.CertificateDraft.{CertificateDraft}
 
 -- 12 for a key under a private-use name
@@ -145,9 +146,11 @@ FitsString b = length b < 2 ^ 32
 abbrev pub IsJoined : List ℕ → List ℕ → List ℕ → Type 0
 IsJoined to_be_signed signature s = (s ≡ to_be_signed ++ flat (string signature)) × FitsString signature
 
-abbrev pub IsSigned : List ℕ → List ℕ → List ℕ → Type 0
-IsSigned to_be_signed signature s = IsJoined to_be_signed signature s × (c : Certificate) × SpellsCertificate c s
+-- What a call answers that writes the bytes, which are to spell a certificate.
+abbrev pub WritesCertificate : List ℕ → ℕ → ℕ → ℕ → List ℕ → List ℕ → Type 0
+WritesCertificate bytes = WritesOf SpellsCertificate certificate_at (λ _. bytes) bytes
 
--- the blob of the key that is certified, in its normal form
-abbrev pub IsKeyOf : List ℕ → List ℕ → Type 0
-IsKeyOf bytes s = (c : Certificate) × SpellsCertificate c bytes × (s ≡ flat (normal_key c.signed.key))
+-- They are those of the certificate that the signature makes; or a string does not hold that, 13,
+-- or memory is asked for, 1, and nothing changed.
+abbrev pub WritesSigned : List ℕ → List ℕ → ℕ → ℕ → ℕ → List ℕ → List ℕ → Type 0
+WritesSigned to_be_signed signature n was len before after = (FitsString signature × WritesCertificate (to_be_signed ++ flat (string signature)) n was len before after) ⊎ (IsWrong n (string_number signature) (FitsString signature) × (len ≡ was) × (after ≡ before))

@@ -1,7 +1,8 @@
 -- What is answered of the fields of a certificate (PROTOCOL.certkeys).
 use Rattle.std.specs.Prelude.{◌≡◌, ◌≢◌, ℕ, List, []}
-use Rattle.sshkey_model.specs.Certificates.{Certificate, type_number}
+use Rattle.sshkey_model.specs.Certificates.{Certificate, certificate_at, type_number}
 use Rattle.sshkey_cert.specs.CertificateReaders.{SpellsCertificate}
+use Rattle.sshkey_calls.specs.Outcomes.{TellsOf}
 use Rattle.sshkey_calls.specs.declared.fields.CertificateFields.{CertificateFields}
 
 -- 1 where this holds, and else 0
@@ -17,8 +18,6 @@ pub record AreFieldsOf (c : Certificate) (f : CertificateFields) : Type 0 where
   pub lists_principals : IsNumberOf (c.signed.valid_principals ≢ []) f.lists_principals
   pub has_critical_options : IsNumberOf (c.signed.critical_options ≢ []) f.has_critical_options
 
--- 0 and the fields of the certificate that the bytes spell, and every other number where they spell
--- none.
-pub record GivesFields (bytes : List ℕ) (n : ℕ) (f : CertificateFields) : Type 0 where
-  pub given : n ≡ 0 → (c : Certificate) × SpellsCertificate c bytes × AreFieldsOf c f
-  pub none : n ≢ 0 → (c : Certificate) → SpellsCertificate c bytes → ⊥
+-- 0 and the fields of the certificate that the bytes spell.
+abbrev pub GivesFields : List ℕ → ℕ → CertificateFields → CertificateFields → Type 0
+GivesFields bytes n was f = TellsOf SpellsCertificate certificate_at bytes (λ c. (n ≡ 0) × AreFieldsOf c f) n (f ≡ was)

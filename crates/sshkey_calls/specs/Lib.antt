@@ -1,5 +1,6 @@
 pub mod Numbers
 pub mod Rooms
+pub mod Outcomes
 pub mod Strings
 pub mod Fields
 pub mod Fingerprints

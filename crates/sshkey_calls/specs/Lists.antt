@@ -1,16 +1,17 @@
 -- Where the parts of a certificate stand in its bytes (PROTOCOL.certkeys).
 use Rattle.std.specs.Int.{w64}
-use Rattle.std.specs.Prelude.{◌≡◌, ◌≢◌, ◌+◌, ℕ, List, length}
+use Rattle.std.specs.Prelude.{◌≡◌, ◌+◌, ℕ, List, length}
 use Rattle.sshkey_cert.specs.CertificateReaders.{SpellsCertificate}
 use Rattle.sshkey_cert_ref.specs.OptionLists.{SpellsEachOption}
 use Rattle.sshkey_cert_ref.specs.TextLists.{SpellsEachText}
 use Rattle.sshkey_keys.specs.Keys.{SpellsKey}
 use Rattle.sshkey_model.specs.CertificateNames.{certificate_algorithm}
-use Rattle.sshkey_model.specs.Certificates.{Certificate, certificate_type}
+use Rattle.sshkey_model.specs.Certificates.{Certificate, certificate_at, certificate_type}
 use Rattle.sshkey_model.specs.Keys.{body, key_algorithm}
 use Rattle.sshkey_model.specs.Options.{CertificateOption, Nesting}
 use Rattle.sshkey_model.specs.Parts.{Parts, ◌&◌, flat, number}
 use Rattle.sshkey_model.specs.Texts.{string}
+use Rattle.sshkey_calls.specs.Outcomes.{TellsOf}
 use Rattle.sshkey_calls.specs.Rooms.{IsWithin, bytes_of}
 use Rattle.sshkey_calls.specs.declared.lists.CertificateParts.{CertificateParts}
 use Rattle.sshkey_calls.specs.declared.part.Part.{Part}
@@ -51,8 +52,6 @@ pub record ArePartsOf (c : Certificate) (bytes : List ℕ) (p : CertificateParts
   pub placed : ArePlaced c p
   pub within : IsWithin p.key_id bytes × IsWithin p.principals bytes × IsWithin p.critical_options bytes × IsWithin p.extensions bytes × IsWithin p.authority bytes
 
--- 0 and the parts of the certificate that the bytes spell, and every other number where they spell
--- none.
-pub record GivesParts (bytes : List ℕ) (n : ℕ) (p : CertificateParts) : Type 0 where
-  pub given : n ≡ 0 → (c : Certificate) × SpellsCertificate c bytes × ArePartsOf c bytes p
-  pub none : n ≢ 0 → (c : Certificate) → SpellsCertificate c bytes → ⊥
+-- 0 and the parts of the certificate that the bytes spell.
+abbrev pub GivesParts : List ℕ → ℕ → CertificateParts → CertificateParts → Type 0
+GivesParts bytes n was p = TellsOf SpellsCertificate certificate_at bytes (λ c. (n ≡ 0) × ArePartsOf c bytes p) n (p ≡ was)

@@ -1,30 +1,29 @@
 -- What is answered of a normal form.
-use Rattle.std.specs.Prelude.{◌≡◌, ◌≢◌, ℕ, List}
-use Rattle.sshkey_model.specs.Certificates.{normal_certificate}
+use Rattle.std.specs.Prelude.{◌≢◌, ℕ, List}
+use Rattle.sshkey_model.specs.Certificates.{certificate_at, normal_certificate}
 use Rattle.sshkey_model.specs.Keys.{Key, normal_key}
-use Rattle.sshkey_model.specs.Parts.{Parts, flat}
-use Rattle.sshkey_model.specs.Signatures.{signature}
-use Rattle.sshkey_model.specs.SshSignatures.{normal_ssh_signature}
-use Rattle.sshkey_keys.specs.Keys.{SpellsKey}
+use Rattle.sshkey_model.specs.Parts.{flat}
+use Rattle.sshkey_model.specs.Signatures.{signature, signature_at}
+use Rattle.sshkey_keys.specs.Keys.{SpellsKey, key_data_at}
 use Rattle.sshkey_keys.specs.SignatureReaders.{SpellsSignature}
 use Rattle.sshkey_cert.specs.CertificateReaders.{SpellsCertificate}
-use Rattle.sshkey_sshsig.specs.SshSignatureReaders.{SpellsSshSignature}
+use Rattle.sshkey_calls.specs.Writing.{WritesOf}
 
--- the bytes spell a value that has the normal form
-abbrev pub IsNormal : {V : Type 0} → (V → List ℕ → Type 0) → (V → Parts) → List ℕ → List ℕ → Type 0
-IsNormal {V} Spells normal bytes content = (v : V) × Spells v bytes × (content ≡ flat (normal v))
+-- that of the key that the bytes spell
+abbrev pub WritesNormalKey : List ℕ → ℕ → ℕ → ℕ → List ℕ → List ℕ → Type 0
+WritesNormalKey = WritesOf SpellsKey key_data_at (λ k. flat (normal_key k))
 
-abbrev pub IsNormalKey : List ℕ → List ℕ → Type 0
-IsNormalKey = IsNormal SpellsKey normal_key
+-- of the certificate
+abbrev pub WritesNormalCertificate : List ℕ → ℕ → ℕ → ℕ → List ℕ → List ℕ → Type 0
+WritesNormalCertificate = WritesOf SpellsCertificate certificate_at (λ c. flat (normal_certificate c))
 
-abbrev pub IsNormalCertificate : List ℕ → List ℕ → Type 0
-IsNormalCertificate = IsNormal SpellsCertificate normal_certificate
+-- of the key that it certifies
+abbrev pub WritesCertifiedKey : List ℕ → ℕ → ℕ → ℕ → List ℕ → List ℕ → Type 0
+WritesCertifiedKey = WritesOf SpellsCertificate certificate_at (λ c. flat (normal_key c.signed.key))
 
-abbrev pub IsNormalSignature : List ℕ → List ℕ → Type 0
-IsNormalSignature = IsNormal SpellsSignature signature
-
-abbrev pub IsNormalSshSignature : List ℕ → List ℕ → Type 0
-IsNormalSshSignature = IsNormal SpellsSshSignature normal_ssh_signature
+-- of the signature
+abbrev pub WritesNormalSignature : List ℕ → ℕ → ℕ → ℕ → List ℕ → List ℕ → Type 0
+WritesNormalSignature = WritesOf SpellsSignature signature_at (λ g. flat (signature g))
 
 -- the bytes spell a key, and are not its normal form
 abbrev pub IsRenamedKey : List ℕ → Type 0

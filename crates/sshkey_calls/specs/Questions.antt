@@ -1,24 +1,15 @@
 -- What is answered of a question.
-use Rattle.std.specs.Prelude.{◌≡◌, ◌≢◌, ℕ, ◌+◌, List, ◌++◌, length, Some, None}
-use Rattle.sshkey_model.specs.Certificates.{Certificate}
+use Rattle.std.specs.Prelude.{◌≡◌, ◌≢◌, ℕ, ◌+◌, List, ◌++◌, length, Option, Some, None}
+use Rattle.sshkey_model.specs.Certificates.{certificate_at}
 use Rattle.sshkey_model.specs.Keys.{normal_key}
 use Rattle.sshkey_model.specs.Parts.{flat}
 use Rattle.sshkey_model.specs.Verification as model
 use Rattle.sshkey_cert.specs.CertificateReaders.{SpellsCertificate}
 use Rattle.sshkey_cert.specs.Questions.{certificate_question}
 use Rattle.sshkey_calls.specs.Numbers.{algorithm_number}
+use Rattle.sshkey_calls.specs.Outcomes.{TellsOf}
 use Rattle.sshkey_calls.specs.Rooms.{Gives, IsPlaced}
 use Rattle.sshkey_calls.specs.declared.question.Question.{Question}
-
--- the bytes spell a certificate that raises the question
-abbrev pub RaisedBy : List ℕ → model.Question → Type 0
-RaisedBy bytes q = (c : Certificate) × SpellsCertificate c bytes × (certificate_question c ≡ Some q)
-
--- 40 where the bytes spell a certificate that raises none, memory aside
-abbrev pub TellsNone : List ℕ → ℕ → Type 0
-TellsNone bytes n = (c : Certificate) → SpellsCertificate c bytes → certificate_question c ≡ None → n ≢ 1 → n ≡ 40
-
--- ---- in the room
 
 -- its parts, one behind the other
 abbrev pub question_bytes : model.Question → List ℕ
@@ -35,3 +26,12 @@ pub record ArePlaced (q : model.Question) (answer : Question) : Type 0 where
 -- What a call answers that looks for the one question that `Raised` tells.
 abbrev pub GivesQuestion : (model.Question → Type 0) → ℕ → Question → Question → List ℕ → List ℕ → Type 0
 GivesQuestion Raised = Gives Raised question_bytes ArePlaced (λ (a : Question). a.length)
+
+-- What a call answers of the question that is raised, if one is: with it; or 40, memory aside.
+pub record TellsQuestion (asked : Option model.Question) (n : ℕ) (was answer : Question) (before after : List ℕ) : Type 0 where
+  pub raised : GivesQuestion (λ q. asked ≡ Some q) n was answer before after
+  pub unsupported : asked ≡ None → n ≢ 1 → n ≡ 40
+
+-- It is the one that the certificate raises which the bytes spell.
+abbrev pub TellsCertificateQuestion : List ℕ → ℕ → Question → Question → List ℕ → List ℕ → Type 0
+TellsCertificateQuestion bytes n was answer before after = TellsOf SpellsCertificate certificate_at bytes (λ c. TellsQuestion (certificate_question c) n was answer before after) n ((answer ≡ was) × (after ≡ before))

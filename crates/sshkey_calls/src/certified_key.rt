@@ -1,15 +1,10 @@
 //! The key that a certificate certifies.
 
-ghost use Rattle.std.specs.Prelude.{◌≡◌, Err, IfOk};
-ghost use Rattle.sshkey_base.specs.Acceptance.{SpellsSome};
-ghost use Rattle.sshkey_cert.specs.CertificateReaders.{SpellsCertificate};
+ghost use Rattle.std.specs.Prelude.{◌≡◌, IfOk};
 ghost use Rattle.sshkey_cert_ref.specs.CertificateRef.{certificate_of};
-ghost use Rattle.sshkey_model.specs.Certificates.{certificate_at};
 ghost use Rattle.sshkey_model.specs.Keys.{normal_key};
 ghost use Rattle.sshkey_model.specs.Parts.{flat};
-ghost use Rattle.sshkey_model.specs.Reading.{Fault, whole};
-ghost use Rattle.sshkey_calls.specs.Drafts.{IsKeyOf};
-ghost use Rattle.sshkey_calls.specs.Numbers.{fault_number};
+ghost use Rattle.sshkey_calls.specs.NormalForms.{WritesCertifiedKey};
 ghost use Rattle.sshkey_calls.specs.Writing.{Writes};
 
 use crate::number::{MEMORY, error_number};
@@ -29,11 +24,8 @@ pub fn certificate_key(
     room: &mut [u8],
     length: &mut usize,
 ) -> u32
-    ensures written { Writes (IsKeyOf certificate.now)
+    ensures { WritesCertifiedKey certificate.now
         result length.old length.new room.old room.new }
-    ensures fault { (fault : Fault) → whole certificate_at certificate.now ≡ Err fault
-        → result ≡ fault_number fault }
-    ensures memory { result ≡ 1 → SpellsSome SpellsCertificate certificate.now }
 {
     match CertificateRef::from_bytes(certificate) {
         Ok(read) => write_key(alloc, &read, room, length),

@@ -1,12 +1,10 @@
 //! Fields of certificates.
 
-ghost use Rattle.std.specs.Prelude.{◌≡◌, ◌≢◌, Err, IsTrue};
+ghost use Rattle.std.specs.Prelude.{◌≡◌, IsTrue};
 ghost use Rattle.sshkey_cert_ref.specs.CertificateRef.{certificate_of};
-ghost use Rattle.sshkey_model.specs.Certificates.{certificate_at, type_number};
-ghost use Rattle.sshkey_model.specs.Reading.{Fault, whole};
+ghost use Rattle.sshkey_model.specs.Certificates.{type_number};
 ghost use Rattle.sshkey_cert_values.specs.CertTypes.{type_of};
 ghost use Rattle.sshkey_calls.specs.Fields.{AreFieldsOf, GivesFields, IsNumberOf};
-ghost use Rattle.sshkey_calls.specs.Numbers.{fault_number};
 
 use crate::number::{DONE, error_number};
 use sshkey_cert_ref::CertificateRef;
@@ -34,11 +32,7 @@ pub struct CertificateFields {
 ///
 /// Returns 0 if they spell one, and else from 10 to 29 their fault. Does not allocate.
 pub fn certificate_fields(certificate: &[u8], answer: &mut CertificateFields) -> u32
-    ensures fields { GivesFields certificate.now result answer.new }
-    ensures stays { result ≢ 0 → answer.new ≡ answer.old }
-    ensures fault { (fault : Fault) → whole certificate_at certificate.now ≡ Err fault
-        → result ≡ fault_number fault }
-    ensures memory { result ≢ 1 }
+    ensures { GivesFields certificate.now result answer.old answer.new }
 {
     match CertificateRef::from_bytes(certificate) {
         Ok(read) => {

@@ -1,15 +1,12 @@
 //! Fingerprints of keys.
 
-ghost use Rattle.std.specs.Prelude.{◌≡◌, ◌++◌, Err};
+ghost use Rattle.std.specs.Prelude.{◌++◌};
 ghost use Rattle.base64.specs.Engines.{standard_no_pad};
 ghost use Rattle.base64.specs.GeneralPurpose.{encode_of};
 ghost use Rattle.sshkey_base.specs.Names.{hash_of};
-ghost use Rattle.sshkey_keys.specs.Keys.{key_data_at};
 ghost use Rattle.sshkey_model.specs.Fingerprints.{digest_text};
 ghost use Rattle.sshkey_model.specs.Names.{Sha256, Sha512};
-ghost use Rattle.sshkey_model.specs.Reading.{Fault, whole};
 ghost use Rattle.sshkey_calls.specs.Fingerprints.{FindsFingerprint, GivesDigest, Prints};
-ghost use Rattle.sshkey_calls.specs.Numbers.{fault_number};
 
 use crate::digest::{Sha256Digest, Sha512Digest};
 use crate::number::{DONE, MEMORY, ROOM, error_number};
@@ -26,10 +23,7 @@ use std::alloc::Global;
 /// taken only for an RSA key under another name than `ssh-rsa`. With any number but 0 the answer
 /// stays as it was.
 pub fn fingerprint(alloc: Global, key: &[u8], answer: &mut Sha256Digest) -> u32
-    ensures fingerprint { GivesDigest Sha256 key.now result
-        answer.old.bytes answer.new.bytes }
-    ensures fault { (fault : Fault) → whole key_data_at key.now ≡ Err fault
-        → result ≡ fault_number fault }
+    ensures { GivesDigest Sha256 key.now result answer.old.bytes answer.new.bytes }
 {
     let fingerprint = match find_fingerprint(alloc, HashAlg::Sha256, key) {
         Ok(fingerprint) => fingerprint,
@@ -49,10 +43,7 @@ pub fn fingerprint(alloc: Global, key: &[u8], answer: &mut Sha256Digest) -> u32
 ///
 /// Returns what `fingerprint` does.
 pub fn fingerprint_sha512(alloc: Global, key: &[u8], answer: &mut Sha512Digest) -> u32
-    ensures fingerprint { GivesDigest Sha512 key.now result
-        answer.old.bytes answer.new.bytes }
-    ensures fault { (fault : Fault) → whole key_data_at key.now ≡ Err fault
-        → result ≡ fault_number fault }
+    ensures { GivesDigest Sha512 key.now result answer.old.bytes answer.new.bytes }
 {
     let fingerprint = match find_fingerprint(alloc, HashAlg::Sha512, key) {
         Ok(fingerprint) => fingerprint,
@@ -69,9 +60,7 @@ pub fn fingerprint_sha512(alloc: Global, key: &[u8], answer: &mut Sha512Digest) 
 
 /// The fingerprint by that hash of the key that all the bytes spell, or the number to answer with.
 fn find_fingerprint(alloc: Global, hash_alg: HashAlg, key: &[u8]) -> Result<Fingerprint, u32>
-    ensures found { FindsFingerprint (hash_of hash_alg) key.now result }
-    ensures fault { (fault : Fault) → whole key_data_at key.now ≡ Err fault
-        → result ≡ Err (fault_number fault) }
+    ensures { FindsFingerprint (hash_of hash_alg) key.now result }
 {
     let read = match KeyDataRef::from_bytes(key) {
         Ok(read) => read,

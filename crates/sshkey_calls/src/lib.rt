@@ -12,6 +12,7 @@ mod draft;
 mod draft_fields;
 mod fields;
 mod key;
+pub mod laws;
 mod line;
 mod lists;
 mod normal;

@@ -1,11 +1,8 @@
 //! Where the parts of a certificate are in its bytes.
 
-ghost use Rattle.std.specs.Prelude.{◌≡◌, ◌≢◌, ◌-◌, Err};
+ghost use Rattle.std.specs.Prelude.{◌≡◌, ◌-◌};
 ghost use Rattle.sshkey_cert_ref.specs.CertificateRef.{certificate_bytes, certificate_of};
-ghost use Rattle.sshkey_model.specs.Certificates.{certificate_at};
-ghost use Rattle.sshkey_model.specs.Reading.{Fault, whole};
 ghost use Rattle.sshkey_calls.specs.Lists.{ArePartsOf, GivesParts};
-ghost use Rattle.sshkey_calls.specs.Numbers.{fault_number};
 
 use crate::number::{DONE, error_number};
 use crate::part::Part;
@@ -33,11 +30,7 @@ pub struct CertificateParts {
 /// principals, and `next_option` over the critical options and over the extensions. Does not
 /// allocate, and copies nothing.
 pub fn certificate_parts(certificate: &[u8], answer: &mut CertificateParts) -> u32
-    ensures parts { GivesParts certificate.now result answer.new }
-    ensures stays { result ≢ 0 → answer.new ≡ answer.old }
-    ensures fault { (fault : Fault) → whole certificate_at certificate.now ≡ Err fault
-        → result ≡ fault_number fault }
-    ensures memory { result ≢ 1 }
+    ensures { GivesParts certificate.now result answer.old answer.new }
 {
     match CertificateRef::from_bytes(certificate) {
         Ok(read) => {

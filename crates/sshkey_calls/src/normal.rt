@@ -1,19 +1,16 @@
 //! Normal forms: of the spellings that a value has, the one that is written, digested and signed.
 
-ghost use Rattle.std.specs.Prelude.{◌≡◌, ◌≢◌, Err};
+ghost use Rattle.std.specs.Prelude.{◌≡◌, ◌≢◌};
 ghost use Rattle.sshkey_base.specs.Acceptance.{SpellsSome};
-ghost use Rattle.sshkey_cert.specs.CertificateReaders.{SpellsCertificate};
 ghost use Rattle.sshkey_cert_ref.specs.CertificateRef.{certificate_of};
-ghost use Rattle.sshkey_keys.specs.Keys.{SpellsKey, key_data_at};
+ghost use Rattle.sshkey_keys.specs.Keys.{SpellsKey};
 ghost use Rattle.sshkey_keys_ref.specs.KeyDataRef.{key_bytes};
-ghost use Rattle.sshkey_model.specs.Certificates.{certificate_at, normal_certificate};
+ghost use Rattle.sshkey_keys_ref.specs.NormalBytes.{IsRenamed};
+ghost use Rattle.sshkey_model.specs.Certificates.{normal_certificate};
+ghost use Rattle.sshkey_model.specs.Keys.{Key, normal_key};
 ghost use Rattle.sshkey_model.specs.Parts.{flat};
-ghost use Rattle.sshkey_model.specs.Reading.{Fault, whole};
-ghost use Rattle.sshkey_model.specs.Signatures.{signature_at};
-ghost use Rattle.sshkey_sshsig.specs.SshSignatureReaders.{ssh_signature_value_at};
-ghost use Rattle.sshkey_calls.specs.NormalForms.{IsNormalCertificate, IsNormalKey, IsNormalSignature, IsNormalSshSignature, IsRenamedKey};
-ghost use Rattle.sshkey_calls.specs.Numbers.{fault_number};
-ghost use Rattle.sshkey_calls.specs.SshSignatures.{NeedsSshSignature};
+ghost use Rattle.sshkey_calls.specs.NormalForms.{IsRenamedKey, WritesNormalCertificate, WritesNormalKey, WritesNormalSignature};
+ghost use Rattle.sshkey_calls.specs.SshSignatures.{WritesNormalSshSignature};
 ghost use Rattle.sshkey_calls.specs.Writing.{Writes};
 
 use crate::number::{MEMORY, error_number};
@@ -31,9 +28,7 @@ use std::alloc::Global;
 /// from 10 to 29 their fault. With 2 the room is as it was. Memory is taken only for a key that is
 /// not in its normal form.
 pub fn key_normal(alloc: Global, key: &[u8], room: &mut [u8], length: &mut usize) -> u32
-    ensures normal { Writes (IsNormalKey key.now) result length.old length.new room.old room.new }
-    ensures fault { (fault : Fault) → whole key_data_at key.now ≡ Err fault
-        → result ≡ fault_number fault }
+    ensures normal { WritesNormalKey key.now result length.old length.new room.old room.new }
     ensures memory { result ≡ 1 → IsRenamedKey key.now }
 {
     match KeyDataRef::from_bytes(key) {
@@ -45,9 +40,9 @@ pub fn key_normal(alloc: Global, key: &[u8], room: &mut [u8], length: &mut usize
 /// The same of a key that was read.
 fn write_key(alloc: Global, read: &KeyDataRef<'_>, room: &mut [u8], length: &mut usize) -> u32
     requires { SpellsSome SpellsKey (key_bytes read.now) }
-    ensures normal { Writes (IsNormalKey (key_bytes read.now))
-        result length.old length.new room.old room.new }
-    ensures memory { result ≡ 1 → IsRenamedKey (key_bytes read.now) }
+    ensures normal { (k : Key) × SpellsKey k (key_bytes read.now) × Writes
+        (λ content. content ≡ flat (normal_key k)) result length.old length.new room.old room.new }
+    ensures memory { result ≡ 1 → IsRenamed (key_bytes read.now) }
 {
     match read.normal_bytes() {
         Some(bytes) => write_bytes(bytes, room, length),
@@ -69,11 +64,8 @@ pub fn certificate_normal(
     room: &mut [u8],
     length: &mut usize,
 ) -> u32
-    ensures normal { Writes (IsNormalCertificate certificate.now)
+    ensures { WritesNormalCertificate certificate.now
         result length.old length.new room.old room.new }
-    ensures fault { (fault : Fault) → whole certificate_at certificate.now ≡ Err fault
-        → result ≡ fault_number fault }
-    ensures memory { result ≡ 1 → SpellsSome SpellsCertificate certificate.now }
 {
     match CertificateRef::from_bytes(certificate) {
         Ok(read) => write_certificate(alloc, &read, room, length),
@@ -105,11 +97,8 @@ fn write_certificate(
 /// from 10 to 29 their fault. With 2 the room is as it was. Memory is taken only for a part that
 /// is whole.
 pub fn sshsig_normal(alloc: Global, signature: &[u8], room: &mut [u8], length: &mut usize) -> u32
-    ensures normal { Writes (IsNormalSshSignature signature.now)
+    ensures { WritesNormalSshSignature signature.now
         result length.old length.new room.old room.new }
-    ensures fault { (fault : Fault) → whole ssh_signature_value_at signature.now ≡ Err fault
-        → result ≢ 1 → result ≡ fault_number fault }
-    ensures memory { result ≡ 1 → NeedsSshSignature signature.now }
 {
     match SshSig::from_bytes(alloc, signature) {
         Ok(read) => write_encoded(alloc, &read, room, length),
@@ -123,10 +112,8 @@ pub fn sshsig_normal(alloc: Global, signature: &[u8], room: &mut [u8], length: &
 /// Returns 0 if they spell one, 2 where the room is too short for it, and else from 10 to 29 their
 /// fault. With 2 the room is as it was. Does not allocate.
 pub fn signature_normal(signature: &[u8], room: &mut [u8], length: &mut usize) -> u32
-    ensures normal { Writes (IsNormalSignature signature.now)
+    ensures normal { WritesNormalSignature signature.now
         result length.old length.new room.old room.new }
-    ensures fault { (fault : Fault) → whole signature_at signature.now ≡ Err fault
-        → result ≡ fault_number fault }
     ensures memory { result ≢ 1 }
 {
     match SignatureRef::from_bytes(signature) {

@@ -1,15 +1,10 @@
 //! What has to be verified.
 
-ghost use Rattle.std.specs.Prelude.{◌≡◌, ◌≢◌, Err, IfOk, None, Some};
-ghost use Rattle.sshkey_base.specs.Acceptance.{SpellsSome};
-ghost use Rattle.sshkey_cert.specs.CertificateReaders.{SpellsCertificate};
+ghost use Rattle.std.specs.Prelude.{◌≡◌, IfOk};
 ghost use Rattle.sshkey_cert_ref.specs.CertificateRef.{certificate_of};
 ghost use Rattle.sshkey_cert.specs.Questions.{asks, certificate_question};
 ghost use Rattle.sshkey_keys.specs.Questions.{question_of};
-ghost use Rattle.sshkey_model.specs.Certificates.{certificate_at};
-ghost use Rattle.sshkey_model.specs.Reading.{Fault, whole};
-ghost use Rattle.sshkey_calls.specs.Numbers.{fault_number};
-ghost use Rattle.sshkey_calls.specs.Questions.{ArePlaced, GivesQuestion, RaisedBy, TellsNone, question_bytes};
+ghost use Rattle.sshkey_calls.specs.Questions.{ArePlaced, TellsCertificateQuestion, GivesQuestion, TellsQuestion, question_bytes};
 ghost use Rattle.sshkey_calls.specs.Rooms.{IsLaidOut};
 
 use crate::number::{MEMORY, UNSUPPORTED, algorithm_number, error_number};
@@ -51,12 +46,8 @@ pub fn certificate_question(
     room: &mut [u8],
     answer: &mut Question,
 ) -> u32
-    ensures raised { GivesQuestion (RaisedBy certificate.now)
+    ensures { TellsCertificateQuestion certificate.now
         result answer.old answer.new room.old room.new }
-    ensures unsupported { TellsNone certificate.now result }
-    ensures fault { (fault : Fault) → whole certificate_at certificate.now ≡ Err fault
-        → result ≡ fault_number fault }
-    ensures memory { result ≡ 1 → SpellsSome SpellsCertificate certificate.now }
 {
     match CertificateRef::from_bytes(certificate) {
         Ok(read) => ask(alloc, &read, room, answer),
@@ -71,11 +62,8 @@ fn ask(
     room: &mut [u8],
     answer: &mut Question,
 ) -> u32
-    ensures raised { GivesQuestion
-        (λ q. certificate_question (certificate_of certificate.now) ≡ Some q)
+    ensures { TellsQuestion (certificate_question (certificate_of certificate.now))
         result answer.old answer.new room.old room.new }
-    ensures unsupported { certificate_question (certificate_of certificate.now) ≡ None
-        → result ≢ 1 → result ≡ 40 }
 {
     match certificate.question(alloc) {
         Ok(asked) => tell(alloc, &asked, room, answer),
@@ -90,9 +78,7 @@ fn tell(
     room: &mut [u8],
     answer: &mut Question,
 ) -> u32
-    ensures raised { GivesQuestion (λ q. asks asked.now ≡ Some q)
-        result answer.old answer.new room.old room.new }
-    ensures unsupported { asks asked.now ≡ None → result ≡ 40 }
+    ensures { TellsQuestion (asks asked.now) result answer.old answer.new room.old room.new }
 {
     match asked.question() {
         Some(question) => answer_with(alloc, &question, room, answer),

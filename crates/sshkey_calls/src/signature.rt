@@ -1,16 +1,14 @@
 //! What has to be verified of a signature under a key.
 
-ghost use Rattle.std.specs.Prelude.{◌≡◌, Err};
-ghost use Rattle.sshkey_base.specs.Acceptance.{SpellsSome};
-ghost use Rattle.sshkey_keys.specs.Keys.{SpellsKey, key_data_at};
+ghost use Rattle.sshkey_keys.specs.Keys.{SpellsKey};
 ghost use Rattle.sshkey_keys.specs.SignatureReaders.{SpellsSignature};
 ghost use Rattle.sshkey_keys_ref.specs.KeyDataRef.{key_bytes};
 ghost use Rattle.sshkey_keys_ref.specs.SignatureRef.{signature_bytes};
-ghost use Rattle.sshkey_model.specs.Reading.{Fault, whole};
-ghost use Rattle.sshkey_model.specs.Signatures.{signature_at};
-ghost use Rattle.sshkey_calls.specs.Numbers.{fault_number};
-ghost use Rattle.sshkey_calls.specs.Questions.{GivesQuestion};
-ghost use Rattle.sshkey_calls.specs.Signatures.{AreSigned, RaisedUnder, TellsNoneUnder};
+ghost use Rattle.sshkey_model.specs.Keys.{Key};
+ghost use Rattle.sshkey_model.specs.Signatures.{Signature};
+ghost use Rattle.sshkey_model.specs.Verification.{question};
+ghost use Rattle.sshkey_calls.specs.Questions.{TellsQuestion};
+ghost use Rattle.sshkey_calls.specs.Signatures.{TellsSignatureQuestion, TellsQuestionUnder};
 
 use crate::number::{MEMORY, UNSUPPORTED, error_number};
 use crate::question::{Question, answer_with};
@@ -34,14 +32,8 @@ pub fn signature_question(
     room: &mut [u8],
     answer: &mut Question,
 ) -> u32
-    ensures raised { GivesQuestion (RaisedUnder key.now message.now signature.now)
+    ensures { TellsSignatureQuestion key.now message.now signature.now
         result answer.old answer.new room.old room.new }
-    ensures unsupported { TellsNoneUnder key.now message.now signature.now result }
-    ensures key { (fault : Fault) → whole key_data_at key.now ≡ Err fault
-        → result ≡ fault_number fault }
-    ensures signature { SpellsSome SpellsKey key.now → (fault : Fault)
-        → whole signature_at signature.now ≡ Err fault → result ≡ fault_number fault }
-    ensures memory { result ≡ 1 → AreSigned key.now signature.now }
 {
     match KeyDataRef::from_bytes(key) {
         Ok(signer) => ask_under(alloc, &signer, message, signature, room, answer),
@@ -58,13 +50,8 @@ fn ask_under(
     room: &mut [u8],
     answer: &mut Question,
 ) -> u32
-    requires { SpellsSome SpellsKey (key_bytes signer.now) }
-    ensures raised { GivesQuestion (RaisedUnder (key_bytes signer.now) message.now signature.now)
-        result answer.old answer.new room.old room.new }
-    ensures unsupported { TellsNoneUnder (key_bytes signer.now) message.now signature.now result }
-    ensures signature { (fault : Fault) → whole signature_at signature.now ≡ Err fault
-        → result ≡ fault_number fault }
-    ensures memory { result ≡ 1 → SpellsSome SpellsSignature signature.now }
+    ensures { (k : Key) → SpellsKey k (key_bytes signer.now) → TellsQuestionUnder k message.now
+        signature.now result answer.old answer.new room.old room.new }
 {
     match SignatureRef::from_bytes(signature) {
         Ok(made) => ask(alloc, signer, message, &made, room, answer),
@@ -81,10 +68,9 @@ fn ask(
     room: &mut [u8],
     answer: &mut Question,
 ) -> u32
-    ensures raised { GivesQuestion (RaisedUnder (key_bytes signer.now) message.now
-        (signature_bytes made.now)) result answer.old answer.new room.old room.new }
-    ensures unsupported { TellsNoneUnder (key_bytes signer.now) message.now
-        (signature_bytes made.now) result }
+    ensures { (k : Key) (g : Signature) → SpellsKey k (key_bytes signer.now)
+        → SpellsSignature g (signature_bytes made.now) → TellsQuestion
+        (question k message.now g) result answer.old answer.new room.old room.new }
 {
     let Ok(key) = signer.to_key_data(alloc) else {
         return MEMORY;

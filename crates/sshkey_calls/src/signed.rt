@@ -1,12 +1,7 @@
 //! Certificates that were signed.
 
-ghost use Rattle.std.specs.Prelude.{◌≡◌, ◌≢◌, ◌++◌, ℕ, List, Err, IfOk};
-ghost use Rattle.sshkey_cert.specs.CertificateReaders.{SpellsCertificate};
-ghost use Rattle.sshkey_model.specs.Certificates.{Certificate, certificate_at};
-ghost use Rattle.sshkey_model.specs.Reading.{Fault, whole};
-ghost use Rattle.sshkey_calls.specs.Drafts.{FindsOr, FitsString, IsJoined, IsSigned, string_number};
-ghost use Rattle.sshkey_calls.specs.Numbers.{fault_number};
-ghost use Rattle.sshkey_calls.specs.Writing.{Writes};
+ghost use Rattle.std.specs.Prelude.{◌≡◌, ◌++◌, IfOk};
+ghost use Rattle.sshkey_calls.specs.Drafts.{FindsOr, FitsString, IsJoined, WritesCertificate, WritesSigned, string_number};
 
 use crate::draft_fields::string_of;
 use crate::number::{MEMORY, error_number};
@@ -27,12 +22,8 @@ pub fn certificate_make(
     room: &mut [u8],
     length: &mut usize,
 ) -> u32
-    ensures written { Writes (IsSigned to_be_signed.now signature.now)
+    ensures { WritesSigned to_be_signed.now signature.now
         result length.old length.new room.old room.new }
-    ensures fault { (s : List ℕ) (fault : Fault) → IsJoined to_be_signed.now signature.now s
-        → whole certificate_at s ≡ Err fault → result ≢ 1 → result ≡ fault_number fault }
-    ensures long { (FitsString signature.now → ⊥) → result ≡ 13 }
-    ensures memory { result ≡ 1 → FitsString signature.now }
 {
     match join(alloc, to_be_signed, signature) {
         Ok(certificate) => write_certificate(&certificate, room, length),
@@ -63,12 +54,7 @@ fn append(alloc: Global, first: &[u8], second: &[u8]) -> sshkey_base::Result<Vec
 
 /// Writes the bytes, if they spell a certificate.
 fn write_certificate(certificate: &[u8], room: &mut [u8], length: &mut usize) -> u32
-    ensures written { Writes (λ s. (s ≡ certificate.now)
-        × (c : Certificate) × SpellsCertificate c certificate.now)
-        result length.old length.new room.old room.new }
-    ensures fault { (fault : Fault) → whole certificate_at certificate.now ≡ Err fault
-        → result ≡ fault_number fault }
-    ensures memory { result ≢ 1 }
+    ensures { WritesCertificate certificate.now result length.old length.new room.old room.new }
 {
     match CertificateRef::from_bytes(certificate) {
         Ok(_) => write_bytes(certificate, room, length),

@@ -1,20 +1,14 @@
 //! What has to be verified of an SSH signature.
 
-ghost use Rattle.std.specs.Prelude.{◌≡◌, ◌≢◌, ◌↔◌, Err, IfSome, IsTrue, None, Some, length};
-ghost use Rattle.sshkey_base.specs.Digests.{digest_len};
+ghost use Rattle.std.specs.Prelude.{◌≡◌, ◌≢◌, ◌↔◌, IfSome, IsTrue};
 ghost use Rattle.sshkey_keys.specs.Keys.{key_of};
 ghost use Rattle.sshkey_keys.specs.Questions.{question_of};
 ghost use Rattle.sshkey_model.specs.Names.{Sha256};
-ghost use Rattle.sshkey_model.specs.Reading.{Fault, whole};
-ghost use Rattle.sshkey_model.specs.SignedMessages.{signed_by};
-ghost use Rattle.sshkey_model.specs.SshSignatures.{SshSignature};
 ghost use Rattle.sshkey_model.specs.Verification.{question};
-ghost use Rattle.sshkey_sshsig.specs.SshSignatureReaders.{SpellsSshSignature, ssh_signature_value_at};
 ghost use Rattle.sshkey_sshsig.specs.SshSignatures.{ssh_signature_of};
 ghost use Rattle.sshkey_calls.specs.Fingerprints.{GivesDigestOf};
-ghost use Rattle.sshkey_calls.specs.Numbers.{fault_number};
 ghost use Rattle.sshkey_calls.specs.Questions.{GivesQuestion};
-ghost use Rattle.sshkey_calls.specs.SshSignatures.{FindsSshSignature, IsSignerOf, NeedsSshSignature, RaisedByDigest, RaisedBySshSignature, RaisesOfDigest, RaisesOfMessage, TellsNoneOfDigest, TellsNoneOfSshSignature, signed_with_digest};
+ghost use Rattle.sshkey_calls.specs.SshSignatures.{TellsDigestQuestion, TellsMessageQuestion, TellsSigner, TellsSshsigQuestion, TellsSshsigQuestionOfDigest, FindsSshSignature};
 
 use crate::digest::Sha256Digest;
 use crate::number::{DONE, LENGTH, MEMORY, OTHER_NAMESPACE, UNSUPPORTED, error_number};
@@ -42,16 +36,8 @@ pub fn sshsig_question(
     answer: &mut Question,
     signer: &mut Sha256Digest,
 ) -> u32
-    ensures raised { GivesQuestion (RaisedBySshSignature signature.now namespace.now message.now)
-        result answer.old answer.new room.old room.new }
-    ensures unsupported { TellsNoneOfSshSignature signature.now namespace.now message.now result }
-    ensures signer { result ≡ 0 → IsSignerOf signature.now signer.new.bytes }
-    ensures stays { result ≢ 0 → signer.new ≡ signer.old }
-    ensures namespace { (f : SshSignature) → SpellsSshSignature f signature.now
-        → f.namespace ≢ namespace.now → result ≢ 1 → result ≡ 41 }
-    ensures fault { (fault : Fault) → whole ssh_signature_value_at signature.now ≡ Err fault
-        → result ≢ 1 → result ≡ fault_number fault }
-    ensures memory { result ≡ 1 → NeedsSshSignature signature.now }
+    ensures { TellsSshsigQuestion signature.now namespace.now message.now
+        result answer.old answer.new room.old room.new signer.old signer.new }
 {
     match find_signature(alloc, signature, namespace) {
         Ok(found) => ask(alloc, &found, message, room, answer, signer),
@@ -74,19 +60,8 @@ pub fn sshsig_question_of_digest(
     answer: &mut Question,
     signer: &mut Sha256Digest,
 ) -> u32
-    ensures raised { GivesQuestion (RaisedByDigest signature.now namespace.now digest.now)
-        result answer.old answer.new room.old room.new }
-    ensures unsupported { TellsNoneOfDigest signature.now namespace.now digest.now result }
-    ensures signer { result ≡ 0 → IsSignerOf signature.now signer.new.bytes }
-    ensures stays { result ≢ 0 → signer.new ≡ signer.old }
-    ensures namespace { (f : SshSignature) → SpellsSshSignature f signature.now
-        → f.namespace ≢ namespace.now → result ≢ 1 → result ≡ 41 }
-    ensures length { (f : SshSignature) → SpellsSshSignature f signature.now
-        → f.namespace ≡ namespace.now → length digest.now ≢ digest_len f.hash
-        → result ≢ 1 → result ≡ 13 }
-    ensures fault { (fault : Fault) → whole ssh_signature_value_at signature.now ≡ Err fault
-        → result ≢ 1 → result ≡ fault_number fault }
-    ensures memory { result ≡ 1 → NeedsSshSignature signature.now }
+    ensures { TellsSshsigQuestionOfDigest signature.now namespace.now digest.now
+        result answer.old answer.new room.old room.new signer.old signer.new }
 {
     match find_signature(alloc, signature, namespace) {
         Ok(found) => ask_of_digest(alloc, &found, digest, room, answer, signer),
@@ -125,14 +100,8 @@ fn ask(
     answer: &mut Question,
     signer: &mut Sha256Digest,
 ) -> u32
-    ensures raised { GivesQuestion (RaisesOfMessage (ssh_signature_of read.now) message.now)
-        result answer.old answer.new room.old room.new }
-    ensures unsupported { question (ssh_signature_of read.now).key
-        (signed_by (ssh_signature_of read.now) message.now)
-        (ssh_signature_of read.now).signature ≡ None → result ≢ 1 → result ≡ 40 }
-    ensures signer { result ≡ 0
-        → GivesDigestOf Sha256 (ssh_signature_of read.now).key signer.new.bytes }
-    ensures stays { result ≢ 0 → signer.new ≡ signer.old }
+    ensures { TellsMessageQuestion (ssh_signature_of read.now) message.now
+        result answer.old answer.new room.old room.new signer.old signer.new }
 {
     let Ok(signed) = read.signed_bytes(alloc, message) else {
         return MEMORY;
@@ -149,17 +118,8 @@ fn ask_of_digest(
     answer: &mut Question,
     signer: &mut Sha256Digest,
 ) -> u32
-    ensures raised { GivesQuestion (RaisesOfDigest (ssh_signature_of read.now) digest.now)
-        result answer.old answer.new room.old room.new }
-    ensures unsupported { length digest.now ≡ digest_len (ssh_signature_of read.now).hash
-        → question (ssh_signature_of read.now).key
-        (signed_with_digest (ssh_signature_of read.now) digest.now)
-        (ssh_signature_of read.now).signature ≡ None → result ≢ 1 → result ≡ 40 }
-    ensures signer { result ≡ 0
-        → GivesDigestOf Sha256 (ssh_signature_of read.now).key signer.new.bytes }
-    ensures stays { result ≢ 0 → signer.new ≡ signer.old }
-    ensures length { length digest.now ≢ digest_len (ssh_signature_of read.now).hash
-        → result ≡ 13 }
+    ensures { TellsDigestQuestion (ssh_signature_of read.now) digest.now
+        result answer.old answer.new room.old room.new signer.old signer.new }
 {
     if digest.len() != read.hash_alg().digest_size() {
         return LENGTH;
@@ -179,14 +139,9 @@ fn ask_about(
     answer: &mut Question,
     signer: &mut Sha256Digest,
 ) -> u32
-    ensures raised { GivesQuestion (λ q. question (ssh_signature_of read.now).key signed.now
-        (ssh_signature_of read.now).signature ≡ Some q)
-        result answer.old answer.new room.old room.new }
-    ensures unsupported { question (ssh_signature_of read.now).key signed.now
-        (ssh_signature_of read.now).signature ≡ None → result ≢ 1 → result ≡ 40 }
-    ensures signer { result ≡ 0
-        → GivesDigestOf Sha256 (ssh_signature_of read.now).key signer.new.bytes }
-    ensures stays { result ≢ 0 → signer.new ≡ signer.old }
+    ensures { let f = ssh_signature_of read.now in
+        TellsSigner f.key (question f.key signed.now f.signature)
+        result answer.old answer.new room.old room.new signer.old signer.new }
 {
     match read.public_key().question(signed, read.signature()) {
         Some(question) => {

@@ -10,11 +10,11 @@ use Rattle.sshkey_known_hosts.specs.declared.verdict.Verdict.TheVariants.{Change
 use Rattle.sshkey_model.specs.Keys.{Key}
 use Rattle.sshkey_model.proofs.Blobs.{key_blobs}
 use Rattle.sshkey_known_hosts.specs.Hmac.{hmac_sha1}
-use Rattle.sshkey_entry_calls.specs.Verdicts.{IsAuthorityVerdict, IsVerdictOn, TellsBy, is_grave, verdict_number}
+use Rattle.sshkey_entry_calls.specs.Verdicts.{IsAuthorityVerdict, IsVerdictOn, is_grave, verdict_number}
 use Rattle.sshkey_entry_calls.specs.declared.hosts.Role.{Role}
 
 -- the verdict on one key is that on the one that the bytes spell
-pub told : (role : Role) (text host : List ℕ) (port : ℕ) (bytes own : List ℕ) (n : ℕ) → own ≡ bytes → (n ≢ 1 → (k : Key) × SpellsKey k own × (v : Verdict) × IsVerdictOn role hmac_sha1 (known_name host port) k (filled_lines text) v × (n ≡ verdict_number v)) → TellsBy (IsVerdictOn role) text host port bytes n
+pub told : (role : Role) (text host : List ℕ) (port : ℕ) (bytes own : List ℕ) (n : ℕ) → own ≡ bytes → (n ≢ 1 → (k : Key) × SpellsKey k own × (v : Verdict) × IsVerdictOn role hmac_sha1 (known_name host port) k (filled_lines text) v × (n ≡ verdict_number v)) → (k : Key) → SpellsKey k bytes → n ≢ 1 → (v : Verdict) × IsVerdictOn role hmac_sha1 (known_name host port) k (filled_lines text) v × (n ≡ verdict_number v)
 told role text host port bytes own n same judged k spelled not_memory =
     let j = judged not_memory in
     let one : j.0 ≡ k = key_blobs.one j.0 k bytes (subst (SpellsKey j.0) same j.1) spelled in

@@ -3,12 +3,13 @@ use Rattle.std.specs.Prelude.{◌≡◌, ◌≢◌, ℕ, List, Bool, true, false
 use Rattle.sshkey_entries.specs.Fields.{filled_lines}
 use Rattle.sshkey_entries.specs.HostNames.{known_name}
 use Rattle.sshkey_entries.specs.HostVerdicts.{HidesSome, IsAuthority, IsRevoked}
-use Rattle.sshkey_keys.specs.Keys.{SpellsKey}
+use Rattle.sshkey_keys.specs.Keys.{SpellsKey, key_data_at}
 use Rattle.sshkey_known_hosts.specs.Verdicts.{IsVerdict}
 use Rattle.sshkey_known_hosts.specs.declared.verdict.Verdict.{Verdict}
 use Rattle.sshkey_known_hosts.specs.declared.verdict.Verdict.TheVariants as verdict
 use Rattle.sshkey_model.specs.Keys.{Key}
 use Rattle.sshkey_known_hosts.specs.Hmac.{hmac_sha1}
+use Rattle.sshkey_calls.specs.Outcomes.{TellsOf}
 use Rattle.sshkey_entry_calls.specs.declared.hosts.Role.{Role}
 use Rattle.sshkey_entry_calls.specs.declared.hosts.Role.TheVariants as role
 
@@ -40,10 +41,10 @@ IsAuthorityVerdict hmac name key lines verdict.Unknown = ¬ IsRevoked hmac name 
 
 -- ---- what is told
 
--- For the key that the bytes spell, the number is that of the one verdict that the lines of the
--- text give under HMAC-SHA1, memory aside.
+-- Of the key that the bytes spell, the number is that of the one verdict that the lines of the text
+-- give under HMAC-SHA1, memory aside.
 abbrev pub TellsBy : ((List ℕ → List ℕ → List ℕ) → List ℕ → Key → List (List ℕ) → Verdict → Type 0) → List ℕ → List ℕ → ℕ → List ℕ → ℕ → Type 0
-TellsBy Is text host port bytes n = (k : Key) → SpellsKey k bytes → n ≢ 1 → (v : Verdict) × Is hmac_sha1 (known_name host port) k (filled_lines text) v × (n ≡ verdict_number v)
+TellsBy Is text host port bytes n = TellsOf SpellsKey key_data_at bytes (λ k. n ≢ 1 → (v : Verdict) × Is hmac_sha1 (known_name host port) k (filled_lines text) v × (n ≡ verdict_number v)) n (Unit {0})
 
 abbrev pub TellsVerdict : List ℕ → List ℕ → ℕ → List ℕ → ℕ → Type 0
 TellsVerdict = TellsBy IsVerdict

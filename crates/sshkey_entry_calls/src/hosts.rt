@@ -1,17 +1,14 @@
 //! What a text of known_hosts says of a host's key, and of that of an authority that signed one.
 
-ghost use Rattle.std.specs.Prelude.{◌≡◌, ◌≢◌, Err, IfOk};
+ghost use Rattle.std.specs.Prelude.{◌≡◌, ◌≢◌, IfOk};
 ghost use Rattle.std.specs.Str.{IsUtf8};
-ghost use Rattle.sshkey_base.specs.Acceptance.{SpellsSome};
 ghost use Rattle.sshkey_entries.specs.Fields.{filled_lines};
 ghost use Rattle.sshkey_entries.specs.HostNames.{known_name};
 ghost use Rattle.sshkey_known_hosts.specs.Hmac.{hmac_sha1};
-ghost use Rattle.sshkey_keys.specs.Keys.{SpellsKey, key_data_at, key_of};
+ghost use Rattle.sshkey_keys.specs.Keys.{SpellsKey, key_of};
 ghost use Rattle.sshkey_keys_ref.specs.KeyDataRef.{key_bytes};
 ghost use Rattle.sshkey_known_hosts.specs.declared.verdict.Verdict.{Verdict};
 ghost use Rattle.sshkey_model.specs.Keys.{IsKey, Key};
-ghost use Rattle.sshkey_model.specs.Reading.{Fault, whole};
-ghost use Rattle.sshkey_calls.specs.Numbers.{fault_number};
 ghost use Rattle.sshkey_entry_calls.specs.Verdicts.{IsVerdictOn, TellsBy, TellsAuthority, TellsVerdict, verdict_number};
 
 use crate::authority::verdict_on_authority;
@@ -44,10 +41,7 @@ pub(crate) enum Role {
 pub fn host_verdict(alloc: Global, known_hosts: &[u8], host: &[u8], port: u16, key: &[u8]) -> u32
     ensures verdict { IsUtf8 known_hosts.now → IsUtf8 host.now
         → TellsVerdict known_hosts.now host.now port key.now result }
-    ensures fault { IsUtf8 known_hosts.now → IsUtf8 host.now → (fault : Fault)
-        → whole key_data_at key.now ≡ Err fault → result ≡ fault_number fault }
     ensures text { (IsUtf8 known_hosts.now → IsUtf8 host.now → ⊥) → result ≡ 4 }
-    ensures memory { result ≡ 1 → SpellsSome SpellsKey key.now }
 {
     verdict_for(alloc, known_hosts, host, port, key, Role::Host)
 }
@@ -67,10 +61,7 @@ pub fn authority_verdict(
 ) -> u32
     ensures verdict { IsUtf8 known_hosts.now → IsUtf8 host.now
         → TellsAuthority known_hosts.now host.now port key.now result }
-    ensures fault { IsUtf8 known_hosts.now → IsUtf8 host.now → (fault : Fault)
-        → whole key_data_at key.now ≡ Err fault → result ≡ fault_number fault }
     ensures text { (IsUtf8 known_hosts.now → IsUtf8 host.now → ⊥) → result ≡ 4 }
-    ensures memory { result ≡ 1 → SpellsSome SpellsKey key.now }
 {
     verdict_for(alloc, known_hosts, host, port, key, Role::Authority)
 }
@@ -86,10 +77,7 @@ fn verdict_for(
 ) -> u32
     ensures verdict { IsUtf8 known_hosts.now → IsUtf8 host.now
         → TellsBy (IsVerdictOn role) known_hosts.now host.now port key.now result }
-    ensures fault { IsUtf8 known_hosts.now → IsUtf8 host.now → (fault : Fault)
-        → whole key_data_at key.now ≡ Err fault → result ≡ fault_number fault }
     ensures text { (IsUtf8 known_hosts.now → IsUtf8 host.now → ⊥) → result ≡ 4 }
-    ensures memory { result ≡ 1 → SpellsSome SpellsKey key.now }
 {
     match str::from_utf8(known_hosts) {
         Ok(text) => match str::from_utf8(host) {
@@ -102,10 +90,7 @@ fn verdict_for(
 
 /// The same of texts.
 fn read_and_judge(alloc: Global, text: &str, host: &str, port: u16, key: &[u8], role: Role) -> u32
-    ensures verdict { TellsBy (IsVerdictOn role) text.now host.now port key.now result }
-    ensures fault { (fault : Fault) → whole key_data_at key.now ≡ Err fault
-        → result ≡ fault_number fault }
-    ensures memory { result ≡ 1 → SpellsSome SpellsKey key.now }
+    ensures { TellsBy (IsVerdictOn role) text.now host.now port key.now result }
 {
     match KeyDataRef::from_bytes(key) {
         Ok(read) => judge(alloc, text, host, port, &read, role),

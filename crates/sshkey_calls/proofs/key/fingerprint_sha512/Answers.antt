@@ -4,8 +4,8 @@ use Rattle.sshkey_model.specs.Names.{Sha512}
 use Rattle.sshkey_calls.proofs.Digests.{digest_given, no_digest}
 use Rattle.sshkey_calls.proofs.key.fingerprint_sha512.Goals as goal
 
-pub returns-clause-fingerprint : goal.returns-clause-fingerprint
-returns-clause-fingerprint c = digest_given Sha512 c.args.key.now c.in-Ok.fingerprint _ _ c.in-Ok.ensures.found (ap digest_of c.in-Some.ensures)
+pub returns : goal.returns
+returns c = digest_given Sha512 c.args.key.now c.in-Ok.fingerprint _ _ c.in-Ok.ensures (ap digest_of c.in-Some.ensures)
 
-pub returns-in-Err-clause-fingerprint : goal.returns-in-Err-clause-fingerprint
-returns-in-Err-clause-fingerprint c = no_digest Sha512 c.args.key.now c.in-Err.number _ c.in-Err.ensures.found
+pub returns-in-Err : goal.returns-in-Err
+returns-in-Err c = no_digest Sha512 c.args.key.now c.in-Err.number _ c.in-Err.ensures

@@ -1,12 +1,11 @@
-use Rattle.std.proofs.Common.{refl, sym, ◌∙◌}
-use Rattle.sshkey_calls.proofs.Rooms.{no_memory, told_as}
+use Rattle.std.proofs.Common.{Option, refl, subst}
+use Rattle.sshkey_model.specs.Verification as model
+use Rattle.sshkey_calls.specs.Questions.{TellsQuestion}
+use Rattle.sshkey_calls.proofs.Rooms.{no_memory}
 use Rattle.sshkey_calls.proofs.question.ask.Goals as goal
 
-pub returns-in-Ok-clause-raised : goal.returns-in-Ok-clause-raised
-returns-in-Ok-clause-raised c = told_as _ _ _ _ _ (λ q is. sym c.in-Ok.ensures.value ∙ is) (λ q is. c.in-Ok.ensures.value ∙ is) c.tell.ensures.raised
+pub returns-in-Ok : goal.returns-in-Ok
+returns-in-Ok c = subst (λ (q : Option model.Question). TellsQuestion q c.tell.result c.args.answer.now c.tell.new.answer c.args.room.now c.tell.new.room) c.in-Ok.ensures.value c.tell.ensures
 
-pub returns-in-Ok-clause-unsupported : goal.returns-in-Ok-clause-unsupported
-returns-in-Ok-clause-unsupported c none _ = c.tell.ensures.unsupported (c.in-Ok.ensures.value ∙ none)
-
-pub returns-clause-raised : goal.returns-clause-raised
-returns-clause-raised c = no_memory _ _ _ _ _ (refl, refl) refl
+pub returns : goal.returns
+returns c = record { raised = no_memory _ _ _ _ _ (refl, refl) refl; unsupported = λ _ other. absurd (other refl) }

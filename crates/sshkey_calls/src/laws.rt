@@ -1,0 +1,18 @@
+//! What holds of all bytes: a function without code, with a law as its contract.
+
+ghost use Rattle.sshkey_cert.specs.CertificateReaders.{SpellsCertificate};
+ghost use Rattle.sshkey_keys.specs.Keys.{SpellsKey, key_data_at};
+ghost use Rattle.sshkey_keys.specs.SignatureReaders.{SpellsSignature};
+ghost use Rattle.sshkey_model.specs.Certificates.{certificate_at};
+ghost use Rattle.sshkey_model.specs.Signatures.{signature_at};
+ghost use Rattle.sshkey_sshsig.specs.SshSignatureReaders.{SpellsSshSignature, ssh_signature_value_at};
+ghost use Rattle.sshkey_calls.specs.Outcomes.{HasOneOutcome};
+
+/// Bytes that spell a value spell no other, and have no fault. So a call tells of a value exactly
+/// if the bytes spell one, and it is that one.
+pub fn one_outcome()
+    ensures key { HasOneOutcome SpellsKey key_data_at }
+    ensures signature { HasOneOutcome SpellsSignature signature_at }
+    ensures certificate { HasOneOutcome SpellsCertificate certificate_at }
+    ensures ssh_signature { HasOneOutcome SpellsSshSignature ssh_signature_value_at }
+{}
