@@ -3,4 +3,4 @@ pub mod Found
 pub mod Counted
 pub mod Told
 pub mod SomeKey
-mod Signers
+mod SignerVerdicts

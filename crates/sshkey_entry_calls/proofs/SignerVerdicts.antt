@@ -1,5 +1,5 @@
 -- The verdict on an SSH signature, given what the caller's verification said.
-use Rattle.std.proofs.Common.{◌≡◌, ◌≢◌, ◌↔◌, ◌∙◌, ℕ, List, [], Bool, true, false, IsTrue, IsErrAnd, subst, Option, Some, None, Result, Ok, Err, IfErr, refl, sym}
+use Rattle.std.proofs.Common.{◌≡◌, ◌≢◌, ◌↔◌, ◌∙◌, ℕ, List, [], Bool, false, IsTrue, IsErrAnd, subst, Option, Some, None, Result, Ok, Err, IfErr, refl, sym}
 use Rattle.std.proofs.lemmas.Bool.{true≢false}
 use Rattle.allowed_signers.specs.AllowedSigners.{Counts, HasSignature, HasSigned, IsWhy, OkExactly}
 use Rattle.allowed_signers.specs.declared.signers.Refusal.{Refusal}
@@ -58,7 +58,7 @@ module _ (accepts : Question → Bool) (bytes message : List ℕ) (is_verified :
     why_there NoSignature why = why
     why_there NotAllowed why = why
     why_there Revoked why = why
-    why_there NotVerified why = (why.0, why.1, why.2.0, why.2.1, λ has. why.2.2 (back namespace why.0 why.1 has))
+    why_there NotVerified why = (why.0, why.1, (why.2.0, why.2.1, λ has. why.2.2 (back namespace why.0 why.1 has)))
     why_there Memory why = why
 
     pub judged_there : (n : ℕ) → IsJudged (λ _. is_yes is_verified) revokes signers identity namespace [] time bytes n → IsJudged accepts revokes signers identity namespace message time bytes n
@@ -82,5 +82,5 @@ told signers identity namespace time revoked is_verified bytes n b same judged s
 -- ---- memory
 
 pub some_memory : (read : Result RevokedKeys Error) (lacks : Bool) → IsTrue lacks ↔ IsErrAnd read (λ e. cause e ≡ NoMemory) → lacks ≡ false → IfErr read (λ e. cause e ≢ NoMemory)
-some_memory (Ok file) lacks is no = tt
-some_memory (Err e) lacks is no = λ memory. true≢false (sym (is.1 memory) ∙ no)
+some_memory (Ok file) lacks is none = tt
+some_memory (Err e) lacks is none = λ memory. true≢false (sym (is.1 memory) ∙ none)
