@@ -60,7 +60,7 @@ typedef bool judge_is_met(const uint8_t *name, size_t name_length, const uint8_t
 /* A login by a certificate. */
 typedef struct {
   const char *user;        /* whom the client wants to be; null or empty is nobody */
-  judge_blob key;          /* the key of which the client has proved that it holds it */
+  judge_blob key;          /* the key that the client has proved to hold */
   uint64_t unix_timestamp; /* when that is */
   judge_authorities by;    /* who may certify users */
   judge_is_met *is_met;    /* may be null: then each critical option is one that is not known */

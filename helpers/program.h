@@ -9,7 +9,7 @@
 /* The name of the program, as it is installed. Each has its own. */
 extern const char program_name[];
 
-/* Says on standard error, behind the name, what is wrong. */
+/* Says on standard error, after the name, what is wrong. */
 void program_complain(const char *format, ...) __attribute__((format(printf, 1, 2)));
 
 /* Whether all that was printed is written; else it says why not. */

@@ -22,7 +22,7 @@ static const char help[] =
 /* a line with more options is left out: each takes time for all */
 #define MOST_OPTIONS 64
 
-/* What the client offers: a key, or a certificate, of which it is the key that signed. */
+/* The key that the client offers, or the one that signed the certificate that it offers. */
 typedef struct {
   const char *path; /* of the file whose lines are looked at */
   sshkey_sha256 digest;

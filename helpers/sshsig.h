@@ -25,7 +25,8 @@ typedef struct {
   judge_blob text;         /* that of a file of allowed signers */
   const char *identity;    /* one of those whom it names */
   uint64_t unix_timestamp; /* when that is */
-  judge_blob revoked;      /* a key revocation list, or keys, one a line; no bytes revoke nothing */
+  judge_blob revoked;      /* a key revocation list, or keys, one a line; no bytes revoke nothing,
+                              unlike in judge_login */
 } judge_signers;
 
 /* The same, as the identity's by allowed signers: SSHKEY_DONE, or what is wrong first, a number of

@@ -16,11 +16,11 @@
  *
  * What you owe, which nothing checks:
  *
- *  - Both calls get the SAME certificate or signature, of which no byte changed in between, and
+ *  - Both calls get the SAME certificate or signature, with no byte changed in between, and
  *    `is_verified` is what your verification said of the question of that one.
  *  - No pointer is null, also where the length beside it is 0: sshkey_bytes(p) below gives one that
  *    may be passed.
- *  - A length is the true one: so many bytes, all initialised, lie behind the pointer, in one
+ *  - A length is the true one: that many bytes, all initialised, lie at the pointer, in one
  *    object, and at most PTRDIFF_MAX of them.
  *  - What a call writes (room, answer, ..: the pointers without const) overlaps no other
  *    argument of the call, is initialised (zero it once), and nobody else reads or writes it during
@@ -173,7 +173,7 @@ typedef struct {
 } sshkey_sha512;
 
 /* How a signature is made. A key's blob (RFC 4253, section 6.6) is strings, one after the other:
- * four bytes of length, big-endian, and so many bytes. The first is the name of the key's type. So
+ * four bytes of length, big-endian, and the bytes. The first is the name of the key's type. So
  * are the signatures of ECDSA. sshkey_next_string goes over them.
  *
  * Numbers in strings are mpints (RFC 4251, section 5): two's complement, big-endian. Those of a DSA
@@ -361,7 +361,7 @@ typedef struct {
  * SSHKEY_DONE exactly if the draft tells a certificate, memory and room aside. Else what is wrong,
  * in this order: SSHKEY_FORMAT for another certificate_type, SSHKEY_TIME for a time above 2^63 - 1,
  * SSHKEY_EMPTY_WINDOW, SSHKEY_PRINCIPALS; then 10 to 29 for a key, a text or a list that is none. A
- * key to be certified that has a private-use name is rejected: SSHKEY_LABEL. Ask besides:
+ * key to be certified that has a private-use name is rejected: SSHKEY_LABEL. Also ask:
  * docs/CHECKLIST.md, "An authority". */
 uint32_t sshkey_certificate_to_be_signed(const sshkey_draft *draft, uint8_t *room,
                                          size_t room_length, size_t *length);
@@ -447,7 +447,7 @@ uint32_t sshkey_sshsig_question_of_digest(const uint8_t *signature, size_t signa
  * without reserved bytes, `is_verified` is 1, a line lets its key sign for the identity in the
  * namespace at that time, and the key is not revoked (memory aside). Else 55, 56 or
  * SSHKEY_NOT_SIGNED, 10 to 29 for bytes that are no signature, or SSHKEY_TEXT. SSHKEY_MEMORY only
- * where a part of the signature is whole. Ask besides: docs/CHECKLIST.md, "A signature". */
+ * where a part of the signature is whole. Also ask: docs/CHECKLIST.md, "A signature". */
 uint32_t sshkey_signer_verdict(const uint8_t *signers, size_t signers_length,
                                const uint8_t *identity, size_t identity_length,
                                const uint8_t *name_space, size_t name_space_length,
@@ -484,7 +484,7 @@ uint32_t sshkey_signature_normal(const uint8_t *signature, size_t signature_leng
 
 /* ---- strings (RFC 4251, section 5) ----------------------------------------------------------- */
 
-/* The string that begins at that place: four bytes of length, and so many bytes, which are the
+/* The string that begins at that place: four bytes of length, and that many bytes, which are the
  * answer. The next begins at answer.start + answer.length. SSHKEY_DONE exactly if one stands there;
  * SSHKEY_END at the end of the bytes, else SSHKEY_LENGTH. Takes no memory. */
 uint32_t sshkey_next_string(const uint8_t *bytes, size_t length, size_t place, sshkey_part *answer);
@@ -522,7 +522,7 @@ enum { SSHKEY_MARKER_NONE = 0, SSHKEY_MARKER_CERT_AUTHORITY = 1, SSHKEY_MARKER_R
 /* An entry of a line: where its parts stand in the room. */
 typedef struct {
   sshkey_part front;   /* the options as they stand in the line, or the hosts */
-  sshkey_part key;     /* the key's blob in its normal form, of which fingerprints are digests */
+  sshkey_part key;     /* the key's blob in its normal form, which fingerprints are digests of */
   sshkey_part comment; /* all that follows */
   size_t length;       /* how many bytes of the room these take */
   uint32_t marker;     /* SSHKEY_MARKER_*; of authorized_keys always SSHKEY_MARKER_NONE */
@@ -575,7 +575,7 @@ uint32_t sshkey_nth_option(const uint8_t *options, size_t options_length, size_t
  * could. Else 50 to 53, 10 to 29 for bytes that are no key, or SSHKEY_TEXT where the text or the
  * host is not UTF-8. Ask it of each file: the first of these counts that one of them says, revoked,
  * unreadable, trusted, changed. Where all say SSHKEY_HOST_UNKNOWN of a port other than 22, and only
- * there, ssh(1) asks about port 22 too. Of authorities nothing is said. Ask besides:
+ * there, ssh(1) asks about port 22 too. Of authorities nothing is said. Also ask:
  * docs/CHECKLIST.md, "A host". */
 uint32_t sshkey_host_verdict(const uint8_t *known_hosts, size_t known_hosts_length,
                              const uint8_t *host, size_t host_length, uint16_t port,

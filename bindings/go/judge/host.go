@@ -9,7 +9,7 @@ import (
 // standardPort is the port at which a host is known by its plain name.
 const standardPort = 22
 
-// places are those of verdicts among others, of which the first counts; no verdict, as ErrMemory,
+// places are those of verdicts among others: the first counts; no verdict, as ErrMemory,
 // is in none of them, and counts before all.
 var places = map[error]int{
 	sshkey.ErrHostRevoked: 1, sshkey.ErrHostUnreadable: 2, nil: 3, sshkey.ErrHostUnknown: 4,
@@ -21,8 +21,9 @@ var places = map[error]int{
 //
 // The texts are those of all the files of known_hosts that count, the user's and the machine's, and
 // the host is the name that was asked for. The certificate has to list it in small letters, as
-// ssh(1) asks; one that lists none is for each host of its authority. That the host holds the
-// certified key is not looked at (docs/FOREIGN.md).
+// ssh(1) asks; one that lists none is for each host of its authority. Whether the certificate is
+// revoked by a list, and whether the host holds the certified key is not looked at
+// (docs/FOREIGN.md).
 func ValidateHost(
 	certificate []byte, now time.Time, host string, port uint16, texts []string,
 ) error {

@@ -1,6 +1,7 @@
 // Package judge says whether certificates log users in, whether they are those of hosts, and
 // whether SSH signatures are valid, with Go's standard library for cryptography and package sshkey
-// for the rest. It is there to be copied, and equal to examples/check.py.
+// for the rest. It is there to be copied. It does what examples/check.py does, but asks no
+// revocation list.
 package judge
 
 import (
@@ -14,7 +15,7 @@ import (
 type Login struct {
 	// User is the name of the user, which the certificate has to list. "" is none.
 	User string
-	// Key is the blob of the key of which the client has proved that it holds it.
+	// Key is the blob of the key that the client has proved to hold.
 	Key []byte
 	// Now is the time at which the certificate has to be valid.
 	Now time.Time

@@ -15,7 +15,7 @@ import (
 )
 
 // leastBits and mostBits are those of an RSA key that counts: a shorter one is too weak, and
-// OpenSSH reads no longer one, of which each verification would take minutes.
+// OpenSSH reads no longer one: each verification would take minutes.
 const leastBits, mostBits = 2048, 16384
 
 var curves = map[sshkey.Algorithm]struct {

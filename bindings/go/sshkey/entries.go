@@ -124,8 +124,8 @@ func HostVerdict(knownHosts, host string, port uint16, key []byte) error {
 //
 // It is asked of each file, as HostVerdict is, and alone it trusts no certificate: that has to be
 // of type Host, without critical options, valid (ValidateCertificateFor) for the host's name in
-// small letters by the fingerprint of this key and no other, and of a key (Contents.Key) of which
-// HostVerdict says ErrHostRevoked in no file. judge.ValidateHost asks all of it.
+// small letters by the fingerprint of this key and no other, and of a key (Contents.Key) that
+// HostVerdict calls ErrHostRevoked in no file. judge.ValidateHost asks all of it.
 func AuthorityVerdict(knownHosts, host string, port uint16, key []byte) error {
 	in, whom, by := inputOf(knownHosts), inputOf(host), inputOf(key)
 	return errorOf(C.sshkey_authority_verdict(in.pointer(), in.length(),

@@ -96,7 +96,7 @@ const (
 	ErrHostRevoked Status = C.SSHKEY_HOST_REVOKED
 	// ErrHostUnreadable is for a text with a line that is no entry and may be one for the host.
 	ErrHostUnreadable Status = C.SSHKEY_HOST_UNREADABLE
-	// ErrHostChanged is for a host of which a line has another key, and none this one.
+	// ErrHostChanged is for a host for which a line has another key, and none this one.
 	ErrHostChanged Status = C.SSHKEY_HOST_CHANGED
 	// ErrHostUnknown is for a host that no line without a marker is for.
 	ErrHostUnknown Status = C.SSHKEY_HOST_UNKNOWN

@@ -14,7 +14,7 @@ const ROOM: usize = 1024;
 pub enum Listed<'a> {
     /// For everybody: it lists no principals.
     Everybody,
-    /// For those of these names, of which there is at least one.
+    /// For those of these names; there is at least one.
     Names(&'a [&'a str]),
 }
 

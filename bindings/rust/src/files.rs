@@ -114,8 +114,8 @@ pub struct EntryOption {
     pub value: Option<Vec<u8>>,
 }
 
-/// The options of an entry, of which each takes time for the whole text: bound the length of lines
-/// that others write.
+/// The options of an entry. Each takes time for the whole text: bound the length of lines that
+/// others write.
 #[derive(Clone, Debug)]
 #[must_use = "an iterator asks nothing until it is asked"]
 pub struct EntryOptions<'a> {

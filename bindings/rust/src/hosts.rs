@@ -26,7 +26,7 @@ pub struct Host<'a> {
 /// The port about which ssh(1) asks too.
 const STANDARD_PORT: u16 = 22;
 
-/// What texts of known_hosts say, of which the first counts that one of them does.
+/// What texts of known_hosts say: the first of these counts that one of them says.
 const VERDICTS: [Result<(), Status>; 5] = [
     Err(Status::HOST_REVOKED),
     Err(Status::HOST_UNREADABLE),
@@ -53,16 +53,17 @@ fn signed_verdict(host: &Host<'_>, port: u16, key: &[u8], authority: &[u8]) -> R
         .unwrap_or(Err(Status::HOST_UNKNOWN))
 }
 
-/// Whether the certificate, given as its blob, is that of the host, by an authority of which the
-/// texts of known_hosts say that it is the host's. `verify` is your cryptography. One that lists no
-/// principals is for each host of its authority.
+/// Whether the certificate, given as its blob, is that of the host, by an authority that the texts
+/// of known_hosts name as the host's. `verify` is your cryptography. One that lists no principals
+/// is for each host of its authority.
 ///
 /// Fails with what is wrong first: with a number from 10 to 29 where the bytes are no certificate;
 /// as [`authority_verdict`] does, and with [`Status::HOST_REVOKED`] where a line revokes the
 /// certified key; with [`Refusal::NotForHosts`]; with [`Refusal::UnmetOption`] for each critical
-/// option, of which none is known for hosts; and as [`judge_certificate`] does.
+/// option, since none is known for hosts; and as [`judge_certificate`] does.
 ///
-/// That the host holds the certified key is not looked at (docs/FOREIGN.md).
+/// Whether the certificate is revoked by a list, and whether the host holds the certified key is
+/// not looked at (docs/FOREIGN.md).
 pub fn validate_host(
     certificate: &[u8],
     host: &Host<'_>,

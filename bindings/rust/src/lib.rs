@@ -27,8 +27,8 @@
 //! The library is libsshkey.a of the folder that SSHKEY_LIB_DIR names when this crate is built, or
 //! else of out/, where `make` puts it.
 //!
-//! Each function says what it fails with: a [`Status`], of which [`Status::MEMORY`] says nothing
-//! of the input; where Rust itself gets no memory for a copy, the process ends. What is lent of the
+//! Each function says what it fails with: a [`Status`]; [`Status::MEMORY`] says nothing of
+//! the input; where Rust itself gets no memory for a copy, the process ends. What is lent of the
 //! input stands in it, and nothing is kept of it. Calls from several threads at once are fine; make
 //! none from a signal handler, or from the forked child of a process with threads. What no call
 //! answers, as is proved, would be a panic: a part that lies outside its bytes, and a fault of

@@ -28,7 +28,7 @@ const MOST_PRINCIPALS: usize = 256;
 pub struct Login<'a> {
     /// Whom the client wants to be. The empty name is nobody, also where a certificate lists it.
     pub user: &'a [u8],
-    /// The blob of the key of which the client has proved that it holds it.
+    /// The blob of the key that the client has proved to hold.
     pub key: &'a [u8],
     /// When that is, in seconds since 1970.
     pub unix_timestamp: u64,

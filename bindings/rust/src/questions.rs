@@ -5,7 +5,7 @@ use crate::rooms::ask;
 use crate::status::Status;
 
 /// How a signature is made. The key's blob is strings ([`strings`](crate::strings()) goes over
-/// them), of which the first is the name of its type; numbers in them are mpints. Numbers that are
+/// them), and the first is the name of its type; numbers in them are mpints. Numbers that are
 /// not positive, a point that does not begin with 04, and what is too weak to count (DSA, RSA keys
 /// of fewer than 2,048 bits) have to be refused.
 #[derive(Clone, Copy, Debug, PartialEq, Eq, Hash)]

@@ -1,4 +1,4 @@
-//! Strings (RFC 4251, section 5): four bytes of length, and so many bytes.
+//! Strings (RFC 4251, section 5): four bytes of length, and that many bytes.
 
 use std::iter::FusedIterator;
 
