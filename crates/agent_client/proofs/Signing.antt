@@ -17,7 +17,7 @@ use Rattle.ssh_key.proofs.Writing.{boxes_short}
 use Rattle.agent_codec.specs.Requests.{to_sign}
 use Rattle.agent_codec.specs.Responses as model
 use Rattle.agent_codec.specs.Responses.{given_of, response_format, response_grammar, response_of}
-use Rattle.agent_client.specs.Signing.{Counts, GetsNone, GetsSignature, IsAnswered, IsAskedFor, IsRefusalOf, ReadsSignature, RefusesToSign, SpellsAnswer, signing_request}
+use Rattle.agent_client.specs.Signing.{AgentRefuses, Counts, GetsNone, GetsSignature, IsAnswered, IsAskedFor, IsRefusalOf, ReadsAnswer, SpellsAnswer, signing_request}
 use Rattle.agent_codec.specs.declared.response.Response as code
 use Rattle.agent_codec.specs.declared.response.Response.TheVariants as variants
 
@@ -64,7 +64,7 @@ module _ (answers : List ℕ → Result (List ℕ) Error → Type 0) (request : 
   agent_failed sent e is answered = inr (record { handed = Err e; answered = subst (λ (b : List ℕ). answers b (Err e)) is answered; none = λ bytes g same. absurd cc })
 
   -- it answered these bytes, and reading them decides
-  pub answer_read : (sent items bytes : List ℕ) (r : Result code_signature.Signature Error) → sent ≡ flat request → answers sent (Ok items) → bytes ≡ items → ReadsSignature bytes r → GetsSignature answers request r
+  pub answer_read : (sent items bytes : List ℕ) (r : Result code_signature.Signature Error) → sent ≡ flat request → answers sent (Ok items) → bytes ≡ items → ReadsAnswer bytes r → GetsSignature answers request r
   answer_read sent items bytes (Ok g) is answered same h = record { bytes = items; answered = subst (λ (b : List ℕ). answers b (Ok items)) is answered; spelled = subst (λ (b : List ℕ). SpellsAnswer (signature_of g) b) same h }
   answer_read sent items bytes (Err e) is answered same h = λ other. inr (record { handed = Ok items; answered = subst (λ (b : List ℕ). answers b (Ok items)) is answered; none = none other })
     where
@@ -94,14 +94,14 @@ module _ (answers : List ℕ → Result (List ℕ) Error → Type 0) (accepts : 
   abbrev Kept : Signature → Type 0
   Kept = Counts accepts key flags message
 
-  pub refused_none : (e refusal : Error) → (e ≢ Memory → GetsNone answers (signing_request key flags message) (λ _. Unit {0})) → IsRefusalOf e refusal → RefusesToSign answers accepts key flags message refusal
+  pub refused_none : (e refusal : Error) → (e ≢ Memory → GetsNone answers (signing_request key flags message) (λ _. Unit {0})) → IsRefusalOf e refusal → AgentRefuses answers accepts key flags message refusal
   refused_none e refusal h (inl memory) = inl memory.1
   refused_none e refusal h (inr other) = inr (other.1, none_counts answers (signing_request key flags message) Kept (h other.0))
 
-  pub refused_one : (g : Signature) (e refusal : Error) → IsAnswered answers (signing_request key flags message) g → (e ≢ Memory → IsAccepted accepts key message g → ⊥) → IsRefusalOf e refusal → RefusesToSign answers accepts key flags message refusal
+  pub refused_one : (g : Signature) (e refusal : Error) → IsAnswered answers (signing_request key flags message) g → (e ≢ Memory → IsAccepted accepts key message g → ⊥) → IsRefusalOf e refusal → AgentRefuses answers accepts key flags message refusal
   refused_one g e refusal given h (inl memory) = inl memory.1
   refused_one g e refusal given h (inr other) = inr (other.1, one_refused answers (signing_request key flags message) Kept g given (λ counts. h other.0 counts.1))
 
   -- one by another hash
-  pub other_hash : (g : Signature) → IsAnswered answers (signing_request key flags message) g → (IsAskedFor flags g.algorithm → ⊥) → RefusesToSign answers accepts key flags message Crypto
+  pub other_hash : (g : Signature) → IsAnswered answers (signing_request key flags message) g → (IsAskedFor flags g.algorithm → ⊥) → AgentRefuses answers accepts key flags message Crypto
   other_hash g given not = inr (refl, one_refused answers (signing_request key flags message) Kept g given (λ counts. not counts.0))

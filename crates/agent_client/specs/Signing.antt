@@ -29,9 +29,9 @@ SpellsAnswer g = response_format.Spells (Signed g)
 
 -- A signature where the bytes are an answer that is one; memory aside, an error only where they are
 -- none.
-abbrev pub ReadsSignature : List ℕ → Result code.Signature Error → Type 0
-ReadsSignature bytes (Ok g) = SpellsAnswer (signature_of g) bytes
-ReadsSignature bytes (Err e) = e ≢ Memory → (g : Signature) → SpellsAnswer g bytes → ⊥
+abbrev pub ReadsAnswer : List ℕ → Result code.Signature Error → Type 0
+ReadsAnswer bytes (Ok g) = SpellsAnswer (signature_of g) bytes
+ReadsAnswer bytes (Err e) = e ≢ Memory → (g : Signature) → SpellsAnswer g bytes → ⊥
 
 -- What an agent may answer is given, and the request that it is asked.
 module _ (answers : List ℕ → Result (List ℕ) Error → Type 0) (request : Parts) where
@@ -68,8 +68,8 @@ Counts accepts key flags message g = IsAskedFor flags g.algorithm × IsAccepted 
 
 -- For which messages a key in an agent refuses to sign, and with which error: the agent has no
 -- signature that counts.
-abbrev pub RefusesToSign : (List ℕ → Result (List ℕ) Error → Type 0) → (Question → Bool) → Key → ℕ → List ℕ → Error → Type 0
-RefusesToSign answers accepts key flags message e = (e ≡ Memory) ⊎ ((e ≡ Crypto) × GetsNone answers (signing_request key flags message) (Counts accepts key flags message))
+abbrev pub AgentRefuses : (List ℕ → Result (List ℕ) Error → Type 0) → (Question → Bool) → Key → ℕ → List ℕ → Error → Type 0
+AgentRefuses answers accepts key flags message e = (e ≡ Memory) ⊎ ((e ≡ Crypto) × GetsNone answers (signing_request key flags message) (Counts accepts key flags message))
 
 -- `Memory` stays, and any other error is `Crypto`.
 abbrev pub IsRefusalOf : Error → Error → Type 0

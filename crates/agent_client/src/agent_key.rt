@@ -8,7 +8,7 @@ ghost use Rattle.ssh_key.specs.model.Parts.{flat, BoxesFit};
 ghost use Rattle.ssh_key.specs.model.Verification.{IsAccepted};
 ghost use Rattle.ssh_key.specs.types.Error.{Error};
 ghost use Rattle.ssh_key.specs.types.Error.TheVariants.{Memory};
-ghost use Rattle.agent_client.specs.Signing.{GetsSignature, IsAnswered, IsAskedFor, IsRefusalOf, ReadsSignature, RefusesToSign, handed, signing_request};
+ghost use Rattle.agent_client.specs.Signing.{AgentRefuses, GetsSignature, IsAnswered, IsAskedFor, IsRefusalOf, ReadsAnswer, handed, signing_request};
 
 use agent_codec::{Request, Response, SignRequest};
 use ssh_key::encoding::{Bytes, decode_whole, encode_vec};
@@ -91,7 +91,7 @@ impl<A: Agent, V: RawVerifier> AgentKey<'_, A, V> {
 
 /// The signature of an answer. Fails with `Crypto` for an answer that is none.
 fn signature_from(alloc: Global, answer: &[u8]) -> Result<Signature>
-    ensures { ReadsSignature answer.now result }
+    ensures { ReadsAnswer answer.now result }
 {
     match decode_whole::<Response, &[u8]>(alloc, answer)?.into_signature() {
         Some(signature) => Ok(signature),
@@ -137,7 +137,7 @@ impl<A: Agent, V: RawVerifier> SigningKey for AgentKey<'_, A, V> {
 
     ghost public_of = { λ s. s.key };
 
-    ghost refuses = { λ s. RefusesToSign (A.answers s.agent.now) (V.accepts s.verifier.now)
+    ghost refuses = { λ s. AgentRefuses (A.answers s.agent.now) (V.accepts s.verifier.now)
         (key_of s.key) s.flags };
 
     ghost permits = { λ s message. A.permits s.agent.now
@@ -161,7 +161,7 @@ impl<A: Agent, V: RawVerifier> SigningKey for AgentKey<'_, A, V> {
             (flat (signing_request (key_of self.now.key) self.now.flags message.now)) }
         ensures accepted { IfOk result (λ g. IsAccepted (V.accepts self.now.verifier.now)
             (key_of self.now.key) message.now (signature_of g)) }
-        ensures refused { IfErr result (RefusesToSign (A.answers self.now.agent.now)
+        ensures refused { IfErr result (AgentRefuses (A.answers self.now.agent.now)
             (V.accepts self.now.verifier.now) (key_of self.now.key) self.now.flags message.now) }
         ensures answered { IfOk result (λ g. IsAnswered (A.answers self.now.agent.now)
             (signing_request (key_of self.now.key) self.now.flags message.now) (signature_of g)) }

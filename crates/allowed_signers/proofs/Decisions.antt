@@ -21,7 +21,7 @@ use Rattle.sshkey_base.specs.declared.error.Error.{Error}
 use Rattle.sshkey_base.specs.declared.error.Error.TheVariants.{Encoding, Memory}
 use Rattle.sshkey_base.specs.declared.encoding.Error.TheVariants.{Length}
 use Rattle.sshkey_base.proofs.Acceptance.{other_cause}
-use Rattle.allowed_signers.specs.AllowedSigners.{Allows, Answers, HasEntryFor, HasSignature, HasSigned, IsEntryFor, IsNo, Names, OkExactly, OptionsPermit, ReadsSignature}
+use Rattle.allowed_signers.specs.AllowedSigners.{AllowsSigner, AnswersYesOrNo, HasEntryFor, HasSignature, HasSigned, IsEntryFor, IsNo, IsRefusalFor, OkExactly, OptionsPermit, ReadsSignature}
 use Rattle.allowed_signers.specs.OneValue.{IsTheOne}
 use Rattle.allowed_signers.specs.Principals.{ArePrincipals}
 use Rattle.allowed_signers.specs.SignerOptions.{AreTerms, Permits, Terms, terms_of}
@@ -49,17 +49,17 @@ pub only_memory : (e : Error) (r : Result Bool Error) → IsNo e r → IfErr r (
 only_memory e r (inl memory) = rw memory.1 memory.0
 only_memory e r (inr other) = rw other.1 tt
 
-pub answered : (P : Type 0) (verdict : Result (Unit {0}) Error) (r : Result Bool Error) → AcceptsExactly P verdict → Answers verdict r → IfOk r (λ yes. IsTrue yes ↔ P)
+pub answered : (P : Type 0) (verdict : Result (Unit {0}) Error) (r : Result Bool Error) → AcceptsExactly P verdict → AnswersYesOrNo verdict r → IfOk r (λ yes. IsTrue yes ↔ P)
 answered P (Ok x) r holds is = rw is (λ yes. holds, λ p. refl)
 answered P (Err e) r none is = refused P e none r is
 
-pub answered_memory : (verdict : Result (Unit {0}) Error) (r : Result Bool Error) → Answers verdict r → IfErr r (λ d. d ≡ Memory)
+pub answered_memory : (verdict : Result (Unit {0}) Error) (r : Result Bool Error) → AnswersYesOrNo verdict r → IfErr r (λ d. d ≡ Memory)
 answered_memory (Ok x) r is = rw is tt
 answered_memory (Err e) r is = only_memory e r is
 
 -- ---- the signature
 
-pub unread : (bytes : List ℕ) (e : Error) (r : Refusal) → (cause e ≢ NoMemory → IsSound (all_of bytes) → NoSpelling SpellsSshSignature bytes) → (cause e ≡ NoMemory → IsSound (all_of bytes) → ssh_signature_format.needs bytes 0) → Names e r → ReadsSignature bytes (Err r)
+pub unread : (bytes : List ℕ) (e : Error) (r : Refusal) → (cause e ≢ NoMemory → IsSound (all_of bytes) → NoSpelling SpellsSshSignature bytes) → (cause e ≡ NoMemory → IsSound (all_of bytes) → ssh_signature_format.needs bytes 0) → IsRefusalFor e r → ReadsSignature bytes (Err r)
 unread bytes e r none asks (inl memory) = inl (memory.1, inl (asks (rw memory.0 refl) refl))
 unread bytes e r none asks (inr other) = inr (other.1, none (other_cause e other.0) refl)
 
@@ -82,7 +82,7 @@ made p e fits (inl long) = absurd (long.0 fits)
 made p e fits (inr memory) = memory.1
 
 -- the verdict on these bytes decides
-pub signed : (accepts : Question → Bool) (namespace message bytes : List ℕ) (f : SshSignature) → f.reserved ≡ [] → f.namespace ≡ namespace → bytes ≡ signed_by f message → (verdict : Result (Unit {0}) Error) → AcceptsExactly (IsAccepted accepts f.key bytes f.signature) verdict → (r : Result Bool Error) → Answers verdict r → IfOk r (λ yes. IsTrue yes ↔ HasSigned accepts namespace message f)
+pub signed : (accepts : Question → Bool) (namespace message bytes : List ℕ) (f : SshSignature) → f.reserved ≡ [] → f.namespace ≡ namespace → bytes ≡ signed_by f message → (verdict : Result (Unit {0}) Error) → AcceptsExactly (IsAccepted accepts f.key bytes f.signature) verdict → (r : Result Bool Error) → AnswersYesOrNo verdict r → IfOk r (λ yes. IsTrue yes ↔ HasSigned accepts namespace message f)
 signed accepts namespace message bytes f plain same made verdict exactly r answers =
     told_as (IsAccepted accepts f.key bytes f.signature) (HasSigned accepts namespace message f)
     (λ accepted. record { verified = record { same_key = refl; same_namespace = same; accepted = subst (λ (b : List ℕ). IsAccepted accepts f.key b f.signature) made accepted }; nothing_reserved = plain })
@@ -116,15 +116,15 @@ no_entry namespace time key text e none = refused (HasEntryFor namespace time ke
 -- ---- a line
 
 module _ (identity namespace : List ℕ) (time : ℕ) (key : Key) (line : List ℕ) where
-  pub no_front : ((p : List ℕ × List ℕ) → ArePrincipals line p → ⊥) → IsTrue false ↔ Allows identity namespace time key line
-  no_front none = never (Allows identity namespace time key line) (λ a. none (a.principals, a.rest) a.front)
+  pub no_front : ((p : List ℕ × List ℕ) → ArePrincipals line p → ⊥) → IsTrue false ↔ AllowsSigner identity namespace time key line
+  no_front none = never (AllowsSigner identity namespace time key line) (λ a. none (a.principals, a.rest) a.front)
 
   module _ (principals rest : List ℕ) (front : ArePrincipals line (principals, rest)) (one : (p : List ℕ × List ℕ) → ArePrincipals line p → p ≡ (principals, rest)) where
-    pub not_listed : (MatchesList (λ c. c) principals identity → ⊥) → IsTrue false ↔ Allows identity namespace time key line
-    not_listed none = never (Allows identity namespace time key line) (λ a. none (subst (λ (p : List ℕ × List ℕ). MatchesList (λ c. c) p.0 identity) (one (a.principals, a.rest) a.front) a.listed))
+    pub not_listed : (MatchesList (λ c. c) principals identity → ⊥) → IsTrue false ↔ AllowsSigner identity namespace time key line
+    not_listed none = never (AllowsSigner identity namespace time key line) (λ a. none (subst (λ (p : List ℕ × List ℕ). MatchesList (λ c. c) p.0 identity) (one (a.principals, a.rest) a.front) a.listed))
 
-    pub line_decides : IsWithout 0 line → MatchesList (λ c. c) principals identity → (r : Result Bool Error) → IfOk r (λ yes. IsTrue yes ↔ HasEntryFor namespace time key rest) → IfOk r (λ yes. IsTrue yes ↔ Allows identity namespace time key line)
+    pub line_decides : IsWithout 0 line → MatchesList (λ c. c) principals identity → (r : Result Bool Error) → IfOk r (λ yes. IsTrue yes ↔ HasEntryFor namespace time key rest) → IfOk r (λ yes. IsTrue yes ↔ AllowsSigner identity namespace time key line)
     line_decides no_zero listed =
-        told_as (HasEntryFor namespace time key rest) (Allows identity namespace time key line)
+        told_as (HasEntryFor namespace time key rest) (AllowsSigner identity namespace time key line)
         (λ entry. record { no_zero = no_zero; principals = principals; rest = rest; front = front; listed = listed; entry = entry })
         (λ a. subst (λ (p : List ℕ × List ℕ). HasEntryFor namespace time key p.1) (one (a.principals, a.rest) a.front) a.entry)

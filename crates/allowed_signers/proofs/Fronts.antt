@@ -10,7 +10,7 @@ use Rattle.sshkey_model.specs.Lines.{IsWithout}
 use Rattle.sshkey_public.specs.OneLine.{carriage_return}
 use Rattle.sshkey_entries.proofs.Fields.{same_field}
 use Rattle.allowed_signers.specs.OneValue.{IsTheOne}
-use Rattle.allowed_signers.specs.Principals.{ArePrincipals, CutsFront, IsFront, IsPlainFront, IsUnquoted, parts_of}
+use Rattle.allowed_signers.specs.Principals.{ArePrincipals, CutsFirst, IsFront, IsPlainFront, IsUnquoted, parts_of}
 use denote.Ref.{Bor}
 
 abbrev Parts : Type 0
@@ -26,7 +26,7 @@ no_word [] rest quoted plain (inr blank) e = cc (sym blank ∙ ap (λ (t : List 
 no_word (c ∷ word) rest quoted plain ends e = plain 0 (omega arith) (ap (λ (t : List ℕ). slice_index t 0) (sym e))
 
 -- behind a quote stand the principals and another
-behind_quote : (line quoted : List ℕ) (p : Parts) → line ≡ quote ∷ quoted → CutsFront line p.0 p.1 → quoted ≡ p.0 ++ (quote ∷ p.1)
+behind_quote : (line quoted : List ℕ) (p : Parts) → line ≡ quote ∷ quoted → CutsFirst line p.0 p.1 → quoted ≡ p.0 ++ (quote ∷ p.1)
 behind_quote line quoted p e has = elim has.is [
   | inl cut ↦ absurd (no_word p.0 p.1 quoted has.unquoted cut.ends (sym e ∙ cut.is))
   | inr is ↦ let same : quote ∷ quoted ≡ quote ∷ (p.0 ++ (quote ∷ p.1)) = sym e ∙ is in cc same

@@ -48,7 +48,7 @@ HasEntryFor namespace time key text = (entry : AuthorizedKey) × IsAuthorizedLin
 -- The line lets the key sign for the identity, in the namespace and at the time: its principals
 -- list the identity, letters in their own case, and behind them stands such an entry. No byte is 0,
 -- where ssh-keygen takes the line to end.
-pub record Allows (identity namespace : List ℕ) (time : ℕ) (key : Key) (line : List ℕ) : Type 0 where
+pub record AllowsSigner (identity namespace : List ℕ) (time : ℕ) (key : Key) (line : List ℕ) : Type 0 where
   pub no_zero : IsWithout 0 line
   pub principals : List ℕ
   pub rest : List ℕ
@@ -60,7 +60,7 @@ pub record Allows (identity namespace : List ℕ) (time : ℕ) (key : Key) (line
 
 -- One of the lines does.
 abbrev pub IsAllowed : List ℕ → List ℕ → ℕ → Key → List ℕ → Type 0
-IsAllowed identity namespace time key signers = Any (Allows identity namespace time key) (filled_lines signers)
+IsAllowed identity namespace time key signers = Any (AllowsSigner identity namespace time key) (filled_lines signers)
 
 -- It is its key's signature of the message in the namespace, with nothing reserved (ssh-keygen
 -- verifies no other).
@@ -107,13 +107,13 @@ abbrev pub IsNo : Error → Result Bool Error → Type 0
 IsNo e answer = ((e ≡ error.Memory) × (answer ≡ Err e)) ⊎ ((e ≢ error.Memory) × (answer ≡ Ok false))
 
 -- A verdict is a yes.
-abbrev pub Answers : Result (Unit {0}) Error → Result Bool Error → Type 0
-Answers (Ok x) answer = answer ≡ Ok true
-Answers (Err e) answer = IsNo e answer
+abbrev pub AnswersYesOrNo : Result (Unit {0}) Error → Result Bool Error → Type 0
+AnswersYesOrNo (Ok x) answer = answer ≡ Ok true
+AnswersYesOrNo (Err e) answer = IsNo e answer
 
 -- Memory was refused, or the bytes are no signature.
-abbrev pub Names : Error → Refusal → Type 0
-Names e r = ((e ≡ error.Memory) × (r ≡ Memory)) ⊎ ((e ≢ error.Memory) × (r ≡ NoSignature))
+abbrev pub IsRefusalFor : Error → Refusal → Type 0
+IsRefusalFor e r = ((e ≡ error.Memory) × (r ≡ Memory)) ⊎ ((e ≢ error.Memory) × (r ≡ NoSignature))
 
 -- The signature that the bytes spell; or they spell none, or memory ran out where some is needed.
 abbrev pub ReadsSignature : List ℕ → Result SshSig Refusal → Type 0

@@ -11,14 +11,14 @@ abbrev pub IsUnquoted : List ℕ → Type 0
 IsUnquoted text = IsWithout quote text
 
 -- The line is a first text, a word or in double quotes, and then the rest.
-pub record CutsFront (line first rest : List ℕ) : Type 0 where
+pub record CutsFirst (line first rest : List ℕ) : Type 0 where
   pub unquoted : IsUnquoted first
   pub is : CutsField line first rest ⊎ (line ≡ quote ∷ (first ++ (quote ∷ rest)))
 
 -- The line is the principals and then the rest. No carriage return stands in them: ssh-keygen ends
 -- an unquoted word there, and in quotes none is let be either.
 pub record HasPrincipals (line principals rest : List ℕ) : Type 0 where
-  pub cut : CutsFront line principals rest
+  pub cut : CutsFirst line principals rest
   pub no_return : IsWithout carriage_return principals
 
 -- ---- of both parts
@@ -30,7 +30,7 @@ abbrev pub ArePrincipals : List ℕ → List ℕ × List ℕ → Type 0
 ArePrincipals line p = HasPrincipals line p.0 p.1
 
 abbrev pub IsFront : List ℕ → List ℕ × List ℕ → Type 0
-IsFront line p = CutsFront line p.0 p.1
+IsFront line p = CutsFirst line p.0 p.1
 
 -- The first text is a word.
 abbrev pub IsPlainFront : List ℕ → List ℕ × List ℕ → Type 0

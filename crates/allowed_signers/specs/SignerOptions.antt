@@ -3,7 +3,7 @@ use Rattle.std.specs.Prelude.{◌≡◌, ◌≢◌, ◌<◌, ◌≤◌, ◌-◌,
 use Rattle.sshkey_entries.specs.KnownHosts.{comma}
 use Rattle.sshkey_entries.specs.OptionItems.{KeyOption, AreKeyOptions, IsSameName}
 use Rattle.sshkey_entries.specs.Patterns.{MatchesList}
-use Rattle.allowed_signers.specs.Times.{IsTime}
+use Rattle.allowed_signers.specs.Times.{IsTimeText}
 use Rattle.allowed_signers.specs.declared.options.SignerOptions.{SignerOptions}
 use Rattle.allowed_signers.specs.declared.options.Word.{Word}
 use Rattle.allowed_signers.specs.declared.options.Word.TheVariants.{CertAuthority, Namespaces, ValidAfter, ValidBefore}
@@ -30,7 +30,7 @@ word_text ValidBefore = codes "valid-before"
 -- The value is a time.
 abbrev pub IsTimeValue : Option (List ℕ) → ℕ → Type 0
 IsTimeValue None n = ⊥
-IsTimeValue (Some text) n = IsTime text n
+IsTimeValue (Some text) n = IsTimeText text n
 
 -- What an option with that value adds to what is said. Only `cert-authority`, which has no value,
 -- may stand twice.
@@ -50,8 +50,8 @@ abbrev pub AddOptions : List KeyOption → Terms → Terms → Type 0
 AddOptions [] s t = t ≡ s
 AddOptions (o ∷ more) s t = (between : Terms) × AddsOption o s between × AddOptions more between t
 
-abbrev pub AreInOrder : Terms → Type 0
-AreInOrder t = IfSome t.valid_after (λ first. IfSome t.valid_before (λ last. first < last))
+abbrev pub AreTimesInOrder : Terms → Type 0
+AreTimesInOrder t = IfSome t.valid_after (λ first. IfSome t.valid_before (λ last. first < last))
 
 -- The text is options that say this. No comma ends it, and the first second stands before the last.
 pub record AreTerms (text : List ℕ) (t : Terms) : Type 0 where
@@ -59,7 +59,7 @@ pub record AreTerms (text : List ℕ) (t : Terms) : Type 0 where
   pub are : AreKeyOptions text options
   pub say : AddOptions options no_terms t
   pub no_comma : slice_index text (length text - 1) ≢ comma
-  pub in_order : AreInOrder t
+  pub in_order : AreTimesInOrder t
 
 -- ---- what they permit
 

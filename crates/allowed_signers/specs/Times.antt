@@ -79,7 +79,7 @@ pub record IsMoment (m : Moment) : Type 0 where
   pub second : m.second < 62
 
 -- The text is that of a time so many seconds after the start of 1970, at least one.
-pub record IsTime (text : List ℕ) (t : ℕ) : Type 0 where
+pub record IsTimeText (text : List ℕ) (t : ℕ) : Type 0 where
   pub size : (length (digits text) ≡ 8) ⊎ (length (digits text) ≡ 12) ⊎ (length (digits text) ≡ 14)
   pub in_utc : IsZone (zone text)
   pub valid : IsMoment (moment (digits text))
@@ -88,4 +88,4 @@ pub record IsTime (text : List ℕ) (t : ℕ) : Type 0 where
 
 -- the one time that it is; or it is none
 abbrev pub ReadsTime : List ℕ → Option ℕ → Type 0
-ReadsTime text result = MatchOption result ((t : ℕ) → IsTime text t → ⊥) (λ t. IsTime text t × ((u : ℕ) → IsTime text u → u ≡ t))
+ReadsTime text result = MatchOption result ((t : ℕ) → IsTimeText text t → ⊥) (λ t. IsTimeText text t × ((u : ℕ) → IsTimeText text u → u ≡ t))

@@ -5,7 +5,7 @@ ghost use Rattle.sshkey_authorized_keys.specs.OpenSshItems.{key_option_of};
 ghost use Rattle.sshkey_entries.specs.OptionItems.{IsSameName};
 ghost use Rattle.sshkey_entries.specs.Patterns.{MatchesList};
 ghost use Rattle.allowed_signers.specs.OneValue.{IsTheOne, ReadsTheOne};
-ghost use Rattle.allowed_signers.specs.SignerOptions.{AddsOption, AddsValue, AreInOrder, AreTerms, IsTimeValue, Permits, no_terms, terms_of, word_text};
+ghost use Rattle.allowed_signers.specs.SignerOptions.{AddsOption, AddsValue, AreTerms, AreTimesInOrder, IsTimeValue, Permits, no_terms, terms_of, word_text};
 
 use crate::times::read_time;
 use sshkey_authorized_keys::{OpenSshOption, OpenSshOptions};
@@ -189,7 +189,7 @@ impl SignerOptions {
 
     /// Whether the first second stands before the last, where both are given.
     fn are_in_order(&self) -> bool
-        ensures { IsTrue result ↔ AreInOrder (terms_of self.now) }
+        ensures { IsTrue result ↔ AreTimesInOrder (terms_of self.now) }
     {
         match (self.valid_after, self.valid_before) {
             (Some(first), Some(last)) => first < last,

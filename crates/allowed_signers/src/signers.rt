@@ -6,7 +6,7 @@ ghost use Rattle.sshkey_keys.specs.Keys.{key_of};
 ghost use Rattle.sshkey_model.specs.Keys.{IsKey};
 ghost use Rattle.sshkey_sshsig.specs.SshSignatures.{ssh_signature_of};
 ghost use Rattle.sshkey_base.specs.declared.error.Error.TheVariants.{Memory};
-ghost use Rattle.allowed_signers.specs.AllowedSigners.{Allows, Answers, Counts, HasEntryFor, HasSignature, HasSigned, IsAllowed, IsEntryFor, IsNo, IsWhy, Names, OkExactly, OptionsPermit, ReadsSignature, SpelledBySome};
+ghost use Rattle.allowed_signers.specs.AllowedSigners.{AllowsSigner, AnswersYesOrNo, Counts, HasEntryFor, HasSignature, HasSigned, IsAllowed, IsEntryFor, IsNo, IsRefusalFor, IsWhy, OkExactly, OptionsPermit, ReadsSignature, SpelledBySome};
 
 use crate::line::split_principals;
 use crate::options::SignerOptions;
@@ -117,7 +117,7 @@ fn read_signature(alloc: Global, bytes: &[u8]) -> std::result::Result<SshSig, Re
 
 /// Why bytes are no signature.
 fn refusal_of(error: Error) -> Refusal
-    ensures { Names error result }
+    ensures { IsRefusalFor error result }
 {
     if error.is_memory() {
         return Refusal::Memory;
@@ -160,7 +160,7 @@ fn is_for(signature: &SshSig, namespace: &str) -> bool
 
 /// Yes or no, unless an allocation failed.
 fn answer_of(verdict: Result<()>) -> Result<bool>
-    ensures { Answers verdict result }
+    ensures { AnswersYesOrNo verdict result }
 {
     match verdict {
         Ok(()) => Ok(true),
@@ -211,7 +211,7 @@ fn allows(
     key: &KeyData,
 ) -> Result<bool>
     requires { IsKey (key_of key.now) }
-    ensures answer { IfOk result (λ yes. IsTrue yes ↔ Allows identity.now namespace.now
+    ensures answer { IfOk result (λ yes. IsTrue yes ↔ AllowsSigner identity.now namespace.now
         unix_timestamp (key_of key.now) line.now) }
     ensures memory { IfErr result (λ e. e ≡ Memory) }
 {

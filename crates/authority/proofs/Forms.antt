@@ -16,7 +16,7 @@ use Rattle.ssh_key.specs.model.Options.{AreOptions, CertificateOption, Rises, is
 use Rattle.ssh_key.specs.model.Reading.{IsChain}
 use Rattle.ssh_key.specs.model.Texts.{IsText}
 use Rattle.authority.specs.CertifiedKeys.{is_among}
-use Rattle.authority.specs.Requests.{IsWithin, extensions_of, fields_for, flag, with_flag, with_flags}
+use Rattle.authority.specs.Requests.{IsWithinLimits, extensions_of, fields_for, flag, with_flag, with_flags}
 use Rattle.authority.specs.declared.keys.KeyKinds.{KeyKinds}
 use Rattle.authority.specs.declared.limits.Limits.{Limits}
 use Rattle.authority.specs.declared.request.Request.{Request}
@@ -114,7 +114,7 @@ time n lt = grind (arith, nat_tests)
 end : (n : ℕ) → n < 2 ^ 63 → is_end n ≡ true
 end n lt = rw (time n lt) refl
 
-pub are_fields : (limits : Limits) (t : ℕ) (r : Request) (serial : ℕ) (nonce : List ℕ) (authority : Key) → IsWithin limits t r → IsKey (key_of r.key) → IsKey authority → AreSignedFields (fields_for r serial nonce authority)
+pub are_fields : (limits : Limits) (t : ℕ) (r : Request) (serial : ℕ) (nonce : List ℕ) (authority : Key) → IsWithinLimits limits t r → IsKey (key_of r.key) → IsKey authority → AreSignedFields (fields_for r serial nonce authority)
 are_fields limits t r serial nonce authority within key signer =
     let before = within.window.0 in
     let less = within.window.1 in

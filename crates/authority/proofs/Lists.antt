@@ -8,7 +8,7 @@ use Rattle.std.proofs.lemmas.List.Folds.{list_all-map}
 use Rattle.std.proofs.lemmas.List.Sums.{AllPass-from_list_all, list_all-from_AllPass}
 use Rattle.std.proofs.lemmas.Slice.Eq.{bytes_eq-Decides}
 use Rattle.ssh_key.specs.model.Lines.{IsWithout}
-use Rattle.authority.specs.Requests.{IsAllowed, has_no_zero, is_allowed}
+use Rattle.authority.specs.Requests.{IsAllowedName, has_no_zero, is_allowed}
 
 -- a test of each element decides `All`
 pub all_passed : {X : Type 0} (p : X → Bool) (P : X → Type 0) → ((x : X) → (p x ≡ true) ↔ P x) → (xs : List X) → (list_all p xs ≡ true) ↔ All P xs
@@ -85,14 +85,14 @@ parts : (a b : Bool) → a && b ≡ true → (a ≡ true) × (b ≡ true)
 parts true b e = (refl, e)
 parts false b e = absurd cc
 
-allowed : {Y : Type 0} (listed : List (String Y)) (name : List ℕ) → (is_allowed listed name ≡ true) ↔ IsAllowed listed name
+allowed : {Y : Type 0} (listed : List (String Y)) (name : List ℕ) → (is_allowed listed name ≡ true) ↔ IsAllowedName listed name
 allowed listed name = (
   λ e. let (no_zero, is) = parts _ _ e in ((without_zero name).0 no_zero, (any_listed name listed).0 is),
   λ may. rw ((without_zero name).1 may.0, (any_listed name listed).1 may.1) refl,
 )
 
 -- what the test of all names says
-pub each_allowed : {Y : Type 0} (names : List (String Y)) (listed : List (String Y)) (answer : Bool) → answer ≡ list_all (λ name. is_allowed listed (string_bytes name)) names → (answer ≡ true) ↔ All (IsAllowed listed) (map string_bytes names)
+pub each_allowed : {Y : Type 0} (names : List (String Y)) (listed : List (String Y)) (answer : Bool) → answer ≡ list_all (λ name. is_allowed listed (string_bytes name)) names → (answer ≡ true) ↔ All (IsAllowedName listed) (map string_bytes names)
 each_allowed names listed answer is =
-    let both = all_mapped (is_allowed listed) (IsAllowed listed) string_bytes (allowed listed) names in
+    let both = all_mapped (is_allowed listed) (IsAllowedName listed) string_bytes (allowed listed) names in
     (λ e. both.0 (sym is ∙ e), λ all. is ∙ both.1 all)

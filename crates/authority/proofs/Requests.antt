@@ -9,7 +9,7 @@ use Rattle.ssh_key.specs.model.Keys.{IsKey, Key}
 use Rattle.ssh_key.specs.model.Verification.{Question}
 use Rattle.ssh_key.specs.types.Certificate.{Certificate}
 use Rattle.ssh_key.specs.types.Error.{Error}
-use Rattle.authority.specs.Requests.{CertifiesExactly, IsLeft, IsWithin, IssuesExactly, OtherExtensions, OtherKey, OtherKeyId, OtherUsers, OtherWindow, RefusesRequest}
+use Rattle.authority.specs.Requests.{CertifiesExactly, IsLeft, IsWithinLimits, IssuesExactly, OtherExtensions, OtherKey, OtherKeyId, OtherUsers, OtherWindow, RefusesRequest}
 use Rattle.authority.specs.Serials.{IsHistory, serial_of}
 use Rattle.authority.specs.declared.limits.Limits.{Limits}
 use Rattle.authority.specs.declared.request.Request.{Request}
@@ -23,7 +23,7 @@ used accepts authority refuses r serial next nonce more (Ok c) certified =
 used accepts authority refuses r serial next nonce more (Err e) refused = omega (arith, more)
 
 -- a request is refused for what is outside the limits
-pub outside : (limits : Limits) (t : ℕ) (r : Request) (e : Error) → RefusesRequest limits t r e → IsWithin limits t r → ⊥
+pub outside : (limits : Limits) (t : ℕ) (r : Request) (e : Error) → RefusesRequest limits t r e → IsWithinLimits limits t r → ⊥
 outside limits t r e (OtherKey none) within = none within.key
 outside limits t r e (OtherKeyId key none) within = none within.key_id
 outside limits t r e (OtherUsers key key_id none) within = none within.users
@@ -38,7 +38,7 @@ window after before time less =
     rw (first, second, third) refl
 
 -- what is issued of a request within the limits
-pub issued : (accepts : Question → Bool) (authority : Key) (refuses : List ℕ → Error → Type 0) (limits : Limits) (t : ℕ) (r : Request) (serial : ℕ) (nonce : List ℕ) → IsWithin limits t r → (result : Result Certificate Error) → CertifiesExactly accepts authority refuses r serial nonce result → IsLeft serial → IssuesExactly accepts authority refuses limits t r serial nonce result
+pub issued : (accepts : Question → Bool) (authority : Key) (refuses : List ℕ → Error → Type 0) (limits : Limits) (t : ℕ) (r : Request) (serial : ℕ) (nonce : List ℕ) → IsWithinLimits limits t r → (result : Result Certificate Error) → CertifiesExactly accepts authority refuses r serial nonce result → IsLeft serial → IssuesExactly accepts authority refuses limits t r serial nonce result
 issued accepts authority refuses limits t r serial nonce within (Ok c) certified left = (within, certified)
 issued accepts authority refuses limits t r serial nonce within (Err e) refused left = inr (inr (within, left, refused (window r.valid_after r.valid_before within.window.0 within.window.1) within.users.0))
 
@@ -50,6 +50,6 @@ numbered accepts authority refuses r serial nonce some (Ok c) certified =
 numbered accepts authority refuses r serial nonce some (Err e) refused = tt
 
 -- what is signed are the fields of a certificate
-pub well_formed : (accepts : Question → Bool) (authority : Key) (refuses : List ℕ → Error → Type 0) (limits : Limits) (t : ℕ) (r : Request) (serial : ℕ) (nonce : List ℕ) → IsWithin limits t r → IsKey (key_of r.key) → IsKey authority → (result : Result Certificate Error) → CertifiesExactly accepts authority refuses r serial nonce result → IfOk result (λ c. AreSignedFields (certificate_of c).signed)
+pub well_formed : (accepts : Question → Bool) (authority : Key) (refuses : List ℕ → Error → Type 0) (limits : Limits) (t : ℕ) (r : Request) (serial : ℕ) (nonce : List ℕ) → IsWithinLimits limits t r → IsKey (key_of r.key) → IsKey authority → (result : Result Certificate Error) → CertifiesExactly accepts authority refuses r serial nonce result → IfOk result (λ c. AreSignedFields (certificate_of c).signed)
 well_formed accepts authority refuses limits t r serial nonce within key signer (Ok c) certified = rw certified.fields (are_fields limits t r serial nonce authority within key signer)
 well_formed accepts authority refuses limits t r serial nonce within key signer (Err e) refused = tt

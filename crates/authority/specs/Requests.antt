@@ -28,8 +28,8 @@ use Rattle.authority.specs.declared.request.Request.{Request}
 
 -- ---- what may be asked for
 
-abbrev pub IsListed : {Y : Type 0} → List (String Y) → List ℕ → Type 0
-IsListed listed name = Contains (map string_bytes listed) name
+abbrev pub IsListedName : {Y : Type 0} → List (String Y) → List ℕ → Type 0
+IsListedName listed name = Contains (map string_bytes listed) name
 
 -- the test of it
 abbrev pub is_listed : {Y : Type 0} → List (String Y) → List ℕ → Bool
@@ -41,8 +41,8 @@ abbrev pub has_no_zero : List ℕ → Bool
 has_no_zero text = list_all (λ b. not (b == 0)) text
 
 -- The name is listed, and no byte of it is 0.
-abbrev pub IsAllowed : {Y : Type 0} → List (String Y) → List ℕ → Type 0
-IsAllowed listed name = IsWithout 0 name × IsListed listed name
+abbrev pub IsAllowedName : {Y : Type 0} → List (String Y) → List ℕ → Type 0
+IsAllowedName listed name = IsWithout 0 name × IsListedName listed name
 
 -- the test of it
 abbrev pub is_allowed : {Y : Type 0} → List (String Y) → List ℕ → Bool
@@ -54,27 +54,27 @@ names_of r = map string_bytes r.principals.items
 -- There are some users, up to 256: sshd reads no certificate with more. Each is listed, and no byte
 -- of a name is 0.
 abbrev pub AreAllowed : Limits → Request → Type 0
-AreAllowed limits r = (names_of r ≢ []) × (length (names_of r) ≤ 256) × All (IsAllowed limits.principals.items) (names_of r)
+AreAllowed limits r = (names_of r ≢ []) × (length (names_of r) ≤ 256) × All (IsAllowedName limits.principals.items) (names_of r)
 
 abbrev pub extensions_of : Request → List (List ℕ)
 extensions_of r = map string_bytes r.extensions.items
 
 -- Each extension is listed, and no byte of its name is 0.
 abbrev pub ArePermitted : Limits → Request → Type 0
-ArePermitted limits r = All (IsAllowed limits.extensions.items) (extensions_of r)
+ArePermitted limits r = All (IsAllowedName limits.extensions.items) (extensions_of r)
 
 -- The window ends at a time, has a second and at most `longest`, is not over at t, and ends at most
 -- `longest` seconds later. It may begin before t, and these seconds count too.
-abbrev pub HasRoom : Limits → ℕ → Request → Type 0
-HasRoom limits t r = (r.valid_before < 2 ^ 63) × (r.valid_after < r.valid_before) × (r.valid_before ≤ r.valid_after + limits.longest) × (t < r.valid_before) × (r.valid_before ≤ t + limits.longest)
+abbrev pub HasAllowedWindow : Limits → ℕ → Request → Type 0
+HasAllowedWindow limits t r = (r.valid_before < 2 ^ 63) × (r.valid_after < r.valid_before) × (r.valid_before ≤ r.valid_after + limits.longest) × (t < r.valid_before) × (r.valid_before ≤ t + limits.longest)
 
 -- At the second t the request is within the limits.
-pub record IsWithin (limits : Limits) (t : ℕ) (r : Request) : Type 0 where
+pub record IsWithinLimits (limits : Limits) (t : ℕ) (r : Request) : Type 0 where
   pub key : IsCertifiable limits.kinds (key_of r.key)
   pub key_id : IsWithout 0 (string_bytes r.key_id)
   pub users : AreAllowed limits r
   pub extensions : ArePermitted limits r
-  pub window : HasRoom limits t r
+  pub window : HasAllowedWindow limits t r
 
 -- The error says what is outside the limits first: the key, the key id, the users, the extensions or
 -- the window.
@@ -83,7 +83,7 @@ pub data RefusesRequest (limits : Limits) (t : ℕ) (r : Request) : Error → Ty
   OtherKeyId : IsCertifiable limits.kinds (key_of r.key) → (IsWithout 0 (string_bytes r.key_id) → ⊥) → RefusesRequest limits t r (CertificateFieldInvalid field.KeyId)
   OtherUsers : IsCertifiable limits.kinds (key_of r.key) → IsWithout 0 (string_bytes r.key_id) → (AreAllowed limits r → ⊥) → RefusesRequest limits t r (CertificateFieldInvalid field.ValidPrincipals)
   OtherExtensions : IsCertifiable limits.kinds (key_of r.key) → IsWithout 0 (string_bytes r.key_id) → AreAllowed limits r → (ArePermitted limits r → ⊥) → RefusesRequest limits t r (CertificateFieldInvalid field.Extensions)
-  OtherWindow : IsCertifiable limits.kinds (key_of r.key) → IsWithout 0 (string_bytes r.key_id) → AreAllowed limits r → ArePermitted limits r → (HasRoom limits t r → ⊥) → RefusesRequest limits t r (CertificateFieldInvalid field.ValidBefore)
+  OtherWindow : IsCertifiable limits.kinds (key_of r.key) → IsWithout 0 (string_bytes r.key_id) → AreAllowed limits r → ArePermitted limits r → (HasAllowedWindow limits t r → ⊥) → RefusesRequest limits t r (CertificateFieldInvalid field.ValidBefore)
 
 -- ---- what is certified
 
@@ -121,14 +121,14 @@ fields_for r serial nonce authority = record {
 
 -- The certificate has these fields and no comment, and for whoever trusts the authority it is valid
 -- exactly in the window that was asked for.
-pub record IsCertified (accepts : Question → Bool) (authority : Key) (r : Request) (serial : ℕ) (nonce : List ℕ) (c : Certificate) : Type 0 where
+pub record IsIssued (accepts : Question → Bool) (authority : Key) (r : Request) (serial : ℕ) (nonce : List ℕ) (c : Certificate) : Type 0 where
   pub fields : (certificate_of c).signed ≡ fields_for r serial nonce authority
   pub no_comment : comment_of c ≡ []
   pub valid : IsValidExactlyIn accepts (fingerprint Sha256 authority) r.valid_after r.valid_before (certificate_of c)
 
 -- That certificate; or, where the window is one and there are users, a refusal to sign it.
 abbrev pub CertifiesExactly : (Question → Bool) → Key → (List ℕ → Error → Type 0) → Request → ℕ → List ℕ → Result Certificate Error → Type 0
-CertifiesExactly accepts authority refuses r serial nonce (Ok c) = IsCertified accepts authority r serial nonce c
+CertifiesExactly accepts authority refuses r serial nonce (Ok c) = IsIssued accepts authority r serial nonce c
 CertifiesExactly accepts authority refuses r serial nonce (Err e) = bad_window r.valid_after r.valid_before ≡ None → names_of r ≢ [] → RefusesToSign refuses (fields_for r serial nonce authority) e
 
 -- A serial number is left: there is one behind it.
@@ -142,13 +142,13 @@ next_of a = non_zero_u64_get a.next_serial
 -- What a call may ask the signer to sign: the certificate of the request under the next serial
 -- number, where it is within the limits and a number is left.
 abbrev pub MayIssue : {S : Type 0} → (S → List ℕ → Type 0) → (S → KeyData) → S → Authority → ℕ → Request → List ℕ → Type 0
-MayIssue permits public_of s a t r nonce = IsWithin a.limits t r → IsLeft (next_of a) → PermitsToSign (permits s) (fields_for r (next_of a) nonce (key_of (public_of s)))
+MayIssue permits public_of s a t r nonce = IsWithinLimits a.limits t r → IsLeft (next_of a) → PermitsToSign (permits s) (fields_for r (next_of a) nonce (key_of (public_of s)))
 
 -- Ok is that certificate, of a request within the limits. Else the request is outside them; or it
 -- is within, and no serial number is left; or one is, and it is not signed.
 abbrev pub IssuesExactly : (Question → Bool) → Key → (List ℕ → Error → Type 0) → Limits → ℕ → Request → ℕ → List ℕ → Result Certificate Error → Type 0
-IssuesExactly accepts authority refuses limits t r serial nonce (Ok c) = IsWithin limits t r × IsCertified accepts authority r serial nonce c
-IssuesExactly accepts authority refuses limits t r serial nonce (Err e) = RefusesRequest limits t r e ⊎ (IsWithin limits t r × ¬ IsLeft serial × (e ≡ CertificateFieldInvalid field.Serial)) ⊎ (IsWithin limits t r × IsLeft serial × RefusesToSign refuses (fields_for r serial nonce authority) e)
+IssuesExactly accepts authority refuses limits t r serial nonce (Ok c) = IsWithinLimits limits t r × IsIssued accepts authority r serial nonce c
+IssuesExactly accepts authority refuses limits t r serial nonce (Err e) = RefusesRequest limits t r e ⊎ (IsWithinLimits limits t r × ¬ IsLeft serial × (e ≡ CertificateFieldInvalid field.Serial)) ⊎ (IsWithinLimits limits t r × IsLeft serial × RefusesToSign refuses (fields_for r serial nonce authority) e)
 
 -- ---- naming principals and extensions
 

@@ -30,7 +30,7 @@ impl Authority {
     ghost use Rattle.ssh_key.specs.krl.Owned.{krl_of};
     ghost use Rattle.ssh_key.specs.model.Certificates.{AreSignedFields};
     ghost use Rattle.ssh_key.specs.model.Keys.{IsKey};
-    ghost use Rattle.authority.specs.Requests.{IsLeft, IssuesExactly, IsWithin, MayIssue, next_of};
+    ghost use Rattle.authority.specs.Requests.{IsLeft, IssuesExactly, IsWithinLimits, MayIssue, next_of};
     ghost use Rattle.authority.specs.Revoked.{IsStated, RefusesToList, TakesBack};
     ghost use Rattle.authority.specs.Serials.{IsHistory, RefusesSerial, serial_of};
 
@@ -76,9 +76,9 @@ impl Authority {
             → IfOk result (λ c. AreSignedFields (certificate_of c).signed) }
         ensures numbered { IfOk result (λ c. 0 < (certificate_of c).signed.serial) }
         ensures history { IsHistory (next_of self.old) (serial_of result) (next_of self.new) }
-        ensures used { IsWithin self.old.limits unix_timestamp request → IsLeft (next_of self.old)
-            → next_of self.new ≡ next_of self.old + 1 }
-        ensures unused { ((IsWithin self.old.limits unix_timestamp request → ⊥)
+        ensures used { IsWithinLimits self.old.limits unix_timestamp request
+            → IsLeft (next_of self.old) → next_of self.new ≡ next_of self.old + 1 }
+        ensures unused { ((IsWithinLimits self.old.limits unix_timestamp request → ⊥)
             ⊎ ¬ IsLeft (next_of self.old)) → next_of self.new ≡ next_of self.old }
         ensures limits { self.new.limits ≡ self.old.limits }
         ensures revoked { self.new.revoked ≡ self.old.revoked }

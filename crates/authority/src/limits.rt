@@ -4,7 +4,7 @@ ghost use Rattle.std.specs.List.{list_all};
 ghost use Rattle.std.specs.Prelude.{◌≡◌, ◌≢◌, ◌↔◌, ◌≤◌, ◌<◌, ◌+◌, ◌^◌, [], IfErr, IsTrue, All, length, map, string_bytes};
 ghost use Rattle.ssh_key.specs.base.Acceptance.{AcceptsExactly};
 ghost use Rattle.authority.specs.CertifiedKeys.{all_but_dsa};
-ghost use Rattle.authority.specs.Requests.{IsAllowed, IsWithin, RefusesRequest, has_no_zero, is_allowed, is_listed};
+ghost use Rattle.authority.specs.Requests.{IsAllowedName, IsWithinLimits, RefusesRequest, has_no_zero, is_allowed, is_listed};
 
 use crate::keys::KeyKinds;
 use crate::request::Request;
@@ -64,7 +64,8 @@ impl Limits {
     /// A window may begin before now, as that of `ssh-keygen -V -5m:+1h` does for machines whose
     /// clock is slow, and then these seconds count too: that one has 3,900.
     pub fn check(&self, request: &Request, unix_timestamp: u64) -> Result<()>
-        ensures exactly { AcceptsExactly (IsWithin self.now unix_timestamp request.now) result }
+        ensures exactly { AcceptsExactly (IsWithinLimits self.now unix_timestamp request.now)
+            result }
         ensures refused { IfErr result (RefusesRequest self.now unix_timestamp request.now) }
     {
         if !self.kinds.allow(&request.key) {
@@ -89,7 +90,7 @@ impl Limits {
     fn allows_principals(&self, names: &[String]) -> bool
         ensures { IsTrue result ↔ ((map string_bytes names.now ≢ [])
             × (length (map string_bytes names.now) ≤ 256)
-            × All (IsAllowed self.now.principals.items) (map string_bytes names.now)) }
+            × All (IsAllowedName self.now.principals.items) (map string_bytes names.now)) }
     {
         if names.is_empty() {
             return false;

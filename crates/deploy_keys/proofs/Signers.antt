@@ -19,19 +19,19 @@ use Rattle.ssh_key.specs.sshsig.SshSignatureReaders.{SpellsSshSignature}
 use Rattle.ssh_key.specs.types.Error.{Error}
 use Rattle.ssh_key.specs.types.Error.TheVariants.{Memory}
 use Rattle.ssh_key.proofs.Acceptance.{other_cause}
-use Rattle.deploy_keys.specs.Signers.{Answers, FindsAmong, HasSignatureFault, HasSigned, Here, IsFirst, IsSigner, IsUnrevokedSigner, JudgesEntry, JudgesLine, Later, NamesSigner, NeedsMemory, Nobody, PassesOver}
+use Rattle.deploy_keys.specs.Signers.{AnswersYesOrNo, FindsAmong, HasSignatureFault, HasSigned, Here, IsFirst, IsSigner, IsUnrevokedSigner, JudgesEntry, JudgesLine, Later, NamesSigner, NeedsMemory, Nobody, PassesOver}
 
 -- ---- from a verdict to an answer
 
 is_no : false ≡ true → ⊥
 is_no same = cc
 
-pub answered : (P : Type 0) (verdict : Result (Unit {0}) Error) (answer : Result Bool Error) → AcceptsExactly P verdict → Answers verdict answer → IfOk answer (λ yes. IsTrue yes ↔ P)
+pub answered : (P : Type 0) (verdict : Result (Unit {0}) Error) (answer : Result Bool Error) → AcceptsExactly P verdict → AnswersYesOrNo verdict answer → IfOk answer (λ yes. IsTrue yes ↔ P)
 answered P (Ok x) answer holds is = rw is (λ yes. holds, λ p. refl)
 answered P (Err e) answer refused (inl memory) = rw memory.1 tt
 answered P (Err e) answer refused (inr other) = rw other.1 (λ yes. absurd (is_no yes), λ p. absurd (refused other.0 p))
 
-pub only_memory : (verdict : Result (Unit {0}) Error) (answer : Result Bool Error) → Answers verdict answer → IfErr answer (λ e. e ≡ Memory)
+pub only_memory : (verdict : Result (Unit {0}) Error) (answer : Result Bool Error) → AnswersYesOrNo verdict answer → IfErr answer (λ e. e ≡ Memory)
 only_memory (Ok x) answer is = rw is tt
 only_memory (Err e) answer (inl memory) = rw memory.1 memory.0
 only_memory (Err e) answer (inr other) = rw other.1 tt

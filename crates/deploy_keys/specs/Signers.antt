@@ -82,6 +82,6 @@ PassesOver e (Ok None) = e ≢ Memory
 PassesOver e (Err f) = (e ≡ Memory) × (f ≡ Memory)
 
 -- A verdict is a yes, and a refusal a no, unless memory was refused.
-abbrev pub Answers : Result (Unit {0}) Error → Result Bool Error → Type 0
-Answers (Ok _) answer = answer ≡ Ok true
-Answers (Err e) answer = ((e ≡ Memory) × (answer ≡ Err e)) ⊎ ((e ≢ Memory) × (answer ≡ Ok false))
+abbrev pub AnswersYesOrNo : Result (Unit {0}) Error → Result Bool Error → Type 0
+AnswersYesOrNo (Ok _) answer = answer ≡ Ok true
+AnswersYesOrNo (Err e) answer = ((e ≡ Memory) × (answer ≡ Err e)) ⊎ ((e ≢ Memory) × (answer ≡ Ok false))

@@ -9,7 +9,7 @@ ghost use Rattle.ssh_key.specs.model.Keys.{IsKey};
 ghost use Rattle.ssh_key.specs.model.SignedMessages.{IsVerified};
 ghost use Rattle.ssh_key.specs.sshsig.SshSignatures.{ssh_signature_of};
 ghost use Rattle.ssh_key.specs.types.Error.TheVariants.{Memory};
-ghost use Rattle.deploy_keys.specs.Signers.{Answers, FindsAmong, HasSignatureFault, IsSigner, JudgesEntry, JudgesLine, NamesSigner, NeedsMemory, PassesOver, SpelledBySome};
+ghost use Rattle.deploy_keys.specs.Signers.{AnswersYesOrNo, FindsAmong, HasSignatureFault, IsSigner, JudgesEntry, JudgesLine, NamesSigner, NeedsMemory, PassesOver, SpelledBySome};
 
 use ssh_key::authorized_keys::OpenSshEntry;
 use ssh_key::laws::one_authorized_line;
@@ -172,7 +172,7 @@ fn has_signed<V: RawVerifier>(
 
 /// Yes or no, unless an allocation failed.
 fn answer_of(verdict: Result<()>) -> Result<bool>
-    ensures { Answers verdict result }
+    ensures { AnswersYesOrNo verdict result }
 {
     match verdict {
         Ok(()) => Ok(true),

@@ -5,7 +5,7 @@ use Rattle.ssh_key.specs.types.Error.{Error}
 use Rattle.ssh_key.specs.types.Error.TheVariants.{Memory}
 use Rattle.ssh_key.specs.types.known_hosts.Verdict.{Verdict}
 use Rattle.ssh_key.specs.types.known_hosts.Verdict.TheVariants.{Revoked, Trusted, Unknown}
-use Rattle.host_keys.specs.Answers.{IsWhy, Names, OkExactly, answer_of}
+use Rattle.host_keys.specs.Answers.{IsRefusalFor, IsWhy, OkExactly, answer_of}
 use Rattle.host_keys.specs.Hosts.{IsSaid, IsSettled}
 use Rattle.host_keys.specs.declared.refusal.Refusal.{Refusal}
 use Rattle.host_keys.specs.declared.refusal.Refusal.TheVariants as refusal
@@ -52,6 +52,6 @@ module _ {E F : Type 0} (Said : Verdict → Type 0) (revoked : Bool) where
     why (Err e) says is said = tt
 
 -- for what is wrong with the certificate
-pub why_bad : (Said : Verdict → Type 0) (revoked : Bool) (Bad : Error → Type 0) (e : Error) (r : Refusal) → (revoked ≡ false) × Said Trusted → (e ≢ Memory → Bad e) → Names e r → IsWhy Said revoked Bad r
+pub why_bad : (Said : Verdict → Type 0) (revoked : Bool) (Bad : Error → Type 0) (e : Error) (r : Refusal) → (revoked ≡ false) × Said Trusted → (e ≢ Memory → Bad e) → IsRefusalFor e r → IsWhy Said revoked Bad r
 why_bad Said revoked Bad e r good bad (inl m) = subst (IsWhy Said revoked Bad) (sym m.1) tt
 why_bad Said revoked Bad e r good bad (inr n) = subst (IsWhy Said revoked Bad) (sym n.1) (good.0, good.1, bad n.0)

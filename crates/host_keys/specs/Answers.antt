@@ -19,8 +19,8 @@ OkExactly Holds (Ok x) = Holds
 OkExactly Holds (Err e) = e ≢ refusal.Memory → Holds → ⊥
 
 -- The refusal is that of a certificate for the error, or memory ran out.
-abbrev pub Names : Error → Refusal → Type 0
-Names e r = ((e ≡ Memory) × (r ≡ refusal.Memory)) ⊎ ((e ≢ Memory) × (r ≡ refusal.Certificate e))
+abbrev pub IsRefusalFor : Error → Refusal → Type 0
+IsRefusalFor e r = ((e ≡ Memory) × (r ≡ refusal.Memory)) ⊎ ((e ≢ Memory) × (r ≡ refusal.Certificate e))
 
 -- what follows from a verdict
 abbrev pub verdict_answer : Verdict → Result Unit Refusal

@@ -2,7 +2,7 @@
 
 ghost use Rattle.std.specs.Prelude.{◌≡◌};
 ghost use Rattle.ssh_key.specs.types.Error.TheVariants.{Memory};
-ghost use Rattle.host_keys.specs.Answers.{Names, answer_of, verdict_answer};
+ghost use Rattle.host_keys.specs.Answers.{IsRefusalFor, answer_of, verdict_answer};
 
 use ssh_key::Error;
 use ssh_key::known_hosts::Verdict;
@@ -29,7 +29,7 @@ pub enum Refusal {
 impl Refusal {
     /// The refusal of a certificate for that error.
     pub(crate) fn of_certificate(error: Error) -> Refusal
-        ensures { Names error result }
+        ensures { IsRefusalFor error result }
     {
         if error.is_memory() {
             return Refusal::Memory;

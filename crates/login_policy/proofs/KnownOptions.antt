@@ -7,7 +7,7 @@ use Rattle.std.proofs.lemmas.List.Elements.{All-nil, All-cons, All-head, All-tai
 use Rattle.std.proofs.lemmas.Map.Views.{Contains-from_any}
 use Rattle.std.proofs.lemmas.Slice.Eq.{bytes_eq-Decides}
 use Rattle.ssh_key.specs.model.Options.{CertificateOption}
-use Rattle.login_policy.specs.KnownOptions.{Addresses, Command, IsArgument, IsEmptyIfFlag, IsKnown, Verification, flags, force_command, source_address, verify_required}
+use Rattle.login_policy.specs.KnownOptions.{Addresses, Command, IsArgument, IsEmptyIfFlag, IsKnownOption, Verification, flags, force_command, source_address, verify_required}
 
 -- ---- a walk
 
@@ -45,7 +45,7 @@ no_command = differ force_command verify_required refl
 no_addresses : source_address ≡ verify_required → ⊥
 no_addresses = differ source_address verify_required refl
 
-pub command : (o : CertificateOption) (r : Bool) → o.name ≡ force_command → (IsTrue r ↔ IsArgument o.value) → IsTrue r ↔ IsKnown o
+pub command : (o : CertificateOption) (r : Bool) → o.name ≡ force_command → (IsTrue r ↔ IsArgument o.value) → IsTrue r ↔ IsKnownOption o
 command o r is judged = (
   λ yes. Command is (judged.0 yes),
   λ known. judged.1 (elim known [
@@ -55,7 +55,7 @@ command o r is judged = (
   ]),
 )
 
-pub addresses : (o : CertificateOption) (r : Bool) → o.name ≡ source_address → (IsTrue r ↔ IsArgument o.value) → IsTrue r ↔ IsKnown o
+pub addresses : (o : CertificateOption) (r : Bool) → o.name ≡ source_address → (IsTrue r ↔ IsArgument o.value) → IsTrue r ↔ IsKnownOption o
 addresses o r is judged = (
   λ yes. Addresses is (judged.0 yes),
   λ known. judged.1 (elim known [
@@ -65,7 +65,7 @@ addresses o r is judged = (
   ]),
 )
 
-pub verification : (o : CertificateOption) (r : Bool) → o.name ≡ verify_required → (IsTrue r ↔ (o.value ≡ [])) → IsTrue r ↔ IsKnown o
+pub verification : (o : CertificateOption) (r : Bool) → o.name ≡ verify_required → (IsTrue r ↔ (o.value ≡ [])) → IsTrue r ↔ IsKnownOption o
 verification o r is judged = (
   λ yes. Verification is (judged.0 yes),
   λ known. judged.1 (elim known [
@@ -75,7 +75,7 @@ verification o r is judged = (
   ]),
 )
 
-pub unknown : (o : CertificateOption) → (o.name ≡ force_command → ⊥) → (o.name ≡ source_address → ⊥) → (o.name ≡ verify_required → ⊥) → IsTrue false ↔ IsKnown o
+pub unknown : (o : CertificateOption) → (o.name ≡ force_command → ⊥) → (o.name ≡ source_address → ⊥) → (o.name ≡ verify_required → ⊥) → IsTrue false ↔ IsKnownOption o
 unknown o first second third = (
   λ yes. absurd cc,
   λ known. absurd (elim known [

@@ -27,8 +27,8 @@ use Rattle.ssh_key.specs.types.Error.TheVariants as error
 use Rattle.ssh_key.specs.types.Fingerprint as code
 use Rattle.ssh_key.proofs.Validation.{fingerprint_memory, signer_fits}
 use Rattle.login_policy.specs.Logins.{GrantsExactly, HasRightFields, IsGrantOf, IsLogin, LetsIn}
-use Rattle.login_policy.specs.Principals.{AreFor}
-use Rattle.login_policy.specs.Refusals.{ForHosts, HasWrongField, IsRevoked, IsUntrusted, Names, NeedsMemory, NotValid, OtherAuthority, OtherExtension, OtherKey, OtherKeyId, OtherPrincipals, Refuses, UnknownOption}
+use Rattle.login_policy.specs.Principals.{AreForUser}
+use Rattle.login_policy.specs.Refusals.{ForHosts, HasWrongField, IsRefusalFor, IsRevoked, IsUntrusted, NeedsMemory, NotValid, OtherAuthority, OtherExtension, OtherKey, OtherKeyId, OtherPrincipals, RefusesCertificate, UnknownOption}
 use Rattle.login_policy.specs.declared.grant.Grant.{Grant}
 use Rattle.login_policy.specs.declared.refusal.Refusal.{Refusal}
 use Rattle.login_policy.specs.declared.refusal.Refusal.TheVariants.{Certificate as of_certificate, Memory}
@@ -46,21 +46,21 @@ nobody (n ∷ names) none some =
     absurd (omega (arith, zero))
 
 -- a certificate that lists somebody allows those alone that it lists
-listed : (c : Certificate) (user : List ℕ) → AreFor user c.signed.valid_principals → Allows c user → Contains c.signed.valid_principals user
+listed : (c : Certificate) (user : List ℕ) → AreForUser user c.signed.valid_principals → Allows c user → Contains c.signed.valid_principals user
 listed c user names (inl none) = absurd (names.some none)
 listed c user names (inr among) = among
 
 -- ---- the refusal of an error
 
-pub memory_of : (e : Error) (r : Refusal) → Names e r → r ≡ Memory → e ≡ error.Memory
+pub memory_of : (e : Error) (r : Refusal) → IsRefusalFor e r → r ≡ Memory → e ≡ error.Memory
 memory_of e r (inl ran_out) memory = ran_out.0
 memory_of e r (inr is) memory = let named = is.1 in absurd cc
 
-pub other_of : (e : Error) (r : Refusal) → Names e r → r ≢ Memory → (e ≢ error.Memory) × (r ≡ of_certificate e)
+pub other_of : (e : Error) (r : Refusal) → IsRefusalFor e r → r ≢ Memory → (e ≢ error.Memory) × (r ≡ of_certificate e)
 other_of e r (inl ran_out) other = absurd (other ran_out.1)
 other_of e r (inr is) other = is
 
-pub ran_out : (e : Error) (r : Refusal) → Names e r → e ≡ error.Memory → r ≡ Memory
+pub ran_out : (e : Error) (r : Refusal) → IsRefusalFor e r → e ≡ error.Memory → r ≡ Memory
 ran_out e r (inl both) memory = both.1
 ran_out e r (inr is) memory = absurd (is.0 memory)
 
@@ -118,7 +118,7 @@ field_not_memory user offered c r (OtherKeyId users own known plain other) = λ 
 field_not_memory user offered c r (OtherPrincipals users own known plain id other) = λ memory. cc
 
 -- the line is of one certificate only, which decides
-pub refused : RefuseTheUnwanted → LinesDetermineValues name_of_certificate SpellsCertificate → (accepts : Question → Bool) (revokes : List ℕ → krl.Grant → Bool) (authorities : List Fingerprint) (t : ℕ) (user text comment : List ℕ) (offered : Key) (c : Certificate) (r : Refusal) → IsCertificateLine text c comment → Refuses accepts revokes authorities t user offered c r → IsLogin accepts revokes authorities t user offered text → ⊥
+pub refused : RefuseTheUnwanted → LinesDetermineValues name_of_certificate SpellsCertificate → (accepts : Question → Bool) (revokes : List ℕ → krl.Grant → Bool) (authorities : List Fingerprint) (t : ℕ) (user text comment : List ℕ) (offered : Key) (c : Certificate) (r : Refusal) → IsCertificateLine text c comment → RefusesCertificate accepts revokes authorities t user offered c r → IsLogin accepts revokes authorities t user offered text → ⊥
 refused law one accepts revokes authorities t user text comment offered c r line why login =
     let lets = subst (λ (d : Certificate). LetsIn accepts revokes authorities t user offered d) (one text login.comment comment login.certificate c login.line line).0 login.lets_in in
     elim why [

@@ -22,10 +22,10 @@ pub record IsArgument (value : List ℕ) : Type 0 where
   pub no_zero : IsWithout 0 value
 
 -- one of two with an argument, or the flag, in which nothing stands
-pub data IsKnown (o : CertificateOption) : Type 0 where
-  Command : o.name ≡ force_command → IsArgument o.value → IsKnown o
-  Addresses : o.name ≡ source_address → IsArgument o.value → IsKnown o
-  Verification : o.name ≡ verify_required → o.value ≡ [] → IsKnown o
+pub data IsKnownOption (o : CertificateOption) : Type 0 where
+  Command : o.name ≡ force_command → IsArgument o.value → IsKnownOption o
+  Addresses : o.name ≡ source_address → IsArgument o.value → IsKnownOption o
+  Verification : o.name ≡ verify_required → o.value ≡ [] → IsKnownOption o
 
 -- The extensions that are flags.
 abbrev pub flags : List (List ℕ)

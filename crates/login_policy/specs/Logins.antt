@@ -14,9 +14,9 @@ use Rattle.ssh_key.specs.model.Validity.{IsValid}
 use Rattle.ssh_key.specs.model.Verification.{Question}
 use Rattle.ssh_key.specs.options.OptionMaps.{options_of}
 use Rattle.openssh_limits.specs.Read.{HasReadApplication}
-use Rattle.login_policy.specs.KnownOptions.{IsKnown, IsPlainExtension}
+use Rattle.login_policy.specs.KnownOptions.{IsKnownOption, IsPlainExtension}
 use Rattle.login_policy.specs.KnownOptions as options
-use Rattle.login_policy.specs.Principals.{AreFor}
+use Rattle.login_policy.specs.Principals.{AreForUser}
 use Rattle.login_policy.specs.declared.grant.Grant.{Grant}
 use Rattle.login_policy.specs.declared.refusal.Refusal.{Refusal}
 use Rattle.login_policy.specs.declared.refusal.Refusal.TheVariants.{Memory}
@@ -31,10 +31,10 @@ pub record IsOwn (offered : Key) (c : Certificate) : Type 0 where
 pub record HasRightFields (user : List ℕ) (offered : Key) (c : Certificate) : Type 0 where
   pub for_users : c.signed.certificate_type ≡ User
   pub own_key : IsOwn offered c
-  pub known : All IsKnown c.signed.critical_options
+  pub known : All IsKnownOption c.signed.critical_options
   pub plain : All IsPlainExtension c.signed.extensions
   pub key_id : IsWithout 0 c.signed.key_id
-  pub principals : AreFor user c.signed.valid_principals
+  pub principals : AreForUser user c.signed.valid_principals
 
 -- The certificate lets the user in who holds the offered key: it has the right fields, lists the
 -- user, is not revoked, and is valid at that time by one of the authorities.

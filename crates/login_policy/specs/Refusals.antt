@@ -18,15 +18,15 @@ use Rattle.ssh_key.specs.types.Error.{Error}
 use Rattle.ssh_key.specs.types.Error.TheVariants as error
 use Rattle.ssh_key.specs.types.certificate.Field.{Field}
 use Rattle.ssh_key.specs.types.certificate.Field.TheVariants as field
-use Rattle.login_policy.specs.KnownOptions.{IsKnown, IsPlainExtension}
+use Rattle.login_policy.specs.KnownOptions.{IsKnownOption, IsPlainExtension}
 use Rattle.login_policy.specs.Logins.{HasRightFields, IsOwn}
-use Rattle.login_policy.specs.Principals.{AreFor}
+use Rattle.login_policy.specs.Principals.{AreForUser}
 use Rattle.login_policy.specs.declared.refusal.Refusal.{Refusal}
 use Rattle.login_policy.specs.declared.refusal.Refusal.TheVariants as refusal
 
 -- The refusal is that of a certificate for the error, or memory ran out.
-abbrev pub Names : Error → Refusal → Type 0
-Names e r = ((e ≡ error.Memory) × (r ≡ refusal.Memory)) ⊎ ((e ≢ error.Memory) × (r ≡ refusal.Certificate e))
+abbrev pub IsRefusalFor : Error → Refusal → Type 0
+IsRefusalFor e r = ((e ≡ error.Memory) × (r ≡ refusal.Memory)) ⊎ ((e ≢ error.Memory) × (r ≡ refusal.Certificate e))
 
 abbrev pub invalid : Field → Refusal
 invalid f = refusal.Certificate (error.CertificateFieldInvalid f)
@@ -35,10 +35,10 @@ invalid f = refusal.Certificate (error.CertificateFieldInvalid f)
 pub data HasWrongField (user : List ℕ) (offered : Key) (c : Certificate) : Refusal → Type 0 where
   ForHosts : c.signed.certificate_type ≢ User → HasWrongField user offered c (invalid field.CertType)
   OtherKey : c.signed.certificate_type ≡ User → ¬ IsOwn offered c → HasWrongField user offered c (invalid field.PublicKey)
-  UnknownOption : c.signed.certificate_type ≡ User → IsOwn offered c → ¬ All IsKnown c.signed.critical_options → HasWrongField user offered c (invalid field.CriticalOptions)
-  OtherExtension : c.signed.certificate_type ≡ User → IsOwn offered c → All IsKnown c.signed.critical_options → ¬ All IsPlainExtension c.signed.extensions → HasWrongField user offered c (invalid field.Extensions)
-  OtherKeyId : c.signed.certificate_type ≡ User → IsOwn offered c → All IsKnown c.signed.critical_options → All IsPlainExtension c.signed.extensions → ¬ IsWithout 0 c.signed.key_id → HasWrongField user offered c (invalid field.KeyId)
-  OtherPrincipals : c.signed.certificate_type ≡ User → IsOwn offered c → All IsKnown c.signed.critical_options → All IsPlainExtension c.signed.extensions → IsWithout 0 c.signed.key_id → ¬ AreFor user c.signed.valid_principals → HasWrongField user offered c (invalid field.ValidPrincipals)
+  UnknownOption : c.signed.certificate_type ≡ User → IsOwn offered c → ¬ All IsKnownOption c.signed.critical_options → HasWrongField user offered c (invalid field.CriticalOptions)
+  OtherExtension : c.signed.certificate_type ≡ User → IsOwn offered c → All IsKnownOption c.signed.critical_options → ¬ All IsPlainExtension c.signed.extensions → HasWrongField user offered c (invalid field.Extensions)
+  OtherKeyId : c.signed.certificate_type ≡ User → IsOwn offered c → All IsKnownOption c.signed.critical_options → All IsPlainExtension c.signed.extensions → ¬ IsWithout 0 c.signed.key_id → HasWrongField user offered c (invalid field.KeyId)
+  OtherPrincipals : c.signed.certificate_type ≡ User → IsOwn offered c → All IsKnownOption c.signed.critical_options → All IsPlainExtension c.signed.extensions → IsWithout 0 c.signed.key_id → ¬ AreForUser user c.signed.valid_principals → HasWrongField user offered c (invalid field.ValidPrincipals)
 
 -- The refusal says what is wrong first behind the fields: the authority, then that the certificate is
 -- revoked, and only then what the verifier, the time or the user's name say.
@@ -48,12 +48,12 @@ pub data IsUntrusted (accepts : Question → Bool) (revokes : List ℕ → krl.G
   NotValid : IsTrue (has_trusted_authority authorities c) → is_certificate_revoked revokes c ≡ false → (e : Error) → option_map refusal_error (first_refusal_for accepts authorities t user c) ≡ Some e → IsUntrusted accepts revokes authorities t user c (refusal.Certificate e)
 
 -- The refusal says what is wrong with the certificate first.
-abbrev pub Refuses : (Question → Bool) → (List ℕ → krl.Grant → Bool) → List Fingerprint → ℕ → List ℕ → Key → Certificate → Refusal → Type 0
-Refuses accepts revokes authorities t user offered c r = HasWrongField user offered c r ⊎ (HasRightFields user offered c × IsUntrusted accepts revokes authorities t user c r)
+abbrev pub RefusesCertificate : (Question → Bool) → (List ℕ → krl.Grant → Bool) → List Fingerprint → ℕ → List ℕ → Key → Certificate → Refusal → Type 0
+RefusesCertificate accepts revokes authorities t user offered c r = HasWrongField user offered c r ⊎ (HasRightFields user offered c × IsUntrusted accepts revokes authorities t user c r)
 
 -- The text is the line of no certificate, and has that fault; or of one that is refused for that.
-abbrev pub RefusesLine : (Question → Bool) → (List ℕ → krl.Grant → Bool) → List Fingerprint → ℕ → List ℕ → Key → List ℕ → Refusal → Type 0
-RefusesLine accepts revokes authorities t user offered text r = (IsNoLine name_of_certificate SpellsCertificate text × ((e : Error) × HasFaultOfLine certificate_format name_of_certificate SpellsCertificate text e × Names e r)) ⊎ ((c : Certificate) × (comment : List ℕ) × IsCertificateLine text c comment × Refuses accepts revokes authorities t user offered c r)
+abbrev pub RefusesCertificateLine : (Question → Bool) → (List ℕ → krl.Grant → Bool) → List Fingerprint → ℕ → List ℕ → Key → List ℕ → Refusal → Type 0
+RefusesCertificateLine accepts revokes authorities t user offered text r = (IsNoLine name_of_certificate SpellsCertificate text × ((e : Error) × HasFaultOfLine certificate_format name_of_certificate SpellsCertificate text e × IsRefusalFor e r)) ⊎ ((c : Certificate) × (comment : List ℕ) × IsCertificateLine text c comment × RefusesCertificate accepts revokes authorities t user offered c r)
 
 -- ---- where memory is needed
 

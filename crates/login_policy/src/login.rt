@@ -7,7 +7,7 @@ ghost use Rattle.ssh_key.specs.keys.Keys.{key_of};
 ghost use Rattle.ssh_key.specs.model.Certificates.{IsCertificate};
 ghost use Rattle.ssh_key.specs.model.Keys.{IsKey};
 ghost use Rattle.login_policy.specs.Logins.{GrantsExactly, HasRightFields};
-ghost use Rattle.login_policy.specs.Refusals.{HasWrongField, NeedsMemory, RefusesLine, invalid};
+ghost use Rattle.login_policy.specs.Refusals.{HasWrongField, NeedsMemory, RefusesCertificateLine, invalid};
 ghost use Rattle.login_policy.specs.declared.refusal.Refusal.TheVariants.{Memory};
 
 use crate::authority::validate;
@@ -78,7 +78,8 @@ pub fn log_in<R: Revocations, V: RawVerifier>(
     ensures exactly { GrantsExactly (V.accepts verifier.now) (R.revokes revocations.now)
         (fingerprints_of authorities.now) unix_timestamp user.now (key_of offered.now) line.now
         result }
-    ensures refused { IfErr result (λ r. r ≢ Memory → RefusesLine (V.accepts verifier.now)
+    ensures refused { IfErr result
+        (λ r. r ≢ Memory → RefusesCertificateLine (V.accepts verifier.now)
         (R.revokes revocations.now) (fingerprints_of authorities.now) unix_timestamp user.now
         (key_of offered.now) line.now r) }
     ensures memory { IfErr result (λ r. r ≡ Memory

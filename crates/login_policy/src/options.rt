@@ -3,7 +3,7 @@
 ghost use Rattle.std.specs.Prelude.{◌≡◌, ◌↔◌, IsTrue, All, bytes_eq, map};
 ghost use Rattle.std.specs.List.{list_any};
 ghost use Rattle.ssh_key.specs.options.OptionMaps.{options_of};
-ghost use Rattle.login_policy.specs.KnownOptions.{IsArgument, IsEmptyIfFlag, IsKnown, IsPlainExtension, flags};
+ghost use Rattle.login_policy.specs.KnownOptions.{IsArgument, IsEmptyIfFlag, IsKnownOption, IsPlainExtension, flags};
 
 use openssh_limits::is_read_text;
 use ssh_key::certificate::OptionsMap;
@@ -23,7 +23,7 @@ pub(crate) const NO_TOUCH_REQUIRED: &str = "no-touch-required";
 /// Whether the policy knows each of the critical options, and its value is one that sshd reads.
 /// Does not allocate.
 pub(crate) fn are_known(options: &OptionsMap) -> bool
-    ensures { IsTrue result ↔ All IsKnown (options_of options.now) }
+    ensures { IsTrue result ↔ All IsKnownOption (options_of options.now) }
 {
     for (name, value) in options.iter() {
         if !is_known(name, value) {
@@ -48,7 +48,7 @@ pub(crate) fn are_plain(extensions: &OptionsMap) -> bool
 
 /// Whether the policy knows a critical option of that name, and sshd reads the value.
 fn is_known(name: &str, value: &str) -> bool
-    ensures { IsTrue result ↔ IsKnown (record { name = name.now; value = value.now }) }
+    ensures { IsTrue result ↔ IsKnownOption (record { name = name.now; value = value.now }) }
 {
     if is_same(name, FORCE_COMMAND) {
         return is_argument(value);

@@ -1,14 +1,14 @@
 //! Whom a certificate is for.
 
 ghost use Rattle.std.specs.Prelude.{◌↔◌, IsTrue, map, string_bytes};
-ghost use Rattle.login_policy.specs.Principals.{AreFor};
+ghost use Rattle.login_policy.specs.Principals.{AreForUser};
 
 use openssh_limits::are_read_principals;
 
 /// Whether the user has a name, and the principals are some, such as sshd(8) reads. Does not
 /// allocate.
 pub(crate) fn are_for(names: &[String], user: &str) -> bool
-    ensures { IsTrue result ↔ AreFor user.now (map string_bytes names.now) }
+    ensures { IsTrue result ↔ AreForUser user.now (map string_bytes names.now) }
 {
     if user.is_empty() {
         return false;

@@ -1,6 +1,6 @@
 //! Why a login is refused.
 
-ghost use Rattle.login_policy.specs.Refusals.{Names};
+ghost use Rattle.login_policy.specs.Refusals.{IsRefusalFor};
 
 use ssh_key::Error;
 
@@ -20,7 +20,7 @@ pub enum Refusal {
 }
 
 impl From<Error> for Refusal {
-    ghost from_gives = { Names };
+    ghost from_gives = { IsRefusalFor };
 
     fn from(error: Error) -> Refusal {
         if error.is_memory() {

@@ -8,7 +8,7 @@ use Rattle.sshkey_entries.specs.Items.{is_comma, is_quote}
 use Rattle.sshkey_entries.specs.OptionItems.{KeyOption, quote, equals_sign, backslash, is_name_character, IsQuoted, unescaped, IsValueAt, EndsOption, IsOptionAt, without_commas, AreKeyOptions}
 use Rattle.sshkey_entries.specs.OptionEnds.{is_mark}
 use Rattle.sshkey_entries.specs.OptionItems.{HasKeyOptions}
-use Rattle.sshkey_authorized_keys.specs.OptionCuts.{CutsName, FindsFirst, is_escape}
+use Rattle.sshkey_authorized_keys.specs.OptionCuts.{CutsName, FindsPlace, is_escape}
 use Rattle.sshkey_entries.proofs.Fronts.{IsCut, nothing_stays, skipped, stays}
 use Rattle.sshkey_entries.proofs.OneOption.{mark_front, same_quoted, same_name, value_ends, no_value, one_option, some_option}
 
@@ -45,7 +45,7 @@ at_place text i c l e =
     sym (take-append-drop i text)
     ∙ ap (λ (t : List ℕ). take i text ++ t) (at_drop_more (λ (t : List ℕ). t) text i 0 l ∙ ap (λ (d : ℕ). d ∷ drop (i + 1) text) e)
 
-pub quoted_cut : (text front back : List ℕ) (i : ℕ) → FindsFirst is_mark text (Some i) → front ≡ take i text → back ≡ drop (i + 1) text → (text ≡ front ++ (quote ∷ back)) × IsQuoted front
+pub quoted_cut : (text front back : List ℕ) (i : ℕ) → FindsPlace is_mark text (Some i) → front ≡ take i text → back ≡ drop (i + 1) text → (text ≡ front ++ (quote ∷ back)) × IsQuoted front
 quoted_cut text front back i found first rest =
     let whole : text ≡ front ++ (quote ∷ back) = at_place text i quote found.0 (mark_quote text i found.1) ∙ (λ j. sym first j ++ (quote ∷ sym rest j)) in
     let size : length front ≡ i = ap length first ∙ length-take-le i text (omega (arith, found.0)) in
@@ -58,7 +58,7 @@ quoted_cut text front back i found first rest =
       },
     )
 
-pub quoted_none : (text : List ℕ) → FindsFirst is_mark text None → (quoted rest : List ℕ) → text ≡ quoted ++ (quote ∷ rest) → IsQuoted quoted → ⊥
+pub quoted_none : (text : List ℕ) → FindsPlace is_mark text None → (quoted rest : List ℕ) → text ≡ quoted ++ (quote ∷ rest) → IsQuoted quoted → ⊥
 quoted_none text none quoted rest is q =
     let longer : text ≡ (quoted ++ (quote ∷ [])) ++ rest = is ∙ sym (append_assoc quoted (quote ∷ []) rest) in
     let here : is_mark text (length quoted) ≡ true
@@ -70,7 +70,7 @@ quoted_none text none quoted rest is q =
 escape_later : (c i : ℕ) (text : List ℕ) → is_escape (c ∷ text) (suc i) ≡ is_escape text i
 escape_later c i text = let e : suc i + 1 ≡ suc (i + 1) = omega arith in ap (λ (k : ℕ). slice_index text i == backslash && is_quote (slice_index (c ∷ text) k)) e
 
-pub escape_first : (i : ℕ) (text : List ℕ) → FindsFirst is_escape text (Some i) → unescaped text ≡ take i text ++ unescaped (drop (i + 1) text)
+pub escape_first : (i : ℕ) (text : List ℕ) → FindsPlace is_escape text (Some i) → unescaped text ≡ take i text ++ unescaped (drop (i + 1) text)
 unfolding unescaped
 escape_first zero [] found = absurd (omega (arith, found.0))
 escape_first zero (c ∷ text) found = ap (λ (b : Bool). cond b (unescaped text) (c ∷ unescaped text)) found.1
@@ -82,7 +82,7 @@ escape_first (suc i) (c ∷ text) found =
     ∙ ap (λ (t : List ℕ). c ∷ t) (escape_first i text (omega (arith, found.0), sym (escape_later c i text) ∙ found.1, λ k l. sym (escape_later c k text) ∙ found.2 (suc k) (omega (arith, l))))
     ∙ ap (λ (k : ℕ). take (suc i) (c ∷ text) ++ unescaped (drop k (c ∷ text))) (sym e)
 
-pub escape_none : (text : List ℕ) → FindsFirst is_escape text None → unescaped text ≡ text
+pub escape_none : (text : List ℕ) → FindsPlace is_escape text None → unescaped text ≡ text
 unfolding unescaped
 escape_none [] none = refl
 escape_none (c ∷ text) none =
@@ -101,21 +101,21 @@ none_more p n before here k l = elim (cases_lt k n) [
 pub whole_front : (i : ℕ) (text : List ℕ) → slice_range text 0 i ≡ take i text
 whole_front i text = let e : i - 0 ≡ i = omega arith in ap (λ (n : ℕ). take n text) e
 
-pub mark_place : (text bytes : List ℕ) (i : ℕ) → IsUtf8 text → bytes ≡ text → FindsFirst is_mark bytes (Some i) → IsCharBoundary text (i + 1)
+pub mark_place : (text bytes : List ℕ) (i : ℕ) → IsUtf8 text → bytes ≡ text → FindsPlace is_mark bytes (Some i) → IsCharBoundary text (i + 1)
 mark_place text bytes i utf8 same found =
-    let here : FindsFirst is_mark text (Some i) = subst (λ (t : List ℕ). FindsFirst is_mark t (Some i)) same found in
+    let here : FindsPlace is_mark text (Some i) = subst (λ (t : List ℕ). FindsPlace is_mark t (Some i)) same found in
     IsCharBoundary-after_ascii text i utf8 here.0 (omega (arith, mark_quote text i here.1))
 
-pub escape_more : (text value rest bytes front back new : List ℕ) (i : ℕ) → unescaped text ≡ value ++ unescaped rest → bytes ≡ rest → FindsFirst is_escape bytes (Some i) → front ≡ take i rest → back ≡ drop (i + 1) rest → new ≡ value ++ front
+pub escape_more : (text value rest bytes front back new : List ℕ) (i : ℕ) → unescaped text ≡ value ++ unescaped rest → bytes ≡ rest → FindsPlace is_escape bytes (Some i) → front ≡ take i rest → back ≡ drop (i + 1) rest → new ≡ value ++ front
     → unescaped text ≡ new ++ unescaped back
 escape_more text value rest bytes front back new i before same found first last is =
     before
-    ∙ ap (λ (t : List ℕ). value ++ t) (escape_first i rest (subst (λ (t : List ℕ). FindsFirst is_escape t (Some i)) same found) ∙ (λ j. sym first j ++ unescaped (sym last j)))
+    ∙ ap (λ (t : List ℕ). value ++ t) (escape_first i rest (subst (λ (t : List ℕ). FindsPlace is_escape t (Some i)) same found) ∙ (λ j. sym first j ++ unescaped (sym last j)))
     ∙ sym (append_assoc value front (unescaped back))
     ∙ ap (λ (t : List ℕ). t ++ unescaped back) (sym is)
 
-pub escape_last : (text value rest bytes new : List ℕ) → unescaped text ≡ value ++ unescaped rest → bytes ≡ rest → FindsFirst is_escape bytes None → new ≡ value ++ rest → new ≡ unescaped text
-escape_last text value rest bytes new before same none is = is ∙ ap (λ (t : List ℕ). value ++ t) (sym (escape_none rest (subst (λ (t : List ℕ). FindsFirst is_escape t None) same none))) ∙ sym before
+pub escape_last : (text value rest bytes new : List ℕ) → unescaped text ≡ value ++ unescaped rest → bytes ≡ rest → FindsPlace is_escape bytes None → new ≡ value ++ rest → new ≡ unescaped text
+escape_last text value rest bytes new before same none is = is ∙ ap (λ (t : List ℕ). value ++ t) (sym (escape_none rest (subst (λ (t : List ℕ). FindsPlace is_escape t None) same none))) ∙ sym before
 
 -- ---- options
 

@@ -18,7 +18,7 @@ use Rattle.sshkey_entries.proofs.OneOpenSshLine.{same_front}
 use Rattle.sshkey_entries.specs.Answers.{ReadsEntry, RefusesFor}
 use Rattle.sshkey_model.specs.Keys.{Key}
 use Rattle.sshkey_entries.specs.KeyFields.{HasKeyFault, NeedsKeyFields}
-use Rattle.sshkey_authorized_keys.specs.OpenSshNeeds.{AsksFor, NeedsBehind, NeedsEntry}
+use Rattle.sshkey_authorized_keys.specs.OpenSshNeeds.{AsksFor, NeedsBehindOptions, NeedsEntry}
 use Rattle.sshkey_authorized_keys.specs.OpenSshEntries.{openssh_entry_of}
 use Rattle.sshkey_authorized_keys.specs.OpenSshFaults.{EndsHere, HasNoEnd, HasTextFault, HasLineFault}
 use Rattle.sshkey_authorized_keys.specs.declared.openssh.OpenSshEntry.{OpenSshEntry}
@@ -81,10 +81,10 @@ module _ (text front rest fields : List ℕ) (cut : (text ≡ front ++ rest) × 
     fields = λ options more is ends. subst (λ (t : List ℕ). HasKeyFault t e) (skips ∙ ap without_blanks (same_parts options more is ends).1) fault;
   }
 
-  pub key_needs : NeedsKeyFields fields → NeedsBehind text
+  pub key_needs : NeedsKeyFields fields → NeedsBehindOptions text
   key_needs needed = record { options = front; rest = rest; is = cut.0; ends = cut.1; needed = inl (subst NeedsKeyFields skips needed) }
 
-  pub options_need : (k : Key) (comment : List ℕ) → AreKeyFields fields k comment → NeedsBehind text
+  pub options_need : (k : Key) (comment : List ℕ) → AreKeyFields fields k comment → NeedsBehindOptions text
   options_need k comment is = record { options = front; rest = rest; is = cut.0; ends = cut.1; needed = inr (k, comment, subst (λ (t : List ℕ). AreKeyFields t k comment) skips is) }
 
   pub options_read : (a : AuthorizedKey) → AreNoKeyFields text → a.options ≡ front → AreKeyFields fields a.key a.comment → IsBehindOptions text a
@@ -112,9 +112,9 @@ module _ (line text : List ℕ) (skips : text ≡ without_blanks line) where
     pub alone_needs : NeedsKeyFields text → NeedsEntry line
     alone_needs needed = record { no_comment = not_comment; needed = inl (subst NeedsKeyFields skips needed) }
 
-    pub behind_needs : (r : Result OpenSshEntry Error) → AsksFor (NeedsBehind text) r → AsksFor (NeedsEntry line) r
+    pub behind_needs : (r : Result OpenSshEntry Error) → AsksFor (NeedsBehindOptions text) r → AsksFor (NeedsEntry line) r
     behind_needs (Ok x) h = tt
-    behind_needs (Err e) h = λ memory. record { no_comment = not_comment; needed = inr (subst NeedsBehind skips (h memory)) }
+    behind_needs (Err e) h = λ memory. record { no_comment = not_comment; needed = inr (subst NeedsBehindOptions skips (h memory)) }
 
     pub alone_read : (a : AuthorizedKey) → a.options ≡ [] → AreKeyFields text a.key a.comment → IsAuthorizedLine line a
     alone_read a none is = record { no_comment = not_comment; is = inl (record { options = none; fields = subst (λ (t : List ℕ). AreKeyFields t a.key a.comment) skips is }) }

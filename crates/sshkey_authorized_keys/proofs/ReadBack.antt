@@ -9,7 +9,7 @@ use Rattle.sshkey_entries.specs.Entries.{IsNoEntry}
 use Rattle.sshkey_entries.specs.OpenSshLines.{IsAuthorizedLine}
 use Rattle.sshkey_entries.proofs.OneEntry.{one_entry}
 use Rattle.sshkey_entries.proofs.OneOpenSshLine.{one_authorized_line}
-use Rattle.sshkey_authorized_keys.specs.ReadBack.{Tells, TellsNone}
+use Rattle.sshkey_authorized_keys.specs.ReadBack.{TellsNot, TellsWhether}
 
 -- ---- the key of an entry that was read is well-formed
 
@@ -22,12 +22,12 @@ openssh_form line a s = elim s.is [ inl alone ↦ alone.fields.spelled.is | inr 
 -- ---- what comparing tells
 
 module _ (line : List ℕ) (r a : AuthorizedKey) (b : Bool) (same : IsTrue b → r ≡ a) (every : IsKey a.key → r ≡ a → IsTrue b) where
-  pub tells_plainly : IsAuthorizedKey line r → Tells (IsAuthorizedKey line a) (Ok b)
+  pub tells_plainly : IsAuthorizedKey line r → TellsWhether (IsAuthorizedKey line a) (Ok b)
   tells_plainly is = (λ t. subst (IsAuthorizedKey line) (same t) is, λ s. every (plain_form line a s) (one_entry line r a is s))
 
-  pub tells_openssh : IsAuthorizedLine line r → Tells (IsAuthorizedLine line a) (Ok b)
+  pub tells_openssh : IsAuthorizedLine line r → TellsWhether (IsAuthorizedLine line a) (Ok b)
   tells_openssh is = (λ t. subst (IsAuthorizedLine line) (same t) is, λ s. every (openssh_form line a s) (one_authorized_line line r a is s))
 
-pub tells_none : (IsEntry : List ℕ → AuthorizedKey → Type 0) (line : List ℕ) (a : AuthorizedKey) (e : Error) (result : Result Bool Error) → (cause e ≢ NoMemory → IsNoEntry IsEntry line) → TellsNone (cause e ≡ NoMemory) result → Tells (IsEntry line a) result
+pub tells_none : (IsEntry : List ℕ → AuthorizedKey → Type 0) (line : List ℕ) (a : AuthorizedKey) (e : Error) (result : Result Bool Error) → (cause e ≢ NoMemory → IsNoEntry IsEntry line) → TellsNot (cause e ≡ NoMemory) result → TellsWhether (IsEntry line a) result
 tells_none IsEntry line a e (Ok b) none h = (λ t. cc (sym t ∙ h.0), λ is. absurd (none h.1 a is))
 tells_none IsEntry line a e (Err f) none h = h

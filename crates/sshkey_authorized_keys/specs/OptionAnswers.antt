@@ -11,9 +11,9 @@ IsNotAllowed text e = (e ≡ Encoding CharacterEncoding) × (AreOptions text →
 
 -- Accepted, all characters are allowed, and the value is seen as `seen`. Refused exactly where one
 -- is not.
-abbrev pub Judges : {X Y : Type 0} → (X → Y) → List ℕ → Y → Result X Error → Type 0
-Judges means text seen (Ok x) = AreOptions text × (means x ≡ seen)
-Judges means text seen (Err e) = IsNotAllowed text e
+abbrev pub JudgesOptions : {X Y : Type 0} → (X → Y) → List ℕ → Y → Result X Error → Type 0
+JudgesOptions means text seen (Ok x) = AreOptions text × (means x ≡ seen)
+JudgesOptions means text seen (Err e) = IsNotAllowed text e
 
 -- The same; or they are allowed, and memory ran out.
 abbrev pub JudgesInMemory : {X Y : Type 0} → (X → Y) → List ℕ → Y → Result X Error → Type 0

@@ -11,9 +11,9 @@ pub record CutsName (text name rest : List ℕ) : Type 0 where
   pub ends : (rest ≡ []) ⊎ (is_name_character (slice_index rest 0) ≡ false)
 
 -- the first place with that, if there is one
-abbrev pub FindsFirst : (List ℕ → ℕ → Bool) → List ℕ → Option ℕ → Type 0
-FindsFirst has text None = (k : ℕ) → k < length text → has text k ≡ false
-FindsFirst has text (Some i) = (i < length text) × (has text i ≡ true) × ((k : ℕ) → k < i → has text k ≡ false)
+abbrev pub FindsPlace : (List ℕ → ℕ → Bool) → List ℕ → Option ℕ → Type 0
+FindsPlace has text None = (k : ℕ) → k < length text → has text k ≡ false
+FindsPlace has text (Some i) = (i < length text) × (has text i ≡ true) × ((k : ℕ) → k < i → has text k ≡ false)
 
 -- a backslash before a quote
 abbrev pub is_escape : List ℕ → ℕ → Bool

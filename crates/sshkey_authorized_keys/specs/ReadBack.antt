@@ -26,11 +26,11 @@ MakesReadBack means a (Ok x) = (means x ≡ a) × IsReadBack a
 MakesReadBack means a (Err e) = ((BoxesFit (normal_key a.key) → ⊥) × (e ≡ Encoding Length)) ⊎ (BoxesFit (normal_key a.key) × (((IsReadBack a → ⊥) × (e ≡ FormatEncoding)) ⊎ (e ≡ Memory)))
 
 -- Whether that holds; or memory ran out.
-abbrev pub Tells : Type 0 → Result Bool Error → Type 0
-Tells P (Ok b) = (IsTrue b → P) × (P → IsTrue b)
-Tells P (Err e) = e ≡ Memory
+abbrev pub TellsWhether : Type 0 → Result Bool Error → Type 0
+TellsWhether P (Ok b) = (IsTrue b → P) × (P → IsTrue b)
+TellsWhether P (Err e) = e ≡ Memory
 
 -- That it does not, where memory did not run out.
-abbrev pub TellsNone : Type 0 → Result Bool Error → Type 0
-TellsNone Full (Ok b) = (b ≡ false) × (Full → ⊥)
-TellsNone Full (Err e) = e ≡ Memory
+abbrev pub TellsNot : Type 0 → Result Bool Error → Type 0
+TellsNot Full (Ok b) = (b ≡ false) × (Full → ⊥)
+TellsNot Full (Err e) = e ≡ Memory

@@ -8,7 +8,7 @@ ghost use Rattle.sshkey_base.specs.declared.error.Error.TheVariants as wide;
 ghost use Rattle.sshkey_entries.specs.ConfigOptions.{is_option_character, AreOptions};
 ghost use Rattle.sshkey_entries.specs.Items.{items};
 ghost use Rattle.sshkey_authorized_keys.specs.Dividers.{FindsDivider};
-ghost use Rattle.sshkey_authorized_keys.specs.OptionAnswers.{Judges, JudgesInMemory};
+ghost use Rattle.sshkey_authorized_keys.specs.OptionAnswers.{JudgesInMemory, JudgesOptions};
 
 use sshkey_base::{Error, Result, Text, encoding};
 use std::alloc::Global;
@@ -81,7 +81,7 @@ impl<'a> ConfigOptsIter<'a> {
     /// The items of a text. Fails with `CharacterEncoding` exactly if a character is not allowed: a
     /// byte that is no printable ASCII character, a space or a backquote. Does not allocate.
     pub fn new(text: &'a str) -> Result<ConfigOptsIter<'a>>
-        ensures { Judges (λ it. it) text.now (items text.now) result }
+        ensures { JudgesOptions (λ it. it) text.now (items text.now) result }
     {
         if !are_options(text) {
             return Err(Error::Encoding(encoding::Error::CharacterEncoding));

@@ -9,7 +9,7 @@ ghost use Rattle.sshkey_entries.specs.OpenSshLines.{IsAuthorizedLine, IsBehindOp
 ghost use Rattle.sshkey_entries.specs.Answers.{ReadsEntry, RefusesFor, YieldsAnswers};
 ghost use Rattle.sshkey_authorized_keys.specs.OpenSshEntries.{openssh_entry_of, openssh_key_in, openssh_options_of};
 ghost use Rattle.sshkey_authorized_keys.specs.OpenSshFaults.{CutsOptions, FindsEnd, HasLineFault, HasTextFault, EndsHere};
-ghost use Rattle.sshkey_authorized_keys.specs.OpenSshNeeds.{AnswersLine, AsksFor, NeedsBehind, NeedsEntry};
+ghost use Rattle.sshkey_authorized_keys.specs.OpenSshNeeds.{AnswersLine, AsksFor, NeedsBehindOptions, NeedsEntry};
 
 use crate::entry::Entry;
 use crate::openssh_options::OpenSshOptions;
@@ -135,7 +135,7 @@ impl OpenSshEntry {
         requires { AreNoKeyFields text.now }
         ensures reads { ReadsEntry openssh_entry_of IsBehindOptions text.now result }
         ensures fault { RefusesFor HasTextFault text.now result }
-        ensures asks { AsksFor (NeedsBehind text.now) result }
+        ensures asks { AsksFor (NeedsBehindOptions text.now) result }
     {
         let Some((front, rest)) = split_options(text) else {
             return Err(Error::FormatEncoding);

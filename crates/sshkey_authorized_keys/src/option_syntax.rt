@@ -5,7 +5,7 @@ ghost use Rattle.sshkey_base.specs.declared.error.Error.TheVariants as wide;
 ghost use Rattle.sshkey_entries.specs.Items.{is_comma};
 ghost use Rattle.sshkey_entries.specs.OptionItems.{EndsOption, is_name_character, unescaped, without_commas};
 ghost use Rattle.sshkey_entries.specs.OptionEnds.{is_mark};
-ghost use Rattle.sshkey_authorized_keys.specs.OptionCuts.{CutsName, CutsQuoted, CutsValue, FindsFirst, is_escape};
+ghost use Rattle.sshkey_authorized_keys.specs.OptionCuts.{CutsName, CutsQuoted, CutsValue, FindsPlace, is_escape};
 
 use sshkey_base::Result;
 use std::alloc::Global;
@@ -71,7 +71,7 @@ pub(crate) fn is_mark(line: &[u8], place: usize) -> bool
 
 /// The place of the first quote that stands after no backslash.
 fn quote_end(text: &[u8]) -> Option<usize>
-    ensures { FindsFirst is_mark text.now result }
+    ensures { FindsPlace is_mark text.now result }
 {
     for place in 0..text.len() {
         if is_mark(text, place) {
@@ -113,7 +113,7 @@ fn is_escape(text: &[u8], place: usize) -> bool
 
 /// The place of the first backslash before a quote.
 fn escape_place(text: &[u8]) -> Option<usize>
-    ensures { FindsFirst is_escape text.now result }
+    ensures { FindsPlace is_escape text.now result }
 {
     for index in 0..text.len() {
         if is_escape(text, index) {

@@ -6,7 +6,7 @@ ghost use Rattle.sshkey_entries.specs.AuthorizedKeys.{IsAuthorizedKey};
 ghost use Rattle.sshkey_entries.specs.OpenSshLines.{IsAuthorizedLine};
 ghost use Rattle.sshkey_authorized_keys.specs.AuthorizedEntries.{IsOfKey, authorized_key_of};
 ghost use Rattle.sshkey_authorized_keys.specs.OpenSshEntries.{IsOfOpenSshKey, openssh_entry_of};
-ghost use Rattle.sshkey_authorized_keys.specs.ReadBack.{IsReadAs, Tells, TellsNone};
+ghost use Rattle.sshkey_authorized_keys.specs.ReadBack.{IsReadAs, TellsNot, TellsWhether};
 
 use crate::entry::Entry;
 use crate::laws::equal_authorized_keys;
@@ -18,7 +18,7 @@ use std::alloc::Global;
 
 /// What a refusal of a line tells: there is no entry, or memory ran out.
 fn no_entry(error: &Error) -> Result<bool>
-    ensures { TellsNone (cause error.now ≡ NoMemory) result }
+    ensures { TellsNot (cause error.now ≡ NoMemory) result }
 {
     if error.is_memory() {
         return Err(Error::Memory);
@@ -38,7 +38,7 @@ fn is_same(read: &Entry, entry: &Entry) -> bool
 
 /// Whether it is the entry of the line that is read plainly.
 fn is_read_plainly(alloc: Global, line: &str, entry: &Entry) -> Result<bool>
-    ensures { Tells (IsAuthorizedKey line.now (authorized_key_of entry.now)) result }
+    ensures { TellsWhether (IsAuthorizedKey line.now (authorized_key_of entry.now)) result }
 {
     match Entry::from_line(alloc, line) {
         Ok(read) => Ok(is_same(&read, entry)),
@@ -59,7 +59,7 @@ fn is_openssh_entry(read: &OpenSshEntry, entry: &Entry) -> bool
 
 /// Whether it is the entry of the line as sshd(8) reads it.
 fn is_read_by_openssh(alloc: Global, line: &str, entry: &Entry) -> Result<bool>
-    ensures { Tells (IsAuthorizedLine line.now (authorized_key_of entry.now)) result }
+    ensures { TellsWhether (IsAuthorizedLine line.now (authorized_key_of entry.now)) result }
 {
     match Entry::from_line_openssh(alloc, line) {
         Ok(read) => Ok(is_openssh_entry(&read, entry)),
@@ -69,7 +69,7 @@ fn is_read_by_openssh(alloc: Global, line: &str, entry: &Entry) -> Result<bool>
 
 /// Whether the line is one, and is read as the entry, both plainly and as sshd(8) reads it.
 pub(crate) fn is_read_as(alloc: Global, line: &str, entry: &Entry) -> Result<bool>
-    ensures { Tells (IsReadAs line.now (authorized_key_of entry.now)) result }
+    ensures { TellsWhether (IsReadAs line.now (authorized_key_of entry.now)) result }
 {
     if !is_one_line(line) {
         return Ok(false);

@@ -8,7 +8,7 @@ ghost use Rattle.sshkey_model.specs.Verification.{Question as TheQuestion};
 ghost use Rattle.sshkey_calls.specs.Fields.{GivesFields};
 ghost use Rattle.sshkey_calls.specs.Numbers.{fault_number};
 ghost use Rattle.sshkey_calls.specs.Questions.{TellsCertificateQuestion};
-ghost use Rattle.sshkey_calls.specs.Validations.{HasRenamedAuthority, IsGood, IsGoodFor, Says, TellsFirst, TellsFirstFor, Verified, authorities_of};
+ghost use Rattle.sshkey_calls.specs.Validations.{HasRenamedAuthority, IsGoodCertificate, IsGoodCertificateFor, SaysWhether, TellsFirst, TellsFirstFor, Verified, authorities_of};
 
 use sshkey_calls::{
     CertificateFields, Question, Sha256Digest, certificate_fields, certificate_question,
@@ -40,8 +40,8 @@ pub extern "C" fn sshkey_certificate_validate(
     is_verified: u32,
 ) -> u32
     ensures exactly { (accepts : TheQuestion → Bool) → Verified accepts certificate.now is_verified
-        → Says (IsGood accepts (authorities_of authorities.now) unix_timestamp certificate.now)
-        result }
+        → SaysWhether (IsGoodCertificate accepts (authorities_of authorities.now) unix_timestamp
+        certificate.now) result }
     ensures first { (accepts : TheQuestion → Bool) → Verified accepts certificate.now is_verified
         → TellsFirst accepts (authorities_of authorities.now) unix_timestamp certificate.now
         result }
@@ -64,8 +64,8 @@ pub extern "C" fn sshkey_certificate_validate_for(
 ) -> u32
     ensures exactly { IsUtf8 principal.now → (accepts : TheQuestion → Bool)
         → Verified accepts certificate.now is_verified
-        → Says (IsGoodFor accepts (authorities_of authorities.now) unix_timestamp principal.now
-        certificate.now) result }
+        → SaysWhether (IsGoodCertificateFor accepts (authorities_of authorities.now) unix_timestamp
+        principal.now certificate.now) result }
     ensures first { IsUtf8 principal.now → (accepts : TheQuestion → Bool)
         → Verified accepts certificate.now is_verified
         → TellsFirstFor accepts (authorities_of authorities.now) unix_timestamp principal.now

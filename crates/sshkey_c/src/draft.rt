@@ -4,7 +4,7 @@ ghost use Rattle.std.specs.Prelude.{◌≡◌, ◌≢◌};
 ghost use Rattle.sshkey_base.specs.Acceptance.{SpellsSome};
 ghost use Rattle.sshkey_keys.specs.Keys.{SpellsKey};
 ghost use Rattle.sshkey_calls.specs.Drafts.{IsToBeSigned, TellsWrong, WritesSigned, draft_fault};
-ghost use Rattle.sshkey_calls.specs.Writing.{Writes};
+ghost use Rattle.sshkey_calls.specs.Writing.{WritesContent};
 
 use sshkey_calls::{CertificateDraft, certificate_make, certificate_to_be_signed};
 use std::alloc::Global;
@@ -17,7 +17,7 @@ pub extern "C" fn sshkey_certificate_to_be_signed(
     room: &mut [u8],
     length: &mut usize,
 ) -> u32
-    ensures written { Writes (IsToBeSigned draft.now)
+    ensures written { WritesContent (IsToBeSigned draft.now)
         result length.old length.new room.old room.new }
     ensures numbers { draft_fault draft.now ≢ 0 → result ≡ draft_fault draft.now }
     ensures fault { TellsWrong draft.now result }

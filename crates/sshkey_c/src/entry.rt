@@ -7,7 +7,7 @@ ghost use Rattle.sshkey_entries.specs.OpenSshLines.{IsAuthorizedLine, IsHostLine
 ghost use Rattle.sshkey_known_hosts.specs.OpenSshHosts as hosts;
 ghost use Rattle.sshkey_entry_calls.specs.Entries.{FindsEntry, NeedsAuthorizedEntry, TellsFault, of_authorized_key, of_known_host};
 ghost use Rattle.sshkey_entry_calls.specs.Lines.{FindsLine};
-ghost use Rattle.sshkey_entry_calls.specs.Options.{FindsOption};
+ghost use Rattle.sshkey_entry_calls.specs.Options.{FindsKeyOption};
 
 use sshkey_calls::part::Part;
 use sshkey_entry_calls::{
@@ -51,7 +51,7 @@ pub extern "C" fn sshkey_nth_option(
     room: &mut [u8],
     answer: &mut OptionParts,
 ) -> u32
-    ensures option { IsUtf8 options.now → FindsOption options.now number
+    ensures option { IsUtf8 options.now → FindsKeyOption options.now number
         result answer.old answer.new room.old room.new }
     ensures text { (IsUtf8 options.now → ⊥) → result ≡ 4 }
     ensures stays { result ≢ 0 → result ≢ 2

@@ -2,7 +2,7 @@
 
 ghost use Rattle.sshkey_model.specs.Fingerprints.{digest_text};
 ghost use Rattle.sshkey_model.specs.Names.{Sha256};
-ghost use Rattle.sshkey_calls.specs.Fingerprints.{GivesDigest, Prints};
+ghost use Rattle.sshkey_calls.specs.Fingerprints.{GivesKeyDigest, Prints};
 
 use sshkey_calls::{Sha256Digest, fingerprint, fingerprint_text};
 use std::alloc::Global;
@@ -10,7 +10,7 @@ use std::alloc::Global;
 /// The SHA-256 fingerprint of a key: `sshkey_calls::fingerprint`.
 #[unsafe(no_mangle)]
 pub extern "C" fn sshkey_fingerprint(alloc: Global, key: &[u8], answer: &mut Sha256Digest) -> u32
-    ensures { GivesDigest Sha256 key.now result answer.old.bytes answer.new.bytes }
+    ensures { GivesKeyDigest Sha256 key.now result answer.old.bytes answer.new.bytes }
 {
     fingerprint(alloc, key, answer)
 }

@@ -2,7 +2,7 @@
 
 ghost use Rattle.std.specs.Prelude.{◌≡◌};
 ghost use Rattle.std.specs.Str.{IsUtf8};
-ghost use Rattle.sshkey_calls.specs.KeyLines.{Holds, NeedsLine, Reads, TellsLineFault};
+ghost use Rattle.sshkey_calls.specs.KeyLines.{HoldsContent, NeedsLine, ReadsContent, TellsLineFault};
 
 use sshkey_calls::{Line, read_line};
 use std::alloc::Global;
@@ -15,7 +15,8 @@ pub extern "C" fn sshkey_read_line(
     room: &mut [u8],
     answer: &mut Line,
 ) -> u32
-    ensures reads { Reads (Holds line.now) result answer.old answer.new room.old room.new }
+    ensures reads { ReadsContent (HoldsContent line.now) result answer.old answer.new room.old
+        room.new }
     ensures fault { IsUtf8 line.now → TellsLineFault line.now result }
     ensures text { (IsUtf8 line.now → ⊥) → result ≡ 11 }
     ensures memory { result ≡ 1 → NeedsLine line.now }

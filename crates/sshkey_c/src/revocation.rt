@@ -9,7 +9,7 @@ ghost use Rattle.sshkey_model.specs.Certificates.{certificate_at};
 ghost use Rattle.sshkey_model.specs.Reading.{Fault, whole};
 ghost use Rattle.sshkey_calls.specs.NormalForms.{IsRenamedKey};
 ghost use Rattle.sshkey_calls.specs.Numbers.{fault_number};
-ghost use Rattle.sshkey_calls.specs.Revocations.{IsSaidOfCertificate, IsSaidOfKey, TellsRevoked};
+ghost use Rattle.sshkey_calls.specs.Revocations.{IsWhetherCertificateRevoked, IsWhetherKeyRevoked, TellsRevoked};
 
 use sshkey_calls::{krl_revokes_certificate, krl_revokes_key};
 use std::alloc::Global;
@@ -17,7 +17,7 @@ use std::alloc::Global;
 /// Whether a list revokes a key: `sshkey_calls::krl_revokes_key`.
 #[unsafe(no_mangle)]
 pub extern "C" fn sshkey_krl_revokes_key(alloc: Global, krl: &[u8], key: &[u8]) -> u32
-    ensures exactly { TellsRevoked (IsSaidOfKey krl.now key.now) result }
+    ensures exactly { TellsRevoked (IsWhetherKeyRevoked krl.now key.now) result }
     ensures list { (fault : Fault) → whole krl_format.read krl.now ≡ Err fault
         → result ≡ fault_number fault }
     ensures key { SpellsSome SpellsKrl krl.now → (fault : Fault)
@@ -34,7 +34,7 @@ pub extern "C" fn sshkey_krl_revokes_certificate(
     krl: &[u8],
     certificate: &[u8],
 ) -> u32
-    ensures exactly { TellsRevoked (IsSaidOfCertificate krl.now certificate.now) result }
+    ensures exactly { TellsRevoked (IsWhetherCertificateRevoked krl.now certificate.now) result }
     ensures list { (fault : Fault) → whole krl_format.read krl.now ≡ Err fault
         → result ≡ fault_number fault }
     ensures certificate { SpellsSome SpellsKrl krl.now → (fault : Fault)

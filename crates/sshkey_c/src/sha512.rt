@@ -2,7 +2,7 @@
 
 ghost use Rattle.sshkey_model.specs.Fingerprints.{digest_text};
 ghost use Rattle.sshkey_model.specs.Names.{Sha512};
-ghost use Rattle.sshkey_calls.specs.Fingerprints.{GivesDigest, Prints};
+ghost use Rattle.sshkey_calls.specs.Fingerprints.{GivesKeyDigest, Prints};
 
 use sshkey_calls::{Sha512Digest, fingerprint_sha512, fingerprint_sha512_text};
 use std::alloc::Global;
@@ -14,7 +14,7 @@ pub extern "C" fn sshkey_fingerprint_sha512(
     key: &[u8],
     answer: &mut Sha512Digest,
 ) -> u32
-    ensures { GivesDigest Sha512 key.now result answer.old.bytes answer.new.bytes }
+    ensures { GivesKeyDigest Sha512 key.now result answer.old.bytes answer.new.bytes }
 {
     fingerprint_sha512(alloc, key, answer)
 }

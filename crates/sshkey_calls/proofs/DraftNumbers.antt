@@ -18,7 +18,7 @@ use Rattle.sshkey_terms.specs.Slices.{Keeps}
 use Rattle.sshkey_keys.specs.KeyReaders.{key_grammar}
 use Rattle.sshkey_keys.specs.Keys.{SpellsKey, key_data_at}
 use Rattle.sshkey_cert_values.specs.OptionReaders.{options_grammar, options_value_at}
-use Rattle.sshkey_calls.specs.Drafts.{IsCertifiable, IsWrong, Tells, certifiable_number, draft_fault, first_of, key_number, list_number, number_of, parts_fault, string_number, text_number}
+use Rattle.sshkey_calls.specs.Drafts.{IsCertifiable, IsWrong, TellsFields, certifiable_number, draft_fault, first_number, key_number, list_number, number_of, parts_fault, string_number, text_number}
 use Rattle.sshkey_calls.specs.Numbers.{fault_number}
 use Rattle.sshkey_calls.proofs.Drafts.{fits_number, short_string}
 use Rattle.sshkey_calls.specs.declared.draft.CertificateDraft.{CertificateDraft}
@@ -51,7 +51,7 @@ module _ (d : CertificateDraft) where
       go true false a b = absurd (eqb-false d.all_principals 1 b (h.0 (eqb-true (length d.principals.now) 0 a)))
       go false true a b = absurd (eqb-false (length d.principals.now) 0 a (h.1 (eqb-true d.all_principals 1 b)))
 
-  pub told_right : (f : SignedFields) → Tells d f → draft_fault d ≡ 0
+  pub told_right : (f : SignedFields) → TellsFields d f → draft_fault d ≡ 0
   told_right f told =
       let kind : number_of (type_from d.certificate_type) ≡ 0 = subst (λ (n : ℕ). number_of (type_from n) ≡ 0) told.certificate_type (type_right f.certificate_type) in
       let after = time_right (is_time d.valid_after) d.valid_after (subst IsTime told.valid_after.0 told.valid_after.1) in
@@ -62,29 +62,29 @@ module _ (d : CertificateDraft) where
 
 -- ---- which of several numbers is the first
 
-pub first_here : (a : ℕ) (ns : List ℕ) → 0 < a → first_of (a ∷ ns) ≡ a
+pub first_here : (a : ℕ) (ns : List ℕ) → 0 < a → first_number (a ∷ ns) ≡ a
 first_here a ns some = go (a == 0) refl
   where
-    go : (x : Bool) → (a == 0) ≡ x → ◌≡◌ {A = ℕ} (cond x (first_of ns) a) a
+    go : (x : Bool) → (a == 0) ≡ x → ◌≡◌ {A = ℕ} (cond x (first_number ns) a) a
     go true e = absurd (let none = eqb-true a 0 e in omega (arith, some, none))
     go false e = refl
 
-pub first_behind : (a : ℕ) (ns : List ℕ) → a ≡ 0 → first_of (a ∷ ns) ≡ first_of ns
+pub first_behind : (a : ℕ) (ns : List ℕ) → a ≡ 0 → first_number (a ∷ ns) ≡ first_number ns
 first_behind zero ns none = refl
 first_behind (suc a) ns none = absurd (omega (arith, none))
 
-first_alone : (a : ℕ) → first_of (a ∷ []) ≡ a
+first_alone : (a : ℕ) → first_number (a ∷ []) ≡ a
 first_alone a = go (a == 0) refl
   where
     go : (x : Bool) → (a == 0) ≡ x → ◌≡◌ {A = ℕ} (cond x 0 a) a
     go true e = sym (eqb-true a 0 e)
     go false e = refl
 
-pub first_two : (a b : ℕ) → a ≡ 0 → first_of (a ∷ b ∷ []) ≡ b
+pub first_two : (a b : ℕ) → a ≡ 0 → first_number (a ∷ b ∷ []) ≡ b
 first_two a b none = first_behind a (b ∷ []) none ∙ first_alone b
 
 -- one that is told of two is told of three
-pub first_three : (a b c n : ℕ) → 2 < n → n ≡ first_of (a ∷ b ∷ []) → n ≡ first_of (a ∷ b ∷ c ∷ [])
+pub first_three : (a b c n : ℕ) → 2 < n → n ≡ first_number (a ∷ b ∷ []) → n ≡ first_number (a ∷ b ∷ c ∷ [])
 first_three a b c n big is = elim (cases_lt 0 a) [
   | inl some ↦ is ∙ first_here a (b ∷ []) some ∙ sym (first_here a (b ∷ c ∷ []) some)
   | inr most ↦
@@ -94,7 +94,7 @@ first_three a b c n big is = elim (cases_lt 0 a) [
 ]
 
 -- the third is told where the first two are none
-pub last_three : (a b c : ℕ) → first_of (a ∷ b ∷ []) ≡ 0 → 0 < c → first_of (a ∷ b ∷ c ∷ []) ≡ c
+pub last_three : (a b c : ℕ) → first_number (a ∷ b ∷ []) ≡ 0 → 0 < c → first_number (a ∷ b ∷ c ∷ []) ≡ c
 last_three a b c none last = elim (cases_lt 0 a) [
   | inl some ↦ absurd (let nothing : a ≡ 0 = sym (first_here a (b ∷ []) some) ∙ none in omega (arith, some, nothing))
   | inr most ↦
@@ -104,22 +104,22 @@ last_three a b c none last = elim (cases_lt 0 a) [
 ]
 
 module _ (a b c d e f : ℕ) where
-  pub first_1 : 0 < a → first_of (a ∷ b ∷ c ∷ d ∷ e ∷ f ∷ []) ≡ a
+  pub first_1 : 0 < a → first_number (a ∷ b ∷ c ∷ d ∷ e ∷ f ∷ []) ≡ a
   first_1 = first_here a (b ∷ c ∷ d ∷ e ∷ f ∷ [])
 
-  pub first_2 : a ≡ 0 → 0 < b → first_of (a ∷ b ∷ c ∷ d ∷ e ∷ f ∷ []) ≡ b
+  pub first_2 : a ≡ 0 → 0 < b → first_number (a ∷ b ∷ c ∷ d ∷ e ∷ f ∷ []) ≡ b
   first_2 ea some = first_behind a (b ∷ c ∷ d ∷ e ∷ f ∷ []) ea ∙ first_here b (c ∷ d ∷ e ∷ f ∷ []) some
 
-  pub first_3 : a ≡ 0 → b ≡ 0 → 0 < c → first_of (a ∷ b ∷ c ∷ d ∷ e ∷ f ∷ []) ≡ c
+  pub first_3 : a ≡ 0 → b ≡ 0 → 0 < c → first_number (a ∷ b ∷ c ∷ d ∷ e ∷ f ∷ []) ≡ c
   first_3 ea eb some = first_behind a (b ∷ c ∷ d ∷ e ∷ f ∷ []) ea ∙ first_behind b (c ∷ d ∷ e ∷ f ∷ []) eb ∙ first_here c (d ∷ e ∷ f ∷ []) some
 
-  pub first_4 : a ≡ 0 → b ≡ 0 → c ≡ 0 → 0 < d → first_of (a ∷ b ∷ c ∷ d ∷ e ∷ f ∷ []) ≡ d
+  pub first_4 : a ≡ 0 → b ≡ 0 → c ≡ 0 → 0 < d → first_number (a ∷ b ∷ c ∷ d ∷ e ∷ f ∷ []) ≡ d
   first_4 ea eb ec some = first_behind a (b ∷ c ∷ d ∷ e ∷ f ∷ []) ea ∙ first_behind b (c ∷ d ∷ e ∷ f ∷ []) eb ∙ first_behind c (d ∷ e ∷ f ∷ []) ec ∙ first_here d (e ∷ f ∷ []) some
 
-  pub first_5 : a ≡ 0 → b ≡ 0 → c ≡ 0 → d ≡ 0 → 0 < e → first_of (a ∷ b ∷ c ∷ d ∷ e ∷ f ∷ []) ≡ e
+  pub first_5 : a ≡ 0 → b ≡ 0 → c ≡ 0 → d ≡ 0 → 0 < e → first_number (a ∷ b ∷ c ∷ d ∷ e ∷ f ∷ []) ≡ e
   first_5 ea eb ec ed some = first_behind a (b ∷ c ∷ d ∷ e ∷ f ∷ []) ea ∙ first_behind b (c ∷ d ∷ e ∷ f ∷ []) eb ∙ first_behind c (d ∷ e ∷ f ∷ []) ec ∙ first_behind d (e ∷ f ∷ []) ed ∙ first_here e (f ∷ []) some
 
-  pub first_6 : a ≡ 0 → b ≡ 0 → c ≡ 0 → d ≡ 0 → e ≡ 0 → first_of (a ∷ b ∷ c ∷ d ∷ e ∷ f ∷ []) ≡ f
+  pub first_6 : a ≡ 0 → b ≡ 0 → c ≡ 0 → d ≡ 0 → e ≡ 0 → first_number (a ∷ b ∷ c ∷ d ∷ e ∷ f ∷ []) ≡ f
   first_6 ea eb ec ed ee = first_behind a (b ∷ c ∷ d ∷ e ∷ f ∷ []) ea ∙ first_behind b (c ∷ d ∷ e ∷ f ∷ []) eb ∙ first_behind c (d ∷ e ∷ f ∷ []) ec ∙ first_behind d (e ∷ f ∷ []) ed ∙ first_two e f ee
 
 -- ---- of one part
@@ -234,7 +234,7 @@ module _ (d : CertificateDraft) where
 
 -- ---- of a draft that tells a certificate
 
-pub no_parts_fault : (d : CertificateDraft) (f : SignedFields) → Tells d f → parts_fault d ≡ 0
+pub no_parts_fault : (d : CertificateDraft) (f : SignedFields) → TellsFields d f → parts_fault d ≡ 0
 no_parts_fault d f told =
     let principals = short_string d.principals.now (each string f.valid_principals) told.valid_principals.shape told.valid_principals.fits in
     let critical = short_string d.critical_options.now (each_option f.critical_options told.critical_options.choices) told.critical_options.shape told.critical_options.fits in
@@ -247,5 +247,5 @@ no_parts_fault d f told =
     (listed_right options_value_at d.critical_options.now f.critical_options (fits_number d.critical_options.now critical) (spelled_whole options_grammar _ f.critical_options told.critical_options))
     ∙ listed_right options_value_at d.extensions.now f.extensions (fits_number d.extensions.now extensions) (spelled_whole options_grammar _ f.extensions told.extensions)
 
-pub no_fault_told : (d : CertificateDraft) (f : SignedFields) → Tells d f → first_of (draft_fault d ∷ parts_fault d ∷ []) ≡ 0
+pub no_fault_told : (d : CertificateDraft) (f : SignedFields) → TellsFields d f → first_number (draft_fault d ∷ parts_fault d ∷ []) ≡ 0
 no_fault_told d f told = first_two (draft_fault d) (parts_fault d) (told_right d f told) ∙ no_parts_fault d f told

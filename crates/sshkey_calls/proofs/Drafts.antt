@@ -18,9 +18,9 @@ use Rattle.sshkey_model.specs.Texts.{string}
 use Rattle.sshkey_model.proofs.CombinedReaders.{fits_length, wide32}
 use Rattle.sshkey_model.proofs.Grammars.{one_front}
 use Rattle.sshkey_cert_values.specs.OptionReaders.{SpellsOptions, options_grammar}
-use Rattle.sshkey_calls.specs.Drafts.{FitsString, IsToBeSigned, IsWrong, Tells, string_number}
+use Rattle.sshkey_calls.specs.Drafts.{FitsString, IsToBeSigned, IsWrong, TellsFields, string_number}
 use Rattle.sshkey_calls.specs.Numbers.{fault_number}
-use Rattle.sshkey_calls.specs.Writing.{Writes}
+use Rattle.sshkey_calls.specs.Writing.{WritesContent}
 use Rattle.sshkey_calls.proofs.Rooms.{told_as}
 use Rattle.sshkey_calls.specs.declared.draft.CertificateDraft.{CertificateDraft}
 
@@ -83,7 +83,7 @@ same_fields f g n k s t i ps a b os es r e =
     let same : fields_with f.nonce f.key f.serial f.certificate_type f.key_id f.valid_principals f.valid_after f.valid_before f.critical_options f.extensions f.reserved f.signature_key ≡ fields_with g.nonce g.key g.serial g.certificate_type g.key_id g.valid_principals g.valid_after g.valid_before g.critical_options g.extensions g.reserved g.signature_key = rw (n, k, s, t, i, ps, a, b, os, es, r, e) refl in
     same
 
-pub one_told : (d : CertificateDraft) (f g : SignedFields) → Tells d f → Tells d g → f ≡ g
+pub one_told : (d : CertificateDraft) (f g : SignedFields) → TellsFields d f → TellsFields d g → f ≡ g
 one_told d f g told other =
     let nonce : f.nonce ≡ g.nonce = told.nonce ∙ sym other.nonce in
     let key : f.key ≡ g.key = one_key f.key g.key d.key.now told.key.0 other.key.0 in
@@ -101,7 +101,7 @@ one_told d f g told other =
 
 -- ---- what is to be signed
 
-pub to_be_signed_told : (d : CertificateDraft) (f : SignedFields) → Tells d f → (n was needed : ℕ) (before after : List ℕ) → Writes (λ s. Fits (normal_to_be_signed f) × (s ≡ flat (normal_to_be_signed f))) n was needed before after → Writes (IsToBeSigned d) n was needed before after
+pub to_be_signed_told : (d : CertificateDraft) (f : SignedFields) → TellsFields d f → (n was needed : ℕ) (before after : List ℕ) → WritesContent (λ s. Fits (normal_to_be_signed f) × (s ≡ flat (normal_to_be_signed f))) n was needed before after → WritesContent (IsToBeSigned d) n was needed before after
 to_be_signed_told d f told n was needed before after = told_as n was needed before after
     (λ s is. (f, told, is.0, is.1))
     (λ s is. subst (λ (g : SignedFields). Fits (normal_to_be_signed g) × (s ≡ flat (normal_to_be_signed g))) (one_told d is.0 f is.1 told) (is.2, is.3))

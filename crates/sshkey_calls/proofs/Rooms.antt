@@ -1,11 +1,11 @@
 -- What is answered of a value whose bytes stand in the room, or do not.
 use Rattle.std.proofs.Common.{◌≡◌, ◌≢◌, ℕ, List, length, Bool, true, false, Result, Ok, Err, IfOk, refl, sym, subst, arith, ◌∙◌, ◌<◌, ◌++◌, drop}
 use Rattle.std.specs.Prelude.{Vec}
-use Rattle.sshkey_calls.specs.Rooms.{AnswersWith, Fills, Gives, IsLaidOut}
+use Rattle.sshkey_calls.specs.Rooms.{AnswersWith, Fills, GivesValue, IsLaidOut}
 
 module _ {X A : Type 0} {bytes : X → List ℕ} {ArePlaced : X → A → Type 0} {needed : A → ℕ} where
   -- The room was filled, or is too short.
-  pub filled : (x : X) (content before after : List ℕ) (is_filled : Bool) (n : ℕ) (was answer : A) → IsLaidOut bytes ArePlaced x content answer → needed answer ≡ length (bytes x) → Fills content before is_filled after → (is_filled ≡ true → n ≡ 0) → (is_filled ≡ false → n ≡ 2) → Gives (λ y. y ≡ x) bytes ArePlaced needed n was answer before after
+  pub filled : (x : X) (content before after : List ℕ) (is_filled : Bool) (n : ℕ) (was answer : A) → IsLaidOut bytes ArePlaced x content answer → needed answer ≡ length (bytes x) → Fills content before is_filled after → (is_filled ≡ true → n ≡ 0) → (is_filled ≡ false → n ≡ 2) → GivesValue (λ y. y ≡ x) bytes ArePlaced needed n was answer before after
   filled x content before after true n was answer laid all fills done short = record {
     given = λ _. (x, refl, record { content = subst (λ (c : List ℕ). after ≡ c ++ drop (length c) before) laid.0 fills; placed = laid.1 });
     short = λ two. absurd (omega (arith, done refl, two));
@@ -20,7 +20,7 @@ module _ {X A : Type 0} {bytes : X → List ℕ} {ArePlaced : X → A → Type 0
   }
 
   -- What is given is what is wanted.
-  pub give_one : {Wanted : X → Type 0} (x : X) (n : ℕ) (was answer : A) (before after : List ℕ) → Wanted x → Gives (λ y. y ≡ x) bytes ArePlaced needed n was answer before after → Gives Wanted bytes ArePlaced needed n was answer before after
+  pub give_one : {Wanted : X → Type 0} (x : X) (n : ℕ) (was answer : A) (before after : List ℕ) → Wanted x → GivesValue (λ y. y ≡ x) bytes ArePlaced needed n was answer before after → GivesValue Wanted bytes ArePlaced needed n was answer before after
   give_one {Wanted} x n was answer before after wanted gives = record {
     given = λ zero_. let g = gives.given zero_ in (g.0, subst Wanted (sym g.1) wanted, g.2);
     short = λ two. let g = gives.short two in (g.0, subst Wanted (sym g.1) wanted, g.2);
@@ -29,7 +29,7 @@ module _ {X A : Type 0} {bytes : X → List ℕ} {ArePlaced : X → A → Type 0
   }
 
   -- It is told in other words.
-  pub told_as : {Is Other : X → Type 0} (n : ℕ) (was answer : A) (before after : List ℕ) → ((x : X) → Is x → Other x) → ((x : X) → Other x → Is x) → Gives Is bytes ArePlaced needed n was answer before after → Gives Other bytes ArePlaced needed n was answer before after
+  pub told_as : {Is Other : X → Type 0} (n : ℕ) (was answer : A) (before after : List ℕ) → ((x : X) → Is x → Other x) → ((x : X) → Other x → Is x) → GivesValue Is bytes ArePlaced needed n was answer before after → GivesValue Other bytes ArePlaced needed n was answer before after
   told_as n was answer before after there back gives = record {
     given = λ zero_. let g = gives.given zero_ in (g.0, there g.0 g.1, g.2);
     short = λ two. let g = gives.short two in (g.0, there g.0 g.1, g.2);
@@ -38,7 +38,7 @@ module _ {X A : Type 0} {bytes : X → List ℕ} {ArePlaced : X → A → Type 0
   }
 
   -- There is none, or memory was out, and nothing changed.
-  pub none_given : {Wanted : X → Type 0} (n : ℕ) (was answer : A) (before after : List ℕ) → (answer ≡ was) × (after ≡ before) → n ≢ 0 → n ≢ 2 → (n ≢ 1 → (x : X) → Wanted x → ⊥) → Gives Wanted bytes ArePlaced needed n was answer before after
+  pub none_given : {Wanted : X → Type 0} (n : ℕ) (was answer : A) (before after : List ℕ) → (answer ≡ was) × (after ≡ before) → n ≢ 0 → n ≢ 2 → (n ≢ 1 → (x : X) → Wanted x → ⊥) → GivesValue Wanted bytes ArePlaced needed n was answer before after
   none_given n was answer before after same some apart none = record {
     given = λ zero_. absurd (some zero_);
     short = λ two. absurd (apart two);
@@ -47,12 +47,12 @@ module _ {X A : Type 0} {bytes : X → List ℕ} {ArePlaced : X → A → Type 0
   }
 
   -- Nothing is said.
-  pub no_memory : {Wanted : X → Type 0} (n : ℕ) (was answer : A) (before after : List ℕ) → (answer ≡ was) × (after ≡ before) → n ≡ 1 → Gives Wanted bytes ArePlaced needed n was answer before after
+  pub no_memory : {Wanted : X → Type 0} (n : ℕ) (was answer : A) (before after : List ℕ) → (answer ≡ was) × (after ≡ before) → n ≡ 1 → GivesValue Wanted bytes ArePlaced needed n was answer before after
   no_memory n was answer before after same one = none_given n was answer before after same (λ zero_. omega (arith, one, zero_)) (λ two. omega (arith, one, two)) (λ not_one _ _. not_one one)
 
   -- It was laid out, and is answered with.
-  pub answered : {Z E : Type 0} (x : X) (laid : Result (Vec ℕ Z × A) E) (n : ℕ) (was answer : A) (before after : List ℕ) → ((a : A) → ArePlaced x a → needed a ≡ length (bytes x)) → IfOk laid (λ it. IsLaidOut bytes ArePlaced x it.0.items it.1) → AnswersWith laid n was answer before after → Gives (λ y. y ≡ x) bytes ArePlaced needed n was answer before after
+  pub answered : {Z E : Type 0} (x : X) (laid : Result (Vec ℕ Z × A) E) (n : ℕ) (was answer : A) (before after : List ℕ) → ((a : A) → ArePlaced x a → needed a ≡ length (bytes x)) → IfOk laid (λ it. IsLaidOut bytes ArePlaced x it.0.items it.1) → AnswersWith laid n was answer before after → GivesValue (λ y. y ≡ x) bytes ArePlaced needed n was answer before after
   answered x (Ok it) n was answer before after all is answers =
-      subst (λ (a : A). Gives (λ y. y ≡ x) bytes ArePlaced needed n was a before after) (sym answers.0)
+      subst (λ (a : A). GivesValue (λ y. y ≡ x) bytes ArePlaced needed n was a before after) (sym answers.0)
       (filled x it.0.items before after answers.1 n was it.1 is (all it.1 is.1) answers.2 (λ yes_. answers.3 ∙ rw yes_ refl) (λ no_. answers.3 ∙ rw no_ refl))
   answered x (Err e) n was answer before after all is answers = no_memory n was answer before after (answers.1, answers.2) answers.0

@@ -28,7 +28,7 @@ use Rattle.sshkey_keys.specs.Fingerprints.{IsFingerprint}
 use Rattle.sshkey_keys.specs.Keys.{SpellsKey}
 use Rattle.sshkey_keys_ref.specs.NormalBytes.{IsRenamed}
 use Rattle.sshkey_calls.specs.Numbers.{refusal_number}
-use Rattle.sshkey_calls.specs.Validations.{HasRenamedAuthority, IsGood, IsGoodFor, Says, TellsFirst, TellsFirstFor, TellsRefusal, Verified, authorities_of, first_refusal_of, is_yes}
+use Rattle.sshkey_calls.specs.Validations.{HasRenamedAuthority, IsGoodCertificate, IsGoodCertificateFor, SaysWhether, TellsFirst, TellsFirstFor, TellsRefusal, Verified, authorities_of, first_refusal_of, is_yes_number}
 use Rattle.sshkey_calls.specs.declared.digest.Sha256Digest.{Sha256Digest}
 
 -- the bytes spell one certificate only
@@ -38,21 +38,21 @@ one_spelled c d bytes spelled other = (one_front certificate_grammar c d bytes b
 -- ---- the verifier that says to every question what was said to the one
 
 module _ (accepts : Question → Bool) (bytes : List ℕ) (is_verified : ℕ) (v : Verified accepts bytes is_verified) (c : Certificate) (spelled : SpellsCertificate c bytes) where
-  same_answer : (o : Option Question) → certificate_question c ≡ o → model.is_yes (λ _. is_yes is_verified) o ≡ model.is_yes accepts o
+  same_answer : (o : Option Question) → certificate_question c ≡ o → model.is_yes (λ _. is_yes_number is_verified) o ≡ model.is_yes accepts o
   same_answer None e = refl
   same_answer (Some q) e = sym (v c spelled q e)
 
-  same_signed : is_signed (λ _. is_yes is_verified) c ≡ is_signed accepts c
+  same_signed : is_signed (λ _. is_yes_number is_verified) c ≡ is_signed accepts c
   same_signed = same_answer (certificate_question c) refl
 
-  same_first : (authorities : List Fingerprint) (t : ℕ) → first_refusal (λ _. is_yes is_verified) authorities t c ≡ first_refusal accepts authorities t c
+  same_first : (authorities : List Fingerprint) (t : ℕ) → first_refusal (λ _. is_yes_number is_verified) authorities t c ≡ first_refusal accepts authorities t c
   same_first authorities t = ap (λ (b : Bool). unless b NotSigned (refusal_of_authority_or_time (has_trusted_authority authorities c) (c.signed.valid_after, c.signed.valid_before) t)) same_signed
 
-  same_first_of : (authorities : List Fingerprint) (t : ℕ) (wanted : Option (List ℕ)) → first_refusal_of (λ _. is_yes is_verified) authorities t wanted c ≡ first_refusal_of accepts authorities t wanted c
+  same_first_of : (authorities : List Fingerprint) (t : ℕ) (wanted : Option (List ℕ)) → first_refusal_of (λ _. is_yes_number is_verified) authorities t wanted c ≡ first_refusal_of accepts authorities t wanted c
   same_first_of authorities t None = same_first authorities t
   same_first_of authorities t (Some wanted) = ap (λ (r : Option Refusal). or_else r (unless (allows c.signed.valid_principals wanted) UnlistedPrincipal None)) (same_first authorities t)
 
-  pub first_told : (authorities : List Fingerprint) (t : ℕ) (wanted : Option (List ℕ)) (n : ℕ) → (n ≢ 1 → n ≡ refusal_number (first_refusal_of (λ _. is_yes is_verified) authorities t wanted c)) → TellsRefusal (first_refusal_of accepts authorities t wanted) bytes n
+  pub first_told : (authorities : List Fingerprint) (t : ℕ) (wanted : Option (List ℕ)) (n : ℕ) → (n ≢ 1 → n ≡ refusal_number (first_refusal_of (λ _. is_yes_number is_verified) authorities t wanted c)) → TellsRefusal (first_refusal_of accepts authorities t wanted) bytes n
   first_told authorities t wanted n told d other not_memory =
       told not_memory ∙ ap refusal_number (same_first_of authorities t wanted) ∙ ap (λ (x : Certificate). refusal_number (first_refusal_of accepts authorities t wanted x)) (one_spelled c d bytes spelled other)
 
@@ -77,7 +77,7 @@ nothing_wrong (Some UnlistedPrincipal) e = absurd (omega (arith, e))
 
 -- the refusal of the certificate decides
 module _ (Valid : Certificate → Type 0) (refusal : Certificate → Option Refusal) (exactly : (c : Certificate) → (refusal c ≡ None) ↔ Valid c) (Holds : Type 0) (bytes : List ℕ) (make : (c : Certificate) → SpellsCertificate c bytes → Valid c → Holds) (parts : Holds → (c : Certificate) × SpellsCertificate c bytes × Valid c) where
-  pub says : (n : ℕ) → (n ≡ 0 → SpellsSome SpellsCertificate bytes) → TellsRefusal refusal bytes n → Says Holds n
+  pub says : (n : ℕ) → (n ≡ 0 → SpellsSome SpellsCertificate bytes) → TellsRefusal refusal bytes n → SaysWhether Holds n
   says n spelled told = record {
     yes_ = λ zero_.
         let (c, s) = spelled zero_ in
@@ -88,13 +88,13 @@ module _ (Valid : Certificate → Type 0) (refusal : Certificate → Option Refu
   }
 
 module _ (accepts : Question → Bool) (authorities : List Fingerprint) (t : ℕ) (bytes : List ℕ) (n : ℕ) (spelled : n ≡ 0 → SpellsSome SpellsCertificate bytes) where
-  pub says_good : TellsFirst accepts authorities t bytes n → Says (IsGood accepts authorities t bytes) n
-  says_good = says (IsValid accepts authorities t) (first_refusal accepts authorities t) (none_where_valid accepts authorities t) (IsGood accepts authorities t bytes) bytes
+  pub says_good : TellsFirst accepts authorities t bytes n → SaysWhether (IsGoodCertificate accepts authorities t bytes) n
+  says_good = says (IsValid accepts authorities t) (first_refusal accepts authorities t) (none_where_valid accepts authorities t) (IsGoodCertificate accepts authorities t bytes) bytes
       (λ c s valid. record { certificate = c; spelled = s; valid = valid })
       (λ good. (good.certificate, good.spelled, good.valid)) n spelled
 
-  pub says_good_for : (principal : List ℕ) → TellsFirstFor accepts authorities t principal bytes n → Says (IsGoodFor accepts authorities t principal bytes) n
-  says_good_for principal = says (IsValidFor accepts authorities t principal) (first_refusal_for accepts authorities t principal) (none_where_wanted accepts authorities t principal) (IsGoodFor accepts authorities t principal bytes) bytes
+  pub says_good_for : (principal : List ℕ) → TellsFirstFor accepts authorities t principal bytes n → SaysWhether (IsGoodCertificateFor accepts authorities t principal bytes) n
+  says_good_for principal = says (IsValidFor accepts authorities t principal) (first_refusal_for accepts authorities t principal) (none_where_wanted accepts authorities t principal) (IsGoodCertificateFor accepts authorities t principal bytes) bytes
       (λ c s valid. record { certificate = c; spelled = s; valid = valid })
       (λ good. (good.certificate, good.spelled, good.valid)) n spelled
 

@@ -36,7 +36,7 @@ IsCertifiable k = key_number k ≡ 0
 
 -- The fields are those that the draft tells, and a certificate may have them: its window is not
 -- empty, and it lists no principals exactly if all are to be allowed.
-pub record Tells (d : CertificateDraft) (f : SignedFields) : Type 0 where
+pub record TellsFields (d : CertificateDraft) (f : SignedFields) : Type 0 where
   pub nonce : f.nonce ≡ d.nonce.now
   pub key : SpellsKey f.key d.key.now × IsCertifiable f.key
   pub serial : f.serial ≡ d.serial
@@ -54,7 +54,7 @@ pub record Tells (d : CertificateDraft) (f : SignedFields) : Type 0 where
 
 -- the bytes that are to be signed of the certificate that the draft tells
 abbrev pub IsToBeSigned : CertificateDraft → List ℕ → Type 0
-IsToBeSigned d s = (f : SignedFields) × Tells d f × Fits (normal_to_be_signed f) × (s ≡ flat (normal_to_be_signed f))
+IsToBeSigned d s = (f : SignedFields) × TellsFields d f × Fits (normal_to_be_signed f) × (s ≡ flat (normal_to_be_signed f))
 
 -- ---- its numbers
 
@@ -72,14 +72,14 @@ number_of (Ok x) = 0
 number_of (Err fault) = fault_number fault
 
 -- the first that is not 0
-abbrev pub first_of : List ℕ → ℕ
-first_of [] = 0
-first_of (n ∷ ns) = if n == 0 then first_of ns else n
+abbrev pub first_number : List ℕ → ℕ
+first_number [] = 0
+first_number (n ∷ ns) = if n == 0 then first_number ns else n
 
 -- what is wrong with the type, the times, the window and the principals first, and 0 where nothing
 -- is
 abbrev pub draft_fault : CertificateDraft → ℕ
-draft_fault d = first_of (
+draft_fault d = first_number (
     number_of (type_from d.certificate_type)
     ∷ number_of (time_from d.valid_after)
     ∷ number_of (end_from d.valid_before)
@@ -103,12 +103,12 @@ string_number b = if nat_lt (length b) (2 ^ 32) then 0 else 13
 
 -- the first fault of what stands in a string
 abbrev pub list_number : {A : Type 0} → Front A → List ℕ → ℕ
-list_number read b = first_of (string_number b ∷ number_of (whole read (flat (string b))) ∷ [])
+list_number read b = first_number (string_number b ∷ number_of (whole read (flat (string b))) ∷ [])
 
 -- what is wrong with the keys, the key id, the principals and the options first, and 0 where
 -- nothing is
 abbrev pub parts_fault : CertificateDraft → ℕ
-parts_fault d = first_of (
+parts_fault d = first_number (
     certifiable_number (whole key_data_at d.key.now)
     ∷ number_of (whole key_data_at d.authority.now)
     ∷ text_number d.key_id.now
@@ -120,7 +120,7 @@ parts_fault d = first_of (
 -- Every number but 0, 1 and 2 is that of what is wrong first: with the numbers, then with the
 -- parts; where nothing is, the nonce or the key id is too long for a string.
 abbrev pub TellsWrong : CertificateDraft → ℕ → Type 0
-TellsWrong d n = n ≢ 0 → n ≢ 1 → n ≢ 2 → n ≡ first_of (draft_fault d ∷ parts_fault d ∷ 13 ∷ [])
+TellsWrong d n = n ≢ 0 → n ≢ 1 → n ≢ 2 → n ≡ first_number (draft_fault d ∷ parts_fault d ∷ 13 ∷ [])
 
 -- 1 for memory, which may be asked for; or the number of what is wrong
 abbrev pub IsWrong : ℕ → ℕ → Type 0 → Type 0

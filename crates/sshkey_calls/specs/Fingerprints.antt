@@ -23,8 +23,8 @@ FindsFingerprint h bytes (Ok f) = (k : Key) × SpellsKey k bytes × IsFingerprin
 FindsFingerprint h bytes (Err n) = TellsOf SpellsKey key_data_at bytes (LacksMemory bytes n) n (Unit {0})
 
 -- 0 and the digest of the key that the bytes spell; with any other number it stays as it was.
-abbrev pub GivesDigest : Hash → List ℕ → ℕ → List ℕ → List ℕ → Type 0
-GivesDigest h bytes n before after = TellsOf SpellsKey key_data_at bytes (λ k. ((n ≡ 0) × GivesDigestOf h k after) ⊎ (LacksMemory bytes n k × (after ≡ before))) n (after ≡ before)
+abbrev pub GivesKeyDigest : Hash → List ℕ → ℕ → List ℕ → List ℕ → Type 0
+GivesKeyDigest h bytes n before after = TellsOf SpellsKey key_data_at bytes (λ k. ((n ≡ 0) × GivesDigestOf h k after) ⊎ (LacksMemory bytes n k × (after ≡ before))) n (after ≡ before)
 
 -- 0, and the text stands at the front of the room; or 2, and nothing was written, for the room is
 -- shorter than the text.

@@ -9,7 +9,7 @@ use Rattle.sshkey_public.specs.LineNeeds.{NeedsValue}
 use Rattle.sshkey_cert.specs.CertificateFormats.{certificate_format}
 use Rattle.sshkey_cert.specs.CertificateReaders.{SpellsCertificate}
 use Rattle.sshkey_calls.specs.Numbers.{error_number}
-use Rattle.sshkey_calls.specs.Rooms.{Gives, IsPlaced}
+use Rattle.sshkey_calls.specs.Rooms.{GivesValue, IsPlaced}
 use Rattle.sshkey_calls.specs.declared.line.Line.{Line}
 
 -- What a line holds: 1 for a key or 2 for a certificate, its bytes, and the comment.
@@ -26,13 +26,13 @@ abbrev pub IsLineWith : {V : Type 0} → (V → List ℕ) → (V → List ℕ �
 IsLineWith {V} name Spells text x = (v : V) × Spells v x.blob × IsLine text (name v) x.blob x.comment
 
 -- the text is the line of a key or of a certificate, and that is what it holds
-abbrev pub Holds : List ℕ → Content → Type 0
-Holds text x = ((x.kind ≡ 1) × IsLineWith key_name SpellsKey text x) ⊎ ((x.kind ≡ 2) × IsLineWith name_of_certificate SpellsCertificate text x)
+abbrev pub HoldsContent : List ℕ → Content → Type 0
+HoldsContent text x = ((x.kind ≡ 1) × IsLineWith key_name SpellsKey text x) ⊎ ((x.kind ≡ 2) × IsLineWith name_of_certificate SpellsCertificate text x)
 
 -- Memory may be asked for: by the bytes of the second word, as those of a key or of a certificate,
 -- or for what the line holds.
 abbrev pub NeedsLine : List ℕ → Type 0
-NeedsLine text = NeedsValue key_format text ⊎ (NeedsValue certificate_format text ⊎ ((x : Content) × Holds text x))
+NeedsLine text = NeedsValue key_format text ⊎ (NeedsValue certificate_format text ⊎ ((x : Content) × HoldsContent text x))
 
 -- ---- in the room
 
@@ -49,8 +49,8 @@ pub record ArePlaced (x : Content) (line : Line) : Type 0 where
 
 -- What a call answers that looks for the one content that `Wanted` tells. Where there is none, the
 -- number is from 10 to 29.
-pub record Reads (Wanted : Content → Type 0) (n : ℕ) (was line : Line) (before after : List ℕ) : Type 0 where
-  pub gives : Gives Wanted line_bytes ArePlaced (λ (a : Line). a.length) n was line before after
+pub record ReadsContent (Wanted : Content → Type 0) (n : ℕ) (was line : Line) (before after : List ℕ) : Type 0 where
+  pub gives : GivesValue Wanted line_bytes ArePlaced (λ (a : Line). a.length) n was line before after
   pub fault : n ≢ 0 → n ≢ 1 → n ≢ 2 → (9 < n) × (n < 30)
 
 -- ---- what is wrong with a line of neither

@@ -12,7 +12,7 @@ use Rattle.sshkey_model.specs.Options.{CertificateOption, Nesting}
 use Rattle.sshkey_model.specs.Parts.{Parts, ◌&◌, flat, number}
 use Rattle.sshkey_model.specs.Texts.{string}
 use Rattle.sshkey_calls.specs.Outcomes.{TellsOf}
-use Rattle.sshkey_calls.specs.Rooms.{IsWithin, bytes_of}
+use Rattle.sshkey_calls.specs.Rooms.{IsPartOf, bytes_of}
 use Rattle.sshkey_calls.specs.declared.lists.CertificateParts.{CertificateParts}
 use Rattle.sshkey_calls.specs.declared.part.Part.{Part}
 
@@ -28,8 +28,8 @@ beginning c = certificate_algorithm (key_algorithm c.signed.key)
     & number w64 c.signed.serial
     & certificate_type c.signed.certificate_type
 
-abbrev pub end_of : Part → ℕ
-end_of part = part.start + part.length
+abbrev pub part_end : Part → ℕ
+part_end part = part.start + part.length
 
 -- Each part stands behind its length, which has four bytes: the key id behind all that the
 -- certificate begins with, the principals behind the key id, the critical options behind these and
@@ -37,10 +37,10 @@ end_of part = part.start + part.length
 -- the reserved string.
 pub record ArePlaced (c : Certificate) (p : CertificateParts) : Type 0 where
   pub key_id : p.key_id.start ≡ length (flat (beginning c)) + 4
-  pub principals : p.principals.start ≡ end_of p.key_id + 4
-  pub critical_options : p.critical_options.start ≡ end_of p.principals + 16 + 4
-  pub extensions : p.extensions.start ≡ end_of p.critical_options + 4
-  pub authority : p.authority.start ≡ end_of p.extensions + 4 + length c.signed.reserved + 4
+  pub principals : p.principals.start ≡ part_end p.key_id + 4
+  pub critical_options : p.critical_options.start ≡ part_end p.principals + 16 + 4
+  pub extensions : p.extensions.start ≡ part_end p.critical_options + 4
+  pub authority : p.authority.start ≡ part_end p.extensions + 4 + length c.signed.reserved + 4
 
 -- Each part has that field of the certificate, and stands in its place.
 pub record ArePartsOf (c : Certificate) (bytes : List ℕ) (p : CertificateParts) : Type 0 where
@@ -50,7 +50,7 @@ pub record ArePartsOf (c : Certificate) (bytes : List ℕ) (p : CertificateParts
   pub extensions : SpellsOptionList c.signed.extensions (bytes_of p.extensions bytes)
   pub authority : SpellsKey c.signed.signature_key (bytes_of p.authority bytes)
   pub placed : ArePlaced c p
-  pub within : IsWithin p.key_id bytes × IsWithin p.principals bytes × IsWithin p.critical_options bytes × IsWithin p.extensions bytes × IsWithin p.authority bytes
+  pub within : IsPartOf p.key_id bytes × IsPartOf p.principals bytes × IsPartOf p.critical_options bytes × IsPartOf p.extensions bytes × IsPartOf p.authority bytes
 
 -- 0 and the parts of the certificate that the bytes spell.
 abbrev pub GivesParts : List ℕ → ℕ → CertificateParts → CertificateParts → Type 0

@@ -2,7 +2,7 @@
 use Rattle.std.specs.Prelude.{◌≡◌, ◌≢◌, ◌↔◌, ◌≤◌, ◌+◌, ℕ, List, ◌++◌, length, drop}
 use Rattle.sshkey_model.specs.Options.{HasNesting, Nesting, option}
 use Rattle.sshkey_model.specs.Parts.{Fits, flat}
-use Rattle.sshkey_calls.specs.Rooms.{IsWithin, bytes_of}
+use Rattle.sshkey_calls.specs.Rooms.{IsPartOf, bytes_of}
 use Rattle.sshkey_calls.specs.declared.option.OptionParts.{OptionParts}
 
 -- The bytes begin with that name and that value, and the rest stands behind them.
@@ -17,7 +17,7 @@ pub record BeginsWithOption (name value : List ℕ) (bytes rest : List ℕ) : Ty
 -- the answer stays as it was.
 pub record FindsOption (bytes : List ℕ) (place n : ℕ) (was o : OptionParts) : Type 0 where
   pub found : n ≡ 0 → BeginsWithOption (bytes_of o.name bytes) (bytes_of o.value bytes) (drop place bytes) (drop o.next bytes)
-  pub within : n ≡ 0 → IsWithin o.name bytes × IsWithin o.value bytes × (o.next ≤ length bytes)
+  pub within : n ≡ 0 → IsPartOf o.name bytes × IsPartOf o.value bytes × (o.next ≤ length bytes)
   pub placed : n ≡ 0 → (o.name.start ≡ place + 4) × (o.value.start + o.value.length ≡ o.next)
   pub end_ : (n ≡ 3) ↔ (place ≡ length bytes)
   pub none : n ≢ 0 → (name value rest : List ℕ) → BeginsWithOption name value (drop place bytes) rest → ⊥

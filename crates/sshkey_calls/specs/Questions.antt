@@ -8,7 +8,7 @@ use Rattle.sshkey_cert.specs.CertificateReaders.{SpellsCertificate}
 use Rattle.sshkey_cert.specs.Questions.{certificate_question}
 use Rattle.sshkey_calls.specs.Numbers.{algorithm_number}
 use Rattle.sshkey_calls.specs.Outcomes.{TellsOf}
-use Rattle.sshkey_calls.specs.Rooms.{Gives, IsPlaced}
+use Rattle.sshkey_calls.specs.Rooms.{GivesValue, IsPlaced}
 use Rattle.sshkey_calls.specs.declared.question.Question.{Question}
 
 -- its parts, one behind the other
@@ -25,7 +25,7 @@ pub record ArePlaced (q : model.Question) (answer : Question) : Type 0 where
 
 -- What a call answers that looks for the one question that `Raised` tells.
 abbrev pub GivesQuestion : (model.Question → Type 0) → ℕ → Question → Question → List ℕ → List ℕ → Type 0
-GivesQuestion Raised = Gives Raised question_bytes ArePlaced (λ (a : Question). a.length)
+GivesQuestion Raised = GivesValue Raised question_bytes ArePlaced (λ (a : Question). a.length)
 
 -- What a call answers of the question that is raised, if one is: with it; or 40, memory aside.
 pub record TellsQuestion (asked : Option model.Question) (n : ℕ) (was answer : Question) (before after : List ℕ) : Type 0 where

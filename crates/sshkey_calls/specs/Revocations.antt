@@ -8,18 +8,18 @@ use Rattle.sshkey_model.specs.Keys.{normal_key}
 use Rattle.sshkey_model.specs.Parts.{flat}
 
 -- The bytes spell a list and a value, and this is whether the list revokes the value.
-pub record IsSaid {V : Type 0} (Spells : V → List ℕ → Type 0) (revokes : Krl → V → Bool) (krl bytes : List ℕ) (yes : Bool) : Type 0 where
+pub record IsWhetherRevoked {V : Type 0} (Spells : V → List ℕ → Type 0) (revokes : Krl → V → Bool) (krl bytes : List ℕ) (yes : Bool) : Type 0 where
   pub list : Krl
   pub list_spelled : SpellsKrl list krl
   pub value : V
   pub value_spelled : Spells value bytes
   pub answer : yes ≡ revokes list value
 
-abbrev pub IsSaidOfKey : List ℕ → List ℕ → Bool → Type 0
-IsSaidOfKey = IsSaid SpellsKey (λ list k. revokes_key list (flat (normal_key k)))
+abbrev pub IsWhetherKeyRevoked : List ℕ → List ℕ → Bool → Type 0
+IsWhetherKeyRevoked = IsWhetherRevoked SpellsKey (λ list k. revokes_key list (flat (normal_key k)))
 
-abbrev pub IsSaidOfCertificate : List ℕ → List ℕ → Bool → Type 0
-IsSaidOfCertificate = IsSaid SpellsCertificate revokes_certificate
+abbrev pub IsWhetherCertificateRevoked : List ℕ → List ℕ → Bool → Type 0
+IsWhetherCertificateRevoked = IsWhetherRevoked SpellsCertificate revokes_certificate
 
 -- 0 says that it is revoked, and 60 that it is not; 1 is memory, and every other number says that
 -- nothing is said of it.

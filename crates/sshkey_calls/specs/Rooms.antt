@@ -7,8 +7,8 @@ abbrev pub bytes_of : Part → List ℕ → List ℕ
 bytes_of part room = take part.length (drop part.start room)
 
 -- it ends within the bytes
-abbrev pub IsWithin : Part → List ℕ → Type 0
-IsWithin part bytes = part.start + part.length ≤ length bytes
+abbrev pub IsPartOf : Part → List ℕ → Type 0
+IsPartOf part bytes = part.start + part.length ≤ length bytes
 
 -- it begins there, and is as long as these bytes
 abbrev pub IsPlaced : ℕ → List ℕ → Part → Type 0
@@ -21,7 +21,7 @@ Fills content before true after = after ≡ content ++ drop (length content) bef
 Fills content before false after = (after ≡ before) × (length before < length content)
 
 -- The bytes stand at the front of the room, nothing else changed, and the answer says so.
-pub record IsFront (bytes : List ℕ) (Placed : Type 0) (before after : List ℕ) : Type 0 where
+pub record IsAtFront (bytes : List ℕ) (Placed : Type 0) (before after : List ℕ) : Type 0 where
   pub content : after ≡ bytes ++ drop (length bytes) before
   pub placed : Placed
 
@@ -35,8 +35,8 @@ pub record LacksRoom (bytes : List ℕ) (len : ℕ) (before after : List ℕ) : 
 -- room, where the answer says, 1 for memory, which says nothing, 2 where there is one, and the room
 -- is too short for it; and every other number where there is none. But for 0 and 2, answer and room
 -- stay as they were.
-pub record Gives {X A : Type 0} (Wanted : X → Type 0) (bytes : X → List ℕ) (ArePlaced : X → A → Type 0) (needed : A → ℕ) (n : ℕ) (was answer : A) (before after : List ℕ) : Type 0 where
-  pub given : n ≡ 0 → (x : X) × Wanted x × IsFront (bytes x) (ArePlaced x answer) before after
+pub record GivesValue {X A : Type 0} (Wanted : X → Type 0) (bytes : X → List ℕ) (ArePlaced : X → A → Type 0) (needed : A → ℕ) (n : ℕ) (was answer : A) (before after : List ℕ) : Type 0 where
+  pub given : n ≡ 0 → (x : X) × Wanted x × IsAtFront (bytes x) (ArePlaced x answer) before after
   pub short : n ≡ 2 → (x : X) × Wanted x × LacksRoom (bytes x) (needed answer) before after
   pub none : n ≢ 0 → n ≢ 1 → n ≢ 2 → (x : X) → Wanted x → ⊥
   pub stays : n ≢ 0 → n ≢ 2 → (answer ≡ was) × (after ≡ before)

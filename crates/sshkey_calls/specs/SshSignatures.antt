@@ -14,7 +14,7 @@ use Rattle.sshkey_sshsig.specs.declared.sshsig.SshSig.{SshSig}
 use Rattle.sshkey_calls.specs.Fingerprints.{GivesDigestOf}
 use Rattle.sshkey_calls.specs.Outcomes.{TellsOf}
 use Rattle.sshkey_calls.specs.Questions.{TellsQuestion}
-use Rattle.sshkey_calls.specs.Writing.{Writes}
+use Rattle.sshkey_calls.specs.Writing.{WritesContent}
 use Rattle.sshkey_calls.specs.declared.digest.Sha256Digest.{Sha256Digest}
 use Rattle.sshkey_calls.specs.declared.question.Question.{Question}
 
@@ -25,7 +25,7 @@ TellsOfSshSignature bytes Told n Stays = TellsOf SpellsSshSignature ssh_signatur
 
 -- its normal form
 abbrev pub WritesNormalSshSignature : List ℕ → ℕ → ℕ → ℕ → List ℕ → List ℕ → Type 0
-WritesNormalSshSignature bytes n was len before after = TellsOfSshSignature bytes (λ f. Writes (λ content. content ≡ flat (normal_ssh_signature f)) n was len before after) n ((len ≡ was) × (after ≡ before))
+WritesNormalSshSignature bytes n was len before after = TellsOfSshSignature bytes (λ f. WritesContent (λ content. content ≡ flat (normal_ssh_signature f)) n was len before after) n ((len ≡ was) × (after ≡ before))
 
 -- ---- the signature in a namespace
 

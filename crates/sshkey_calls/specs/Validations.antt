@@ -17,32 +17,32 @@ use Rattle.sshkey_calls.specs.Numbers.{refusal_number}
 use Rattle.sshkey_calls.specs.declared.digest.Sha256Digest.{Sha256Digest}
 
 -- 1 says yes, and every other number no
-abbrev pub is_yes : ℕ → Bool
-is_yes is_verified = is_verified == 1
+abbrev pub is_yes_number : ℕ → Bool
+is_yes_number is_verified = is_verified == 1
 
 -- That verifier says so about the question of the certificate that the bytes spell, if it raises
 -- one, and may say anything about all others.
 abbrev pub Verified : (Question → Bool) → List ℕ → ℕ → Type 0
-Verified accepts bytes is_verified = (c : Certificate) → SpellsCertificate c bytes → (q : Question) → certificate_question c ≡ Some q → accepts q ≡ is_yes is_verified
+Verified accepts bytes is_verified = (c : Certificate) → SpellsCertificate c bytes → (q : Question) → certificate_question c ≡ Some q → accepts q ≡ is_yes_number is_verified
 
 -- the fingerprints with these digests
 abbrev pub authorities_of : List Sha256Digest → List Fingerprint
 authorities_of digests = map (λ d. record { hash = Sha256; digest = d.bytes }) digests
 
 -- The bytes spell a certificate that is valid.
-pub record IsGood (accepts : Question → Bool) (authorities : List Fingerprint) (t : ℕ) (bytes : List ℕ) : Type 0 where
+pub record IsGoodCertificate (accepts : Question → Bool) (authorities : List Fingerprint) (t : ℕ) (bytes : List ℕ) : Type 0 where
   pub certificate : Certificate
   pub spelled : SpellsCertificate certificate bytes
   pub valid : IsValid accepts authorities t certificate
 
 -- The bytes spell a certificate that is valid for the principal.
-pub record IsGoodFor (accepts : Question → Bool) (authorities : List Fingerprint) (t : ℕ) (principal bytes : List ℕ) : Type 0 where
+pub record IsGoodCertificateFor (accepts : Question → Bool) (authorities : List Fingerprint) (t : ℕ) (principal bytes : List ℕ) : Type 0 where
   pub certificate : Certificate
   pub spelled : SpellsCertificate certificate bytes
   pub valid : IsValidFor accepts authorities t principal certificate
 
 -- 0 exactly where it holds; 1 is memory, and says nothing.
-pub record Says (Holds : Type 0) (n : ℕ) : Type 0 where
+pub record SaysWhether (Holds : Type 0) (n : ℕ) : Type 0 where
   pub yes_ : n ≡ 0 → Holds
   pub no_ : n ≢ 0 → n ≢ 1 → Holds → ⊥
 
@@ -64,9 +64,9 @@ first_refusal_of accepts authorities t None = first_refusal accepts authorities 
 first_refusal_of accepts authorities t (Some principal) = first_refusal_for accepts authorities t principal
 
 -- It is that refusal, or none; or memory ran out, which may be asked for.
-abbrev pub FindsFirstOr : Type 0 → Option Refusal → Result (Option CertificateRefusal) Error → Type 0
-FindsFirstOr asks first (Ok found) = option_map refusal_of found ≡ first
-FindsFirstOr asks first (Err e) = asks
+abbrev pub FindsRefusalOr : Type 0 → Option Refusal → Result (Option CertificateRefusal) Error → Type 0
+FindsRefusalOr asks first (Ok found) = option_map refusal_of found ≡ first
+FindsRefusalOr asks first (Err e) = asks
 
 -- The bytes spell a certificate in which the name of the key that signed is not the one of its
 -- normal form: it is an RSA key under the name of one with a hash.

@@ -6,21 +6,21 @@ use Rattle.sshkey_base.specs.declared.error.Error.TheVariants.{Encoding, Memory}
 use Rattle.sshkey_model.specs.Parts.{BoxesFit, Parts}
 use Rattle.sshkey_model.specs.Reading.{Front}
 use Rattle.sshkey_calls.specs.Outcomes.{TellsOf}
-use Rattle.sshkey_calls.specs.Rooms.{Gives}
+use Rattle.sshkey_calls.specs.Rooms.{GivesValue}
 
 -- What a call answers that writes the one content that `Wanted` tells, and how many bytes it has.
-abbrev pub Writes : (List ℕ → Type 0) → ℕ → ℕ → ℕ → List ℕ → List ℕ → Type 0
-Writes Wanted = Gives Wanted (λ content. content) (λ content len. len ≡ length content) (λ len. len)
+abbrev pub WritesContent : (List ℕ → Type 0) → ℕ → ℕ → ℕ → List ℕ → List ℕ → Type 0
+WritesContent Wanted = GivesValue Wanted (λ content. content) (λ content len. len ≡ length content) (λ len. len)
 
 -- What a call answers that writes the content that the value has which the bytes spell.
 abbrev pub WritesOf : {V W : Type 0} → (V → List ℕ → Type 0) → Front W → (V → List ℕ) → List ℕ → ℕ → ℕ → ℕ → List ℕ → List ℕ → Type 0
-WritesOf Spells read content_of bytes n was len before after = TellsOf Spells read bytes (λ v. Writes (λ content. content ≡ content_of v) n was len before after) n ((len ≡ was) × (after ≡ before))
+WritesOf Spells read content_of bytes n was len before after = TellsOf Spells read bytes (λ v. WritesContent (λ content. content ≡ content_of v) n was len before after) n ((len ≡ was) × (after ≡ before))
 
 -- What a call gives that looks for the value that `Is` tells: the value, or the number to answer
 -- with; but for 1, which is memory, there is none then.
-abbrev pub Finds : {X Y : Type 0} → (Y → Type 0) → (X → Y) → Result X ℕ → Type 0
-Finds Is means (Ok x) = Is (means x)
-Finds {Y = Y} Is means (Err n) = (n ≢ 0) × (n ≢ 2) × (n ≢ 1 → (y : Y) → Is y → ⊥)
+abbrev pub FindsValue : {X Y : Type 0} → (Y → Type 0) → (X → Y) → Result X ℕ → Type 0
+FindsValue Is means (Ok x) = Is (means x)
+FindsValue {Y = Y} Is means (Err n) = (n ≢ 0) × (n ≢ 2) × (n ≢ 1 → (y : Y) → Is y → ⊥)
 
 -- ---- laid out, before it is written
 

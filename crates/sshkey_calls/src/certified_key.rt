@@ -5,7 +5,7 @@ ghost use Rattle.sshkey_cert_ref.specs.CertificateRef.{certificate_of};
 ghost use Rattle.sshkey_model.specs.Keys.{normal_key};
 ghost use Rattle.sshkey_model.specs.Parts.{flat};
 ghost use Rattle.sshkey_calls.specs.NormalForms.{WritesCertifiedKey};
-ghost use Rattle.sshkey_calls.specs.Writing.{Writes};
+ghost use Rattle.sshkey_calls.specs.Writing.{WritesContent};
 
 use crate::number::{MEMORY, error_number};
 use crate::write::write_bytes;
@@ -40,7 +40,7 @@ fn write_key(
     room: &mut [u8],
     length: &mut usize,
 ) -> u32
-    ensures { Writes (λ s. s ≡ flat (normal_key (certificate_of certificate.now).signed.key))
+    ensures { WritesContent (λ s. s ≡ flat (normal_key (certificate_of certificate.now).signed.key))
         result length.old length.new room.old room.new }
 {
     match key_of(alloc, certificate) {

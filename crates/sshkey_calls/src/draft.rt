@@ -7,7 +7,7 @@ ghost use Rattle.sshkey_model.specs.Certificates.{normal_to_be_signed};
 ghost use Rattle.sshkey_model.specs.Parts.{Fits, flat};
 ghost use Rattle.sshkey_cert_fields.specs.ToBeSignedValues.{to_be_signed_of};
 ghost use Rattle.sshkey_calls.specs.Drafts.{IsToBeSigned, TellsWrong, draft_fault};
-ghost use Rattle.sshkey_calls.specs.Writing.{Writes};
+ghost use Rattle.sshkey_calls.specs.Writing.{WritesContent};
 
 use crate::draft_fields::fields_of;
 use crate::number::error_number;
@@ -64,7 +64,7 @@ pub fn certificate_to_be_signed(
     room: &mut [u8],
     length: &mut usize,
 ) -> u32
-    ensures written { Writes (IsToBeSigned draft.now)
+    ensures written { WritesContent (IsToBeSigned draft.now)
         result length.old length.new room.old room.new }
     ensures numbers { draft_fault draft.now ≢ 0 → result ≡ draft_fault draft.now }
     ensures fault { TellsWrong draft.now result }
@@ -78,7 +78,7 @@ pub fn certificate_to_be_signed(
 
 /// Writes the bytes that are to be signed of these fields.
 fn write_fields(alloc: Global, fields: &ToBeSigned, room: &mut [u8], length: &mut usize) -> u32
-    ensures written { Writes (λ s. Fits (normal_to_be_signed (to_be_signed_of fields.now))
+    ensures written { WritesContent (λ s. Fits (normal_to_be_signed (to_be_signed_of fields.now))
         × (s ≡ flat (normal_to_be_signed (to_be_signed_of fields.now))))
         result length.old length.new room.old room.new }
     ensures long { result ≢ 0 → result ≢ 1 → result ≢ 2 → result ≡ 13 }

@@ -10,7 +10,7 @@ ghost use Rattle.sshkey_model.specs.Texts.{IsText, string, texts_at};
 ghost use Rattle.sshkey_cert_values.specs.OptionMaps.{options_of};
 ghost use Rattle.sshkey_cert_values.specs.OptionReaders.{SpellsOptions, options_value_at};
 ghost use Rattle.sshkey_cert_fields.specs.ToBeSignedValues.{to_be_signed_of};
-ghost use Rattle.sshkey_calls.specs.Drafts.{FindsOr, FindsPart, FitsString, IsCertifiable, Tells, TellsNumbers, certifiable_number, draft_fault, first_of, list_number, number_of, parts_fault, string_number, text_number};
+ghost use Rattle.sshkey_calls.specs.Drafts.{FindsOr, FindsPart, FitsString, IsCertifiable, TellsFields, TellsNumbers, certifiable_number, draft_fault, first_number, list_number, number_of, parts_fault, string_number, text_number};
 
 use crate::draft::CertificateDraft;
 use crate::number::{
@@ -27,8 +27,8 @@ use std::str;
 
 /// The fields that the draft tells.
 pub(crate) fn fields_of(alloc: Global, draft: &CertificateDraft<'_>) -> Result<ToBeSigned, u32>
-    ensures fields { FindsOr (Tells draft.now) to_be_signed_of
-        (first_of (draft_fault draft.now ∷ parts_fault draft.now ∷ []))
+    ensures fields { FindsOr (TellsFields draft.now) to_be_signed_of
+        (first_number (draft_fault draft.now ∷ parts_fault draft.now ∷ []))
         (SpellsSome SpellsKey draft.now.key.now) result }
     ensures numbers { draft_fault draft.now ≢ 0 → result ≡ Err (draft_fault draft.now) }
 {
@@ -49,7 +49,7 @@ fn fields_with(
     valid_before: EndTime,
 ) -> Result<ToBeSigned, u32>
     requires { TellsNumbers draft.now cert_type valid_after valid_before }
-    ensures { FindsOr (Tells draft.now) to_be_signed_of (parts_fault draft.now)
+    ensures { FindsOr (TellsFields draft.now) to_be_signed_of (parts_fault draft.now)
         (SpellsSome SpellsKey draft.now.key.now) result }
 {
     let public_key = certifiable_key(alloc, draft.key)?;

@@ -6,7 +6,7 @@ ghost use Rattle.base64.specs.GeneralPurpose.{encode_of};
 ghost use Rattle.sshkey_base.specs.Names.{hash_of};
 ghost use Rattle.sshkey_model.specs.Fingerprints.{digest_text};
 ghost use Rattle.sshkey_model.specs.Names.{Sha256, Sha512};
-ghost use Rattle.sshkey_calls.specs.Fingerprints.{FindsFingerprint, GivesDigest, Prints};
+ghost use Rattle.sshkey_calls.specs.Fingerprints.{FindsFingerprint, GivesKeyDigest, Prints};
 
 use crate::digest::{Sha256Digest, Sha512Digest};
 use crate::number::{DONE, MEMORY, ROOM, error_number};
@@ -23,7 +23,7 @@ use std::alloc::Global;
 /// taken only for an RSA key under another name than `ssh-rsa`. With any number but 0 the answer
 /// stays as it was.
 pub fn fingerprint(alloc: Global, key: &[u8], answer: &mut Sha256Digest) -> u32
-    ensures { GivesDigest Sha256 key.now result answer.old.bytes answer.new.bytes }
+    ensures { GivesKeyDigest Sha256 key.now result answer.old.bytes answer.new.bytes }
 {
     let fingerprint = match find_fingerprint(alloc, HashAlg::Sha256, key) {
         Ok(fingerprint) => fingerprint,
@@ -43,7 +43,7 @@ pub fn fingerprint(alloc: Global, key: &[u8], answer: &mut Sha256Digest) -> u32
 ///
 /// Returns what `fingerprint` does.
 pub fn fingerprint_sha512(alloc: Global, key: &[u8], answer: &mut Sha512Digest) -> u32
-    ensures { GivesDigest Sha512 key.now result answer.old.bytes answer.new.bytes }
+    ensures { GivesKeyDigest Sha512 key.now result answer.old.bytes answer.new.bytes }
 {
     let fingerprint = match find_fingerprint(alloc, HashAlg::Sha512, key) {
         Ok(fingerprint) => fingerprint,

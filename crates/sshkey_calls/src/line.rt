@@ -5,7 +5,7 @@ ghost use Rattle.std.specs.Str.{IsUtf8};
 ghost use Rattle.base64.specs.GeneralPurpose.{IsBytes};
 ghost use Rattle.sshkey_keys.specs.Keys.{SpellsKey};
 ghost use Rattle.sshkey_model.specs.Lines.{IsCut, IsLine, IsNoLine, IsWithout, after_space, key_name, space};
-ghost use Rattle.sshkey_calls.specs.KeyLines.{ArePlaced, Holds, NeedsLine, NumbersKeyFault, Reads, TellsLineFault, content_of, fault_of_either, line_bytes};
+ghost use Rattle.sshkey_calls.specs.KeyLines.{ArePlaced, HoldsContent, NeedsLine, NumbersKeyFault, ReadsContent, TellsLineFault, content_of, fault_of_either, line_bytes};
 ghost use Rattle.sshkey_calls.specs.Rooms.{IsLaidOut};
 
 use crate::number::{CHARACTER_ENCODING, LABEL, MEMORY, error_number};
@@ -51,7 +51,8 @@ const CERTIFICATE: u32 = 2;
 ///
 /// A line end within the line is part of the comment.
 pub fn read_line(alloc: Global, line: &[u8], room: &mut [u8], answer: &mut Line) -> u32
-    ensures reads { Reads (Holds line.now) result answer.old answer.new room.old room.new }
+    ensures reads { ReadsContent (HoldsContent line.now) result answer.old answer.new room.old
+        room.new }
     ensures fault { IsUtf8 line.now → TellsLineFault line.now result }
     ensures text { (IsUtf8 line.now → ⊥) → result ≡ 11 }
     ensures memory { result ≡ 1 → NeedsLine line.now }
@@ -64,7 +65,8 @@ pub fn read_line(alloc: Global, line: &[u8], room: &mut [u8], answer: &mut Line)
 
 /// The same of a text.
 fn read_text(alloc: Global, text: &str, room: &mut [u8], answer: &mut Line) -> u32
-    ensures reads { Reads (Holds text.now) result answer.old answer.new room.old room.new }
+    ensures reads { ReadsContent (HoldsContent text.now) result answer.old answer.new room.old
+        room.new }
     ensures fault { TellsLineFault text.now result }
     ensures memory { result ≡ 1 → NeedsLine text.now }
 {
@@ -90,7 +92,8 @@ fn read_certificate(
 ) -> u32
     requires none { IsNoLine key_name SpellsKey text.now }
     requires fault { (9 < key_fault) × (key_fault < 30) }
-    ensures reads { Reads (Holds text.now) result answer.old answer.new room.old room.new }
+    ensures reads { ReadsContent (HoldsContent text.now) result answer.old answer.new room.old
+        room.new }
     ensures fault { NumbersKeyFault text.now key_fault → TellsLineFault text.now result }
     ensures memory { result ≡ 1 → NeedsLine text.now }
 {
@@ -124,7 +127,7 @@ fn tell(
     answer: &mut Line,
 ) -> u32
     ensures { (first blob : List ℕ) → IsLine text.now first blob comment.now → IsBytes blob
-        → Reads (λ x. x ≡ content_of kind blob comment.now)
+        → ReadsContent (λ x. x ≡ content_of kind blob comment.now)
         result answer.old answer.new room.old room.new }
 {
     part::answer_with(lay_out(alloc, text, comment, kind), room, answer)

@@ -11,7 +11,7 @@ ghost use Rattle.sshkey_model.specs.Keys.{Key, normal_key};
 ghost use Rattle.sshkey_model.specs.Parts.{flat};
 ghost use Rattle.sshkey_calls.specs.NormalForms.{IsRenamedKey, WritesNormalCertificate, WritesNormalKey, WritesNormalSignature};
 ghost use Rattle.sshkey_calls.specs.SshSignatures.{WritesNormalSshSignature};
-ghost use Rattle.sshkey_calls.specs.Writing.{Writes};
+ghost use Rattle.sshkey_calls.specs.Writing.{WritesContent};
 
 use crate::number::{MEMORY, error_number};
 use crate::write::write_bytes;
@@ -40,7 +40,7 @@ pub fn key_normal(alloc: Global, key: &[u8], room: &mut [u8], length: &mut usize
 /// The same of a key that was read.
 fn write_key(alloc: Global, read: &KeyDataRef<'_>, room: &mut [u8], length: &mut usize) -> u32
     requires { SpellsSome SpellsKey (key_bytes read.now) }
-    ensures normal { (k : Key) × SpellsKey k (key_bytes read.now) × Writes
+    ensures normal { (k : Key) × SpellsKey k (key_bytes read.now) × WritesContent
         (λ content. content ≡ flat (normal_key k)) result length.old length.new room.old room.new }
     ensures memory { result ≡ 1 → IsRenamed (key_bytes read.now) }
 {
@@ -80,7 +80,7 @@ fn write_certificate(
     room: &mut [u8],
     length: &mut usize,
 ) -> u32
-    ensures { Writes (λ content. content
+    ensures { WritesContent (λ content. content
         ≡ flat (normal_certificate (certificate_of read.now)))
         result length.old length.new room.old room.new }
 {
@@ -124,7 +124,7 @@ pub fn signature_normal(signature: &[u8], room: &mut [u8], length: &mut usize) -
 
 /// Writes the normal form of the value to the front of the room, if there is room for it.
 fn write_encoded<T: Encode>(alloc: Global, value: &T, room: &mut [u8], length: &mut usize) -> u32
-    ensures { Writes (λ content. content ≡ flat (T.normal value.now))
+    ensures { WritesContent (λ content. content ≡ flat (T.normal value.now))
         result length.old length.new room.old room.new }
 {
     match encode_vec(alloc, value) {

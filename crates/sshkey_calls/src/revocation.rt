@@ -12,7 +12,7 @@ ghost use Rattle.sshkey_model.specs.Parts.{flat};
 ghost use Rattle.sshkey_model.specs.Reading.{Fault, whole};
 ghost use Rattle.sshkey_calls.specs.NormalForms.{IsRenamedKey};
 ghost use Rattle.sshkey_calls.specs.Numbers.{fault_number};
-ghost use Rattle.sshkey_calls.specs.Revocations.{IsSaidOfCertificate, IsSaidOfKey, TellsRevoked};
+ghost use Rattle.sshkey_calls.specs.Revocations.{IsWhetherCertificateRevoked, IsWhetherKeyRevoked, TellsRevoked};
 
 use crate::number::{DONE, NOT_REVOKED, error_number};
 use sshkey_base::{Error, Result, encode_vec};
@@ -29,7 +29,7 @@ use std::alloc::Global;
 /// else of bytes that are no key, and 1 if memory ran out. So 60 alone says that the key is not
 /// revoked. Memory is taken only for an RSA key under another name than `ssh-rsa`.
 pub fn krl_revokes_key(alloc: Global, krl: &[u8], key: &[u8]) -> u32
-    ensures exactly { TellsRevoked (IsSaidOfKey krl.now key.now) result }
+    ensures exactly { TellsRevoked (IsWhetherKeyRevoked krl.now key.now) result }
     ensures list { (fault : Fault) → whole krl_format.read krl.now ≡ Err fault
         → result ≡ fault_number fault }
     ensures key { SpellsSome SpellsKrl krl.now → (fault : Fault)
@@ -46,13 +46,13 @@ pub fn krl_revokes_key(alloc: Global, krl: &[u8], key: &[u8]) -> u32
 /// Whether the list has the key. Fails with the first fault of the list, or else of the key, and
 /// when out of memory.
 fn is_key_revoked(alloc: Global, krl: &[u8], key: &[u8]) -> Result<bool>
-    ensures said { IfOk result (IsSaidOfKey krl.now key.now) }
+    ensures said { IfOk result (IsWhetherKeyRevoked krl.now key.now) }
     ensures list { (fault : Fault) → whole krl_format.read krl.now ≡ Err fault
         → IsErrAnd result (λ e. cause e ≡ Faulty fault) }
     ensures key { SpellsSome SpellsKrl krl.now → (fault : Fault)
         → whole key_data_at key.now ≡ Err fault → IsErrAnd result (λ e. cause e ≡ Faulty fault) }
     ensures unsaid { IfErr result (λ e. cause e ≢ NoMemory → (yes : Bool)
-        → IsSaidOfKey krl.now key.now yes → ⊥) }
+        → IsWhetherKeyRevoked krl.now key.now yes → ⊥) }
     ensures memory { IfErr result (λ e. cause e ≡ NoMemory
         → SpellsSome SpellsKrl krl.now × IsRenamedKey key.now) }
 {
@@ -72,7 +72,7 @@ fn is_key_revoked(alloc: Global, krl: &[u8], key: &[u8]) -> Result<bool>
 /// Returns what `krl_revokes_key` does, with the fault of bytes that are no certificate. Memory is
 /// taken only where both are spelled.
 pub fn krl_revokes_certificate(alloc: Global, krl: &[u8], certificate: &[u8]) -> u32
-    ensures exactly { TellsRevoked (IsSaidOfCertificate krl.now certificate.now) result }
+    ensures exactly { TellsRevoked (IsWhetherCertificateRevoked krl.now certificate.now) result }
     ensures list { (fault : Fault) → whole krl_format.read krl.now ≡ Err fault
         → result ≡ fault_number fault }
     ensures certificate { SpellsSome SpellsKrl krl.now → (fault : Fault)
@@ -90,14 +90,14 @@ pub fn krl_revokes_certificate(alloc: Global, krl: &[u8], certificate: &[u8]) ->
 /// Whether the list revokes the certificate. Fails with the first fault of the list, or else of the
 /// certificate, and when out of memory.
 fn is_certificate_revoked(alloc: Global, krl: &[u8], certificate: &[u8]) -> Result<bool>
-    ensures said { IfOk result (IsSaidOfCertificate krl.now certificate.now) }
+    ensures said { IfOk result (IsWhetherCertificateRevoked krl.now certificate.now) }
     ensures list { (fault : Fault) → whole krl_format.read krl.now ≡ Err fault
         → IsErrAnd result (λ e. cause e ≡ Faulty fault) }
     ensures certificate { SpellsSome SpellsKrl krl.now → (fault : Fault)
         → whole certificate_at certificate.now ≡ Err fault
         → IsErrAnd result (λ e. cause e ≡ Faulty fault) }
     ensures unsaid { IfErr result (λ e. cause e ≢ NoMemory → (yes : Bool)
-        → IsSaidOfCertificate krl.now certificate.now yes → ⊥) }
+        → IsWhetherCertificateRevoked krl.now certificate.now yes → ⊥) }
     ensures memory { IfErr result (λ e. cause e ≡ NoMemory
         → SpellsSome SpellsKrl krl.now × SpellsSome SpellsCertificate certificate.now) }
 {

@@ -12,7 +12,7 @@ ghost use Rattle.sshkey_model.specs.Reading.{Fault, whole};
 ghost use Rattle.sshkey_model.specs.Refusals.{first_refusal, is_signed};
 ghost use Rattle.sshkey_model.specs.Verification.{Question};
 ghost use Rattle.sshkey_calls.specs.Numbers.{fault_number, refusal_number};
-ghost use Rattle.sshkey_calls.specs.Validations.{FindsFirstOr, HasRenamedAuthority, IsGood, IsGoodFor, Says, TellsFirst, TellsFirstFor, TellsRefusal, Verified, authorities_of, first_refusal_of, is_yes};
+ghost use Rattle.sshkey_calls.specs.Validations.{FindsRefusalOr, HasRenamedAuthority, IsGoodCertificate, IsGoodCertificateFor, SaysWhether, TellsFirst, TellsFirstFor, TellsRefusal, Verified, authorities_of, first_refusal_of, is_yes_number};
 
 use crate::digest::{Sha256Digest, contains_digest};
 use crate::number::{MEMORY, TEXT, error_number, refusal_number};
@@ -40,8 +40,8 @@ pub fn certificate_validate(
     is_verified: u32,
 ) -> u32
     ensures exactly { (accepts : Question → Bool) → Verified accepts certificate.now is_verified
-        → Says (IsGood accepts (authorities_of authorities.now) unix_timestamp certificate.now)
-        result }
+        → SaysWhether (IsGoodCertificate accepts (authorities_of authorities.now) unix_timestamp
+        certificate.now) result }
     ensures first { (accepts : Question → Bool) → Verified accepts certificate.now is_verified
         → TellsFirst accepts (authorities_of authorities.now) unix_timestamp certificate.now
         result }
@@ -74,8 +74,8 @@ pub fn certificate_validate_for(
 ) -> u32
     ensures exactly { IsUtf8 principal.now → (accepts : Question → Bool)
         → Verified accepts certificate.now is_verified
-        → Says (IsGoodFor accepts (authorities_of authorities.now) unix_timestamp principal.now
-        certificate.now) result }
+        → SaysWhether (IsGoodCertificateFor accepts (authorities_of authorities.now) unix_timestamp
+        principal.now certificate.now) result }
     ensures first { IsUtf8 principal.now → (accepts : Question → Bool)
         → Verified accepts certificate.now is_verified
         → TellsFirstFor accepts (authorities_of authorities.now) unix_timestamp principal.now
@@ -138,7 +138,7 @@ fn judge(
     is_verified: u32,
 ) -> u32
     ensures told { result ≢ 1 → result ≡ refusal_number (first_refusal_of
-        (λ _. is_yes is_verified) (authorities_of authorities.now) unix_timestamp
+        (λ _. is_yes_number is_verified) (authorities_of authorities.now) unix_timestamp
         (option_map (λ p. p.now) principal.entry) (certificate_of certificate.now)) }
     ensures memory { result ≡ 1 → (choices_of certificate.now).signature_key ≢ Plain }
 {
@@ -177,7 +177,7 @@ fn first_refusal(
     authorities: &[Sha256Digest],
     verification: Verification,
 ) -> Result<Option<CertificateRefusal>>
-    ensures { FindsFirstOr ((choices_of certificate.now).signature_key ≢ Plain)
+    ensures { FindsRefusalOr ((choices_of certificate.now).signature_key ≢ Plain)
         (first_refusal (λ _. verification.is_yes) (authorities_of authorities.now)
         unix_timestamp (certificate_of certificate.now)) result }
 {

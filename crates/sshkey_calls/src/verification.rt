@@ -1,7 +1,7 @@
 //! What the caller's verification said.
 
 ghost use Rattle.std.specs.Prelude.{◌≡◌};
-ghost use Rattle.sshkey_calls.specs.Validations.{is_yes};
+ghost use Rattle.sshkey_calls.specs.Validations.{is_yes_number};
 
 use sshkey_base::Algorithm;
 use sshkey_keys::{KeyData, RawVerifier};
@@ -17,7 +17,7 @@ pub struct Verification {
 impl Verification {
     /// What the number says: yes if it is 1, and else no.
     pub fn of(is_verified: u32) -> Verification
-        ensures { result.is_yes ≡ is_yes is_verified }
+        ensures { result.is_yes ≡ is_yes_number is_verified }
     {
         Verification {
             is_yes: is_verified == 1,

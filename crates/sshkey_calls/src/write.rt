@@ -1,7 +1,7 @@
 //! Bytes that are written to the caller's room.
 
 ghost use Rattle.std.specs.Prelude.{◌≡◌, ◌≢◌};
-ghost use Rattle.sshkey_calls.specs.Writing.{Writes};
+ghost use Rattle.sshkey_calls.specs.Writing.{WritesContent};
 
 use crate::number::{DONE, ROOM};
 use crate::part::write_to;
@@ -10,7 +10,8 @@ use crate::part::write_to;
 ///
 /// Returns 0, or 2 where the room is shorter and stays as it was.
 pub(crate) fn write_bytes(content: &[u8], room: &mut [u8], length: &mut usize) -> u32
-    ensures written { Writes (λ s. s ≡ content.now) result length.old length.new room.old room.new }
+    ensures written { WritesContent (λ s. s ≡ content.now) result length.old length.new room.old
+        room.new }
     ensures memory { result ≢ 1 }
 {
     *length = content.len();

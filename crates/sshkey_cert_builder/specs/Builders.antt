@@ -64,9 +64,9 @@ no_principals = field_error PrincipalsField
 
 -- A step that is taken is refused only when out of memory, and another one with the field that it
 -- names.
-abbrev pub Refuses : Result Draft DraftField → Error → Type 0
-Refuses (Ok d) e = e ≡ wide.Memory
-Refuses (Err f) e = e ≡ field_error f
+abbrev pub RefusesStep : Result Draft DraftField → Error → Type 0
+RefusesStep (Ok d) e = e ≡ wide.Memory
+RefusesStep (Err f) e = e ≡ field_error f
 
 -- The same of a step that takes no memory.
 abbrev pub RefusesAlways : Result Draft DraftField → Error → Type 0
@@ -76,7 +76,7 @@ RefusesAlways (Err f) e = e ≡ field_error f
 -- The step was taken, or it was refused and nothing is changed.
 abbrev pub TakesStep : Step → Builder → Result Unit Error → Builder → Type 0
 TakesStep s b (Ok x) after = after_step s (draft_of b) ≡ Ok (draft_of after)
-TakesStep s b (Err e) after = (draft_of after ≡ draft_of b) × Refuses (after_step s (draft_of b)) e
+TakesStep s b (Err e) after = (draft_of after ≡ draft_of b) × RefusesStep (after_step s (draft_of b)) e
 
 -- The same of a step that takes no memory.
 abbrev pub TakesStepAlways : Step → Builder → Result Unit Error → Builder → Type 0
@@ -89,7 +89,7 @@ TakesStepAlways s b (Err e) after = (draft_of after ≡ draft_of b) × RefusesAl
 -- refused.
 abbrev pub Chains : Step → Builder → Result (MutBor Builder) Error → Type 0
 Chains s b (Ok r) = (after_step s (draft_of b) ≡ Ok (draft_of r.now)) × (given_key r.now ≡ given_key b)
-Chains s b (Err e) = Refuses (after_step s (draft_of b)) e
+Chains s b (Err e) = RefusesStep (after_step s (draft_of b)) e
 
 -- The same of a step that takes no memory.
 abbrev pub ChainsAlways : Step → Builder → Result (MutBor Builder) Error → Type 0
@@ -117,9 +117,9 @@ IsWindow valid_after valid_before (Ok w) = (bad_window valid_after valid_before 
 IsWindow valid_after valid_before (Err e) = option_map field_error (bad_window valid_after valid_before) ≡ Some e
 
 -- The draft is begun, unless a time is bad.
-abbrev pub Begins : Option DraftField → Draft → Result Builder Error → Type 0
-Begins bad d (Ok b) = (bad ≡ None) × (draft_of b ≡ d)
-Begins bad d (Err e) = option_map field_error bad ≡ Some e
+abbrev pub BeginsDraft : Option DraftField → Draft → Result Builder Error → Type 0
+BeginsDraft bad d (Ok b) = (bad ≡ None) × (draft_of b ≡ d)
+BeginsDraft bad d (Err e) = option_map field_error bad ≡ Some e
 
 -- The same of a call that takes memory.
 abbrev pub BeginsInMemory : Option DraftField → Draft → Result Builder Error → Type 0
@@ -129,8 +129,8 @@ BeginsInMemory bad d (Err e) = e ≢ wide.Memory → option_map field_error bad 
 -- ---- signed
 
 -- What a call may ask the signer to sign: the draft, where principals were named and it fits.
-abbrev pub MaySign : {S : Type 0} → (S → List ℕ → Type 0) → (S → KeyData) → S → Builder → Type 0
-MaySign permits public_of s b = IsSome (draft_of b).valid_principals → PermitsToSign (permits s) (drafted (draft_of b) (key_of (public_of s)))
+abbrev pub MaySignDraft : {S : Type 0} → (S → List ℕ → Type 0) → (S → KeyData) → S → Builder → Type 0
+MaySignDraft permits public_of s b = IsSome (draft_of b).valid_principals → PermitsToSign (permits s) (drafted (draft_of b) (key_of (public_of s)))
 
 -- It is valid exactly at the times from the first one on and before the second, for whoever has
 -- that fingerprint.

@@ -10,7 +10,7 @@ ghost use Rattle.sshkey_model.specs.Drafts.{Serial, Kind, KeyId, Comment, Princi
 ghost use Rattle.sshkey_cert_values.specs.CertTypes.{type_of};
 ghost use Rattle.sshkey_cert_values.specs.OptionMaps.{option_of};
 ghost use Rattle.sshkey_cert_values.specs.Times.{end_of, time_of};
-ghost use Rattle.sshkey_cert_builder.specs.Builders.{draft_of, IsWindow, Begins, BeginsInMemory, Chains, ChainsAlways, IsTheBuilder, StaysIfRefused, given_key};
+ghost use Rattle.sshkey_cert_builder.specs.Builders.{draft_of, IsWindow, BeginsDraft, BeginsInMemory, Chains, ChainsAlways, IsTheBuilder, StaysIfRefused, given_key};
 
 mod chain;
 mod set;
@@ -93,7 +93,7 @@ impl Builder {
         valid_after: u64,
         valid_before: u64,
     ) -> Result<Builder>
-        ensures begins { Begins (bad_window valid_after valid_before)
+        ensures begins { BeginsDraft (bad_window valid_after valid_before)
             (begun nonce.items (key_of public_key) valid_after valid_before) result }
         ensures key { IfOk result (λ b. given_key b ≡ public_key) }
     {
@@ -111,7 +111,7 @@ impl Builder {
         public_key: KeyData,
         valid_after: u64,
     ) -> Result<Builder>
-        ensures begins { Begins (bad_start valid_after)
+        ensures begins { BeginsDraft (bad_start valid_after)
             (begun nonce.items (key_of public_key) valid_after forever) result }
         ensures key { IfOk result (λ b. given_key b ≡ public_key) }
     {

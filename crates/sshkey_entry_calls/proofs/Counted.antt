@@ -3,14 +3,14 @@ use Rattle.std.proofs.Common.{◌≡◌, ◌≢◌, ◌+◌, ℕ, zero, suc, Lis
 use Rattle.sshkey_authorized_keys.specs.OpenSshItems.{key_option_of}
 use Rattle.sshkey_authorized_keys.specs.declared.openssh_option.OpenSshOption.{OpenSshOption}
 use Rattle.sshkey_entries.specs.OptionItems.{HasKeyOptions, KeyOption}
-use Rattle.sshkey_entry_calls.specs.Options.{FindsOption, IsNumbered, IsOptionOf, TellsOption, found_option}
+use Rattle.sshkey_entry_calls.specs.Options.{FindsKeyOption, IsNthOption, IsOptionOf, TellsOption, found_option}
 use Rattle.sshkey_entry_calls.specs.declared.options.OptionParts.{OptionParts}
 
 -- So many options were read, and of them it is the one of that number, or so many are still to be
 -- passed over.
 abbrev pub IsCounted : ℕ → List KeyOption → Option OpenSshOption → ℕ → Type 0
 IsCounted number options None passing = length options + passing ≡ number
-IsCounted number options (Some o) passing = IsNumbered number options (Some (key_option_of o))
+IsCounted number options (Some o) passing = IsNthOption number options (Some (key_option_of o))
 
 -- the same of these and one more
 pub counted : (number : ℕ) (options : List KeyOption) (found : Option OpenSshOption) (passing : ℕ) (o : OpenSshOption) (now : Option OpenSshOption) (left : ℕ) → IsCounted number options found passing → ((p : OpenSshOption) → found ≡ Some p → now ≡ found) → (found ≡ None → passing ≡ 0 → now ≡ Some o) → (found ≡ None → passing ≢ 0 → (now ≡ None) × (left + 1 ≡ passing)) → IsCounted number (options ++ (key_option_of o ∷ [])) now left
@@ -27,13 +27,13 @@ counted number options None (suc passing) o now left is before here later =
     rw l.0 (omega (arith, is, l.1, length-append options (key_option_of o ∷ [])))
 
 -- what was found among all of them
-pub numbered : (number : ℕ) (options : List KeyOption) (found : Option OpenSshOption) (passing : ℕ) → IsCounted number options found passing → IsNumbered number options (found_option found)
+pub numbered : (number : ℕ) (options : List KeyOption) (found : Option OpenSshOption) (passing : ℕ) → IsCounted number options found passing → IsNthOption number options (found_option found)
 numbered number options None passing is = omega (arith, is)
 numbered number options (Some o) passing is = is
 
 -- ---- the option of a number
 
-pub finds : (text : List ℕ) (number : ℕ) (found : Option KeyOption) (n : ℕ) (was answer : OptionParts) (before after : List ℕ) → IsOptionOf text number found → TellsOption found n was answer before after → FindsOption text number n was answer before after
+pub finds : (text : List ℕ) (number : ℕ) (found : Option KeyOption) (n : ℕ) (was answer : OptionParts) (before after : List ℕ) → IsOptionOf text number found → TellsOption found n was answer before after → FindsKeyOption text number n was answer before after
 finds text number (Some o) n was answer before after is tells = record {
   found = λ zero_. let g = tells.given zero_ in (g.0, subst (λ (x : KeyOption). IsOptionOf text number (Some x)) (sym g.1) is, g.2);
   short = λ two. let g = tells.short two in (g.0, subst (λ (x : KeyOption). IsOptionOf text number (Some x)) (sym g.1) is, g.2);
@@ -53,7 +53,7 @@ finds text number None n was answer before after is tells = record {
   stays = λ _ _. (tells.1, tells.2);
 }
 
-pub finds_none : (text : List ℕ) (number n : ℕ) (was answer : OptionParts) (before after : List ℕ) → (answer ≡ was) × (after ≡ before) → n ≡ 15 → (HasKeyOptions text → ⊥) → FindsOption text number n was answer before after
+pub finds_none : (text : List ℕ) (number n : ℕ) (was answer : OptionParts) (before after : List ℕ) → (answer ≡ was) × (after ≡ before) → n ≡ 15 → (HasKeyOptions text → ⊥) → FindsKeyOption text number n was answer before after
 finds_none text number n was answer before after same fifteen none = record {
   found = λ zero_. absurd (omega (arith, fifteen, zero_));
   short = λ two. absurd (omega (arith, fifteen, two));

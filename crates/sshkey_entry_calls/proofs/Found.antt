@@ -3,7 +3,7 @@ use Rattle.std.proofs.Common.{◌≡◌, ◌≢◌, ℕ, List, refl, subst}
 use Rattle.sshkey_base.specs.Causes.{NoMemory, cause}
 use Rattle.sshkey_base.specs.declared.error.Error.{Error}
 use Rattle.sshkey_calls.specs.Numbers.{error_number}
-use Rattle.sshkey_calls.specs.Rooms.{IsFront, LacksRoom}
+use Rattle.sshkey_calls.specs.Rooms.{IsAtFront, LacksRoom}
 use Rattle.sshkey_calls.proofs.Rooms.{none_given}
 use Rattle.sshkey_public.specs.PublicKeys.{comment_of, public_of}
 use Rattle.sshkey_public.specs.declared.public_key.PublicKey.{PublicKey}
@@ -17,7 +17,7 @@ same_text f g k l m n number was answer before after front key marker = subst (�
 -- It is that of the entry.
 pub found_entry : {A : Type 0} (IsEntry : A → Type 0) (text_of : A → EntryText) (a : A) (n : ℕ) (was answer : EntryParts) (before after : List ℕ) → IsEntry a → FindsEntry (λ x. x ≡ text_of a) (λ x. x) n was answer before after → FindsEntry IsEntry text_of n was answer before after
 found_entry IsEntry text_of a n was answer before after is found = record {
-  given = λ zero_. let w = found.given zero_ in (a, is, subst (λ (x : EntryText). IsFront (content_of x) (ArePlaced x answer) before after) w.1 w.2);
+  given = λ zero_. let w = found.given zero_ in (a, is, subst (λ (x : EntryText). IsAtFront (content_of x) (ArePlaced x answer) before after) w.1 w.2);
   short = λ two. let w = found.short two in (a, is, subst (λ (x : EntryText). LacksRoom (content_of x) answer.length before after) w.1 w.2);
   none = λ not_zero not_one not_two _ _. found.none not_zero not_one not_two (text_of a) refl;
   stays = found.stays;

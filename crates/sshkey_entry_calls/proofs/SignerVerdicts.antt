@@ -6,7 +6,7 @@ use Rattle.allowed_signers.specs.declared.signers.Refusal.{Refusal}
 use Rattle.allowed_signers.specs.declared.signers.Refusal.TheVariants.{Memory, NoSignature, NotAllowed, NotVerified, Revoked}
 use Rattle.sshkey_base.specs.Causes.{NoMemory, cause}
 use Rattle.sshkey_base.specs.declared.error.Error.{Error}
-use Rattle.sshkey_calls.specs.Validations.{is_yes}
+use Rattle.sshkey_calls.specs.Validations.{is_yes_number}
 use Rattle.sshkey_calls.proofs.Validations.{same_asking}
 use Rattle.sshkey_model.specs.SignedMessages.{signed_by}
 use Rattle.sshkey_model.specs.SshSignatures.{SshSignature}
@@ -39,29 +39,29 @@ module _ (accepts : Question → Bool) (revokes : List ℕ → Bool) (signers id
 -- ---- the verifier that says to every question what was said to the one
 
 module _ (accepts : Question → Bool) (bytes message : List ℕ) (is_verified : ℕ) (says : SaysOf accepts bytes message is_verified) where
-  same_answer : (f : SshSignature) → SpellsSshSignature f bytes → (o : Option Question) → question f.key (signed_by f message) f.signature ≡ o → model.is_yes (λ _. is_yes is_verified) o ≡ model.is_yes accepts o
+  same_answer : (f : SshSignature) → SpellsSshSignature f bytes → (o : Option Question) → question f.key (signed_by f message) f.signature ≡ o → model.is_yes (λ _. is_yes_number is_verified) o ≡ model.is_yes accepts o
   same_answer f spelled None e = refl
   same_answer f spelled (Some q) e = sym (says f spelled q e)
 
-  same : (f : SshSignature) → SpellsSshSignature f bytes → model.is_yes (λ _. is_yes is_verified) (question f.key (signed_by f []) f.signature) ≡ model.is_yes accepts (question f.key (signed_by f message) f.signature)
-  same f spelled = same_asking (is_yes is_verified) f.signature.algorithm f.key (signed_by f []) (signed_by f message) f.signature ∙ same_answer f spelled (question f.key (signed_by f message) f.signature) refl
+  same : (f : SshSignature) → SpellsSshSignature f bytes → model.is_yes (λ _. is_yes_number is_verified) (question f.key (signed_by f []) f.signature) ≡ model.is_yes accepts (question f.key (signed_by f message) f.signature)
+  same f spelled = same_asking (is_yes_number is_verified) f.signature.algorithm f.key (signed_by f []) (signed_by f message) f.signature ∙ same_answer f spelled (question f.key (signed_by f message) f.signature) refl
 
   module _ (namespace : List ℕ) (f : SshSignature) (spelled : SpellsSshSignature f bytes) where
-    there : HasSigned (λ _. is_yes is_verified) namespace [] f → HasSigned accepts namespace message f
+    there : HasSigned (λ _. is_yes_number is_verified) namespace [] f → HasSigned accepts namespace message f
     there has = record { verified = record { same_key = refl; same_namespace = has.verified.same_namespace; accepted = sym (same f spelled) ∙ has.verified.accepted }; nothing_reserved = has.nothing_reserved }
 
-    back : HasSigned accepts namespace message f → HasSigned (λ _. is_yes is_verified) namespace [] f
+    back : HasSigned accepts namespace message f → HasSigned (λ _. is_yes_number is_verified) namespace [] f
     back has = record { verified = record { same_key = refl; same_namespace = has.verified.same_namespace; accepted = same f spelled ∙ has.verified.accepted }; nothing_reserved = has.nothing_reserved }
 
   module _ (revokes : List ℕ → Bool) (signers identity namespace : List ℕ) (time : ℕ) where
-    why_there : (r : Refusal) → IsWhy (λ _. is_yes is_verified) revokes signers identity namespace [] time bytes r → IsWhy accepts revokes signers identity namespace message time bytes r
+    why_there : (r : Refusal) → IsWhy (λ _. is_yes_number is_verified) revokes signers identity namespace [] time bytes r → IsWhy accepts revokes signers identity namespace message time bytes r
     why_there NoSignature why = why
     why_there NotAllowed why = why
     why_there Revoked why = why
     why_there NotVerified why = (why.0, why.1, (why.2.0, why.2.1, λ has. why.2.2 (back namespace why.0 why.1 has)))
     why_there Memory why = why
 
-    pub judged_there : (n : ℕ) → IsJudged (λ _. is_yes is_verified) revokes signers identity namespace [] time bytes n → IsJudged accepts revokes signers identity namespace message time bytes n
+    pub judged_there : (n : ℕ) → IsJudged (λ _. is_yes_number is_verified) revokes signers identity namespace [] time bytes n → IsJudged accepts revokes signers identity namespace message time bytes n
     judged_there n is = record {
       counts = record {
         yes_ = λ zero_.
@@ -74,7 +74,7 @@ module _ (accepts : Question → Bool) (bytes message : List ℕ) (is_verified :
           (w.0, why_there w.0 w.1, w.2);
     }
 
-pub told : (signers identity namespace : List ℕ) (time : ℕ) (revoked : List ℕ) (is_verified : ℕ) (bytes : List ℕ) (n : ℕ) (b : Bool) → b ≡ is_yes is_verified → (n ≢ 1 → (read : Result RevokedKeys Error) × IsReadOf revoked read × IsJudged (λ _. b) (revokes_of read) signers identity namespace [] time bytes n) → TellsSigner signers identity namespace time revoked is_verified bytes n
+pub told : (signers identity namespace : List ℕ) (time : ℕ) (revoked : List ℕ) (is_verified : ℕ) (bytes : List ℕ) (n : ℕ) (b : Bool) → b ≡ is_yes_number is_verified → (n ≢ 1 → (read : Result RevokedKeys Error) × IsReadOf revoked read × IsJudged (λ _. b) (revokes_of read) signers identity namespace [] time bytes n) → TellsSigner signers identity namespace time revoked is_verified bytes n
 told signers identity namespace time revoked is_verified bytes n b same judged spelled not_memory =
     let j = judged not_memory in
     (j.0, j.1, λ accepts message says. judged_there accepts bytes message is_verified says (revokes_of j.0) signers identity namespace time n (subst (λ (y : Bool). IsJudged (λ _. y) (revokes_of j.0) signers identity namespace [] time bytes n) same j.2))

@@ -8,7 +8,7 @@ use Rattle.sshkey_entries.specs.KnownHosts.{CertAuthority, KnownHost, Marker, Re
 use Rattle.sshkey_model.specs.Keys.{Key, normal_key}
 use Rattle.sshkey_model.specs.Parts.{flat}
 use Rattle.sshkey_calls.specs.Numbers.{error_number}
-use Rattle.sshkey_calls.specs.Rooms.{Gives, IsPlaced}
+use Rattle.sshkey_calls.specs.Rooms.{GivesValue, IsPlaced}
 use Rattle.sshkey_entry_calls.specs.declared.entries.EntryParts.{EntryParts}
 
 -- what is told of an entry: what stands before the key, the key's normal form, the comment, and the
@@ -49,7 +49,7 @@ pub record ArePlaced (x : EntryText) (answer : EntryParts) : Type 0 where
 
 -- What a call answers that looks for an entry.
 abbrev pub FindsEntry : {A : Type 0} → (A → Type 0) → (A → EntryText) → ℕ → EntryParts → EntryParts → List ℕ → List ℕ → Type 0
-FindsEntry IsEntry text_of = Gives IsEntry (λ a. content_of (text_of a)) (λ a. ArePlaced (text_of a)) (λ (p : EntryParts). p.length)
+FindsEntry IsEntry text_of = GivesValue IsEntry (λ a. content_of (text_of a)) (λ a. ArePlaced (text_of a)) (λ (p : EntryParts). p.length)
 
 -- The number is that of an error that names a fault of the line; 0, 1 and 2 name none.
 abbrev pub TellsFault : (List ℕ → Error → Type 0) → List ℕ → ℕ → Type 0

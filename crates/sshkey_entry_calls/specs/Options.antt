@@ -5,17 +5,17 @@ use Rattle.sshkey_authorized_keys.specs.declared.openssh_option.OpenSshOption.{O
 use Rattle.sshkey_base.specs.declared.error.Error.{Error}
 use Rattle.sshkey_base.specs.declared.error.Error.TheVariants.{FormatEncoding}
 use Rattle.sshkey_entries.specs.OptionItems.{AreKeyOptions, HasKeyOptions, KeyOption}
-use Rattle.sshkey_calls.specs.Rooms.{Gives, IsFront, IsPlaced, LacksRoom}
+use Rattle.sshkey_calls.specs.Rooms.{GivesValue, IsAtFront, IsPlaced, LacksRoom}
 use Rattle.sshkey_entry_calls.specs.declared.options.OptionParts.{OptionParts}
 
 -- the option that so many stand before; or there are no more than so many
-abbrev pub IsNumbered : ℕ → List KeyOption → Option KeyOption → Type 0
-IsNumbered number options (Some o) = (before : List KeyOption) × (after : List KeyOption) × (options ≡ before ++ (o ∷ after)) × (length before ≡ number)
-IsNumbered number options None = length options ≤ number
+abbrev pub IsNthOption : ℕ → List KeyOption → Option KeyOption → Type 0
+IsNthOption number options (Some o) = (before : List KeyOption) × (after : List KeyOption) × (options ≡ before ++ (o ∷ after)) × (length before ≡ number)
+IsNthOption number options None = length options ≤ number
 
 -- The text is options, and of these it is the one of that number.
 abbrev pub IsOptionOf : List ℕ → ℕ → Option KeyOption → Type 0
-IsOptionOf text number o = (options : List KeyOption) × AreKeyOptions text options × IsNumbered number options o
+IsOptionOf text number o = (options : List KeyOption) × AreKeyOptions text options × IsNthOption number options o
 
 -- ---- in the room
 
@@ -40,13 +40,13 @@ pub record ArePlaced (o : KeyOption) (answer : OptionParts) : Type 0 where
 
 -- What a call answers that looks for the one option that `Wanted` tells.
 abbrev pub GivesOption : (KeyOption → Type 0) → ℕ → OptionParts → OptionParts → List ℕ → List ℕ → Type 0
-GivesOption Wanted = Gives Wanted option_bytes ArePlaced (λ (a : OptionParts). a.length)
+GivesOption Wanted = GivesValue Wanted option_bytes ArePlaced (λ (a : OptionParts). a.length)
 
 -- 0 and the option of that number, 2 where there is one, and the room is too short for it, 3 where
 -- there are no more, 15 where the text is no list of options; and 1 is memory, and only where there
 -- is one. But for 0 and 2, answer and room stay as they were.
-pub record FindsOption (text : List ℕ) (number n : ℕ) (was answer : OptionParts) (before after : List ℕ) : Type 0 where
-  pub found : n ≡ 0 → (o : KeyOption) × IsOptionOf text number (Some o) × IsFront (option_bytes o) (ArePlaced o answer) before after
+pub record FindsKeyOption (text : List ℕ) (number n : ℕ) (was answer : OptionParts) (before after : List ℕ) : Type 0 where
+  pub found : n ≡ 0 → (o : KeyOption) × IsOptionOf text number (Some o) × IsAtFront (option_bytes o) (ArePlaced o answer) before after
   pub short : n ≡ 2 → (o : KeyOption) × IsOptionOf text number (Some o) × LacksRoom (option_bytes o) answer.length before after
   pub memory : n ≡ 1 → (o : KeyOption) × IsOptionOf text number (Some o)
   pub last : n ≡ 3 → IsOptionOf text number None

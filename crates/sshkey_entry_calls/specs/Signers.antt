@@ -10,14 +10,14 @@ use Rattle.sshkey_base.specs.Causes.{NoMemory, cause}
 use Rattle.sshkey_base.specs.declared.encoding.Error.TheVariants.{CharacterEncoding}
 use Rattle.sshkey_base.specs.declared.error.Error.{Error}
 use Rattle.sshkey_base.specs.declared.error.Error.TheVariants.{Encoding}
-use Rattle.sshkey_calls.specs.Validations.{Says, is_yes}
+use Rattle.sshkey_calls.specs.Validations.{SaysWhether, is_yes_number}
 use Rattle.sshkey_krl.specs.Krls.{krl_format}
 use Rattle.sshkey_krl.specs.Revocations.{unless_read}
 use Rattle.sshkey_model.specs.Reading.{whole}
 use Rattle.sshkey_model.specs.SignedMessages.{signed_by}
 use Rattle.sshkey_model.specs.SshSignatures.{SshSignature}
 use Rattle.sshkey_model.specs.Verification.{Question, question}
-use Rattle.sshkey_revoked_keys.specs.RevokedKeys.{ReadsKrl, ReadsText, begins_krl, revokes_key}
+use Rattle.sshkey_revoked_keys.specs.RevokedKeys.{ReadsKrl, ReadsRevokedKeys, begins_krl, revokes_key}
 use Rattle.sshkey_revoked_keys.specs.declared.revoked_keys.RevokedKeys.{RevokedKeys}
 use Rattle.sshkey_sshsig.specs.SshSignatureReaders.{SpellsSshSignature}
 
@@ -35,7 +35,7 @@ verdict_number (Err Revoked) = 56
 pub record IsReadOf (file : List ℕ) (read : Result RevokedKeys Error) : Type 0 where
   pub list : begins_krl file ≡ true → ReadsKrl (whole krl_format.read file) file read
   pub no_text : begins_krl file ≡ false → is_utf8 file ≡ false → IsErrAnd read (λ e. e ≡ Encoding CharacterEncoding)
-  pub text : begins_krl file ≡ false → is_utf8 file ≡ true → ReadsText file read
+  pub text : begins_krl file ≡ false → is_utf8 file ≡ true → ReadsRevokedKeys file read
   pub some_memory : IfErr read (λ e. cause e ≢ NoMemory)
 
 -- which keys it revokes: all where it was not read
@@ -47,11 +47,11 @@ revokes_of read key = unless_read (λ it. revokes_key it key) read
 -- That verifier says so about the question of the signature that the bytes spell, as one of the
 -- message, if it raises one, and may say anything about all others.
 abbrev pub SaysOf : (Question → Bool) → List ℕ → List ℕ → ℕ → Type 0
-SaysOf accepts bytes message is_verified = (f : SshSignature) → SpellsSshSignature f bytes → (q : Question) → question f.key (signed_by f message) f.signature ≡ Some q → accepts q ≡ is_yes is_verified
+SaysOf accepts bytes message is_verified = (f : SshSignature) → SpellsSshSignature f bytes → (q : Question) → question f.key (signed_by f message) f.signature ≡ Some q → accepts q ≡ is_yes_number is_verified
 
 -- 0 says exactly that the signature counts, and another number what is wrong first; 1 is memory.
 pub record IsJudged (accepts : Question → Bool) (revokes : List ℕ → Bool) (signers identity namespace message : List ℕ) (time : ℕ) (bytes : List ℕ) (n : ℕ) : Type 0 where
-  pub counts : Says (HasSignature bytes (Counts accepts revokes signers identity namespace message time)) n
+  pub counts : SaysWhether (HasSignature bytes (Counts accepts revokes signers identity namespace message time)) n
   pub first : n ≢ 0 → n ≢ 1 → (r : Refusal) × IsWhy accepts revokes signers identity namespace message time bytes r × (n ≡ verdict_number (Err r))
 
 -- For bytes that spell a signature the number says this, memory aside, of each message of which the

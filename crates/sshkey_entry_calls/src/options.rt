@@ -5,7 +5,7 @@ ghost use Rattle.std.specs.Str.{IsUtf8};
 ghost use Rattle.sshkey_authorized_keys.specs.OpenSshItems.{key_option_of};
 ghost use Rattle.sshkey_authorized_keys.specs.declared.openssh_option.OpenSshOption.{OpenSshOption};
 ghost use Rattle.sshkey_calls.specs.Rooms.{IsLaidOut};
-ghost use Rattle.sshkey_entry_calls.specs.Options.{ArePlaced, FindsAt, FindsOption, TellsOption, found_option, option_bytes};
+ghost use Rattle.sshkey_entry_calls.specs.Options.{ArePlaced, FindsAt, FindsKeyOption, TellsOption, found_option, option_bytes};
 
 use sshkey_authorized_keys::{OpenSshOption, OpenSshOptionsIter};
 use sshkey_base::Result;
@@ -44,7 +44,7 @@ pub fn nth_option(
     room: &mut [u8],
     answer: &mut OptionParts,
 ) -> u32
-    ensures option { IsUtf8 options.now → FindsOption options.now number
+    ensures option { IsUtf8 options.now → FindsKeyOption options.now number
         result answer.old answer.new room.old room.new }
     ensures text { (IsUtf8 options.now → ⊥) → result ≡ 4 }
     ensures stays { result ≢ 0 → result ≢ 2
@@ -64,7 +64,7 @@ fn nth_option_of(
     room: &mut [u8],
     answer: &mut OptionParts,
 ) -> u32
-    ensures { FindsOption text.now number result answer.old answer.new room.old room.new }
+    ensures { FindsKeyOption text.now number result answer.old answer.new room.old room.new }
 {
     match option_at(text, number) {
         Ok(found) => tell(alloc, found, room, answer),

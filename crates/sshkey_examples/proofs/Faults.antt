@@ -7,7 +7,7 @@ use Rattle.ssh_key.specs.model.Reading.{Fault}
 use Rattle.ssh_key.specs.slices.Slices.{Keeps}
 use Rattle.ssh_key.specs.types.Error.{Error}
 use Rattle.ssh_key.specs.types.Error.TheVariants.{Memory}
-use Rattle.sshkey_examples.specs.Signed.{Answers}
+use Rattle.sshkey_examples.specs.Signed.{AnswersYesOrNo}
 
 -- a slice that is refused has the fault that was answered
 pub kept_fault : {X Y : Type 0} (bytes_of : X → List ℕ) (found : Result Y Fault) (blob : List ℕ) (e : Error) → Keeps {E = Error} bytes_of cause found blob (Err e) → IsErrAnd found (λ fault. cause e ≡ Faulty fault)
@@ -19,7 +19,7 @@ pub asked : {Needed : Type 0} (blob : List ℕ) (e : Error) → (cause e ≡ NoM
 asked blob e asks memory = asks (ap cause memory) refl
 
 -- a verdict is no fault of the blob
-pub no_fault : (P : Error → Type 0) (verdict : Result (Unit {0}) Error) (answer : Result Bool Error) → Answers verdict answer → IfErr answer (λ e. e ≢ Memory → P e)
+pub no_fault : (P : Error → Type 0) (verdict : Result (Unit {0}) Error) (answer : Result Bool Error) → AnswersYesOrNo verdict answer → IfErr answer (λ e. e ≢ Memory → P e)
 no_fault P (Ok x) answer is = rw is tt
 no_fault P (Err e) answer (inl memory) = rw memory.1 (λ other. absurd (other memory.0))
 no_fault P (Err e) answer (inr other) = rw other.1 tt

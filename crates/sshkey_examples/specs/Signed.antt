@@ -12,7 +12,7 @@ use Rattle.ssh_key.specs.keys.KeyFormats.{signature_format}
 use Rattle.ssh_key.specs.keys.SignatureReaders.{SpellsSignature}
 
 -- The blob spells a signature of the message that is accepted under the key.
-pub record IsSigned (accepts : Question → Bool) (key : Key) (message blob : List ℕ) : Type 0 where
+pub record SpellsAcceptedSignature (accepts : Question → Bool) (key : Key) (message blob : List ℕ) : Type 0 where
   pub signature : Signature
   pub spelled : SpellsSignature signature blob
   pub accepted : IsAccepted accepts key message signature
@@ -27,6 +27,6 @@ abbrev pub NeedsMemory : List ℕ → Type 0
 NeedsMemory blob = signature_format.needs blob 0 ⊎ SpellsSome SpellsSignature blob
 
 -- A verdict is a yes, and a refusal a no, unless memory was refused.
-abbrev pub Answers : Result (Unit {0}) Error → Result Bool Error → Type 0
-Answers (Ok _) answer = answer ≡ Ok true
-Answers (Err e) answer = ((e ≡ Memory) × (answer ≡ Err e)) ⊎ ((e ≢ Memory) × (answer ≡ Ok false))
+abbrev pub AnswersYesOrNo : Result (Unit {0}) Error → Result Bool Error → Type 0
+AnswersYesOrNo (Ok _) answer = answer ≡ Ok true
+AnswersYesOrNo (Err e) answer = ((e ≡ Memory) × (answer ≡ Err e)) ⊎ ((e ≢ Memory) × (answer ≡ Ok false))

@@ -5,7 +5,7 @@ ghost use Rattle.ssh_key.specs.keys.Keys.{key_of};
 ghost use Rattle.ssh_key.specs.keys.SignatureReaders.{SpellsSignature};
 ghost use Rattle.ssh_key.specs.base.Acceptance.{AcceptsExactly, SpellsSome};
 ghost use Rattle.ssh_key.specs.types.Error.TheVariants.{Memory};
-ghost use Rattle.sshkey_examples.specs.Signed.{Answers, HasFault, IsSigned, NeedsMemory};
+ghost use Rattle.sshkey_examples.specs.Signed.{AnswersYesOrNo, HasFault, NeedsMemory, SpellsAcceptedSignature};
 
 use ssh_key::laws::one_signature;
 use ssh_key::public::KeyData;
@@ -26,7 +26,7 @@ pub fn is_signed<V: RawVerifier>(
     verifier: &V,
 ) -> Result<bool>
     ensures answer { IfOk result (λ yes. IsTrue yes
-        ↔ IsSigned (V.accepts verifier.now) (key_of key.now) message.now blob.now) }
+        ↔ SpellsAcceptedSignature (V.accepts verifier.now) (key_of key.now) message.now blob.now) }
     ensures readable { AcceptsExactly (SpellsSome SpellsSignature blob.now) result }
     ensures fault { IfErr result (HasFault blob.now) }
     ensures memory { IfErr result (λ e. e ≡ Memory → NeedsMemory blob.now) }
@@ -38,7 +38,7 @@ pub fn is_signed<V: RawVerifier>(
 
 /// Yes or no, unless an allocation failed.
 fn answer_of(verdict: Result<()>) -> Result<bool>
-    ensures { Answers verdict result }
+    ensures { AnswersYesOrNo verdict result }
 {
     match verdict {
         Ok(()) => Ok(true),

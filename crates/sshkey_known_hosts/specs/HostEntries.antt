@@ -67,9 +67,9 @@ ReadsHashed text (Ok h) = IsHosts (hashed_mark ++ text) (hosts_of h)
 ReadsHashed text (Err e) = RefusesHosts (hashed_mark ++ text) e
 
 -- The word is the bytes in Base64. `Base64` where it is that of none, and else only out of memory.
-abbrev pub ReadsWord : {Z : Type 0} → List ℕ → Result (Vec ℕ Z) Error → Type 0
-ReadsWord word (Ok v) = (word ≡ encode_of standard v.items) × IsBytes v.items
-ReadsWord word (Err e) = (e ≡ Memory) ⊎ ((e ≡ Encoding Base64) × IsNoBase64 word)
+abbrev pub ReadsBase64 : {Z : Type 0} → List ℕ → Result (Vec ℕ Z) Error → Type 0
+ReadsBase64 word (Ok v) = (word ≡ encode_of standard v.items) × IsBytes v.items
+ReadsBase64 word (Err e) = (e ≡ Memory) ⊎ ((e ≡ Encoding Base64) × IsNoBase64 word)
 
 -- ---- writing
 

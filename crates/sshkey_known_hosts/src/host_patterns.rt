@@ -7,7 +7,7 @@ ghost use Rattle.sshkey_entries.specs.HostNames.{AreFor, known_name};
 ghost use Rattle.sshkey_entries.specs.KnownHosts.{IsHosts, comma, hosts_text};
 ghost use Rattle.sshkey_entries.specs.Answers.{ReadsEntry};
 ghost use Rattle.sshkey_public.specs.OneLine.{IsOneLine};
-ghost use Rattle.sshkey_known_hosts.specs.HostEntries.{hosts_of, ReadsHashed, ReadsPatterns, ReadsWord};
+ghost use Rattle.sshkey_known_hosts.specs.HostEntries.{hosts_of, ReadsHashed, ReadsPatterns, ReadsBase64};
 ghost use Rattle.sshkey_known_hosts.specs.HostFaults.{RefusesHosts};
 
 use crate::hmac_sha1::HmacSha1;
@@ -176,7 +176,7 @@ impl HostPatterns {
 
 /// The bytes of a word in padded Base64, of which each has one word only.
 fn decode_word(alloc: Global, word: &str) -> Result<Vec<u8>>
-    ensures { ReadsWord word.now result }
+    ensures { ReadsBase64 word.now result }
 {
     match STANDARD.decode(alloc, word.as_bytes()) {
         Ok(bytes) => Ok(bytes),

@@ -17,7 +17,7 @@ use Rattle.sshkey_model.specs.Parts.{flat}
 use Rattle.sshkey_model.specs.Names.{Algorithm}
 use Rattle.sshkey_model.specs.Reading.{Fault}
 use Rattle.sshkey_public.specs.Lines.{IsWordOf}
-use Rattle.sshkey_revoked_keys.specs.NamedWords.{HasKeyFault, NeedsKey, SaysKey}
+use Rattle.sshkey_revoked_keys.specs.NamedWords.{HasNamedFault, NeedsKey, SaysKey}
 
 pub one_value : {V : Type 0} (Spells : V → List ℕ → Type 0) → IsBlob Spells → (word : List ℕ) (v w : V) → IsWordOf Spells word v → IsWordOf Spells word w → v ≡ w
 one_value Spells blobs word v w a b =
@@ -30,7 +30,7 @@ module _ (certified : Bool) (first word normal : List ℕ) (says : SaysKey certi
   key_reads (Ok v) is memory = subst (SaysKey certified first word) (sym is) says
   key_reads (Err e) is memory = λ other. absurd (other (ap cause memory))
 
-  pub key_refuses : (r : Result (Vec ℕ Z) Error) → IfErr r (λ e. e ≡ Memory) → RefusesFor (HasKeyFault certified first) word r
+  pub key_refuses : (r : Result (Vec ℕ Z) Error) → IfErr r (λ e. e ≡ Memory) → RefusesFor (HasNamedFault certified first) word r
   key_refuses (Ok v) memory = tt
   key_refuses (Err e) memory = λ other. absurd (other (ap cause memory))
 

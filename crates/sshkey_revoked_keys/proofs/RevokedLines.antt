@@ -10,20 +10,20 @@ use Rattle.sshkey_entries.specs.Fields.{without_blanks}
 use Rattle.sshkey_entries.proofs.FieldKeys.{fields_are}
 use Rattle.sshkey_entries.proofs.Fields.{same_field}
 use Rattle.sshkey_revoked_keys.proofs.NamedWords.{no_key, one_said}
-use Rattle.sshkey_revoked_keys.specs.NamedWords.{HasKeyFault, NeedsKey, SaysKey}
-use Rattle.sshkey_revoked_keys.specs.RevokedLines.{BeginsWith, HasLineFault, NeedsEntry, RevokesKey, is_certified_name}
+use Rattle.sshkey_revoked_keys.specs.NamedWords.{HasNamedFault, NeedsKey, SaysKey}
+use Rattle.sshkey_revoked_keys.specs.RevokedLines.{BeginsWithWord, HasLineFault, NeedsEntry, RevokesKey, is_certified_name}
 
-pub begins : (line name behind skipped field rest word : List ℕ) → CutsField line name behind → skipped ≡ without_blanks behind → CutsField skipped field rest → word ≡ strip_carriage_return field → BeginsWith line name word
+pub begins : (line name behind skipped field rest word : List ℕ) → CutsField line name behind → skipped ≡ without_blanks behind → CutsField skipped field rest → word ≡ strip_carriage_return field → BeginsWithWord line name word
 begins line name behind skipped field rest word first skips second is = record { field = field; rest = rest; fields = fields_are line name behind skipped field rest first skips second; word_is = is }
 
 -- A line begins with one name and one word.
-one_begin : (line n w m v : List ℕ) → BeginsWith line n w → BeginsWith line m v → (n ≡ m) × (w ≡ v)
+one_begin : (line n w m v : List ℕ) → BeginsWithWord line n w → BeginsWithWord line m v → (n ≡ m) × (w ≡ v)
 one_begin line n w m v a b =
     let names = same_field n m a.fields.behind b.fields.behind a.fields.first.one_word b.fields.first.one_word a.fields.first.ends b.fields.first.ends (sym a.fields.first.is ∙ b.fields.first.is) in
     let words = same_field a.field b.field a.rest b.rest a.fields.second.one_word b.fields.second.one_word a.fields.second.ends b.fields.second.ends (sym a.fields.second.is ∙ ap without_blanks names.1 ∙ b.fields.second.is) in
     (names.0, a.word_is ∙ ap strip_carriage_return words.0 ∙ sym b.word_is)
 
-module _ (line name word : List ℕ) (begin : BeginsWith line name word) where
+module _ (line name word : List ℕ) (begin : BeginsWithWord line name word) where
   said_here : (key : List ℕ) → RevokesKey line key → SaysKey (is_certified_name name) name word key
   said_here key r =
       let same = one_begin line r.name r.word name word r.begins begin in
@@ -52,13 +52,13 @@ module _ (line name word : List ℕ) (begin : BeginsWith line name word) where
     line_reads (Ok v) says = record { name = name; word = word; begins = begin; says = subst (λ (b : Bool). SaysKey b name word v.items) (sym is) says }
     line_reads (Err e) none = λ other key r. none other key (subst (λ (b : Bool). SaysKey b name word key) is (said_here key r))
 
-    pub line_refuses : (r : Result (Vec ℕ Z) Error) → 0 < length word → RefusesFor (HasKeyFault certified name) word r → RefusesFor HasLineFault line r
+    pub line_refuses : (r : Result (Vec ℕ Z) Error) → 0 < length word → RefusesFor (HasNamedFault certified name) word r → RefusesFor HasLineFault line r
     line_refuses (Ok v) some fault = tt
     line_refuses (Err e) some fault = λ other. record {
       no_word = λ n b. absurd (omega (arith, some, ap length (one_begin line n [] name word b begin).1));
       no_key = λ n w b _.
           let same = one_begin line name word n w begin b in
-          subst (λ (m : List ℕ). HasKeyFault (is_certified_name m) m w e) same.0 (subst (λ (v : List ℕ). HasKeyFault (is_certified_name name) name v e) same.1 (subst (λ (b : Bool). HasKeyFault b name word e) (sym is) (fault other)));
+          subst (λ (m : List ℕ). HasNamedFault (is_certified_name m) m w e) same.0 (subst (λ (v : List ℕ). HasNamedFault (is_certified_name name) name v e) same.1 (subst (λ (b : Bool). HasNamedFault b name word e) (sym is) (fault other)));
     }
 
     pub line_asks : (r : Result (Vec ℕ Z) Error) → AsksEntry (NeedsKey certified name) word r → AsksEntry NeedsEntry line r

@@ -31,14 +31,14 @@ abbrev pub SaysKey : Bool → List ℕ → List ℕ → List ℕ → Type 0
 SaysKey true first word key = (c : Certificate) × IsNamedWord name_of_certificate SpellsCertificate first word c × (key ≡ flat (normal_key c.signed.key))
 SaysKey false first word key = (k : Key) × IsNamedWord key_name SpellsKey first word k × (key ≡ flat (normal_key k))
 
-abbrev pub HasKeyFault : Bool → List ℕ → List ℕ → Error → Type 0
-HasKeyFault true = HasNameFault certificate_format name_of_certificate SpellsCertificate
-HasKeyFault false = HasNameFault key_format key_name SpellsKey
+abbrev pub HasNamedFault : Bool → List ℕ → List ℕ → Error → Type 0
+HasNamedFault true = HasNameFault certificate_format name_of_certificate SpellsCertificate
+HasNamedFault false = HasNameFault key_format key_name SpellsKey
 
 -- Its bytes need memory, or it is a key.
-abbrev pub NeedsBytes : Bool → List ℕ → Type 0
-NeedsBytes true = NeedsWord certificate_format
-NeedsBytes false = NeedsWord key_format
+abbrev pub NeedsNamedBytes : Bool → List ℕ → Type 0
+NeedsNamedBytes true = NeedsWord certificate_format
+NeedsNamedBytes false = NeedsWord key_format
 
 abbrev pub NeedsKey : Bool → List ℕ → List ℕ → Type 0
-NeedsKey certified first word = ((key : List ℕ) × SaysKey certified first word key) ⊎ NeedsBytes certified word
+NeedsKey certified first word = ((key : List ℕ) × SaysKey certified first word key) ⊎ NeedsNamedBytes certified word

@@ -57,9 +57,9 @@ ReadsKrl (Ok k) bytes r = IsOkAnd r (IsKrl bytes)
 ReadsKrl (Err fault) bytes r = IsErrAnd r (λ e. cause e ≡ Faulty fault)
 
 -- the keys of all lines; or the first line that revokes none has that fault
-abbrev pub ReadsText : List ℕ → Result RevokedKeys Error → Type 0
-ReadsText text (Ok file) = AreKeys text file
-ReadsText text (Err e) = cause e ≢ NoMemory → FirstIsNone {X = Vec ℕ Global} (λ key. key.items) RevokesKey HasLineFault (revoked_lines text) e
+abbrev pub ReadsRevokedKeys : List ℕ → Result RevokedKeys Error → Type 0
+ReadsRevokedKeys text (Ok file) = AreKeys text file
+ReadsRevokedKeys text (Err e) = cause e ≢ NoMemory → FirstIsNone {X = Vec ℕ Global} (λ key. key.items) RevokesKey HasLineFault (revoked_lines text) e
 
 -- Memory was refused only where the first line revokes a key, or needs memory itself.
 abbrev pub AsksText : List ℕ → Result RevokedKeys Error → Type 0

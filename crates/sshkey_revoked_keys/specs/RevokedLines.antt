@@ -9,7 +9,7 @@ use Rattle.sshkey_base.specs.declared.error.Error.TheVariants.{Encoding}
 use Rattle.sshkey_entries.specs.Fields.{is_filled, without_blanks}
 use Rattle.sshkey_entries.specs.KeyFields.{AreFields}
 use Rattle.sshkey_model.specs.CertificateNames.{certified_from}
-use Rattle.sshkey_revoked_keys.specs.NamedWords.{HasKeyFault, NeedsBytes, SaysKey}
+use Rattle.sshkey_revoked_keys.specs.NamedWords.{HasNamedFault, NeedsNamedBytes, SaysKey}
 
 abbrev pub is_line_feed : ℕ → Bool
 is_line_feed c = c == 10
@@ -21,7 +21,7 @@ revoked_lines text = filter is_filled (map without_blanks (slice_split is_line_f
 
 -- The line begins with the name and the word, with blanks between. A carriage return at the end of
 -- its second field is not part of the word.
-pub record BeginsWith (line name word : List ℕ) : Type 0 where
+pub record BeginsWithWord (line name word : List ℕ) : Type 0 where
   pub field : List ℕ
   pub rest : List ℕ
   pub fields : AreFields line name field rest
@@ -35,22 +35,22 @@ is_certified_name name = is_ok (certified_from name)
 pub record RevokesKey (line key : List ℕ) : Type 0 where
   pub name : List ℕ
   pub word : List ℕ
-  pub begins : BeginsWith line name word
+  pub begins : BeginsWithWord line name word
   pub says : SaysKey (is_certified_name name) name word key
 
 -- ---- refusals
 
 -- `Length` where the word is missing, and else the fault of the word or the name
 pub record HasLineFault (line : List ℕ) (e : Error) : Type 0 where
-  pub no_word : (name : List ℕ) → BeginsWith line name [] → e ≡ Encoding Length
-  pub no_key : (name word : List ℕ) → BeginsWith line name word → 0 < length word → HasKeyFault (is_certified_name name) name word e
+  pub no_word : (name : List ℕ) → BeginsWithWord line name [] → e ≡ Encoding Length
+  pub no_key : (name word : List ℕ) → BeginsWithWord line name word → 0 < length word → HasNamedFault (is_certified_name name) name word e
 
 -- The bytes of the word need memory.
 pub record NeedsLine (line : List ℕ) : Type 0 where
   pub name : List ℕ
   pub word : List ℕ
-  pub begins : BeginsWith line name word
-  pub needed : NeedsBytes (is_certified_name name) word
+  pub begins : BeginsWithWord line name word
+  pub needed : NeedsNamedBytes (is_certified_name name) word
 
 -- Reading the line needs memory: it revokes a key, or its word needs some.
 abbrev pub NeedsEntry : List ℕ → Type 0

@@ -8,7 +8,7 @@ ghost use Rattle.sshkey_entries.specs.Fields.{is_filled};
 ghost use Rattle.sshkey_keys.specs.Keys.{key_of};
 ghost use Rattle.sshkey_model.specs.Keys.{normal_key};
 ghost use Rattle.sshkey_model.specs.Parts.{flat};
-ghost use Rattle.sshkey_revoked_keys.specs.NamedWords.{HasKeyFault, NeedsKey, SaysKey};
+ghost use Rattle.sshkey_revoked_keys.specs.NamedWords.{HasNamedFault, NeedsKey, SaysKey};
 ghost use Rattle.sshkey_revoked_keys.specs.RevokedLines.{HasLineFault, NeedsEntry, NeedsLine, RevokesKey, is_certified_name, revoked_lines};
 
 use crate::named_word::read_named;
@@ -96,7 +96,7 @@ fn names_certificate(name: &str) -> bool
 /// The normal form of the key in a certificate.
 fn read_certified_key(alloc: Global, name: &str, word: &str) -> Result<Vec<u8>>
     ensures reads { ReadsEntry (λ key. key.items) (SaysKey true name.now) word.now result }
-    ensures fault { RefusesFor (HasKeyFault true name.now) word.now result }
+    ensures fault { RefusesFor (HasNamedFault true name.now) word.now result }
     ensures asks { AsksEntry (NeedsKey true name.now) word.now result }
 {
     let certificate = read_named::<Certificate>(alloc, name, word)?;
@@ -106,7 +106,7 @@ fn read_certified_key(alloc: Global, name: &str, word: &str) -> Result<Vec<u8>>
 /// The normal form of a key.
 fn read_key(alloc: Global, name: &str, word: &str) -> Result<Vec<u8>>
     ensures reads { ReadsEntry (λ key. key.items) (SaysKey false name.now) word.now result }
-    ensures fault { RefusesFor (HasKeyFault false name.now) word.now result }
+    ensures fault { RefusesFor (HasNamedFault false name.now) word.now result }
     ensures asks { AsksEntry (NeedsKey false name.now) word.now result }
 {
     let key = read_named::<KeyData>(alloc, name, word)?;

@@ -7,7 +7,7 @@ ghost use Rattle.sshkey_base.specs.declared.error.Error.TheVariants.{Encoding};
 ghost use Rattle.sshkey_krl.specs.Krls.{krl_format};
 ghost use Rattle.sshkey_model.specs.Reading.{whole};
 ghost use Rattle.sshkey_revoked_keys.specs.RevokedKeys as file;
-ghost use Rattle.sshkey_revoked_keys.specs.RevokedKeys.{AsksText, ReadsKrl, ReadsText, begins_krl, has_key};
+ghost use Rattle.sshkey_revoked_keys.specs.RevokedKeys.{AsksText, ReadsKrl, ReadsRevokedKeys, begins_krl, has_key};
 
 use crate::line::read_lines;
 use sshkey_base::{Error, Result, encoding};
@@ -55,7 +55,7 @@ impl<'a> RevokedKeys<'a> {
         ensures no_text { begins_krl bytes.now ≡ false → is_utf8 bytes.now ≡ false →
             IsErrAnd result (λ e. e ≡ Encoding CharacterEncoding) }
         ensures text { begins_krl bytes.now ≡ false → is_utf8 bytes.now ≡ true →
-            ReadsText bytes.now result }
+            ReadsRevokedKeys bytes.now result }
         ensures asks { begins_krl bytes.now ≡ false → AsksText bytes.now result }
     {
         if bytes.starts_with(MAGIC) {

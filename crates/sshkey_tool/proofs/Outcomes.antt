@@ -17,7 +17,7 @@ use Rattle.sshkey_model.proofs.NormalKeysFit.{normal_boxes}
 use Rattle.sshkey_public.specs.PublicKeys.{public_of, comment_of}
 use Rattle.sshkey_public.specs.declared.public_key.PublicKey.{PublicKey}
 use Rattle.sshkey_tool.specs.Outcomes.{ShowsCertificate, ShowsKey, ShowsText, WritesOutcome, WritesRefusal, WritesEntries, entries_status}
-use Rattle.sshkey_tool.specs.Table.{Shown, Partly, Refused, Asks, FindsCommand, IsCutShort, IsOfLine, IsOfNoLine, IsPartly, IsRefused, IsShown, IsShownPartly, Runs, ShowsFile, texts}
+use Rattle.sshkey_tool.specs.Table.{Shown, Partly, Refused, AreCommandWords, FindsCommand, IsCutShort, IsOfLine, IsOfNoLine, IsPartly, IsRefusedInput, IsShown, IsShownPartly, Runs, ShowsFile, texts}
 use Rattle.sshkey_tool.specs.declared.command.Command.{Command}
 use Rattle.sshkey_tool.specs.declared.command.Command.TheVariants as commands
 use Rattle.sshkey_tool.specs.declared.command.EntryFile.{EntryFile}
@@ -75,11 +75,11 @@ partly_of_input : (c : Command) (known : Option (List ℕ)) (text : List ℕ) (s
 partly_of_input c None text shown is h = tt
 partly_of_input c (Some bytes) text shown is h = (is.0, subst (λ (t : List ℕ). IsPartly c t shown) is.1 h)
 
-refused_of_input : (c : Command) (known : Option (List ℕ)) (text : List ℕ) → IfSome known (λ bytes. IsUtf8 bytes × (text ≡ bytes)) → IsOfNoLine c text → IfSome known (IsRefused c)
+refused_of_input : (c : Command) (known : Option (List ℕ)) (text : List ℕ) → IfSome known (λ bytes. IsUtf8 bytes × (text ≡ bytes)) → IsOfNoLine c text → IfSome known (IsRefusedInput c)
 refused_of_input c None text is h = tt
 refused_of_input c (Some bytes) text is h = λ _. subst (IsOfNoLine c) is.1 h
 
-no_text : (c : Command) (known : Option (List ℕ)) → IsNoText known → IfSome known (IsRefused c)
+no_text : (c : Command) (known : Option (List ℕ)) → IsNoText known → IfSome known (IsRefusedInput c)
 no_text c None none = tt
 no_text c (Some bytes) none = λ utf8. absurd (none utf8)
 
@@ -89,27 +89,27 @@ cut_of_input file (Some bytes) text old new status is h = (is.0, subst (λ (t : 
 
 -- ---- runs
 
-refusal_runs : (words : List (List ℕ)) (c : Command) (input old new : Option (List ℕ)) (status : ℕ) (e : Error) → Asks words c → IsMachineFault e ⊎ IfSome input (IsRefused c) → WritesRefusal e old new status → Runs words input old new status
+refusal_runs : (words : List (List ℕ)) (c : Command) (input old new : Option (List ℕ)) (status : ℕ) (e : Error) → AreCommandWords words c → IsMachineFault e ⊎ IfSome input (IsRefusedInput c) → WritesRefusal e old new status → Runs words input old new status
 refusal_runs words c input old new status e asks h w = elim w [
   | inl it ↦ elim h [ inl fault ↦ absurd (it.0 fault) | inr none ↦ inl (Refused it.1.0, (it.1.1, (c, asks, none)), it.1.2) ]
   | inr fault ↦ inr (inl ((c, asks), fault))
 ]
 
 -- the input is no text, or could not be read
-pub unread_runs : (words : List (List ℕ)) (c : Command) (input old new : Option (List ℕ)) (status : ℕ) (e : Error) → Asks words c → IsMachineFault e ⊎ ((e ≡ wide.Encoding encoding.CharacterEncoding) × IsNoText input) → WritesRefusal e old new status → Runs words input old new status
+pub unread_runs : (words : List (List ℕ)) (c : Command) (input old new : Option (List ℕ)) (status : ℕ) (e : Error) → AreCommandWords words c → IsMachineFault e ⊎ ((e ≡ wide.Encoding encoding.CharacterEncoding) × IsNoText input) → WritesRefusal e old new status → Runs words input old new status
 unread_runs words c input old new status e asks h w = refusal_runs words c input old new status e asks (elim h [ inl fault ↦ inl fault | inr none ↦ inr (no_text c input none.1) ]) w
 
 -- what stands in a line
-pub line_runs : {Z : Type 0} (words : List (List ℕ)) (c : Command) (input old new : Option (List ℕ)) (status : ℕ) (text : List ℕ) (r : Result (String Z) Error) → Asks words c → IfSome input (λ bytes. IsUtf8 bytes × (text ≡ bytes)) → ShowsText c text r → WritesOutcome r old new status → Runs words input old new status
+pub line_runs : {Z : Type 0} (words : List (List ℕ)) (c : Command) (input old new : Option (List ℕ)) (status : ℕ) (text : List ℕ) (r : Result (String Z) Error) → AreCommandWords words c → IfSome input (λ bytes. IsUtf8 bytes × (text ≡ bytes)) → ShowsText c text r → WritesOutcome r old new status → Runs words input old new status
 line_runs words c input old new status text (Ok s) asks is h w = inl (Shown (string_bytes s), (c, asks, shown_of_input c input text (string_bytes s) is h), w)
 line_runs words c input old new status text (Err e) asks is h w = refusal_runs words c input old new status e asks (elim h [ inl fault ↦ inl fault | inr none ↦ inr (refused_of_input c input text is none) ]) w
 
-whole_runs : (words : List (List ℕ)) (file : EntryFile) (input old new : Option (List ℕ)) (status : ℕ) (text shown : List ℕ) (refused : Bool) → Asks words (commands.Entries file) → IfSome input (λ bytes. IsUtf8 bytes × (text ≡ bytes)) → ShowsFile file text shown refused → Appends old new shown → status ≡ entries_status refused → Runs words input old new status
+whole_runs : (words : List (List ℕ)) (file : EntryFile) (input old new : Option (List ℕ)) (status : ℕ) (text shown : List ℕ) (refused : Bool) → AreCommandWords words (commands.Entries file) → IfSome input (λ bytes. IsUtf8 bytes × (text ≡ bytes)) → ShowsFile file text shown refused → Appends old new shown → status ≡ entries_status refused → Runs words input old new status
 whole_runs words file input old new status text shown false asks is h w e = inl (Shown shown, (commands.Entries file, asks, shown_of_input (commands.Entries file) input text shown is h), inl (w, e))
 whole_runs words file input old new status text shown true asks is h w e = inl (Partly shown, (commands.Entries file, asks, partly_of_input (commands.Entries file) input text shown is h), inl (w, e))
 
 -- a file
-pub file_runs : (words : List (List ℕ)) (file : EntryFile) (input old new : Option (List ℕ)) (status : ℕ) (text : List ℕ) → Asks words (commands.Entries file) → IfSome input (λ bytes. IsUtf8 bytes × (text ≡ bytes)) → WritesEntries file text old new status → Runs words input old new status
+pub file_runs : (words : List (List ℕ)) (file : EntryFile) (input old new : Option (List ℕ)) (status : ℕ) (text : List ℕ) → AreCommandWords words (commands.Entries file) → IfSome input (λ bytes. IsUtf8 bytes × (text ≡ bytes)) → WritesEntries file text old new status → Runs words input old new status
 file_runs words file input old new status text asks is w = elim w [
   | inl all ↦ whole_runs words file input old new status text all.shown all.refused asks is all.shows all.written all.is
   | inr cut ↦ (let known = cut_of_input file input text old new status is cut in inr (inr (file, asks, known.0, known.1)))

@@ -19,9 +19,9 @@ use Rattle.sshkey_entries.specs.KnownHosts.{KnownHost, IsKnownHost, known_text}
 use Rattle.sshkey_entries.specs.MadeTexts.{MakesEntry}
 use Rattle.sshkey_entries.proofs.AnswerLists.{answered_more}
 use Rattle.sshkey_tool.specs.EntryLines.{ShowsEntries, ShowsEntry, ShowsFirst}
-use Rattle.sshkey_tool.specs.Faults.{IsBegun, Writes, WritesLine}
+use Rattle.sshkey_tool.specs.Faults.{IsBegun, WritesWhole, WritesWithStatus}
 use Rattle.sshkey_tool.specs.Lines.{in_lines, line_end, refusal_line}
-use Rattle.sshkey_tool.specs.Outcomes.{PushesEntry, RefusesBehind, WritesEntry, WritesEntryOf, WritesEntries, WritesFile, entries_status}
+use Rattle.sshkey_tool.specs.Outcomes.{PushesEntry, RefusesBehind, WritesEntry, WritesEntryOf, WritesEntries, WritesAllEntries, entries_status}
 use Rattle.sshkey_tool.specs.Table.{AreFirstLines, IsRefusalLine, ShowsFile, ShowsFileEntry, ShowsFileFirst}
 use Rattle.sshkey_tool.specs.declared.command.EntryFile.{EntryFile}
 use Rattle.sshkey_tool.specs.declared.command.EntryFile.TheVariants.{AuthorizedKeys, KnownHosts}
@@ -156,7 +156,7 @@ writes_kept file text left kept old now new status h w = record {
 so_far : (file : EntryFile) (text : List ℕ) (left : List (List ℕ)) (kept : List ℕ) (old now new : Option (List ℕ)) (status : ℕ) (h : WrittenSoFar file text left old now kept status) → Appends now new kept → Appends old new h.shown
 so_far file text left kept old now new status h w = subst (Appends old new) (sym h.behind) (Appends-trans old now new h.front kept h.written w)
 
-written_all : (file : EntryFile) (text kept : List ℕ) (left : List (List ℕ)) (old now new : Option (List ℕ)) (status : ℕ) → WrittenSoFar file text left old now kept status → left ≡ [] → Appends now new kept → WritesFile file text old new status
+written_all : (file : EntryFile) (text kept : List ℕ) (left : List (List ℕ)) (old now new : Option (List ℕ)) (status : ℕ) → WrittenSoFar file text left old now kept status → left ≡ [] → Appends now new kept → WritesAllEntries file text old new status
 written_all file text kept left old now new status h none w = record {
   shown = h.shown;
   refused = h.refused;
@@ -165,12 +165,12 @@ written_all file text kept left old now new status h none w = record {
   is = h.is;
 }
 
-pub whole_line : (old new : Option (List ℕ)) (bytes line : List ℕ) (whole : Bool) → whole ≡ true → bytes ≡ line → WritesLine old new bytes whole → Appends old new line
+pub whole_line : (old new : Option (List ℕ)) (bytes line : List ℕ) (whole : Bool) → whole ≡ true → bytes ≡ line → WritesWhole old new bytes whole → Appends old new line
 whole_line old new bytes line whole is same w = subst (Appends old new) same (rw is at w)
 
 -- ---- the output fails
 
-pub begun_line : (old new : Option (List ℕ)) (bytes line : List ℕ) (whole : Bool) → whole ≡ false → bytes ≡ line → WritesLine old new bytes whole → IsBegun old new line
+pub begun_line : (old new : Option (List ℕ)) (bytes line : List ℕ) (whole : Bool) → whole ≡ false → bytes ≡ line → WritesWhole old new bytes whole → IsBegun old new line
 begun_line old new bytes line whole is same w = subst (IsBegun old new) same (rw is at w)
 
 -- a beginning of the second text, and so of both
@@ -268,9 +268,9 @@ cut_lines file text left kept old now new before status h begun one =
     })
 
 -- what is kept is written last
-pub all_written : (file : EntryFile) (text kept : List ℕ) (left : List (List ℕ)) (old now new : Option (List ℕ)) (before status : ℕ) → WrittenSoFar file text left old now kept before → left ≡ [] → Writes now new kept before status → WritesEntries file text old new status
+pub all_written : (file : EntryFile) (text kept : List ℕ) (left : List (List ℕ)) (old now new : Option (List ℕ)) (before status : ℕ) → WrittenSoFar file text left old now kept before → left ≡ [] → WritesWithStatus now new kept before status → WritesEntries file text old new status
 all_written file text kept left old now new before status h none w = elim w [
-  | inl all ↦ inl (subst (WritesFile file text old new) (sym all.1) (written_all file text kept left old now new before h none all.0))
+  | inl all ↦ inl (subst (WritesAllEntries file text old new) (sym all.1) (written_all file text kept left old now new before h none all.0))
   | inr begun ↦ cut_lines file text left kept old now new before status h begun.0 begun.1
 ]
 

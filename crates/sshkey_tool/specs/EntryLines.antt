@@ -2,13 +2,13 @@
 use Rattle.std.specs.Prelude.{◌≡◌, ℕ, List, ◌++◌, map, Bool, true, false}
 use Rattle.std.specs.List.{AllZip, list_any}
 use Rattle.sshkey_entries.specs.Entries.{entries, IsNoEntry}
-use Rattle.sshkey_tool.specs.Lines.{IsOneLine, in_lines, refusal_line}
+use Rattle.sshkey_tool.specs.Lines.{HasNoLineEnd, in_lines, refusal_line}
 
 -- The text of the entry; or that it is refused, and a reason of one line. The second half says
 -- whether it is.
 abbrev pub ShowsEntry : {Y : Type 0} → (List ℕ → Y → Type 0) → (Y → List ℕ) → List ℕ → List ℕ × Bool → Type 0
 ShowsEntry {Y} IsEntry text_of entry (line, false) = (y : Y) × IsEntry entry y × (line ≡ text_of y)
-ShowsEntry IsEntry text_of entry (line, true) = IsNoEntry IsEntry entry × ((why : List ℕ) × IsOneLine why × (line ≡ refusal_line why))
+ShowsEntry IsEntry text_of entry (line, true) = IsNoEntry IsEntry entry × ((why : List ℕ) × HasNoLineEnd why × (line ≡ refusal_line why))
 
 -- A line for each of the entries, in order, and whether one of them is refused.
 pub record ShowsEntries {Y : Type 0} (IsEntry : List ℕ → Y → Type 0) (text_of : Y → List ℕ) (given : List (List ℕ)) (shown : List ℕ) (refused : Bool) : Type 0 where

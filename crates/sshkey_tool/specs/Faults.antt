@@ -7,11 +7,11 @@ abbrev pub IsBegun : Option (List ℕ) → Option (List ℕ) → List ℕ → Ty
 IsBegun old new line = (count : ℕ) × (count < length line) × Appends old new (take count line)
 
 -- whether the line was written whole
-abbrev pub WritesLine : Option (List ℕ) → Option (List ℕ) → List ℕ → Bool → Type 0
-WritesLine old new line true = Appends old new line
-WritesLine old new line false = IsBegun old new line
+abbrev pub WritesWhole : Option (List ℕ) → Option (List ℕ) → List ℕ → Bool → Type 0
+WritesWhole old new line true = Appends old new line
+WritesWhole old new line false = IsBegun old new line
 
 -- A line is written whole with its status, or only a beginning of it is written and the status is
 -- 1.
-abbrev pub Writes : Option (List ℕ) → Option (List ℕ) → List ℕ → ℕ → ℕ → Type 0
-Writes old new line wanted status = (Appends old new line × (status ≡ wanted)) ⊎ (IsBegun old new line × (status ≡ 1))
+abbrev pub WritesWithStatus : Option (List ℕ) → Option (List ℕ) → List ℕ → ℕ → ℕ → Type 0
+WritesWithStatus old new line wanted status = (Appends old new line × (status ≡ wanted)) ⊎ (IsBegun old new line × (status ≡ 1))

@@ -11,8 +11,8 @@ abbrev pub line_end : List ℕ
 line_end = 10 ∷ []
 
 -- a text of one line: no byte of it is a line end
-abbrev pub IsOneLine : List ℕ → Type 0
-IsOneLine text = (i : ℕ) → i < length text → get_or text i 0 ≢ 10
+abbrev pub HasNoLineEnd : List ℕ → Type 0
+HasNoLineEnd text = (i : ℕ) → i < length text → get_or text i 0 ≢ 10
 
 -- what says that something is refused, and why
 abbrev pub refusal_line : List ℕ → List ℕ

@@ -16,8 +16,8 @@ use Rattle.sshkey_entries.specs.KnownHosts.{IsKnownHost, known_text}
 use Rattle.sshkey_entries.specs.Entries.{IsNoEntry}
 use Rattle.sshkey_public.specs.PublicKeys.{public_of, comment_of}
 use Rattle.sshkey_public.specs.declared.public_key.PublicKey.{PublicKey}
-use Rattle.sshkey_tool.specs.Faults.{IsBegun, Writes}
-use Rattle.sshkey_tool.specs.Lines.{IsCertificateText, IsOneLine, line_end}
+use Rattle.sshkey_tool.specs.Faults.{IsBegun, WritesWithStatus}
+use Rattle.sshkey_tool.specs.Lines.{HasNoLineEnd, IsCertificateText, line_end}
 use Rattle.sshkey_tool.specs.Table.{Refused, answer_line, key_text, WritesFault, IsCutShort, IsOfLine, IsOfNoLine, IsRefusalLine, ShowsFile, ShowsFileEntry}
 use Rattle.sshkey_tool.specs.declared.command.Command.{Command}
 use Rattle.sshkey_tool.specs.declared.command.EntryFile.{EntryFile}
@@ -81,7 +81,7 @@ entries_status false = 0
 entries_status true = 1
 
 -- The lines of all entries of the text are written, with their status.
-pub record WritesFile (file : EntryFile) (text : List ℕ) (old new : Option (List ℕ)) (status : ℕ) : Type 0 where
+pub record WritesAllEntries (file : EntryFile) (text : List ℕ) (old new : Option (List ℕ)) (status : ℕ) : Type 0 where
   pub shown : List ℕ
   pub refused : Bool
   pub shows : ShowsFile file text shown refused
@@ -90,13 +90,13 @@ pub record WritesFile (file : EntryFile) (text : List ℕ) (old new : Option (Li
 
 -- So it is, or the machine failed before their end.
 abbrev pub WritesEntries : EntryFile → List ℕ → Option (List ℕ) → Option (List ℕ) → ℕ → Type 0
-WritesEntries file text old new status = WritesFile file text old new status ⊎ IsCutShort file (Some text) old new status
+WritesEntries file text old new status = WritesAllEntries file text old new status ⊎ IsCutShort file (Some text) old new status
 
 -- ---- any output
 
 -- A reason of one line is written with status 1, or in its place that the machine failed.
 abbrev pub WritesRefusal : Error → Option (List ℕ) → Option (List ℕ) → ℕ → Type 0
-WritesRefusal e old new status = ((IsMachineFault e → ⊥) × ((why : List ℕ) × IsOneLine why × Writes old new (answer_line (Refused why)) 1 status)) ⊎ WritesFault old new status
+WritesRefusal e old new status = ((IsMachineFault e → ⊥) × ((why : List ℕ) × HasNoLineEnd why × WritesWithStatus old new (answer_line (Refused why)) 1 status)) ⊎ WritesFault old new status
 
 -- The lines are written whole, and then a refusal; or a beginning of them with status 1.
 abbrev pub RefusesBehind : Error → Option (List ℕ) → Option (List ℕ) → List ℕ → ℕ → Type 0
@@ -105,5 +105,5 @@ RefusesBehind e old new lines status =
 
 -- What is shown is written with status 0, or why nothing is.
 abbrev pub WritesOutcome : {Z : Type 0} → Result (String Z) Error → Option (List ℕ) → Option (List ℕ) → ℕ → Type 0
-WritesOutcome (Ok s) old new status = Writes old new (string_bytes s) 0 status
+WritesOutcome (Ok s) old new status = WritesWithStatus old new (string_bytes s) 0 status
 WritesOutcome (Err e) old new status = WritesRefusal e old new status

@@ -14,9 +14,9 @@ use Rattle.sshkey_entries.specs.AuthorizedKeys.{IsAuthorizedKey, authorized_text
 use Rattle.sshkey_entries.specs.Entries.{entries}
 use Rattle.sshkey_entries.specs.KnownHosts.{IsKnownHost, known_text}
 use Rattle.sshkey_keys.specs.Keys.{SpellsKey}
-use Rattle.sshkey_tool.specs.Faults.{IsBegun, Writes}
+use Rattle.sshkey_tool.specs.Faults.{IsBegun, WritesWithStatus}
 use Rattle.sshkey_tool.specs.EntryLines.{ShowsEntries, ShowsEntry, ShowsFirst}
-use Rattle.sshkey_tool.specs.Lines.{line_end, IsCertificateText, IsOneLine, refusal_line}
+use Rattle.sshkey_tool.specs.Lines.{line_end, IsCertificateText, HasNoLineEnd, refusal_line}
 use Rattle.sshkey_tool.specs.declared.command.Command.{Command}
 use Rattle.sshkey_tool.specs.declared.command.Command.TheVariants as commands
 use Rattle.sshkey_tool.specs.declared.command.EntryFile.{EntryFile}
@@ -91,8 +91,8 @@ abbrev pub IsShownPartly : Command → List ℕ → List ℕ → Type 0
 IsShownPartly c text bytes = IsUtf8 bytes × IsPartly c bytes text
 
 -- The bytes are no text, or a line of nothing that is asked for.
-abbrev pub IsRefused : Command → List ℕ → Type 0
-IsRefused c bytes = IsUtf8 bytes → IsOfNoLine c bytes
+abbrev pub IsRefusedInput : Command → List ℕ → Type 0
+IsRefusedInput c bytes = IsUtf8 bytes → IsOfNoLine c bytes
 
 -- ---- the answers
 
@@ -115,22 +115,22 @@ status_of (Refused why) = 1
 
 -- ---- the table
 
-abbrev pub Asks : List (List ℕ) → Command → Type 0
-Asks words c = words ≡ command_words c
+abbrev pub AreCommandWords : List (List ℕ) → Command → Type 0
+AreCommandWords words c = words ≡ command_words c
 
 abbrev pub IsNoCommand : List (List ℕ) → Type 0
-IsNoCommand words = (c : Command) → Asks words c → ⊥
+IsNoCommand words = (c : Command) → AreCommandWords words c → ⊥
 
 -- the command that the words ask for, or none where they are no command's
 abbrev pub FindsCommand : List (List ℕ) → Option Command → Type 0
-FindsCommand words found = MatchOption found (IsNoCommand words) (Asks words)
+FindsCommand words found = MatchOption found (IsNoCommand words) (AreCommandWords words)
 
 -- An input is known where the reader tells its bytes. A reason is one line.
 abbrev pub IsAnswer : List (List ℕ) → Option (List ℕ) → Answer → Type 0
 IsAnswer words input Usage = IsNoCommand words
-IsAnswer words input (Shown text) = (c : Command) × Asks words c × IfSome input (IsShown c text)
-IsAnswer words input (Partly text) = (c : Command) × Asks words c × IfSome input (IsShownPartly c text)
-IsAnswer words input (Refused why) = IsOneLine why × ((c : Command) × Asks words c × IfSome input (IsRefused c))
+IsAnswer words input (Shown text) = (c : Command) × AreCommandWords words c × IfSome input (IsShown c text)
+IsAnswer words input (Partly text) = (c : Command) × AreCommandWords words c × IfSome input (IsShownPartly c text)
+IsAnswer words input (Refused why) = HasNoLineEnd why × ((c : Command) × AreCommandWords words c × IfSome input (IsRefusedInput c))
 
 -- in place of the table's line: there was no memory, or the input could not be read
 abbrev pub IsFaultLine : List ℕ → Type 0
@@ -138,7 +138,7 @@ IsFaultLine line = (line ≡ answer_line (Refused (codes "out of memory"))) ⊎ 
 
 -- that line, with status 1
 abbrev pub WritesFault : Option (List ℕ) → Option (List ℕ) → ℕ → Type 0
-WritesFault old new status = (line : List ℕ) × IsFaultLine line × Writes old new line 1 status
+WritesFault old new status = (line : List ℕ) × IsFaultLine line × WritesWithStatus old new line 1 status
 
 -- These are the lines of the first entries of the bytes, before those that are left.
 abbrev pub AreFirstLines : EntryFile → List (List ℕ) → List ℕ → List ℕ → Type 0
@@ -167,14 +167,14 @@ pub record IsCutShort (file : EntryFile) (input old new : Option (List ℕ)) (st
 -- written as it is made.
 abbrev pub Runs : List (List ℕ) → Option (List ℕ) → Option (List ℕ) → Option (List ℕ) → ℕ → Type 0
 Runs words input old new status =
-    ((a : Answer) × IsAnswer words input a × Writes old new (answer_line a) (status_of a) status)
-    ⊎ (((c : Command) × Asks words c) × WritesFault old new status)
-    ⊎ ((file : EntryFile) × Asks words (commands.Entries file) × IfSome input IsUtf8 × IsCutShort file input old new status)
+    ((a : Answer) × IsAnswer words input a × WritesWithStatus old new (answer_line a) (status_of a) status)
+    ⊎ (((c : Command) × AreCommandWords words c) × WritesFault old new status)
+    ⊎ ((file : EntryFile) × AreCommandWords words (commands.Entries file) × IfSome input IsUtf8 × IsCutShort file input old new status)
 
 -- an error's line, one line alone
 abbrev pub IsRefusalLine : List ℕ → Type 0
-IsRefusalLine line = (why : List ℕ) × IsOneLine why × (line ≡ answer_line (Refused why))
+IsRefusalLine line = (why : List ℕ) × HasNoLineEnd why × (line ≡ answer_line (Refused why))
 
 -- what stands before the first line end, or all where there is none
 abbrev pub IsFirstLine : List ℕ → List ℕ → Type 0
-IsFirstLine text line = IsOneLine line × ((text ≡ line) ⊎ ((rest : List ℕ) × (text ≡ line ++ (10 ∷ rest))))
+IsFirstLine text line = HasNoLineEnd line × ((text ≡ line) ⊎ ((rest : List ℕ) × (text ≡ line ++ (10 ∷ rest))))

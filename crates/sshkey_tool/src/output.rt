@@ -1,6 +1,6 @@
 //! Writing the output.
 
-ghost use Rattle.sshkey_tool.specs.Faults.{WritesLine, Writes};
+ghost use Rattle.sshkey_tool.specs.Faults.{WritesWhole, WritesWithStatus};
 
 use std::io::{ErrorKind, Write};
 
@@ -9,7 +9,7 @@ const MOST_WRITES: u64 = 0x1_0000_0000;
 
 /// Writes a line whole, or a beginning of it, and says whether it is whole.
 pub(crate) fn is_written<W: Write>(output: &mut W, line: &[u8]) -> bool
-    ensures { WritesLine (W.contents output.old) (W.contents output.new) line.now result }
+    ensures { WritesWhole (W.contents output.old) (W.contents output.new) line.now result }
 {
     let mut written = 0;
     'writes: for _ in 0..MOST_WRITES {
@@ -30,7 +30,8 @@ pub(crate) fn is_written<W: Write>(output: &mut W, line: &[u8]) -> bool
 
 /// Writes a line, and answers its status; the status is 1 where it could not be written whole.
 pub(crate) fn write_line<W: Write>(output: &mut W, line: &[u8], status: u8) -> u8
-    ensures { Writes (W.contents output.old) (W.contents output.new) line.now status result }
+    ensures { WritesWithStatus (W.contents output.old) (W.contents output.new) line.now status
+        result }
 {
     if is_written(output, line) { status } else { 1 }
 }

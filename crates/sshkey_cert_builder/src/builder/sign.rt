@@ -5,7 +5,7 @@ ghost use Rattle.sshkey_keys.specs.Keys.{key_of, stored_algorithm};
 ghost use Rattle.sshkey_model.specs.Drafts.{IsSignedDraft, drafted, or_default};
 ghost use Rattle.sshkey_model.specs.Fingerprints.{fingerprint};
 ghost use Rattle.sshkey_model.specs.Names.{Sha256};
-ghost use Rattle.sshkey_cert_builder.specs.Builders.{IsValidExactlyIn, MaySign, draft_of, given_key, no_principals};
+ghost use Rattle.sshkey_cert_builder.specs.Builders.{IsValidExactlyIn, MaySignDraft, draft_of, given_key, no_principals};
 ghost use Rattle.sshkey_cert_fields.specs.ToBeSignedValues.{to_be_signed_of};
 ghost use Rattle.sshkey_cert.specs.CertificateValues.{certificate_of, certified_key_of, comment_of};
 ghost use Rattle.sshkey_cert.specs.Signing.{RefusesToSign};
@@ -37,7 +37,7 @@ impl Builder {
     /// `Length` if the bytes to be signed do not fit. In these cases the signer is not asked. Any
     /// other failure is `Memory` or the signer's own error.
     pub fn sign<S: SigningKey>(self, alloc: Global, signing_key: &S) -> Result<Certificate>
-        requires permits { MaySign S.permits S.public_of signing_key.now self }
+        requires permits { MaySignDraft S.permits S.public_of signing_key.now self }
         ensures unnamed { IsNone (draft_of self).valid_principals → result ≡ Err no_principals }
         ensures signed { IfOk result (λ c. IsSignedDraft (S.Raw.accepts (S.raw_of signing_key.now))
             (key_of (S.public_of signing_key.now)) (draft_of self) (certificate_of c)) }

@@ -1,12 +1,12 @@
 use Rattle.std.proofs.Common.{◌≡◌, true}
 use Rattle.sshkey_keys.specs.Keys.{key_of}
-use Rattle.allowed_signers.specs.AllowedSigners.{Allows}
+use Rattle.allowed_signers.specs.AllowedSigners.{AllowsSigner}
 use Rattle.allowed_signers.proofs.Decisions.{line_decides, never, no_front, not_listed}
 use Rattle.allowed_signers.proofs.signers.allows.Goals as goal
 
 pub returns-then-not-is_read_text-clause-answer : goal.returns-then-not-is_read_text-clause-answer
 returns-then-not-is_read_text-clause-answer c =
-    never (Allows c.args.identity.now c.args.namespace.now c.args.unix_timestamp (key_of c.args.key.now) c.args.line.now)
+    never (AllowsSigner c.args.identity.now c.args.namespace.now c.args.unix_timestamp (key_of c.args.key.now) c.args.line.now)
     (λ is. let yes : c.is_read_text.result ≡ true = c.is_read_text.ensures.1 is.no_zero in absurd cc)
 
 pub returns-in_default-clause-answer : goal.returns-in_default-clause-answer

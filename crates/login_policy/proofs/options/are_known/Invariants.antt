@@ -1,6 +1,6 @@
 use Rattle.std.proofs.Common.{map}
 use Rattle.ssh_key.specs.options.OptionMaps.{option_of, options_of}
-use Rattle.login_policy.specs.KnownOptions.{IsKnown}
+use Rattle.login_policy.specs.KnownOptions.{IsKnownOption}
 use Rattle.login_policy.proofs.KnownOptions.{Decides}
 use Rattle.login_policy.proofs.options.are_known.Given as goal
 
@@ -9,4 +9,4 @@ abbrev pub invariant-loop-name : goal.invariant-loop-name
 invariant-loop-name l =
     (goal.iterator-loop-name).can_next l.name-iterator ×
     (goal.iterator-loop-name).is_finite l.name-iterator ×
-    Decides IsKnown (options_of l.fn.options) (map option_of l.name-iterator)
+    Decides IsKnownOption (options_of l.fn.options) (map option_of l.name-iterator)

@@ -1,6 +1,6 @@
 use Rattle.std.proofs.Common.{◌∙◌, arith, refl, sym}
 use Rattle.sshkey_cert_fields.specs.ToBeSignedValues.{to_be_signed_of}
-use Rattle.sshkey_calls.specs.Drafts.{Tells, draft_fault, parts_fault}
+use Rattle.sshkey_calls.specs.Drafts.{TellsFields, draft_fault, parts_fault}
 use Rattle.sshkey_calls.proofs.DraftNumbers.{first_three, last_three, no_fault_told, no_value, number_told, only_asked}
 use Rattle.sshkey_calls.proofs.Drafts.{to_be_signed_told}
 use Rattle.sshkey_calls.proofs.Rooms.{none_given}
@@ -20,7 +20,7 @@ returns-in-Ok-clause-memory c _ = let f = to_be_signed_of c.in-Ok.fields in (f.k
 
 pub returns-in-Err-clause-written : goal.returns-in-Err-clause-written
 returns-in-Err-clause-written c =
-    let none = no_value (Tells c.args.draft.now) _ c.in-Err.number (no_fault_told c.args.draft.now) c.in-Err.ensures.fields in
+    let none = no_value (TellsFields c.args.draft.now) _ c.in-Err.number (no_fault_told c.args.draft.now) c.in-Err.ensures.fields in
     none_given _ _ _ _ _ (refl, refl) none.0 none.1 (λ not_memory s is. none.2 not_memory is.0 is.1)
 
 pub returns-in-Err-clause-numbers : goal.returns-in-Err-clause-numbers

@@ -1,7 +1,7 @@
 use Rattle.std.proofs.Common.{◌≡◌, true, false, inl, inr, refl, ◌∙◌, subst, List, ℕ}
 use Rattle.std.specs.Prelude.{string_bytes}
 use Rattle.sshkey_tool.specs.Outcomes.{RefusesBehind}
-use Rattle.sshkey_tool.specs.Faults.{Writes}
+use Rattle.sshkey_tool.specs.Faults.{WritesWithStatus}
 use Rattle.sshkey_tool.proofs.ShownEntries.{IsMoreStatus, nothing_written, keeps_more, writes_kept, whole_line, begun_line, all_written, cut_lines, cut_entries}
 use Rattle.sshkey_tool.proofs.entries.write_entries.Goals as goal
 use Rattle.sshkey_tool.proofs.entries.write_entries.Goals.{then-refused, else-refused}
@@ -40,4 +40,4 @@ loop-entry-preserved g c =
 
 pub returns : goal.returns
 returns g c = all_written c.args.file c.args.text.now (string_bytes c.loop-entry.lines) c.loop-entry.entry-iterator _ (g.W.Write.contents c.loop-entry.output) _ c.loop-entry.status c.write_line.result c.loop-entry.invariant.2 c.in-None.ensures.steps.0
-    (subst (λ (l : List ℕ). Writes (g.W.Write.contents c.loop-entry.output) (g.W.Write.contents c.write_line.new.output) l c.loop-entry.status c.write_line.result) c.as_bytes-2.ensures.value c.write_line.ensures)
+    (subst (λ (l : List ℕ). WritesWithStatus (g.W.Write.contents c.loop-entry.output) (g.W.Write.contents c.write_line.new.output) l c.loop-entry.status c.write_line.result) c.as_bytes-2.ensures.value c.write_line.ensures)

@@ -3,7 +3,7 @@ use Rattle.std.specs.Prelude.{slice_index}
 use Rattle.sshkey_authorized_keys.specs.OpenSshItems.{YieldsOption, key_option_of}
 use Rattle.sshkey_entries.specs.KnownHosts.{comma}
 use Rattle.allowed_signers.specs.OneValue.{IsTheOne}
-use Rattle.allowed_signers.specs.SignerOptions.{AddsOption, AreInOrder, terms_of}
+use Rattle.allowed_signers.specs.SignerOptions.{AddsOption, AreTimesInOrder, terms_of}
 use Rattle.allowed_signers.specs.declared.options.SignerOptions.{SignerOptions}
 use Rattle.allowed_signers.proofs.ReadOptions.{adds_nothing, no_options, nothing_more, said_all, said_before, said_later}
 use Rattle.allowed_signers.proofs.options.SignerOptions.read.Goals as goal
@@ -33,7 +33,7 @@ returns-in_default-added c = λ y are.
 pub returns-then-not-are_in_order : goal.returns-then-not-are_in_order
 returns-then-not-are_in_order c = λ y are.
     let same = nothing_more c.loop-option.option-iterator (terms_of c.loop-option.said) c.in-None.ensures.steps.0 y (c.loop-option.invariant.3 y (are.options, are.are, are.say)) in
-    let yes : c.are_in_order.result ≡ true = c.are_in_order.ensures.1 (subst AreInOrder same are.in_order) in
+    let yes : c.are_in_order.result ≡ true = c.are_in_order.ensures.1 (subst AreTimesInOrder same are.in_order) in
     absurd cc
 
 pub returns : goal.returns

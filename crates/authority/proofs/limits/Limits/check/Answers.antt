@@ -3,7 +3,7 @@ use Rattle.std.specs.Prelude.{string_bytes}
 use Rattle.ssh_key.specs.keys.Keys.{key_of}
 use Rattle.ssh_key.specs.model.Lines.{IsWithout}
 use Rattle.authority.specs.CertifiedKeys.{IsCertifiable}
-use Rattle.authority.specs.Requests.{AreAllowed, ArePermitted, HasRoom, OtherExtensions, OtherKey, OtherKeyId, OtherUsers, OtherWindow}
+use Rattle.authority.specs.Requests.{AreAllowed, ArePermitted, HasAllowedWindow, OtherExtensions, OtherKey, OtherKeyId, OtherUsers, OtherWindow}
 use Rattle.authority.proofs.Lists.{each_allowed, without_zero}
 use Rattle.authority.proofs.limits.Limits.check.Goals as goal
 
@@ -47,7 +47,7 @@ returns-then-not-allows_window c =
     let key_id = rw c.as_str.ensures.value at ((without_zero c.as_str.result.now).0 (sym c.is_without_zero.ensures ∙ c.if-not-is_without_zero.false)) in
     let names = rw c.deref.ensures.value at (c.allows_principals.ensures.0 c.if-not-allows_principals.false) in
     let extensions = rw (c.deref-2.ensures.value, c.deref-3.ensures.value) at ((each_allowed c.deref-3.result.now c.deref-2.result.now c.allows_each.result c.allows_each.ensures).0 c.if-not-allows_each.false) in
-    let none : HasRoom c.args.self.now c.args.unix_timestamp c.args.request.now → ⊥ = λ room.
+    let none : HasAllowedWindow c.args.self.now c.args.unix_timestamp c.args.request.now → ⊥ = λ room.
     let yes : c.allows_window.result ≡ true = c.allows_window.ensures.1 room in
     absurd cc in
     record { exactly = λ other within. none within.window; refused = OtherWindow key key_id names extensions none }
