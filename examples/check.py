@@ -78,8 +78,10 @@ FLAGS = {
     "no-touch-required", "permit-X11-forwarding", "permit-agent-forwarding", "permit-port-forwarding", "permit-pty",
     "permit-user-rc",
 }  # fmt: skip
-# how many principals sshd reads
+# how many principals OpenSSH reads
 MOST_PRINCIPALS = 256
+# what a security key begins with; its last string is the application (PROTOCOL.u2f)
+SECURITY_KEYS = (sshkey.string("sk-ssh-ed25519@openssh.com"), sshkey.string("sk-ecdsa-sha2-nistp256@openssh.com"))
 # the letters of the ASCII, and no others, have two cases in names of hosts
 SMALL = str.maketrans(string.ascii_uppercase, string.ascii_lowercase)
 ECDSA = {
@@ -160,10 +162,12 @@ def is_value(name: str, value: str) -> bool:
     return name != "verify-required" or value == ""
 
 
-def is_readable(contents: sshkey.Contents) -> bool:
-    """Whether sshd reads the texts and the principals: it reads up to 256 of these, and no byte 0 within one, in the key id or in
-    the name of an extension."""
-    texts = (contents.key_id, *contents.principals, *contents.extensions)
+def is_readable(contents: sshkey.Contents, *texts: str) -> bool:
+    """Whether OpenSSH reads the principals and the texts: it reads up to 256 of these, and no byte 0 within one, in a text, in the
+    key id or in the application of a security key."""
+    if contents.key.startswith(SECURITY_KEYS) and 0 in sshkey.strings(contents.key)[-1]:
+        return False
+    texts += (contents.key_id, *contents.principals)
     return len(contents.principals) <= MOST_PRINCIPALS and not any("\0" in it for it in texts)
 
 
@@ -192,7 +196,7 @@ def validate_user(
         return Refusal.UNMET_OPTION
     if any(contents.extensions.get(it) for it in FLAGS):
         return Refusal.FLAG_DATA
-    if not is_readable(contents):
+    if not is_readable(contents, *contents.extensions):  # their names, which sshd reads too
         return Refusal.UNREADABLE
     try:
         return Status.DONE if sshkey.normal_key(key) == contents.key else Refusal.OTHER_KEY
@@ -222,6 +226,8 @@ def validate_host(
         return Refusal.NOT_FOR_HOSTS
     if fields.has_critical_options:
         return Refusal.UNMET_OPTION
+    if not is_readable(contents):
+        return Refusal.UNREADABLE
     # of bytes these are the ASCII letters
     name = host.lower() if isinstance(host, bytes) else host.translate(SMALL)
     return judge(certificate, now, name, {sshkey.fingerprint(contents.authority)}, krl)

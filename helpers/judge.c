@@ -190,7 +190,7 @@ static bool is_name_without_zero(const uint8_t *name, size_t name_length, const 
   return is_without_zero(name, name_length);
 }
 
-/* SSHKEY_DONE where sshd reads the principals: up to 256 of them, and no byte of one is 0. */
+/* SSHKEY_DONE where OpenSSH reads the principals: up to 256 of them, and no byte of one is 0. */
 static uint32_t judge_principals(const uint8_t *principals, size_t length) {
   sshkey_part name;
   uint32_t answer;
@@ -204,8 +204,34 @@ static uint32_t judge_principals(const uint8_t *principals, size_t length) {
   return answer == SSHKEY_END ? SSHKEY_DONE : answer;
 }
 
-/* SSHKEY_DONE where each critical option is met, and sshd reads extensions, key id and
- * principals. */
+/* SSHKEY_DONE where no byte is 0 of the application, if a security key is certified: it stands
+ * behind type, nonce and the other parts of the key (PROTOCOL.certkeys, PROTOCOL.u2f). */
+static uint32_t judge_application(judge_blob certificate) {
+  sshkey_part part = {0, 0};
+  size_t last = 0;
+  for (size_t at = 0; at <= last; at++) {
+    uint32_t answer = sshkey_next_string(certificate.bytes, certificate.length,
+                                         part.start + part.length, &part);
+    if (answer != SSHKEY_DONE) return answer;
+    if (at) continue;
+    const uint8_t *type = certificate.bytes + part.start;
+    if (is_text(type, part.length, "sk-ssh-ed25519-cert-v01@openssh.com")) last = 3;
+    if (is_text(type, part.length, "sk-ecdsa-sha2-nistp256-cert-v01@openssh.com")) last = 4;
+  }
+  bool is_read = !last || is_without_zero(certificate.bytes + part.start, part.length);
+  return is_read ? SSHKEY_DONE : JUDGE_UNREADABLE;
+}
+
+/* SSHKEY_DONE where OpenSSH reads key id, principals and application. */
+static uint32_t judge_texts(judge_blob certificate, const sshkey_parts *parts) {
+  if (!is_without_zero(certificate.bytes + parts->key_id.start, parts->key_id.length))
+    return JUDGE_UNREADABLE;
+  uint32_t answer =
+      judge_principals(certificate.bytes + parts->principals.start, parts->principals.length);
+  return answer == SSHKEY_DONE ? judge_application(certificate) : answer;
+}
+
+/* SSHKEY_DONE where each critical option is met, and sshd reads extensions and texts. */
 static uint32_t judge_lists(judge_blob certificate, const judge_login *asked) {
   sshkey_parts parts;
   memset(&parts, 0, sizeof parts);
@@ -221,10 +247,7 @@ static uint32_t judge_lists(judge_blob certificate, const judge_login *asked) {
     answer = judge_list(names, extensions.length, is_empty_if_flag, NULL, JUDGE_FLAG_DATA);
   if (answer == SSHKEY_DONE)
     answer = judge_list(names, extensions.length, is_name_without_zero, NULL, JUDGE_UNREADABLE);
-  if (answer != SSHKEY_DONE) return answer;
-  if (!is_without_zero(certificate.bytes + parts.key_id.start, parts.key_id.length))
-    return JUDGE_UNREADABLE;
-  return judge_principals(certificate.bytes + parts.principals.start, parts.principals.length);
+  return answer == SSHKEY_DONE ? judge_texts(certificate, &parts) : answer;
 }
 
 /* SSHKEY_DONE where the key is the certificate's own: the digests of their normal forms are the
@@ -341,7 +364,9 @@ uint32_t judge_validate_host(judge_blob certificate, const judge_host *asked) {
   if (answer != SSHKEY_DONE) return answer;
   if (fields.certificate_type != SSHKEY_HOST) return JUDGE_NOT_FOR_HOSTS;
   if (fields.has_critical_options) return JUDGE_UNMET_OPTION;
-  answer = sshkey_fingerprint(authority.bytes, authority.length, &signer);
+  answer = judge_texts(certificate, &parts);
+  if (answer == SSHKEY_DONE)
+    answer = sshkey_fingerprint(authority.bytes, authority.length, &signer);
   if (answer != SSHKEY_DONE) return answer;
   return judge_name(certificate, asked, (judge_authorities){&signer, 1});
 }

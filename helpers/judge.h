@@ -77,7 +77,7 @@ enum {
   JUDGE_OTHER_KEY = 103,      /* it is one of another key than the client holds */
   JUDGE_FLAG_DATA = 104,      /* data stand in an extension that is a flag */
   JUDGE_NOT_FOR_HOSTS = 105,  /* it is one for users */
-  JUDGE_UNREADABLE = 106,     /* it has texts or principals that sshd does not read */
+  JUDGE_UNREADABLE = 106,     /* it has texts or principals that OpenSSH does not read */
   JUDGE_REVOKED = 107         /* the list revokes it, or is no list, as one of no bytes */
 };
 

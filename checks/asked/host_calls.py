@@ -2,12 +2,14 @@
 of known_hosts are those about which checks/callers asks a real ssh, and what is wanted is what is wanted there."""
 import time
 
-from lib.harness import blob_of
+from lib.harness import blob_of, string
 
-from .hosts import AROUND_NOW, AUTHORITY, BROKEN, CERTIFICATES, CERTIFICATES_OF_FILES, HOST, INVALID, NAMED, field, in_one_file, written
+from .hosts import AROUND_NOW, AUTHORITY, BROKEN, CERTIFICATES, CERTIFICATES_OF_FILES, HOST, INVALID, NAMED, TEXTS, field, in_one_file, written
 from .linked import run, word
 from .login_calls import blocks, built_page, said_by_python
+from .login_options import APPLICATIONS, certificate
 from .revocation_calls import EMPTY, made_list
+from .security_key_calls import SecurityKey
 
 # what the program callers answers, and what validate_host does
 WANTED = {
@@ -37,6 +39,22 @@ def cases(maker):
         ("a file that is no text, and revoked", good, HOST, [b"\xff\n", revoked], "TEXT"),
     ):  # fmt: skip
         yield name, blob, host, 22, given, wanted
+    for name, key, key_id, others, wanted in texts_of(keys["key"]):
+        line = certificate(maker, "host-authority", key, b"".join(map(string, [*others, HOST.encode()])), {}, {}, key_id, kind=2)
+        yield name, blob_of(line), HOST, 22, texts, wanted
+    # sshd alone reads the names of extensions
+    line = certificate(maker, "host-authority", keys["key"], string(HOST.encode()), {}, {"x\0y": b""}, kind=2, key_id=b"id")
+    yield "a zero byte in the name of an extension", blob_of(line), HOST, 22, texts, "DONE"
+
+
+def texts_of(key):
+    """Names, keys, key ids, hosts beside the one, and what is wanted: of certificates with texts that ssh(1) does not read."""
+    for name, key_id, others, wanted, _ in TEXTS:
+        yield name, key, key_id, others, "DONE" if wanted == "ok" else "UNREADABLE"
+    for kind in ("Ed25519", "ECDSA P-256"):
+        for name, application, wanted, _ in APPLICATIONS:
+            held = SecurityKey(kind, application).line()
+            yield f"{name} ({kind})", held, b"id", [], "DONE" if wanted.startswith("ok") else "UNREADABLE"
 
 
 # around the C of docs/FOREIGN.md, "A host's certificate"

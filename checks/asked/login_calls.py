@@ -8,9 +8,10 @@ from unittest.mock import patch
 from lib.harness import ROOT, blob_of, string
 
 from .linked import HELPERS, PEDANTIC, SANITIZED, C, run, word
-from .login_options import CASES, CRITICAL, FLAGS, MOST, TEXTS, certificate
+from .login_options import APPLICATIONS, CASES, CRITICAL, FLAGS, MOST, TEXTS, certificate
 from .made import MIDDLE, WINDOW
 from .revocation_calls import EMPTY, made_list
+from .security_key_calls import SecurityKey
 
 SOURCE, COMMAND = "source-address=192.0.2.0/24", "force-command=true"
 
@@ -113,6 +114,11 @@ def texts(maker):
         # of the rows of checks/callers what the program there answers
         status = {"ok": "DONE", "refused:": "UNREADABLE"}.get(wanted.split()[0], wanted)
         yield name, blob_of(line), held, int(time.time()), "alice", by, "source-address", status
+    for kind in ("Ed25519", "ECDSA P-256"):
+        for name, application, wanted, _ in APPLICATIONS:
+            device = SecurityKey(kind, application)
+            line, status = certificate(maker, "authority0", device.line(), alice, {}, {}), "DONE" if wanted.startswith("ok") else "UNREADABLE"
+            yield f"{name} ({kind})", blob_of(line), device.blob(), int(time.time()), "alice", by, "", status
 
 
 def values(maker):
