@@ -13,11 +13,12 @@
 
 const char program_name[] = "sshkey-authorized-keys";
 static const char help[] =
-    "usage: sshkey-authorized-keys FILE USER TYPE KEY\n"
+    "usage: sshkey-authorized-keys [--revoked FILE] LINES USER TYPE KEY\n"
     "\n"
     "sshd_config: AuthorizedKeysCommand PATH/sshkey-authorized-keys /etc/ssh/keys/%u %u %t %k\n"
-    "Prints the lines of FILE, in the form of authorized_keys, that have the key which the client\n"
-    "offers. Status 0: all are printed; 1: it can't tell, as standard error says.\n";
+    "Prints the lines of the file LINES, in the form of authorized_keys, that have the key which\n"
+    "the client offers, and none if the key revocation list FILE revokes it or is none.\n"
+    "Status 0: all are printed; 1: revoked, or it can't tell, as standard error says.\n";
 
 /* a line with more options is left out: each takes time for all */
 #define MOST_OPTIONS 64
