@@ -22,6 +22,7 @@
 
 #include "judge.h"
 #include "sshkey.h"
+#include "sshsig.h"
 #include "verify.h"
 
 /* of words in a line */

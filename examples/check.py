@@ -233,28 +233,53 @@ def validate_host(
     return judge(certificate, now, name, {sshkey.fingerprint(contents.authority)}, krl)
 
 
-def judge_signature(signature: bytes, namespace: str, message: bytes, signers: Collection[bytes]) -> Status:
-    """Status.DONE, or what is wrong first. The signers, by the fingerprints of their keys, are those of that namespace.
+def judge_signature(signature: bytes, namespace: str, message: bytes, signers: Collection[bytes]) -> Status | Refusal:
+    """Status.DONE, or what is wrong first. The signers, by the fingerprints of their keys, are those of that namespace: by another
+    it is Refusal.OTHER_KEY, and no cryptography runs over its key.
 
     One with reserved bytes is Status.NOT_SIGNED: ssh-keygen verifies it as if these were empty."""
     return judge_question(signature, lambda: sshkey.sshsig_question(signature, namespace, message), signers)
 
 
-def judge_signature_of_digest(signature: bytes, namespace: str, digest: bytes, signers: Collection[bytes]) -> Status:
+def judge_signature_of_digest(signature: bytes, namespace: str, digest: bytes, signers: Collection[bytes]) -> Status | Refusal:
     """The same of a message with that digest, by the hash that sshkey.sshsig_hash names."""
     return judge_question(signature, lambda: sshkey.sshsig_question_of_digest(signature, namespace, digest), signers)
 
 
-def judge_question(signature: bytes, ask: Callable[[], tuple[sshkey.Question, bytes]], signers: Collection[bytes]) -> Status:
-    """The same of the question that is asked."""
+def judge_question(
+    signature: bytes, ask: Callable[[], tuple[sshkey.Question, bytes]], signers: Collection[bytes] | None
+) -> Status | Refusal:  # fmt: skip
+    """The same of the question that is asked, by any key where the signers are None."""
     try:
         question, signer = ask()
         reserved = sshkey.sshsig_reserved(signature)
     except sshkey.Refused as refused:
         return refused.status
-    if reserved or not is_signature(question):
-        return Status.NOT_SIGNED
-    return Status.DONE if signer in signers else Status.UNTRUSTED_AUTHORITY
+    if signers is not None and signer not in signers:
+        return Refusal.OTHER_KEY
+    return Status.DONE if not reserved and is_signature(question) else Status.NOT_SIGNED
+
+
+def judge_signer_of_digest(
+    signature: bytes, namespace: str | bytes, digest: bytes, text: bytes, identity: str | bytes, now: int, *, revoked: bytes
+) -> Status | Refusal:  # fmt: skip
+    """Whether the signature, of a message with that digest, is the identity's by the text of a file of allowed signers at that
+    second, as `ssh-keygen -Y verify -r` says: Status.DONE, or what is wrong first. `revoked` is a key revocation list, which may be
+    NO_REVOCATIONS, or keys, one a line; no bytes revoke all keys."""
+
+    def allowed(is_verified: bool) -> Status:
+        return sshkey.signer_verdict(text, identity, namespace, signature, now, revoked, is_verified)
+
+    try:
+        # no cryptography runs over a key that may not sign
+        if (status := allowed(False)) != Status.NOT_SIGNED:
+            return status
+        if not revoked:  # to sshkey no bytes revoke nothing: here the list was forgotten
+            return Status.SIGNER_REVOKED
+        found = judge_question(signature, lambda: sshkey.sshsig_question_of_digest(signature, namespace, digest), None)
+        return allowed(True) if found == Status.DONE else found
+    except sshkey.Refused as refused:
+        return refused.status
 
 
 def said(status: Status | Refusal) -> str:

@@ -129,8 +129,11 @@ static uint32_t judge_allowed(judge_blob signature, const char *name_space,
 
 uint32_t judge_signer_of_digest(judge_blob signature, const char *name_space, judge_blob digest,
                                 const judge_signers *by) {
+  if (!by->identity) return SSHKEY_SIGNER_NOT_ALLOWED;
   /* no cryptography runs over a key that may not sign */
   uint32_t answer = judge_allowed(signature, name_space, by, false);
+  /* by sshkey.h no bytes revoke nothing: here the list was forgotten */
+  if (answer == SSHKEY_NOT_SIGNED && !by->revoked.length) answer = SSHKEY_SIGNER_REVOKED;
   if (answer != SSHKEY_NOT_SIGNED) return answer;
   answer = judge_question(signature, name_space, digest, NULL);
   return answer == SSHKEY_DONE ? judge_allowed(signature, name_space, by, true) : answer;

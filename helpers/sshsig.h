@@ -23,10 +23,10 @@ uint32_t judge_sshsig_of_digest(judge_blob signature, const char *name_space, ju
 /* By whom a signature has to be, as `ssh-keygen -Y verify` asks. */
 typedef struct {
   judge_blob text;         /* that of a file of allowed signers */
-  const char *identity;    /* one of those whom it names */
+  const char *identity;    /* one of those whom it names; null is nobody */
   uint64_t unix_timestamp; /* when that is */
-  judge_blob revoked;      /* a key revocation list, or keys, one a line; no bytes revoke nothing,
-                              unlike in judge_login */
+  judge_blob revoked;      /* a key revocation list, which may be judge_no_revocations, or keys,
+                              one a line; no bytes revoke all keys, as in judge_login */
 } judge_signers;
 
 /* The same, as the identity's by allowed signers: SSHKEY_DONE, or what is wrong first, a number of

@@ -16,6 +16,8 @@ asked/rust over the packages. Words are bytes in hexadecimal (- for none), numbe
                                                              with a LIST behind it, where no list revokes nothing
     host-certificate BYTES SECOND HOST PORT TEXT ..          what validate_host says, as check.py prints it, and in C
     host-revoked BYTES SECOND HOST PORT LIST TEXT ..         with a list
+    sshsig-by BYTES NAMESPACE DIGEST SIGNERS                 in C: what judge_sshsig_of_digest says, and how often it verifies
+    signer-by TEXT IDENTITY NAMESPACE BYTES REVOKED SECOND DIGEST        likewise judge_signer_of_digest
     fields BYTES                                             0 SERIAL AFTER BEFORE TYPE 0|1 0|1
     lists BYTES                                              0 KEY-ID KEY AUTHORITY, principal=NAME and critical=NAME=VALUE and
                                                              extension=NAME=VALUE for each, options by rising names
@@ -124,6 +126,21 @@ class Answers:
     def is_sshsig_of_digest(self, *given):
         *words, by = given
         return [str(int(self.check.judge_signature_of_digest(*map(data_of, words), self.digests(by))))]
+
+    def counted(self, call, *given, **named):
+        """What a call of check.py says, and how often it verifies."""
+        with patch.object(self.check, "is_signature", wraps=self.check.is_signature) as verifier:
+            status = call(*given, **named)
+        return [str(int(status)), str(verifier.call_count)]
+
+    def sshsig_by(self, *given):
+        *words, by = given
+        return self.counted(self.check.judge_signature_of_digest, *map(data_of, words), self.digests(by))
+
+    def signer_by(self, *given):
+        text, identity, namespace, signature, revoked, digest = map(data_of, (*given[:5], given[6]))
+        call = self.check.judge_signer_of_digest
+        return self.counted(call, signature, namespace, digest, text, identity, int(given[5]), revoked=revoked)
 
     def is_signature(self, *given):
         return ["0", str(int(self.check.is_signature(self.sshkey.signature_question(*map(data_of, given)))))]

@@ -150,6 +150,12 @@ def check_allowed(count, programs, maker):
                 ran = run([program, "verify", *words, *more, "--at", str(MIDDLE)], input=text)
                 same = (ran.returncode, (ran.stdout, ran.stderr)) == (VALID if is_valid else INVALID, said)
                 count.check(f"sshkey-check, a signature {name}", same, ran)
+    # stricter here
+    signers, empty = maker.write("signers", f"alice {keys['key']}\n"), maker.write("revoked", "")
+    words = ["verify", "-f", signers, "-I", "alice", "-n", SPACE, "-s", path, "-r", empty]
+    ran = run([programs[1], *words], input="a text")
+    refused = (INVALID, "refused\n", f"sshkey-check: {path}: {REVOKED}\n")
+    count.check("sshkey-check, a signature while an empty file revokes", (ran.returncode, ran.stdout, ran.stderr) == refused, ran)
 
 
 def check_hostile_signatures(count, programs, maker):

@@ -4,7 +4,7 @@ import hashlib
 from lib.harness import string, take
 from lib.signatures import signed_data, ssh_signature_over
 
-from .linked import word
+from .linked import turned, word
 from .login_calls import blocks
 
 HASHES = ("sha256", "sha512")
@@ -71,9 +71,25 @@ def check_signed(judge, name, key, signature, hashed):
     if judge.asker.is_package:
         asked.append(("its hash", f"sshsig-hash {signature.hex()}", f"0 {hashed}"))
         asked.append(("the hash, cut", f"sshsig-hash {signature[:-1].hex()}", "13"))
-        asked.append(("another signer", questions_of(signature, b"file", right, bytes(32))[1], str(judge.number("UNTRUSTED_AUTHORITY"))))
+        asked.append(("another signer", questions_of(signature, b"file", right, bytes(32))[1], str(judge.number("OTHER_KEY"))))
         asked.append(("by the text", f"is-sshsig {signature.hex()} {word(b'file')} {TEXT.hex()} {own.hex()}", "0"))
     judge.hold(f"{name} by a digest", asked)
+    if not judge.asker.is_package:
+        check_verifications(judge, name, signature, right, own)
+
+
+def check_verifications(judge, name, signature, digest, own):
+    """How often cryptography runs, in C and in Python: not at all over another signer's key."""
+    asked, strange, wrong = [], bytes(32), turned(signature)[-1]
+    for case, given, by, wanted, count in (
+        ("its signer", signature, own, "DONE", 1), ("one of two signers", signature, strange + own, "DONE", 1),
+        ("turned", wrong, own, "NOT_SIGNED", 1), ("over reserved bytes", with_reserved(signature, b"reserved"), own, "NOT_SIGNED", 0),
+        ("another signer", signature, strange, "OTHER_KEY", 0), ("no signer", signature, b"", "OTHER_KEY", 0),
+        ("another signer, turned", wrong, strange, "OTHER_KEY", 0),
+    ):  # fmt: skip
+        question = " ".join(["sshsig-by", *map(word, (given, b"file", digest, by))])
+        asked.append((case, question, f"{judge.number(wanted)} {count}"))
+    judge.hold(f"{name} by a digest, and its verifications", asked)
 
 
 def check_reserved(judge, user, key):

@@ -1,4 +1,4 @@
-/* Asks the functions of helpers/judge.h and helpers/verify.h, for checks/foreign.c, which has the
+/* Asks the functions of helpers/judge.h, verify.h and sshsig.h, for checks/foreign.c, which has the
  * helpers. The verifier is linked with --wrap. */
 #ifndef JUDGE_CALLS_H
 #define JUDGE_CALLS_H
@@ -72,6 +72,35 @@ static void ask_host(char **words, size_t count) {
   free(host);
 }
 
+static void ask_sshsig_by(char **words) {
+  judge_blob signature = bytes_of(words[1]), digest = bytes_of(words[3]), by = bytes_of(words[4]);
+  char *name_space = text_of(words[2]);
+  judge_authorities keys = {(sshkey_sha256 *)by.bytes, by.length / sizeof(sshkey_sha256)};
+  verifications = 0;
+  printf("%" PRIu32, judge_sshsig_of_digest(signature, name_space, digest, keys));
+  printf(" %zu", verifications);
+  judge_blob made[] = {signature, digest, by};
+  for (size_t at = 0; at < sizeof made / sizeof *made; at++) free(made[at].bytes);
+  free(name_space);
+}
+
+static void ask_signer_by(char **words) {
+  judge_blob text = bytes_of(words[1]), signature = bytes_of(words[4]);
+  judge_blob revoked = bytes_of(words[5]), digest = bytes_of(words[7]);
+  char *identity = text_of(words[2]), *name_space = text_of(words[3]);
+  judge_signers by = {text, NULL, strtoull(words[6], NULL, 10), revoked};
+  if (judge_signer_of_digest(signature, name_space, digest, &by) != SSHKEY_SIGNER_NOT_ALLOWED)
+    printf("nobody may sign ");
+  by.identity = identity;
+  verifications = 0;
+  printf("%" PRIu32, judge_signer_of_digest(signature, name_space, digest, &by));
+  printf(" %zu", verifications);
+  judge_blob made[] = {text, signature, revoked, digest};
+  for (size_t at = 0; at < sizeof made / sizeof *made; at++) free(made[at].bytes);
+  free(identity);
+  free(name_space);
+}
+
 static void ask_names(void) {
   printf("%d %d %" PRIu32 " %" PRIu32, SSHKEY_VERSION, SSHKEY_ABI, sshkey_version(), sshkey_abi());
   for (uint32_t answer = 0; answer < 200; answer++)
@@ -94,6 +123,10 @@ static bool has_judged(char **words, size_t count) {
     ask_user(words, count);
   else if (!strcmp(words[0], "host-certificate") || !strcmp(words[0], "host-revoked"))
     ask_host(words, count);
+  else if (!strcmp(words[0], "sshsig-by"))
+    ask_sshsig_by(words);
+  else if (!strcmp(words[0], "signer-by"))
+    ask_signer_by(words);
   else if (!strcmp(words[0], "authority"))
     ask_authority(words[1]);
   else

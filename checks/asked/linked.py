@@ -45,7 +45,8 @@ class Built:
 
     def make(self, out, flags):
         made = run(["make", "-C", ROOT, f"OUT={out}", f"CFLAGS={flags}", *self.given])
-        parts = [f"{ROOT}/checks/foreign.c", f"{out}/judge.o", f"{out}/verify.o", f"{out}/libsshkey.a", "-lcrypto", WRAPPED]
+        objects = [f"{out}/{it}" for it in ("sshsig.o", "judge.o", "verify.o", "libsshkey.a")]
+        parts = [f"{ROOT}/checks/foreign.c", *objects, "-lcrypto", WRAPPED]
         asks = [*C, f"-I{HELPERS}", *flags.split(), *parts, "-o", f"{out}/foreign"]
         asking = run(asks) if made.returncode == 0 else made
         self.said += made.stderr + asking.stderr

@@ -1,4 +1,5 @@
 """What a text of allowed signers says of an SSH signature, against `ssh-keygen -Y verify`: the cases are those of signers.py."""
+import hashlib
 import os
 import tempfile
 
@@ -45,6 +46,7 @@ def asked_twice(name, given, yes, wanted):
 
 
 def cases(made, maker):
+    """Names, what a question is asked with, the message, whether it is verified, and what is wanted."""
     for name, verified, asked, wanted in signers.signers(maker):
         ask, *words = asked.split("\t")
         if ask != signers.ASK:
@@ -53,11 +55,11 @@ def cases(made, maker):
         text, message, blob, revoked = map(bytes.fromhex, (text, message, blob, "".join(revoked)))
         # a signature that nobody verified is one that the caller's library refuses
         yes = bool(verified) and is_verified(made, blob, namespace, message)
-        yield asked_twice(name, (text, who.encode(), namespace.encode(), blob, revoked, at), yes, WANTED.get(wanted, wanted))
+        yield name, (text, who.encode(), namespace.encode(), blob, revoked, at), message, yes, WANTED.get(wanted, wanted)
 
 
 def revocations(maker):
-    """Files of revoked keys that are texts."""
+    """The same of files of revoked keys that are texts."""
     keys, message = {it: maker.read(f"{name}.pub") for it, name in (("key", "signer"), ("other", "another-signer"))}, b"a commit\n"
     blob, text = signers.made_by(maker, "signer", message), f"{signers.WHO} {keys['key']}\n".encode()
     given = (text, signers.WHO.encode(), signers.NAMESPACE.encode(), blob)
@@ -65,18 +67,52 @@ def revocations(maker):
         revoked = lines.format(**keys).encode("latin-1")
         if signers.says(maker, text, blob, message, signers.WHO, signers.NAMESPACE, signers.NOON, revoked) != (wanted == "DONE"):
             wanted = f"{wanted}, and ssh-keygen says otherwise"
-        yield asked_twice(f"revoked is {name}", (*given, revoked, signers.NOON), 1, wanted)
-    hers = list_of(maker, keys["key"])
+        yield f"revoked is {name}", (*given, revoked, signers.NOON), message, True, wanted
+
+
+def no_texts(maker):
+    """The same of texts that are none."""
+    key, message = maker.read("signer.pub"), b"a commit\n"
+    blob, text = signers.made_by(maker, "signer", message), f"{signers.WHO} {key}\n".encode()
     for name, other, who, wanted in OTHERS:
-        yield [(name, question(given[0] if other is None else other, given[1] if who is None else who, *given[2:], hers, signers.NOON, 1), wanted)]
+        asked = (text if other is None else other, signers.WHO.encode() if who is None else who)
+        yield name, (*asked, signers.NAMESPACE.encode(), blob, list_of(maker, key), signers.NOON), message, True, wanted
+
+
+def asked_whole(made, found):
+    """The questions about the call that verifies, which says the same, and how often it does. It takes no bytes for a list that
+    revokes all, and says so where the key may sign."""
+    for name, (*front, revoked, at), message, _, wanted in found:
+        may_sign = wanted in ("DONE", "NOT_SIGNED")
+        hashed, said = said_by_verifying(made, *front[2:], message)
+        asked = [("", revoked or made.check.NO_REVOCATIONS, said if may_sign else wanted)]
+        asked += [] if revoked else [(", no bytes for a list", b"", "SIGNER_REVOKED" if may_sign else wanted)]
+        for shown, krl, status in asked:
+            words = [*map(word, (*front, krl)), str(at), word(hashlib.new(hashed, message).digest())]
+            count = "" if status == "NOT_SIGNED" else f" {int(status == 'DONE')}"
+            yield name + shown, " ".join(["signer-by", *words]), status, count
+
+
+def said_by_verifying(made, namespace, blob, message):
+    """The hash of a signature by a key that may sign, and what is to be said of it."""
+    try:
+        is_one = is_verified(made, blob, namespace, message) and not made.sshkey.sshsig_reserved(blob)
+        made.sshkey.sshsig_question(blob, namespace, message)
+        return made.sshkey.sshsig_hash(blob), "DONE" if is_one else "NOT_SIGNED"
+    except made.sshkey.Refused as refused:
+        return "sha256", refused.status.name
 
 
 def check_signers(judge):
     with tempfile.TemporaryDirectory() as folder:
         maker = loaded("callers").Maker(folder)
-        found = [*cases(judge.made, maker), *revocations(maker)]
+        found, others = [*cases(judge.made, maker), *revocations(maker)], list(no_texts(maker))
     every = SAMPLED if judge.asker.is_package else 1
-    asked = [it for twice in found[::every] for it in twice]
+    asked = [it for name, given, _, yes, wanted in found[::every] for it in asked_twice(name, given, yes, wanted)]
+    asked += [(name, question(*given, True), wanted) for name, given, _, _, wanted in others[::every]]
     # what ssh-keygen says otherwise has no number
-    numbers = {it: str(judge.number(it)) for it in (*WANTED.values(), "TEXT")}
+    numbers = {it: str(judge.number(it)) for it in (*WANTED.values(), "OTHER_NAMESPACE", "TEXT")}
     judge.hold("an allowed signer", [(name, it, numbers.get(wanted, wanted)) for name, it, wanted in asked])
+    if not judge.asker.is_package:
+        asked = asked_whole(judge.made, [*found, *others])
+        judge.hold("an allowed signer, verified", [(name, it, numbers.get(wanted, wanted) + count) for name, it, wanted, count in asked])

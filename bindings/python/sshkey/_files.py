@@ -102,8 +102,8 @@ def signer_verdict(
     signature, in the namespace and of the message (sshsig_question, sshsig_question_of_digest).
 
     Else SIGNER_NOT_ALLOWED, SIGNER_REVOKED or NOT_SIGNED, the first that holds. Ask with False first: only where that is
-    NOT_SIGNED there is something to verify. Raises Refused where the bytes are no signature, or a text is not UTF-8, and
-    MemoryError."""
+    NOT_SIGNED there is something to verify (`judge_signer_of_digest` of examples/check.py does both). Raises Refused where the
+    bytes are no signature, or a text is not UTF-8, and MemoryError."""
     texts = (*bytes_of(signers), *text_of(identity), *text_of(namespace), *bytes_of(signature))
     second, given = number_of(unix_timestamp, 64), bytes_of(revoked)
     status = Status(LIBRARY.sshkey_signer_verdict(*texts, second, *given, 1 if is_verified is True else 0))
