@@ -195,7 +195,7 @@ fn signature(signers: &OsStr, namespace: &OsStr, file: &OsStr) -> Result<bool, U
     let name = namespace.to_str().ok_or("the namespace is not UTF-8")?;
     let answer = sshkey::judge_sshsig(&given, name, &message, &by, verify::verifies);
     let mut output = io::stdout().lock();
-    let is_valid = say(&mut output, answer.map_err(Refusal::from))?;
+    let is_valid = say(&mut output, answer)?;
     output.flush()?;
     Ok(is_valid)
 }

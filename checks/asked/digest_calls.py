@@ -99,6 +99,9 @@ def check_reserved(judge, user, key):
         signature = ssh_signature_over(reserved, judge.made.maker.path(user), judge.made.maker.read(f"{user}.pub"), TEXT)
         by_digest = questions_of(signature, b"file", hashlib.sha512(TEXT).digest(), own)[1]
         by_text = f"is-sshsig {signature.hex()} {word(b'file')} {TEXT.hex()} {own.hex()}"
+        # the signer is asked first
+        by_other = questions_of(signature, b"file", hashlib.sha512(TEXT).digest(), bytes(32))[1]
+        asked += [("by another signer", by_other, str(judge.number("OTHER_KEY")))]
         asked += [("what is reserved", f"sshsig-reserved {signature.hex()}", f"0 {word(reserved)}")]
         asked += [("cut", f"sshsig-reserved {signature[:-1].hex()}", "13"), ("by its text", by_text, wanted), ("by its digest", by_digest, wanted)]
     judge.hold(f"a signature by {user} over reserved bytes", asked)

@@ -137,9 +137,10 @@ func judgeKey(own, held []byte) error {
 
 // ValidateSSHSig gives nil exactly if the bytes, as they stand in the armour, are an SSH signature
 // (`ssh-keygen -Y sign`) of the message in that namespace by one of the signers, which are the
-// fingerprints of the keys that may sign for that namespace; else what is wrong first, a
-// sshkey.Status. One with reserved bytes is sshkey.ErrNotSigned: ssh-keygen verifies it as if these
-// were empty. It fails with sshkey.ErrMemory, which says nothing of the signature.
+// fingerprints of the keys that may sign for that namespace; else what is wrong first: a
+// sshkey.Status, or ErrOtherKey for another signer, over whose key no cryptography runs. One with
+// reserved bytes is sshkey.ErrNotSigned: ssh-keygen verifies it as if these were empty. It fails
+// with sshkey.ErrMemory, which says nothing of the signature.
 func ValidateSSHSig(
 	signature []byte, namespace string, message []byte, signers []sshkey.SHA256,
 ) error {
@@ -160,14 +161,17 @@ func ValidateSSHSigOfDigest(
 	return judgeSSHSig(signature, question, signer, err, signers)
 }
 
-// judgeSSHSig gives nil where the question was asked, nothing is reserved, the verification says
-// yes and the signer is one of those.
+// judgeSSHSig gives nil where the question was asked, the signer is one of those, nothing is
+// reserved, and the verification says yes.
 func judgeSSHSig(
 	signature []byte, question sshkey.Question, signer sshkey.SHA256, err error,
 	signers []sshkey.SHA256,
 ) error {
 	if err != nil {
 		return err
+	}
+	if !isOneOf(signer, signers) {
+		return ErrOtherKey
 	}
 	reserved, err := sshkey.SSHSigReserved(signature)
 	if err != nil {
@@ -176,10 +180,14 @@ func judgeSSHSig(
 	if len(reserved) > 0 || !IsSignature(question) {
 		return sshkey.ErrNotSigned
 	}
-	for _, one := range signers {
+	return nil
+}
+
+func isOneOf(signer sshkey.SHA256, keys []sshkey.SHA256) bool {
+	for _, one := range keys {
 		if one == signer {
-			return nil
+			return true
 		}
 	}
-	return sshkey.ErrUntrustedAuthority
+	return false
 }

@@ -19,7 +19,8 @@ const (
 	ErrNobodyListed
 	// ErrUnmetOption is for one with a critical option that is not known or not met.
 	ErrUnmetOption
-	// ErrOtherKey is for one of another key than the client's.
+	// ErrOtherKey is for one of another key than the client's, and for an SSH signature by another
+	// signer.
 	ErrOtherKey
 	// ErrFlagData is for one with data in an extension that is a flag.
 	ErrFlagData

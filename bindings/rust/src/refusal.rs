@@ -1,4 +1,4 @@
-//! Why a certificate logs nobody in, or is not the host's.
+//! Why a certificate logs nobody in, or is not the host's; or why an SSH signature does not count.
 
 use std::fmt;
 
@@ -17,7 +17,7 @@ pub enum Refusal {
     NobodyListed,
     /// A critical option is not known, or not met.
     UnmetOption,
-    /// It is one of another key than the client holds.
+    /// It is one of another key than the client holds; or an SSH signature by another signer.
     OtherKey,
     /// Data stand in an extension that is a flag.
     FlagData,

@@ -4,6 +4,7 @@ use crate::digests::Sha256;
 use crate::keys::normal_sshsig;
 use crate::questions::Question;
 use crate::raw;
+use crate::refusal::Refusal;
 use crate::status::Status;
 use crate::strings::strings;
 
@@ -54,15 +55,16 @@ pub fn sshsig_question_of_digest(
 
 /// Whether an SSH signature is one of the message in that namespace, by one of the signers, which
 /// are those that you trust for it: `verify` answers its question. Fails as [`sshsig_question`]
-/// does, with [`Status::NOT_SIGNED`] where `verify` says no and where it has reserved bytes, which
-/// ssh-keygen takes to be empty, and with [`Status::UNTRUSTED_AUTHORITY`] where another signed.
+/// does, with [`Refusal::OtherKey`] where another signed, about which `verify` is not asked, and
+/// with [`Status::NOT_SIGNED`] where `verify` says no and where it has reserved bytes, which
+/// ssh-keygen takes to be empty.
 pub fn judge_sshsig(
     signature: &[u8],
     namespace: impl AsRef<[u8]>,
     message: &[u8],
     signers: &[Sha256],
     verify: impl FnOnce(&Question) -> bool,
-) -> Result<(), Status> {
+) -> Result<(), Refusal> {
     let question = sshsig_question(signature, namespace, message)?;
     judge(signature, question, signers, verify)
 }
@@ -75,23 +77,23 @@ pub fn judge_sshsig_of_digest(
     digest: &[u8],
     signers: &[Sha256],
     verify: impl FnOnce(&Question) -> bool,
-) -> Result<(), Status> {
+) -> Result<(), Refusal> {
     let question = sshsig_question_of_digest(signature, namespace, digest)?;
     judge(signature, question, signers, verify)
 }
 
-/// Whether nothing is reserved, the question is answered with yes, and the signer is one of those.
+/// Whether the signer is one of those, nothing is reserved, and the question is answered with yes.
 fn judge(
     signature: &[u8],
     (question, signer): (Question, Sha256),
     signers: &[Sha256],
     verify: impl FnOnce(&Question) -> bool,
-) -> Result<(), Status> {
-    if !sshsig_reserved(signature)?.is_empty() || !verify(&question) {
-        return Err(Status::NOT_SIGNED);
-    }
+) -> Result<(), Refusal> {
     if !signers.contains(&signer) {
-        return Err(Status::UNTRUSTED_AUTHORITY);
+        return Err(Refusal::OtherKey);
+    }
+    if !sshsig_reserved(signature)?.is_empty() || !verify(&question) {
+        return Err(Refusal::Invalid(Status::NOT_SIGNED));
     }
     Ok(())
 }

@@ -133,8 +133,12 @@ func main() {
 
 // ---- words
 
-// numberOf is that of a Status, 0 for nil.
+// numberOf is that of a Status or a Refusal, 0 for nil.
 func numberOf(err error) string {
+	var refusal judge.Refusal
+	if errors.As(err, &refusal) {
+		return strconv.FormatUint(uint64(refusal), 10)
+	}
 	var status sshkey.Status
 	if err != nil && !errors.As(err, &status) {
 		panic(err)

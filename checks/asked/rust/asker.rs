@@ -3,7 +3,9 @@
 
 use std::io::{self, BufRead};
 
-use sshkey::{CertificateType, Draft, HashAlgorithm, Listed, Principal, Question, Sha256, Status};
+use sshkey::{
+    CertificateType, Draft, HashAlgorithm, Listed, Principal, Question, Refusal, Sha256, Status,
+};
 
 #[allow(dead_code)]
 #[path = "../../../examples/check.rs"]
@@ -46,8 +48,8 @@ fn one(made: Result<Vec<u8>, Status>) -> Answer {
     words([word(made?)])
 }
 
-fn number_of(answer: Result<(), Status>) -> String {
-    answer.map_or_else(|status| status.number(), |()| 0).to_string()
+fn number_of(answer: Result<(), impl Into<Refusal>>) -> String {
+    answer.map_or_else(|fault| fault.into().number(), |()| 0).to_string()
 }
 
 // ---- questions
