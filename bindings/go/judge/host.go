@@ -50,6 +50,9 @@ func ValidateHost(
 	if fields.HasCriticalOptions { // none is known for hosts
 		return ErrUnmetOption
 	}
+	if !isReadable(contents) {
+		return ErrUnreadable
+	}
 	authority, err := sshkey.Fingerprint(contents.Authority)
 	if err != nil {
 		return err

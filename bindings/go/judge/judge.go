@@ -5,6 +5,7 @@
 package judge
 
 import (
+	"bytes"
 	"strings"
 	"time"
 
@@ -34,7 +35,7 @@ var flags = []string{
 	"permit-port-forwarding", "permit-pty", "permit-user-rc",
 }
 
-// mostPrincipals is how many sshd reads.
+// mostPrincipals is how many OpenSSH reads.
 const mostPrincipals = 256
 
 // ValidateUser gives nil exactly if the certificate, given as its blob, logs the user in; else what
@@ -78,7 +79,8 @@ func ValidateUser(certificate []byte, login Login) error {
 	return judgeKey(contents.Key, login.Key)
 }
 
-// judgeOptions gives nil where each critical option is met and sshd reads the extensions.
+// judgeOptions gives nil where each critical option is met and sshd reads the extensions: no byte 0
+// in a name.
 func judgeOptions(contents sshkey.Contents, isMet func(name, value string) bool) error {
 	for name, value := range contents.CriticalOptions {
 		if isMet == nil || !isValue(name, value) || !isMet(name, value) {
@@ -88,6 +90,11 @@ func judgeOptions(contents sshkey.Contents, isMet func(name, value string) bool)
 	for _, name := range flags {
 		if contents.Extensions[name] != "" {
 			return ErrFlagData
+		}
+	}
+	for name := range contents.Extensions {
+		if strings.IndexByte(name, 0) >= 0 {
+			return ErrUnreadable
 		}
 	}
 	return nil
@@ -105,20 +112,30 @@ func isValue(name, value string) bool {
 	return true
 }
 
-// isReadable says whether sshd reads the texts and the principals: it reads up to 256 of these, and
-// no byte 0 within one, in the key id or in the name of an extension.
+// isReadable says whether OpenSSH reads the principals and the texts: it reads up to 256 of these,
+// and no byte 0 within one, in the key id or in the application of a security key.
 func isReadable(contents sshkey.Contents) bool {
-	if len(contents.Principals) > mostPrincipals {
+	if len(contents.Principals) > mostPrincipals || !hasReadApplication(contents.Key) {
 		return false
 	}
-	texts := append([]string{contents.KeyID}, contents.Principals...)
-	for name := range contents.Extensions {
-		texts = append(texts, name)
-	}
-	for _, text := range texts {
+	for _, text := range append([]string{contents.KeyID}, contents.Principals...) {
 		if strings.IndexByte(text, 0) >= 0 {
 			return false
 		}
+	}
+	return true
+}
+
+// hasReadApplication says whether no byte 0 is in the application, if it is a security key's blob:
+// the last string (PROTOCOL.u2f).
+func hasReadApplication(key []byte) bool {
+	parts, err := sshkey.Strings(key)
+	if err != nil || len(parts) == 0 {
+		return false
+	}
+	switch string(parts[0]) {
+	case "sk-ssh-ed25519@openssh.com", "sk-ecdsa-sha2-nistp256@openssh.com":
+		return bytes.IndexByte(parts[len(parts)-1], 0) < 0
 	}
 	return true
 }

@@ -26,7 +26,7 @@ const (
 	ErrFlagData
 	// ErrNotForHosts is for a certificate of a user.
 	ErrNotForHosts
-	// ErrUnreadable is for one with texts or principals that sshd does not read.
+	// ErrUnreadable is for one with texts or principals that OpenSSH does not read.
 	ErrUnreadable
 )
 

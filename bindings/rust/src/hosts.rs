@@ -6,6 +6,7 @@ use crate::certificates::{
 };
 use crate::digests::fingerprint;
 use crate::files::{authority_verdict, host_verdict};
+use crate::logins::is_readable;
 use crate::questions::Question;
 use crate::refusal::Refusal;
 use crate::status::Status;
@@ -60,7 +61,8 @@ fn signed_verdict(host: &Host<'_>, port: u16, key: &[u8], authority: &[u8]) -> R
 /// Fails with what is wrong first: with a number from 10 to 29 where the bytes are no certificate;
 /// as [`authority_verdict`] does, and with [`Status::HOST_REVOKED`] where a line revokes the
 /// certified key; with [`Refusal::NotForHosts`]; with [`Refusal::UnmetOption`] for each critical
-/// option, since none is known for hosts; and as [`judge_certificate`] does.
+/// option, since none is known for hosts; with [`Refusal::Unreadable`]; and as
+/// [`judge_certificate`] does.
 ///
 /// Whether the certificate is revoked by a list, and whether the host holds the certified key is
 /// not looked at (docs/FOREIGN.md).
@@ -70,7 +72,8 @@ pub fn validate_host(
     verify: impl FnOnce(&Question) -> bool,
 ) -> Result<(), Refusal> {
     let fields = certificate_fields(certificate)?;
-    let authority = certificate_contents(certificate)?.authority;
+    let contents = certificate_contents(certificate)?;
+    let authority = contents.authority;
     let key = certificate_key(certificate)?;
     let mut verdict = signed_verdict(host, host.port, &key, authority);
     if verdict == Err(Status::HOST_UNKNOWN) && host.port != STANDARD_PORT {
@@ -82,6 +85,9 @@ pub fn validate_host(
     }
     if fields.has_critical_options {
         return Err(Refusal::UnmetOption);
+    }
+    if !is_readable(&contents, &key)? {
+        return Err(Refusal::Unreadable);
     }
     let (second, name) = (host.unix_timestamp, host.name.to_ascii_lowercase());
     let signer = fingerprint(authority)?;

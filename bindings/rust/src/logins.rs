@@ -9,6 +9,7 @@ use crate::keys::normal_key;
 use crate::questions::Question;
 use crate::refusal::Refusal;
 use crate::status::Status;
+use crate::strings::strings;
 
 /// The extensions in which nothing may stand (PROTOCOL.certkeys).
 const FLAGS: [&str; 6] = [
@@ -20,7 +21,11 @@ const FLAGS: [&str; 6] = [
     "permit-user-rc",
 ];
 
-/// How many principals sshd reads.
+/// The types of security keys, whose last string is the application (PROTOCOL.u2f).
+const SECURITY_KEYS: [&[u8]; 2] =
+    [b"sk-ssh-ed25519@openssh.com", b"sk-ecdsa-sha2-nistp256@openssh.com"];
+
+/// How many principals OpenSSH reads.
 const MOST_PRINCIPALS: usize = 256;
 
 /// A login by a certificate.
@@ -70,17 +75,19 @@ pub fn validate_user(
         return Err(Refusal::NobodyListed);
     }
     judge_options(&contents, is_met)?;
-    if !is_readable(&contents)? {
+    let key = certificate_key(certificate)?;
+    if !is_readable(&contents, &key)? {
         return Err(Refusal::Unreadable);
     }
-    if normal_key(login.key)? != certificate_key(certificate)? {
+    if normal_key(login.key)? != key {
         return Err(Refusal::OtherKey);
     }
     Ok(())
 }
 
-/// Fails with [`Refusal::UnmetOption`] unless each critical option is met, and with
-/// [`Refusal::FlagData`] unless nothing stands in the extensions that are flags.
+/// Fails with [`Refusal::UnmetOption`] unless each critical option is met, with
+/// [`Refusal::FlagData`] unless nothing stands in the extensions that are flags, and with
+/// [`Refusal::Unreadable`] where a byte 0 is in the name of one.
 fn judge_options(
     contents: &CertificateContents<'_>,
     is_met: impl Fn(&str, &str) -> bool,
@@ -97,6 +104,11 @@ fn judge_options(
             return Err(Refusal::FlagData);
         }
     }
+    for extension in contents.extensions.clone() {
+        if extension?.name.contains('\0') {
+            return Err(Refusal::Unreadable);
+        }
+    }
     Ok(())
 }
 
@@ -110,15 +122,21 @@ fn is_value(name: &str, value: &str) -> bool {
     }
 }
 
-/// Whether sshd reads the texts and the principals: it reads up to 256 of these, and no byte 0
-/// within one, in the key id or in the name of an extension.
-fn is_readable(contents: &CertificateContents<'_>) -> Result<bool, Status> {
-    let mut is_read = !contents.key_id.contains('\0');
+/// Whether OpenSSH reads the principals and the texts of a certificate of that key: it reads up to
+/// 256 of these, and no byte 0 within one, in the key id or in the application of a security key.
+pub(crate) fn is_readable(contents: &CertificateContents<'_>, key: &[u8]) -> Result<bool, Status> {
+    let mut is_read = !contents.key_id.contains('\0') && has_read_application(key)?;
     for (at, principal) in contents.principals.clone().enumerate() {
         is_read &= at < MOST_PRINCIPALS && !principal?.contains('\0');
     }
-    for extension in contents.extensions.clone() {
-        is_read &= !extension?.name.contains('\0');
-    }
     Ok(is_read)
+}
+
+/// Whether no byte 0 is in the application, if the key is a security key's.
+fn has_read_application(key: &[u8]) -> Result<bool, Status> {
+    let parts = strings(key).collect::<Result<Vec<_>, Status>>()?;
+    Ok(match parts[..] {
+        [name, .., application] if SECURITY_KEYS.contains(&name) => !application.contains(&0),
+        _ => true,
+    })
 }

@@ -23,7 +23,7 @@ pub enum Refusal {
     FlagData,
     /// It is one for users.
     NotForHosts,
-    /// It has texts or principals that sshd does not read.
+    /// It has texts or principals that OpenSSH does not read.
     Unreadable,
 }
 
