@@ -12,9 +12,9 @@ asked/rust over the packages. Words are bytes in hexadecimal (- for none), numbe
     sshsig-of-digest BYTES NAMESPACE DIGEST
     is-signature KEY MESSAGE SIGNATURE                       0 and 1 if it verifies, else 0
     user BYTES KEY SECOND USER AUTHORITIES OPTION            what validate_user says, as check.py prints it, where the critical
-                                                             option of that name is met if its value is not "unmet"; in C also
-                                                             with a LIST behind it, where no list revokes nothing
-    host-certificate BYTES SECOND HOST PORT TEXT ..          what validate_host says, as check.py prints it, and in C
+                                                             option of that name is met if its value is not "unmet"; also with
+                                                             a LIST behind it, where no list revokes nothing
+    host-certificate BYTES SECOND HOST PORT TEXT ..          what validate_host says, as check.py prints it, and
     host-revoked BYTES SECOND HOST PORT LIST TEXT ..         with a list
     sshsig-by BYTES NAMESPACE DIGEST SIGNERS                 in C: what judge_sshsig_of_digest says, and how often it verifies
     signer-by TEXT IDENTITY NAMESPACE BYTES REVOKED SECOND DIGEST        likewise judge_signer_of_digest

@@ -102,8 +102,7 @@ def check_hosts(judge):
         question = " ".join(["host-certificate", word(blob), str(now), spelled[0], str(port), *spelled[1:]])
         asked.append((name, question, judge.said_of(wanted)))
     judge.hold("a host's certificate", asked)
-    if not judge.asker.is_package:
-        check_revoked(judge, now)
+    check_revoked(judge, now)
 
 
 def check_revoked(judge, now):

@@ -164,8 +164,9 @@ def check_users(judge):
         for name, blob, wanted in (("good", kind.blob, "DONE"), ("turned", turned(kind.blob), "NOT_SIGNED")):
             asked.append((f"by an authority of {kind.name}, {name}", f"{blob.hex()} {words}", wanted))
     judge.hold("a login by a certificate", [(name, f"user {words}", judge.said_of(wanted)) for name, words, wanted in asked])
+    revoked = check_revoked(judge)
     if not judge.asker.is_package:
-        check_verifications(judge, asked + check_revoked(judge))
+        check_verifications(judge, asked + revoked)
 
 
 def check_revoked(judge):

@@ -21,11 +21,11 @@ var places = map[error]int{
 //
 // The texts are those of all the files of known_hosts that count, the user's and the machine's, and
 // the host is the name that was asked for. The certificate has to list it in small letters, as
-// ssh(1) asks; one that lists none is for each host of its authority. Whether the certificate is
-// revoked by a list, and whether the host holds the certified key is not looked at
-// (docs/FOREIGN.md).
+// ssh(1) asks; one that lists none is for each host of its authority. What revokes it is a key
+// revocation list, which may be NoRevocations: what is no list, as nil, lets no host pass. Whether
+// the host holds the certified key is not looked at (docs/FOREIGN.md).
 func ValidateHost(
-	certificate []byte, now time.Time, host string, port uint16, texts []string,
+	certificate []byte, now time.Time, host string, port uint16, texts []string, revoked []byte,
 ) error {
 	// nobody changes it between the calls
 	certificate = append([]byte(nil), certificate...)
@@ -35,6 +35,10 @@ func ValidateHost(
 	}
 	contents, err := sshkey.CertificateContents(certificate)
 	if err != nil {
+		return err
+	}
+	// ssh(1) asks the list before it reads known_hosts
+	if err := judgeRevoked(revoked, certificate); err != nil {
 		return err
 	}
 	err = judgeSigned(contents, host, port, texts)

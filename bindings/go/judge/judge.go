@@ -1,7 +1,6 @@
 // Package judge says whether certificates log users in, whether they are those of hosts, and
 // whether SSH signatures are valid, with Go's standard library for cryptography and package sshkey
-// for the rest. It is there to be copied. It does what examples/check.py does, but asks no
-// revocation list.
+// for the rest. It is there to be copied. It does what examples/check.py does.
 package judge
 
 import (
@@ -22,6 +21,9 @@ type Login struct {
 	Now time.Time
 	// Authorities are the fingerprints of the keys that may sign certificates of users.
 	Authorities []sshkey.SHA256
+	// Revoked is a key revocation list, as `ssh-keygen -k` makes it, or NoRevocations. What is no
+	// list, as nil, lets nobody in.
+	Revoked []byte
 	// IsMet says of a critical option, by its name and value, whether it is known and met at this
 	// login. Where it is nil, none is. It is asked of no force-command or source-address that is
 	// empty or has a zero byte, and of no verify-required with a value: such a one is never met.
@@ -42,18 +44,19 @@ const mostPrincipals = 256
 // is wrong first: a sshkey.Status or a Refusal. It fails with sshkey.ErrMemory, which says nothing
 // of the certificate.
 //
-// Whether the certificate is revoked, whether somebody touched a security key, and what its
-// extensions say is not looked at (docs/FOREIGN.md).
+// Whether somebody touched a security key, and what its extensions say is not looked at
+// (docs/FOREIGN.md).
 func ValidateUser(certificate []byte, login Login) error {
 	if login.User == "" { // which a certificate may list
 		return sshkey.ErrUnlistedPrincipal
 	}
 	// nobody changes it between the calls
 	certificate = append([]byte(nil), certificate...)
-	err := sshkey.ValidateCertificateFor(
-		certificate, login.Now, login.User, login.Authorities, IsSignature,
-	)
+	contents, err := sshkey.CertificateContents(certificate)
 	if err != nil {
+		return err
+	}
+	if err := judgeCertificate(certificate, contents.Authority, login); err != nil {
 		return err
 	}
 	fields, err := sshkey.CertificateFields(certificate)
@@ -66,10 +69,6 @@ func ValidateUser(certificate []byte, login Login) error {
 	if !fields.ListsPrincipals { // it would be for everybody
 		return ErrNobodyListed
 	}
-	contents, err := sshkey.CertificateContents(certificate)
-	if err != nil {
-		return err
-	}
 	if err := judgeOptions(contents, login.IsMet); err != nil {
 		return err
 	}
@@ -77,6 +76,24 @@ func ValidateUser(certificate []byte, login Login) error {
 		return ErrUnreadable
 	}
 	return judgeKey(contents.Key, login.Key)
+}
+
+// judgeCertificate gives nil where the certificate is by one of the authorities, not revoked and
+// valid for the user. The list is asked behind the authority, and before cryptography runs.
+func judgeCertificate(certificate, authority []byte, login Login) error {
+	signer, err := sshkey.Fingerprint(authority)
+	if err != nil {
+		return err
+	}
+	if !isOneOf(signer, login.Authorities) {
+		return sshkey.ErrUntrustedAuthority
+	}
+	if err := judgeRevoked(login.Revoked, certificate); err != nil {
+		return err
+	}
+	return sshkey.ValidateCertificateFor(
+		certificate, login.Now, login.User, login.Authorities, IsSignature,
+	)
 }
 
 // judgeOptions gives nil where each critical option is met and sshd reads the extensions: no byte 0

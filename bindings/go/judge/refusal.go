@@ -28,6 +28,8 @@ const (
 	ErrNotForHosts
 	// ErrUnreadable is for one with texts or principals that OpenSSH does not read.
 	ErrUnreadable
+	// ErrRevoked is for one that the list revokes, or any where it is no list, as one of no bytes.
+	ErrRevoked
 )
 
 // Error is what is wrong, in words, and the number.
@@ -62,6 +64,7 @@ var meanings = map[error]string{
 	ErrFlagData:                  "data in an extension that is a flag",
 	ErrNotForHosts:               "not for hosts",
 	ErrUnreadable:                "texts or principals that sshd does not read",
+	ErrRevoked:                   "revoked or no list that can be read",
 }
 
 // Said is what check.py prints of an answer: "valid" for nil, else what it means in words and its

@@ -102,16 +102,23 @@ pub fn judge_certificate(
     authorities: &[Sha256],
     verify: impl FnOnce(&Question) -> bool,
 ) -> Result<(), Status> {
-    let signer = fingerprint(certificate_contents(certificate)?.authority)?;
-    if !authorities.contains(&signer) {
-        return Err(Status::UNTRUSTED_AUTHORITY);
-    }
+    judge_authority(certificate, authorities)?;
     let is_verified = match certificate_question(certificate) {
         Ok(question) => verify(&question),
         Err(Status::MEMORY) => return Err(Status::MEMORY),
         Err(_) => false,
     };
     validate_certificate(certificate, unix_timestamp, principal, authorities, is_verified)
+}
+
+/// Fails with [`Status::UNTRUSTED_AUTHORITY`] unless one of the authorities signed the certificate,
+/// or it says that one did.
+pub(crate) fn judge_authority(certificate: &[u8], authorities: &[Sha256]) -> Result<(), Status> {
+    let signer = fingerprint(certificate_contents(certificate)?.authority)?;
+    if !authorities.contains(&signer) {
+        return Err(Status::UNTRUSTED_AUTHORITY);
+    }
+    Ok(())
 }
 
 /// What a policy asks of a certificate.

@@ -9,6 +9,7 @@ use crate::files::{authority_verdict, host_verdict};
 use crate::logins::is_readable;
 use crate::questions::Question;
 use crate::refusal::Refusal;
+use crate::revocations::Revocations;
 use crate::status::Status;
 
 /// A host that shows a certificate.
@@ -22,6 +23,8 @@ pub struct Host<'a> {
     pub unix_timestamp: u64,
     /// The texts of all the files of known_hosts that count, the user's and the machine's.
     pub known_hosts: &'a [&'a [u8]],
+    /// What is revoked, as ssh(1) asks by `RevokedHostKeys`.
+    pub revoked: Revocations<'a>,
 }
 
 /// The port about which ssh(1) asks too.
@@ -59,13 +62,12 @@ fn signed_verdict(host: &Host<'_>, port: u16, key: &[u8], authority: &[u8]) -> R
 /// is for each host of its authority.
 ///
 /// Fails with what is wrong first: with a number from 10 to 29 where the bytes are no certificate;
-/// as [`authority_verdict`] does, and with [`Status::HOST_REVOKED`] where a line revokes the
-/// certified key; with [`Refusal::NotForHosts`]; with [`Refusal::UnmetOption`] for each critical
-/// option, since none is known for hosts; with [`Refusal::Unreadable`]; and as
+/// with [`Refusal::Revoked`]; as [`authority_verdict`] does, and with [`Status::HOST_REVOKED`] where
+/// a line revokes the certified key; with [`Refusal::NotForHosts`]; with [`Refusal::UnmetOption`]
+/// for each critical option, since none is known for hosts; with [`Refusal::Unreadable`]; and as
 /// [`judge_certificate`] does.
 ///
-/// Whether the certificate is revoked by a list, and whether the host holds the certified key is
-/// not looked at (docs/FOREIGN.md).
+/// Whether the host holds the certified key is not looked at (docs/FOREIGN.md).
 pub fn validate_host(
     certificate: &[u8],
     host: &Host<'_>,
@@ -75,6 +77,7 @@ pub fn validate_host(
     let contents = certificate_contents(certificate)?;
     let authority = contents.authority;
     let key = certificate_key(certificate)?;
+    host.revoked.judge(certificate)?;
     let mut verdict = signed_verdict(host, host.port, &key, authority);
     if verdict == Err(Status::HOST_UNKNOWN) && host.port != STANDARD_PORT {
         verdict = signed_verdict(host, STANDARD_PORT, &key, authority);

@@ -5,7 +5,7 @@
 //! yours answers it.
 //!
 //! ```
-//! use sshkey::{Login, Question, Refusal, Sha256, Status};
+//! use sshkey::{Login, Question, Refusal, Revocations, Sha256, Status};
 //!
 //! /// Whether the signature is one of the message under the key, by your library.
 //! fn is_signature(question: &Question) -> bool {
@@ -15,13 +15,14 @@
 //!
 //! /// Whether the line of a certificate logs in alice, who has proved that she holds the key.
 //! fn judge(
-//!     line: &str, key: &[u8], unix_timestamp: u64, authorities: &[Sha256],
+//!     line: &str, key: &[u8], unix_timestamp: u64, authorities: &[Sha256], krl: &[u8],
 //! ) -> Result<(), Refusal> {
 //!     let certificate = sshkey::read_line(line)?.blob;
-//!     let login = Login { user: b"alice", key, unix_timestamp, authorities };
+//!     let revoked = Revocations::List(krl);
+//!     let login = Login { user: b"alice", key, unix_timestamp, authorities, revoked };
 //!     sshkey::validate_user(&certificate, &login, is_signature, |_name, _value| false)
 //! }
-//! # assert_eq!(judge("ssh-ed25519", &[], 0, &[]), Err(Refusal::Invalid(Status::LENGTH)));
+//! # assert_eq!(judge("ssh-ed25519", &[], 0, &[], &[]), Err(Refusal::Invalid(Status::LENGTH)));
 //! ```
 //!
 //! The library is libsshkey.a of the folder that SSHKEY_LIB_DIR names when this crate is built, or
@@ -71,7 +72,7 @@ pub use keys::{
 pub use logins::{validate_user, Login};
 pub use questions::{Algorithm, Question};
 pub use refusal::Refusal;
-pub use revocations::{krl_revokes_certificate, krl_revokes_key};
+pub use revocations::{krl_revokes_certificate, krl_revokes_key, Revocations};
 pub use sshsigs::{
     judge_sshsig, judge_sshsig_of_digest, signer_verdict, sshsig_hash, sshsig_question,
     sshsig_question_of_digest, sshsig_reserved, HashAlgorithm,

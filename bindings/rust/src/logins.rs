@@ -1,13 +1,14 @@
 //! Whether a certificate logs a user in.
 
 use crate::certificates::{
-    certificate_contents, certificate_fields, certificate_key, judge_certificate,
+    certificate_contents, certificate_fields, certificate_key, judge_authority, judge_certificate,
     CertificateContents, CertificateType, Principal,
 };
 use crate::digests::Sha256;
 use crate::keys::normal_key;
 use crate::questions::Question;
 use crate::refusal::Refusal;
+use crate::revocations::Revocations;
 use crate::status::Status;
 use crate::strings::strings;
 
@@ -39,6 +40,8 @@ pub struct Login<'a> {
     pub unix_timestamp: u64,
     /// Who may certify users, by the fingerprints of their keys.
     pub authorities: &'a [Sha256],
+    /// What is revoked.
+    pub revoked: Revocations<'a>,
 }
 
 /// Whether the certificate, given as its blob, logs the user in. `verify` is your cryptography, and
@@ -48,12 +51,13 @@ pub struct Login<'a> {
 /// `source-address` that is no list of networks.
 ///
 /// Fails with what is wrong first: as [`judge_certificate`] does, which may be [`Status::MEMORY`];
-/// with [`Refusal::NotForUsers`], [`Refusal::NobodyListed`], [`Refusal::UnmetOption`],
+/// with [`Refusal::Revoked`], which is asked behind the authority and before `verify`; with
+/// [`Refusal::NotForUsers`], [`Refusal::NobodyListed`], [`Refusal::UnmetOption`],
 /// [`Refusal::FlagData`] and [`Refusal::Unreadable`]; and with [`Refusal::OtherKey`], or as
 /// [`normal_key`] does, where the key is not the certificate's own.
 ///
-/// Whether the certificate is revoked, whether somebody touched a security key, and what its
-/// extensions say is not looked at (docs/FOREIGN.md).
+/// Whether somebody touched a security key, and what its extensions say is not looked at
+/// (docs/FOREIGN.md).
 pub fn validate_user(
     certificate: &[u8],
     login: &Login<'_>,
@@ -64,6 +68,8 @@ pub fn validate_user(
         return Err(Refusal::Invalid(Status::UNLISTED_PRINCIPAL));
     }
     let (second, user) = (login.unix_timestamp, Principal::Named(login.user));
+    judge_authority(certificate, login.authorities)?;
+    login.revoked.judge(certificate)?;
     judge_certificate(certificate, second, user, login.authorities, verify)?;
     let fields = certificate_fields(certificate)?;
     let contents = certificate_contents(certificate)?;

@@ -25,6 +25,8 @@ pub enum Refusal {
     NotForHosts,
     /// It has texts or principals that OpenSSH does not read.
     Unreadable,
+    /// The list revokes it, or is no list.
+    Revoked,
 }
 
 impl Refusal {
@@ -50,6 +52,7 @@ impl Refusal {
             Refusal::FlagData => (104, "data in an extension that is a flag"),
             Refusal::NotForHosts => (105, "not for hosts"),
             Refusal::Unreadable => (106, "texts or principals that sshd does not read"),
+            Refusal::Revoked => (107, "revoked or no list that can be read"),
         }
     }
 }

@@ -1,7 +1,34 @@
 //! Key revocation lists.
 
 use crate::raw;
+use crate::refusal::Refusal;
 use crate::status::Status;
+
+/// What is revoked.
+#[derive(Clone, Copy, Debug)]
+pub enum Revocations<'a> {
+    /// Nothing: who has no list says so.
+    Nothing,
+    /// What a key revocation list (PROTOCOL.krl), as `ssh-keygen -k` makes it, revokes: everything,
+    /// where the bytes are no list, as no bytes.
+    List(&'a [u8]),
+}
+
+impl Revocations<'_> {
+    /// Fails with [`Refusal::Revoked`] where the certificate is revoked, and with
+    /// [`Status::MEMORY`].
+    pub(crate) fn judge(self, certificate: &[u8]) -> Result<(), Refusal> {
+        let krl = match self {
+            Revocations::Nothing => return Ok(()),
+            Revocations::List(krl) => krl,
+        };
+        match krl_revokes_certificate(krl, certificate) {
+            Ok(false) => Ok(()),
+            Err(Status::MEMORY) => Err(Refusal::Invalid(Status::MEMORY)),
+            Ok(true) | Err(_) => Err(Refusal::Revoked),
+        }
+    }
+}
 
 /// Whether a key revocation list (PROTOCOL.krl), as `ssh-keygen -k` makes it, has the key, given as
 /// its blob, or its digest by SHA-1 or SHA-256. Let in for `Ok(false)` alone. Fails with a number

@@ -108,8 +108,13 @@ var answers = map[string]func(of []string) ([]string, error){
 
 // said are whole answers, without a 0.
 var said = map[string]func(of []string) string{
-	"validate": validate, "user": user, "host-certificate": hostCertificate, "verdict": verdict,
-	"signer": signer,
+	"validate": validate, "user": user, "verdict": verdict, "signer": signer,
+	"host-certificate": func(of []string) string {
+		return hostCertificate(of[:4], of[4:], judge.NoRevocations)
+	},
+	"host-revoked": func(of []string) string {
+		return hostCertificate(of[:4], of[5:], data(of[4]))
+	},
 }
 
 func main() {
@@ -265,6 +270,10 @@ func validate(of []string) string {
 func user(of []string) string {
 	login := judge.Login{
 		Key: data(of[1]), Now: at(of[2]), User: text(of[3]), Authorities: digests(of[4]),
+		Revoked: judge.NoRevocations,
+	}
+	if len(of) > 6 {
+		login.Revoked = data(of[6])
 	}
 	if known := text(of[5]); known != "" {
 		login.IsMet = func(name, value string) bool { return name == known && value != "unmet" }
@@ -272,12 +281,13 @@ func user(of []string) string {
 	return judge.Said(judge.ValidateUser(data(of[0]), login))
 }
 
-func hostCertificate(of []string) string {
+func hostCertificate(of, known []string, revoked []byte) string {
 	texts, port := []string{}, uint16(number(of[3]))
-	for _, it := range of[4:] {
+	for _, it := range known {
 		texts = append(texts, text(it))
 	}
-	return judge.Said(judge.ValidateHost(data(of[0]), at(of[1]), text(of[2]), port, texts))
+	err := judge.ValidateHost(data(of[0]), at(of[1]), text(of[2]), port, texts, revoked)
+	return judge.Said(err)
 }
 
 func verdict(of []string) string {

@@ -4,7 +4,8 @@
 use std::io::{self, BufRead};
 
 use sshkey::{
-    CertificateType, Draft, HashAlgorithm, Listed, Principal, Question, Refusal, Sha256, Status,
+    CertificateType, Draft, HashAlgorithm, Listed, Principal, Question, Refusal, Revocations,
+    Sha256, Status,
 };
 
 #[allow(dead_code)]
@@ -103,12 +104,13 @@ fn validate(given: &[&str]) -> Answer {
 
 fn user(given: &[&str]) -> Answer {
     let (key, user, known) = (data(given[1]), data(given[3]), data(given[5]));
-    let by = digests(given[4]);
+    let (by, krl) = (digests(given[4]), given.get(6).map(|it| data(it)));
     let login = sshkey::Login {
         user: &user,
         key: &key,
         unix_timestamp: number(given[2]),
         authorities: &by,
+        revoked: krl.as_deref().map_or(Revocations::Nothing, Revocations::List),
     };
     let is_met = |name: &str, value: &str| name.as_bytes() == known && value != "unmet";
     let verifies = check::verify::verifies;
@@ -116,8 +118,8 @@ fn user(given: &[&str]) -> Answer {
     Ok(check::line_for(answer))
 }
 
-fn host_certificate(given: &[&str]) -> Answer {
-    let (name, texts) = (data(given[2]), &given[4..]);
+fn host_certificate(given: &[&str], texts: &[&str], revoked: Revocations<'_>) -> Answer {
+    let name = data(given[2]);
     let texts: Vec<Vec<u8>> = texts.iter().map(|it| data(it)).collect();
     let known_hosts: Vec<&[u8]> = texts.iter().map(|it| &it[..]).collect();
     let host = sshkey::Host {
@@ -125,6 +127,7 @@ fn host_certificate(given: &[&str]) -> Answer {
         port: given[3].parse().expect("a port"),
         unix_timestamp: number(given[1]),
         known_hosts: &known_hosts,
+        revoked,
     };
     let answer = sshkey::validate_host(&data(given[0]), &host, check::verify::verifies);
     Ok(check::line_for(answer))
@@ -284,7 +287,8 @@ fn answer(question: &str) -> Answer {
         "is-signature" => is_signature(&at(0), &at(1), &at(2)),
         "validate" => validate(given),
         "user" => user(given),
-        "host-certificate" => host_certificate(given),
+        "host-certificate" => host_certificate(given, &given[4..], Revocations::Nothing),
+        "host-revoked" => host_certificate(given, &given[5..], Revocations::List(&at(4))),
         "fields" => fields(&at(0)),
         "lists" => lists(&at(0)),
         "certificate-options" => words(pairs("", sshkey::certificate_options(&at(0)))?),
