@@ -205,7 +205,7 @@ static uint32_t judge_principals(const uint8_t *principals, size_t length) {
 }
 
 /* SSHKEY_DONE where no byte is 0 of the application, if a security key is certified: it stands
- * behind type, nonce and the other parts of the key (PROTOCOL.certkeys, PROTOCOL.u2f). */
+ * after type, nonce and the other parts of the key (PROTOCOL.certkeys, PROTOCOL.u2f). */
 static uint32_t judge_application(judge_blob certificate) {
   sshkey_part part = {0, 0};
   size_t last = 0;
