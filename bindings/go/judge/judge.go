@@ -79,7 +79,7 @@ func ValidateUser(certificate []byte, login Login) error {
 }
 
 // judgeCertificate gives nil where the certificate is by one of the authorities, not revoked and
-// valid for the user. The list is asked behind the authority, and before cryptography runs.
+// valid for the user. The list is asked after the authority, and before cryptography runs.
 func judgeCertificate(certificate, authority []byte, login Login) error {
 	signer, err := sshkey.Fingerprint(authority)
 	if err != nil {

@@ -51,7 +51,7 @@ pub struct Login<'a> {
 /// `source-address` that is no list of networks.
 ///
 /// Fails with what is wrong first: as [`judge_certificate`] does, which may be [`Status::MEMORY`];
-/// with [`Refusal::Revoked`], which is asked behind the authority and before `verify`; with
+/// with [`Refusal::Revoked`], which is asked after the authority and before `verify`; with
 /// [`Refusal::NotForUsers`], [`Refusal::NobodyListed`], [`Refusal::UnmetOption`],
 /// [`Refusal::FlagData`] and [`Refusal::Unreadable`]; and with [`Refusal::OtherKey`], or as
 /// [`normal_key`] does, where the key is not the certificate's own.
