@@ -8,7 +8,7 @@ use Rattle.sshkey_base.specs.Causes.{cause, NoMemory}
 use Rattle.sshkey_base.specs.declared.error.Error.{Error}
 use Rattle.sshkey_base.specs.declared.error.Error.TheVariants.{FormatEncoding}
 use Rattle.sshkey_entries.specs.AuthorizedKeys.{AuthorizedKey}
-use Rattle.sshkey_entries.specs.Entries.{hash}
+use Rattle.sshkey_entries.specs.Entries.{hash_sign}
 use Rattle.sshkey_entries.specs.Fields.{without_blanks, AreKeyFields, AreNoKeyFields}
 use Rattle.sshkey_entries.specs.OpenSshLines.{IsBehindOptions, IsAuthorizedLine}
 use Rattle.sshkey_entries.specs.OptionEnds.{EndsOptions, is_blank, is_inside}
@@ -99,14 +99,14 @@ module _ (text front rest fields : List ℕ) (cut : (text ≡ front ++ rest) × 
 -- ---- a line
 
 module _ (line text : List ℕ) (skips : text ≡ without_blanks line) where
-  pub comment_read : slice_index text 0 ≡ hash → (a : AuthorizedKey) → IsAuthorizedLine line a → ⊥
+  pub comment_read : slice_index text 0 ≡ hash_sign → (a : AuthorizedKey) → IsAuthorizedLine line a → ⊥
   comment_read here a is = is.no_comment (ap (λ (t : List ℕ). slice_index t 0) (sym skips) ∙ here)
 
-  pub comment_fault : slice_index text 0 ≡ hash → HasLineFault line FormatEncoding
+  pub comment_fault : slice_index text 0 ≡ hash_sign → HasLineFault line FormatEncoding
   comment_fault here = record { comment = λ _. refl; text = λ other. absurd (other (ap (λ (t : List ℕ). slice_index t 0) (sym skips) ∙ here)) }
 
-  module _ (no_comment : slice_index text 0 ≢ hash) where
-    not_comment : slice_index (without_blanks line) 0 ≢ hash
+  module _ (no_comment : slice_index text 0 ≢ hash_sign) where
+    not_comment : slice_index (without_blanks line) 0 ≢ hash_sign
     not_comment here = no_comment (ap (λ (t : List ℕ). slice_index t 0) skips ∙ here)
 
     pub alone_needs : NeedsKeyFields text → NeedsEntry line

@@ -7,7 +7,7 @@ use Rattle.sshkey_model.specs.Lines.{space, IsKeyLine}
 use Rattle.sshkey_entries.specs.Answers.{AsksEntry, ReadsEntry}
 use Rattle.sshkey_authorized_keys.specs.AuthorizedEntries.{authorized_key_of}
 use Rattle.sshkey_entries.specs.AuthorizedKeys.{AuthorizedKey, IsAuthorizedKey, HasOptions, is_space}
-use Rattle.sshkey_entries.specs.ConfigOptions.{AreOptions}
+use Rattle.sshkey_entries.specs.ConfigOptions.{AreOptionCharacters}
 use Rattle.sshkey_entries.proofs.OneEntry.{no_space}
 use Rattle.sshkey_authorized_keys.specs.OptionAnswers.{IsNotAllowed}
 use Rattle.sshkey_authorized_keys.specs.EntryFaults.{HasFault, HasFaultOfKey}
@@ -23,10 +23,10 @@ module _ (line : List ℕ) (options rest : Bor (List ℕ)) (cut : IsSplitOnceRes
   same_parts : (a : AuthorizedKey) (h : HasOptions line a) → (options.now ≡ a.options) × (rest.now ≡ h.rest)
   same_parts a h = split_after space line a.options h.rest (Some (options, rest)) cut (omega arith) h.is (no_space a.options h.options)
 
-  pub bad_options : (e : Error) → (AreOptions options.now × (e ≡ Memory)) ⊎ IsNotAllowed options.now e → cause e ≢ NoMemory → (a : AuthorizedKey) → HasOptions line a → ⊥
+  pub bad_options : (e : Error) → (AreOptionCharacters options.now × (e ≡ Memory)) ⊎ IsNotAllowed options.now e → cause e ≢ NoMemory → (a : AuthorizedKey) → HasOptions line a → ⊥
   bad_options e why other a h = elim why [
     | inl full ↦ other (ap cause full.1)
-    | inr not_allowed ↦ not_allowed.1 (subst AreOptions (sym (same_parts a h).0) h.options)
+    | inr not_allowed ↦ not_allowed.1 (subst AreOptionCharacters (sym (same_parts a h).0) h.options)
   ]
 
   pub bad_key : (e : Error) → (cause e ≢ NoMemory → IsNoKeyLine rest.now) → cause e ≢ NoMemory → (a : AuthorizedKey) → HasOptions line a → ⊥
@@ -57,7 +57,7 @@ uncut_fault line none some = record {
 }
 
 module _ (line : List ℕ) (options rest : Bor (List ℕ)) (cut : IsSplitOnceResult space line (Some (options, rest))) (some : 3 ≤ count_by is_space line) where
-  pub options_fault : (e : Error) → (AreOptions options.now × (e ≡ Memory)) ⊎ IsNotAllowed options.now e → cause e ≢ NoMemory → HasFault line e
+  pub options_fault : (e : Error) → (AreOptionCharacters options.now × (e ≡ Memory)) ⊎ IsNotAllowed options.now e → cause e ≢ NoMemory → HasFault line e
   options_fault e why other = record {
     no_space = λ zero. absurd (omega (arith, some, zero));
     no_key = λ one few. absurd (omega (arith, some, few));
@@ -67,16 +67,16 @@ module _ (line : List ℕ) (options rest : Bor (List ℕ)) (cut : IsSplitOnceRes
     ];
     no_key_behind = λ front behind is without many are. elim why [
       | inl full ↦ absurd (other (ap cause full.1))
-      | inr not_allowed ↦ absurd (not_allowed.1 (subst AreOptions (sym (split_after space line front behind (Some (options, rest)) cut (omega arith) is without).0) are))
+      | inr not_allowed ↦ absurd (not_allowed.1 (subst AreOptionCharacters (sym (split_after space line front behind (Some (options, rest)) cut (omega arith) is without).0) are))
     ];
   }
 
   -- options that are allowed, and the fault of the key's line
-  pub key_fault : (e : Error) → AreOptions options.now → HasFaultOfKey rest.now e → HasFault line e
+  pub key_fault : (e : Error) → AreOptionCharacters options.now → HasFaultOfKey rest.now e → HasFault line e
   key_fault e are fault = record {
     no_space = λ zero. absurd (omega (arith, some, zero));
     no_key = λ one few. absurd (omega (arith, some, few));
-    no_options = λ front behind is without many bad. absurd (bad (subst AreOptions (split_after space line front behind (Some (options, rest)) cut (omega arith) is without).0 are));
+    no_options = λ front behind is without many bad. absurd (bad (subst AreOptionCharacters (split_after space line front behind (Some (options, rest)) cut (omega arith) is without).0 are));
     no_key_behind = λ front behind is without many allowed. subst (λ (t : List ℕ). HasFaultOfKey t e) (split_after space line front behind (Some (options, rest)) cut (omega arith) is without).1 fault;
   }
 
@@ -101,11 +101,11 @@ line_fault line e some few fault = record {
 
 module _ (line : List ℕ) (options rest : Bor (List ℕ)) (cut : IsSplitOnceResult space line (Some (options, rest))) (some : 3 ≤ count_by is_space line) where
   -- options that are allowed
-  pub options_needed : AreOptions options.now → NeedsOptions line
+  pub options_needed : AreOptionCharacters options.now → NeedsOptions line
   options_needed are = let parts = split_parts space line (Some (options, rest)) cut (omega arith) in
       record { options = options.now; rest = rest.now; is = parts.0; one_word = parts.1; are = are; spaces = some }
 
-  pub options_asked : (e : Error) → (AreOptions options.now × (e ≡ Memory)) ⊎ IsNotAllowed options.now e → cause e ≡ NoMemory → NeedsOptions line
+  pub options_asked : (e : Error) → (AreOptionCharacters options.now × (e ≡ Memory)) ⊎ IsNotAllowed options.now e → cause e ≡ NoMemory → NeedsOptions line
   options_asked e (inl full) memory = options_needed full.0
   options_asked e (inr not_allowed) memory = cc (sym (ap cause not_allowed.0) ∙ memory)
 

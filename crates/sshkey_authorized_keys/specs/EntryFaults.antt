@@ -8,7 +8,7 @@ use Rattle.sshkey_keys.specs.Keys.{SpellsKey}
 use Rattle.sshkey_model.specs.Lines.{space, key_name, IsWithout}
 use Rattle.sshkey_public.specs.LineFaults.{HasFaultOfLine}
 use Rattle.sshkey_entries.specs.AuthorizedKeys.{is_space}
-use Rattle.sshkey_entries.specs.ConfigOptions.{AreOptions}
+use Rattle.sshkey_entries.specs.ConfigOptions.{AreOptionCharacters}
 
 -- The text has that fault as the line of a key.
 abbrev pub HasFaultOfKey : List ℕ → Error → Type 0
@@ -20,5 +20,5 @@ HasFaultOfKey = HasFaultOfLine key_format key_name SpellsKey
 pub record HasFault (line : List ℕ) (e : Error) : Type 0 where
   pub no_space : count_by is_space line ≡ 0 → e ≡ FormatEncoding
   pub no_key : 0 < count_by is_space line → count_by is_space line < 3 → HasFaultOfKey line e
-  pub no_options : (front rest : List ℕ) → line ≡ front ++ (space ∷ rest) → IsWithout space front → 3 ≤ count_by is_space line → (AreOptions front → ⊥) → e ≡ Encoding CharacterEncoding
-  pub no_key_behind : (front rest : List ℕ) → line ≡ front ++ (space ∷ rest) → IsWithout space front → 3 ≤ count_by is_space line → AreOptions front → HasFaultOfKey rest e
+  pub no_options : (front rest : List ℕ) → line ≡ front ++ (space ∷ rest) → IsWithout space front → 3 ≤ count_by is_space line → (AreOptionCharacters front → ⊥) → e ≡ Encoding CharacterEncoding
+  pub no_key_behind : (front rest : List ℕ) → line ≡ front ++ (space ∷ rest) → IsWithout space front → 3 ≤ count_by is_space line → AreOptionCharacters front → HasFaultOfKey rest e

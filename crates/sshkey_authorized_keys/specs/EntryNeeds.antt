@@ -1,7 +1,7 @@
 -- Where reading an entry of authorized_keys needs memory.
 use Rattle.std.specs.Prelude.{◌≡◌, ◌⊎◌, ℕ, ◌≤◌, List, ◌∷◌, ◌++◌, count_by}
 use Rattle.sshkey_entries.specs.AuthorizedKeys.{is_space}
-use Rattle.sshkey_entries.specs.ConfigOptions.{AreOptions}
+use Rattle.sshkey_entries.specs.ConfigOptions.{AreOptionCharacters}
 use Rattle.sshkey_keys.specs.KeyFormats.{key_format}
 use Rattle.sshkey_keys.specs.Keys.{SpellsKey}
 use Rattle.sshkey_model.specs.Lines.{space, key_name, IsWithout}
@@ -13,7 +13,7 @@ pub record NeedsOptions (line : List ℕ) : Type 0 where
   pub rest : List ℕ
   pub is : line ≡ options ++ (space ∷ rest)
   pub one_word : IsWithout space options
-  pub are : AreOptions options
+  pub are : AreOptionCharacters options
   pub spaces : 3 ≤ count_by is_space line
 
 -- Reading the line needs memory: for the key or the comment of a key's line, or for options.

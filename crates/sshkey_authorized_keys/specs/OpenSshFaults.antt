@@ -2,7 +2,7 @@
 use Rattle.std.specs.Prelude.{◌≡◌, ◌≢◌, ℕ, List, ◌++◌, length, slice_index, Bool, true, false, Option, Some, None}
 use Rattle.sshkey_base.specs.declared.error.Error.{Error}
 use Rattle.sshkey_base.specs.declared.error.Error.TheVariants.{FormatEncoding}
-use Rattle.sshkey_entries.specs.Entries.{hash}
+use Rattle.sshkey_entries.specs.Entries.{hash_sign}
 use Rattle.sshkey_entries.specs.Fields.{without_blanks}
 use Rattle.sshkey_entries.specs.OptionEnds.{EndsOptions, is_blank}
 use Rattle.sshkey_entries.specs.KeyFields.{HasKeyFault}
@@ -34,5 +34,5 @@ pub record HasTextFault (text : List ℕ) (e : Error) : Type 0 where
 
 -- `FormatEncoding` of a comment.
 pub record HasLineFault (line : List ℕ) (e : Error) : Type 0 where
-  pub comment : slice_index (without_blanks line) 0 ≡ hash → e ≡ FormatEncoding
-  pub text : slice_index (without_blanks line) 0 ≢ hash → HasTextFault (without_blanks line) e
+  pub comment : slice_index (without_blanks line) 0 ≡ hash_sign → e ≡ FormatEncoding
+  pub text : slice_index (without_blanks line) 0 ≢ hash_sign → HasTextFault (without_blanks line) e

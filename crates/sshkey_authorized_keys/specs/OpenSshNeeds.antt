@@ -4,7 +4,7 @@ use Rattle.sshkey_base.specs.Causes.{cause, NoMemory}
 use Rattle.sshkey_base.specs.declared.error.Error.{Error}
 use Rattle.sshkey_model.specs.Keys.{Key}
 use Rattle.sshkey_entries.specs.Answers.{ReadsEntry, RefusesFor}
-use Rattle.sshkey_entries.specs.Entries.{hash}
+use Rattle.sshkey_entries.specs.Entries.{hash_sign}
 use Rattle.sshkey_entries.specs.Fields.{without_blanks, AreKeyFields}
 use Rattle.sshkey_entries.specs.OpenSshLines.{IsAuthorizedLine}
 use Rattle.sshkey_entries.specs.OptionEnds.{EndsOptions}
@@ -29,7 +29,7 @@ AsksFor Needed (Err e) = cause e ≡ NoMemory → Needed
 
 -- The line is no comment, and a key at its front needs it, or options before a key.
 pub record NeedsEntry (line : List ℕ) : Type 0 where
-  pub no_comment : slice_index (without_blanks line) 0 ≢ hash
+  pub no_comment : slice_index (without_blanks line) 0 ≢ hash_sign
   pub needed : NeedsKeyFields (without_blanks line) ⊎ NeedsBehindOptions (without_blanks line)
 
 -- One answer of a reader of lines: the entry of the line, or why it is none; and memory was refused

@@ -5,7 +5,7 @@ ghost use Rattle.std.specs.Cmp.{partial_equiv_from_equiv};
 ghost use Rattle.std.specs.Cmp.Lexicographic.{nat_list_eq_equiv, pointwise};
 ghost use Rattle.std.specs.Iterator.{YieldsFirstRef, item_count};
 ghost use Rattle.sshkey_base.specs.declared.error.Error.TheVariants as wide;
-ghost use Rattle.sshkey_entries.specs.ConfigOptions.{is_option_character, AreOptions};
+ghost use Rattle.sshkey_entries.specs.ConfigOptions.{is_option_character, AreOptionCharacters};
 ghost use Rattle.sshkey_entries.specs.Items.{items};
 ghost use Rattle.sshkey_authorized_keys.specs.Dividers.{FindsDivider};
 ghost use Rattle.sshkey_authorized_keys.specs.OptionAnswers.{JudgesInMemory, JudgesOptions};
@@ -24,7 +24,7 @@ fn is_option_character(byte: u8) -> bool
 }
 
 fn are_options(text: &str) -> bool
-    ensures { IsTrue result ↔ AreOptions text.now }
+    ensures { IsTrue result ↔ AreOptionCharacters text.now }
 {
     text.as_bytes()
         .iter()
@@ -49,10 +49,10 @@ fn first_divider(text: &[u8]) -> Option<usize>
 
 /// The first item of a text, and what follows its comma.
 fn split_item(text: &str) -> (&str, &str)
-    requires options { AreOptions text.now }
+    requires options { AreOptionCharacters text.now }
     requires some { 0 < length text.now }
     ensures items { items text.now ≡ result.0.now ∷ items result.1.now }
-    ensures options { AreOptions result.1.now }
+    ensures options { AreOptionCharacters result.1.now }
 {
     match first_divider(text.as_bytes()) {
         Some(index) => (&text[..index], &text[index + 1..]),
@@ -74,7 +74,7 @@ impl<'a> Model for ConfigOptsIter<'a> {
 
     ghost view = { λ s. items s.rest.now };
 
-    ghost invariant = { λ s. AreOptions s.rest.now };
+    ghost invariant = { λ s. AreOptionCharacters s.rest.now };
 }
 
 impl<'a> ConfigOptsIter<'a> {
@@ -118,7 +118,7 @@ impl Model for ConfigOpts {
 
     ghost view = { λ o. o.text };
 
-    ghost invariant = { λ o. AreOptions o.text };
+    ghost invariant = { λ o. AreOptionCharacters o.text };
 }
 
 impl ConfigOpts {
@@ -148,7 +148,7 @@ impl ConfigOpts {
     /// The text.
     pub fn as_str(&self) -> &str
         ensures text { result.now ≡ self.now }
-        ensures options { AreOptions result.now }
+        ensures options { AreOptionCharacters result.now }
     {
         self.text.as_str()
     }

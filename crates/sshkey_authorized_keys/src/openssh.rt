@@ -2,7 +2,7 @@
 
 ghost use Rattle.std.specs.Prelude.{◌≡◌, ◌<◌, ◌↔◌, ℕ, List, [], length, slice_index, IsTrue};
 ghost use Rattle.std.specs.Iterator.{item_count};
-ghost use Rattle.sshkey_entries.specs.Entries.{hash};
+ghost use Rattle.sshkey_entries.specs.Entries.{hash_sign};
 ghost use Rattle.sshkey_entries.specs.Fields.{AreNoKeyFields, filled_lines};
 ghost use Rattle.sshkey_entries.specs.OptionEnds.{is_blank};
 ghost use Rattle.sshkey_entries.specs.OpenSshLines.{IsAuthorizedLine, IsBehindOptions};
@@ -34,7 +34,7 @@ fn is_blank(byte: u8) -> bool
 }
 
 fn is_comment(line: &str) -> bool
-    ensures { IsTrue result ↔ (slice_index line.now 0 ≡ hash) }
+    ensures { IsTrue result ↔ (slice_index line.now 0 ≡ hash_sign) }
 {
     line.starts_with('#')
 }

@@ -7,7 +7,7 @@ use Rattle.sshkey_model.specs.Parts.{bytes, ◌&◌, flat}
 use Rattle.sshkey_model.specs.Names.{Other, at_sign, cut, are_ascii, is_split, is_own_name}
 use Rattle.sshkey_model.specs.CertificateNames.{suffix, with_suffix, certificate_name}
 use Rattle.sshkey_model.proofs.CertificateNameReaders.{cut_parts, cut_left, own_cut}
-use Rattle.sshkey_base.specs.AlgorithmName.{IsCutOf, AreParts, IsNoCertificateType, IsNoCertificateName, HasCertificateName, are_own_parts}
+use Rattle.sshkey_base.specs.AlgorithmName.{IsCutOf, AreNameParts, IsNoCertificateType, IsNoCertificateName, HasCertificateName, are_own_parts}
 use Rattle.sshkey_base.specs.Causes.{cause}
 use Rattle.sshkey_base.specs.declared.error.Error.{Error}
 use Rattle.sshkey_base.specs.declared.error.Error.TheVariants as wide
@@ -28,31 +28,31 @@ pub certificate_name-cut : (n : List ℕ) (p : List ℕ × List ℕ) → cut n �
 certificate_name-cut n p e = ap (λ (o : Option (List ℕ × List ℕ)). with_suffix o n) e
 
 -- the certificate type of a name has the parts of the name
-pub parts_of : (n t : List ℕ) → is_own_name n ≡ true → certificate_name (Other n) ≡ t → (l : List ℕ) × (r : List ℕ) × (n ≡ l ++ at_sign ∷ r) × AreParts t l r
+pub parts_of : (n t : List ℕ) → is_own_name n ≡ true → certificate_name (Other n) ≡ t → (l : List ℕ) × (r : List ℕ) × (n ≡ l ++ at_sign ∷ r) × AreNameParts t l r
 parts_of n t own e =
     let p = own_cut n own in
     let parts = cut_parts n p.0 p.1 in
     (p.0.0, p.0.1, parts.0, record { first = parts.1; whole = sym e ∙ certificate_name-cut n p.0 p.1 })
 
 -- and no other parts
-pub same_parts : (t l r k q : List ℕ) → AreParts t l r → AreParts t k q → (l ≡ k) × (r ≡ q)
+pub same_parts : (t l r k q : List ℕ) → AreNameParts t l r → AreNameParts t k q → (l ≡ k) × (r ≡ q)
 same_parts t l r k q a b =
     let both : Some (l ++ suffix, r) ≡ Some (k ++ suffix, q) = sym (cut-suffixed l r a.first) ∙ ap cut (sym a.whole ∙ b.whole) ∙ cut-suffixed k q b.first in
     let pair : (l ++ suffix, r) ≡ (k ++ suffix, q) = cc both in
     (append_cancel_right l k suffix (ap (λ (z : List ℕ × List ℕ). z.0) pair), ap (λ (z : List ℕ × List ℕ). z.1) pair)
 
-pub no_at_sign : (t : List ℕ) → cut t ≡ None → (l r : List ℕ) → AreParts t l r → ⊥
+pub no_at_sign : (t : List ℕ) → cut t ≡ None → (l r : List ℕ) → AreNameParts t l r → ⊥
 no_at_sign t e l r p =
     let s : cut t ≡ Some (l ++ suffix, r) = ap cut p.whole ∙ cut-suffixed l r p.first in
     cc (e, s)
 
-pub no_suffix : (t name domain : List ℕ) → cut t ≡ Some (name, domain) → ((front : List ℕ) → name ≢ front ++ suffix) → (l r : List ℕ) → AreParts t l r → ⊥
+pub no_suffix : (t name domain : List ℕ) → cut t ≡ Some (name, domain) → ((front : List ℕ) → name ≢ front ++ suffix) → (l r : List ℕ) → AreNameParts t l r → ⊥
 no_suffix t name domain e none l r p =
     let s : Some (name, domain) ≡ Some (l ++ suffix, r) = sym e ∙ ap cut p.whole ∙ cut-suffixed l r p.first in
     let pair : (name, domain) ≡ (l ++ suffix, r) = cc s in
     none l (ap (λ (z : List ℕ × List ℕ). z.0) pair)
 
-pub are_parts : (t name domain l : List ℕ) → cut t ≡ Some (name, domain) → name ≡ l ++ suffix → AreParts t l domain
+pub are_parts : (t name domain l : List ℕ) → cut t ≡ Some (name, domain) → name ≡ l ++ suffix → AreNameParts t l domain
 are_parts t name domain l e ends =
     let parts = cut_parts t (name, domain) e in
     record { first = cut_left l suffix (subst (λ (z : List ℕ). cut z ≡ None) ends parts.1); whole = parts.0 ∙ ap (λ (z : List ℕ). z ++ at_sign ∷ domain) ends }
@@ -76,11 +76,11 @@ own_parts l r none =
     rw (are_ascii-append, size, cut-at l r none) refl
 
 -- a text without those parts is the certificate type of no name
-pub no_type : (t : List ℕ) → ((l r : List ℕ) → AreParts t l r → ⊥) → IsNoCertificateType t
+pub no_type : (t : List ℕ) → ((l r : List ℕ) → AreNameParts t l r → ⊥) → IsNoCertificateType t
 no_type t without n own spelt = let p = parts_of n t own spelt in without p.0 p.1 p.3
 
 -- nor is one whose parts are those of no name
-pub no_parts : (t l r : List ℕ) → AreParts t l r → are_own_parts l r ≡ false → IsNoCertificateType t
+pub no_parts : (t l r : List ℕ) → AreNameParts t l r → are_own_parts l r ≡ false → IsNoCertificateType t
 no_parts t l r parts not n own spelt =
     let p = parts_of n t own spelt in
     let same = same_parts t p.0 p.1 l r p.3 parts in
@@ -91,7 +91,7 @@ pub refused : (t : List ℕ) (e : Error) → IsNoCertificateType t → e ≡ wid
 refused t e none is = record { none = none; label = ap cause is }
 
 -- a text whose parts are those of a name is that of the name without the suffix
-pub has_name : (t l r n : List ℕ) → AreParts t l r → are_own_parts l r ≡ true → n ≡ l ++ at_sign ∷ r → HasCertificateName t n
+pub has_name : (t l r n : List ℕ) → AreNameParts t l r → are_own_parts l r ≡ true → n ≡ l ++ at_sign ∷ r → HasCertificateName t n
 has_name t l r n parts own is = record {
   own = rw (is, own_parts l r parts.first) own;
   spelled = certificate_name-cut n (l, r) (ap cut is ∙ cut-at l r parts.first) ∙ sym parts.whole;

@@ -42,7 +42,7 @@ IsCutOf t (Some p) = cut t ≡ Some (p.0.now, p.1.now)
 
 -- The text has the suffix before its first at sign, and these are what stands before the suffix and
 -- behind that sign.
-pub record AreParts (t l r : List ℕ) : Type 0 where
+pub record AreNameParts (t l r : List ℕ) : Type 0 where
   pub first : cut l ≡ None
   pub whole : t ≡ l ++ suffix ++ at_sign ∷ r
 
@@ -57,5 +57,5 @@ AreCertifiedParts t None = IsNoCertificateType t
 AreCertifiedParts t (Some p) = HasCertificateName t (p.0.now ++ at_sign ∷ p.1.now)
 
 abbrev pub IsWithoutSuffix : List ℕ → Option (Bor (List ℕ) × Bor (List ℕ)) → Type 0
-IsWithoutSuffix t None = (l r : List ℕ) → AreParts t l r → ⊥
-IsWithoutSuffix t (Some p) = AreParts t p.0.now p.1.now
+IsWithoutSuffix t None = (l r : List ℕ) → AreNameParts t l r → ⊥
+IsWithoutSuffix t (Some p) = AreNameParts t p.0.now p.1.now

@@ -12,7 +12,7 @@ use Rattle.base64.proofs.EngineFacts.{decode_of-encode_of, decode_of_strict, enc
 use Rattle.base64.proofs.Streams.{decoded_of-ok}
 use Rattle.sshkey_model.specs.Parts.{are_bytes}
 use Rattle.sshkey_model.proofs.CombinedReaders.{bytes_fit, fit_bytes, are_bytes-append}
-use Rattle.sshkey_base64.specs.Words64.{padding, announced, only_bytes, group, before, good, word_source, IsSourceOf}
+use Rattle.sshkey_base64.specs.Words64.{pad_count, announced, only_bytes, group, before, good, word_source, IsSourceOf}
 
 -- ---- one group
 
@@ -76,7 +76,7 @@ small true true = omega arith
 small true false = omega arith
 small false t = omega arith
 
-padding_small : (w : List ℕ) → padding w ≤ 2
+padding_small : (w : List ℕ) → pad_count w ≤ 2
 padding_small w = small (slice_index w (length w - 1) == 61) (slice_index w (length w - 2) == 61)
 
 more : (n p q : ℕ) → p ≡ q → q ≤ 2 → n % 4 ≡ 0 → 0 < n → 3 * (suc (suc (suc (suc n))) / 4) - p ≡ 3 + (3 * (n / 4) - q)
@@ -96,14 +96,14 @@ announced_more a b c d r whole some =
     let two : length w - 2 ≡ suc (suc (suc (suc (length r - 2)))) = omega arith in
     let last : slice_index w (length w - 1) ≡ slice_index r (length r - 1) = ap (λ (i : ℕ). slice_index w i) one in
     let before_last : slice_index w (length w - 2) ≡ slice_index r (length r - 2) = ap (λ (i : ℕ). slice_index w i) two in
-    let same : padding w ≡ padding r = same_ends _ _ _ _ last before_last in
-    more (length r) (padding w) (padding r) same (padding_small r) whole some
+    let same : pad_count w ≡ pad_count r = same_ends _ _ _ _ last before_last in
+    more (length r) (pad_count w) (pad_count r) same (padding_small r) whole some
 
 some_left : (n p : ℕ) → n % 4 ≡ 0 → 0 < n → p ≤ 2 → 0 < 3 * (n / 4) - p
 some_left n p whole some le = omega arith
 
 pub announced_some : (w : List ℕ) → length w % 4 ≡ 0 → 0 < length w → 0 < announced w
-announced_some w whole some = some_left (length w) (padding w) whole some (padding_small w)
+announced_some w whole some = some_left (length w) (pad_count w) whole some (padding_small w)
 
 -- a group gives as many as it announces
 group_length : (g b : List ℕ) → length g ≡ 4 → g ≡ encode_of standard b → (length b ≡ announced g) × (length b ≤ 3)

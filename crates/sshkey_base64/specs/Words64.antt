@@ -14,12 +14,12 @@ pub record IsSourceOf (word : List ℕ) (s : Source) : Type 0 where
   pub every : (b : List ℕ) → IsBytes b → word ≡ encode_of standard b → IsSound s × (s.left ≡ b)
 
 -- how many `=` stand at the end, of which two are counted at most
-abbrev pub padding : List ℕ → ℕ
-padding w = if slice_index w (length w - 1) == 61 then (if slice_index w (length w - 2) == 61 then 2 else 1) else 0
+abbrev pub pad_count : List ℕ → ℕ
+pad_count w = if slice_index w (length w - 1) == 61 then (if slice_index w (length w - 2) == 61 then 2 else 1) else 0
 
 -- as many bytes as the word's length tells
 abbrev pub announced : List ℕ → ℕ
-announced w = 3 * (length w / 4) - padding w
+announced w = 3 * (length w / 4) - pad_count w
 
 -- numbers above 255 are no bytes
 abbrev pub only_bytes : Option (List ℕ) → Option (List ℕ)

@@ -4,7 +4,7 @@ ghost use Rattle.std.specs.Prelude.{◌≡◌, ◌≢◌, ◌≤◌, ◌<◌, �
 ghost use Rattle.sshkey_model.specs.Parts.{are_bytes};
 ghost use Rattle.sshkey_base.specs.Source.{Takes, Later, Advances, announced_len};
 ghost use Rattle.sshkey_base.specs.declared.encoding.Error.TheVariants as encoding;
-ghost use Rattle.sshkey_base64.specs.Words64.{IsSourceOf, padding, announced, word_source, DecodesGroups, DecodesSome, TakesBase64, Holds, IsWordFault};
+ghost use Rattle.sshkey_base64.specs.Words64.{IsSourceOf, pad_count, announced, word_source, DecodesGroups, DecodesSome, TakesBase64, Holds, IsWordFault};
 
 use crate::groups::decode_symbols;
 use base64::engine::general_purpose::STANDARD;
@@ -29,9 +29,9 @@ pub struct Base64Reader<'a> {
 }
 
 /// How many `=` stand at the end, of which two are counted at most.
-fn padding(text: &[u8]) -> usize
+fn pad_count(text: &[u8]) -> usize
     requires { length text.now % 4 ≡ 0 }
-    ensures { result ≡ padding text.now }
+    ensures { result ≡ pad_count text.now }
 {
     let len = text.len();
     if len == 0 || text[len - 1] != b'=' {
@@ -48,7 +48,7 @@ fn announced(text: &[u8]) -> usize
     requires { length text.now % 4 ≡ 0 }
     ensures { result ≡ announced text.now }
 {
-    text.len() / 4 * 3 - padding(text)
+    text.len() / 4 * 3 - pad_count(text)
 }
 
 /// Decodes groups of four characters, of which the last may have padding, and says how many bytes

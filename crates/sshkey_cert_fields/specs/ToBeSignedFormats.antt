@@ -8,7 +8,7 @@ use Rattle.sshkey_model.specs.Options.{CertificateOption}
 use Rattle.sshkey_model.specs.Reading.{Fault}
 use Rattle.sshkey_base.specs.Formats.{Format, number64_format, string_format, text_format, texts_format}
 use Rattle.sshkey_base.specs.NameFormats.{certified_format}
-use Rattle.sshkey_terms.specs.Terms.{◌then◌, boxed, choice, tested, IsMapped, checked_read}
+use Rattle.sshkey_terms.specs.Terms.{◌then◌, boxed, dependent, tested, IsMapped, checked_read}
 use Rattle.sshkey_keys.specs.KeyFormats.{body_format, key_format}
 use Rattle.sshkey_cert_values.specs.Leaves.{type_format, time_format, end_format}
 use Rattle.sshkey_cert_values.specs.OptionLists.{options_format}
@@ -19,7 +19,7 @@ opening_format = certified_format then string_format
 
 -- and the key's body under that name
 abbrev pub named_format : Format ((Algorithm × List ℕ) × Key)
-named_format = choice opening_format (λ x. body_format x.0)
+named_format = dependent opening_format (λ x. body_format x.0)
 
 -- the nonce and the key, which has the name
 abbrev pub subject_of_parts : (Algorithm × List ℕ) × Key → Result (List ℕ × Key) Fault
@@ -31,11 +31,11 @@ subject_format = tested subject_of_parts named_format
 pub subject_parts_read : IsMapped subject_format.read subject_of_parts named_format.read
 subject_parts_read = checked_read subject_of_parts named_format.read
 
-abbrev pub Grant : Type 0
-Grant = (ℕ × CertificateType) × (List ℕ × List (List ℕ))
+abbrev pub GrantFields : Type 0
+GrantFields = (ℕ × CertificateType) × (List ℕ × List (List ℕ))
 
 -- the serial number, the type, the key id and the principals
-abbrev pub grant_format : Format Grant
+abbrev pub grant_format : Format GrantFields
 grant_format = (number64_format then type_format) then (text_format then texts_format)
 
 abbrev pub Window : Type 0
@@ -54,7 +54,7 @@ abbrev pub authority_format : Format (List ℕ × Key)
 authority_format = string_format then boxed key_format
 
 abbrev Fields : Type 0
-Fields = ((List ℕ × Key) × Grant) × (Window × ((List CertificateOption × List CertificateOption) × (List ℕ × Key)))
+Fields = ((List ℕ × Key) × GrantFields) × (Window × ((List CertificateOption × List CertificateOption) × (List ℕ × Key)))
 
 abbrev pub fields_format : Format Fields
 fields_format = (subject_format then grant_format) then window_format then limits_format then authority_format

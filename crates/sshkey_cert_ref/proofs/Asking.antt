@@ -3,7 +3,7 @@ use Rattle.std.proofs.Common.{◌≡◌, ℕ, List, None, Some, Option, option_m
 use Rattle.std.specs.Prelude.{◌≢◌}
 use Rattle.sshkey_base.specs.declared.error.Error.{Error}
 use Rattle.sshkey_base.specs.declared.error.Error.TheVariants.{Memory}
-use Rattle.sshkey_cert.specs.Validity.{Tells, refusal_error}
+use Rattle.sshkey_cert.specs.Validity.{ReportsRefusal, refusal_error}
 use Rattle.sshkey_keys_ref.specs.NormalBytes.{IsRenamed}
 use Rattle.sshkey_model.specs.Certificates.{Certificate, CertificateChoices, SignedFields, plain_choices}
 use Rattle.sshkey_model.specs.Keys.{Plain, key}
@@ -28,6 +28,6 @@ never_memory (Some InvalidTime) e is memory = cc
 never_memory (Some OutOfWindow) e is memory = cc
 never_memory (Some UnlistedPrincipal) e is memory = cc
 
-pub told : (Needed : Type 0) (first : Option Refusal) (r : Result Unit Error) → Tells first r → IfErr r (λ e. e ≡ Memory → Needed)
+pub told : (Needed : Type 0) (first : Option Refusal) (r : Result Unit Error) → ReportsRefusal first r → IfErr r (λ e. e ≡ Memory → Needed)
 told Needed first (Ok x) h = tt
 told Needed first (Err e) h = λ memory. absurd (never_memory first e h memory)

@@ -11,7 +11,7 @@ use Rattle.sshkey_base.specs.declared.encoding.Error.TheVariants as encoding
 use Rattle.sshkey_base.specs.Answers.{AnswersAlways}
 use Rattle.sshkey_base.specs.Causes.{encoding_cause}
 use Rattle.sshkey_base.proofs.Boxes.{some_behind}
-use Rattle.sshkey_keys_ref.specs.Taking.{Takes}
+use Rattle.sshkey_keys_ref.specs.Taking.{TakesValue}
 use Rattle.sshkey_cert_ref.specs.SpelledOptions.{nesting, value_pair_of}
 use Rattle.sshkey_terms.proofs.SliceFronts.{answers_ok, answers_err}
 
@@ -31,7 +31,7 @@ value_empty b x none is = rw (nil_from_length b none, value_of_none, is) refl
 abbrev pub Whole : List ℕ → Result (Bor (List ℕ)) Error → Type 0
 Whole b r = AnswersAlways (λ t. t.now) encoding_cause (whole text_at b) r
 
-module _ (b rest : List ℕ) (t : Bor (List ℕ)) (h : Takes (λ t. t.now) encoding_cause text_at b (Ok t) rest) (is_empty : Bool) (says : is_empty ≡ eqb (length rest) 0) where
+module _ (b rest : List ℕ) (t : Bor (List ℕ)) (h : TakesValue (λ t. t.now) encoding_cause text_at b (Ok t) rest) (is_empty : Bool) (says : is_empty ≡ eqb (length rest) 0) where
   pub whole_trails : is_empty ≡ false → Whole b (Err (encoding.TrailingData (length rest)))
   whole_trails more =
       let some : 0 < length rest = omega (arith, eqb-false (length rest) 0 (sym says ∙ more)) in

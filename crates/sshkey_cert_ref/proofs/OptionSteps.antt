@@ -15,7 +15,7 @@ use Rattle.sshkey_base.proofs.ReadLists.{Collects, collects_more, leaves_less}
 use Rattle.sshkey_cert_ref.specs.declared.options_ref.item.SpelledOption.{SpelledOption}
 use Rattle.sshkey_cert_ref.specs.OptionLists.{options_in, are_plain, plainness_from}
 use Rattle.sshkey_cert_ref.specs.SpelledOptions.{pair_of, nesting}
-use Rattle.sshkey_keys_ref.specs.Taking.{Takes}
+use Rattle.sshkey_keys_ref.specs.Taking.{TakesValue}
 use Rattle.sshkey_terms.specs.Slices.{is_taken}
 use Rattle.sshkey_cert_ref.proofs.ListSteps.{first_of, empty_list, all_refused, all_taken}
 
@@ -45,7 +45,7 @@ option_again before b y e =
 -- ---- the first option
 
 abbrev Taken : Option Pair → List ℕ → Result SpelledOption wide-error.Error → List ℕ → Type 0
-Taken before b r rest = Takes pair_of cause (option_at before) b r rest
+Taken before b r rest = TakesValue pair_of cause (option_at before) b r rest
 
 -- It is the first of the list, and the others stand behind it.
 pub record IsFirstOption (b : List ℕ) (first : CertificateOption) (rest : List ℕ) : Type 0 where

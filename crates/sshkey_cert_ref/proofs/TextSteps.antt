@@ -15,7 +15,7 @@ use Rattle.sshkey_base.specs.Source.{all_of}
 use Rattle.sshkey_base.specs.TextLists.{text_list_at}
 use Rattle.sshkey_base.proofs.ReadLists.{Collects, collects_more, leaves_less}
 use Rattle.sshkey_cert_ref.specs.TextLists.{SpellsEachText, texts_in}
-use Rattle.sshkey_keys_ref.specs.Taking.{Takes}
+use Rattle.sshkey_keys_ref.specs.Taking.{TakesValue}
 use Rattle.sshkey_terms.specs.Slices.{Keeps, is_taken}
 use Rattle.sshkey_cert_ref.specs.Views.{bytes_of_texts, texts_of}
 use Rattle.sshkey_cert_ref.specs.declared.texts_ref.TextsRef.{TextsRef}
@@ -60,7 +60,7 @@ first_text b some taken =
 
 -- the bytes of a string that was taken
 abbrev Taken : List ℕ → Result (Bor (List ℕ)) Error → List ℕ → Type 0
-Taken b r rest = Takes (λ s. s.now) encoding_cause string_at b r rest
+Taken b r rest = TakesValue (λ s. s.now) encoding_cause string_at b r rest
 
 pub text_first : (b rest : List ℕ) (text : Bor (List ℕ)) → 0 < length b → is_taken (text_list_at b) ≡ true → Taken b (Ok text) rest → IsFirstText b text.now rest
 text_first b rest text some taken h =
@@ -106,7 +106,7 @@ Walks b before done rest = Collects (λ _. text_at) (all_of b) before done (all_
 
 -- a text that was taken
 abbrev TakenText : List ℕ → Result (Bor (List ℕ)) Error → List ℕ → Type 0
-TakenText b r rest = Takes (λ t. t.now) encoding_cause text_at b r rest
+TakenText b r rest = TakesValue (λ t. t.now) encoding_cause text_at b r rest
 
 pub walk_on : (b left rest : List ℕ) (before : Option (List ℕ)) (done : List (List ℕ)) (t : Bor (List ℕ)) → Walks b before done left → TakenText left (Ok t) rest → Walks b (Some t.now) (done ++ t.now ∷ []) rest
 walk_on b left rest before done t c h = collects_more (λ _. text_at) (λ x. x) (all_of b) (all_of left) (all_of rest) before done t.now c (record { value = h.value; missing = refl; outer = refl }) (text_less before left t.now rest h.value)

@@ -22,7 +22,7 @@ use Rattle.sshkey_keys_ref.specs.declared.key_data_ref.KeyDataRef.{KeyDataRef}
 use Rattle.sshkey_keys_ref.specs.declared.signature_ref.SignatureRef.{SignatureRef}
 use Rattle.sshkey_cert_ref.specs.OptionLists.{SpellsOptionString}
 use Rattle.sshkey_terms.specs.Slices.{found_or}
-use Rattle.sshkey_cert_fields.specs.ToBeSignedFormats.{Grant, Window, grant_format, window_format}
+use Rattle.sshkey_cert_fields.specs.ToBeSignedFormats.{GrantFields, Window, grant_format, window_format}
 
 abbrev OptionsAsSpelled : Type 0
 OptionsAsSpelled = List CertificateOption × List Nesting
@@ -56,5 +56,5 @@ spelled_signature_of r = found_or no_signature (whole signature_at (signature_by
 
 -- the serial number, the type, the key id and the principals; the two times; the options; the
 -- reserved bytes and the key that signs
-abbrev pub behind_key_format : Format (Grant × (Window × ((OptionsAsSpelled × OptionsAsSpelled) × (List ℕ × (Key × Head)))))
+abbrev pub behind_key_format : Format (GrantFields × (Window × ((OptionsAsSpelled × OptionsAsSpelled) × (List ℕ × (Key × Head)))))
 behind_key_format = grant_format then window_format then (spelled_options_format then spelled_options_format) then string_format then boxed_key_format

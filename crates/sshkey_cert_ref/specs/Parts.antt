@@ -24,7 +24,7 @@ abbrev pub IsSignatureIn : SignatureRef → Signature → Type 0
 IsSignatureIn r g = signature_bytes r ≡ flat (signature g)
 
 -- Each part is the one of the certificate, spelled as the choices say.
-pub record AreParts (p : Parts) (x : SignedFields × CertificateChoices) : Type 0 where
+pub record AreCertificateParts (p : Parts) (x : SignedFields × CertificateChoices) : Type 0 where
   pub name : p.name.now ≡ certificate_name (key_algorithm x.0.key)
   pub nonce : p.nonce.now ≡ x.0.nonce
   pub key : p.key.now ≡ flat (body x.0.key)

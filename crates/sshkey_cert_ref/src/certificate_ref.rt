@@ -8,7 +8,7 @@ ghost use Rattle.sshkey_model.specs.Parts.{flat};
 ghost use Rattle.sshkey_model.specs.Reading.{box_at, whole};
 ghost use Rattle.sshkey_model.specs.Signatures.{signature_at};
 ghost use Rattle.sshkey_terms.specs.Slices.{is_taken};
-ghost use Rattle.sshkey_cert_ref.specs.Parts.{AreParts, IsSignatureIn};
+ghost use Rattle.sshkey_cert_ref.specs.Parts.{AreCertificateParts, IsSignatureIn};
 ghost use Rattle.sshkey_cert_ref.specs.Spelled.{fields_in, spelled_in};
 ghost use Rattle.sshkey_cert_ref.specs.Taking.{TakesWhole};
 
@@ -40,7 +40,7 @@ pub struct CertificateRef<'a> {
     pub ghost form: { is_taken (whole certificate_at bytes.now) ≡ true },
     ghost before: { signed.now
         ≡ flat (to_be_signed (spelled_in bytes.now).0.signed (spelled_in bytes.now).1) },
-    ghost fields: { AreParts parts (fields_in bytes.now) } by { Prim.hlevel props },
+    ghost fields: { AreCertificateParts parts (fields_in bytes.now) } by { Prim.hlevel props },
     ghost last: { IsSignatureIn signature (spelled_in bytes.now).0.signature },
 }
 

@@ -3,7 +3,7 @@
 ghost use Rattle.std.specs.Prelude.{IfOk, Ok};
 ghost use Rattle.sshkey_base.specs.Causes.{encoding_cause};
 ghost use Rattle.sshkey_base.specs.Source.{Later, all_of};
-ghost use Rattle.sshkey_keys_ref.specs.Taking.{Takes};
+ghost use Rattle.sshkey_keys_ref.specs.Taking.{TakesValue};
 ghost use Rattle.sshkey_model.specs.Reading.{box_at};
 ghost use Rattle.sshkey_terms.specs.Slices.{Splits};
 
@@ -13,7 +13,7 @@ use sshkey_terms::ReadFrom;
 /// Takes the bytes of a string.
 #[tactic(auto, using(sshkey_base::proofs::Places::places))]
 pub(crate) fn take_string<'a>(bytes: &mut &'a [u8]) -> Result<&'a [u8]>
-    ensures gives { Takes (λ s. s.now) encoding_cause (box_at (λ s. Ok s))
+    ensures gives { TakesValue (λ s. s.now) encoding_cause (box_at (λ s. Ok s))
         bytes.old.now result bytes.new.now }
     ensures later { Later (all_of bytes.old.now) (all_of bytes.new.now) }
 {

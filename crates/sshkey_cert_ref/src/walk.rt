@@ -2,7 +2,7 @@
 
 ghost use Rattle.sshkey_base.specs.Causes.{cause};
 ghost use Rattle.sshkey_model.specs.Certificates.{signed_fields_at};
-ghost use Rattle.sshkey_cert_ref.specs.Parts.{AreParts, AreSubject};
+ghost use Rattle.sshkey_cert_ref.specs.Parts.{AreCertificateParts, AreSubject};
 ghost use Rattle.sshkey_cert_ref.specs.Taking.{Cuts};
 ghost use Rattle.sshkey_cert_fields.specs.ToBeSignedFormats.{subject_format};
 
@@ -36,7 +36,7 @@ type BehindKey<'a> = Then<Grant<'a>, Then<Window, Then<Limits<'a>, Authority<'a>
 
 /// All fields before the signature, and what stands after them.
 pub(crate) fn split_parts<'a>(bytes: &'a [u8]) -> Result<(Parts<'a>, &'a [u8])>
-    ensures { Cuts AreParts cause signed_fields_at bytes.now result }
+    ensures { Cuts AreCertificateParts cause signed_fields_at bytes.now result }
 {
     let ((name, nonce, key), behind_subject) = split_subject(bytes)?;
     let mut rest = behind_subject;

@@ -2,7 +2,7 @@
 use Rattle.std.proofs.Common.{◌≡◌, ◌⊎◌, ℕ, List, [], ◌∷◌, ◌++◌, None, inl, sym, ap, subst, ◌∙◌, append_assoc}
 use Rattle.std.specs.List.{AllZip}
 use Rattle.std.specs.Iterator.{Yields}
-use Rattle.sshkey_entries.specs.Answers.{AreEntries, NeedsFirst, YieldsAnswers}
+use Rattle.sshkey_entries.specs.Answers.{AreEntries, NeedsFirstLine, YieldsAnswers}
 
 module _ {X : Type 0} (R : List ℕ → X → Type 0) where
   zip_push : (all : List (List ℕ)) (xs : List X) (entry : List ℕ) (x : X) → AllZip R all xs → R entry x → AllZip R (all ++ (entry ∷ [])) (xs ++ (x ∷ []))
@@ -30,7 +30,7 @@ module _ {X : Type 0} (R : List ℕ → X → Type 0) where
 -- Lines were read, so that the first has a value; or none was, and the next has a value or needs
 -- memory.
 pub needed_first : {X Y : Type 0} (means : X → Y) (IsEntry : List ℕ → Y → Type 0) (Needs : List ℕ → Type 0) (all before left rest : List (List ℕ)) (xs : List X) (line : List ℕ) → all ≡ before ++ left → AreEntries means IsEntry before xs → left ≡ line ∷ rest
-    → ((y : Y) × IsEntry line y) ⊎ Needs line → NeedsFirst IsEntry Needs all
-needed_first means IsEntry Needs all [] left rest xs line e read next need = subst (NeedsFirst IsEntry Needs) (sym (e ∙ next)) need
+    → ((y : Y) × IsEntry line y) ⊎ Needs line → NeedsFirstLine IsEntry Needs all
+needed_first means IsEntry Needs all [] left rest xs line e read next need = subst (NeedsFirstLine IsEntry Needs) (sym (e ∙ next)) need
 needed_first means IsEntry Needs all (first ∷ before) left rest [] line e read next need = absurd read
-needed_first means IsEntry Needs all (first ∷ before) left rest (x ∷ xs) line e read next need = subst (NeedsFirst IsEntry Needs) (sym e) (inl (means x, read.0))
+needed_first means IsEntry Needs all (first ∷ before) left rest (x ∷ xs) line e read next need = subst (NeedsFirstLine IsEntry Needs) (sym e) (inl (means x, read.0))

@@ -8,11 +8,11 @@ use Rattle.sshkey_model.proofs.Blobs.{key_blobs}
 use Rattle.sshkey_model.proofs.LineCuts.{one_front}
 use Rattle.sshkey_model.proofs.Lines.{one_line}
 use Rattle.sshkey_entries.specs.AuthorizedKeys.{AuthorizedKey, IsAuthorizedKey, IsWithoutOptions, HasOptions}
-use Rattle.sshkey_entries.specs.ConfigOptions.{AreOptions, is_option_character}
+use Rattle.sshkey_entries.specs.ConfigOptions.{AreOptionCharacters, is_option_character}
 use Rattle.sshkey_entries.specs.OptionEnds.{EndsOptions}
 
 -- options hold no space
-pub no_space : (options : List ℕ) → AreOptions options → IsWithout space options
+pub no_space : (options : List ℕ) → AreOptionCharacters options → IsWithout space options
 no_space options h = λ i l e. cc (sym (h i l) ∙ ap is_option_character e)
 
 pub one_key_line : (text : List ℕ) (k l : Key) (m n : List ℕ) → IsKeyLine text k m → IsKeyLine text l n → (k ≡ l) × (m ≡ n)

@@ -6,7 +6,7 @@ use Rattle.std.proofs.lemmas.List.Splits.{slice_split_none, slice_split_first, l
 use Rattle.std.proofs.lemmas.Str.Pattern.{IsSplitOnceResult, split_parts, split_once_first}
 use Rattle.sshkey_entries.specs.Items.{patterns, without_empty_last, is_comma}
 use Rattle.sshkey_entries.proofs.Cuts.{kept_first, kept_last}
-use Rattle.sshkey_entries.specs.Patterns.{IsShort, Names, Refuses}
+use Rattle.sshkey_entries.specs.Patterns.{IsShortPattern, MatchesPlain, MatchesNegated}
 
 -- ---- the patterns of a list
 
@@ -49,9 +49,9 @@ module _ {X : Type 0} (P : X → Type 0) (x : X) (xs : List X) where
 
 -- One was found before, or is among these; none of these refuses the text, or is too long.
 pub record StillListed (fold : ℕ → ℕ) (found : Bool) (text : List ℕ) (ps : List (List ℕ)) : Type 0 where
-  pub named : IsTrue found ⊎ Any (Names fold text) ps
-  pub not_refused : ¬ Any (Refuses fold text) ps
-  pub short : All IsShort ps
+  pub named : IsTrue found ⊎ Any (MatchesPlain fold text) ps
+  pub not_refused : ¬ Any (MatchesNegated fold text) ps
+  pub short : All IsShortPattern ps
 
 pub at_last : (fold : ℕ → ℕ) (found : Bool) (text : List ℕ) (ps : List (List ℕ)) → ps ≡ [] → StillListed fold found text ps ↔ IsTrue found
 at_last fold found text ps none = (
@@ -59,7 +59,7 @@ at_last fold found text ps none = (
   λ named_here. record {
     named = inl named_here;
     not_refused = λ some. absurd (omega (arith, some.2, ap length none));
-    short = subst (All IsShort) (sym none) (All-nil IsShort);
+    short = subst (All IsShortPattern) (sym none) (All-nil IsShortPattern);
   },
 )
 
@@ -74,38 +74,38 @@ either_named true named_here e = inl refl
 either_named false named_here e = inr e
 
 module _ (fold : ℕ → ℕ) (found : Bool) (text pattern : List ℕ) (all ps : List (List ℕ)) (is : all ≡ pattern ∷ ps) where
-  pub too_long : (IsShort pattern → ⊥) → StillListed fold found text all → ⊥
-  too_long long still = long (All-head IsShort pattern ps (subst (All IsShort) is still.short))
+  pub too_long : (IsShortPattern pattern → ⊥) → StillListed fold found text all → ⊥
+  too_long long still = long (All-head IsShortPattern pattern ps (subst (All IsShortPattern) is still.short))
 
-  pub refused : Refuses fold text pattern → StillListed fold found text all → ⊥
-  refused refusal still = still.not_refused (subst (Any (Refuses fold text)) (sym is) (any_here (Refuses fold text) pattern ps refusal))
+  pub refused : MatchesNegated fold text pattern → StillListed fold found text all → ⊥
+  refused refusal still = still.not_refused (subst (Any (MatchesNegated fold text)) (sym is) (any_here (MatchesNegated fold text) pattern ps refusal))
 
-  module _ (named_here : Bool) (short : IsShort pattern) (kept : Refuses fold text pattern → ⊥) (names : IsTrue named_here ↔ Names fold text pattern) where
+  module _ (named_here : Bool) (short : IsShortPattern pattern) (kept : MatchesNegated fold text pattern → ⊥) (names : IsTrue named_here ↔ MatchesPlain fold text pattern) where
     pub one_less : StillListed fold found text all ↔ StillListed fold (found || named_here) text ps
     one_less = (
       λ still. record {
         named = elim still.named [
           | inl before ↦ inl (or_named found named_here (inl before))
-          | inr some ↦ elim (any_cases (Names fold text) pattern ps (subst (Any (Names fold text)) is some)) [
+          | inr some ↦ elim (any_cases (MatchesPlain fold text) pattern ps (subst (Any (MatchesPlain fold text)) is some)) [
             | inl here ↦ inl (or_named found named_here (inr (names.1 here)))
             | inr behind ↦ inr behind
           ]
         ];
-        not_refused = λ refusal. still.not_refused (subst (Any (Refuses fold text)) (sym is) (any_behind (Refuses fold text) pattern ps refusal));
-        short = All-tail IsShort pattern ps (subst (All IsShort) is still.short);
+        not_refused = λ refusal. still.not_refused (subst (Any (MatchesNegated fold text)) (sym is) (any_behind (MatchesNegated fold text) pattern ps refusal));
+        short = All-tail IsShortPattern pattern ps (subst (All IsShortPattern) is still.short);
       },
       λ still. record {
         named = elim still.named [
           | inl before ↦ elim (either_named found named_here before) [
             | inl found_before ↦ inl found_before
-            | inr here ↦ inr (subst (Any (Names fold text)) (sym is) (any_here (Names fold text) pattern ps (names.0 here)))
+            | inr here ↦ inr (subst (Any (MatchesPlain fold text)) (sym is) (any_here (MatchesPlain fold text) pattern ps (names.0 here)))
           ]
-          | inr behind ↦ inr (subst (Any (Names fold text)) (sym is) (any_behind (Names fold text) pattern ps behind))
+          | inr behind ↦ inr (subst (Any (MatchesPlain fold text)) (sym is) (any_behind (MatchesPlain fold text) pattern ps behind))
         ];
-        not_refused = λ refusal. elim (any_cases (Refuses fold text) pattern ps (subst (Any (Refuses fold text)) is refusal)) [
+        not_refused = λ refusal. elim (any_cases (MatchesNegated fold text) pattern ps (subst (Any (MatchesNegated fold text)) is refusal)) [
           | inl here ↦ kept here
           | inr behind ↦ still.not_refused behind
         ];
-        short = subst (All IsShort) (sym is) (All-cons IsShort pattern ps short still.short);
+        short = subst (All IsShortPattern) (sym is) (All-cons IsShortPattern pattern ps short still.short);
       },
     )

@@ -27,8 +27,8 @@ abbrev pub AnswersEntry : {X Y : Type 0} → (X → Y) → (List ℕ → Y → T
 AnswersEntry means IsEntry HasFault Needs line r = ReadsEntry means IsEntry line r × RefusesFor HasFault line r × AsksEntry Needs line r
 
 -- The line is its entry, and what stands behind it.
-abbrev pub AreParts : List ℕ → Bor (List ℕ) × Bor (List ℕ) → Type 0
-AreParts line parts = (parts.0.now ≡ uncommented line) × (line ≡ parts.0.now ++ parts.1.now)
+abbrev pub AreLineParts : List ℕ → Bor (List ℕ) × Bor (List ℕ) → Type 0
+AreLineParts line parts = (parts.0.now ≡ uncommented line) × (line ≡ parts.0.now ++ parts.1.now)
 
 -- One call of an iterator over entries, of which it is seen as the list that is left: `None` where
 -- none is left, and else the first is taken off and answered.
@@ -69,11 +69,11 @@ ReadsFile means IsEntry (Err e) = Unit {0}
 
 -- The first line has a value, which is kept, or needs memory itself. No other line counts: what
 -- stands behind a line without a value is not read.
-abbrev pub NeedsFirst : {Y : Type 0} → (List ℕ → Y → Type 0) → (List ℕ → Type 0) → List (List ℕ) → Type 0
-NeedsFirst IsEntry Needs [] = ⊥
-NeedsFirst {Y} IsEntry Needs (line ∷ lines) = ((y : Y) × IsEntry line y) ⊎ Needs line
+abbrev pub NeedsFirstLine : {Y : Type 0} → (List ℕ → Y → Type 0) → (List ℕ → Type 0) → List (List ℕ) → Type 0
+NeedsFirstLine IsEntry Needs [] = ⊥
+NeedsFirstLine {Y} IsEntry Needs (line ∷ lines) = ((y : Y) × IsEntry line y) ⊎ Needs line
 
 -- Memory was refused only where it does.
 abbrev pub AsksEntries : {X Y : Type 0} → (List ℕ → Y → Type 0) → (List ℕ → Type 0) → List (List ℕ) → Result X Error → Type 0
 AsksEntries IsEntry Needs all (Ok x) = Unit {0}
-AsksEntries IsEntry Needs all (Err e) = cause e ≡ NoMemory → NeedsFirst IsEntry Needs all
+AsksEntries IsEntry Needs all (Err e) = cause e ≡ NoMemory → NeedsFirstLine IsEntry Needs all

@@ -8,5 +8,5 @@ use Rattle.std.specs.Int.{is_in_range}
 abbrev pub is_option_character : ℕ → Bool
 is_option_character c = is_ascii_alphanumeric c || is_in_range 0x21 0x2f c || is_in_range 0x3a 0x40 c || is_in_range 0x5b 0x5f c || c == 0x7b || c == 0x7c || c == 0x7d || c == 0x7e
 
-abbrev pub AreOptions : List ℕ → Type 0
-AreOptions text = EachIndex text (λ i. is_option_character (slice_index text i) ≡ true)
+abbrev pub AreOptionCharacters : List ℕ → Type 0
+AreOptionCharacters text = EachIndex text (λ i. is_option_character (slice_index text i) ≡ true)

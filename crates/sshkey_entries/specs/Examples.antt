@@ -20,8 +20,8 @@ Lines = (entries (codes "a" ++ line_end ++ codes "b") ≡ codes "a" ∷ codes "b
 
 -- A comment is cut, wherever its `#` stands, and white space before it and at the end, also a
 -- no-break space; at the front it stays. What is empty then is no entry.
-abbrev pub Cuts : Type 0
-Cuts = (entries (codes "a #b#c") ≡ codes "a" ∷ [])
+abbrev pub CommentCuts : Type 0
+CommentCuts = (entries (codes "a #b#c") ≡ codes "a" ∷ [])
     × (entries (codes "#a" ++ line_end ++ (32 ∷ 9 ∷ []) ++ line_end ++ line_end ++ codes "b") ≡ codes "b" ∷ [])
     × (entries (codes "  a  ") ≡ codes "  a" ∷ [])
     × (entries (codes "a" ++ hex "c2a0") ≡ codes "a" ∷ [])

@@ -3,7 +3,7 @@ use Rattle.std.specs.Prelude.{◌≡◌, ℕ, List, [], ◌∷◌, ◌++◌, map
 use Rattle.std.specs.Char.{to_ascii_lowercase}
 use Rattle.std.specs.List.{All}
 use Rattle.sshkey_entries.specs.KnownHosts.{Hosts, Patterns, HashedName, bar}
-use Rattle.sshkey_entries.specs.Patterns.{IsNamed, IsShort}
+use Rattle.sshkey_entries.specs.Patterns.{IsNamed, IsShortPattern}
 
 -- A bar stands at their front, as in a hash.
 abbrev pub BeginWithBar : List (List ℕ) → Type 0
@@ -14,7 +14,7 @@ BeginWithBar (pattern ∷ rest) = slice_index pattern 0 ≡ bar
 -- at their front for a hash, and knows no other hash.
 pub record AreForName (name : List ℕ) (patterns : List (List ℕ)) : Type 0 where
   pub named : IsNamed to_ascii_lowercase name patterns
-  pub short : All IsShort patterns
+  pub short : All IsShortPattern patterns
   pub no_hash : BeginWithBar patterns → ⊥
 
 -- The hosts are for a name: by their patterns, or as its hash under the salt. OpenSSH draws a salt

@@ -4,7 +4,7 @@
 use Rattle.std.specs.Prelude.{◌≡◌, ◌≢◌, ◌⊎◌, ℕ, List, [], ◌++◌, length, slice_index, Option, Some, None}
 use Rattle.sshkey_model.specs.Lines.{space, IsWithout}
 use Rattle.sshkey_entries.specs.AuthorizedKeys.{AuthorizedKey}
-use Rattle.sshkey_entries.specs.Entries.{hash}
+use Rattle.sshkey_entries.specs.Entries.{hash_sign}
 use Rattle.sshkey_entries.specs.Fields.{without_blanks, IsField, EndsField, AreKeyFields, AreNoKeyFields}
 use Rattle.sshkey_entries.specs.KnownHosts.{Marker, CertAuthority, Revoked, marker_text, at_sign, IsHosts, KnownHost}
 use Rattle.sshkey_entries.specs.OptionEnds.{EndsOptions}
@@ -26,7 +26,7 @@ pub record IsBehindOptions (text : List ℕ) (a : AuthorizedKey) : Type 0 where
   pub no_key : AreNoKeyFields text
 
 pub record IsAuthorizedLine (line : List ℕ) (a : AuthorizedKey) : Type 0 where
-  pub no_comment : slice_index (without_blanks line) 0 ≢ hash
+  pub no_comment : slice_index (without_blanks line) 0 ≢ hash_sign
   pub is : IsKeyAlone (without_blanks line) a ⊎ IsBehindOptions (without_blanks line) a
 
 -- ---- known_hosts
@@ -48,7 +48,7 @@ pub record IsHostLine (line : List ℕ) (h : KnownHost) : Type 0 where
   pub no_zero : IsWithout 0 line
   pub hosts_part : List ℕ
   pub behind_hosts : List ℕ
-  pub no_comment : slice_index (without_blanks line) 0 ≢ hash
+  pub no_comment : slice_index (without_blanks line) 0 ≢ hash_sign
   pub marked : IsMarkedLine h.marker (without_blanks line) (hosts_part ++ behind_hosts)
   pub one_word : IsField hosts_part
   pub hosts_end : EndsField behind_hosts

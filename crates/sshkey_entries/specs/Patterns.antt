@@ -32,22 +32,22 @@ unmarked [] = []
 unmarked (c ∷ pattern) = if c == exclamation_mark then pattern else c ∷ pattern
 
 -- The pattern is not negated, and matches the text.
-abbrev pub Names : (ℕ → ℕ) → List ℕ → List ℕ → Type 0
-Names fold text pattern = (slice_index pattern 0 ≢ exclamation_mark) × Matches fold pattern text
+abbrev pub MatchesPlain : (ℕ → ℕ) → List ℕ → List ℕ → Type 0
+MatchesPlain fold text pattern = (slice_index pattern 0 ≢ exclamation_mark) × Matches fold pattern text
 
 -- It is negated, by a `!` in front, and what stands behind matches the text.
-abbrev pub Refuses : (ℕ → ℕ) → List ℕ → List ℕ → Type 0
-Refuses fold text pattern = (slice_index pattern 0 ≡ exclamation_mark) × Matches fold (unmarked pattern) text
+abbrev pub MatchesNegated : (ℕ → ℕ) → List ℕ → List ℕ → Type 0
+MatchesNegated fold text pattern = (slice_index pattern 0 ≡ exclamation_mark) × Matches fold (unmarked pattern) text
 
 -- One of the patterns names the text, and no negated one refuses it.
 abbrev pub IsNamed : (ℕ → ℕ) → List ℕ → List (List ℕ) → Type 0
-IsNamed fold text patterns = Any (Names fold text) patterns × ¬ Any (Refuses fold text) patterns
+IsNamed fold text patterns = Any (MatchesPlain fold text) patterns × ¬ Any (MatchesNegated fold text) patterns
 
 -- OpenSSH has 1,024 bytes for a pattern, and takes a list with one that does not fit for nobody's.
-abbrev pub IsShort : List ℕ → Type 0
-IsShort pattern = length (unmarked pattern) < 1023
+abbrev pub IsShortPattern : List ℕ → Type 0
+IsShortPattern pattern = length (unmarked pattern) < 1023
 
 -- The patterns between the commas of the list name the text, and none of them is too long.
 pub record MatchesList (fold : ℕ → ℕ) (list text : List ℕ) : Type 0 where
   pub named : IsNamed fold text (patterns list)
-  pub short : All IsShort (patterns list)
+  pub short : All IsShortPattern (patterns list)

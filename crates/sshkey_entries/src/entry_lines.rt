@@ -5,7 +5,7 @@ ghost use Rattle.std.specs.Iterator.{YieldsFirstRef, item_count};
 ghost use Rattle.std.specs.List.{before_first};
 ghost use Rattle.std.specs.Str.Iter.{lines_rest};
 ghost use Rattle.sshkey_entries.specs.Entries.{is_hash, uncommented, entry_lines, entries};
-ghost use Rattle.sshkey_entries.specs.Answers.{AreParts, YieldsAnswers};
+ghost use Rattle.sshkey_entries.specs.Answers.{AreLineParts, YieldsAnswers};
 
 use std::marker::Model;
 use std::str::Lines;
@@ -21,7 +21,7 @@ fn before_hash(line: &str) -> &str
 
 /// The line up to its first `#`, without the white space at its end, and what stands after that.
 fn split_entry(line: &str) -> (&str, &str)
-    ensures { AreParts line.now result }
+    ensures { AreLineParts line.now result }
 {
     let entry = before_hash(line).trim_end();
     line.split_at(entry.len())
@@ -56,7 +56,7 @@ impl<'a> EntryLines<'a> {
 impl<'a> Iterator for EntryLines<'a> {
     type Item = (&'a str, &'a str);
 
-    ghost next_gives = { YieldsAnswers AreParts };
+    ghost next_gives = { YieldsAnswers AreLineParts };
 
     ghost remaining = { item_count (λ left. left) };
 

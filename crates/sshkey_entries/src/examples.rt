@@ -2,7 +2,7 @@
 #![tactic(auto, unfolding(crate::specs::Computed::trim_end, crate::specs::Computed::chars, crate::specs::Computed::encode_utf8, crate::specs::Computed::encode_symbols, crate::specs::Entries::uncommented, crate::specs::Items::is_odd, crate::specs::Items::is_quoted, crate::specs::Items::items, crate::specs::Items::patterns, crate::specs::OptionEnds::is_inside))]
 
 ghost use Rattle.sshkey_entries.specs.EntryExamples.{HashedHosts, Marked, Options};
-ghost use Rattle.sshkey_entries.specs.Examples.{Lines, Cuts, Items, Patterns, Characters, HashedName, Quoted};
+ghost use Rattle.sshkey_entries.specs.Examples.{Lines, CommentCuts, Items, Patterns, Characters, HashedName, Quoted};
 
 /// Lines of a text.
 pub fn lines()
@@ -11,7 +11,7 @@ pub fn lines()
 
 /// What is cut of a line.
 pub fn cuts()
-    ensures { Cuts }
+    ensures { CommentCuts }
 {}
 
 /// Items of options.

@@ -3,7 +3,7 @@
 ghost use Rattle.std.specs.Prelude.{◌≡◌, ◌<◌, ◌∷◌, ◌↔◌, length, slice_index, IsTrue};
 ghost use Rattle.std.specs.List.{after_first, before_first};
 ghost use Rattle.sshkey_entries.specs.Items.{is_comma, patterns};
-ghost use Rattle.sshkey_entries.specs.Patterns.{IsShort, MatchesList, Names, Refuses, exclamation_mark, unmarked};
+ghost use Rattle.sshkey_entries.specs.Patterns.{IsShortPattern, MatchesList, MatchesPlain, MatchesNegated, exclamation_mark, unmarked};
 ghost use Rattle.sshkey_entries.specs.LetterCases.{fold_of};
 
 use crate::pattern::{LetterCase, is_match};
@@ -39,7 +39,7 @@ pub fn matches_pattern_list(text: &str, list: &str, letter_case: LetterCase) -> 
 /// Whether the pattern, one of a list, is not negated by a `!` in front, and matches the text. Does
 /// not allocate.
 pub fn is_named_by(text: &str, pattern: &str, letter_case: LetterCase) -> bool
-    ensures { IsTrue result ↔ Names (fold_of letter_case) text.now pattern.now }
+    ensures { IsTrue result ↔ MatchesPlain (fold_of letter_case) text.now pattern.now }
 {
     let pattern = pattern.as_bytes();
     !is_negated(pattern) && is_match(text.as_bytes(), pattern, letter_case)
@@ -48,7 +48,7 @@ pub fn is_named_by(text: &str, pattern: &str, letter_case: LetterCase) -> bool
 /// Whether the pattern, one of a list, is negated by a `!` in front, and what follows that matches
 /// the text. Does not allocate.
 pub fn is_refused_by(text: &str, pattern: &str, letter_case: LetterCase) -> bool
-    ensures { IsTrue result ↔ Refuses (fold_of letter_case) text.now pattern.now }
+    ensures { IsTrue result ↔ MatchesNegated (fold_of letter_case) text.now pattern.now }
 {
     let pattern = pattern.as_bytes();
     is_negated(pattern) && is_match(text.as_bytes(), unmarked(pattern), letter_case)
@@ -86,7 +86,7 @@ fn unmarked(pattern: &[u8]) -> &[u8]
 /// Whether the pattern, one of a list, has fewer than 1,023 bytes, a `!` in front aside: OpenSSH
 /// takes a list with a longer one for nobody's. Does not allocate.
 pub fn is_short_pattern(pattern: &str) -> bool
-    ensures { IsTrue result ↔ IsShort pattern.now }
+    ensures { IsTrue result ↔ IsShortPattern pattern.now }
 {
     unmarked(pattern.as_bytes()).len() < TOO_LONG
 }

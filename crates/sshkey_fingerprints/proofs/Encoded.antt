@@ -13,7 +13,7 @@ use Rattle.sshkey_model.specs.Fingerprints.{fingerprint_prefix}
 use Rattle.sshkey_model.specs.Names.{Hash}
 use Rattle.sshkey_model.specs.Names as names
 use Rattle.sshkey_fingerprints.specs.Fingerprints.{fingerprint_hash, digest_of, shown}
-use Rattle.sshkey_fingerprints.specs.FingerprintTexts.{IsWhole, IsNoText, IsEncoded, IsRefusedDigest, IsRefusedText}
+use Rattle.sshkey_fingerprints.specs.FingerprintTexts.{IsWhole, IsNoFingerprint, IsEncoded, IsRefusedDigest, IsRefusedText}
 use Rattle.sshkey_fingerprints.specs.declared.fingerprint.Fingerprint.{Fingerprint}
 use Rattle.sshkey_fingerprints.specs.declared.fingerprint.Fingerprint.TheVariants as kinds
 
@@ -54,7 +54,7 @@ not_refused size text d e le len is (inr (inr other)) =
     let same : other.1.0 ≡ d = one_encoded _ _ other.1.1.bytes is.bytes (sym other.1.1.is ∙ is.is) in
     other.1.2 (ap length same ∙ len)
 
-pub no_text : (text : List ℕ) (e : Error) → IsRefusedText text e → IsNoText text
+pub no_text : (text : List ℕ) (e : Error) → IsRefusedText text e → IsNoFingerprint text
 no_text text e (inl none) f whole is = none.0 (fingerprint_hash f) _ is
 no_text text e (inr (h, rest, front, why)) f whole is =
     let parts = one_prefix h (fingerprint_hash f) rest _ (sym front ∙ is) in

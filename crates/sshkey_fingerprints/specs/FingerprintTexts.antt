@@ -18,8 +18,8 @@ pub record IsWhole (f : Fingerprint) : Type 0 where
   pub bytes : IsBytes (digest_of f)
 
 -- It is the text of no fingerprint.
-abbrev pub IsNoText : List ℕ → Type 0
-IsNoText text = (f : Fingerprint) → IsWhole f → text ≡ shown f → ⊥
+abbrev pub IsNoFingerprint : List ℕ → Type 0
+IsNoFingerprint text = (f : Fingerprint) → IsWhole f → text ≡ shown f → ⊥
 
 -- The text encodes these bytes, without padding and without a needless last bit.
 pub record IsEncoded (text b : List ℕ) : Type 0 where
@@ -41,9 +41,9 @@ IsRefusedText text e =
     ⊎ ((h : Hash) × (rest : List ℕ) × (text ≡ fingerprint_prefix h ++ rest) × IsRefusedDigest (digest_len h) rest e)
 
 -- Accepted, it is the text of that fingerprint. Refused, it is the text of none, for that reason.
-abbrev pub ReadsText : List ℕ → Result Fingerprint Error → Type 0
-ReadsText text (Ok f) = text ≡ shown f
-ReadsText text (Err e) = IsNoText text × IsRefusedText text e
+abbrev pub ReadsFingerprint : List ℕ → Result Fingerprint Error → Type 0
+ReadsFingerprint text (Ok f) = text ≡ shown f
+ReadsFingerprint text (Err e) = IsNoFingerprint text × IsRefusedText text e
 
 -- the same of what stands behind the colon
 abbrev pub ReadsDigest : ℕ → List ℕ → Result (List ℕ) Error → Type 0

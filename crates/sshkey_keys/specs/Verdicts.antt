@@ -12,12 +12,12 @@ use Rattle.sshkey_keys.specs.Keys.{key_of}
 use Rattle.sshkey_keys.specs.Signatures.{signature_of}
 
 -- Why a signature is refused: nothing is asked about it, or the verifier says no.
-pub data Refusal : Type 0 where
-  Unsupported : Algorithm → Refusal
-  NotAccepted : Refusal
+pub data SignatureRefusal : Type 0 where
+  Unsupported : Algorithm → SignatureRefusal
+  NotAccepted : SignatureRefusal
 
 -- what the verifier is asked decides
-abbrev pub judged : (Question → Bool) → Algorithm → Option Question → Result Unit Refusal
+abbrev pub judged : (Question → Bool) → Algorithm → Option Question → Result Unit SignatureRefusal
 judged accepts algorithm None = Err (Unsupported algorithm)
 judged accepts algorithm (Some q) = if accepts q then Ok tt else Err NotAccepted
 
@@ -32,18 +32,18 @@ unsupported_of (kinds.SkEcdsaSha2NistP256 key) g = g.algorithm
 unsupported_of (kinds.SkEd25519 key) g = g.algorithm
 unsupported_of (kinds.Other key) g = key.algorithm
 
-abbrev pub verdict : (Question → Bool) → KeyData → List ℕ → Signature → Result Unit Refusal
+abbrev pub verdict : (Question → Bool) → KeyData → List ℕ → Signature → Result Unit SignatureRefusal
 verdict accepts key message g = judged accepts (unsupported_of key g) (question (key_of key) message (signature_of g))
 
 -- The error says so, unless memory was refused.
-abbrev pub Says : Result Unit Refusal → Error → Type 0
+abbrev pub Says : Result Unit SignatureRefusal → Error → Type 0
 Says answer Memory = Unit {0}
 Says answer (AlgorithmUnsupported algorithm) = answer ≡ Err (Unsupported algorithm)
 Says answer Crypto = answer ≡ Err NotAccepted
 Says answer _ = ⊥
 
 -- The result is that answer, unless memory was refused.
-abbrev pub Verifies : Result Unit Refusal → Result Unit Error → Type 0
+abbrev pub Verifies : Result Unit SignatureRefusal → Result Unit Error → Type 0
 Verifies answer (Ok x) = answer ≡ Ok tt
 Verifies answer (Err e) = Says answer e
 

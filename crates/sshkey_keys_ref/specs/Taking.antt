@@ -7,8 +7,8 @@ use Rattle.sshkey_base.specs.Reading.{Refuses, GivesAlways, NoFront}
 use Rattle.sshkey_base.specs.Source.{all_of}
 
 -- What the plain reader gives of the bytes, and the rest is left.
-abbrev pub Takes : {X Y E : Type 0} → (X → Y) → (E → Cause) → Front Y → List ℕ → Result X E → List ℕ → Type 0
-Takes means cause read b r rest = GivesAlways means cause read (all_of b) r (all_of rest)
+abbrev pub TakesValue : {X Y E : Type 0} → (X → Y) → (E → Cause) → Front Y → List ℕ → Result X E → List ℕ → Type 0
+TakesValue means cause read b r rest = GivesAlways means cause read (all_of b) r (all_of rest)
 
 -- What stands behind the value that the plain reader gives, or a refusal with its fault.
 abbrev pub Skips : {Y E : Type 0} → (E → Cause) → Front Y → List ℕ → Result (Bor (List ℕ)) E → Type 0

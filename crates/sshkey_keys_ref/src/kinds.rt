@@ -14,7 +14,7 @@ ghost use Rattle.sshkey_kinds.specs.EcPoint.{point_of};
 ghost use Rattle.sshkey_kinds.specs.EcdsaPublicKey.{ecdsa_of, ecdsa_key_of};
 ghost use Rattle.sshkey_kinds.specs.KeyFormats.{dsa_format, ecdsa_format, ed25519_format, rsa_format, sk_ecdsa_format, sk_ed25519_format};
 ghost use Rattle.sshkey_kinds.specs.Kinds.{ed25519_of};
-ghost use Rattle.sshkey_keys_ref.specs.Taking.{Takes};
+ghost use Rattle.sshkey_keys_ref.specs.Taking.{TakesValue};
 
 use crate::leaves::MpintRef;
 use sshkey_base::{EcdsaCurve, Error, Result, encoding};
@@ -105,7 +105,8 @@ impl<'a> ReadFrom<&'a [u8]> for Ed25519Ref {
 /// The name of a curve.
 #[tactic(auto, using(sshkey_terms::proofs::Walking::walking), unfolding(sshkey_base::specs::Labels::label_at))]
 fn take_curve<'a>(bytes: &mut &'a [u8]) -> Result<EcdsaCurve>
-    ensures gives { Takes curve_of cause (label_at curve_from) bytes.old.now result bytes.new.now }
+    ensures gives { TakesValue curve_of cause (label_at curve_from) bytes.old.now result
+        bytes.new.now }
     ensures later { Later (all_of bytes.old.now) (all_of bytes.new.now) }
 {
     let string = <&'a [u8]>::read_from(bytes)?;
@@ -150,7 +151,7 @@ impl<'a> ReadFrom<&'a [u8]> for EcdsaRef {
 /// A point string of any of the curves.
 #[tactic(auto, using(sshkey_terms::proofs::Walking::walking))]
 fn take_point<'a>(bytes: &mut &'a [u8]) -> Result<EcdsaPublicKey>
-    ensures gives { Takes ecdsa_of cause (checked_at point_from string_at)
+    ensures gives { TakesValue ecdsa_of cause (checked_at point_from string_at)
         bytes.old.now result bytes.new.now }
     ensures later { Later (all_of bytes.old.now) (all_of bytes.new.now) }
 {
@@ -201,7 +202,7 @@ impl<'a> ReadFrom<&'a [u8]> for SkEcdsaRef<'a> {
 /// A point string of P-256.
 #[tactic(auto, using(sshkey_terms::proofs::Walking::walking))]
 fn take_p256_point<'a>(bytes: &mut &'a [u8]) -> Result<EcdsaNistP256PublicKey>
-    ensures gives { Takes point_of cause (checked_at p256_point_from string_at)
+    ensures gives { TakesValue point_of cause (checked_at p256_point_from string_at)
         bytes.old.now result bytes.new.now }
     ensures later { Later (all_of bytes.old.now) (all_of bytes.new.now) }
 {

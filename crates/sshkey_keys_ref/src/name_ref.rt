@@ -5,7 +5,7 @@ ghost use Rattle.sshkey_base.specs.Causes.{cause};
 ghost use Rattle.sshkey_base.specs.Labels.{label_at};
 ghost use Rattle.sshkey_model.specs.Names.{algorithm_from};
 ghost use Rattle.sshkey_keys_ref.specs.NameRef.{named_of};
-ghost use Rattle.sshkey_keys_ref.specs.Taking.{Takes};
+ghost use Rattle.sshkey_keys_ref.specs.Taking.{TakesValue};
 
 use sshkey_base::{Algorithm, Error, Result, encoding};
 use sshkey_terms::ReadFrom;
@@ -23,7 +23,8 @@ pub(crate) enum NameRef<'a> {
 /// The string of the name of an algorithm.
 #[tactic(auto, using(sshkey_terms::proofs::Walking::walking), unfolding(sshkey_base::specs::Labels::label_at))]
 pub(crate) fn take_name<'a>(bytes: &mut &'a [u8]) -> Result<NameRef<'a>>
-    ensures { Takes named_of cause (label_at algorithm_from) bytes.old.now result bytes.new.now }
+    ensures { TakesValue named_of cause (label_at algorithm_from) bytes.old.now result
+        bytes.new.now }
 {
     let string = <&'a [u8]>::read_from(bytes)?;
     name_in(string)

@@ -6,7 +6,7 @@ use Rattle.sshkey_base.specs.declared.error.Error.{Error}
 use Rattle.sshkey_base.specs.declared.error.Error.TheVariants.{FormatEncoding}
 use Rattle.sshkey_model.specs.Lines.{IsWithout}
 use Rattle.sshkey_model.proofs.LineTests.{each}
-use Rattle.sshkey_entries.specs.Entries.{hash, IsNoEntry}
+use Rattle.sshkey_entries.specs.Entries.{hash_sign, IsNoEntry}
 use Rattle.sshkey_entries.specs.Fields.{without_blanks, IsField, EndsField, AreKeyFields, AreNoKeyFields}
 use Rattle.sshkey_entries.specs.KnownHosts.{Marker, CertAuthority, Revoked, marker_text, at_sign, Hosts, IsHosts, KnownHost}
 use Rattle.sshkey_entries.specs.OpenSshLines.{EndsMarker, IsMarkedLine, IsHostLine}
@@ -94,17 +94,17 @@ pub zero_fault : (line : List ℕ) → (IsWithout 0 line → ⊥) → HasLineFau
 zero_fault line zero = record { zero = λ _. refl; comment = λ _. refl; text = λ without. absurd (zero without) }
 
 module _ (line text : List ℕ) (is : text ≡ without_blanks line) where
-  pub comment_read : slice_index text 0 ≡ hash → IsNoEntry IsHostLine line
+  pub comment_read : slice_index text 0 ≡ hash_sign → IsNoEntry IsHostLine line
   comment_read here h k = k.no_comment (ap (λ (t : List ℕ). slice_index t 0) (sym is) ∙ here)
 
-  pub comment_fault : slice_index text 0 ≡ hash → HasLineFault line FormatEncoding
+  pub comment_fault : slice_index text 0 ≡ hash_sign → HasLineFault line FormatEncoding
   comment_fault here = record { zero = λ _. refl; comment = λ _. refl; text = λ _ other. absurd (other (ap (λ (t : List ℕ). slice_index t 0) (sym is) ∙ here)) }
 
   pub no_marker_read : ((m : Option Marker) (rest : List ℕ) → IsMarkedLine m text rest → ⊥) → IsNoEntry IsHostLine line
   no_marker_read none h k = none h.marker (k.hosts_part ++ k.behind_hosts) (subst (λ (t : List ℕ). IsMarkedLine h.marker t (k.hosts_part ++ k.behind_hosts)) (sym is) k.marked)
 
-  module _ (no_zero : IsWithout 0 line) (no_comment : slice_index text 0 ≢ hash) where
-    not_comment : slice_index (without_blanks line) 0 ≢ hash
+  module _ (no_zero : IsWithout 0 line) (no_comment : slice_index text 0 ≢ hash_sign) where
+    not_comment : slice_index (without_blanks line) 0 ≢ hash_sign
     not_comment here = no_comment (ap (λ (t : List ℕ). slice_index t 0) is ∙ here)
 
     pub text_fault : (e : Error) → HasTextFault text e → HasLineFault line e

@@ -5,7 +5,7 @@ use Rattle.sshkey_base.specs.declared.error.Error.{Error}
 use Rattle.sshkey_base.specs.declared.error.Error.TheVariants.{FormatEncoding}
 use Rattle.sshkey_model.specs.Lines.{IsWithout}
 use Rattle.sshkey_entries.specs.Answers.{ReadsEntry, RefusesFor}
-use Rattle.sshkey_entries.specs.Entries.{hash, IsNoEntry}
+use Rattle.sshkey_entries.specs.Entries.{hash_sign, IsNoEntry}
 use Rattle.sshkey_entries.specs.Fields.{without_blanks, IsField, EndsField}
 use Rattle.sshkey_entries.specs.KnownHosts as known
 use Rattle.sshkey_entries.specs.KnownHosts.{Hosts, IsHosts}
@@ -39,8 +39,8 @@ pub record HasTextFault (text : List ℕ) (e : Error) : Type 0 where
 -- `FormatEncoding` of a line with a zero byte, and of a comment.
 pub record HasLineFault (line : List ℕ) (e : Error) : Type 0 where
   pub zero : ¬ IsWithout 0 line → e ≡ FormatEncoding
-  pub comment : slice_index (without_blanks line) 0 ≡ hash → e ≡ FormatEncoding
-  pub text : IsWithout 0 line → slice_index (without_blanks line) 0 ≢ hash → HasTextFault (without_blanks line) e
+  pub comment : slice_index (without_blanks line) 0 ≡ hash_sign → e ≡ FormatEncoding
+  pub text : IsWithout 0 line → slice_index (without_blanks line) 0 ≢ hash_sign → HasTextFault (without_blanks line) e
 
 -- ---- memory
 
@@ -50,7 +50,7 @@ pub record NeedsHostLine (line : List ℕ) : Type 0 where
   pub hosts : List ℕ
   pub rest : List ℕ
   pub no_zero : IsWithout 0 line
-  pub no_comment : slice_index (without_blanks line) 0 ≢ hash
+  pub no_comment : slice_index (without_blanks line) 0 ≢ hash_sign
   pub field : HasHostsField (without_blanks line) hosts rest
   pub some : HasNoParts hosts → ⊥
 

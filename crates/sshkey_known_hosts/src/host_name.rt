@@ -5,7 +5,7 @@ ghost use Rattle.std.specs.Char.{to_ascii_lowercase};
 ghost use Rattle.std.specs.List.{All, Any};
 ghost use Rattle.sshkey_base.specs.declared.error.Error.TheVariants as wide;
 ghost use Rattle.sshkey_entries.specs.HostNames.{AreForName, BeginWithBar, known_name};
-ghost use Rattle.sshkey_entries.specs.Patterns.{IsShort, Names, Refuses};
+ghost use Rattle.sshkey_entries.specs.Patterns.{IsShortPattern, MatchesPlain, MatchesNegated};
 
 use sshkey_base::{Result, Text};
 use sshkey_entries::{LetterCase, is_named_by, is_refused_by, is_short_pattern};
@@ -28,7 +28,7 @@ pub(crate) fn known_name(alloc: Global, host: &str, port: u16) -> Result<String>
 }
 
 fn some_refuses(patterns: &[Text], name: &str) -> bool
-    ensures { IsTrue result ↔ Any (Refuses to_ascii_lowercase name.now) patterns.now }
+    ensures { IsTrue result ↔ Any (MatchesNegated to_ascii_lowercase name.now) patterns.now }
 {
     for pattern in patterns {
         if is_refused_by(name, pattern.as_str(), LetterCase::Insensitive) {
@@ -39,7 +39,7 @@ fn some_refuses(patterns: &[Text], name: &str) -> bool
 }
 
 fn some_names(patterns: &[Text], name: &str) -> bool
-    ensures { IsTrue result ↔ Any (Names to_ascii_lowercase name.now) patterns.now }
+    ensures { IsTrue result ↔ Any (MatchesPlain to_ascii_lowercase name.now) patterns.now }
 {
     for pattern in patterns {
         if is_named_by(name, pattern.as_str(), LetterCase::Insensitive) {
@@ -51,7 +51,7 @@ fn some_names(patterns: &[Text], name: &str) -> bool
 
 /// Whether OpenSSH reads patterns of these lengths.
 fn are_short(patterns: &[Text]) -> bool
-    ensures { IsTrue result ↔ All IsShort patterns.now }
+    ensures { IsTrue result ↔ All IsShortPattern patterns.now }
 {
     for pattern in patterns {
         if !is_short_pattern(pattern.as_str()) {

@@ -3,7 +3,7 @@
 ghost use Rattle.std.specs.Prelude.{◌≡◌, ◌↔◌, ℕ, List, IfErr, IsTrue, slice_index};
 ghost use Rattle.std.specs.Iterator.{item_count};
 ghost use Rattle.sshkey_base.specs.Causes.{cause, NoMemory};
-ghost use Rattle.sshkey_entries.specs.Entries.{hash};
+ghost use Rattle.sshkey_entries.specs.Entries.{hash_sign};
 ghost use Rattle.sshkey_entries.specs.Fields.{filled_lines};
 ghost use Rattle.sshkey_entries.specs.KnownHosts.{at_sign};
 ghost use Rattle.sshkey_entries.specs.OpenSshLines.{EndsMarker, IsHostLine};
@@ -22,7 +22,7 @@ use std::marker::Model;
 use std::str::FromStr;
 
 fn is_comment(text: &str) -> bool
-    ensures { IsTrue result ↔ (slice_index text.now 0 ≡ hash) }
+    ensures { IsTrue result ↔ (slice_index text.now 0 ≡ hash_sign) }
 {
     text.starts_with('#')
 }

@@ -26,9 +26,9 @@ authority_of None = Everybody
 authority_of (Some key) = Signer (key_of key.now)
 
 -- A list without sections, unless the comment is too long or memory ran out.
-abbrev pub Begins : ℕ → ℕ → List ℕ → Result Krl Error → Type 0
-Begins version date comment (Ok k) = (krl_of k ≡ begun version date comment) × (krl_bytes k ≡ flat (header version date comment))
-Begins version date comment (Err e) = RefusesToWrite (header version date comment) e
+abbrev pub BeginsList : ℕ → ℕ → List ℕ → Result Krl Error → Type 0
+BeginsList version date comment (Ok k) = (krl_of k ≡ begun version date comment) × (krl_bytes k ≡ flat (header version date comment))
+BeginsList version date comment (Err e) = RefusesToWrite (header version date comment) e
 
 -- The bytes spell the list before with one section more, which stands behind the others as these
 -- parts; or they are as they were, where a string in the parts is too long or memory ran out.

@@ -74,7 +74,7 @@ SecurityKeyOrder = question sk_ecdsa_key [] sk_ecdsa_signature ≡ Some (record 
 })
 
 -- The verifier's answer counts where it is asked, and nowhere else.
-abbrev pub Answers : Type 0
-Answers = IsAccepted (λ q. true) sk_ed25519_key [] sk_ed25519_signature
+abbrev pub VerifierAnswers : Type 0
+VerifierAnswers = IsAccepted (λ q. true) sk_ed25519_key [] sk_ed25519_signature
     × (IsAccepted (λ q. false) sk_ed25519_key [] sk_ed25519_signature → ⊥)
     × (IsAccepted (λ q. true) ed25519_key [] sk_ed25519_signature → ⊥)

@@ -11,7 +11,7 @@ use Rattle.sshkey_base.specs.declared.error.Error.{Error}
 use Rattle.sshkey_base.specs.declared.error.Error.TheVariants.{Encoding, Memory}
 use Rattle.sshkey_keys.specs.Keys.{key_of}
 use Rattle.sshkey_keys.specs.Signatures.{signature_of}
-use Rattle.sshkey_keys.specs.Verdicts.{Refusal, NotAccepted, judged, verdict, unsupported_of, Says, Verifies}
+use Rattle.sshkey_keys.specs.Verdicts.{SignatureRefusal, NotAccepted, judged, verdict, unsupported_of, Says, Verifies}
 use Rattle.sshkey_model.specs.Signatures.{Signature}
 use Rattle.sshkey_base.specs.Acceptance.{AcceptsExactly}
 use Rattle.sshkey_public.specs.Judging.{JudgesSigned}
@@ -19,7 +19,7 @@ use Rattle.sshkey_sshsig.specs.Signing.{signed_parts}
 use Rattle.sshkey_sshsig.specs.SshSignatures.{ssh_signature_of, signer_of, given_of}
 use Rattle.sshkey_sshsig.specs.declared.sshsig.SshSig.{SshSig}
 
-says_yes : (b : Bool) → ◌≡◌ {A = Result Unit Refusal} (if b then Ok tt else Err NotAccepted) (Ok tt) → b ≡ true
+says_yes : (b : Bool) → ◌≡◌ {A = Result Unit SignatureRefusal} (if b then Ok tt else Err NotAccepted) (Ok tt) → b ≡ true
 says_yes true e = refl
 says_yes false e = absurd cc
 

@@ -33,8 +33,8 @@ module _ {A B : Type 0} {over : List ℕ → ℕ → Type 0} {read delimited_at 
 
 -- A value, and behind it what that value calls for. A length behind the first is met only where the
 -- first ends by itself; memory is asked for behind whatever was read.
-abbrev pub choice : {A B : Type 0} → Format A → (A → Format B) → Format (A × B)
-choice first second = record {
+abbrev pub dependent : {A B : Type 0} → Format A → (A → Format B) → Format (A × B)
+dependent first second = record {
   Spells = SpellsThen first.Spells first.grammar.delimited_at (λ a. (second a).Spells);
   read = behind_at first.read (λ a. (second a).read);
   needs = NeedsThen first.needs first.read (λ a. (second a).needs);
@@ -46,7 +46,7 @@ choice first second = record {
 -- a value, and another one behind it
 infixr 5 ◌then◌
 abbrev pub ◌then◌ : {A B : Type 0} → Format A → Format B → Format (A × B)
-first then second = choice first (λ _. second)
+first then second = dependent first (λ _. second)
 
 -- a value, and what a test makes of it
 abbrev pub tested : {A B : Type 0} → (A → Result B Fault) → Format A → Format B
@@ -150,7 +150,7 @@ chosen_of {A} {Z} {record_at} {Spells} first second same grammar = record {
 
 -- what the first value calls for, without that value
 abbrev pub called : {A B : Type 0} → Format A → (A → Format B) → Format B
-called first second = tested (λ x. Ok x.1) (choice first second)
+called first second = tested (λ x. Ok x.1) (dependent first second)
 
 module _ {A B : Type 0} where
   abbrev second_of : (A × B) × List ℕ → Result (B × List ℕ) Fault

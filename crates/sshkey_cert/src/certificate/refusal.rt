@@ -2,7 +2,7 @@
 
 ghost use Rattle.std.specs.Prelude.{◌≡◌, None, option_map};
 ghost use Rattle.sshkey_model.specs.Refusals.{UnlistedPrincipal, or_else, unless};
-ghost use Rattle.sshkey_cert.specs.Validity.{Tells, refusal_error, refusal_of};
+ghost use Rattle.sshkey_cert.specs.Validity.{ReportsRefusal, refusal_error, refusal_of};
 
 use sshkey_base::certificate::Field;
 use sshkey_base::{Error, Result};
@@ -43,7 +43,7 @@ impl CertificateRefusal {
 
 /// Returns `Ok` if nothing is wrong, and else fails with the error of what is. Does not allocate.
 pub fn result_of_refusal(first: Option<CertificateRefusal>) -> Result<()>
-    ensures { Tells (option_map refusal_of first) result }
+    ensures { ReportsRefusal (option_map refusal_of first) result }
 {
     match first {
         None => Ok(()),

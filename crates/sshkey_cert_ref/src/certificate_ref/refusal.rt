@@ -1,7 +1,7 @@
 //! What is wrong with a certificate, for logs.
 
 ghost use Rattle.std.specs.Prelude.{IfErr};
-ghost use Rattle.sshkey_cert.specs.Validity.{FindsFirst, fingerprints_of};
+ghost use Rattle.sshkey_cert.specs.Validity.{FindsRefusal, fingerprints_of};
 ghost use Rattle.sshkey_model.specs.Refusals.{first_refusal, first_refusal_for};
 ghost use Rattle.sshkey_cert_ref.specs.CertificateRef.{NeedsAnswer, certificate_of};
 
@@ -25,7 +25,7 @@ impl CertificateRef<'_> {
         fingerprints: &[Fingerprint],
         verifier: &V,
     ) -> Result<Option<CertificateRefusal>>
-        ensures first { FindsFirst (first_refusal (V.accepts verifier.now)
+        ensures first { FindsRefusal (first_refusal (V.accepts verifier.now)
             (fingerprints_of fingerprints.now) unix_timestamp (certificate_of self.now)) result }
         ensures asks { IfErr result (λ _. NeedsAnswer (V.runs_out verifier.now) self.now) }
     {
@@ -48,7 +48,7 @@ impl CertificateRef<'_> {
         fingerprints: &[Fingerprint],
         verifier: &V,
     ) -> Result<Option<CertificateRefusal>>
-        ensures first { FindsFirst (first_refusal_for (V.accepts verifier.now)
+        ensures first { FindsRefusal (first_refusal_for (V.accepts verifier.now)
             (fingerprints_of fingerprints.now) unix_timestamp principal.now
             (certificate_of self.now)) result }
         ensures asks { IfErr result (λ _. NeedsAnswer (V.runs_out verifier.now) self.now) }

@@ -2,7 +2,7 @@
 
 ghost use Rattle.std.specs.Prelude.{◌≡◌, ◌≢◌, ◌↔◌, IsTrue, IfOk, IfErr, OnOk};
 ghost use Rattle.sshkey_base.specs.declared.error.Error.TheVariants as wide;
-ghost use Rattle.sshkey_cert.specs.Validity.{IsSigned, IsUnsigned, Judges, JudgesFor};
+ghost use Rattle.sshkey_cert.specs.Validity.{IsSigned, IsUnsigned, JudgesCertificate, JudgesCertificateFor};
 ghost use Rattle.sshkey_keys.specs.Fingerprints.{IsFingerprint};
 ghost use Rattle.sshkey_model.specs.Keys.{Plain};
 ghost use Rattle.sshkey_model.specs.Names.{Sha256};
@@ -56,7 +56,7 @@ impl CertificateRef<'_> {
         fingerprints: &[Fingerprint],
         verifier: &V,
     ) -> Result<()>
-        ensures exactly { Judges (V.accepts verifier.now) fingerprints.now unix_timestamp
+        ensures exactly { JudgesCertificate (V.accepts verifier.now) fingerprints.now unix_timestamp
             (certificate_of self.now) result }
         ensures memory { IfErr result
             (λ e. e ≡ wide.Memory → NeedsAnswer (V.runs_out verifier.now) self.now) }
@@ -90,8 +90,8 @@ impl CertificateRef<'_> {
         fingerprints: &[Fingerprint],
         verifier: &V,
     ) -> Result<()>
-        ensures exactly { JudgesFor (V.accepts verifier.now) fingerprints.now unix_timestamp
-            principal.now (certificate_of self.now) result }
+        ensures exactly { JudgesCertificateFor (V.accepts verifier.now) fingerprints.now
+            unix_timestamp principal.now (certificate_of self.now) result }
         ensures memory { IfErr result
             (λ e. e ≡ wide.Memory → NeedsAnswer (V.runs_out verifier.now) self.now) }
     {

@@ -7,7 +7,7 @@ ghost use Rattle.sshkey_model.specs.Texts.{text_at};
 ghost use Rattle.sshkey_base.specs.Answers.{AnswersAlways};
 ghost use Rattle.sshkey_base.specs.Causes.{cause, encoding_cause};
 ghost use Rattle.sshkey_cert_ref.specs.SpelledOptions.{pair_of, value_pair_of};
-ghost use Rattle.sshkey_keys_ref.specs.Taking.{Takes};
+ghost use Rattle.sshkey_keys_ref.specs.Taking.{TakesValue};
 
 use crate::strings::take_string;
 use sshkey_base::{Error, Result, encoding};
@@ -27,7 +27,7 @@ pub(super) fn take_option<'a>(
     before: Option<SpelledOption<'a>>,
     bytes: &mut &'a [u8],
 ) -> Result<SpelledOption<'a>>
-    ensures { Takes pair_of cause (option_at (option_map pair_of before.entry))
+    ensures { TakesValue pair_of cause (option_at (option_map pair_of before.entry))
         bytes.old.now result bytes.new.now }
 {
     let name = <&'a str>::read_from(bytes)?;
@@ -56,7 +56,7 @@ fn may_follow(before: Option<SpelledOption<'_>>, option: SpelledOption<'_>) -> b
 
 /// Takes a value, and whether it is an empty text in its string.
 fn take_value<'a>(bytes: &mut &'a [u8]) -> encoding::Result<(&'a str, bool)>
-    ensures { Takes value_pair_of encoding_cause (box_at option_value_from)
+    ensures { TakesValue value_pair_of encoding_cause (box_at option_value_from)
         bytes.old.now result bytes.new.now }
 {
     let string = take_string(bytes)?;

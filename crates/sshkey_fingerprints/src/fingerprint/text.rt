@@ -1,6 +1,6 @@
 //! Fingerprints that are read from their texts.
 
-ghost use Rattle.sshkey_fingerprints.specs.FingerprintTexts.{IsSized, ReadsDigest, ReadsText};
+ghost use Rattle.sshkey_fingerprints.specs.FingerprintTexts.{IsSized, ReadsDigest, ReadsFingerprint};
 ghost use Rattle.base64.specs.GeneralPurpose.{IsBytes};
 
 use crate::fingerprint::Fingerprint;
@@ -49,7 +49,7 @@ fn digest_from<const N: usize>(text: &str) -> Result<[u8; N]>
 impl FromStr for Fingerprint {
     type Err = Error;
 
-    ghost from_str_gives = { ReadsText };
+    ghost from_str_gives = { ReadsFingerprint };
 
     fn from_str(text: &str) -> Result<Fingerprint> {
         if let Some(digest) = text.strip_prefix("SHA256:") {

@@ -1,6 +1,6 @@
 //! Examples of what a verifier is asked.
 
-ghost use Rattle.sshkey_model.specs.DispatchExamples.{Dispatch, PlainQuestions, SecurityKeyQuestions, SecurityKeyOrder, Answers};
+ghost use Rattle.sshkey_model.specs.DispatchExamples.{Dispatch, PlainQuestions, SecurityKeyQuestions, SecurityKeyOrder, VerifierAnswers};
 
 /// Every key with every algorithm: the pairs that are asked about.
 pub fn dispatch()
@@ -24,5 +24,5 @@ pub fn security_key_order()
 
 /// The answer counts only where the verifier is asked.
 pub fn answers()
-    ensures { Answers }
+    ensures { VerifierAnswers }
 {}

@@ -1,6 +1,6 @@
 use Rattle.std.proofs.Common.{sym, ◌∙◌, rules}
 use Rattle.sshkey_entries.specs.Items.{patterns}
-use Rattle.sshkey_entries.specs.Patterns.{IsShort, Refuses}
+use Rattle.sshkey_entries.specs.Patterns.{IsShortPattern, MatchesNegated}
 use Rattle.sshkey_entries.specs.LetterCases.{fold_of}
 use Rattle.sshkey_entries.proofs.PatternLists.{at_last, no_patterns_left, one_less, refused, too_long}
 use Rattle.sshkey_entries.proofs.pattern_list.matches_pattern_list.Goals as goal
@@ -23,8 +23,8 @@ returns-then-not-is_short_pattern c =
 pub patterns-preserved : goal.patterns-preserved
 patterns-preserved c =
     let still = c.patterns.invariant.same in
-    let short : IsShort c.split_pattern.result.0.now = c.is_short_pattern.ensures.0 (let h = c.if-not-is_short_pattern.false in cc) in
-    let kept : Refuses (fold_of c.args.letter_case) c.args.text.now c.split_pattern.result.0.now → ⊥ = λ r. cc (sym c.if-is_refused_by.false ∙ c.is_refused_by.ensures.1 r) in
+    let short : IsShortPattern c.split_pattern.result.0.now = c.is_short_pattern.ensures.0 (let h = c.if-not-is_short_pattern.false in cc) in
+    let kept : MatchesNegated (fold_of c.args.letter_case) c.args.text.now c.split_pattern.result.0.now → ⊥ = λ r. cc (sym c.if-is_refused_by.false ∙ c.is_refused_by.ensures.1 r) in
     let less = one_less (fold_of c.args.letter_case) c.patterns.is_named c.args.text.now c.split_pattern.result.0.now (patterns c.patterns.rest.now) (patterns c.split_pattern.result.1.now) c.split_pattern.ensures.patterns c.is_named_by-is_named.result short kept c.is_named_by-is_named.ensures in
     record { same = (λ is. less.0 (still.0 is), λ more. still.1 (less.1 more)); text = search rules }
 
