@@ -47,10 +47,10 @@ pub enum Refusal {
 /// the namespace, and `valid-after="..."` and `valid-before="..."`, the first and the last second,
 /// in UTC. A line with `cert-authority` lets certificates sign, which are not read in a signature:
 /// it is passed over. So is each line in which something else stands, as ssh-keygen does, a line in
-/// which a byte is 0, and one with a carriage return in its list of patterns: ssh-keygen ends the
-/// line at the former, and an unquoted list at the latter. And so is the line of a security key
-/// whose application has a zero byte: ssh-keygen takes it for another key's, or reads it not at
-/// all, and no verifier sees it.
+/// which a byte is 0, and one whose list of patterns has a carriage return, or a double quote that
+/// does not enclose the list: ssh-keygen ends the line at a zero byte, and an unquoted list at the
+/// others. And so is the line of a security key whose application has a zero byte: ssh-keygen takes
+/// it for another key's, or rejects it, and no verifier sees it.
 ///
 /// `signature` is what stands in the armour of `ssh-keygen -Y sign`, decoded. `revocations` is
 /// asked about its key: a list, `NoRevocations`, or what reading a list gave, whose `Err` revokes

@@ -5,8 +5,8 @@ use Rattle.std.specs.List.{list_any}
 use Rattle.sha1.specs.Sha1.{sha1}
 use Rattle.sha2.specs.Sha256.{sha256}
 use Rattle.sshkey_krl.specs.Revocation.{Authority, Certificates, Grant, Keys, Part, Section, Sha1s, Sha256s, has_grant, is_by, without_zero}
-use Rattle.sshkey_krl.specs.declared.question.Question.{Question}
-use Rattle.sshkey_krl.specs.declared.question.Serial.{Serial}
+use Rattle.sshkey_krl.specs.declared.query.Query.{Query}
+use Rattle.sshkey_krl.specs.declared.query.CertificateIdentity.{CertificateIdentity}
 
 -- the bytes of the two keys; the serial number, and the key id without a zero byte at its end
 pub record Asked : Type 0 where
@@ -14,7 +14,7 @@ pub record Asked : Type 0 where
   pub signer : List ℕ
   pub certificate : Option (ℕ × List ℕ)
 
-abbrev certificate_of : Option Serial → Option (ℕ × List ℕ)
+abbrev certificate_of : Option CertificateIdentity → Option (ℕ × List ℕ)
 certificate_of None = None
 certificate_of (Some c) = Some (c.number, c.key_id.now)
 
@@ -24,7 +24,7 @@ asked_key bytes = record { key = bytes; signer = bytes; certificate = None }
 abbrev pub asked_certificate : List ℕ → List ℕ → ℕ → List ℕ → Asked
 asked_certificate key signer serial key_id = record { key = key; signer = signer; certificate = Some (serial, without_zero key_id) }
 
-abbrev pub asked_of : Question → Asked
+abbrev pub asked_of : Query → Asked
 asked_of q = record { key = q.key.bytes.now; signer = q.signer.bytes.now; certificate = certificate_of q.certificate }
 
 -- the number 0 and no key id where no certificate is asked about

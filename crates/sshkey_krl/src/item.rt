@@ -10,7 +10,7 @@ ghost use Rattle.sshkey_terms.specs.Slices.{Splits};
 ghost use Rattle.sshkey_terms.specs.ToEnd.{HasBytes};
 ghost use Rattle.sshkey_krl.specs.Asked.{Asked, asked_of};
 
-use crate::question::Question;
+use crate::query::Query;
 use sshkey_base::Result;
 
 /// An item of a list.
@@ -24,26 +24,26 @@ pub(crate) trait Item {
     /// No item is empty.
     ghost has_bytes: { HasBytes format };
 
-    /// What an item says to a question.
+    /// What an item says to a query.
     ghost says: { Asked → Value → Bool };
 
-    /// What the item at the front says to the question, and what stands after it.
-    fn ask<'a>(question: &Question<'_>, bytes: &'a [u8]) -> Result<(bool, &'a [u8])>
+    /// What the item at the front says to the query, and what stands after it.
+    fn ask<'a>(query: &Query<'_>, bytes: &'a [u8]) -> Result<(bool, &'a [u8])>
         ensures { Splits (λ y. y) cause
-            (checked_at (λ v. Ok (says (asked_of question.now) v)) format.read)
+            (checked_at (λ v. Ok (says (asked_of query.now) v)) format.read)
             bytes.now result };
 }
 
-/// Whether an item says yes to the question, of those that the bytes spell.
-pub(crate) fn any_of<I: Item>(question: &Question<'_>, bytes: &[u8]) -> Result<bool>
+/// Whether an item says yes to the query, of those that the bytes spell.
+pub(crate) fn any_of<I: Item>(query: &Query<'_>, bytes: &[u8]) -> Result<bool>
     ensures { AnswersAlways (λ y. y) cause
-        (checked_whole (λ vs. Ok (list_any (I.says (asked_of question.now)) vs))
+        (checked_whole (λ vs. Ok (list_any (I.says (asked_of query.now)) vs))
         (list_whole (λ _. I.format.read)) bytes.now) result }
 {
     let mut rest = bytes;
     let mut found = false;
     'items: while !rest.is_empty() {
-        let (yes, behind) = I::ask(question, rest)?;
+        let (yes, behind) = I::ask(query, rest)?;
         found |= yes;
         rest = behind;
     }

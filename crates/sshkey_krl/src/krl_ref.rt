@@ -11,7 +11,7 @@ ghost use Rattle.sshkey_krl.specs.Krls.{krl_format};
 
 use crate::header::Header;
 use crate::item::any_of;
-use crate::question::Question;
+use crate::query::Query;
 use crate::section::Section;
 use sshkey_base::Result;
 use sshkey_terms::ReadFrom;
@@ -68,7 +68,7 @@ impl<'a> KrlRef<'a> {
     pub fn revokes_key(&self, key: &[u8]) -> bool
         ensures { result ≡ revokes_key (krl_of self.now) key.now }
     {
-        self.answers(&Question::about_key(key))
+        self.answers(&Query::about_key(key))
     }
 
     /// Whether the list revokes a certificate of the key with that serial number and key id, which
@@ -89,15 +89,15 @@ impl<'a> KrlRef<'a> {
         ensures { result ≡ revokes (krl_of self.now) key.now
             (grant signature_key.now serial key_id.now) }
     {
-        self.answers(&Question::about_certificate(key, signature_key, serial, key_id))
+        self.answers(&Query::about_certificate(key, signature_key, serial, key_id))
     }
 
-    /// What the list says to the question.
+    /// What the list says to the query.
     #[tactic(auto, using(crate::proofs::Krls::krls))]
-    fn answers(&self, question: &Question<'_>) -> bool
-        ensures { result ≡ list_any (says (asked_of question.now)) (krl_of self.now).sections }
+    fn answers(&self, query: &Query<'_>) -> bool
+        ensures { result ≡ list_any (says (asked_of query.now)) (krl_of self.now).sections }
     {
-        match ask(question, self.bytes) {
+        match ask(query, self.bytes) {
             Ok(yes) => yes,
             Err(_) => unreachable!(),
         }
@@ -109,18 +109,18 @@ impl<'a> KrlRef<'a> {
 fn check_krl(bytes: &[u8]) -> Result<()>
     ensures { Judges cause (whole krl_format.read bytes.now) result }
 {
-    ask(&Question::about_key(&[]), bytes)?;
+    ask(&Query::about_key(&[]), bytes)?;
     Ok(())
 }
 
-/// What the list that all the bytes spell says to the question.
+/// What the list that all the bytes spell says to the query.
 #[tactic(auto, using(crate::proofs::Krls::krls))]
-fn ask(question: &Question<'_>, bytes: &[u8]) -> Result<bool>
+fn ask(query: &Query<'_>, bytes: &[u8]) -> Result<bool>
     ensures { AnswersAlways (λ y. y) cause
-        (checked_whole (λ k. Ok (list_any (says (asked_of question.now)) k.sections))
+        (checked_whole (λ k. Ok (list_any (says (asked_of query.now)) k.sections))
         (whole krl_format.read) bytes.now) result }
 {
     let mut rest = bytes;
     Header::read_from(&mut rest)?;
-    any_of::<Section>(question, rest)
+    any_of::<Section>(query, rest)
 }

@@ -14,7 +14,7 @@ mod krl_ref;
 pub mod laws;
 mod numbered;
 mod part;
-mod question;
+mod query;
 mod revocations;
 mod section;
 mod serials;

@@ -10,7 +10,7 @@ ghost use Rattle.std.specs.Int.{w8};
 ghost use Rattle.sshkey_krl.specs.Asked.{Asked, asked_of};
 ghost use Rattle.sshkey_krl.specs.Parts.{numbered};
 
-use crate::question::Question;
+use crate::query::Query;
 use sshkey_base::{Error, Result, array_from, encoding};
 use sshkey_terms::split_string;
 
@@ -28,33 +28,33 @@ pub(crate) trait Numbered {
     /// What stands in the string.
     ghost body: { Self.Kind → Format Value };
 
-    /// What a value says to a question.
+    /// What a value says to a query.
     ghost says: { Asked → Value → Bool };
 
     /// What that number calls for. Fails with `FormatEncoding` where it calls for nothing.
     fn kind(number: u8) -> Result<Self::Kind>
         ensures { AnswersAlways (λ k. k) cause (kind_from number) result };
 
-    /// What the value that all the bytes spell says to the question.
-    fn ask_body(question: &Question<'_>, kind: Self::Kind, bytes: &[u8]) -> Result<bool>
+    /// What the value that all the bytes spell says to the query.
+    fn ask_body(query: &Query<'_>, kind: Self::Kind, bytes: &[u8]) -> Result<bool>
         ensures { AnswersAlways (λ y. y) cause
-            (checked_whole (λ v. Ok (says (asked_of question.now) v)) (whole (body kind).read)
+            (checked_whole (λ v. Ok (says (asked_of query.now) v)) (whole (body kind).read)
             bytes.now) result };
 }
 
-/// What the value at the front says to the question, and what stands after it.
+/// What the value at the front says to the query, and what stands after it.
 pub(crate) fn ask_numbered<'a, N: Numbered>(
-    question: &Question<'_>,
+    query: &Query<'_>,
     bytes: &'a [u8],
 ) -> Result<(bool, &'a [u8])>
     ensures { Splits (λ y. y) cause
-        (checked_at (λ v. Ok (N.says (asked_of question.now) v))
+        (checked_at (λ v. Ok (N.says (asked_of query.now) v))
         (numbered N.kind_from N.body).read) bytes.now result }
 {
     let (number, rest) = split_byte(bytes)?;
     let kind = N::kind(number)?;
     let (body, rest) = split_string(rest)?;
-    Ok((N::ask_body(question, kind, body)?, rest))
+    Ok((N::ask_body(query, kind, body)?, rest))
 }
 
 /// The answer, where nothing is left. Fails with `TrailingData` and the number of bytes that are.

@@ -11,7 +11,7 @@ ghost use Rattle.sshkey_krl.specs.declared.part.PartKind.TheVariants as kinds;
 
 use crate::item::{Item, any_of};
 use crate::numbered::{Numbered, ask_numbered, at_end};
-use crate::question::Question;
+use crate::query::Query;
 use crate::serials::{check_bitmap, check_range, check_serial};
 use crate::text::text_in;
 use sshkey_base::{Error, Result};
@@ -50,12 +50,12 @@ impl Numbered for Part {
         }
     }
 
-    fn ask_body(question: &Question<'_>, kind: PartKind, bytes: &[u8]) -> Result<bool> {
+    fn ask_body(query: &Query<'_>, kind: PartKind, bytes: &[u8]) -> Result<bool> {
         match kind {
-            PartKind::Serials => ask_serials(question, bytes),
-            PartKind::Range => ask_range(question, bytes),
-            PartKind::Bitmap => ask_bitmap(question, bytes),
-            PartKind::KeyIds => any_of::<KeyId>(question, bytes),
+            PartKind::Serials => ask_serials(query, bytes),
+            PartKind::Range => ask_range(query, bytes),
+            PartKind::Bitmap => ask_bitmap(query, bytes),
+            PartKind::KeyIds => any_of::<KeyId>(query, bytes),
         }
     }
 }
@@ -69,43 +69,43 @@ impl Item for Part {
 
     ghost says = { part_says };
 
-    fn ask<'a>(question: &Question<'_>, bytes: &'a [u8]) -> Result<(bool, &'a [u8])> {
-        ask_numbered::<Part>(question, bytes)
+    fn ask<'a>(query: &Query<'_>, bytes: &'a [u8]) -> Result<(bool, &'a [u8])> {
+        ask_numbered::<Part>(query, bytes)
     }
 }
 
 /// Whether one of the numbers is the serial number that is asked about.
-fn ask_serials(question: &Question<'_>, bytes: &[u8]) -> Result<bool>
+fn ask_serials(query: &Query<'_>, bytes: &[u8]) -> Result<bool>
     ensures { AnswersAlways (λ y. y) cause
-        (checked_whole (λ v. Ok (part_says (asked_of question.now) v))
+        (checked_whole (λ v. Ok (part_says (asked_of query.now) v))
         (whole (body kinds.Serials).read) bytes.now) result }
 {
-    let listed = any_of::<Serial>(question, bytes)?;
-    Ok(question.serial() != 0 && listed)
+    let listed = any_of::<Serial>(query, bytes)?;
+    Ok(query.serial() != 0 && listed)
 }
 
 /// Whether the range has the serial number that is asked about.
-fn ask_range(question: &Question<'_>, bytes: &[u8]) -> Result<bool>
+fn ask_range(query: &Query<'_>, bytes: &[u8]) -> Result<bool>
     ensures { AnswersAlways (λ y. y) cause
-        (checked_whole (λ v. Ok (part_says (asked_of question.now) v))
+        (checked_whole (λ v. Ok (part_says (asked_of query.now) v))
         (whole (body kinds.Range).read) bytes.now) result }
 {
     let (first, rest) = split_u64(bytes)?;
     let (last, rest) = split_u64(rest)?;
     check_range(first, last)?;
-    at_end(question.is_in_range(first, last), rest)
+    at_end(query.is_in_range(first, last), rest)
 }
 
 /// Whether the bitmap has the serial number that is asked about.
-fn ask_bitmap(question: &Question<'_>, bytes: &[u8]) -> Result<bool>
+fn ask_bitmap(query: &Query<'_>, bytes: &[u8]) -> Result<bool>
     ensures { AnswersAlways (λ y. y) cause
-        (checked_whole (λ v. Ok (part_says (asked_of question.now) v))
+        (checked_whole (λ v. Ok (part_says (asked_of query.now) v))
         (whole (body kinds.Bitmap).read) bytes.now) result }
 {
     let (first, rest) = split_u64(bytes)?;
     let (bitmap, rest) = split_string(rest)?;
     check_bitmap(first, bitmap)?;
-    at_end(question.is_in_bitmap(first, bitmap), rest)
+    at_end(query.is_in_bitmap(first, bitmap), rest)
 }
 
 /// A serial number.
@@ -120,10 +120,10 @@ impl Item for Serial {
 
     ghost says = { serial_says };
 
-    fn ask<'a>(question: &Question<'_>, bytes: &'a [u8]) -> Result<(bool, &'a [u8])> {
+    fn ask<'a>(query: &Query<'_>, bytes: &'a [u8]) -> Result<(bool, &'a [u8])> {
         let (serial, rest) = split_u64(bytes)?;
         check_serial(serial)?;
-        Ok((serial == question.serial(), rest))
+        Ok((serial == query.serial(), rest))
     }
 }
 
@@ -139,9 +139,9 @@ impl Item for KeyId {
 
     ghost says = { key_id_says };
 
-    fn ask<'a>(question: &Question<'_>, bytes: &'a [u8]) -> Result<(bool, &'a [u8])> {
+    fn ask<'a>(query: &Query<'_>, bytes: &'a [u8]) -> Result<(bool, &'a [u8])> {
         let (string, rest) = split_string(bytes)?;
         let key_id = text_in(string)?;
-        Ok((question.key_id() == key_id, rest))
+        Ok((query.key_id() == key_id, rest))
     }
 }

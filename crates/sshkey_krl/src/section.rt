@@ -13,7 +13,7 @@ ghost use Rattle.sshkey_krl.specs.declared.section.SectionKind.TheVariants as ki
 use crate::item::{Item, any_of};
 use crate::numbered::{Numbered, ask_numbered};
 use crate::part::Part;
-use crate::question::Question;
+use crate::query::Query;
 use sshkey_base::{Error, Result};
 use sshkey_keys_ref::KeyDataRef;
 use sshkey_terms::{ReadFrom, split_string};
@@ -51,12 +51,12 @@ impl Numbered for Section {
         }
     }
 
-    fn ask_body(question: &Question<'_>, kind: SectionKind, bytes: &[u8]) -> Result<bool> {
+    fn ask_body(query: &Query<'_>, kind: SectionKind, bytes: &[u8]) -> Result<bool> {
         match kind {
-            SectionKind::Certificates => ask_certificates(question, bytes),
-            SectionKind::Keys => any_of::<KeyBytes>(question, bytes),
-            SectionKind::Sha1 => any_of::<Sha1Digest>(question, bytes),
-            SectionKind::Sha256 => any_of::<Sha256Digest>(question, bytes),
+            SectionKind::Certificates => ask_certificates(query, bytes),
+            SectionKind::Keys => any_of::<KeyBytes>(query, bytes),
+            SectionKind::Sha1 => any_of::<Sha1Digest>(query, bytes),
+            SectionKind::Sha256 => any_of::<Sha256Digest>(query, bytes),
         }
     }
 }
@@ -70,36 +70,36 @@ impl Item for Section {
 
     ghost says = { says };
 
-    fn ask<'a>(question: &Question<'_>, bytes: &'a [u8]) -> Result<(bool, &'a [u8])> {
-        ask_numbered::<Section>(question, bytes)
+    fn ask<'a>(query: &Query<'_>, bytes: &'a [u8]) -> Result<(bool, &'a [u8])> {
+        ask_numbered::<Section>(query, bytes)
     }
 }
 
 /// Whether a part says yes, of a section that is about the certificates of the authority.
-fn ask_certificates(question: &Question<'_>, bytes: &[u8]) -> Result<bool>
+fn ask_certificates(query: &Query<'_>, bytes: &[u8]) -> Result<bool>
     ensures { AnswersAlways (λ y. y) cause
-        (checked_whole (λ v. Ok (says (asked_of question.now) v))
+        (checked_whole (λ v. Ok (says (asked_of query.now) v))
         (whole (body kinds.Certificates).read) bytes.now) result }
 {
     let (authority, rest) = split_string(bytes)?;
-    let about = is_about(question, authority)?;
+    let about = is_about(query, authority)?;
     let (_, parts) = split_string(rest)?;
-    let listed = any_of::<Part>(question, parts)?;
+    let listed = any_of::<Part>(query, parts)?;
     Ok(about & listed)
 }
 
 /// Whether a certificate is asked about that the authority has signed: any where no bytes name it.
 /// Fails as `KeyDataRef::from_bytes` does for bytes that spell no key.
-fn is_about(question: &Question<'_>, authority: &[u8]) -> Result<bool>
+fn is_about(query: &Query<'_>, authority: &[u8]) -> Result<bool>
     ensures { AnswersAlways (λ y. y) cause
-        (checked_whole (λ w. Ok (authority_says (asked_of question.now) w)) authority_from
+        (checked_whole (λ w. Ok (authority_says (asked_of query.now) w)) authority_from
         authority.now) result }
 {
     if authority.is_empty() {
-        return Ok(question.has_certificate());
+        return Ok(query.has_certificate());
     }
     let key = KeyDataRef::from_bytes(authority)?;
-    Ok(question.is_signer(&key))
+    Ok(query.is_signer(&key))
 }
 
 /// The bytes of a key. They need not be those of one.
@@ -114,9 +114,9 @@ impl Item for KeyBytes {
 
     ghost says = { key_says };
 
-    fn ask<'a>(question: &Question<'_>, bytes: &'a [u8]) -> Result<(bool, &'a [u8])> {
+    fn ask<'a>(query: &Query<'_>, bytes: &'a [u8]) -> Result<(bool, &'a [u8])> {
         let (key, rest) = split_string(bytes)?;
-        Ok((question.is_key(key), rest))
+        Ok((query.is_key(key), rest))
     }
 }
 
@@ -132,10 +132,10 @@ impl Item for Sha1Digest {
 
     ghost says = { sha1_says };
 
-    fn ask<'a>(question: &Question<'_>, bytes: &'a [u8]) -> Result<(bool, &'a [u8])> {
+    fn ask<'a>(query: &Query<'_>, bytes: &'a [u8]) -> Result<(bool, &'a [u8])> {
         let mut rest = bytes;
         let digest = <[u8; 20]>::read_from(&mut rest)?;
-        Ok((question.is_sha1(&digest), rest))
+        Ok((query.is_sha1(&digest), rest))
     }
 }
 
@@ -151,9 +151,9 @@ impl Item for Sha256Digest {
 
     ghost says = { sha256_says };
 
-    fn ask<'a>(question: &Question<'_>, bytes: &'a [u8]) -> Result<(bool, &'a [u8])> {
+    fn ask<'a>(query: &Query<'_>, bytes: &'a [u8]) -> Result<(bool, &'a [u8])> {
         let mut rest = bytes;
         let digest = <[u8; 32]>::read_from(&mut rest)?;
-        Ok((question.is_sha256(&digest), rest))
+        Ok((query.is_sha256(&digest), rest))
     }
 }

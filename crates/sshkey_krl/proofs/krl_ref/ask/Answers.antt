@@ -8,7 +8,7 @@ use Rattle.sshkey_krl.proofs.krl_ref.ask.Goals as goal
 pub returns-in_err-read_from : goal.returns-in_err-read_from
 returns-in_err-read_from c =
     let p = err_from_is_err_and c.from_residual.result c.from_residual.ensures.1 in
-    rw (p.1, p.2) (header_refused (asked_of c.args.question.now) cause c.args.bytes.now _ _ c.in_err-read_from.ensures.gives refl)
+    rw (p.1, p.2) (header_refused (asked_of c.args.query.now) cause c.args.bytes.now _ _ c.in_err-read_from.ensures.gives refl)
 
 pub returns : goal.returns
-returns c = sections_asked (asked_of c.args.question.now) cause c.args.bytes.now _ _ _ c.in_ok-read_from.ensures.gives.value c.any_of.ensures
+returns c = sections_asked (asked_of c.args.query.now) cause c.args.bytes.now _ _ _ c.in_ok-read_from.ensures.gives.value c.any_of.ensures

@@ -7,15 +7,15 @@ use Rattle.sshkey_krl.proofs.Sections.{about_all, about_none, about_signer}
 use Rattle.sshkey_krl.proofs.section.is_about.Goals as goal
 
 pub returns-then-is_empty : goal.returns-then-is_empty
-returns-then-is_empty c = about_all (asked_of c.args.question.now) cause c.args.authority.now _ (eqb-true (length c.args.authority.now) 0 (sym c.is_empty.ensures ∙ c.if-is_empty.true)) c.has_certificate.ensures
+returns-then-is_empty c = about_all (asked_of c.args.query.now) cause c.args.authority.now _ (eqb-true (length c.args.authority.now) 0 (sym c.is_empty.ensures ∙ c.if-is_empty.true)) c.has_certificate.ensures
 
 pub returns-in_err-key : goal.returns-in_err-key
 returns-in_err-key c =
     let p = err_from_is_err_and c.from_residual.result c.from_residual.ensures.1 in
     let some : 0 < length c.args.authority.now = omega (arith, eqb-false (length c.args.authority.now) 0 (sym c.is_empty.ensures ∙ c.if-is_empty.false)) in
-    rw (p.1, p.2) (about_none (asked_of c.args.question.now) cause c.args.authority.now _ _ some c.in_err-key.ensures.keeps refl)
+    rw (p.1, p.2) (about_none (asked_of c.args.query.now) cause c.args.authority.now _ _ some c.in_err-key.ensures.keeps refl)
 
 pub returns : goal.returns
 returns c =
     let some : 0 < length c.args.authority.now = omega (arith, eqb-false (length c.args.authority.now) 0 (sym c.is_empty.ensures ∙ c.if-is_empty.false)) in
-    about_signer (asked_of c.args.question.now) cause c.args.authority.now _ _ some c.in_ok-key.ensures.keeps c.is_signer.ensures
+    about_signer (asked_of c.args.query.now) cause c.args.authority.now _ _ some c.in_ok-key.ensures.keeps c.is_signer.ensures

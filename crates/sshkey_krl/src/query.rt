@@ -17,26 +17,26 @@ use sshkey_keys_ref::KeyDataRef;
 
 /// The serial number and the key id of a certificate, without a zero byte at its end.
 #[derive(Clone, Copy)]
-pub(crate) struct Serial<'q> {
+pub(crate) struct CertificateIdentity<'q> {
     number: u64,
     key_id: &'q [u8],
 }
 
 /// Whether one of two keys is listed, or a certificate that the second has signed.
 #[derive(Clone, Copy)]
-pub(crate) struct Question<'q> {
+pub(crate) struct Query<'q> {
     key: Key<'q>,
     signer: Key<'q>,
-    certificate: Option<Serial<'q>>,
+    certificate: Option<CertificateIdentity<'q>>,
 }
 
-impl<'q> Question<'q> {
+impl<'q> Query<'q> {
     /// About the key of those bytes.
-    pub(crate) fn about_key(bytes: &'q [u8]) -> Question<'q>
+    pub(crate) fn about_key(bytes: &'q [u8]) -> Query<'q>
         ensures { asked_of result ≡ asked_key bytes.now }
     {
         let key = Key::new(bytes);
-        Question {
+        Query {
             key,
             signer: key,
             certificate: None,
@@ -49,13 +49,13 @@ impl<'q> Question<'q> {
         signer: &'q [u8],
         serial: u64,
         key_id: &'q str,
-    ) -> Question<'q>
+    ) -> Query<'q>
         ensures { asked_of result ≡ asked_certificate key.now signer.now serial key_id.now }
     {
-        Question {
+        Query {
             key: Key::new(key),
             signer: Key::new(signer),
-            certificate: Some(Serial {
+            certificate: Some(CertificateIdentity {
                 number: serial,
                 key_id: without_zero(key_id.as_bytes()),
             }),
