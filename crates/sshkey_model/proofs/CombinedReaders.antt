@@ -114,10 +114,14 @@ pub record ReadsWhole {A : Type 0} (Is : A → Type 0) (spell : A → Parts) (re
 
 module _ {A : Type 0} {Is : A → Type 0} {spell : A → Parts} {read : Front A} (reads : ReadsFront Is spell read) where
   -- No spelling begins another.
-  pub prefix : IsPrefixFree Is spell
+  pub prefix : (v w : A) (r q : List ℕ) → Is v → Fits (spell v) → Is w → Fits (spell w) → flat (spell v) ++ r ≡ flat (spell w) ++ q → (v ≡ w) × (r ≡ q)
   prefix v w r q v-is v-fits w-is w-fits e =
       let same : (v, r) ≡ (w, q) = ok_is (v, r) (w, q) (sym (reads.again v r v-is v-fits) ∙ ap read e ∙ reads.again w q w-is w-fits) in
       (ap (λ (p : A × List ℕ). p.0) same, ap (λ (p : A × List ℕ). p.1) same)
+
+  pub prefix_free : IsPrefixFree Is spell
+  unfolding IsPrefixFree
+  prefix_free = prefix
 
   -- Equal bytes are of one value.
   pub injective : (v w : A) → Is v → Fits (spell v) → Is w → Fits (spell w) → flat (spell v) ≡ flat (spell w) → v ≡ w

@@ -29,3 +29,4 @@ pub mod NormalKeysFit
 pub mod Refusals
 pub mod InsertedOptions
 pub mod SignedDrafts
+pub mod Lawful

@@ -2,7 +2,7 @@
 use Rattle.std.proofs.Common.{◌≡◌, ℕ, List, length, sym, ap, ◌∙◌, subst, refl, arith}
 use Rattle.base64.specs.Engines.{standard}
 use Rattle.base64.specs.GeneralPurpose.{encode_of, IsBytes}
-use Rattle.sshkey_model.specs.Lines.{IsLine, IsLineOf, IsNoLine, HasWordCharacters, joined, IsCut, IsBlob}
+use Rattle.sshkey_model.specs.Lines.{IsLine, IsLineOf, IsNoLine, HasWordCharacters, joined, IsCut, IsBlob, LinesDetermineValues}
 use Rattle.sshkey_model.proofs.CombinedReaders.{bytes_fit}
 use Rattle.sshkey_model.proofs.Base64Words.{word_not, some_word, one_blob}
 use Rattle.sshkey_model.proofs.LineCuts.{one_cut}
@@ -65,3 +65,7 @@ module _ {V : Type 0} (first : V → List ℕ) (Spelling : V → List ℕ → Ty
     one_line text m n v w a b =
         let same = same_parts text (first v) (encode_of standard a.blob) m a.blob (line_cut text _ a.blob m a.line) refl (blob_fits v a.blob a.spelled) w n b in
         (blobs.one v w b.blob (subst (λ (x : List ℕ). Spelling v x) same.1 a.spelled) b.spelled, same.2)
+
+    pub one_value : LinesDetermineValues first Spelling
+    unfolding LinesDetermineValues
+    one_value = one_line

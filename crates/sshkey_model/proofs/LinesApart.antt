@@ -63,6 +63,7 @@ blobs_apart k c bytes a b =
     other_name k a.choices (key_algorithm c.signed.key) c.signed.nonce _ (signature c.signature) a.place (fits_second (string name) (body k) a.fits) (fits_second (string certified) _ behind) is_certified first.1
 
 pub lines_apart : LinesAreApart
+unfolding LinesAreApart
 lines_apart text m n k c a b =
     let cuts = one_cut text (key_name k) (encode_of standard a.blob) m (name_of_certificate c) (encode_of standard b.blob) n (line_cut text (key_name k) a.blob m a.line) (line_cut text (name_of_certificate c) b.blob n b.line) in
     let blob = one_blob a.blob b.blob (bytes_fit a.blob (key_blobs.bytes k a.blob a.spelled)) (bytes_fit b.blob (certificate_blobs.bytes c b.blob b.spelled)) cuts.1 in

@@ -10,7 +10,7 @@ use Rattle.sshkey_model.proofs.NameReaders.{hash_reads}
 use Rattle.sshkey_model.proofs.ShortNames.{short_certificate_name}
 
 pub are_apart : AreApart
-unfolding flat
+unfolding flat AreApart
 are_apart c s namespace reserved h digest is e =
     let first : length (certificate_name (key_algorithm c.key)) / 16777216 % 256 ≡ 83 = ap (λ (z : List ℕ). get_or z 0 0) e in
     omega (arith, first, short_certificate_name (key_algorithm c.key) is.name)

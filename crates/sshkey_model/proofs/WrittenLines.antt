@@ -167,6 +167,7 @@ line_again text first blob comment other line some =
     record { utf8 = is_utf8-from_IsUtf8 (written first other comment) now.0; is = not_trimmed (written first other comment) now.0 now.1; some_first = line.some_first; some_blob = some; characters = line.characters }
 
 pub lines_read_back : {V : Type 0} (first : V → List ℕ) (Spelling : V → List ℕ → Type 0) (normal : V → Parts) → IsBlob Spelling → ((v : V) (blob : List ℕ) → Spelling v blob → Spelling v (flat (normal v))) → LinesReadBack first Spelling normal
+unfolding LinesReadBack
 lines_read_back first Spelling normal blobs normally text comment v line =
     let spelled = normally v line.blob line.spelled in
     record { blob = flat (normal v); spelled = spelled; line = line_again text (first v) line.blob comment (flat (normal v)) line.line (blobs.some v (flat (normal v)) spelled) }

@@ -7,15 +7,15 @@ use Rattle.sshkey_model.specs.Certificates.{SignedFields, AreSignedFields, HaveS
 use Rattle.sshkey_model.specs.SshSignatures.{signed_data}
 
 -- Two values have equal normal forms exactly if they are equal.
-abbrev pub DetermineValues : {V : Type 0} → (V → Type 0) → (V → Parts) → Type 0
+unfoldable pub DetermineValues : {V : Type 0} → (V → Type 0) → (V → Parts) → Type 0
 DetermineValues {V} Is normal = (v w : V) → Is v → Is w → Fits (normal v) → Fits (normal w) → (flat (normal v) ≡ flat (normal w)) ↔ (v ≡ w)
 
 -- The normal form is read back as the value, with nothing left.
-abbrev pub ReadBack : {V : Type 0} → (V → Type 0) → (V → Parts) → Front V → Type 0
+unfoldable pub ReadBack : {V : Type 0} → (V → Type 0) → (V → Parts) → Front V → Type 0
 ReadBack {V} Is normal read = (v : V) → Is v → Fits (normal v) → read (flat (normal v)) ≡ Ok (v, [])
 
 -- The same with choices, which are all plain then: normalising twice is normalising once.
-abbrev pub ReadBackPlain : {V S : Type 0} → (V → Type 0) → (V → S → Parts) → (V → S) → Front (V × S) → Type 0
+unfoldable pub ReadBackPlain : {V S : Type 0} → (V → Type 0) → (V → S → Parts) → (V → S) → Front (V × S) → Type 0
 ReadBackPlain {V} Is spell plain read = (v : V) → Is v → Fits (spell v (plain v)) → read (flat (spell v (plain v))) ≡ Ok ((v, plain v), [])
 
 -- Where a spelling fits, the normal form does.
@@ -28,7 +28,7 @@ abbrev pub DetermineFields : Type 0
 DetermineFields = (c d : SignedFields) (s u : CertificateChoices) → AreSignedFields c → HaveSignedPlaces c s → Fits (to_be_signed c s) → AreSignedFields d → HaveSignedPlaces d u → Fits (to_be_signed d u) → flat (to_be_signed c s) ≡ flat (to_be_signed d u) → (c ≡ d) × (s ≡ u)
 
 -- No certificate's signed bytes, in any spelling, are what an SSH signature is over.
-abbrev pub AreApart : Type 0
+unfoldable pub AreApart : Type 0
 AreApart = (c : SignedFields) (s : CertificateChoices) (namespace reserved : List ℕ) (h : Hash) (digest : List ℕ) → AreSignedFields c → flat (to_be_signed c s) ≡ flat (signed_data namespace reserved h digest) → ⊥
 
 -- What an SSH signature is over determines its parts.

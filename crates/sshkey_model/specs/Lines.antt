@@ -102,13 +102,13 @@ certificate_line c comment = written (name_of_certificate c) (flat (normal_certi
 -- ---- what the laws say
 
 -- A text is a line of one value at most, and with one comment.
-abbrev pub LinesDetermineValues : {V : Type 0} → (V → List ℕ) → (V → List ℕ → Type 0) → Type 0
+unfoldable pub LinesDetermineValues : {V : Type 0} → (V → List ℕ) → (V → List ℕ → Type 0) → Type 0
 LinesDetermineValues {V} first Spelling = (text m n : List ℕ) (v w : V) → IsLineOf first Spelling text v m → IsLineOf first Spelling text w n → (v ≡ w) × (m ≡ n)
 
 -- What is read of a line is written as a line that is read back.
-abbrev pub LinesReadBack : {V : Type 0} → (V → List ℕ) → (V → List ℕ → Type 0) → (V → Parts) → Type 0
+unfoldable pub LinesReadBack : {V : Type 0} → (V → List ℕ) → (V → List ℕ → Type 0) → (V → Parts) → Type 0
 LinesReadBack {V} first Spelling normal = (text comment : List ℕ) (v : V) → IsLineOf first Spelling text v comment → IsLineOf first Spelling (written (first v) (flat (normal v)) comment) v comment
 
 -- No text is a line of a key and one of a certificate.
-abbrev pub LinesAreApart : Type 0
+unfoldable pub LinesAreApart : Type 0
 LinesAreApart = (text m n : List ℕ) (k : Key) (c : Certificate) → IsKeyLine text k m → IsCertificateLine text c n → ⊥

@@ -53,7 +53,7 @@ each spell [] = nothing
 each spell (x ∷ xs) = spell x & each spell xs
 
 -- No spelling begins another.
-abbrev pub IsPrefixFree : {A : Type 0} → (A → Type 0) → (A → Parts) → Type 0
+unfoldable pub IsPrefixFree : {A : Type 0} → (A → Type 0) → (A → Parts) → Type 0
 IsPrefixFree {A} Is spell = (v w : A) (r q : List ℕ) → Is v → Fits (spell v) → Is w → Fits (spell w) → flat (spell v) ++ r ≡ flat (spell w) ++ q → (v ≡ w) × (r ≡ q)
 
 -- Nothing is asked.

@@ -1,5 +1,7 @@
 //! Laws over the definitions alone: each stands for all values and all bytes, and makes no call.
 
+#![tactic(auto, using(crate::proofs::Lawful::laws))]
+
 pub mod certificates;
 pub mod lines;
 pub mod private;
@@ -21,31 +23,26 @@ ghost use Rattle.sshkey_model.specs.Laws.{DetermineValues, ReadBackPlain, ReadBa
 ghost use Rattle.std.specs.List.{AllByRecursion};
 
 /// No mpint string begins another.
-#[tactic(auto, using(crate::proofs::CombinedReaders::prefix, crate::proofs::MpintReaders::mpint_reads))]
 pub fn prefix_mpint()
     ensures { IsPrefixFree IsMpint string }
 {}
 
 /// No text string begins another.
-#[tactic(auto, using(crate::proofs::CombinedReaders::prefix, crate::proofs::TextReaders::text_reads))]
 pub fn prefix_text()
     ensures { IsPrefixFree IsText string }
 {}
 
 /// No list of texts begins another.
-#[tactic(auto, using(crate::proofs::CombinedReaders::prefix, crate::proofs::TextReaders::texts_reads))]
 pub fn prefix_texts()
     ensures { IsPrefixFree (AllByRecursion IsText) texts }
 {}
 
 /// No name of a curve begins another.
-#[tactic(auto, using(crate::proofs::CombinedReaders::prefix, crate::proofs::NameReaders::curve_reads))]
 pub fn prefix_curve()
     ensures { IsPrefixFree Any curve }
 {}
 
 /// No name of a hash begins another.
-#[tactic(auto, using(crate::proofs::CombinedReaders::prefix, crate::proofs::NameReaders::hash_reads))]
 pub fn prefix_hash()
     ensures { IsPrefixFree Any hash }
 {}
@@ -56,13 +53,11 @@ pub fn prefix_point()
 {}
 
 /// No name of an algorithm begins another.
-#[tactic(auto, using(crate::proofs::CombinedReaders::prefix, crate::proofs::NameReaders::algorithm_reads))]
 pub fn prefix_name()
     ensures { IsPrefixFree IsAlgorithm algorithm }
 {}
 
 /// No name of an algorithm in a certificate begins another.
-#[tactic(auto, using(crate::proofs::CombinedReaders::prefix, crate::proofs::CertificateNameReaders::certificate_algorithm_reads))]
 pub fn prefix_certificate_name()
     ensures { IsPrefixFree IsCertified certificate_algorithm }
 {}
@@ -73,19 +68,16 @@ pub fn prefix_body()
 {}
 
 /// No public key begins another.
-#[tactic(auto, using(crate::proofs::CombinedReaders::prefix, crate::proofs::KeyReaders::key_reads))]
 pub fn prefix_key()
     ensures { IsPrefixFree (IsSpelled IsKey HasKeyPlaces) (spelled key) }
 {}
 
 /// No signature begins another.
-#[tactic(auto, using(crate::proofs::CombinedReaders::prefix, crate::proofs::SignatureReaders::signature_reads))]
 pub fn prefix_signature()
     ensures { IsPrefixFree IsSignature signature }
 {}
 
 /// No options begin others.
-#[tactic(auto, using(crate::proofs::CombinedReaders::prefix, crate::proofs::OptionReaders::options_reads))]
 pub fn prefix_options()
     ensures { IsPrefixFree (IsSpelled AreOptions HasOptionPlaces) (spelled options) }
 {}
@@ -168,37 +160,31 @@ pub fn read_back_certificate()
 {}
 
 /// Where a public key fits in one of its spellings, its normal form fits.
-#[tactic(auto, using(crate::proofs::NormalFits::key_fits))]
 pub fn key_fits()
     ensures { NormalFits IsKey HasKeyPlaces key normal_key }
 {}
 
 /// Where options fit in one of their spellings, their normal form fits.
-#[tactic(auto, using(crate::proofs::NormalFits::options_fit))]
 pub fn options_fit()
     ensures { NormalFits AreOptions HasOptionPlaces options normal_options }
 {}
 
 /// Where a certificate fits in one of its spellings, its normal form fits.
-#[tactic(auto, using(crate::proofs::NormalFits::certificate_fits))]
 pub fn certificate_fits()
     ensures { NormalFits IsCertificate HasCertificatePlaces certificate normal_certificate }
 {}
 
 /// Where what a certificate's signature is over fits in one of its spellings, its normal form fits.
-#[tactic(auto, using(crate::proofs::NormalFits::signed_fields_fit))]
 pub fn signed_fields_fit()
     ensures { NormalFits AreSignedFields HaveSignedPlaces to_be_signed normal_to_be_signed }
 {}
 
 /// Where an SSH signature fits in one of its spellings, its normal form fits.
-#[tactic(auto, using(crate::proofs::NormalFits::ssh_signature_fits))]
 pub fn ssh_signature_fits()
     ensures { NormalFits IsSshSignature HasSshSignaturePlaces ssh_signature normal_ssh_signature }
 {}
 
 /// The signed bytes of a certificate, in any spelling, determine every field but the signature.
-#[tactic(auto, using(crate::proofs::NormalForms::determine_fields))]
 pub fn certificate_fields()
     ensures { DetermineFields }
 {}
@@ -209,7 +195,6 @@ pub fn apart()
 {}
 
 /// What an SSH signature is over determines namespace, reserved bytes, hash and digest.
-#[tactic(auto, using(crate::proofs::SignedBytes::determine_signed_data))]
 pub fn signed_fields()
     ensures { DetermineSignedData }
 {}

@@ -16,14 +16,12 @@ pub fn refused_or_wanted()
 {}
 
 /// An option that is inserted is the one of its name from then on, and no other name is touched.
-#[tactic(auto, using(crate::proofs::InsertedOptions::inserted))]
 pub fn inserted_option()
     ensures { InsertOneOption }
 {}
 
 /// What was drafted and signed is valid through its window, for whoever has the signer's
 /// fingerprint.
-#[tactic(auto, using(crate::proofs::SignedDrafts::signed_through))]
 pub fn signed_is_valid()
     ensures { SignedIsValid }
 {}

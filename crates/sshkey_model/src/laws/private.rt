@@ -14,7 +14,6 @@ pub fn prefix_scalar()
 {}
 
 /// No private half of an RSA pair begins another.
-#[tactic(auto, using(crate::proofs::CombinedReaders::prefix, crate::proofs::KeyPairReaders::rsa_private_reads))]
 pub fn prefix_rsa_private()
     ensures { IsPrefixFree IsRsaPrivate rsa_private }
 {}
@@ -26,13 +25,11 @@ pub fn prefix_pair()
 {}
 
 /// No pair of ECDSA begins another, of whichever curve.
-#[tactic(auto, using(crate::proofs::CombinedReaders::prefix, crate::proofs::KeyPairReaders::any_ecdsa_pair_reads))]
 pub fn prefix_ecdsa_pair()
     ensures { IsPrefixFree (IsSpelled IsEcdsaPair HasPairPlaces) (spelled pair) }
 {}
 
 /// No key pair with its name begins another.
-#[tactic(auto, using(crate::proofs::CombinedReaders::prefix, crate::proofs::KeyPairReaders::keypair_reads))]
 pub fn prefix_keypair()
     ensures { IsPrefixFree (IsSpelled IsKeyPair HasKeyPairPlaces) (spelled keypair) }
 {}

@@ -19,142 +19,119 @@ ghost use Rattle.std.specs.Int.{w64};
 ghost use Rattle.sshkey_model.specs.Points.{IsPointOf, point_at};
 
 /// Texts are read exactly where they are spelled.
-#[tactic(auto, using(crate::proofs::Grammars::grammar, crate::proofs::TextReaders::text_reads))]
 pub fn exact_text()
     ensures { IsGrammar (Spells IsText string) text_at }
 {}
 
 /// Lists of texts are read exactly where they are spelled.
-#[tactic(auto, using(crate::proofs::Grammars::grammar, crate::proofs::TextReaders::texts_reads))]
 pub fn exact_texts()
     ensures { IsGrammar (Spells (AllByRecursion IsText) texts) texts_at }
 {}
 
 /// Names of curves are read exactly where they are spelled.
-#[tactic(auto, using(crate::proofs::Grammars::grammar, crate::proofs::NameReaders::curve_reads))]
 pub fn exact_curve()
     ensures { IsGrammar (Spells Any curve) curve_at }
 {}
 
 /// Names of hashes are read exactly where they are spelled.
-#[tactic(auto, using(crate::proofs::Grammars::grammar, crate::proofs::NameReaders::hash_reads))]
 pub fn exact_hash()
     ensures { IsGrammar (Spells Any hash) hash_at }
 {}
 
 /// Mpints are read exactly where they are spelled.
-#[tactic(auto, using(crate::proofs::Grammars::grammar, crate::proofs::MpintReaders::mpint_reads))]
 pub fn exact_mpint()
     ensures { IsGrammar (Spells IsMpint string) mpint_at }
 {}
 
 /// Names of algorithms are read exactly where they are spelled.
-#[tactic(auto, using(crate::proofs::Grammars::grammar, crate::proofs::NameReaders::algorithm_reads))]
 pub fn exact_name()
     ensures { IsGrammar (Spells IsAlgorithm algorithm) algorithm_at }
 {}
 
 /// Names of algorithms in certificates are read exactly where they are spelled.
-#[tactic(auto, using(crate::proofs::Grammars::grammar, crate::proofs::CertificateNameReaders::certificate_algorithm_reads))]
 pub fn exact_certificate_name()
     ensures { IsGrammar (Spells IsCertified certificate_algorithm) certificate_algorithm_at }
 {}
 
 /// Points are read exactly where they are spelled, each with its curve.
-#[tactic(auto, using(crate::proofs::Grammars::grammar, crate::proofs::PointReaders::point_reads))]
 pub fn exact_point()
     ensures { IsGrammar (Spells IsPointOf (λ x. string x.1)) point_at }
 {}
 
 /// Under each algorithm key bodies are read exactly where they are spelled.
-#[tactic(auto, using(crate::proofs::Grammars::grammar, crate::proofs::KeyReaders::body_reads))]
 pub fn exact_body()
     ensures { (a : Algorithm) → IsGrammar (Spells (IsBodyUnder a) body) (body_at a) }
 {}
 
 /// ECDSA keys are read exactly where they are spelled, of whichever curve.
-#[tactic(auto, using(crate::proofs::Grammars::grammar, crate::proofs::KeyReaders::any_ecdsa_reads))]
 pub fn exact_ecdsa()
     ensures { IsGrammar (Spells IsEcdsa body) any_ecdsa_at }
 {}
 
 /// Public keys are read exactly where they are spelled, under one of their names.
-#[tactic(auto, using(crate::proofs::Grammars::grammar, crate::proofs::KeyReaders::key_reads))]
 pub fn exact_key()
     ensures { IsGrammar (SpellsAs IsKey HasKeyPlaces key) key_at }
 {}
 
 /// Signatures are read exactly where they are spelled.
-#[tactic(auto, using(crate::proofs::Grammars::grammar, crate::proofs::SignatureReaders::signature_reads))]
 pub fn exact_signature()
     ensures { IsGrammar (Spells IsSignature signature) signature_at }
 {}
 
 /// Options are read exactly where they are spelled, empty values in either way.
-#[tactic(auto, using(crate::proofs::Grammars::grammar, crate::proofs::OptionReaders::options_reads))]
 pub fn exact_options()
     ensures { IsGrammar (SpellsAs AreOptions HasOptionPlaces options) options_at }
 {}
 
 /// Types of certificates are read exactly where they are spelled.
-#[tactic(auto, using(crate::proofs::Grammars::grammar, crate::proofs::CertificateReaders::type_reads))]
 pub fn exact_certificate_type()
     ensures { IsGrammar (Spells Any certificate_type) type_at }
 {}
 
 /// Times are read exactly where they are spelled: up to 2^63 - 1.
-#[tactic(auto, using(crate::proofs::Grammars::grammar, crate::proofs::CertificateReaders::time_reads))]
 pub fn exact_time()
     ensures { IsGrammar (Spells IsTime (number w64)) time_at }
 {}
 
 /// Ends of certificates are read exactly where they are spelled: a time, or 2^64 - 1.
-#[tactic(auto, using(crate::proofs::Grammars::grammar, crate::proofs::CertificateReaders::end_reads))]
 pub fn exact_end()
     ensures { IsGrammar (Spells IsEnd (number w64)) end_at }
 {}
 
 /// What the signature of a certificate is over is read exactly where it is spelled.
-#[tactic(auto, using(crate::proofs::Grammars::grammar, crate::proofs::CertificateReaders::signed_fields_reads))]
 pub fn exact_signed_fields()
     ensures { IsGrammar (SpellsAs AreSignedFields HaveSignedPlaces to_be_signed) signed_fields_at }
 {}
 
 /// Certificates are read exactly where they are spelled.
-#[tactic(auto, using(crate::proofs::Grammars::grammar, crate::proofs::CertificateReaders::certificate_reads))]
 pub fn exact_certificate()
     ensures { IsGrammar (SpellsAs IsCertificate HasCertificatePlaces certificate) certificate_at }
 {}
 
 /// Private scalars of a size are read exactly where they are spelled, with a leading 00 and
 /// without, and as the shortest mpint.
-#[tactic(auto, using(crate::proofs::Grammars::grammar, crate::proofs::KeyPairReaders::scalar_reads))]
 pub fn exact_scalar()
     ensures { (size : ℕ) → IsGrammar (SpellsAs (IsScalar size) HasScalarPlaces scalar)
         (scalar_at size) }
 {}
 
 /// Private halves of RSA pairs are read exactly where they are spelled.
-#[tactic(auto, using(crate::proofs::Grammars::grammar, crate::proofs::KeyPairReaders::rsa_private_reads))]
 pub fn exact_rsa_private()
     ensures { IsGrammar (Spells IsRsaPrivate rsa_private) rsa_private_at }
 {}
 
 /// Pairs of ECDSA are read exactly where they are spelled, of whichever curve.
-#[tactic(auto, using(crate::proofs::Grammars::grammar, crate::proofs::KeyPairReaders::any_ecdsa_pair_reads))]
 pub fn exact_ecdsa_pair()
     ensures { IsGrammar (SpellsAs IsEcdsaPair HasPairPlaces pair) any_ecdsa_pair_at }
 {}
 
 /// Under each algorithm key pairs are read exactly where they are spelled.
-#[tactic(auto, using(crate::proofs::Grammars::grammar, crate::proofs::KeyPairReaders::pair_reads))]
 pub fn exact_pair()
     ensures { (a : Algorithm) → IsGrammar (SpellsAs (IsPairUnder a) HasPairPlaces pair)
         (pair_at a) }
 {}
 
 /// Key pairs with their names are read exactly where they are spelled.
-#[tactic(auto, using(crate::proofs::Grammars::grammar, crate::proofs::KeyPairReaders::keypair_reads))]
 pub fn exact_keypair()
     ensures { IsGrammar (SpellsAs IsKeyPair HasKeyPairPlaces keypair) keypair_at }
 {}
