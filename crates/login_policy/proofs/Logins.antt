@@ -119,6 +119,7 @@ field_not_memory user offered c r (OtherPrincipals users own known plain id othe
 
 -- the line is of one certificate only, which decides
 pub refused : RefuseTheUnwanted → LinesDetermineValues name_of_certificate SpellsCertificate → (accepts : Question → Bool) (revokes : List ℕ → krl.Grant → Bool) (authorities : List Fingerprint) (t : ℕ) (user text comment : List ℕ) (offered : Key) (c : Certificate) (r : Refusal) → IsCertificateLine text c comment → RefusesCertificate accepts revokes authorities t user offered c r → IsLogin accepts revokes authorities t user offered text → ⊥
+unfolding LinesDetermineValues
 refused law one accepts revokes authorities t user text comment offered c r line why login =
     let lets = subst (λ (d : Certificate). LetsIn accepts revokes authorities t user offered d) (one text login.comment comment login.certificate c login.line line).0 login.lets_in in
     elim why [

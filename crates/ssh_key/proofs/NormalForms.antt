@@ -1,6 +1,7 @@
 -- Where a plain reader takes what is spelled, normal forms determine values and are read back.
 use Rattle.std.proofs.Common.{refl}
 use Rattle.sshkey_model.specs.Grammar.{IsSpelled, spelled, value_at}
+use Rattle.sshkey_model.specs.Laws.{ReadBack, ReadBackPlain}
 use Rattle.sshkey_model.specs.Parts.{Parts}
 use Rattle.sshkey_model.specs.Reading.{Front}
 use Rattle.sshkey_model.proofs.CombinedReaders.{ReadsFront}
@@ -12,6 +13,7 @@ normal_forms reads = record { determine = determined reads; again = read_back re
 
 -- the same where parts may be spelled in several ways, of which one is plain
 pub plain_forms : {V S : Type 0} {Is : V → Type 0} {HasPlace : V → S → Type 0} (spell : V → S → Parts) {read : Front (V × S)} → ReadsFront (IsSpelled Is HasPlace) (spelled spell) read → (plain : V → S) → ((v : V) → Is v → HasPlace v (plain v)) → AreNormalForms Is (λ v. spell v (plain v)) (value_at read)
+unfolding ReadBack ReadBackPlain
 plain_forms spell reads plain has = record {
   determine = determined_plain spell reads plain has;
   again = λ v is fits. rw (read_back_plain spell reads plain has v is fits) refl;

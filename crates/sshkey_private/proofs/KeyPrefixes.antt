@@ -7,7 +7,7 @@ use Rattle.sshkey_model.specs.Grammar.{IsSpelled, spelled}
 use Rattle.sshkey_model.specs.Texts.{string}
 use Rattle.sshkey_model.specs.Keys.{Key, Head, key}
 use Rattle.sshkey_model.specs.KeyDerivation.{cipher, kdf}
-use Rattle.sshkey_model.specs.KeyPairs.{KeyPair, KeyPairChoices, IsKeyPair, HasKeyPairPlaces, keypair}
+use Rattle.sshkey_model.specs.KeyPairs.{KeyPair, KeyPairChoices, keypair}
 use Rattle.sshkey_model.specs.PrivateKeys.{UnencryptedKey, PrivateKey, Unencrypted, Encrypted, key_cipher, key_kdf, public_key, private_key_magic, private_part, private_key, PrivateKeyChoices, rising, IsPrivateKey, HasContentPlaces, HasPrivateKeyPlaces}
 use Rattle.sshkey_model.proofs.CombinedReaders.{fits_first, fits_second, fits_inside, fits_length, fits_number, prefix, number_reads, wide32, box_reads, whole_reads}
 use Rattle.sshkey_model.proofs.KeyReaders.{key_reads}
@@ -18,10 +18,6 @@ use Rattle.sshkey_private.specs.PaddedKeys.{PaddedChoices, padded_content, padde
 use Rattle.sshkey_private.specs.PrivateKeyFormats.{file_grammar}
 use Rattle.sshkey_private.specs.PrivateKeyTrees.{file_tree, private_key_tree, with_least, least_same, least_places, more_places}
 use Rattle.sshkey_private.proofs.KeyForms.{of_formed}
-
--- no pair begins another
-keypair_prefix : IsPrefixFree (IsSpelled IsKeyPair HasKeyPairPlaces) (spelled keypair)
-keypair_prefix = prefix keypair_reads
 
 abbrev twice : UnencryptedKey → List ℕ
 twice k = flat (number w32 k.checkint)
@@ -41,7 +37,7 @@ one_content (Unencrypted k) s u n m is s-has u-has n-has m-has s-fits u-fits e =
     let q = private_part k u & bytes (rising 1 m) in
     let inside = prefix (number_reads w32 wide32) (length (flat p)) (length (flat q)) (flat p) (flat q) tt (fits_number w32 _ (fits_length p s-fits)) tt (fits_number w32 _ (fits_length q u-fits)) e in
     let pairs = append_cancel_left (twice k) _ _ (append_cancel_left (twice k) _ _ (sym (from_left k s n) ∙ inside.1 ∙ from_left k u m)) in
-    let same = keypair_prefix (k.pair, s) (k.pair, u) (flat (string k.comment) ++ rising 1 n) (flat (string k.comment) ++ rising 1 m) (record { is = is.pair; place = s-has }) (pair_fits k s n (fits_inside p s-fits)) (record { is = is.pair; place = u-has }) (pair_fits k u m (fits_inside q u-fits)) pairs in
+    let same = prefix keypair_reads (k.pair, s) (k.pair, u) (flat (string k.comment) ++ rising 1 n) (flat (string k.comment) ++ rising 1 m) (record { is = is.pair; place = s-has }) (pair_fits k s n (fits_inside p s-fits)) (record { is = is.pair; place = u-has }) (pair_fits k u m (fits_inside q u-fits)) pairs in
     let padding : rising 1 n ≡ rising 1 m = append_cancel_left (flat (string k.comment)) _ _ same.1 in
     (ap (λ (x : KeyPair × KeyPairChoices). x.1) same.0, sym (rising_length 1 n) ∙ ap length padding ∙ rising_length 1 m)
 one_content (Encrypted k) s u n m is s-has u-has n-has m-has s-fits u-fits e = (s-has ∙ sym u-has, n-has ∙ sym m-has)

@@ -127,6 +127,7 @@ module _ {V S : Type 0} {Spelling : V → List ℕ → Type 0} {Is : V → Type 
 
   -- No spelling begins another, if one value and two choices spell two strings.
   pub prefix_free : {read : Front V} → IsGrammar Spelling read → ((v : V) (s u : S) → IsSpelled Is HasPlace (v, s) → Fits (spell v s) → IsSpelled Is HasPlace (v, u) → Fits (spell v u) → flat (spell v s) ≡ flat (spell v u) → s ≡ u) → IsPrefixFree (IsSpelled Is HasPlace) (spelled spell)
+  unfolding IsPrefixFree
   prefix_free g one (v, s) (w, u) r q v-is v-fits w-is w-fits e =
       let x = one_front g v w (flat (spell v s)) (flat (spell w u)) r q (t.again (v, s) v-is v-fits) (t.again (w, u) w-is w-fits) e in
       (same_choices v w s u x.0 v-is v-fits w-is w-fits x.1, x.2)
@@ -147,6 +148,7 @@ module _ {V : Type 0} {Spelling : V → List ℕ → Type 0} {Is : V → Type 0}
 
 -- No spelling begins another.
 pub plain_prefix : {V : Type 0} {Spelling : V → List ℕ → Type 0} (Is : V → Type 0) (spell : V → Parts) {read : Front V} → IsTree Spelling (λ (x : V × Unit {0}). Is x.0) (λ x. spell x.0) → IsGrammar Spelling read → IsPrefixFree Is spell
+unfolding IsPrefixFree
 plain_prefix Is spell t g v w r q v-is v-fits w-is w-fits e =
     let x = one_front g v w (flat (spell v)) (flat (spell w)) r q (t.again (v, tt) v-is v-fits) (t.again (w, tt) w-is w-fits) e in
     (x.0, x.2)
@@ -156,7 +158,9 @@ plain_prefix Is spell t g v w r q v-is v-fits w-is w-fits e =
 -- The normal form of a value is one of its spellings: so it determines the value, and is read back.
 module _ {V : Type 0} {Spelling : V → List ℕ → Type 0} {read : Front V} {Is : V → Type 0} {normal : V → Parts} (g : IsGrammar Spelling read) (spells : (v : V) → Is v → Fits (normal v) → Spelling v (flat (normal v))) where
   pub determined : DetermineValues Is normal
+  unfolding DetermineValues
   determined v w v-is w-is v-fits w-fits = (λ e. (one_front g v w (flat (normal v)) (flat (normal w)) [] [] (spells v v-is v-fits) (spells w w-is w-fits) (ap (λ (l : List ℕ). l ++ []) e)).0, ap (λ (x : V). flat (normal x)))
 
   pub read_back : ReadBack Is normal read
+  unfolding ReadBack
   read_back v is fits = ap read (sym (append-nil (flat (normal v)))) ∙ g.again v (flat (normal v)) [] (spells v is fits)

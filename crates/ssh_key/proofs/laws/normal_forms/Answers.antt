@@ -1,6 +1,7 @@
 use Rattle.sshkey_model.specs.Certificates.{certificate, plain_choices, to_be_signed}
 use Rattle.sshkey_model.specs.KeyPairs.{LeadingZeros, keypair, pair, plain_pair, scalar}
 use Rattle.sshkey_model.specs.Keys.{Head, key}
+use Rattle.sshkey_model.specs.Laws.{ReadBack}
 use Rattle.sshkey_model.specs.Options.{options, plain_nestings}
 use Rattle.sshkey_model.specs.Parts.{flat}
 use Rattle.sshkey_model.specs.PrivateKeys.{normal_private_key}
@@ -105,4 +106,5 @@ pub returns-clause-keypairs : goal.returns-clause-keypairs
 returns-clause-keypairs c = plain_forms keypair keypair_reads (λ _. plain_pair) (λ k _. plain_keypair_has k)
 
 pub returns-clause-private_keys : goal.returns-clause-private_keys
+unfolding ReadBack
 returns-clause-private_keys c = record { determine = determined (file_grammar 8) private_normal; again = λ k is fits. file_alone 8 k (flat (normal_private_key k)) (private_normal k is fits) }

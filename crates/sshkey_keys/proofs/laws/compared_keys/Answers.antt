@@ -3,6 +3,7 @@ use Rattle.std.proofs.lemmas.Bool.Decides.{Decides-like}
 use Rattle.sshkey_base.proofs.Comparisons.{apart_by}
 use Rattle.sshkey_model.specs.Keys.{Key, Dsa, Ecdsa, Ed25519, Rsa, SkEcdsa, SkEd25519, Opaque}
 use Rattle.sshkey_model.specs.Names.{Algorithm, Curve, algorithm_name}
+use Rattle.sshkey_model.specs.Laws.{DetermineValues}
 use Rattle.sshkey_base.specs.Names.{algorithm_of}
 use Rattle.sshkey_keys.specs.Keys.{key_of}
 use Rattle.sshkey_keys.proofs.OwnAlgorithms.{same_name}
@@ -51,6 +52,7 @@ returns-clause-same c (kinds.Other x) (kinds.Other y) is = ap (λ (p : Algorithm
 returns-clause-same c x y is = absurd (true≢false (sym is))
 
 pub returns-clause-written : goal.returns-clause-written
+unfolding DetermineValues
 returns-clause-written c x y is_x is_y fits_x fits_y =
     let n = c.normal_keys.ensures (key_of x) (key_of y) is_x is_y fits_x fits_y in
     Decides-like _ n.1 n.0 (returns-clause-equal c x y is_x is_y)
