@@ -6,11 +6,11 @@ use Rattle.sshkey_model.specs.Grammar.{IsSpelled, spelled}
 use Rattle.sshkey_model.specs.Names.{Curve, Algorithm}
 use Rattle.sshkey_model.specs.Texts.{string}
 use Rattle.sshkey_model.specs.Points.{IsPoint, is_point, field_size}
-use Rattle.sshkey_model.specs.Keys.{IsBodyUnder, body, IsKey, key, normal_key, key_at, Plain}
-use Rattle.sshkey_model.specs.Options.{AreOptions, options, normal_options, plain_nestings, options_at}
-use Rattle.sshkey_model.specs.Certificates.{IsCertificate, certificate, normal_certificate, plain_choices, certificate_at}
-use Rattle.sshkey_model.specs.KeyPairs.{IsScalar, HasScalarPlaces, scalar, IsKeyPair, keypair, normal_keypair, plain_pair, keypair_at}
-use Rattle.sshkey_model.specs.Laws.{DetermineValues, ReadBackPlain}
+use Rattle.sshkey_model.specs.Keys.{IsBodyUnder, body, IsKey, key, normal_key, Plain}
+use Rattle.sshkey_model.specs.Options.{AreOptions, options, normal_options, plain_nestings}
+use Rattle.sshkey_model.specs.Certificates.{IsCertificate, certificate, normal_certificate, plain_choices}
+use Rattle.sshkey_model.specs.KeyPairs.{IsScalar, HasScalarPlaces, scalar, IsKeyPair, keypair, normal_keypair, plain_pair}
+use Rattle.sshkey_model.specs.Laws.{DetermineValues}
 use Rattle.sshkey_model.proofs.Grammars.{grammar}
 use Rattle.sshkey_model.proofs.CombinedReaders.{prefix_free, checked_string_reads, kept_bytes}
 use Rattle.sshkey_model.proofs.TextReaders.{text_reads, texts_reads}
@@ -51,29 +51,17 @@ prefix_scalars size = prefix_free (scalar_reads size)
 pub normal_keys : DetermineValues IsKey normal_key
 normal_keys = determined_plain key key_reads (λ _. Plain) (λ _ _. tt)
 
-pub read_back_keys : ReadBackPlain IsKey key (λ _. Plain) key_at
-read_back_keys = read_back_plain key key_reads (λ _. Plain) (λ _ _. tt)
-
 pub normal_option_lists : DetermineValues AreOptions normal_options
 normal_option_lists = determined_plain options options_reads plain_nestings (λ os _. plain_options_have os)
-
-pub read_back_option_lists : ReadBackPlain AreOptions options plain_nestings options_at
-read_back_option_lists = read_back_plain options options_reads plain_nestings (λ os _. plain_options_have os)
 
 pub normal_certificates : DetermineValues IsCertificate normal_certificate
 normal_certificates = determined_plain certificate certificate_reads (λ c. plain_choices c.signed) (λ c _. plain_choices_have c.signed)
 
-pub read_back_certificates : ReadBackPlain IsCertificate certificate (λ c. plain_choices c.signed) certificate_at
-read_back_certificates = read_back_plain certificate certificate_reads (λ c. plain_choices c.signed) (λ c _. plain_choices_have c.signed)
-
 pub normal_keypairs : DetermineValues IsKeyPair normal_keypair
 normal_keypairs = determined_plain keypair keypair_reads (λ _. plain_pair) (λ k _. plain_keypair_has k)
-
-pub read_back_keypairs : ReadBackPlain IsKeyPair keypair (λ _. plain_pair) keypair_at
-read_back_keypairs = read_back_plain keypair keypair_reads (λ _. plain_pair) (λ k _. plain_keypair_has k)
 
 -- how each kind is read
 pub ruleset readers = (text_reads, texts_reads, curve_reads, hash_reads, algorithm_reads, certificate_algorithm_reads, mpint_reads, point_reads, body_reads, any_ecdsa_reads, key_reads, signature_reads, options_reads, type_reads, time_reads, end_reads, signed_fields_reads, certificate_reads, scalar_reads, rsa_private_reads, any_ecdsa_pair_reads, pair_reads, keypair_reads)
 
 -- what follows of it
-pub ruleset laws = (readers, grammar, prefix_free, prefix_points, prefix_bodies, prefix_scalars, determined, normal_points, normal_bodies, normal_keys, normal_option_lists, normal_certificates, normal_keypairs, read_back, read_back_keys, read_back_option_lists, read_back_certificates, read_back_keypairs, key_fits, options_fit, certificate_fits, signed_fields_fit, ssh_signature_fits, determine_fields, determine_signed_data, inserted, signed_through, are_apart, key_blobs, certificate_blobs, key_normally, certificate_normally, one_value, lines_read_back, lines_apart)
+pub ruleset laws = (readers, grammar, prefix_free, prefix_points, prefix_bodies, prefix_scalars, determined, normal_points, normal_bodies, normal_keys, normal_option_lists, normal_certificates, normal_keypairs, read_back, read_back_plain, plain_options_have, plain_choices_have, plain_keypair_has, key_fits, options_fit, certificate_fits, signed_fields_fit, ssh_signature_fits, determine_fields, determine_signed_data, inserted, signed_through, are_apart, key_blobs, certificate_blobs, key_normally, certificate_normally, one_value, lines_read_back, lines_apart)
