@@ -4,17 +4,17 @@ use Rattle.std.proofs.Common.{◌≡◌, ℕ, eqb, List, Result, Ok, Err, refl, 
 use Rattle.std.specs.Prelude.{◌==◌, if◌then◌else◌}
 use Rattle.std.specs.Int.{w32}
 use Rattle.std.proofs.lemmas.Bool.{eqb-true}
-use Rattle.sshkey_model.specs.Parts.{Any, number, box, ◌&◌, flat, Fits}
+use Rattle.sshkey_model.specs.Parts.{Any, number, box, ◌&◌, flat, Fits, IsPrefixFree}
 use Rattle.sshkey_model.specs.Reading.{Fault, Front, AlgorithmUnknown}
-use Rattle.sshkey_model.specs.Grammar.{IsGrammar}
+use Rattle.sshkey_model.specs.Grammar.{IsGrammar, Spells}
 use Rattle.sshkey_model.specs.Texts.{string}
-use Rattle.sshkey_model.specs.KeyDerivation.{Cipher, Kdf, NoKdf, Bcrypt, KdfAlgorithm, NoDerivation, BcryptDerivation, derivation, kdf_algorithm, kdf_options, kdf}
-use Rattle.sshkey_model.proofs.CombinedReaders.{met, ok_is}
+use Rattle.sshkey_model.specs.KeyDerivation.{Cipher, cipher, Kdf, NoKdf, Bcrypt, KdfAlgorithm, NoDerivation, BcryptDerivation, derivation, kdf_algorithm, kdf_options, kdf}
+use Rattle.sshkey_model.proofs.CombinedReaders.{met, ok_is, prefix_free, checked_string_reads}
 use Rattle.sshkey_base.specs.Formats.{Format, number32_format, string_format, label_format}
 use Rattle.sshkey_base.specs.Grammars.{AllEnd, all_end, ends}
 use Rattle.sshkey_base.specs.Needs.{NoNeed}
 use Rattle.sshkey_terms.specs.Terms.{◌then◌, boxed, called, called_chosen, called_ends, tested, IsChosen, IsMapped, read_as}
-use Rattle.sshkey_terms.proofs.Trees.{IsTree, Alike, alike, leaf_tree, choice_tree, then_tree, box_tree, tested_tree, made_tree}
+use Rattle.sshkey_terms.proofs.Trees.{IsTree, Alike, alike, leaf_tree, choice_tree, then_tree, box_tree, tested_tree, made_tree, plain_prefix, determined, read_back}
 use Rattle.sshkey_ciphers.specs.Ciphers.{cipher_checks, kdf_algorithm_checks}
 
 abbrev pub cipher_format : Format Cipher
@@ -132,3 +132,22 @@ kdf_tree = made_tree
 -- what is written is a spelling
 pub kdf_normal : (k : Kdf) → Any k → Fits (kdf k) → SpellsKdf k (flat (kdf k))
 kdf_normal k is fits = kdf_tree.again (k, tt) is fits
+
+-- ---- what the laws name
+
+pub exact_ciphers : IsGrammar (Spells Any cipher) cipher_at
+exact_ciphers = all_end cipher_format.grammar (λ b. refl)
+
+pub exact_algorithms : IsGrammar (Spells Any kdf_algorithm) kdf_algorithm_at
+exact_algorithms = all_end algorithm_format.grammar (λ b. refl)
+
+pub prefix_ciphers : IsPrefixFree Any cipher
+prefix_ciphers = prefix_free (checked_string_reads cipher_checks)
+
+pub prefix_algorithms : IsPrefixFree Any kdf_algorithm
+prefix_algorithms = prefix_free (checked_string_reads kdf_algorithm_checks)
+
+pub prefix_kdfs : IsPrefixFree Any kdf
+prefix_kdfs = plain_prefix Any kdf kdf_tree kdf_grammar
+
+pub ruleset laws = (exact_ciphers, exact_algorithms, prefix_ciphers, prefix_algorithms, prefix_kdfs, determined, read_back, kdf_grammar, kdf_normal)

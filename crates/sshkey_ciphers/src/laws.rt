@@ -1,5 +1,7 @@
 //! Laws of ciphers and key derivations. They make no call: each is a fact about the definitions.
 
+#![tactic(auto, using(crate::specs::KdfFormats::laws))]
+
 ghost use Rattle.std.specs.Prelude.{◌↔◌, ℕ, List};
 ghost use Rattle.sshkey_base.specs.Comparisons.{IsEqualityOf, IsOrderOf};
 ghost use Rattle.sshkey_model.specs.Grammar.{IsGrammar, Spells};
@@ -47,7 +49,6 @@ pub fn exact_kdf_name()
 {}
 
 /// Key derivations are read exactly where they are spelled.
-#[tactic(auto, using(crate::specs::KdfFormats::kdf_grammar))]
 pub fn exact_kdf()
     ensures { IsGrammar SpellsKdf kdf_at }
 {}
