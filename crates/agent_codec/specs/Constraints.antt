@@ -5,7 +5,7 @@ use Rattle.std.specs.Prelude.{◌==◌, if◌then◌else◌, map}
 use Rattle.std.specs.Int.{w8, w32}
 use Rattle.std.specs.List.{AllByRecursion}
 use Rattle.ssh_key.specs.base.Formats.{Format, number32_format, string_format, text_format}
-use Rattle.ssh_key.specs.base.Grammars.{AllEnd}
+use Rattle.ssh_key.specs.model.Grammar.{AllEnd}
 use Rattle.ssh_key.specs.base.Leaves.{SpellsString, number32_normal, string_normal}
 use Rattle.ssh_key.specs.base.Texts.{text_normal}
 use Rattle.ssh_key.specs.counted.Counted.{each_normal}

@@ -4,17 +4,14 @@ use Rattle.std.proofs.Common.{◌≡◌, inl, inr, ◌<◌, ℕ, List, [], ◌++
 use Rattle.std.proofs.lemmas.List.{length-append}
 use Rattle.std.specs.Int.{w8}
 use Rattle.ssh_key.specs.base.Formats.{Format, byte_format}
-use Rattle.ssh_key.specs.base.Grammars.{AllEnd, by_itself, ends}
+use Rattle.ssh_key.proofs.Grammars.{by_itself, ends}
 use Rattle.ssh_key.specs.base.Leaves.{SpellsByte, byte_normal}
-use Rattle.ssh_key.specs.base.Reading.{SpellsBoxed}
 use Rattle.ssh_key.specs.base.Needs.{NoNeed}
 use Rattle.ssh_key.specs.base.Stops.{NoOverrun}
 use Rattle.ssh_key.specs.base.Lengths.{no_lengths}
-use Rattle.ssh_key.specs.format.Behind.{SpellsBoth, SpellsThen}
 use Rattle.ssh_key.specs.format.Terms.{boxed, called, tested}
 pub use Rattle.ssh_key.specs.format.Terms.{checked_read}
-use Rattle.ssh_key.specs.format.Tested.{SpellsTested}
-use Rattle.ssh_key.specs.model.Grammar.{IsGrammar}
+use Rattle.ssh_key.specs.model.Grammar.{IsGrammar, AllEnd, SpellsBoth, SpellsBoxed, SpellsTested, SpellsThen}
 use Rattle.ssh_key.specs.model.Parts.{Parts, ◌&◌, box, flat, number, Fits}
 use Rattle.ssh_key.specs.model.Reading.{Fault, Front}
 use Rattle.ssh_key.proofs.CombinedReaders.{fits_first, fits_inside, fits_length, fits_second, ok_is}

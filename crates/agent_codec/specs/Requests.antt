@@ -5,13 +5,12 @@ use Rattle.std.specs.Prelude.{◌==◌, if◌then◌else◌, map}
 use Rattle.std.specs.Int.{w8}
 use Rattle.std.specs.List.{AllByRecursion}
 use Rattle.ssh_key.specs.base.Formats.{Format, string_format}
-use Rattle.ssh_key.specs.base.Grammars.{all_end}
+use Rattle.ssh_key.proofs.Grammars.{all_end}
 use Rattle.ssh_key.specs.base.Leaves.{string_normal}
-use Rattle.ssh_key.specs.format.Behind.{both_at}
 use Rattle.ssh_key.specs.format.Terms.{◌then◌, IsMapped, tested}
 use Rattle.ssh_key.specs.model.Grammar.{IsGrammar}
 use Rattle.ssh_key.specs.model.Parts.{Parts, box, each, flat, Fits, number, ◌&◌}
-use Rattle.ssh_key.specs.model.Reading.{Fault, FormatEncoding}
+use Rattle.ssh_key.specs.model.Reading.{Fault, FormatEncoding, both_at}
 use Rattle.ssh_key.specs.model.Texts.{string}
 use Rattle.agent_codec.specs.Constraints.{Constraint, IsWellFormedConstraint, constraint, constraint_of, constraints, constraints_normal}
 use Rattle.agent_codec.specs.Parts.{after_number, both_spelled, frame_spelled, framed, message, nothing_format, number_alone}

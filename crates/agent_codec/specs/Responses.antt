@@ -4,7 +4,7 @@ use Rattle.std.proofs.Common.{◌≡◌, ◌<◌, ◌+◌, ℕ, List, [], ◌∷
 use Rattle.std.specs.Prelude.{◌==◌, if◌then◌else◌}
 use Rattle.std.specs.Int.{w8}
 use Rattle.std.specs.List.{AllByRecursion}
-use Rattle.ssh_key.specs.base.Grammars.{all_end}
+use Rattle.ssh_key.proofs.Grammars.{all_end}
 use Rattle.ssh_key.specs.base.Formats.{Format}
 use Rattle.ssh_key.specs.counted.Counted.{counted, counted_format, counted_normal}
 use Rattle.ssh_key.specs.format.Terms.{boxed, tested}

@@ -6,7 +6,6 @@ pub use Rattle.sshkey_base.specs.Reading
 pub use Rattle.sshkey_base.specs.Needs
 pub use Rattle.sshkey_base.specs.Stops
 pub use Rattle.sshkey_base.specs.Lengths
-pub use Rattle.sshkey_base.specs.Grammars
 pub use Rattle.sshkey_base.specs.Formats
 pub use Rattle.sshkey_base.specs.Nested
 pub use Rattle.sshkey_base.specs.Sink

@@ -1,26 +1,20 @@
 -- A call that gives what a lawful plain reader gives accepts exactly the spellings.
-use Rattle.std.proofs.Common.{◌≡◌, ℕ, List, [], ◌∷◌, ◌++◌, append-nil, Result, Ok, Err, refl, subst, sym, cond, eqb, Bool, true, false, ◌<◌, length, arith, ap, ◌∙◌}
+use Rattle.std.proofs.Common.{◌≡◌, ℕ, List, ◌++◌, Result, Ok, Err, refl, sym, cond, eqb, Bool, true, false, ◌<◌, length, arith, ap, ◌∙◌}
 use Rattle.std.proofs.lemmas.Bool.{eqb-false}
 use Rattle.std.proofs.lemmas.List.{append_cancel_right}
 use Rattle.std.proofs.lemmas.Result.{err_from_is_err_and}
-use Rattle.sshkey_model.specs.Reading.{Front, whole, end_of}
-use Rattle.sshkey_model.specs.Grammar.{IsGrammar}
-use Rattle.sshkey_model.proofs.CombinedReaders.{bind_ok, ok_is}
-use Rattle.sshkey_model.proofs.Grammars.{none_spelled}
+use Rattle.sshkey_model.specs.Reading.{Front, whole}
+use Rattle.sshkey_model.specs.Grammar.{IsGrammar, Grammar}
+use Rattle.sshkey_model.proofs.CombinedReaders.{ok_is}
+use Rattle.sshkey_model.proofs.Grammars.{none_spelled, by_itself, taken_before, whole_spells}
 use Rattle.sshkey_base.proofs.Boxes.{some_behind}
 use Rattle.sshkey_base.specs.declared.encoding.Error.{Error}
 use Rattle.sshkey_base.specs.declared.encoding.Error.TheVariants as encoding
 use Rattle.sshkey_base.specs.Causes.{Cause, NoMemory, encoding_cause}
 use Rattle.sshkey_base.specs.Formats.{Format, Begins, AcceptsBeginning}
-use Rattle.sshkey_base.specs.Grammars.{Grammar, by_itself, taken_before}
 use Rattle.sshkey_base.specs.Source.{Source, announced_len}
 use Rattle.sshkey_base.specs.Laws.{OneBeginning}
 use Rattle.sshkey_base.specs.Reading.{Gives, GivesWhole, Reads, IsRefused, AcceptsFront, AcceptsWhole}
-
--- nothing stands behind what ended
-ended : {Y : Type 0} (y : Y) (rest : List ℕ) (z : Y) → end_of y rest ≡ Ok z → (rest ≡ []) × (y ≡ z)
-ended y [] z e = (refl, ok_is y z e)
-ended y (b ∷ rest) z e = absurd cc
 
 -- what begins with a value is read as that value
 pub read_of_beginning : {Y : Type 0} (f : Format Y) (y : Y) (bytes rest : List ℕ) → Begins f y bytes rest → f.read bytes ≡ Ok (y, rest)
@@ -34,25 +28,13 @@ one_beginning {Y} f x y bytes r q h k =
     let fronts : h.front ++ q ≡ k.front ++ q = ap (λ (l : List ℕ). h.front ++ l) (sym rests) ∙ sym h.all ∙ k.all in
     (ap (λ (p : Y × List ℕ). p.0) both, append_cancel_right h.front k.front q fronts, rests)
 
--- What the plain reader takes whole is a spelling, and a spelling is taken whole: of any values,
--- and of those that all end by themselves.
-module _ {Y : Type 0} {Spells : Y → List ℕ → Type 0} {read : Front Y} where
-  pub whole_spelled_by : Grammar Spells read → (b : List ℕ) (y : Y) → whole read b ≡ Ok y → Spells y b
-  whole_spelled_by g b y e =
-      let x = bind_ok (read b) (λ x. end_of x.0 x.1) y e in
-      let end = ended x.0.0 x.0.1 y x.2 in
-      let a = g.takes b x.0.0 x.0.1 x.1 in
-      let all : b ≡ a.0 = a.2 ∙ ap (λ (rest : List ℕ). a.0 ++ rest) end.0 ∙ append-nil a.0 in
-      subst (λ (bytes : List ℕ). Spells y bytes) (sym all) (subst (λ (v : Y). Spells v a.0) end.1 a.1)
+-- What the plain reader takes whole is a spelling, and a spelling is taken whole.
+module _ {Y : Type 0} {Spells : Y → List ℕ → Type 0} {read : Front Y} (g : IsGrammar Spells read) where
+  pub whole_spelled : (b : List ℕ) (y : Y) → whole read b ≡ Ok y → Spells y b
+  whole_spelled b y = (whole_spells (by_itself g) b y).0
 
-  pub spelled_whole_by : Grammar Spells read → (b : List ℕ) (y : Y) → Spells y b → whole read b ≡ Ok y
-  spelled_whole_by g b y spelled = rw (g.alone y b spelled) refl
-
-  pub whole_spelled : IsGrammar Spells read → (b : List ℕ) (y : Y) → whole read b ≡ Ok y → Spells y b
-  whole_spelled g = whole_spelled_by (by_itself g)
-
-  pub spelled_whole : IsGrammar Spells read → (b : List ℕ) (y : Y) → Spells y b → whole read b ≡ Ok y
-  spelled_whole g = spelled_whole_by (by_itself g)
+  pub spelled_whole : (b : List ℕ) (y : Y) → Spells y b → whole read b ≡ Ok y
+  spelled_whole b y = (whole_spells (by_itself g) b y).1
 
 module _ {X Y E : Type 0} (means : X → Y) (cause : E → Cause) where
   pub accepts_beginning : (f : Format Y) (s t : Source) (r : Result X E) → Gives means cause f.read s r t → AcceptsBeginning means f cause s r t
@@ -66,10 +48,10 @@ module _ {X Y E : Type 0} (means : X → Y) (cause : E → Cause) where
 
   module _ {Spells : Y → List ℕ → Type 0} {read : Front Y} where
     pub accepts_whole_by : Grammar Spells read → (s : Source) (r : Result X E) → GivesWhole means cause (whole read) s r → AcceptsWhole means Spells cause s r
-    accepts_whole_by g s (Ok x) h = record { spelled = whole_spelled_by g s.left (means x) h.value; sound = h.sound }
+    accepts_whole_by g s (Ok x) h = record { spelled = (whole_spells g s.left (means x)).0 h.value; sound = h.sound }
     accepts_whole_by g s (Err e) h = λ other sound y spelled.
         let refused = err_from_is_err_and (whole read s.left) (h.fault other sound) in
-        let taken = spelled_whole_by g s.left y spelled in
+        let taken = (whole_spells g s.left y).1 spelled in
         let is = refused.1 in cc
 
 module _ {X Y E : Type 0} {Spells : Y → List ℕ → Type 0} {read : Front Y} (g : IsGrammar Spells read) (means : X → Y) (cause : E → Cause) where

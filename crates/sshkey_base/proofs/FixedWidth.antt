@@ -14,7 +14,6 @@ use Rattle.sshkey_base.proofs.Places.{advances_both}
 use Rattle.sshkey_base.proofs.Steps.{few_refused, front_reads, refuses_first}
 use Rattle.sshkey_base.specs.declared.encoding.Error.{Error}
 use Rattle.sshkey_base.specs.declared.error.Error.{Error as WideError}
-use Rattle.sshkey_base.specs.Answers.{AnswersAlways}
 use Rattle.sshkey_base.specs.Causes.{Cause, cause, encoding_cause}
 use Rattle.sshkey_base.specs.Source.{Source, Advances, TooFew, announced_len}
 use Rattle.sshkey_base.specs.Reading.{Reads, Refuses, GivesAlways}
@@ -168,16 +167,6 @@ short_refused size b short is = rw (ne_eqb (length b) size (λ e. omega arith), 
 
 pub full_taken : (size : ℕ) (b : List ℕ) → length b ≡ size → fixed_from size b ≡ Ok b
 full_taken size b len = rw (eq-eqb _ _ len) (ap (λ (r : Result Scalar Fault). r >>= bare_scalar) (unsigned_pick b (is_high b)) ∙ unsigned_bare b (is_high b))
-
--- bytes that were read and then judged, without memory
-pub judged_always : {C X E : Type 0} (means : X → C) (cause : E → Cause) (n : ℕ) (judge : List ℕ → Result C Fault) (s t : Source) (front : List ℕ) (r : Result X E) → Reads (λ b. b) (bytes_at n) s front t → AnswersAlways means cause (judge front) r → GivesAlways means cause (checked_at judge (bytes_at n)) s r t
-judged_always {C} {X} {E} means cause n judge s t front r h answer = go (judge front) r refl answer
-  where
-    go : (found : Result C Fault) (r : Result X E) → judge front ≡ found → AnswersAlways means cause found r → GivesAlways means cause (checked_at judge (bytes_at n)) s r t
-    go (Ok c) (Ok y) e a = record { value = rw (h.value, e, a) refl; missing = h.missing; outer = h.outer }
-    go (Ok c) (Err d) e a = absurd a
-    go (Err f) (Ok y) e a = absurd a
-    go (Err f) (Err d) e a = record { met = f; is = rw (h.value, e) refl; same = λ _. a }
 
 -- readers that give the same
 pub same_gives_always : {X Y E : Type 0} (means : X → Y) (cause : E → Cause) (read other : Front Y) (s t : Source) (r : Result X E) → ((b : List ℕ) → other b ≡ read b) → GivesAlways means cause read s r t → GivesAlways means cause other s r t

@@ -1,22 +1,24 @@
 -- A value that is read and then judged.
-use Rattle.std.proofs.Common.{◌≡◌, ◌≢◌, ℕ, List, Bool, true, false, not, Result, Ok, Err, refl, sym, ◌∙◌}
-use Rattle.std.proofs.lemmas.Bool.{not-true, not-false}
-use Rattle.std.specs.Prelude.{bytes_eq}
-use Rattle.sshkey_model.specs.Reading.{Fault, FormatEncoding, ◌>>=◌, Front, checked_at, literal_from}
+use Rattle.std.proofs.Common.{◌≡◌, ◌≢◌, ℕ, List, Result, Ok, Err, refl, ◌∙◌}
+use Rattle.sshkey_model.specs.Reading.{Fault, ◌>>=◌, Front, checked_at}
 use Rattle.sshkey_base.specs.Answers.{AnswersAlways}
 use Rattle.sshkey_base.specs.Causes.{Cause, NoMemory, Faulty, Other}
 use Rattle.sshkey_base.specs.Source.{Source}
 use Rattle.sshkey_base.specs.Needs.{Asks}
-use Rattle.sshkey_base.specs.Reading.{Reads, Gives}
+use Rattle.sshkey_base.specs.Reading.{Reads, Gives, GivesAlways}
+use Rattle.sshkey_base.proofs.Steps.{gives_sound}
 
-pub judged : {A B C X E : Type 0} (first : A → B) (means : X → C) (cause : E → Cause) (read : Front B) (judge : B → Result C Fault) (s t : Source) (x : A) (r : Result X E) → Reads first read s x t → AnswersAlways means cause (judge (first x)) r → Gives means cause (checked_at judge read) s r t
-judged {A} {B} {C} {X} {E} first means cause read judge s t x r h answer = go (judge (first x)) r refl answer
+pub judged_always : {A B C X E : Type 0} (first : A → B) (means : X → C) (cause : E → Cause) (read : Front B) (judge : B → Result C Fault) (s t : Source) (x : A) (r : Result X E) → Reads first read s x t → AnswersAlways means cause (judge (first x)) r → GivesAlways means cause (checked_at judge read) s r t
+judged_always {A} {B} {C} {X} {E} first means cause read judge s t x r h answer = go (judge (first x)) r refl answer
   where
-    go : (found : Result C Fault) (r : Result X E) → judge (first x) ≡ found → AnswersAlways means cause found r → Gives means cause (checked_at judge read) s r t
+    go : (found : Result C Fault) (r : Result X E) → judge (first x) ≡ found → AnswersAlways means cause found r → GivesAlways means cause (checked_at judge read) s r t
     go (Ok c) (Ok y) e a = record { value = rw (h.value, e, a) refl; missing = h.missing; outer = h.outer }
     go (Ok c) (Err d) e a = absurd a
     go (Err f) (Ok y) e a = absurd a
-    go (Err f) (Err d) e a = record { fault = λ _ _. rw (h.value, e) a }
+    go (Err f) (Err d) e a = record { met = f; is = rw (h.value, e) refl; same = λ _. a }
+
+pub judged : {A B C X E : Type 0} (first : A → B) (means : X → C) (cause : E → Cause) (read : Front B) (judge : B → Result C Fault) (s t : Source) (x : A) (r : Result X E) → Reads first read s x t → AnswersAlways means cause (judge (first x)) r → Gives means cause (checked_at judge read) s r t
+judged first means cause read judge s t x r h answer = gives_sound _ _ _ _ _ r (judged_always first means cause read judge s t x r h answer)
 
 -- what refuses what is taken is that memory was out
 pub only_memory : (c : Cause) → (c ≢ NoMemory → ⊥) → c ≡ NoMemory
@@ -41,11 +43,3 @@ answers_first first narrow means cause (Err f) next d e h same = same ∙ h
 pub answers_later : {A B C D E X : Type 0} (first : X → A) (narrow : D → Cause) (means : C → B) (cause : E → Cause) (found : Result A Fault) (next : A → Result B Fault) (x : X) (r : Result C E) → AnswersAlways first narrow found (Ok x) → AnswersAlways means cause (next (first x)) r → AnswersAlways means cause (found >>= next) r
 answers_later first narrow means cause (Ok a) next x r h g = rw h at g
 answers_later first narrow means cause (Err f) next x r h g = absurd h
-
--- ---- bytes that have to be these very ones; whether they differ was asked
-
-pub other_bytes : {E : Type 0} (cause : E → Cause) (text b : List ℕ) (differ : Bool) (e : E) → differ ≡ true → differ ≡ not (bytes_eq b text) → cause e ≡ Faulty FormatEncoding → AnswersAlways {X = List ℕ} (λ x. x) cause (literal_from text b) (Err e)
-other_bytes cause text b differ e they_do asked same = rw (not-true (bytes_eq b text) (sym asked ∙ they_do)) same
-
-pub very_bytes : {E : Type 0} (cause : E → Cause) (text b : List ℕ) (differ : Bool) → differ ≡ false → differ ≡ not (bytes_eq b text) → AnswersAlways {X = List ℕ} (λ x. x) cause (literal_from text b) (Ok b)
-very_bytes cause text b differ they_do_not asked = rw (not-false (bytes_eq b text) (sym asked ∙ they_do_not)) refl

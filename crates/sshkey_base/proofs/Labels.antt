@@ -5,13 +5,13 @@ use Rattle.std.proofs.lemmas.Bool.{and_parts, ltb-true}
 use Rattle.std.proofs.lemmas.Str.{IsUtf8-from_ascii}
 use Rattle.sshkey_model.specs.Parts.{Any, bytes}
 use Rattle.sshkey_model.specs.Names.{are_ascii}
-use Rattle.sshkey_model.specs.Reading.{Fault, Label, Front, Whole, string_at, checked_at}
+use Rattle.sshkey_model.specs.Reading.{Fault, Label, Front, Whole, checked_at}
 use Rattle.sshkey_model.specs.Grammar.{Checks}
 use Rattle.sshkey_base.specs.declared.encoding.Error.{Error}
-use Rattle.sshkey_base.specs.Causes.{Faulty, encoding_cause}
+use Rattle.sshkey_base.specs.Causes.{encoding_cause}
 use Rattle.sshkey_base.specs.Source.{Source}
-use Rattle.sshkey_base.specs.Reading.{Reads, IsRefused, Gives}
-use Rattle.sshkey_base.specs.Labels.{LooksUp, label_at}
+use Rattle.sshkey_base.specs.Reading.{Reads, Gives}
+use Rattle.sshkey_base.specs.Labels.{LooksUp}
 
 -- a test of each byte, and what it says
 pub ascii : (b : List ℕ) → are_ascii b ≡ true → IsAscii b
@@ -32,10 +32,6 @@ module _ {N : Type 0} {IsNamed : N → Type 0} {name : N → List ℕ} {named : 
 
   pub not_named : (t : List ℕ) → (IsUtf8 t → ⊥) → named t ≡ Err Label
   not_named t no_text = looked_up t (named t) refl no_text
-
-  pub text_refused : (s t : Source) (x : List ℕ) → Reads (λ b. b) string_at s x t → (IsUtf8 x → ⊥) → IsRefused s.missing (Faulty Label) (label_at named s.left)
-  unfolding label_at
-  text_refused s t x h no_text = record { fault = λ _ _. rw (h.value, not_named x no_text) refl }
 
 -- Bytes that are read and looked up.
 module _ {X N : Type 0} (stands_for : X → N) (named : Whole N) (read : Front (List ℕ)) (s u : Source) (b : List ℕ) (h : Reads (λ x. x) read s b u) where

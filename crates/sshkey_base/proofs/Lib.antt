@@ -8,7 +8,6 @@ pub mod Boxes
 pub mod FilledBoxes
 pub mod Accepted
 pub mod Acceptance
-pub mod BoxGrammars
 pub mod Writing
 pub mod Tails
 pub mod Labels

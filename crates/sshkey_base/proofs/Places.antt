@@ -43,9 +43,6 @@ passed_len s t l =
     omega arith
 
 -- how many bytes were passed
-pub passes : (s t : Source) → Later s t → announced_len t ≤ announced_len s
-passes s t l = omega (arith, passed_len s t l)
-
 pub passes_within : (s t : Source) (bytes : List ℕ) (r : Result (Unit {0}) Error) (n : ℕ) → length bytes ≤ n → Takes s bytes r t → Later s t → announced_len s - announced_len t ≤ n
 passes_within s t bytes (Ok x) n le takes l =
     let lengths : length s.left ≡ length bytes + length t.left = ap length takes.taken ∙ length-append bytes t.left in

@@ -9,7 +9,7 @@ use Rattle.sshkey_model.specs.Reading.{Fault, Length, ◌>>=◌, Front, number_a
 use Rattle.sshkey_base.specs.declared.encoding.Error.{Error}
 use Rattle.sshkey_base.specs.Causes.{Cause, NoMemory, encoding_cause}
 use Rattle.sshkey_base.specs.Source.{Source, IsSound, Advances, TooFew}
-use Rattle.sshkey_base.specs.Needs.{Asks, HasString, NeedsBytes, NeedsString, NeedsThen}
+use Rattle.sshkey_base.specs.Needs.{HasString, NeedsBytes, NeedsString, NeedsThen}
 use Rattle.sshkey_base.specs.Reading.{Reads, Refuses, IsRefused, Gives, GivesAlways}
 use Rattle.sshkey_base.proofs.Places.{later_none, later_then}
 
@@ -66,11 +66,6 @@ string_stood {X} means s t x h = go (number_at w32 s.left) h.value
           | inl lt ↦ let few = rw (lt-ltb _ _ lt) at e in absurd cc
           | inr le ↦ omega arith
         ]
-
--- where memory is needed, it may be asked for
-pub asks_needed : {X E : Type 0} (cause : E → Cause) (needs : List ℕ → ℕ → Type 0) (s : Source) (r : Result X E) → needs s.left s.missing → Asks cause needs s r
-asks_needed cause needs s (Ok x) h = tt
-asks_needed cause needs s (Err e) h = λ memory sound. h
 
 -- the bytes of a string, judged behind its length
 pub behind_length : {B X E : Type 0} (means : X → B) (cause : E → Cause) (judge : List ℕ → Result B Fault) (n : ℕ) (s t u : Source) (r : Result X E) → Reads (λ k. k) (number_at w32) s n t → Gives means cause (checked_at judge (bytes_at n)) t r u → Gives means cause (checked_at judge string_at) s r u

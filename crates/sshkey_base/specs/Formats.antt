@@ -5,9 +5,9 @@ use Rattle.sshkey_model.specs.Parts.{Any, bytes}
 use Rattle.sshkey_model.specs.Texts.{string, text_at, texts_at}
 use Rattle.sshkey_model.specs.Mpints.{mpint_at}
 use Rattle.sshkey_model.specs.Reading.{Front, Whole, whole, bytes_at, number_at, string_at, box_at}
-use Rattle.sshkey_model.specs.Grammar.{Spells, Checks}
+use Rattle.sshkey_model.specs.Grammar.{Spells, Checks, AllEnd, Grammar, MayFollow}
 use Rattle.sshkey_base.specs.Causes.{Cause, NoMemory}
-use Rattle.sshkey_base.specs.Grammars.{AllEnd, Grammar, MayFollow, by_itself, ends}
+use Rattle.sshkey_model.proofs.Grammars.{by_itself, ends}
 use Rattle.sshkey_base.specs.Source.{Source, IsSound}
 use Rattle.sshkey_base.specs.Needs.{NoNeed, NeedsBoxed, NeedsString}
 use Rattle.sshkey_base.specs.Stops.{NoOverrun, OverrunsString, OverrunsBoxed, OverrunsList, AreLengths, StopsBy}

@@ -3,7 +3,7 @@ use Rattle.std.specs.Prelude.{◌≡◌, ℕ, List, ◌++◌, Ok}
 use Rattle.sshkey_model.specs.Parts.{Parts, flat, Fits}
 use Rattle.sshkey_model.specs.Reading.{Front}
 use Rattle.sshkey_base.specs.Formats.{Format, Begins}
-use Rattle.sshkey_base.specs.Grammars.{MayFollow}
+use Rattle.sshkey_model.specs.Grammar.{MayFollow}
 
 -- What is written of a value begins bytes that are read back as that value, where nothing follows
 -- it, and whatever follows it where it ends by itself.

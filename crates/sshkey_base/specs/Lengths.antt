@@ -51,18 +51,21 @@ box_lengths {A} read b m o = go (number_at w32 b) o
     go (Err e) o = absurd o
 
 -- and where a length passes in it
-pub boxed_lengths : {A : Type 0} {read : Front A} {inner : List ℕ → ℕ → Type 0} → AreLengths read inner → AreLengths (box_at (whole read)) (OverrunsBoxed inner)
+filled_lengths : {A : Type 0} {read : Whole A} {inner : List ℕ → ℕ → Type 0} → ((b : List ℕ) (m : ℕ) → inner b m → read b ≡ Err Length) → AreLengths (box_at read) (OverrunsBoxed inner)
 unfolding box_at
-boxed_lengths {A} {read} {inner} h b m (inl o) = box_lengths (whole read) b m o
-boxed_lengths {A} {read} {inner} h b m (inr o) = go (number_at w32 b) o
+filled_lengths {A} {read} {inner} h b m (inl o) = box_lengths read b m o
+filled_lengths {A} {read} {inner} h b m (inr o) = go (number_at w32 b) o
   where
-    within : (n : ℕ) (l : List ℕ) (few : Bool) → ltb (length l) n ≡ few → inner (take n l) (n - length l) → cond few (Err Length) (whole read (take n l) >>= with_rest (drop n l)) ≡ Err Length
+    within : (n : ℕ) (l : List ℕ) (few : Bool) → ltb (length l) n ≡ few → inner (take n l) (n - length l) → cond few (Err Length) (read (take n l) >>= with_rest (drop n l)) ≡ Err Length
     within n l true e i = refl
     within n l false e i = rw (h (take n l) (n - length l) i) refl
 
-    go : (r : Result (ℕ × List ℕ) Fault) → IsOkAnd r (λ x. (x.0 ≤ length x.1 + m) × inner (take x.0 x.1) (x.0 - length x.1)) → (r >>= box_step (whole read)) ≡ Err Length
+    go : (r : Result (ℕ × List ℕ) Fault) → IsOkAnd r (λ x. (x.0 ≤ length x.1 + m) × inner (take x.0 x.1) (x.0 - length x.1)) → (r >>= box_step read) ≡ Err Length
     go (Ok n) o = within n.0 n.1 (ltb (length n.1) n.0) refl o.1
     go (Err e) o = absurd o
+
+pub boxed_lengths : {A : Type 0} {read : Front A} {inner : List ℕ → ℕ → Type 0} → AreLengths read inner → AreLengths (box_at (whole read)) (OverrunsBoxed inner)
+boxed_lengths h = filled_lengths (λ b m o. rw (h b m o) refl)
 
 -- ---- lists
 
@@ -88,17 +91,7 @@ module _ {A : Type 0} {item : Option A → Front A} {over : List ℕ → ℕ →
 
 -- a list in a box
 pub box_list_lengths : {A : Type 0} {item : Option A → Front A} {over : List ℕ → ℕ → Type 0} → ((before : Option A) → AreLengths (item before) over) → AreLengths (box_at (list_whole item)) (OverrunsBoxed (OverrunsList item over))
-unfolding box_at
-box_list_lengths {A} {item} {over} lengths b m (inl o) = box_lengths (list_whole item) b m o
-box_list_lengths {A} {item} {over} lengths b m (inr o) = go (number_at w32 b) o
-  where
-    within : (n : ℕ) (l : List ℕ) (few : Bool) → ltb (length l) n ≡ few → OverrunsList item over (take n l) (n - length l) → cond few (Err Length) (list_whole item (take n l) >>= with_rest (drop n l)) ≡ Err Length
-    within n l true e i = refl
-    within n l false e i = rw (list_lengths lengths (take n l) (n - length l) i) refl
-
-    go : (r : Result (ℕ × List ℕ) Fault) → IsOkAnd r (λ x. (x.0 ≤ length x.1 + m) × OverrunsList item over (take x.0 x.1) (x.0 - length x.1)) → (r >>= box_step (list_whole item)) ≡ Err Length
-    go (Ok n) o = within n.0 n.1 (ltb (length n.1) n.0) refl o.1
-    go (Err e) o = absurd o
+box_list_lengths lengths = filled_lengths (list_lengths lengths)
 
 -- ---- strings that are judged
 

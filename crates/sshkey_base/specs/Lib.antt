@@ -6,7 +6,6 @@ pub mod Reading
 pub mod Needs
 pub mod Stops
 pub mod Lengths
-pub mod Grammars
 pub mod Formats
 pub mod Nested
 pub mod Sink

@@ -3,9 +3,8 @@ use Rattle.sshkey_model.specs.Names.{Algorithm}
 use Rattle.sshkey_model.specs.CertificateNames.{IsCertified, certificate_algorithm, certificate_algorithm_at}
 use Rattle.sshkey_model.specs.Grammar.{Spells}
 use Rattle.sshkey_model.proofs.CertificateNameReaders.{certificate_algorithm_reads}
-use Rattle.sshkey_model.proofs.Grammars.{grammar}
+use Rattle.sshkey_model.proofs.Grammars.{grammar, by_itself}
 use Rattle.sshkey_base.specs.Formats.{Format}
-use Rattle.sshkey_base.specs.Grammars.{by_itself}
 use Rattle.sshkey_base.specs.Lengths.{certified_lengths}
 use Rattle.sshkey_base.specs.NameNeeds.{NeedsCertified}
 use Rattle.sshkey_base.specs.Stops.{OverrunsString}

@@ -1,6 +1,5 @@
 -- What a reading call gives, measured by a plain reader on lists, and in the words of the grammar.
-use Rattle.std.specs.Prelude.{◌≡◌, ◌≢◌, ℕ, ◌<◌, ◌+◌, IsErrAnd, List, [], length, Result, Ok, Err, ◌++◌, ◌^◌}
-use Rattle.std.specs.Int.{w32, to_be_bytes}
+use Rattle.std.specs.Prelude.{◌≡◌, ◌≢◌, ℕ, IsErrAnd, List, [], Result, Ok, Err, ◌++◌}
 use Rattle.sshkey_model.specs.Reading.{Fault, ◌>>=◌, Front, Whole}
 use Rattle.sshkey_base.specs.declared.encoding.Error.{Error}
 use Rattle.sshkey_base.specs.declared.error.Error as wide
@@ -84,13 +83,6 @@ NoFront {Y} Spells bytes = (y : Y) (front rest : List ℕ) → Spells y front �
 abbrev pub AcceptsFront : {X Y E : Type 0} → (X → Y) → (Y → List ℕ → Type 0) → (E → Cause) → Source → Result X E → Source → Type 0
 AcceptsFront means Spells cause s (Ok x) t = Accepted means Spells s x t
 AcceptsFront means Spells cause s (Err e) t = cause e ≢ NoMemory → IsSound s → NoFront Spells s.left
-
--- A length of four bytes, and so many bytes that spell the value.
-pub record SpellsBoxed {Y : Type 0} (Spells : Y → List ℕ → Type 0) (y : Y) (bytes : List ℕ) : Type 0 where
-  pub inside : List ℕ
-  pub spelled : Spells y inside
-  pub short : length inside < 2 ^ 32
-  pub whole : bytes ≡ to_be_bytes w32 (length inside) ++ inside
 
 -- All the bytes spell the value, and none is missing.
 pub record SpelledWhole {X Y : Type 0} (means : X → Y) (Spells : Y → List ℕ → Type 0) (s : Source) (x : X) : Type 0 where

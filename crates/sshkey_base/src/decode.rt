@@ -3,7 +3,8 @@
 ghost use Rattle.std.specs.Prelude.{ℕ, List};
 ghost use Rattle.std.specs.Int.{w8, w32, w64};
 ghost use Rattle.sshkey_model.specs.Reading.{whole, bytes_at, number_at, box_at};
-ghost use Rattle.sshkey_base.specs.Reading.{Decodes, DecodesAlways, AcceptsFront, AcceptsWhole, SpellsBoxed, Gives, GivesWhole};
+ghost use Rattle.sshkey_base.specs.Reading.{Decodes, DecodesAlways, AcceptsFront, AcceptsWhole, Gives, GivesWhole};
+ghost use Rattle.sshkey_model.specs.Grammar.{SpellsBoxed};
 ghost use Rattle.sshkey_base.specs.Formats.{AcceptsBeginning, Format, Stops, byte_format, number32_format, number64_format, array_format};
 ghost use Rattle.sshkey_base.specs.Stops.{StopsBy, StopsPast, OverrunsBoxed};
 ghost use Rattle.sshkey_base.specs.Causes.{encoding_cause};

@@ -1,10 +1,9 @@
 -- The fields of a certificate that was read fit in their normal form.
 use Rattle.std.proofs.Common.{◌≡◌, ℕ, List, Ok, true, subst}
 use Rattle.sshkey_model.specs.Certificates.{SignedFields}
-use Rattle.sshkey_model.specs.Reading.{whole, box_at}
+use Rattle.sshkey_model.specs.Reading.{whole, box_at, behind_at}
 use Rattle.sshkey_model.specs.Signatures.{Signature, signature_at}
 use Rattle.sshkey_model.proofs.CombinedReaders.{bind_ok, ok_is}
-use Rattle.sshkey_terms.specs.Behind.{behind_at}
 use Rattle.sshkey_cert_fields.specs.ToBeSignedReaders.{to_be_signed_value_at}
 use Rattle.sshkey_cert.specs.CertificateFormats.{signed_format}
 use Rattle.sshkey_cert.specs.Fitting.{signed_fits}

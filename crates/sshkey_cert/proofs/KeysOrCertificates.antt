@@ -4,13 +4,12 @@ use Rattle.std.specs.Prelude.{is_ok, IsOkAnd}
 use Rattle.sshkey_model.specs.CertificateNames.{certificate_algorithm_at}
 use Rattle.sshkey_model.specs.Certificates.{Certificate}
 use Rattle.sshkey_model.specs.Names.{Algorithm}
-use Rattle.sshkey_model.specs.Reading.{Fault}
+use Rattle.sshkey_model.specs.Reading.{Fault, behind_at}
 use Rattle.sshkey_base.specs.Causes.{NoMemory, cause}
 use Rattle.sshkey_base.specs.NameFormats.{certified_format}
 use Rattle.sshkey_base.specs.Reading.{NoSpelling}
 use Rattle.sshkey_base.specs.Source.{IsSound, all_of}
 use Rattle.sshkey_base.specs.declared.error.Error.{Error}
-use Rattle.sshkey_terms.specs.Behind.{behind_at}
 use Rattle.sshkey_keys.specs.Keys.{SpellsKey}
 use Rattle.sshkey_cert.specs.CertificateReaders.{SpellsCertificate, certificate_grammar, certificate_value_at}
 use Rattle.sshkey_cert.specs.KeysOrCertificates.{AcceptsEither, NeedsEither, names_certificate}

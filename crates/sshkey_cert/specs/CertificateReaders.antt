@@ -3,15 +3,13 @@
 use Rattle.std.proofs.Common.{◌≡◌, ℕ, List, refl}
 use Rattle.std.specs.Prelude.{◌↔◌}
 use Rattle.sshkey_model.specs.Parts.{Fits, flat}
-use Rattle.sshkey_model.specs.Reading.{Front}
+use Rattle.sshkey_model.specs.Reading.{Front, behind_at}
 use Rattle.sshkey_model.specs.Grammar.{IsGrammar, SpellsWith, value_at}
 use Rattle.sshkey_model.specs.Certificates.{Certificate, IsCertificate, HasCertificatePlaces, certificate, plain_choices, normal_certificate, certificate_at}
 use Rattle.sshkey_model.proofs.CertificateReaders.{certificate_reads}
 use Rattle.sshkey_model.proofs.CombinedReaders.{bind_assoc}
 use Rattle.sshkey_model.proofs.NormalForms.{plain_choices_have}
-use Rattle.sshkey_model.proofs.Grammars.{grammar_with, same_grammar}
-use Rattle.sshkey_base.proofs.Accepted.{spelled_whole, spelled_whole_by, whole_spelled, whole_spelled_by}
-use Rattle.sshkey_terms.specs.Behind.{behind_at}
+use Rattle.sshkey_model.proofs.Grammars.{by_itself, grammar_with, same_grammar, whole_spells}
 use Rattle.sshkey_cert_fields.specs.ToBeSignedReaders.{to_be_signed_is}
 use Rattle.sshkey_cert.specs.CertificateFormats.{certificate_format}
 
@@ -32,7 +30,7 @@ certificate_grammar = same_grammar (grammar_with certificate_reads) certificate_
 
 -- The term spells what PROTOCOL.certkeys lays out.
 pub certificate_spelled : (c : Certificate) (b : List ℕ) → certificate_format.Spells c b ↔ SpellsCertificate c b
-certificate_spelled c b = (λ s. whole_spelled certificate_grammar b c (spelled_whole_by certificate_format.grammar b c s), λ s. whole_spelled_by certificate_format.grammar b c (spelled_whole certificate_grammar b c s))
+certificate_spelled c b = let plain = whole_spells (by_itself certificate_grammar) b c in let term = whole_spells certificate_format.grammar b c in (λ s. plain.0 (term.1 s), λ s. term.0 (plain.1 s))
 
 -- what is written is a spelling
 pub certificate_normal : (c : Certificate) → IsCertificate c → Fits (normal_certificate c) → certificate_format.Spells c (flat (normal_certificate c))

@@ -1,13 +1,12 @@
 -- Which bytes spell what a certificate's signature is over, and how they are read. The lemmas are
 -- proved, and need not be believed.
 use Rattle.std.proofs.Common.{◌≡◌, ℕ, List}
-use Rattle.sshkey_model.specs.Reading.{Front}
+use Rattle.sshkey_model.specs.Reading.{Front, behind_at}
 use Rattle.sshkey_model.specs.Grammar.{IsGrammar, SpellsWith, value_at}
 use Rattle.sshkey_model.specs.Certificates.{SignedFields, AreSignedFields, HaveSignedPlaces, to_be_signed, signed_fields_at, type_at, time_at, end_at}
 use Rattle.sshkey_model.proofs.CertificateReaders.{signed_fields_reads}
 use Rattle.sshkey_model.proofs.CombinedReaders.{bind_assoc}
 use Rattle.sshkey_model.proofs.Grammars.{grammar_with, same_grammar}
-use Rattle.sshkey_terms.specs.Behind.{behind_at}
 use Rattle.sshkey_keys.proofs.BoxedKeys.{key_box}
 use Rattle.sshkey_cert_values.specs.OptionReaders.{options_value_at}
 use Rattle.sshkey_cert_fields.specs.ToBeSignedFormats.{to_be_signed_format}

@@ -8,7 +8,7 @@ use Rattle.sshkey_base.specs.Answers.{AnswersAlways}
 use Rattle.sshkey_base.specs.Causes.{Cause}
 use Rattle.sshkey_base.specs.Reading.{Reads, Refuses, GivesAlways}
 use Rattle.sshkey_base.specs.Source.{Source, all_of}
-use Rattle.sshkey_terms.proofs.Walking.{judged_always}
+use Rattle.sshkey_base.proofs.Judging.{judged_always}
 
 -- the bytes of a string
 abbrev pub bytes_box : Front (List ℕ)

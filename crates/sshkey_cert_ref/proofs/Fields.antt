@@ -1,9 +1,8 @@
 -- The fields before the signature: the name, the nonce and the key, and what stands behind them.
 use Rattle.std.proofs.Common.{◌≡◌, ℕ, List, Ok}
-use Rattle.sshkey_model.specs.Reading.{◌>>=◌, Front}
+use Rattle.sshkey_model.specs.Reading.{◌>>=◌, Front, behind_at}
 use Rattle.sshkey_model.specs.Certificates.{SignedFields, CertificateChoices, signed_fields_at, type_at, time_at, end_at}
 use Rattle.sshkey_model.proofs.CombinedReaders.{bind_assoc}
-use Rattle.sshkey_terms.specs.Behind.{behind_at}
 use Rattle.sshkey_cert_fields.specs.ToBeSignedFormats.{subject_format}
 use Rattle.sshkey_cert_ref.specs.Fields.{behind_key_format}
 

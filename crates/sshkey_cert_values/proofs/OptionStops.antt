@@ -1,7 +1,7 @@
 -- How the reading of an option stops on any source.
 use Rattle.std.proofs.Common.{◌≡◌, ◌⊎◌, inl, inr, ℕ, Bool, true, false, cond, Option, List, Result, Ok, Err, refl}
 use Rattle.sshkey_model.specs.Options.{CertificateOption}
-use Rattle.sshkey_model.specs.Reading.{Fault, Length, FormatEncoding, ◌>>=◌, Front}
+use Rattle.sshkey_model.specs.Reading.{Fault, Length, FormatEncoding, ◌>>=◌, Front, both_at, behind_at}
 use Rattle.sshkey_model.specs.Texts.{text_at}
 use Rattle.sshkey_model.proofs.CombinedReaders.{bind_assoc}
 use Rattle.sshkey_base.specs.Causes.{Cause, Faulty}
@@ -11,7 +11,6 @@ use Rattle.sshkey_base.specs.Reading.{Reads}
 use Rattle.sshkey_base.specs.Source.{Source}
 use Rattle.sshkey_base.specs.Stops.{OverrunsString, AreLengths, RanOut, Stopped, StopsBy, StopsToEnd}
 use Rattle.sshkey_base.proofs.Stopping.{not_taken, read_past}
-use Rattle.sshkey_terms.specs.Behind.{both_at, behind_at}
 use Rattle.sshkey_terms.specs.Terms.{IsMapped}
 use Rattle.sshkey_terms.proofs.Stopping.{stopped_first, stopped_later, mapped_stopped}
 use Rattle.sshkey_cert_values.specs.OptionReaders.{option_box_at, may_follow, option_behind, NeedsOption, OverrunsValue, OverrunsOption}

@@ -6,7 +6,7 @@ use Rattle.sshkey_model.specs.Reading.{Fault, Length, FormatEncoding, ◌>>=◌,
 use Rattle.sshkey_model.specs.Texts.{text_at}
 use Rattle.sshkey_model.specs.Options.{CertificateOption, Nesting, nesting_of, option_value_from, option_before, is_after, in_order, option_at, firsts, seconds, options_at}
 use Rattle.sshkey_base.specs.Formats.{Format}
-use Rattle.sshkey_base.specs.Grammars.{by_itself}
+use Rattle.sshkey_model.proofs.Grammars.{by_itself}
 use Rattle.sshkey_base.specs.Lengths.{with_rest, text_lengths, boxed_lengths, box_list_lengths}
 use Rattle.sshkey_base.specs.Needs.{NeedsBoxed, HasString}
 use Rattle.sshkey_base.specs.Stops.{OverrunsString, OverrunsBoxed, OverrunsList, AreLengths}

@@ -7,9 +7,8 @@ use Rattle.sshkey_model.specs.Reading.{Fault, Front, Crypto, bytes_at, checked_a
 use Rattle.sshkey_model.specs.Grammar.{IsGrammar, Spells}
 use Rattle.sshkey_model.specs.KeyDerivation.{Cipher, block_size, tag_size}
 use Rattle.sshkey_model.proofs.CombinedReaders.{bytes_reads, checked_string_reads, kept_bytes}
-use Rattle.sshkey_model.proofs.Grammars.{grammar}
+use Rattle.sshkey_model.proofs.Grammars.{grammar, by_itself}
 use Rattle.sshkey_base.specs.Formats.{Format}
-use Rattle.sshkey_base.specs.Grammars.{by_itself}
 use Rattle.sshkey_base.specs.Lengths.{checked_lengths, no_lengths, string_lengths}
 use Rattle.sshkey_base.specs.Needs.{NoNeed, NeedsString}
 use Rattle.sshkey_base.specs.Stops.{AreLengths, NoOverrun, OverrunsString}

@@ -7,11 +7,10 @@ use Rattle.sshkey_model.specs.Points.{field_size}
 use Rattle.sshkey_model.specs.Keys.{Key, Opaque, body_at, ecdsa_at, wanted_curve}
 use Rattle.sshkey_model.specs.Signatures.{Signature, IsSignatureBlob, signature_blob, signature_blob_at, signature_at, trailed_at, ecdsa_blob_from, sized_from, some_from, none_from}
 use Rattle.sshkey_model.specs.Grammar.{Spells}
-use Rattle.sshkey_model.proofs.Grammars.{grammar}
+use Rattle.sshkey_model.proofs.Grammars.{grammar, by_itself}
 use Rattle.sshkey_model.proofs.NameReaders.{algorithm_checks}
 use Rattle.sshkey_model.proofs.SignatureReaders.{signature_blob_reads}
 use Rattle.sshkey_base.specs.Formats.{Format, label_format, string_format}
-use Rattle.sshkey_base.specs.Grammars.{by_itself}
 use Rattle.sshkey_base.specs.Labels.{label_at}
 use Rattle.sshkey_base.specs.Lengths.{checked_lengths, string_lengths}
 use Rattle.sshkey_base.specs.NameNeeds.{NeedsAlgorithm}

@@ -1,6 +1,6 @@
 -- What stands behind the name of each kind of key, by the terms that it is read as.
 use Rattle.std.proofs.Common.{◌≡◌, ℕ, List, Result, Ok, refl, sym, ap}
-use Rattle.sshkey_model.specs.Reading.{Fault, ◌>>=◌, Front, checked_at, box_at, whole, bytes_at, string_at}
+use Rattle.sshkey_model.specs.Reading.{Fault, ◌>>=◌, Front, checked_at, box_at, whole, bytes_at, string_at, both_at, behind_at}
 use Rattle.sshkey_model.specs.Texts.{string, text_at}
 use Rattle.sshkey_model.specs.Names.{Curve, Nistp256, curve, curve_at, curve_from}
 use Rattle.sshkey_model.specs.Points.{IsPoint, IsPointOf, of_curve, point_at, point_from, p256_point_from}
@@ -10,14 +10,12 @@ use Rattle.sshkey_model.specs.Grammar.{IsGrammar, Spells, Checks}
 use Rattle.sshkey_model.proofs.CombinedReaders.{Any, bind_assoc, done, ok_is, checked_reads, checked_string_reads}
 use Rattle.sshkey_model.proofs.NameReaders.{curve_reads, curve_checks}
 use Rattle.sshkey_model.proofs.PointReaders.{point_reads, p256_point_checks}
-use Rattle.sshkey_model.proofs.Grammars.{grammar}
+use Rattle.sshkey_model.proofs.Grammars.{grammar, by_itself}
 use Rattle.sshkey_base.specs.Formats.{Format, array_format, label_format, mpint_format, text_format}
-use Rattle.sshkey_base.specs.Grammars.{by_itself}
 use Rattle.sshkey_base.specs.Labels.{label_at}
 use Rattle.sshkey_base.specs.Lengths.{checked_lengths, string_lengths}
 use Rattle.sshkey_base.specs.Needs.{NoNeed}
 use Rattle.sshkey_base.specs.Stops.{OverrunsString}
-use Rattle.sshkey_terms.specs.Behind.{both_at, behind_at}
 use Rattle.sshkey_terms.specs.Terms.{◌then◌, IsMapped, made_of, without_memory}
 use Rattle.sshkey_kinds.specs.Bodies.{dsa_grammar, rsa_grammar, ed25519_body_at, ed25519_body_grammar, any_ecdsa_grammar, sk_ecdsa_grammar, sk_ed25519_grammar}
 

@@ -6,7 +6,8 @@ use Rattle.sshkey_base.proofs.Accepted.{spelled_whole}
 use Rattle.std.proofs.Math.Seq.{take-append_seam}
 use Rattle.sshkey_base.proofs.Writing.{length_both}
 use Rattle.sshkey_base.specs.Formats.{Format, array_format, byte_format, number32_format, number64_format, string_format}
-use Rattle.sshkey_base.specs.Grammars.{AllEnd, ends}
+use Rattle.sshkey_model.specs.Grammar.{AllEnd}
+use Rattle.sshkey_model.proofs.Grammars.{ends}
 use Rattle.sshkey_base.specs.Leaves.{SpellsString, array_normal, byte_normal, number32_normal, number64_normal, string_normal}
 use Rattle.sshkey_base.specs.Sink.{NotWritten, Sink, Written, after}
 use Rattle.sshkey_base.specs.declared.encoding.Error as narrow

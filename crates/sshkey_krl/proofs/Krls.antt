@@ -8,9 +8,8 @@ use Rattle.sshkey_base.specs.Answers.{AnswersAlways, Judges}
 use Rattle.sshkey_base.specs.Causes.{Cause}
 use Rattle.sshkey_base.specs.Reading.{NoSpelling, Refuses}
 use Rattle.sshkey_krl.proofs.Wholes.{whole_is}
-use Rattle.sshkey_model.specs.Reading.{Fault, ◌>>=◌, Front, checked_at, checked_whole, end_of, list_whole, whole}
+use Rattle.sshkey_model.specs.Reading.{Fault, ◌>>=◌, Front, checked_at, checked_whole, end_of, list_whole, whole, behind_at}
 use Rattle.sshkey_terms.proofs.SliceFronts.{taken_value}
-use Rattle.sshkey_terms.specs.Behind.{behind_at}
 use Rattle.sshkey_terms.specs.Slices.{found_or, is_taken}
 use Rattle.sshkey_terms.specs.ToEnd.{each_at}
 use Rattle.sshkey_krl.specs.Asked.{Asked, asked_certificate, asked_key, says}

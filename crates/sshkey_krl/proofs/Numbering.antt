@@ -8,10 +8,9 @@ use Rattle.sshkey_base.specs.Causes.{Cause}
 use Rattle.sshkey_base.specs.Formats.{Format}
 use Rattle.sshkey_model.proofs.CombinedReaders.{number_reads, wide8}
 use Rattle.sshkey_model.specs.Parts.{are_bytes, flat, number}
-use Rattle.sshkey_model.specs.Reading.{Fault, ◌>>=◌, Front, checked_at, checked_whole, number_at, string_at, whole}
+use Rattle.sshkey_model.specs.Reading.{Fault, ◌>>=◌, Front, checked_at, checked_whole, number_at, string_at, whole, behind_at}
 use Rattle.sshkey_terms.proofs.SliceFronts.{box_string}
 use denote.Ref.{Bor}
-use Rattle.sshkey_terms.specs.Behind.{behind_at}
 use Rattle.sshkey_krl.specs.Parts.{numbered}
 
 are_behind : (a b : List ℕ) → are_bytes (a ++ b) ≡ true → are_bytes b ≡ true

@@ -5,9 +5,8 @@ use Rattle.std.specs.Int.{w64}
 use Rattle.sshkey_base.proofs.Judging.{answers_first, answers_later}
 use Rattle.sshkey_base.specs.Answers.{AnswersAlways}
 use Rattle.sshkey_base.specs.Causes.{Cause}
-use Rattle.sshkey_model.specs.Reading.{Fault, ◌>>=◌, Front, checked_at, checked_whole, end_of, list_whole, number_at, string_at, whole}
+use Rattle.sshkey_model.specs.Reading.{Fault, ◌>>=◌, Front, checked_at, checked_whole, end_of, list_whole, number_at, string_at, whole, behind_at}
 use denote.Ref.{Bor}
-use Rattle.sshkey_terms.specs.Behind.{behind_at}
 use Rattle.sshkey_krl.specs.Asked.{Asked, grant_in, key_id_says, part_says, serial_says}
 use Rattle.sshkey_krl.specs.Parts.{body, key_id_format, key_id_shows, serial_format, serial_shows}
 use Rattle.sshkey_krl.specs.Revocation.{Numbers, Part}

@@ -8,13 +8,12 @@ use Rattle.sshkey_base.specs.Causes.{Cause}
 use Rattle.sshkey_base.specs.Formats.{array_format, string_format}
 use Rattle.sshkey_model.specs.Keys.{Key, normal_key}
 use Rattle.sshkey_model.specs.Parts.{flat}
-use Rattle.sshkey_model.specs.Reading.{Fault, ◌>>=◌, checked_whole, list_whole, string_at, whole}
+use Rattle.sshkey_model.specs.Reading.{Fault, ◌>>=◌, checked_whole, list_whole, string_at, whole, behind_at}
 use denote.Ref.{Bor}
 use Rattle.sshkey_keys.specs.KeyReaders.{key_grammar}
 use Rattle.sshkey_keys.specs.Keys.{SpellsKey, key_data_at}
 use Rattle.sshkey_keys_ref.specs.KeyDataRef.{key_bytes}
 use Rattle.sshkey_keys_ref.specs.declared.key_data_ref.KeyDataRef.{KeyDataRef}
-use Rattle.sshkey_terms.specs.Behind.{behind_at}
 use Rattle.sshkey_terms.specs.Slices.{Keeps}
 use Rattle.sshkey_krl.specs.Asked.{Asked, authority_says, key_says, part_says, says, sha1_says, sha256_says, signer_says}
 use Rattle.sshkey_krl.specs.Parts.{part_format, part_shows}

@@ -5,7 +5,7 @@ use Rattle.std.proofs.lemmas.Bool.{eqb-true, eq-eqb, ne_eqb, ltb-true, lt-ltb, l
 use Rattle.std.proofs.lemmas.List.{take_at, drop_at, take-append-drop, length-append, length-take, length-replicate}
 use Rattle.std.proofs.lemmas.Slice.Eq.{bytes_eq-Decides}
 use Rattle.sshkey_model.specs.Parts.{bytes, ◌&◌, flat, HasLength}
-use Rattle.sshkey_model.specs.Reading.{FormatEncoding, AlgorithmUnknown, Crypto, TrailingData, all_from, checked_whole}
+use Rattle.sshkey_model.specs.Reading.{FormatEncoding, AlgorithmUnknown, Crypto, TrailingData, all_from, checked_whole, behind_at}
 use Rattle.sshkey_model.specs.Grammar.{IsSpelled, spelled, Checks}
 use Rattle.sshkey_model.specs.Texts.{string, IsText}
 use Rattle.sshkey_model.specs.Names.{Curve, Nistp256, Hash, Algorithm, IsAlgorithm, algorithm, curve}
@@ -192,7 +192,7 @@ plain : (k : KeyPair) (s : LeadingZeros) → s ≡ Plain → ◌≡◌ {A = KeyP
 plain k s e = ap (λ (z : LeadingZeros). (k, z)) (sym e)
 
 dsa_pair_reads : ReadsFront (IsSpelledUnder Algorithm.Dsa) (spelled pair) dsa_pair_at
-unfolding dsa_pair_at
+unfolding dsa_pair_at behind_at
 dsa_pair_reads = same_front (checked_reads (to_form
     (λ a. (DsaPair (record { p = a.0.0; q = a.0.1.0; g = a.0.1.1.0; y = a.0.1.1.1 }) a.1, Plain))
     (λ a h. (record { is = (refl, ((h.0.0, h.0.1.0, h.0.1.1.0, h.0.1.1.1), h.1)); place = refl }, refl))
@@ -212,7 +212,7 @@ dsa_pair_reads = same_front (checked_reads (to_form
 -- ---- ECDSA
 
 pub any_ecdsa_pair_reads : ReadsFront (IsSpelled IsEcdsaPair HasPairPlaces) (spelled pair) any_ecdsa_pair_at
-unfolding any_ecdsa_pair_at
+unfolding any_ecdsa_pair_at behind_at
 any_ecdsa_pair_reads = same_front (checked_reads (to_form
     (λ a. (EcdsaPair a.0.1.0 a.0.1.1 a.1.0, a.1.1))
     (λ a h. (record { is = (h.0.1.0, h.1.is); place = h.1.place }, ap (λ (c : Curve). (curve c & string a.0.1.1) & scalar a.1.0 a.1.1) (sym (same_curve _ _ h.0.1.1))))
@@ -266,7 +266,7 @@ private_before_checks public = record { takes = there; again = back }
         (x ++ public, omega (arith, is.0, is.1, length-append x public), rw (drop_at x public 32 is.0, take_at x public 32 is.0, same) refl, refl)
 
 ed25519_pair_reads : ReadsFront (IsSpelledUnder Algorithm.Ed25519) (spelled pair) ed25519_pair_at
-unfolding ed25519_pair_at
+unfolding ed25519_pair_at behind_at
 ed25519_pair_reads = same_front (checked_reads (to_form
     (λ a. (Ed25519Pair a.0 a.1, Plain))
     (λ a h. (record { is = (refl, (h.0, h.1.0)); place = refl }, refl))
@@ -280,7 +280,7 @@ ed25519_pair_reads = same_front (checked_reads (to_form
 -- ---- RSA
 
 pub rsa_private_reads : ReadsFront IsRsaPrivate rsa_private rsa_private_at
-unfolding rsa_private_at
+unfolding rsa_private_at behind_at
 rsa_private_reads = same_front (checked_reads (to_form
     (λ a. record { d = a.0; iqmp = a.1.0; p = a.1.1.0; q = a.1.1.1 })
     (λ a h. ((h.0, h.1.0, h.1.1.0, h.1.1.1), refl))
@@ -288,7 +288,7 @@ rsa_private_reads = same_front (checked_reads (to_form
     (then_reads mpint_reads (λ _. then_reads mpint_reads (λ _. then_reads mpint_reads (λ _. mpint_reads))))) (λ b. simp bind_assoc)
 
 rsa_pair_reads : (hash : Option Hash) → ReadsFront (IsSpelledUnder (Algorithm.Rsa hash)) (spelled pair) rsa_pair_at
-unfolding rsa_pair_at
+unfolding rsa_pair_at behind_at
 rsa_pair_reads hash = same_front (checked_reads (to_form
     (λ a. (RsaPair (record { e = a.1.0; n = a.0 }) a.1.1, Plain))
     (λ a h. (record { is = (refl, ((h.1.0, h.0), h.1.1)); place = refl }, refl))
@@ -302,7 +302,7 @@ rsa_pair_reads hash = same_front (checked_reads (to_form
 -- ---- keys that a security key holds
 
 pub security_private_reads : ReadsFront Any security_private security_private_at
-unfolding security_private_at
+unfolding security_private_at behind_at
 security_private_reads = same_front (checked_reads (to_form
     (λ a. record { flags = a.0; handle = a.1.0; reserved = a.1.1 })
     (λ a h. (tt, refl))
@@ -310,7 +310,7 @@ security_private_reads = same_front (checked_reads (to_form
     (then_reads (number_reads w8 wide8) (λ _. then_reads string_reads (λ _. string_reads)))) (λ b. simp bind_assoc)
 
 sk_ecdsa_pair_reads : ReadsFront (IsSpelledUnder Algorithm.SkEcdsa) (spelled pair) sk_ecdsa_pair_at
-unfolding sk_ecdsa_pair_at
+unfolding sk_ecdsa_pair_at behind_at
 sk_ecdsa_pair_reads = same_front (checked_reads (to_form
     (λ a. (SkEcdsaPair (record { key = a.0.1.0; application = a.0.1.1 }) a.1, Plain))
     (λ a h. (record { is = (refl, ((h.0.1.0, h.0.1.1), tt)); place = refl }, refl))
@@ -328,7 +328,7 @@ sk_ecdsa_pair_reads = same_front (checked_reads (to_form
     back _ s h place = absurd (cc h.0)
 
 sk_ed25519_pair_reads : ReadsFront (IsSpelledUnder Algorithm.SkEd25519) (spelled pair) sk_ed25519_pair_at
-unfolding sk_ed25519_pair_at
+unfolding sk_ed25519_pair_at behind_at
 sk_ed25519_pair_reads = same_front (checked_reads (to_form
     (λ a. (SkEd25519Pair (record { key = a.0.0; application = a.0.1 }) a.1, Plain))
     (λ a h. (record { is = (refl, ((h.0.0, h.0.1), tt)); place = refl }, refl))
@@ -342,7 +342,7 @@ sk_ed25519_pair_reads = same_front (checked_reads (to_form
 -- ---- pairs of other algorithms
 
 opaque_pair_reads : (name : List ℕ) → ReadsFront (IsSpelledUnder (Algorithm.Other name)) (spelled pair) (opaque_pair_at name)
-unfolding opaque_pair_at
+unfolding opaque_pair_at behind_at
 opaque_pair_reads name = same_front (checked_reads (to_form
     (λ a. (OpaquePair name a.0 a.1, Plain))
     (λ a h. (record { is = (refl, (tt, tt)); place = refl }, refl))
@@ -365,7 +365,7 @@ pair_reads (Algorithm.Other name) = opaque_pair_reads name
 -- ---- the name before it
 
 pub keypair_reads : ReadsFront (IsSpelled IsKeyPair HasKeyPairPlaces) (spelled keypair) keypair_at
-unfolding keypair_at
+unfolding keypair_at behind_at
 keypair_reads = same_front (checked_reads (to_form (λ a. (a.1.0, record { head = head_of a.0; zeros = a.1.1 })) there (λ x h. back x.0 x.1 h.is h.place)) (then_reads algorithm_reads pair_reads)) (λ b. simp bind_assoc)
   where
     there : (a : Algorithm × (KeyPair × LeadingZeros)) → IsAlgorithm a.0 × IsSpelledUnder a.0 a.1 → IsSpelled IsKeyPair HasKeyPairPlaces (a.1.0, record { head = head_of a.0; zeros = a.1.1 }) × (algorithm a.0 & spelled pair a.1 ≡ spelled keypair (a.1.0, record { head = head_of a.0; zeros = a.1.1 }))

@@ -1,5 +1,7 @@
-pub mod CombinedReaders
+pub mod LawfulReaders
 pub mod Grammars
+pub mod Trees
+pub mod CombinedReaders
 pub mod TextReaders
 pub mod NameReaders
 pub mod CertificateNameReaders

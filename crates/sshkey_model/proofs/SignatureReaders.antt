@@ -3,7 +3,7 @@ use Rattle.std.proofs.Common.{◌≡◌, ℕ, suc, ◌-◌, ◌<◌, ◌≤◌, 
 use Rattle.std.proofs.lemmas.Bool.{eqb-true, eq-eqb, ltb-true, lt-ltb}
 use Rattle.std.proofs.lemmas.List.{take_at, drop_at, take-append-drop, length-append, length-take, length-drop, nil_from_length}
 use Rattle.sshkey_model.specs.Parts.{Parts, bytes, box, ◌&◌, flat, HasLength}
-use Rattle.sshkey_model.specs.Reading.{Fault, Length, FormatEncoding, ◌>>=◌, Whole}
+use Rattle.sshkey_model.specs.Reading.{Fault, Length, FormatEncoding, ◌>>=◌, Whole, behind_at}
 use Rattle.sshkey_model.specs.Texts.{string}
 use Rattle.sshkey_model.specs.Names.{Algorithm}
 use Rattle.sshkey_model.specs.Mpints.{is_mpint, mpint_from, positive_part}
@@ -108,6 +108,7 @@ module _ {Is : List ℕ → Type 0} {judge : Whole (List ℕ)} (checks : Checks 
       ((c.0, trailer d), (tt, omega (arith, length-drop (length d - 5) d)), rw c.2 (ap (λ (z : List ℕ). done z) (take-append-drop (length d - 5) d)), ap (λ (q : Parts). box q & bytes (trailer d)) c.3)
 
   pub trailed_reads : ReadsFront (IsTrailed Is) trailed (trailed_at judge)
+  unfolding behind_at
   trailed_reads = same_front (checked_reads (record { takes = there; again = back }) (then_reads string_reads (λ _. bytes_reads 5))) (λ b. simp bind_assoc)
 
 -- ---- all kinds
@@ -123,5 +124,5 @@ signature_blob_reads Algorithm.SkEd25519 = as_front_form (λ d h. omega (arith, 
 signature_blob_reads (Algorithm.Other n) = checked_string_reads some_checks
 
 pub signature_reads : ReadsFront IsSignature signature signature_at
-unfolding signature_at
+unfolding signature_at behind_at
 signature_reads = same_front (checked_reads (to_form (λ (name, blob). record { algorithm = name; blob = blob }) (λ a h. (h, refl)) (λ g h. ((g.algorithm, g.blob), h, refl, refl))) (then_reads algorithm_reads signature_blob_reads)) (λ b. simp bind_assoc)

@@ -1,5 +1,6 @@
 -- Which bytes are a spelling of which value.
-use Rattle.std.specs.Prelude.{◌≡◌, List, ◌++◌, ℕ, Result, Ok}
+use Rattle.std.specs.Prelude.{◌≡◌, ◌⊎◌, ◌<◌, ◌^◌, List, [], ◌++◌, length, ℕ, Result, Ok}
+use Rattle.std.specs.Int.{w32, to_be_bytes}
 use Rattle.sshkey_model.specs.Parts.{Parts, flat, Fits}
 use Rattle.sshkey_model.specs.Reading.{Fault, ◌>>=◌, Front}
 
@@ -42,6 +43,57 @@ pub record IsGrammar {V : Type 0} (Spelling : V → List ℕ → Type 0) (read :
   pub takes : (b : List ℕ) (value : V) (rest : List ℕ) → read b ≡ Ok (value, rest) → (front : List ℕ) × Spelling value front × (b ≡ front ++ rest)
   -- a spelling is taken, whatever follows it
   pub again : (value : V) (front rest : List ℕ) → Spelling value front → read (front ++ rest) ≡ Ok (value, rest)
+
+-- The rest may stand behind the value: there is none, or the value ends by itself.
+abbrev pub MayFollow : {A : Type 0} → Front A → A → List ℕ → List ℕ → Type 0
+MayFollow delimited_at value front rest = (rest ≡ []) ⊎ (delimited_at front ≡ Ok (value, []))
+
+-- The same of a reader some of whose values end by themselves.
+pub record Grammar {A : Type 0} (Spells : A → List ℕ → Type 0) (read : Front A) : Type 0 where
+  -- the plain reader of the values that end by themselves; nothing may follow any other
+  pub delimited_at : Front A
+  -- `read` takes what it takes
+  pub same : (b : List ℕ) (x : A × List ℕ) → delimited_at b ≡ Ok x → read b ≡ Ok x
+  -- whatever follows
+  pub before : (b : List ℕ) (value : A) (rest more : List ℕ) → delimited_at b ≡ Ok (value, rest) → delimited_at (b ++ more) ≡ Ok (value, rest ++ more)
+  -- what `read` takes is a spelling; where bytes are left, `delimited_at` takes it too, so no value
+  -- is kept from it that others may follow
+  pub takes : (b : List ℕ) (value : A) (rest : List ℕ) → read b ≡ Ok (value, rest) → (front : List ℕ) × Spells value front × (b ≡ front ++ rest) × MayFollow delimited_at value front rest
+  -- and a spelling is taken
+  pub alone : (value : A) (front : List ℕ) → Spells value front → read front ≡ Ok (value, [])
+
+-- all values end by themselves
+abbrev pub AllEnd : {A : Type 0} {Spells : A → List ℕ → Type 0} {read : Front A} → Grammar Spells read → Type 0
+AllEnd {read = read} g = (b : List ℕ) → g.delimited_at b ≡ read b
+
+-- ---- what is spelled of parts
+
+-- The bytes spell the first value, and behind it the second, whose spelling may depend on the
+-- first. Where the second has bytes, the first ends by itself.
+pub record SpellsThen {A B : Type 0} (First : A → List ℕ → Type 0) (delimited_at : Front A) (Second : A → B → List ℕ → Type 0) (value : A × B) (bytes : List ℕ) : Type 0 where
+  pub front : List ℕ
+  pub behind : List ℕ
+  pub first : First value.0 front
+  pub second : Second value.0 value.1 behind
+  pub all : bytes ≡ front ++ behind
+  pub may_follow : MayFollow delimited_at value.0 front behind
+
+-- the same where the second is spelled alike whatever the first is
+abbrev pub SpellsBoth : {A B : Type 0} → (A → List ℕ → Type 0) → Front A → (B → List ℕ → Type 0) → A × B → List ℕ → Type 0
+SpellsBoth First delimited_at Second = SpellsThen First delimited_at (λ _. Second)
+
+-- The bytes spell a value of which the test makes this one.
+pub record SpellsTested {A B : Type 0} (Inner : A → List ℕ → Type 0) (test : A → Result B Fault) (value : B) (bytes : List ℕ) : Type 0 where
+  pub inner : A
+  pub spelled : Inner inner bytes
+  pub makes : test inner ≡ Ok value
+
+-- A length of four bytes, and so many bytes that spell the value.
+pub record SpellsBoxed {Y : Type 0} (Spells : Y → List ℕ → Type 0) (y : Y) (bytes : List ℕ) : Type 0 where
+  pub inside : List ℕ
+  pub spelled : Spells y inside
+  pub short : length inside < 2 ^ 32
+  pub whole : bytes ≡ to_be_bytes w32 (length inside) ++ inside
 
 -- What a test gives is spelled as what it was given, and each value that is so comes from one.
 pub record Checks {A B : Type 0} (Was : A → Type 0) (spelled : A → Parts) (Is : B → Type 0) (spell : B → Parts) (check : A → Result B Fault) : Type 0 where

@@ -67,12 +67,20 @@ box_at read b = do
   n ← number_at w32 b
   if nat_lt (length n.1) n.0 then Err Length else (read (take n.0 n.1) >>= λ x. Ok (x, drop n.0 n.1))
 
--- one after the other
-abbrev pub then_at : {A B : Type 0} → Front A → (A → Front B) → Front (A × B)
-then_at read next b = do
+-- a value, and what it asks for behind it
+unfoldable pub behind_at : {A B : Type 0} → Front A → (A → Front B) → Front (A × B)
+behind_at read next b = do
   x ← read b
   y ← next x.0 x.1
   Ok ((x.0, y.0), y.1)
+
+-- The same where the second is read alike whatever the first is.
+abbrev pub both_at : {A B : Type 0} → Front A → Front B → Front (A × B)
+both_at read next = behind_at read (λ _. next)
+
+-- the plain reader of no value
+abbrev pub never_at : {A : Type 0} → Front A
+never_at b = Err Length
 
 -- a value, and then what the test makes of it
 abbrev pub checked_at : {A B : Type 0} → (A → Result B Fault) → Front A → Front B

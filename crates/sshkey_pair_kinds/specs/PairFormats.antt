@@ -1,7 +1,7 @@
 -- What stands behind the name of each kind of pair, by the terms that it is read as.
 use Rattle.std.proofs.Common.{ℕ, List, Result, Ok, Err, None, refl}
 use Rattle.std.specs.Int.{w8}
-use Rattle.sshkey_model.specs.Reading.{Fault, Length, ◌>>=◌, number_at, string_at, box_at, whole, bytes_at}
+use Rattle.sshkey_model.specs.Reading.{Fault, Length, ◌>>=◌, number_at, string_at, box_at, whole, bytes_at, both_at, behind_at}
 use Rattle.sshkey_model.specs.Grammar.{IsGrammar, Spells, value_at}
 use Rattle.sshkey_model.specs.Keys.{Key, Dsa, Ecdsa, SkEcdsa, SkEd25519, dsa_at, any_ecdsa_at, ed25519_at, sk_ecdsa_at, sk_ed25519_at}
 use Rattle.sshkey_model.specs.Mpints.{mpint_at}
@@ -10,14 +10,12 @@ use Rattle.sshkey_model.specs.Parts.{Any}
 use Rattle.sshkey_model.specs.Points.{field_size}
 use Rattle.sshkey_model.specs.KeyPairs.{KeyPair, DsaPair, EcdsaPair, Ed25519Pair, RsaPair, SkEcdsaPair, SkEd25519Pair, RsaPrivate, SecurityPrivate, security_private, private_before, scalar_at, scalar_whole, dsa_pair_at, any_ecdsa_pair_at, ed25519_pair_at, rsa_private_at, rsa_pair_at, security_private_at, sk_ecdsa_pair_at, sk_ed25519_pair_at}
 use Rattle.sshkey_model.proofs.CombinedReaders.{bind_assoc}
-use Rattle.sshkey_model.proofs.Grammars.{grammar}
+use Rattle.sshkey_model.proofs.Grammars.{grammar, by_itself}
 use Rattle.sshkey_model.proofs.KeyPairReaders.{security_private_reads}
 use Rattle.sshkey_base.specs.Formats.{Format, array_format, byte_format, mpint_format, string_format}
-use Rattle.sshkey_base.specs.Grammars.{by_itself}
 use Rattle.sshkey_base.specs.Lengths.{box_lengths}
 use Rattle.sshkey_base.specs.Needs.{NoNeed}
 use Rattle.sshkey_base.specs.Stops.{OverrunsString, AreLengths}
-use Rattle.sshkey_terms.specs.Behind.{both_at, behind_at}
 use Rattle.sshkey_terms.specs.Terms.{◌then◌, chosen_of, tested, without_memory, IsChosen, IsMapped, made_of}
 use Rattle.sshkey_kinds.specs.KeyFormats.{dsa_format, ecdsa_format, sk_ecdsa_format, sk_ed25519_format}
 use Rattle.sshkey_pair_kinds.specs.PairReaders.{SpellsScalar, scalar_grammar, rsa_private_grammar, ecdsa_pair_grammar, pair_grammar}

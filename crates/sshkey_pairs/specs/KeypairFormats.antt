@@ -1,18 +1,17 @@
 -- What stands behind a private-use name, behind a name, and a pair with its name, by the terms that
 -- they are read as.
 use Rattle.std.proofs.Common.{ℕ, List, [], Option, Some, Result, Ok, refl}
-use Rattle.sshkey_model.specs.Reading.{Fault, string_at}
+use Rattle.sshkey_model.specs.Reading.{Fault, string_at, both_at, behind_at}
 use Rattle.sshkey_model.specs.Grammar.{value_at}
 use Rattle.sshkey_model.specs.Names.{Algorithm, algorithm_from}
 use Rattle.sshkey_model.specs.Names as names
 use Rattle.sshkey_model.specs.KeyPairs.{KeyPair, OpaquePair, opaque_pair_at, pair_at}
 use Rattle.sshkey_model.proofs.CombinedReaders.{bind_assoc}
 use Rattle.sshkey_base.specs.Formats.{Format, string_format}
-use Rattle.sshkey_base.specs.Grammars.{by_itself}
+use Rattle.sshkey_model.proofs.Grammars.{by_itself}
 use Rattle.sshkey_base.specs.Labels.{label_at}
 use Rattle.sshkey_base.specs.Needs.{NoNeed}
 use Rattle.sshkey_base.specs.Stops.{AreLengths}
-use Rattle.sshkey_terms.specs.Behind.{both_at, behind_at}
 use Rattle.sshkey_terms.specs.Terms.{◌then◌, chosen_of, tested, IsChosen, IsMapped, made_of, mapped_lengths}
 use Rattle.sshkey_keys.specs.KeyFormats.{name_format}
 use Rattle.sshkey_pair_kinds.specs.PairFormats.{dsa_pair_format, ecdsa_pair_format, ed25519_pair_format, rsa_pair_format, sk_ecdsa_pair_format, sk_ed25519_pair_format}

@@ -12,7 +12,7 @@ use Rattle.sshkey_model.specs.PrivateKeys.{UnencryptedKey, PrivateKey, Unencrypt
 use Rattle.sshkey_model.proofs.CombinedReaders.{fits_first, fits_second, fits_inside, fits_length, fits_number, prefix, number_reads, wide32, box_reads, whole_reads}
 use Rattle.sshkey_model.proofs.KeyReaders.{key_reads}
 use Rattle.sshkey_model.proofs.KeyPairReaders.{keypair_reads}
-use Rattle.sshkey_terms.proofs.Trees.{prefix_free}
+use Rattle.sshkey_model.proofs.Trees.{prefix_free}
 use Rattle.sshkey_ciphers.proofs.Paddings.{rising_length}
 use Rattle.sshkey_private.specs.PaddedKeys.{PaddedChoices, padded_content, padded_private_key, HasPadding, HasPaddedPlaces}
 use Rattle.sshkey_private.specs.PrivateKeyFormats.{file_grammar}

@@ -9,7 +9,7 @@ use Rattle.sshkey_base.specs.Source.{Source, announced_len}
 use Rattle.sshkey_base.specs.declared.encoding.Error as encoding
 use Rattle.sshkey_base.specs.declared.encoding.Error.TheVariants as encodings
 use Rattle.sshkey_base.specs.Reading.{Gives, Reads, ReadsAll}
-use Rattle.sshkey_base.proofs.Accepted.{spelled_whole_by, whole_spelled_by}
+use Rattle.sshkey_model.proofs.Grammars.{whole_spells}
 use Rattle.sshkey_private.specs.PrivateKeyGrammars.{decoder, private_key_format, private_value_at, padded_key_format, padded_value_at}
 use Rattle.sshkey_private.specs.PrivateKeyTrees.{private_key_tree, plain_padding}
 
@@ -23,7 +23,7 @@ formed means cause_of s t (Err e) h = tt
 -- ---- with more padding
 
 pub plain_read : (b : List ℕ) (k : PrivateKey) → whole private_value_at b ≡ Ok k → whole padded_value_at b ≡ Ok k
-plain_read b k e = spelled_whole_by padded_key_format.grammar b k (plain_padding k b (whole_spelled_by private_key_format.grammar b k e))
+plain_read b k e = (whole_spells padded_key_format.grammar b k).1 (plain_padding k b ((whole_spells private_key_format.grammar b k).0 e))
 
 -- ---- behind the value
 

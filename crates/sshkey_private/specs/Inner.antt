@@ -1,14 +1,13 @@
 -- The private part of a key that is not encrypted (PROTOCOL.key): the terms that it is read as.
 use Rattle.std.proofs.Common.{◌≡◌, ℕ, List, Option, option_map, Result, Ok, Err, refl}
 use Rattle.std.specs.Prelude.{◌==◌, if◌then◌else◌}
-use Rattle.sshkey_model.specs.Reading.{Fault, Crypto, PublicKey, ◌>>=◌, Front}
+use Rattle.sshkey_model.specs.Reading.{Fault, Crypto, PublicKey, ◌>>=◌, Front, behind_at}
 use Rattle.sshkey_model.specs.Texts.{text_at}
 use Rattle.sshkey_model.specs.Keys.{Key}
 use Rattle.sshkey_model.specs.KeyPairs.{KeyPair}
 use Rattle.sshkey_model.specs.PrivateKeys.{UnencryptedKey}
 use Rattle.sshkey_model.proofs.CombinedReaders.{bind_assoc}
 use Rattle.sshkey_base.specs.Formats.{Format, number32_format, text_format}
-use Rattle.sshkey_terms.specs.Behind.{behind_at}
 use Rattle.sshkey_terms.specs.Terms.{◌then◌, boxed, tested, without_memory, read_as}
 use Rattle.sshkey_pairs.specs.Keypairs.{pair_of}
 use Rattle.sshkey_pairs.specs.KeypairFormats.{keypair_format}

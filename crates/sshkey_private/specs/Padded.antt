@@ -9,7 +9,8 @@ use Rattle.sshkey_model.specs.KeyDerivation.{NoCipher, block_size}
 use Rattle.sshkey_model.specs.PrivateKeys.{rising}
 use Rattle.sshkey_model.proofs.CombinedReaders.{bind_ok, met, ok_is}
 use Rattle.sshkey_base.specs.Formats.{Format}
-use Rattle.sshkey_base.specs.Grammars.{AllEnd, all_end, to_the_end}
+use Rattle.sshkey_model.specs.Grammar.{AllEnd}
+use Rattle.sshkey_model.proofs.Grammars.{all_end, to_the_end}
 use Rattle.sshkey_base.specs.Lengths.{no_lengths}
 use Rattle.sshkey_base.specs.Reading.{to_end}
 use Rattle.sshkey_base.specs.Stops.{NoOverrun}

@@ -3,12 +3,12 @@
 use Rattle.std.proofs.Common.{◌≡◌, inl, ℕ, List, length, Bool, true, false, Option, Some, None, Result, Ok, Err, refl, sym, ap, ◌∙◌}
 use Rattle.std.specs.Prelude.{if◌then◌else◌}
 use Rattle.sshkey_model.specs.Reading.{Fault, Crypto, PublicKey, TrailingKeyData, ◌>>=◌, Front}
-use Rattle.sshkey_model.specs.Grammar.{IsGrammar}
+use Rattle.sshkey_model.specs.Grammar.{IsGrammar, AllEnd}
 use Rattle.sshkey_model.specs.Keys.{Key}
 use Rattle.sshkey_model.specs.KeyDerivation.{Cipher, NoCipher, Kdf, NoKdf, Bcrypt}
 use Rattle.sshkey_model.specs.PrivateKeys.{UnencryptedKey, PrivateKey, Unencrypted, Encrypted, may_precede}
 use Rattle.sshkey_base.specs.Formats.{Format}
-use Rattle.sshkey_base.specs.Grammars.{AllEnd, all_end, by_itself}
+use Rattle.sshkey_model.proofs.Grammars.{all_end, by_itself}
 use Rattle.sshkey_base.specs.Needs.{NoNeed, NeedsString}
 use Rattle.sshkey_base.specs.Stops.{AreLengths, NoOverrun, OverrunsString}
 use Rattle.sshkey_terms.specs.Terms.{IsMapped, called, called_chosen, called_ends, tested, read_as}

@@ -5,7 +5,7 @@ use Rattle.sshkey_model.specs.PrivateKeys.{PrivateKey, Unencrypted, Encrypted, m
 use Rattle.sshkey_model.specs.Reading.{Fault, Length, TrailingKeyData, ◌>>=◌, Front, checked_at}
 use Rattle.sshkey_model.proofs.CombinedReaders.{bind_ok, met, ok_is}
 use Rattle.sshkey_base.specs.Formats.{Format}
-use Rattle.sshkey_base.specs.Grammars.{MayFollow}
+use Rattle.sshkey_model.specs.Grammar.{MayFollow}
 use Rattle.sshkey_private.specs.PrivateKeyFormats.{file_format, file_grammar, last_of, steps_at, steps_are}
 
 -- the key, where it is not encrypted

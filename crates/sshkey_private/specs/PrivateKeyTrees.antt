@@ -16,9 +16,9 @@ use Rattle.sshkey_model.specs.PrivateKeys.{UnencryptedKey, PrivateKey, Unencrypt
 use Rattle.sshkey_model.proofs.CombinedReaders.{met, ok_is, fits_both, fits_first, fits_bytes}
 use Rattle.sshkey_model.proofs.EqualKeys.{same_key, key_itself}
 use Rattle.sshkey_model.proofs.KeyPairReaders.{plain_keypair_has}
-use Rattle.sshkey_base.specs.Grammars.{ends}
+use Rattle.sshkey_model.proofs.Grammars.{ends}
 use Rattle.sshkey_base.specs.Formats.{number32_format}
-use Rattle.sshkey_terms.proofs.Trees.{IsTree, Alike, alike, grouped, leaf_tree, open_tree, choice_tree, then_tree, box_tree, kept_tree, tested_tree, made_tree}
+use Rattle.sshkey_model.proofs.Trees.{IsTree, Alike, alike, grouped, leaf_tree, open_tree, choice_tree, then_tree, box_tree, kept_tree, tested_tree, made_tree}
 use Rattle.sshkey_ciphers.proofs.Paddings.{rising_length}
 use Rattle.sshkey_ciphers.specs.Ciphertexts.{AreBlocks, blocks_format}
 use Rattle.sshkey_ciphers.specs.KdfFormats.{cipher_format, kdf_tree}

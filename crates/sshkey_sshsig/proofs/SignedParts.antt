@@ -1,7 +1,7 @@
 -- What a signature that was read signs has no part that is too long.
 use Rattle.std.proofs.Common.{◌<◌, ◌^◌, List, ℕ, length}
 use Rattle.sshkey_model.specs.Parts.{BoxesFit, flat}
-use Rattle.sshkey_terms.proofs.Trees.{spelled_alike}
+use Rattle.sshkey_model.proofs.Trees.{spelled_alike}
 use Rattle.sshkey_sshsig.specs.Signing.{digest_parts}
 use Rattle.sshkey_sshsig.specs.SshSignatures.{ssh_signature_of}
 use Rattle.sshkey_sshsig.specs.SshSignatureReaders.{SpellsSshSignature, ssh_signature_tree}

@@ -8,9 +8,9 @@ use Rattle.sshkey_model.specs.Grammar.{IsGrammar, IsSpelled, spelled}
 use Rattle.sshkey_model.specs.Reading.{Front, Version, Namespace}
 use Rattle.sshkey_model.specs.Keys.{Head, Plain, IsKey, HasKeyPlaces, key}
 use Rattle.sshkey_model.specs.SshSignatures.{SshSignature, IsSshSignature, HasSshSignaturePlaces, ssh_signature, normal_ssh_signature, signature_magic}
-use Rattle.sshkey_base.specs.Grammars.{all_end, ends}
+use Rattle.sshkey_model.proofs.Grammars.{all_end, ends}
 use Rattle.sshkey_base.specs.Formats.{string_format}
-use Rattle.sshkey_terms.proofs.Trees.{IsTree, Alike, regrouped, leaf_tree, open_tree, then_tree, box_tree, kept_tree, made_tree}
+use Rattle.sshkey_model.proofs.Trees.{IsTree, Alike, regrouped, leaf_tree, open_tree, then_tree, box_tree, kept_tree, made_tree}
 use Rattle.sshkey_sshsig.specs.SshSignatures.{statement}
 use Rattle.sshkey_sshsig.specs.SshSignatureFormats.{SignatureOpening, magic_format, version_format, opening_format, namespace_format, hash_format, ssh_signature_with, ssh_signature_format}
 

@@ -3,8 +3,7 @@ use Rattle.std.proofs.Common.{ℕ, List, refl, ◌∙◌}
 use Rattle.sshkey_base.specs.Causes.{Cause}
 use Rattle.sshkey_base.specs.Reading.{IsRefused, Reads}
 use Rattle.sshkey_base.specs.Source.{Source}
-use Rattle.sshkey_terms.specs.Behind.{behind_at, both_at}
-use Rattle.sshkey_model.specs.Reading.{Front}
+use Rattle.sshkey_model.specs.Reading.{Front, behind_at, both_at}
 use Rattle.sshkey_base.proofs.Steps.{refused_first, refused_later}
 
 module _ {A B : Type 0} (first : Front A) (second : Front B) where

@@ -2,10 +2,9 @@
 -- first value does, or stands.
 use Rattle.std.proofs.Common.{◌≡◌, ◌≢◌, ◌⊎◌, inl, inr, ◌<◌, ◌+◌, Bool, true, false, ℕ, Option, List, length, Result, Ok, ap, arith}
 use Rattle.std.proofs.lemmas.List.{length-append}
-use Rattle.sshkey_model.specs.Reading.{Fault, Length}
+use Rattle.sshkey_model.specs.Reading.{Fault, Length, never_at}
 use Rattle.sshkey_base.specs.Causes.{Cause, NoMemory, Faulty}
 use Rattle.sshkey_base.specs.Formats.{Format}
-use Rattle.sshkey_base.specs.Grammars.{never_at}
 use Rattle.sshkey_base.specs.Reading.{IsRefused, Reads}
 use Rattle.sshkey_base.specs.Source.{Later, Source, IsSound, announced_len}
 use Rattle.sshkey_base.specs.Stops.{RanOut, Stopped}

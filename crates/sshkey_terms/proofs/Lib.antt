@@ -4,11 +4,9 @@ pub mod Tested
 pub mod Chosen
 pub mod Needless
 pub mod Walking
-pub mod Fronts
 pub mod Each
 pub mod Gathering
 pub mod Behind
 mod Measured
 mod Filled
 pub mod SliceFronts
-pub mod Trees

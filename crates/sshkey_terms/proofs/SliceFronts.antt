@@ -85,30 +85,6 @@ box_string {Y} read b are = go (number_at w32 b) refl
       | inr enough ↦ rw (e, string_is b n.1 n.0 e, cut_off n.0 n.1 (behind n.0 n.1 e) enough, le-ltb (length n.1) n.0 enough) refl
     ]
 
--- ---- what stands in a string is read
-
-box_judged : {Y : Type 0} (read : Whole Y) (b s rest : List ℕ) (fault : Fault) → are_bytes b ≡ true → string_at b ≡ Ok (s, rest) → read s ≡ Err fault → box_at read b ≡ Err fault
-box_judged read b s rest fault are e f = box_string read b are ∙ rw (e, f) refl
-
-box_taken : {Y : Type 0} (read : Whole Y) (b s rest : List ℕ) (y : Y) → are_bytes b ≡ true → string_at b ≡ Ok (s, rest) → read s ≡ Ok y → box_at read b ≡ Ok (y, rest)
-box_taken read b s rest y are e f = box_string read b are ∙ rw (e, f) refl
-
-module _ {X Y D E : Type 0} (BelongsTo : X → Y → Type 0) (narrow : D → Cause) (cause : E → Cause) (read : Whole Y) (b : List ℕ) (are : are_bytes b ≡ true) where
-  abbrev CutString : Result (Bor (List ℕ) × Bor (List ℕ)) D → Type 0
-  CutString r = Splits (λ s. s.now) narrow string_at b r
-
-  -- it is not the string of a value
-  pub value_refused : (p : Bor (List ℕ) × Bor (List ℕ)) (e : E) → CutString (Ok p) → Refuses 0 (cause e) (read p.0.now) → Refuses 0 (cause e) (box_at read b)
-  value_refused p e h refused =
-      let is = answers_ok (λ (q : Bor (List ℕ) × Bor (List ℕ)). (q.0.now, q.1.now)) narrow (string_at b) p h in
-      record { met = refused.met; is = box_judged read b p.0.now p.1.now refused.met are is refused.is; same = refused.same }
-
-  -- the value, and what stands behind its string
-  pub value_taken : (p : Bor (List ℕ) × Bor (List ℕ)) (x : X) → CutString (Ok p) → ((y : Y) × BelongsTo x y × (read p.0.now ≡ Ok y)) → (y : Y) × BelongsTo x y × (box_at read b ≡ Ok (y, p.1.now))
-  value_taken p x h taken =
-      let is = answers_ok (λ (q : Bor (List ℕ) × Bor (List ℕ)). (q.0.now, q.1.now)) narrow (string_at b) p h in
-      (taken.0, taken.1, box_taken read b p.0.now p.1.now taken.0 are is taken.2)
-
 -- ---- what was cut off is judged
 
 module _ {A C X Z D F E : Type 0} (first : X → A) (narrow : D → Cause) (means : Z → C) (inner : F → Cause) (cause : E → Cause) (read : Front A) (judge : A → Result C Fault) (b : List ℕ) where

@@ -1,7 +1,7 @@
 -- How a term stops on any source.
 use Rattle.std.proofs.Common.{◌≡◌, ◌⊎◌, inl, inr, ℕ, List, IsOk, IsErrAnd, Result, Ok, Err, refl, sym, subst, ◌∙◌}
 use Rattle.std.specs.Prelude.{IsOkAnd}
-use Rattle.sshkey_model.specs.Reading.{Fault, Length, ◌>>=◌, Front}
+use Rattle.sshkey_model.specs.Reading.{Fault, Length, ◌>>=◌, Front, behind_at}
 use Rattle.sshkey_model.proofs.CombinedReaders.{ok_is}
 use Rattle.sshkey_base.specs.declared.encoding.Error as encoding
 use Rattle.sshkey_base.specs.declared.error.Error.{Error}
@@ -11,7 +11,6 @@ use Rattle.sshkey_base.specs.Reading.{Reads}
 use Rattle.sshkey_base.specs.Source.{Source}
 use Rattle.sshkey_base.specs.Stops.{OverrunsThen, AreLengths, RanOut, Stopped, StopsBy}
 use Rattle.sshkey_base.proofs.Stopping.{step_ok, checked_stopped, read_past}
-use Rattle.sshkey_terms.specs.Behind.{behind_at}
 use Rattle.sshkey_terms.specs.Terms.{IsMapped, with_first}
 
 pub some_ok : {A : Type 0} (P : A → Type 0) (r : Result A Fault) → IsOkAnd r P → IsOk r

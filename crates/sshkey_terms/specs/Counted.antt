@@ -10,12 +10,12 @@ use Rattle.sshkey_model.specs.Reading.{Fault, Length, ◌>>=◌, Front}
 use Rattle.sshkey_model.proofs.CombinedReaders.{bind_ok, fits_first, fits_second, ok_is, passed}
 use Rattle.sshkey_base.specs.Counts.{count_normal}
 use Rattle.sshkey_base.specs.Formats.{Format, number32_format}
-use Rattle.sshkey_base.specs.Grammars.{AllEnd, Grammar, MayFollow, ends, taken_before}
+use Rattle.sshkey_model.specs.Grammar.{AllEnd, Grammar, MayFollow}
+use Rattle.sshkey_model.proofs.Grammars.{ends, taken_before, none_in}
 use Rattle.sshkey_base.specs.Leaves.{count}
 use Rattle.sshkey_base.specs.Needs.{NeedsFirst}
 use Rattle.sshkey_base.specs.Stops.{AreLengths}
 use Rattle.sshkey_base.proofs.Writing.{length_both}
-use Rattle.sshkey_terms.specs.Behind.{none_in}
 use Rattle.sshkey_terms.specs.Terms.{called}
 
 -- their number and the values, as they are written

@@ -1,5 +1,3 @@
-pub mod Behind
-pub mod Tested
 pub mod Terms
 pub mod ToEnd
 pub mod Counted

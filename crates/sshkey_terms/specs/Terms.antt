@@ -2,34 +2,36 @@
 -- mpint_format` is two numbers, one behind the other.
 use Rattle.std.proofs.Common.{◌≡◌, inl, inr, ℕ, List, Result, Ok, Err, refl, sym, ◌∙◌}
 use Rattle.std.specs.Prelude.{IsOkAnd}
-use Rattle.sshkey_model.specs.Reading.{Fault, Length, ◌>>=◌, Front, whole, box_at, checked_at, literal_at}
-use Rattle.sshkey_model.specs.Grammar.{IsGrammar, Spells}
+use Rattle.sshkey_model.specs.Reading.{Fault, Length, ◌>>=◌, Front, whole, box_at, checked_at, literal_at, behind_at}
+use Rattle.sshkey_model.specs.Grammar.{IsGrammar, Spells, AllEnd, SpellsBoxed, SpellsThen, SpellsTested}
 use Rattle.sshkey_model.specs.Parts.{bytes}
 use Rattle.sshkey_model.proofs.CombinedReaders.{literal_reads}
-use Rattle.sshkey_model.proofs.Grammars.{grammar, same_grammar}
+use Rattle.sshkey_model.proofs.Grammars.{grammar, same_grammar, all_end, by_itself, box_grammar, whole_spells, then_grammar, tested_grammar}
 use Rattle.sshkey_base.specs.Formats.{Format}
-use Rattle.sshkey_base.specs.Grammars.{AllEnd, all_end, by_itself}
 use Rattle.sshkey_base.specs.Lengths.{boxed_lengths, checked_lengths, no_lengths}
 use Rattle.sshkey_base.specs.Needs.{NoNeed, NeedsThen, NeedsBoxed}
-use Rattle.sshkey_base.specs.Reading.{SpellsBoxed}
 use Rattle.sshkey_base.specs.Stops.{NoOverrun, OverrunsThen, OverrunsBoxed, AreLengths}
-use Rattle.sshkey_base.proofs.BoxGrammars.{box_grammar}
-use Rattle.sshkey_terms.specs.Behind.{behind_at, SpellsThen, then_grammar}
-use Rattle.sshkey_terms.specs.Tested.{SpellsTested, tested_grammar}
 
 abbrev pub with_first : {A B : Type 0} → A → B × List ℕ → Result ((A × B) × List ℕ) Fault
 with_first a y = Ok ((a, y.0), y.1)
 
+-- The record's reader reads a value, and then the record as that value asks for.
+pub record IsChosen {A Z : Type 0} (record_at : Front Z) (read : Front A) (next : A → Front Z) : Type 0 where
+  pub same : (b : List ℕ) → record_at b ≡ (read b >>= λ x. next x.0 x.1)
+
 -- Where a length passes in the first value, or behind it in the second, `Length` is met.
-module _ {A B : Type 0} {over : List ℕ → ℕ → Type 0} {read delimited_at : Front A} {overs : A → List ℕ → ℕ → Type 0} {next : A → Front B} (same : (b : List ℕ) (x : A × List ℕ) → delimited_at b ≡ Ok x → read b ≡ Ok x) where
-  pub then_lengths : AreLengths read over → ((a : A) → AreLengths (next a) (overs a)) → AreLengths (behind_at read next) (OverrunsThen over delimited_at overs)
-  unfolding behind_at
-  then_lengths f g b m (inl o) = rw (f b m o) refl
-  then_lengths f g b m (inr o) = go (delimited_at b) refl o
+module _ {A Z : Type 0} {record_at : Front Z} {read delimited_at : Front A} {next : A → Front Z} {over : List ℕ → ℕ → Type 0} {overs : A → List ℕ → ℕ → Type 0} (same : (b : List ℕ) (x : A × List ℕ) → delimited_at b ≡ Ok x → read b ≡ Ok x) where
+  pub chosen_lengths : IsChosen record_at read next → AreLengths read over → ((a : A) → AreLengths (next a) (overs a)) → AreLengths record_at (OverrunsThen over delimited_at overs)
+  chosen_lengths chosen f g b m (inl o) = rw (chosen.same b, f b m o) refl
+  chosen_lengths chosen f g b m (inr o) = rw (chosen.same b) (go (delimited_at b) refl o)
     where
-      go : (r : Result (A × List ℕ) Fault) → delimited_at b ≡ r → IsOkAnd r (λ x. overs x.0 x.1 m) → (read b >>= λ x. next x.0 x.1 >>= with_first x.0) ≡ Err Length
-      go (Ok x) e o = rw (same b x e, g x.0 x.1 m o) refl
+      go : (r : Result (A × List ℕ) Fault) → delimited_at b ≡ r → IsOkAnd r (λ x. overs x.0 x.1 m) → (read b >>= λ x. next x.0 x.1) ≡ Err Length
+      go (Ok x) e o = rw (same b x e) (g x.0 x.1 m o)
       go (Err fault) e o = absurd o
+
+pub then_lengths : {A B : Type 0} {over : List ℕ → ℕ → Type 0} {read delimited_at : Front A} {overs : A → List ℕ → ℕ → Type 0} {next : A → Front B} → ((b : List ℕ) (x : A × List ℕ) → delimited_at b ≡ Ok x → read b ≡ Ok x) → AreLengths read over → ((a : A) → AreLengths (next a) (overs a)) → AreLengths (behind_at read next) (OverrunsThen over delimited_at overs)
+unfolding behind_at
+then_lengths {next = next} same f g = chosen_lengths {next = λ a b. next a b >>= with_first a} same (record { same = λ b. refl }) f (λ a b m o. rw (g a b m o) refl)
 
 -- A value, and behind it what that value calls for. A length behind the first is met only where the
 -- first ends by itself; memory is asked for behind whatever was read.
@@ -70,7 +72,7 @@ boxed inner = record {
   read = box_at (whole inner.read);
   needs = NeedsBoxed inner.needs;
   overruns = OverrunsBoxed inner.overruns;
-  grammar = by_itself (box_grammar inner.grammar);
+  grammar = by_itself (box_grammar (whole_spells inner.grammar));
   lengths = boxed_lengths inner.lengths;
 }
 
@@ -123,19 +125,6 @@ made_of {Y} {Z} {record_at} {form} {Spells} parts mapped grammar = record {
 }
 
 -- ---- a record that its first value calls for
-
--- The record's reader reads a value, and then the record as that value asks for.
-pub record IsChosen {A Z : Type 0} (record_at : Front Z) (read : Front A) (next : A → Front Z) : Type 0 where
-  pub same : (b : List ℕ) → record_at b ≡ (read b >>= λ x. next x.0 x.1)
-
-module _ {A Z : Type 0} {record_at : Front Z} {read delimited_at : Front A} {next : A → Front Z} {over : List ℕ → ℕ → Type 0} {overs : A → List ℕ → ℕ → Type 0} (same : (b : List ℕ) (x : A × List ℕ) → delimited_at b ≡ Ok x → read b ≡ Ok x) where
-  pub chosen_lengths : IsChosen record_at read next → AreLengths read over → ((a : A) → AreLengths (next a) (overs a)) → AreLengths record_at (OverrunsThen over delimited_at overs)
-  chosen_lengths chosen f g b m (inl o) = rw (chosen.same b, f b m o) refl
-  chosen_lengths chosen f g b m (inr o) = rw (chosen.same b) (go (delimited_at b) refl o)
-    where
-      go : (r : Result (A × List ℕ) Fault) → delimited_at b ≡ r → IsOkAnd r (λ x. overs x.0 x.1 m) → (read b >>= λ x. next x.0 x.1) ≡ Err Length
-      go (Ok x) e o = rw (same b x e) (g x.0 x.1 m o)
-      go (Err fault) e o = absurd o
 
 -- The first value is no part of the record, or stands in it.
 abbrev pub chosen_of : {A Z : Type 0} {record_at : Front Z} {Spells : Z → List ℕ → Type 0} (first : Format A) (second : A → Format Z) → IsChosen record_at first.read (λ a. (second a).read) → IsGrammar Spells record_at → Format Z

@@ -4,7 +4,8 @@ use Rattle.std.proofs.Common.{◌≡◌, ◌≤◌, ◌<◌, ◌+◌, inl, inr, 
 use Rattle.std.specs.Prelude.{IsOkAnd}
 use Rattle.std.proofs.lemmas.List.{length-append}
 use Rattle.sshkey_base.specs.Formats.{Format}
-use Rattle.sshkey_base.specs.Grammars.{Grammar, taken_before, to_the_end}
+use Rattle.sshkey_model.specs.Grammar.{Grammar}
+use Rattle.sshkey_model.proofs.Grammars.{taken_before, to_the_end}
 use Rattle.sshkey_base.specs.Lengths.{to_end_lengths}
 use Rattle.sshkey_base.specs.Needs.{NeedsFirst}
 use Rattle.sshkey_base.specs.Reading.{to_end}

@@ -1,7 +1,7 @@
 //! How values are read up to the end of a reader.
 
 ghost use Rattle.std.specs.Prelude.{List, map};
-ghost use Rattle.sshkey_base.specs.Grammars.{never_at};
+ghost use Rattle.sshkey_model.specs.Reading.{never_at};
 ghost use Rattle.sshkey_base.specs.Needs.{Asks};
 ghost use Rattle.sshkey_base.specs.Reading.{Gives};
 ghost use Rattle.sshkey_base.specs.Source.{Later};

@@ -18,7 +18,7 @@ use Rattle.sshkey_model.proofs.PointReaders.{point_reads}
 use Rattle.sshkey_model.proofs.SignatureReaders.{signature_reads}
 use Rattle.sshkey_model.proofs.TextReaders.{text_reads, texts_reads}
 use Rattle.sshkey_base.specs.Labels.{label_at}
-use Rattle.sshkey_terms.proofs.Trees.{determined, read_back}
+use Rattle.sshkey_model.proofs.Trees.{determined, read_back}
 use Rattle.sshkey_ciphers.specs.Ciphers.{cipher_checks, kdf_algorithm_checks}
 use Rattle.sshkey_ciphers.specs.KdfFormats.{kdf_grammar, kdf_normal}
 use Rattle.sshkey_private.specs.PrivateKeyFormats.{file_grammar}

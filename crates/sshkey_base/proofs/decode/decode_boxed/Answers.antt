@@ -1,6 +1,6 @@
 use Rattle.std.proofs.Common.{rules}
 use Rattle.sshkey_base.proofs.Accepted.{accepts_front}
-use Rattle.sshkey_base.proofs.BoxGrammars.{box_grammar}
+use Rattle.sshkey_model.proofs.Grammars.{box_grammar, whole_spells}
 use Rattle.sshkey_base.proofs.Boxes.{prefixed_asks, prefixed_gives}
 use Rattle.sshkey_base.proofs.FilledBoxes.{boxed_stops}
 use Rattle.sshkey_base.proofs.decode.decode_boxed.Goals as goal
@@ -15,4 +15,4 @@ pub returns-clause-asks : goal.returns-clause-asks
 returns-clause-asks g c = prefixed_asks _ _ _ _ _ g.T.Decode.means g.T.Decode.format.read g.met.T.Error.DecodeError.keeps_causes g.T.Decode.format.needs (search rules) _ _ _ c.read_prefixed.ensures.calls
 
 pub returns-clause-accepts : goal.returns-clause-accepts
-returns-clause-accepts g c = accepts_front (box_grammar g.T.Decode.format.grammar) g.T.Decode.means _ _ _ _ (returns-clause-gives g c)
+returns-clause-accepts g c = accepts_front (box_grammar (whole_spells g.T.Decode.format.grammar)) g.T.Decode.means _ _ _ _ (returns-clause-gives g c)

@@ -1,4 +1,4 @@
-use Rattle.sshkey_base.specs.Grammars.{taken_before}
+use Rattle.sshkey_model.proofs.Grammars.{taken_before}
 use Rattle.sshkey_base.proofs.laws.read_back.Goals as goal
 
 pub returns : goal.returns

@@ -7,7 +7,7 @@ use Rattle.sshkey_model.specs.Parts.{Fits, bytes, number, box, ◌&◌, flat}
 use Rattle.sshkey_model.specs.SshSignatures.{SshSignature, IsSshSignature, HasSshSignaturePlaces, ssh_signature, signature_magic}
 use Rattle.sshkey_model.proofs.CombinedReaders.{fits_first, fits_second, prefix, box_reads, whole_reads}
 use Rattle.sshkey_model.proofs.KeyReaders.{key_reads}
-use Rattle.sshkey_terms.proofs.Trees.{prefix_free}
+use Rattle.sshkey_model.proofs.Trees.{prefix_free}
 use Rattle.sshkey_sshsig.specs.SshSignatures.{statement}
 use Rattle.sshkey_sshsig.specs.SshSignatureReaders.{ssh_signature_grammar, ssh_signature_tree}
 use Rattle.sshkey_sshsig.proofs.laws.prefix_ssh_signature.Goals as goal

@@ -5,14 +5,10 @@ use Rattle.std.specs.Prelude.{◌↔◌}
 use Rattle.std.specs.Int.{w32, to_be_bytes}
 use Rattle.sshkey_model.specs.Parts.{Parts, box, ◌&◌, flat, Fits, InRange, BoxesFit, IsPrefixFree}
 use Rattle.sshkey_model.specs.Reading.{Fault, Front}
-use Rattle.sshkey_model.specs.Grammar.{IsGrammar, Spells, SpellsWith, IsSpelled, spelled}
+use Rattle.sshkey_model.specs.Grammar.{IsGrammar, Spells, SpellsWith, IsSpelled, spelled, MayFollow, SpellsBoth, SpellsThen, SpellsTested, SpellsBoxed}
 use Rattle.sshkey_model.specs.Laws.{DetermineValues, ReadBack}
-use Rattle.sshkey_model.proofs.CombinedReaders.{ok_is, met, fits_both, fits_first, fits_second, fits_box, fits_inside, fits_length}
+use Rattle.sshkey_model.proofs.LawfulReaders.{ReadsFront, ok_is, met, fits_both, fits_first, fits_second, fits_box, fits_inside, fits_length}
 use Rattle.sshkey_model.proofs.Grammars.{one_front}
-use Rattle.sshkey_base.specs.Grammars.{MayFollow}
-use Rattle.sshkey_base.specs.Reading.{SpellsBoxed}
-use Rattle.sshkey_terms.specs.Behind.{SpellsBoth, SpellsThen}
-use Rattle.sshkey_terms.specs.Tested.{SpellsTested}
 
 pub record IsTree {A S : Type 0} (Spelling : A → List ℕ → Type 0) (Is : A × S → Type 0) (tree : A × S → Parts) : Type 0 where
   -- a spelling is the tree of some choices
@@ -145,6 +141,16 @@ module _ {V : Type 0} {Spelling : V → List ℕ → Type 0} {Is : V → Type 0}
     λ s. let x = t.takes v b s in record { is = x.1; fits = x.2; shape = x.3 },
     λ s. rw s.shape (t.again (v, tt) s.is s.fits),
   )
+
+-- The term's reader reads what the tree spells.
+pub tree_reads : {V S : Type 0} {Spelling : V → List ℕ → Type 0} {Is : V → Type 0} {spell : V → Parts} {read : Front V} → S → IsTree Spelling (λ (x : V × S). Is x.0) (λ x. spell x.0) → IsGrammar Spelling read → ReadsFront Is spell read
+tree_reads {V} {S} {Spelling} {Is} {spell} {read} none t g = record {
+  takes = λ b x rest e.
+      let y = g.takes b x rest e in
+      let z = t.takes x y.0 y.1 in
+      (z.1, z.2, y.2 ∙ ap (λ (l : List ℕ). l ++ rest) z.3);
+  again = λ x rest is fits. g.again x (flat (spell x)) rest (t.again (x, none) is fits);
+}
 
 -- No spelling begins another.
 pub plain_prefix : {V : Type 0} {Spelling : V → List ℕ → Type 0} (Is : V → Type 0) (spell : V → Parts) {read : Front V} → IsTree Spelling (λ (x : V × Unit {0}). Is x.0) (λ x. spell x.0) → IsGrammar Spelling read → IsPrefixFree Is spell
