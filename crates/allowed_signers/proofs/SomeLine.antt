@@ -1,14 +1,8 @@
 -- Whether one of some lines has a property, one after the other.
-use Rattle.std.proofs.Common.{zero, suc, List, [], ◌∷◌, subst, sym, refl, arith}
+use Rattle.std.proofs.Common.{zero, suc, List, ◌∷◌, subst, sym, refl, arith}
 use Rattle.std.specs.List.{Any}
 
 module _ {X : Type 0} (P : X → Type 0) where
-  pub none_there : Any P [] → ⊥
-  none_there any = absurd (omega (arith, any.2))
-
-  pub here : (x : X) (rest : List X) → P x → Any P (x ∷ rest)
-  here x rest p = (0, x, omega arith, refl, p)
-
   pub later : (x : X) (rest : List X) → Any P rest → Any P (x ∷ rest)
   later x rest any = (suc any.0, any.1, omega (arith, any.2), any.3, any.4)
 

@@ -1,16 +1,15 @@
 -- What the validation of a host's certificate decides.
-use Rattle.std.proofs.Common.{◌≡◌, ◌≢◌, ap, ℕ, List, [], ◌∷◌, Bool, Result, Ok, Err, IfErr, Some, inl, inr, option_map, refl, subst, sym}
+use Rattle.std.proofs.Common.{◌≡◌, ◌≢◌, ap, ℕ, List, [], ◌∷◌, Bool, Result, Ok, Err, IfErr, Some, option_map, refl, subst, sym}
 use Rattle.openssh_limits.specs.Read.{AreReadPrincipals}
 use Rattle.ssh_key.specs.base.Acceptance.{AcceptsExactly}
 use Rattle.ssh_key.specs.cert.Validity.{JudgesFor, fingerprint_of, fingerprints_of, refusal_error}
-use Rattle.ssh_key.specs.keys.Fingerprints.{GivesFingerprint, IsFingerprint}
+use Rattle.ssh_key.specs.keys.Fingerprints.{IsFingerprint}
 use Rattle.ssh_key.specs.model.Certificates.{Certificate, Host}
 use Rattle.ssh_key.specs.model.Fingerprints as model
 use Rattle.ssh_key.specs.model.Fingerprints.{fingerprint}
-use Rattle.ssh_key.specs.model.Keys.{Key, normal_key}
+use Rattle.ssh_key.specs.model.Keys.{Key}
 use Rattle.ssh_key.specs.model.Lines.{IsWithout}
 use Rattle.ssh_key.specs.model.Names.{Sha256}
-use Rattle.ssh_key.specs.model.Parts.{BoxesFit}
 use Rattle.ssh_key.specs.model.Principals.{IsValidFor}
 use Rattle.ssh_key.specs.model.Refusals.{first_refusal_for}
 use Rattle.ssh_key.specs.model.Verification.{Question}
@@ -22,11 +21,6 @@ use Rattle.host_keys.specs.Hosts.{IsBadFor, IsGoodFor, NotValid, signers}
 -- the one fingerprint is the signer's
 pub own : (k : Key) (f : Fingerprint) → IsFingerprint Sha256 k f → fingerprint_of f ≡ fingerprint Sha256 k
 own k f is = let by = is.by in let digest = is.digest in rw (by, digest) refl
-
--- such a key has a fingerprint, so that only memory is refused
-pub only_memory : (k : Key) (e : Error) → BoxesFit (normal_key k) → GivesFingerprint Sha256 k (Err e) → e ≡ Memory
-only_memory k e fits (inl long) = absurd (long.0 fits)
-only_memory k e fits (inr memory) = memory.1
 
 module _ (accepts : Question → Bool) (t : ℕ) (host : List ℕ) (c : Certificate) (f : Fingerprint) (is : IsFingerprint Sha256 c.signed.signature_key f) (hosts : c.signed.certificate_type ≡ Host) (none : c.signed.critical_options ≡ []) (key_id : IsWithout 0 c.signed.key_id) (principals : AreReadPrincipals c.signed.valid_principals) where
   same : fingerprints_of (f ∷ []) ≡ signers c

@@ -1,13 +1,10 @@
 -- What the lines of several texts say, one text more at a time.
 use denote.Ref.{Bor}
-use Rattle.std.proofs.Common.{◌≡◌, ℕ, ◌+◌, ◌<◌, ◌≤◌, List, [], ◌++◌, get_or, length, take, drop, inl, inr, sym, ap, subst, ◌∙◌, arith}
+use Rattle.std.proofs.Common.{◌≡◌, ℕ, ◌+◌, ◌<◌, ◌≤◌, List, [], ◌++◌, get_or, length, take, drop, inl, inr, sym, ap, subst, ◌∙◌}
 use Rattle.std.proofs.lemmas.Grind.{flat_map-append}
 use Rattle.std.proofs.lemmas.List.{flat_map_more, take-append-drop, take_all, take_more}
 use Rattle.std.specs.List.{Any}
 use Rattle.ssh_key.specs.entries.Fields.{filled_lines}
-use Rattle.ssh_key.specs.known_hosts.Verdicts.{IsVerdict}
-use Rattle.ssh_key.specs.model.Keys.{Key}
-use Rattle.ssh_key.specs.types.known_hosts.Verdict.TheVariants.{Unknown}
 use Rattle.ssh_key.proofs.Verdicts.{first, later, either}
 use Rattle.host_keys.specs.Hosts.{lines_of}
 
@@ -34,8 +31,3 @@ module _ (texts : List (Bor (List ℕ))) (i : ℕ) where
         | inl a ↦ before a
         | inr b ↦ here b
       ]
-
--- ---- verdicts
-
-pub no_lines : (hmac : List ℕ → List ℕ → List ℕ) (name : List ℕ) (key : Key) → IsVerdict hmac name key [] Unknown
-no_lines hmac name key = (λ s. omega (arith, s.2), λ s. omega (arith, s.2), λ s. omega (arith, s.2))

@@ -3,7 +3,7 @@ use denote.Ref.{Bor}
 use Rattle.std.proofs.Common.{◌≡◌, ◌≢◌, ◌↔◌, ◌||◌, ℕ, zero, suc, List, [], ◌∷◌, length, Bool, true, false, arith, map, bytes_eq, refl, subst, sym, ◌∙◌, IsTrue}
 use Rattle.std.specs.Prelude.{◌==◌, All, Contains}
 use Rattle.std.specs.List.{list_any}
-use Rattle.std.proofs.lemmas.List.Elements.{All-nil, All-cons, All-head, All-tail}
+use Rattle.std.proofs.lemmas.List.Elements.{All-cons, All-head, All-tail}
 use Rattle.std.proofs.lemmas.Map.Views.{Contains-from_any}
 use Rattle.std.proofs.lemmas.Slice.Eq.{bytes_eq-Decides}
 use Rattle.ssh_key.specs.model.Options.{CertificateOption}
@@ -23,9 +23,6 @@ passed P all left rest o decides is holds = (
 
 pub stopped : (P : CertificateOption → Type 0) (all left rest : List CertificateOption) (o : CertificateOption) → Decides P all left → left ≡ o ∷ rest → (P o → ⊥) → All P all → ⊥
 stopped P all left rest o decides is fails each = fails (All-head P o rest (subst (λ (os : List CertificateOption). All P os) is (decides.0 each)))
-
-pub ended : (P : CertificateOption → Type 0) (all left : List CertificateOption) → Decides P all left → left ≡ [] → All P all
-ended P all left decides is = decides.1 (subst (λ (os : List CertificateOption). All P os) (sym is) (All-nil P))
 
 -- ---- one option
 

@@ -27,9 +27,6 @@ odd_sum a (suc b) even = let e : a + suc b ≡ suc (a + b) = omega arith in ap i
 abbrev at : List ℕ → ℕ → Bool
 at text k = is_divider text (k, slice_index text k)
 
-pub divides : (text : List ℕ) (i : ℕ) → slice_index text i ≡ 0x2c → is_quoted text i ≡ false → is_divider text (i, slice_index text i) ≡ true
-divides text i here outside = λ j. is_comma (here j) && not (outside j)
-
 pub divides_not : (text : List ℕ) (i : ℕ) → (slice_index text i ≡ 0x2c → is_quoted text i ≡ false → ⊥) → is_divider text (i, slice_index text i) ≡ false
 divides_not text i none = by_case (is_comma (slice_index text i)) refl (is_quoted text i) refl
   where

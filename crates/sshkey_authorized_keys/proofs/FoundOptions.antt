@@ -1,24 +1,6 @@
 -- What is found among options, one by one.
-use Rattle.std.proofs.Common.{◌≡◌, ℕ, List, [], ◌∷◌, ◌++◌, Some, sym, ap, subst, ◌∙◌, append_assoc, append-nil}
-use Rattle.std.specs.List.{All}
-use Rattle.std.proofs.lemmas.List.Elements.{All-push}
+use Rattle.std.proofs.Common.{◌≡◌, ℕ, List, [], ◌∷◌, ◌++◌, sym, subst, append_assoc, append-nil}
 use Rattle.sshkey_entries.specs.OptionItems.{KeyOption, AreKeyOptions, IsOptionAt, without_commas}
-use Rattle.sshkey_authorized_keys.specs.OpenSshItems.{key_option_of}
-use Rattle.sshkey_authorized_keys.specs.OpenSshItems.{HasOtherName, FindsAlso}
-use Rattle.sshkey_authorized_keys.specs.declared.openssh_option.OpenSshOption.{OpenSshOption}
-
-module _ (name : List ℕ) where
-  all_more : (options : List KeyOption) (o : KeyOption) → All (HasOtherName name) options → HasOtherName name o → All (HasOtherName name) (options ++ (o ∷ []))
-  all_more options o h other = All-push (HasOtherName name) options o h other
-
-  pub found_before : (p o : OpenSshOption) → FindsAlso name (Some p) o (Some p)
-  found_before p o options is = record {
-    before = is.before;
-    after = is.after ++ (key_option_of o ∷ []);
-    is = ap (λ (l : List KeyOption). l ++ (key_option_of o ∷ [])) is.is ∙ append_assoc is.before (key_option_of p ∷ is.after) (key_option_of o ∷ []);
-    named = is.named;
-    others = is.others;
-  }
 
 -- ---- what was read, and what is left
 

@@ -1,7 +1,7 @@
 -- How an option is cut off a text.
 use Rattle.std.proofs.Common.{◌≡◌, ◌⊎◌, ◌&&◌, ◌==◌, ℕ, zero, suc, ◌<◌, ◌≤◌, ◌+◌, List, [], ◌∷◌, ◌++◌, ◌-◌, length, take, drop, slice_range, slice_index, Bool, true, false, not, cond, Option, None, Some, refl, sym, ap, subst, ◌∙◌, arith, tests, inl, inr, eqb-true, take-append-drop, append_assoc}
 use Rattle.std.proofs.lemmas.Bool.{cases_lt, not-false, not-true, and_parts}
-use Rattle.std.proofs.lemmas.List.{length-take-le, length-append, at_drop_more, nil_from_length}
+use Rattle.std.proofs.lemmas.List.{length-take-le, length-append, at_drop_more}
 use Rattle.std.proofs.lemmas.Str.{IsCharBoundary-after_ascii}
 use Rattle.std.specs.Str.{IsUtf8, IsCharBoundary}
 use Rattle.sshkey_entries.specs.Items.{is_comma, is_quote}
@@ -169,6 +169,3 @@ not_longer behind (Some v) r a = omega (arith, ap length a.1, length-append a.0 
 pub shorter : (text commas rest : List ℕ) (o : KeyOption) → commas ≡ without_commas text → IsOptionAt commas o rest → length rest < length text
 shorter text commas rest o same is =
     omega (arith, is.some, ap length is.is, length-append o.name is.behind, not_longer is.behind o.value rest is.value, ap length same, at_most text)
-
-pub no_length : (text : List ℕ) (b : Bool) → b ≡ (length text == 0) → b ≡ true → text ≡ []
-no_length text b e t = nil_from_length text (eqb-true _ 0 (sym e ∙ t))

@@ -32,12 +32,6 @@ decodes w new n are ok is = decode_of_strict standard w new (refl, refl) (bytes_
 abbrev done : List ℕ → Result (List ℕ) DecodeError
 done b = Ok b
 
-pub never_decodes : (w : List ℕ) (e : DecodeError) → decode_of standard w ≡ Err e → (b : List ℕ) → IsBytes b → w ≡ encode_of standard b → ⊥
-never_decodes w e err b are is =
-    let ok : decode_of standard w ≡ done b = ap (decode_of standard) is ∙ decode_of-encode_of standard b refl are in
-    let both : done b ≡ Err e = sym ok ∙ err in
-    cc
-
 pub decodes_short : (w new : List ℕ) (n : ℕ) → decode_of standard w ≡ Ok (take n new) → n ≤ length new → (n ≡ length new → ⊥) → (b : List ℕ) → IsBytes b → length b ≡ length new → w ≡ encode_of standard b → ⊥
 decodes_short w new n ok le other b are len is =
     let again : decode_of standard w ≡ done b = ap (decode_of standard) is ∙ decode_of-encode_of standard b refl are in

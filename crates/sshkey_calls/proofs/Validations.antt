@@ -1,9 +1,8 @@
 -- Whether a certificate is valid, given what the caller's verification said.
 use Rattle.std.proofs.Common.{◌≡◌, ◌≢◌, ◌↔◌, ℕ, List, [], ◌∷◌, Bool, true, false, ◌||◌, IsTrue, MatchOption, Option, Some, None, option_map, refl, sym, ap, ◌∙◌, arith, bytes_eq}
 use Rattle.std.specs.List.{list_any}
-use Rattle.sshkey_model.specs.Keys.{Dsa, Ecdsa, Ed25519, Head, Key, Plain, Rsa, SkEcdsa, SkEd25519, key}
+use Rattle.sshkey_model.specs.Keys.{Dsa, Ecdsa, Ed25519, Key, Plain, Rsa, SkEcdsa, SkEd25519}
 use Rattle.sshkey_model.specs.Names.{Algorithm, Sha256}
-use Rattle.sshkey_model.specs.Parts.{flat}
 use Rattle.sshkey_model.specs.Points.{curve_eq}
 use Rattle.sshkey_model.specs.Signatures.{Signature}
 use Rattle.sshkey_model.specs.Certificates.{Certificate}
@@ -25,8 +24,6 @@ use Rattle.sshkey_cert_ref.proofs.Certificates.{spelled_by}
 use Rattle.sshkey_fingerprints.specs.Fingerprints.{digest_of}
 use Rattle.sshkey_fingerprints.specs.declared.fingerprint.Fingerprint as code
 use Rattle.sshkey_keys.specs.Fingerprints.{IsFingerprint}
-use Rattle.sshkey_keys.specs.Keys.{SpellsKey}
-use Rattle.sshkey_keys_ref.specs.NormalBytes.{IsRenamed}
 use Rattle.sshkey_calls.specs.Numbers.{refusal_number}
 use Rattle.sshkey_calls.specs.Validations.{HasRenamedAuthority, IsGoodCertificate, IsGoodCertificateFor, SaysWhether, TellsFirst, TellsFirstFor, TellsRefusal, Verified, authorities_of, first_refusal_of, is_yes_number}
 use Rattle.sshkey_calls.specs.declared.digest.Sha256Digest.{Sha256Digest}
@@ -148,10 +145,6 @@ module _ (b : Bool) (given : List Sha256Digest) (t : ℕ) (c : Certificate) (f :
   first_signed signed is_trusted same = rw (signed, same, trusted_is) refl
 
 -- ---- memory
-
--- The name of a key that is not in its normal form is another.
-pub renamed : (k : Key) (h : Head) (bytes : List ℕ) → bytes ≡ flat (key k h) → SpellsKey k bytes → IsRenamed bytes → h ≢ Plain
-renamed k h bytes shape spelled is plain = (is k spelled).1 (shape ∙ ap (λ (x : Head). flat (key k x)) plain)
 
 pub renamed_in : (r : CertificateRef) (bytes : List ℕ) → certificate_bytes r ≡ bytes → (choices_of r).signature_key ≢ Plain → HasRenamedAuthority bytes
 renamed_in r bytes same other =

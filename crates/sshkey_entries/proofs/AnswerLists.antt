@@ -1,8 +1,7 @@
 -- What calls of an iterator over entries gave, in order.
-use Rattle.std.proofs.Common.{◌≡◌, ◌⊎◌, ℕ, List, [], ◌∷◌, ◌++◌, None, inl, sym, ap, subst, ◌∙◌, append_assoc}
+use Rattle.std.proofs.Common.{◌≡◌, ◌⊎◌, ℕ, List, [], ◌∷◌, ◌++◌, inl, sym, ap, subst, ◌∙◌, append_assoc}
 use Rattle.std.specs.List.{AllZip}
-use Rattle.std.specs.Iterator.{Yields}
-use Rattle.sshkey_entries.specs.Answers.{AreEntries, NeedsFirstLine, YieldsAnswers}
+use Rattle.sshkey_entries.specs.Answers.{AreEntries, NeedsFirstLine}
 
 module _ {X : Type 0} (R : List ℕ → X → Type 0) where
   zip_push : (all : List (List ℕ)) (xs : List X) (entry : List ℕ) (x : X) → AllZip R all xs → R entry x → AllZip R (all ++ (entry ∷ [])) (xs ++ (x ∷ []))
@@ -19,13 +18,6 @@ module _ {X : Type 0} (R : List ℕ → X → Type 0) where
     e ∙ ap (λ (l : List (List ℕ)). before ++ l) first ∙ sym (append_assoc before (entry ∷ []) rest),
     zip_push before xs entry x h r,
   )
-
-  -- calls up to `None` answered each entry
-  pub all_answered : (left end after : List (List ℕ)) (xs : List X) → Yields (YieldsAnswers R) left xs end → YieldsAnswers R end None after → AllZip R left xs
-  all_answered left end after [] same none = subst (λ (l : List (List ℕ)). AllZip R l []) (sym (same ∙ none.0)) tt
-  all_answered left end after (x ∷ xs) steps none =
-      let step = steps.1 in
-      subst (λ (l : List (List ℕ)). AllZip R l (x ∷ xs)) (sym step.1) (step.2, all_answered steps.0 end after xs steps.2 none)
 
 -- Lines were read, so that the first has a value; or none was, and the next has a value or needs
 -- memory.

@@ -18,9 +18,6 @@ use Rattle.sshkey_entry_calls.specs.Lines.{CutsLine, FindsLine, IsLineEnd, is_li
 use Rattle.sshkey_calls.specs.declared.part.Part.{Part}
 use Rattle.sshkey_calls.proofs.Strings.{whole_slice}
 
-pub nothing_behind : (b : List ℕ) (place : ℕ) → length b ≤ place → [] ≡ drop place b
-nothing_behind b place h = sym (drop_of_length-le b h)
-
 -- ---- blanks
 
 pub skipped : (text : List ℕ) (n : ℕ) → Some n ≡ position (λ c. not (is_blank c)) text → take (length text - n) (drop n text) ≡ without_blanks text
@@ -130,9 +127,6 @@ step text line behind filled b first is e =
 
 pub passed : (text line behind filled : List ℕ) → CutsLine text line behind → filled ≡ without_blanks line → is_filled filled ≡ false → filled_lines text ≡ filled_lines behind
 passed text line behind filled cut is e = step text line behind filled false cut.first is e
-
-pub fewer : (text line behind : List ℕ) → CutsLine text line behind → length (lines behind) < length (lines text)
-fewer text line behind cut = omega (arith, ap length cut.first)
 
 -- the end of a line is no line of its own
 unfilled : (front behind : List ℕ) → All (λ c. is_line_end c ≡ false) front → strip_carriage_return front ≡ [] → filled_lines (front ++ (10 ∷ behind)) ≡ filled_lines behind

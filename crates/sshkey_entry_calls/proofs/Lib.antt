@@ -2,5 +2,4 @@ pub mod CutLines
 pub mod Found
 pub mod Counted
 pub mod Told
-pub mod SomeKey
 mod SignerVerdicts

@@ -78,11 +78,6 @@ under_read a = record { same = λ b. refl }
 
 -- ---- writing
 
-pub plain_parts : (a : Algorithm) (b : List ℕ) → has_trailer a ≡ false → signature_blob a b ≡ string b
-plain_parts Algorithm.SkEcdsa b e = absurd cc
-plain_parts Algorithm.SkEd25519 b e = absurd cc
-plain_parts _ b e = refl
-
 pub trailed_parts : (a : Algorithm) (b : List ℕ) → has_trailer a ≡ true → signature_blob a b ≡ string (without_trailer b) & bytes (trailer b)
 trailed_parts Algorithm.SkEcdsa b e = refl
 trailed_parts Algorithm.SkEd25519 b e = refl

@@ -47,15 +47,6 @@ module _ (entry : List ℕ) (m : Option Marker) (unmarked : List ℕ) (marked : 
 
 -- ---- faults
 
--- a line with a marker of no kind
-pub marker_fault : (entry : List ℕ) → ((m : Option Marker) (rest : List ℕ) → IsMarked m entry rest → ⊥) → HasFault entry FormatEncoding
-marker_fault entry none = record {
-  no_marker = λ _. refl;
-  no_space = λ m rest is without. refl;
-  no_hosts = λ m hosts rest is without bad. absurd (none m (hosts ++ (space ∷ rest)) is);
-  no_key = λ m hosts rest h is without are. absurd (none m (hosts ++ (space ∷ rest)) is);
-}
-
 module _ (entry : List ℕ) (m : Option Marker) (unmarked : List ℕ) (marked : IsMarked m entry unmarked) where
   same_rest : (n : Option Marker) (rest : List ℕ) → IsMarked n entry rest → unmarked ≡ rest
   same_rest n rest is = (one_marker entry m n unmarked rest marked is).1
