@@ -1,7 +1,7 @@
 -- How the reading of an option stops on any source.
-use Rattle.std.proofs.Common.{◌≡◌, ◌⊎◌, inl, inr, ℕ, Bool, true, false, cond, Option, List, Result, Ok, Err, refl}
+use Rattle.std.proofs.Common.{◌≡◌, ◌⊎◌, inl, inr, ℕ, false, cond, Option, List, Result, Ok, Err, refl}
 use Rattle.sshkey_model.specs.Options.{CertificateOption}
-use Rattle.sshkey_model.specs.Reading.{Fault, Length, FormatEncoding, ◌>>=◌, Front, both_at, behind_at}
+use Rattle.sshkey_model.specs.Reading.{Fault, Length, FormatEncoding, Front, both_at, behind_at}
 use Rattle.sshkey_model.specs.Texts.{text_at}
 use Rattle.sshkey_model.proofs.CombinedReaders.{bind_assoc}
 use Rattle.sshkey_base.specs.Causes.{Cause, Faulty}
@@ -14,7 +14,7 @@ use Rattle.sshkey_base.proofs.Stopping.{not_taken, read_past}
 use Rattle.sshkey_terms.specs.Terms.{IsMapped}
 use Rattle.sshkey_terms.proofs.Stopping.{stopped_first, stopped_later, mapped_stopped}
 use Rattle.sshkey_cert_values.specs.OptionReaders.{option_box_at, may_follow, option_behind, NeedsOption, OverrunsValue, OverrunsOption}
-use Rattle.sshkey_cert_values.specs.OptionLists.{checked, value_lengths}
+use Rattle.sshkey_cert_values.specs.OptionLists.{tested_then, value_lengths}
 
 -- a value that is read to the end of its string
 pub stops_to_end : {X Y E : Type 0} (cause : E → Cause) (read : Front Y) (needs overruns : List ℕ → ℕ → Type 0) (s : Source) (r : Result X E) → StopsBy cause read needs overruns s r → StopsToEnd cause overruns s r
@@ -28,17 +28,13 @@ value_box_lengths : AreLengths option_box_at OverrunsValue
 unfolding option_box_at
 value_box_lengths = boxed_lengths value_lengths
 
-with_rest : (t : Bool) (o : CertificateOption) (rest : List ℕ) → (cond t (Ok o) (Err FormatEncoding) >>= λ y. Ok (y, rest)) ≡ checked t o rest
-with_rest true o rest = refl
-with_rest false o rest = refl
-
 module _ (before : Option (List ℕ)) where
   abbrev in_turn : List ℕ × List ℕ → Result CertificateOption Fault
   in_turn x = cond (may_follow before x.0) (Ok (record { name = x.0; value = x.1 })) (Err FormatEncoding)
 
   option_parts_read : IsMapped (option_behind before) in_turn (both_at text_at option_box_at)
   unfolding option_behind behind_at
-  option_parts_read = record { same = λ b. simp (bind_assoc, with_rest) }
+  option_parts_read = record { same = λ b. simp (bind_assoc, tested_then) }
 
   -- the name is refused
   pub name_stopped : (c : Cause) (s : Source) → Stopped c text_at NeedsString OverrunsString s → Stopped c (option_behind before) NeedsOption OverrunsOption s

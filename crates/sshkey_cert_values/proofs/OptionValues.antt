@@ -1,11 +1,11 @@
 -- What an option leaves of the bytes, and the value in its string.
-use Rattle.std.proofs.Common.{◌≡◌, ◌≢◌, ℕ, ◌<◌, ◌≤◌, Bool, true, false, Option, List, [], ◌∷◌, length, Result, Ok, Err, refl, sym, ap, arith}
+use Rattle.std.proofs.Common.{◌≡◌, ◌≢◌, ℕ, ◌<◌, ◌≤◌, true, Option, List, [], ◌∷◌, length, Result, Ok, Err, refl, subst, arith}
 use Rattle.std.proofs.lemmas.List.{nil_from_length}
 use Rattle.sshkey_model.specs.Parts.{bytes}
-use Rattle.sshkey_model.specs.Reading.{◌>>=◌, whole}
+use Rattle.sshkey_model.specs.Reading.{FormatEncoding, whole}
 use Rattle.sshkey_model.specs.Texts.{text_at}
 use Rattle.sshkey_model.specs.Options.{CertificateOption}
-use Rattle.sshkey_model.proofs.CombinedReaders.{bind_ok, ok_is}
+use Rattle.sshkey_model.proofs.CombinedReaders.{bind_ok, met, ok_is}
 use Rattle.sshkey_model.proofs.TextReaders.{text_reads, box_shows}
 use Rattle.sshkey_base.specs.Causes.{Cause}
 use Rattle.sshkey_base.specs.Source.{Source, announced_len}
@@ -13,37 +13,18 @@ use Rattle.sshkey_base.specs.Reading.{Reads, Gives}
 use Rattle.sshkey_base.proofs.ReadLists.{leaves_less}
 use Rattle.sshkey_base.proofs.MappedBoxes.{box_leaves}
 use Rattle.sshkey_cert_values.specs.OptionReaders.{value_front, option_box_at, may_follow, option_behind}
-use Rattle.sshkey_cert_values.specs.OptionLists.{checked}
 
--- ---- each leaves less
-
-checked_ok : (b : Bool) (o p : CertificateOption) (rest r : List ℕ) → checked b o rest ≡ Ok (p, r) → rest ≡ r
-checked_ok true o p rest r e = ap (λ (y : CertificateOption × List ℕ). y.1) (ok_is (o, rest) (p, r) e)
-checked_ok false o p rest r e = absurd (cc e)
-
-pub item_leaves : (before : Option (List ℕ)) (b : List ℕ) (o : CertificateOption) (rest : List ℕ) → option_behind before b ≡ Ok (o, rest) → length rest < length b
+-- what was read may follow, and leaves less
+pub item_read : (before : Option (List ℕ)) (b : List ℕ) (o : CertificateOption) (rest : List ℕ) → option_behind before b ≡ Ok (o, rest) → (may_follow before o.name ≡ true) × (length rest < length b)
 unfolding option_behind option_box_at
-item_leaves before b o rest e =
-    let t = bind_ok (text_at b) (λ name. option_box_at name.1 >>= λ v. checked (may_follow before name.0) (record { name = name.0; value = v.0 }) v.1) (o, rest) e in
-    let v = bind_ok (option_box_at t.0.1) (λ v. checked (may_follow before t.0.0) (record { name = t.0.0; value = v.0 }) v.1) (o, rest) t.2 in
+item_read before b o rest e =
+    let t = bind_ok (text_at b) _ (o, rest) e in
+    let v = bind_ok (option_box_at t.0.1) _ (o, rest) t.2 in
+    let made : CertificateOption × List ℕ = (record { name = t.0.0; value = v.0.0 }, v.0.1) in
+    let m = met (may_follow before t.0.0) FormatEncoding (Ok made) (o, rest) v.2 in
     let less : length t.0.1 < length b = leaves_less text_reads (λ t. box_shows (bytes t)) b t.0.0 t.0.1 t.1 in
     let le : length v.0.1 ≤ length t.0.1 = box_leaves (whole value_front) t.0.1 v.0.0 v.0.1 v.1 in
-    let len : length rest ≡ length v.0.1 = ap length (sym (checked_ok (may_follow before t.0.0) _ o v.0.1 rest v.2)) in
-    omega arith
-
-checked_follows : (b : Bool) (o p : CertificateOption) (rest r : List ℕ) → checked b o rest ≡ Ok (p, r) → (b ≡ true) × (o ≡ p)
-checked_follows true o p rest r e = (refl, ap (λ (y : CertificateOption × List ℕ). y.0) (ok_is (o, rest) (p, r) e))
-checked_follows false o p rest r e = absurd (cc e)
-
--- what was read may follow
-pub item_follows : (before : Option (List ℕ)) (b : List ℕ) (o : CertificateOption) (rest : List ℕ) → option_behind before b ≡ Ok (o, rest) → may_follow before o.name ≡ true
-unfolding option_behind
-item_follows before b o rest e =
-    let t = bind_ok (text_at b) (λ name. option_box_at name.1 >>= λ v. checked (may_follow before name.0) (record { name = name.0; value = v.0 }) v.1) (o, rest) e in
-    let v = bind_ok (option_box_at t.0.1) (λ v. checked (may_follow before t.0.0) (record { name = t.0.0; value = v.0 }) v.1) (o, rest) t.2 in
-    let f = checked_follows (may_follow before t.0.0) (record { name = t.0.0; value = v.0.0 }) o v.0.1 rest v.2 in
-    let name : t.0.0 ≡ o.name = ap (λ (o : CertificateOption). o.name) f.1 in
-    rw (← name) f.0
+    subst (λ (p : CertificateOption × List ℕ). (may_follow before p.0.name ≡ true) × (length p.1 < length b)) (ok_is made (o, rest) m.1) (m.0, omega (arith, less, le))
 
 -- ---- one value, or nothing
 
