@@ -1,17 +1,19 @@
 -- A loop that reads so many values, one behind the other.
-use Rattle.std.proofs.Common.{◌≡◌, inr, IsOk, ◌≤◌, ◌<◌, ◌-◌, ℕ, suc, List, [], ◌∷◌, ◌++◌, append-nil, append_assoc, length, Result, Ok, Err, refl, sym, ap, ◌∙◌, arith}
+use Rattle.std.proofs.Common.{◌≡◌, ◌⊎◌, inl, inr, IsOk, ◌≤◌, ◌<◌, ◌-◌, ℕ, suc, List, [], ◌∷◌, ◌++◌, append-nil, append_assoc, length, Result, Ok, Err, refl, sym, ap, subst, ◌∙◌, arith}
+use Rattle.std.specs.Prelude.{IsOkAnd}
 use Rattle.std.proofs.lemmas.List.{length-append}
 use Rattle.std.proofs.lemmas.Result.{err_from_is_err_and}
-use Rattle.sshkey_model.specs.Reading.{Fault, ◌>>=◌, Front}
+use Rattle.sshkey_model.specs.Reading.{Fault, Length, ◌>>=◌, Front}
 use Rattle.sshkey_model.proofs.CombinedReaders.{ok_is}
-use Rattle.sshkey_base.specs.Causes.{Cause}
+use Rattle.sshkey_base.specs.Causes.{Cause, Faulty, NoMemory}
 use Rattle.sshkey_base.specs.Formats.{Format}
 use Rattle.sshkey_base.specs.Reading.{Reads, IsRefused}
 use Rattle.sshkey_base.specs.Source.{Source}
-use Rattle.sshkey_base.specs.Stops.{NoOverrun, Stopped}
+use Rattle.sshkey_base.specs.Stops.{RanOut, Stopped}
 use Rattle.sshkey_base.proofs.FirstValues.{Begun, needed, still_begun}
-use Rattle.sshkey_base.proofs.Stopping.{step_ok}
-use Rattle.sshkey_terms.specs.Counted.{NeedsValues, times_at}
+use Rattle.sshkey_base.proofs.Stopping.{step_ok, read_past}
+use Rattle.sshkey_terms.specs.Counted.{NeedsValues, OverrunsTimes, times_at}
+use Rattle.sshkey_terms.proofs.Stopping.{some_ok}
 
 abbrev onto : {A : Type 0} → List A → List A × List ℕ → Result (List A × List ℕ) Fault
 onto done xs = Ok (done ++ xs.0, xs.1)
@@ -59,6 +61,17 @@ module _ {A : Type 0} (f : Format A) where
           rw behind (step_ok (times_at delimited_at k y.1) _ ok)
       go (Err fault) is ok = absurd cc
 
+  -- what overruns does so behind a value that was read
+  rest_over : {X : Type 0} (means : X → A) (k : ℕ) (t u : Source) (x : X) → Reads means item t x u → OverrunsTimes f (suc k) t.left t.missing → OverrunsTimes f k u.left u.missing
+  rest_over means k t u x r (inl o) = read_past means item f.overruns t u x f.lengths r o
+  rest_over means k t u x r (inr o) = go (delimited_at t.left) refl o
+    where
+      go : (y : Result (A × List ℕ) Fault) → delimited_at t.left ≡ y → IsOkAnd y (λ y. OverrunsTimes f k y.1 t.missing) → OverrunsTimes f k u.left u.missing
+      go (Ok y) is o =
+          let same : y ≡ (means x, u.left) = ok_is y (means x, u.left) (sym (f.grammar.same t.left y is) ∙ r.value) in
+          rw r.missing (subst (λ (p : A × List ℕ). OverrunsTimes f k p.1 t.missing) same o)
+      go (Err fault) is o = absurd o
+
   -- The values so far stand before what is left, and those behind them decide.
   pub record Gathers (n : ℕ) (s : Source) (done : List A) (t : Source) : Type 0 where
     pub missing : t.missing ≡ s.missing
@@ -66,6 +79,7 @@ module _ {A : Type 0} (f : Format A) where
     pub rest : times_at item n s.left ≡ (times_at item (n - length done) t.left >>= onto done)
     pub begun : Begun item s t
     pub delimits : IsOk (times_at delimited_at n s.left) → IsOk (times_at delimited_at (n - length done) t.left)
+    pub overruns : OverrunsTimes f n s.left s.missing → OverrunsTimes f (n - length done) t.left t.missing
 
   module _ (n : ℕ) (s t : Source) (done : List A) (h : Gathers n s done t) where
     pub gathers_more : {X : Type 0} (means : X → A) (x : X) (u : Source) → length done < n → Reads means item t x u → Gathers n s (done ++ means x ∷ []) u
@@ -79,6 +93,7 @@ module _ {A : Type 0} (f : Format A) where
           rest = h.rest ∙ step;
           begun = inr (still_begun item s t h.begun means x u r);
           delimits = λ ok. rest_ok k t.left u.left (means x) r.value (rw is at h.delimits ok);
+          overruns = λ o. rest_over means k t u x r (rw is at h.overruns o);
         }
 
     pub gathers_end : {V : Type 0} (means : V → List A) (v : V) → means v ≡ done → n ≤ length done → Reads means (times_at item n) s v t
@@ -87,24 +102,38 @@ module _ {A : Type 0} (f : Format A) where
         let step : (times_at item (n - length done) t.left >>= onto done) ≡ Ok (done, t.left) = rw none (last_step t.left done) in
         record { value = rw is (h.rest ∙ step); missing = h.missing; outer = h.outer }
 
-    more : length done < n → n - length done ≡ suc (n - suc (length done))
-    more lt = omega arith
+    left : length done < n → n - length done ≡ suc (n - suc (length done))
+    left lt = omega arith
 
     pub gathers_refused : (c : Cause) → length done < n → IsRefused t.missing c (item t.left) → IsRefused s.missing c (times_at item n s.left)
     gathers_refused c lt r = record {
       fault = λ other sound.
           let m = h.missing in
           let f = err_from_is_err_and (item t.left) (r.fault other (m ∙ sound)) in
-          let step : (times_at item (n - length done) t.left >>= onto done) ≡ Err f.0 = rw (more lt) (refused_step (n - suc (length done)) t.left f.0 done f.1) in
+          let step : (times_at item (n - length done) t.left >>= onto done) ≡ Err f.0 = rw (left lt) (refused_step (n - suc (length done)) t.left f.0 done f.1) in
           let e : times_at item n s.left ≡ Err f.0 = h.rest ∙ step in
           rw e f.2;
     }
 
-    pub gathers_stopped : (c : Cause) → length done < n → Stopped c delimited_at f.needs f.overruns t → Stopped c (times_at delimited_at n) (NeedsValues f n) NoOverrun s
+    pub gathers_stopped : (c : Cause) → length done < n → Stopped c delimited_at f.needs f.overruns t → Stopped c (times_at delimited_at n) (NeedsValues f n) (OverrunsTimes f n) s
     gathers_stopped c lt k = record {
-      takes = λ ok.
-          let inner : IsOk (times_at delimited_at (suc (n - suc (length done))) t.left) = rw (more lt) at h.delimits ok in
-          let m = k.takes (first_ok (n - suc (length done)) t.left inner) in
-          record { memory = m.memory; needed = (omega arith, needed item s t h.begun f.needs m.needed) };
-      past = λ o. absurd o;
+      takes = λ ok. more (k.takes (first_ok (n - suc (length done)) t.left (rw (left lt) at h.delimits ok)));
+      past = λ o. next (rw (left lt) at h.overruns o);
     }
+      where
+        more : RanOut c f.needs t → RanOut c (NeedsValues f n) s
+        more m = record { memory = m.memory; needed = (omega (arith, lt), needed item s t h.begun f.needs m.needed) }
+
+        next : OverrunsTimes f (suc (n - suc (length done))) t.left t.missing → (c ≡ Faulty Length) ⊎ RanOut c (NeedsValues f n) s
+        next (inl o) = elim (k.past o) [
+          | inl is ↦ inl is
+          | inr m ↦ inr (more m)
+        ]
+        next (inr o) = inr (more (k.takes (some_ok _ (delimited_at t.left) o)))
+
+    -- there is no memory for a value that was read
+    pub gathers_full : {X : Type 0} (means : X → A) (x : X) (u : Source) (c : Cause) → length done < n → Reads means item t x u → c ≡ NoMemory → Stopped c (times_at delimited_at n) (NeedsValues f n) (OverrunsTimes f n) s
+    gathers_full means x u c lt r memory = record { takes = λ _. ran; past = λ _. inr ran }
+      where
+        ran : RanOut c (NeedsValues f n) s
+        ran = record { memory = memory; needed = (omega (arith, lt), inr (still_begun item s t h.begun means x u r)) }

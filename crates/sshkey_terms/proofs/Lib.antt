@@ -9,4 +9,5 @@ pub mod Gathering
 pub mod Behind
 mod Measured
 mod Filled
+mod Past
 pub mod SliceFronts

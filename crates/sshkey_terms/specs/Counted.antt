@@ -1,7 +1,7 @@
 -- A counted list: a number of four bytes, and so many values, one behind the other, of at least a
 -- byte each. The grammars are proved, and need not be believed.
-use Rattle.std.proofs.Common.{◌≡◌, ◌≤◌, ◌<◌, ◌+◌, inl, inr, ℕ, zero, suc, false, ltb, List, [], ◌∷◌, ◌++◌, length, map, Result, Ok, Err, refl, sym, ap, subst, ◌∙◌, append_assoc, arith}
-use Rattle.std.specs.Prelude.{nat_lt, if◌then◌else◌}
+use Rattle.std.proofs.Common.{◌≡◌, ◌⊎◌, ◌≤◌, ◌<◌, ◌+◌, inl, inr, ℕ, zero, suc, Bool, true, false, ltb, List, [], ◌∷◌, ◌++◌, length, map, Result, Ok, Err, refl, sym, ap, subst, ◌∙◌, append_assoc, arith}
+use Rattle.std.specs.Prelude.{IsOkAnd, nat_lt, if◌then◌else◌}
 use Rattle.std.proofs.lemmas.Bool.{lt-ltb, le-ltb, ltb-false}
 use Rattle.std.specs.List.{AllByRecursion}
 use Rattle.std.proofs.lemmas.List.{length-append, length-map}
@@ -60,13 +60,37 @@ NeedsValues item n b m = (0 < n) × NeedsFirst item.needs item.read b m
 abbrev pub NeedsCounted : {A : Type 0} → Format A → ℕ → List ℕ → ℕ → Type 0
 NeedsCounted item n b m = (n ≤ length b + m) × NeedsValues item n b m
 
--- More values are wanted than bytes were announced.
-abbrev pub OverrunsCount : ℕ → List ℕ → ℕ → Type 0
-OverrunsCount n b m = length b + m < n
+-- One of the values overruns.
+abbrev pub OverrunsTimes : {A : Type 0} → Format A → ℕ → List ℕ → ℕ → Type 0
+OverrunsTimes item zero b m = ⊥
+OverrunsTimes item (suc n) b m = item.overruns b m ⊎ IsOkAnd (item.grammar.delimited_at b) (λ x. OverrunsTimes item n x.1 m)
 
-pub values_lengths : {A : Type 0} (item : Front A) (n : ℕ) → AreLengths (values_at item n) (OverrunsCount n)
-unfolding values_at
-values_lengths item n b m o = let lt : length b < n = omega (arith, o) in rw (lt-ltb _ _ lt) refl
+-- More values are wanted than bytes were announced, or one of them overruns.
+abbrev pub OverrunsCount : {A : Type 0} → Format A → ℕ → List ℕ → ℕ → Type 0
+OverrunsCount item n b m = (length b + m < n) ⊎ OverrunsTimes item n b m
+
+module _ {A : Type 0} (item : Format A) where
+  abbrev before_others : A → List A × List ℕ → Result (List A × List ℕ) Fault
+  before_others x xs = Ok (x ∷ xs.0, xs.1)
+
+  times_lengths : (n : ℕ) (b : List ℕ) (m : ℕ) → OverrunsTimes item n b m → times_at item.read n b ≡ Err Length
+  unfolding times_at
+  times_lengths zero b m o = absurd o
+  times_lengths (suc n) b m (inl o) = rw (item.lengths b m o) refl
+  times_lengths (suc n) b m (inr o) = behind (λ rest. times_lengths n rest m) (item.grammar.delimited_at b) refl o
+    where
+      behind : ((rest : List ℕ) → OverrunsTimes item n rest m → times_at item.read n rest ≡ Err Length) → (r : Result (A × List ℕ) Fault) → item.grammar.delimited_at b ≡ r → IsOkAnd r (λ x. OverrunsTimes item n x.1 m) → (item.read b >>= λ x. times_at item.read n x.1 >>= before_others x.0) ≡ Err Length
+      behind met (Ok x) e o = rw (item.grammar.same b x e, met x.1 o) refl
+      behind met (Err fault) e o = absurd o
+
+  pub values_lengths : (n : ℕ) → AreLengths (values_at item.read n) (OverrunsCount item n)
+  unfolding values_at
+  values_lengths n b m (inl o) = let lt : length b < n = omega (arith, o) in rw (lt-ltb _ _ lt) refl
+  values_lengths n b m (inr o) = go (ltb (length b) n) (times_at item.read n b) (times_lengths n b m o)
+    where
+      go : (few : Bool) (r : Result (List A × List ℕ) Fault) → r ≡ Err Length → (if few then Err Length else (r >>= filled n b)) ≡ Err Length
+      go true r e = refl
+      go false r e = rw e refl
 
 -- ---- what is read is what is spelled
 
@@ -171,9 +195,9 @@ values_format item n = record {
   Spells = SpellsValues item.Spells item.grammar.delimited_at n;
   read = values_at item.read n;
   needs = NeedsCounted item n;
-  overruns = OverrunsCount n;
+  overruns = OverrunsCount item n;
   grammar = values_grammar item.grammar n;
-  lengths = values_lengths item.read n;
+  lengths = values_lengths item n;
 }
 
 -- their number, and so many values

@@ -15,7 +15,7 @@ use sshkey_base::encoding::{Error, Result};
 use sshkey_base::{NestedReader, Reader, array_from, length_from};
 
 /// A number of four bytes, most significant first. Fails with `Length` if fewer are left.
-#[tactic(auto, using(sshkey_base::proofs::Steps::steps), unfolding(sshkey_model::specs::Reading::number_at))]
+#[tactic(auto, using(sshkey_base::proofs::Steps::steps, crate::proofs::Past::past), unfolding(sshkey_model::specs::Reading::number_at))]
 impl<R: Reader> ReadFrom<R> for u32 {
     type Error = Error;
 
@@ -32,7 +32,7 @@ impl<R: Reader> ReadFrom<R> for u32 {
 }
 
 /// A number of eight bytes, most significant first. Fails with `Length` if fewer are left.
-#[tactic(auto, using(sshkey_base::proofs::Steps::steps), unfolding(sshkey_model::specs::Reading::number_at))]
+#[tactic(auto, using(sshkey_base::proofs::Steps::steps, crate::proofs::Past::past), unfolding(sshkey_model::specs::Reading::number_at))]
 impl<R: Reader> ReadFrom<R> for u64 {
     type Error = Error;
 
@@ -50,7 +50,7 @@ impl<R: Reader> ReadFrom<R> for u64 {
 
 /// A string of exactly `N` bytes. Fails with `Length` for a shorter one, with `TrailingData` for a
 /// longer one.
-#[tactic(auto, using(sshkey_base::proofs::Boxes::boxes))]
+#[tactic(auto, using(sshkey_base::proofs::Boxes::boxes, crate::proofs::Past::past))]
 impl<const N: usize, R: Reader> ReadFrom<R> for [u8; N] {
     type Error = Error;
 
