@@ -10,31 +10,13 @@ use Rattle.sshkey_base.specs.declared.error.Error.TheVariants as wide
 use Rattle.sshkey_base.specs.Acceptance.{SpellsSome}
 
 never_inner : (e : encoding-error.Error) → inner_cause e ≡ NoMemory → ⊥
-never_inner encoding.Base64 is = cc
-never_inner encoding.CharacterEncoding is = cc
-never_inner encoding.Label is = cc
-never_inner encoding.Length is = cc
-never_inner (encoding.TrailingData n) is = cc
 never_inner encoding.Memory is = cc
+never_inner _ is = cc
 
 is_memory : (e : Error) → cause e ≡ NoMemory → e ≡ wide.Memory
-is_memory wide.AlgorithmUnknown is = absurd cc
-is_memory (wide.AlgorithmUnsupported algorithm) is = absurd cc
-is_memory wide.Crypto is = absurd cc
-is_memory wide.Decrypted is = absurd cc
-is_memory wide.Ecdsa is = absurd cc
-is_memory (wide.CertificateFieldInvalid field) is = absurd cc
-is_memory wide.CertificateValidation is = absurd cc
 is_memory (wide.Encoding e) is = absurd (never_inner e is)
-is_memory wide.Encrypted is = absurd cc
-is_memory wide.FormatEncoding is = absurd cc
-is_memory (wide.Io kind) is = absurd cc
 is_memory wide.Memory is = refl
-is_memory wide.Namespace is = absurd cc
-is_memory wide.PublicKey is = absurd cc
-is_memory (wide.Version number) is = absurd cc
-is_memory wide.Time is = absurd cc
-is_memory (wide.TrailingData n) is = absurd cc
+is_memory _ is = absurd cc
 
 -- an error but `Memory` says that it is another
 pub other_cause : (e : Error) → e ≢ wide.Memory → cause e ≢ NoMemory

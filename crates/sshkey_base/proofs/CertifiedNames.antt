@@ -1,15 +1,12 @@
 -- Names in certificates that are none of the fixed ones.
-use Rattle.std.proofs.Common.{◌≡◌, ◌≢◌, ℕ, ◌-◌, Option, Some, None, is_none, Result, Ok, Err, List, ◌∷◌, ◌++◌, length, take, drop, true, ◌&&◌, nat_le, bytes_eq, refl, sym, ap, subst, ◌∙◌, inl, inr, arith}
+use Rattle.std.proofs.Common.{◌≡◌, ◌≢◌, ℕ, Option, Some, None, is_none, Result, Ok, Err, List, ◌∷◌, ◌++◌, length, true, ◌&&◌, nat_le, refl, sym, ap, subst, ◌∙◌}
 use Rattle.std.specs.List.{AllByRecursion}
 use Rattle.std.specs.Prelude.{IsOk}
 use Rattle.std.proofs.lemmas.Bool.{and_parts, le-leb}
-use Rattle.std.proofs.lemmas.List.{take_at, drop_at, take-append-drop, length-append}
-use Rattle.std.proofs.lemmas.Slice.Eq.{bytes_eq-Decides}
 use Rattle.sshkey_model.specs.Reading.{Fault, Label, string_at}
-use Rattle.sshkey_model.specs.Names.{Nistp256, Nistp384, Nistp521, Algorithm, Dsa, Ecdsa, Ed25519, Rsa, SkEcdsa, SkEd25519, Other, algorithm_name, algorithms, named, are_ascii, at_sign, cut, is_own_name, is_other_name, algorithm_or}
-use Rattle.sshkey_model.specs.CertificateNames.{IsCertified, suffix, certificate_name, certified, without_suffix, certified_or, certified_from, certificate_algorithm_at}
-use Rattle.sshkey_model.proofs.CertificateNameReaders.{certified_checks}
-use Rattle.sshkey_model.proofs.CombinedReaders.{chosen}
+use Rattle.sshkey_model.specs.Names.{Nistp256, Algorithm, Ecdsa, Other, algorithm_name, algorithms, named, are_ascii, at_sign, cut, is_own_name, is_other_name}
+use Rattle.sshkey_model.specs.CertificateNames.{IsCertified, suffix, certificate_name, certified, certified_or, certified_from, certificate_algorithm_at}
+use Rattle.sshkey_model.proofs.CertificateNameReaders.{IsStripped, certified_again, certified_checks, certified_is}
 use Rattle.sshkey_model.proofs.NameReaders.{found}
 use Rattle.sshkey_model.proofs.ShortNames.{other_parts, short_certificate_name}
 use Rattle.std.specs.Str.{IsUtf8}
@@ -23,8 +20,7 @@ use Rattle.sshkey_base.specs.NameNeeds.{NeedsCertified}
 use Rattle.sshkey_base.proofs.Labels.{not_named}
 use Rattle.sshkey_base.specs.AlgorithmName.{HasCertificateName, JudgesCertified}
 use Rattle.sshkey_base.specs.Answers.{Judges}
-use Rattle.sshkey_base.proofs.AtSigns.{cut-at, cut-suffixed}
-use Rattle.sshkey_base.proofs.CertificateTypes.{parts_of, are_parts, are_ascii-append, certificate_name-cut}
+use Rattle.sshkey_base.proofs.CertificateTypes.{parts_of, are_ascii-append}
 
 -- A fixed name with an at sign has a fixed name in a certificate.
 abbrev pub HasFixed : Algorithm → Type 0
@@ -42,53 +38,15 @@ other_name n (Some a) from own fresh =
     let at = found HasFixed algorithm_name algorithms n a each_fixed from in
     absurd (at.0 (rw at.1 own) (rw at.1 fresh))
 
-stripped : (l r : List ℕ) → is_other_name (l ++ at_sign ∷ r) ≡ true → without_suffix (Some (l ++ suffix, r)) ≡ Ok (Other (l ++ at_sign ∷ r))
-stripped l r is =
-    let size : length (l ++ suffix) - 9 ≡ length l = omega (arith, length-append l suffix) in
-    let front : take (length (l ++ suffix) - 9) (l ++ suffix) ≡ l = take_at l suffix _ (sym size) in
-    let end_ : drop (length (l ++ suffix) - 9) (l ++ suffix) ≡ suffix = drop_at l suffix _ (sym size) in
-    rw (front, end_, is) refl
-
 pub certified_other : (t n : List ℕ) → named certificate_name certified t ≡ None → HasCertificateName t n → certified_from t ≡ Ok (Other n)
 certified_other t n fresh has =
-    let p = parts_of n t has.own has.spelled in
-    let whole : cut t ≡ Some (p.0 ++ suffix, p.1) = ap cut p.3.whole ∙ cut-suffixed p.0 p.1 p.3.first in
-    let other : is_other_name n ≡ true = other_name n (named algorithm_name algorithms n) refl has.own (rw has.spelled fresh) in
-    ap (λ (o : Option Algorithm). certified_or o t) fresh
-    ∙ ap without_suffix whole
-    ∙ stripped p.0 p.1 (rw (← p.2) other)
-    ∙ ap (λ (z : List ℕ). Ok (Other z)) (sym p.2)
-
--- what is left of a text without the suffix before its at sign
-abbrev pub IsStripped : List ℕ → Result Algorithm Fault → Type 0
-IsStripped t (Ok a) = (n : List ℕ) × (a ≡ Other n) × (is_other_name n ≡ true) × HasCertificateName t n
-IsStripped t (Err fault) = fault ≡ Label
-
-stripped_is : (t : List ℕ) (o : Option (List ℕ × List ℕ)) → cut t ≡ o → IsStripped t (without_suffix o)
-unfolding is_other_name
-stripped_is t None whole = refl
-stripped_is t (Some p) whole =
-    let l = take (length p.0 - 9) p.0 in
-    let bare = l ++ at_sign ∷ p.1 in
-    elim (chosen (bytes_eq (drop (length p.0 - 9) p.0) suffix) (algorithm_or None bare) (Err Label) (without_suffix (Some p)) refl) [
-      | inl yes_ ↦
-          let both : p.0 ≡ l ++ suffix = sym (take-append-drop (length p.0 - 9) p.0) ∙ ap (λ (z : List ℕ). l ++ z) ((bytes_eq-Decides _ _).0 yes_.0) in
-          let parts = are_parts t p.0 p.1 l whole both in
-          elim (chosen (is_other_name bare) (Ok (Other bare)) (Err Label) (algorithm_or None bare) refl) [
-            | inl other ↦
-                let own = (and_parts (is_own_name bare) (is_none (named algorithm_name algorithms bare)) other.0).0 in
-                let spelled = certificate_name-cut bare (l, p.1) (cut-at l p.1 parts.first) ∙ sym parts.whole in
-                subst (IsStripped t) (other.1 ∙ yes_.1) (bare, refl, other.0, record { own = own; spelled = spelled })
-            | inr no_ ↦ subst (IsStripped t) (no_.1 ∙ yes_.1) refl
-          ]
-      | inr no_ ↦ subst (IsStripped t) no_.1 refl
-    ]
-
-certified_is : (t : List ℕ) → named certificate_name certified t ≡ None → IsStripped t (certified_from t)
-certified_is t fresh = subst (IsStripped t) (ap (λ (o : Option Algorithm). certified_or o t) (sym fresh)) (stripped_is t (cut t) refl)
+    let none : named certificate_name certified (certificate_name (Other n)) ≡ None = rw has.spelled fresh in
+    let other : is_other_name n ≡ true = other_name n (named algorithm_name algorithms n) refl has.own none in
+    ap certified_from (sym has.spelled) ∙ certified_again (Other n) (other, none)
 
 unknown_is : (t : List ℕ) (r : Result Algorithm Fault) → ((n : List ℕ) → is_own_name n ≡ true → certificate_name (Other n) ≢ t) → IsStripped t r → r ≡ Err Label
-unknown_is t (Ok a) none is = absurd (none is.0 is.3.own is.3.spelled)
+unfolding is_other_name
+unknown_is t (Ok a) none is = absurd (none is.0 (and_parts (is_own_name is.0) (is_none (named algorithm_name algorithms is.0)) is.2).0 is.3)
 unknown_is t (Err fault) none is = ap (λ (f : Fault). Err f) is
 
 pub certified_unknown : (t : List ℕ) → named certificate_name certified t ≡ None → ((n : List ℕ) → is_own_name n ≡ true → certificate_name (Other n) ≢ t) → certified_from t ≡ Err Label
@@ -116,10 +74,6 @@ other_ascii n is =
 
 pub certified_ascii : (a : Algorithm) → IsCertified a → are_ascii (certificate_name a) ≡ true
 certified_ascii (Ecdsa Nistp256) is = refl
-certified_ascii (Ecdsa Nistp384) is = refl
-certified_ascii (Ecdsa Nistp521) is = refl
-certified_ascii (Rsa None) is = refl
-certified_ascii (Rsa (Some h)) is = absurd is
 certified_ascii (Other n) is = other_ascii n is.0
 certified_ascii _ is = refl
 

@@ -1,5 +1,5 @@
 -- Strings of bounded length: too long ones are refused before they are read.
-use Rattle.std.proofs.Common.{◌≡◌, ℕ, ◌<◌, ◌≤◌, Bool, true, false, cond, ltb, leb, List, length, take, Result, Ok, Err, refl, arith, ◌∙◌}
+use Rattle.std.proofs.Common.{◌≡◌, ℕ, ◌<◌, ◌≤◌, Bool, true, false, cond, ltb, leb, List, length, take, Result, Ok, Err, refl, arith}
 use Rattle.std.proofs.lemmas.Bool.{le-leb, lt-leb, leb-true, leb-false, ltb-false, le-ltb, lt-ltb}
 use Rattle.std.proofs.lemmas.List.{length-take-le}
 use Rattle.sshkey_model.specs.Parts.{are_bytes}

@@ -1,5 +1,5 @@
 -- How reading calls refuse on any source, step by step.
-use Rattle.std.proofs.Common.{◌≡◌, inl, inr, ◌<◌, ◌-◌, ℕ, List, IsOk, Result, Ok, Err, refl}
+use Rattle.std.proofs.Common.{◌≡◌, inl, inr, ◌<◌, ℕ, List, IsOk, Result, Ok, Err, refl}
 use Rattle.std.specs.Int.{w32}
 use Rattle.sshkey_model.specs.Reading.{Fault, Length, ◌>>=◌, Front, number_at, bytes_at, string_at, checked_at}
 use Rattle.sshkey_base.specs.Answers.{AnswersAlways}

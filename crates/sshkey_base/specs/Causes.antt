@@ -60,9 +60,5 @@ of_machine k = wide.Io k
 
 -- It says the same.
 pub same_cause : (e : encoding-error.Error) → cause (widened e) ≡ encoding_cause e
-same_cause encoding.Base64 = refl
-same_cause encoding.CharacterEncoding = refl
-same_cause encoding.Label = refl
-same_cause encoding.Length = refl
-same_cause (encoding.TrailingData n) = refl
 same_cause encoding.Memory = refl
+same_cause _ = refl

@@ -4,7 +4,7 @@ use Rattle.std.proofs.Common.{inl, inr}
 use Rattle.std.proofs.lemmas.Bool.{le-leb}
 use Rattle.sshkey_model.specs.Parts.{Any}
 use Rattle.sshkey_model.specs.Reading.{Fault, Label}
-use Rattle.sshkey_model.specs.Names.{Curve, Nistp256, Nistp384, Nistp521, Hash, Sha256, Sha512, Algorithm, Dsa, Ecdsa, Ed25519, Rsa, SkEcdsa, SkEd25519, Other, curves, hashes, algorithms, curve_name, hash_name, algorithm_name, named, are_ascii, is_other_name, IsAlgorithm, or_label, algorithm_or, curve_from, hash_from, algorithm_from}
+use Rattle.sshkey_model.specs.Names.{Curve, Nistp256, Hash, Sha256, Sha512, Algorithm, Ecdsa, Rsa, Other, curves, hashes, algorithms, curve_name, hash_name, algorithm_name, named, are_ascii, is_other_name, IsAlgorithm, or_label, algorithm_or, curve_from, hash_from, algorithm_from}
 use Rattle.sshkey_model.proofs.CombinedReaders.{chosen}
 use Rattle.sshkey_model.proofs.ShortNames.{other_parts, short_name}
 pub use Rattle.sshkey_model.proofs.NameReaders.{curve_checks, hash_checks, algorithm_checks}
@@ -15,13 +15,11 @@ unlisted_label None fault e = cc
 
 pub curve_ascii : (c : Curve) → Any c → are_ascii (curve_name c) ≡ true
 curve_ascii Nistp256 is = refl
-curve_ascii Nistp384 is = refl
-curve_ascii Nistp521 is = refl
+curve_ascii _ is = refl
 
 pub curve_short : (c : Curve) → Any c → nat_le (length (curve_name c)) 73 ≡ true
 curve_short Nistp256 is = refl
-curve_short Nistp384 is = refl
-curve_short Nistp521 is = refl
+curve_short _ is = refl
 
 pub curve_refusals : (t : List ℕ) (fault : Fault) → curve_from t ≡ Err fault → fault ≡ Label
 curve_refusals t = unlisted_label (named curve_name curves t)
@@ -38,12 +36,8 @@ pub hash_refusals : (t : List ℕ) (fault : Fault) → hash_from t ≡ Err fault
 hash_refusals t = unlisted_label (named hash_name hashes t)
 
 pub algorithm_ascii : (a : Algorithm) → IsAlgorithm a → are_ascii (algorithm_name a) ≡ true
-algorithm_ascii (Ecdsa Nistp256) is = refl
-algorithm_ascii (Ecdsa Nistp384) is = refl
-algorithm_ascii (Ecdsa Nistp521) is = refl
-algorithm_ascii (Rsa None) is = refl
+algorithm_ascii (Ecdsa c) is = curve_ascii c is
 algorithm_ascii (Rsa (Some Sha256)) is = refl
-algorithm_ascii (Rsa (Some Sha512)) is = refl
 algorithm_ascii (Other n) is = (other_parts n is).0
 algorithm_ascii _ is = refl
 

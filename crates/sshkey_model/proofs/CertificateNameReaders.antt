@@ -1,14 +1,14 @@
 -- Names of algorithms in certificates are read as they are spelled.
-use Rattle.std.proofs.Common.{◌≡◌, ℕ, ◌-◌, Option, Some, None, is_none, nat_le, true, false, ◌&&◌, List, [], ◌∷◌, ◌++◌, length, eqb, take, drop, Ok, Err, bytes_eq, refl, sym, ap, subst, ◌∙◌, arith, inl, inr, append_assoc, append-nil}
+use Rattle.std.proofs.Common.{◌≡◌, ℕ, ◌-◌, Option, Some, None, Result, is_none, nat_le, true, false, ◌&&◌, List, [], ◌∷◌, ◌++◌, length, eqb, take, drop, Ok, Err, bytes_eq, refl, sym, ap, subst, ◌∙◌, arith, inl, inr, append_assoc, append-nil}
 use Rattle.std.proofs.lemmas.Slice.Eq.{bytes_eq-Decides}
 use Rattle.std.proofs.lemmas.Bool.{and_parts, eqb-true}
 use Rattle.std.proofs.lemmas.List.{take_at, drop_at, take-append-drop, length-append}
 use Rattle.sshkey_model.specs.Parts.{Any, bytes}
-use Rattle.sshkey_model.specs.Reading.{Label}
-use Rattle.sshkey_model.specs.Names.{Nistp256, Nistp384, Nistp521, Algorithm, Dsa, Ecdsa, Ed25519, Rsa, SkEcdsa, SkEd25519, Other, algorithms, algorithm_name, named, are_ascii, is_own_name, is_other_name, at_sign, cut, behind_first, is_split, algorithm_or}
+use Rattle.sshkey_model.specs.Reading.{Fault, Label}
+use Rattle.sshkey_model.specs.Names.{Nistp256, Algorithm, Ecdsa, Rsa, Other, algorithms, algorithm_name, named, are_ascii, is_own_name, is_other_name, at_sign, cut, behind_first, is_split, algorithm_or}
 use Rattle.sshkey_model.specs.CertificateNames.{suffix, with_suffix, certificate_name, certified, IsCertified, certificate_algorithm, without_suffix, certified_or, certified_from, certificate_algorithm_at}
 use Rattle.sshkey_model.specs.Grammar.{Checks}
-use Rattle.sshkey_model.proofs.CombinedReaders.{ok_is, done, chosen, ReadsFront, checked_string_reads}
+use Rattle.sshkey_model.proofs.CombinedReaders.{ok_is, chosen, ReadsFront, checked_string_reads}
 use Rattle.sshkey_model.proofs.NameReaders.{found}
 
 cut_later : (c : ℕ) (rest : List ℕ) (p : List ℕ × List ℕ) (o : Option (List ℕ × List ℕ)) → ((q : List ℕ × List ℕ) → cut rest ≡ Some q → (rest ≡ q.0 ++ at_sign ∷ q.1) × (cut q.0 ≡ None)) → cut rest ≡ o → eqb c at_sign ≡ false → behind_first c o ≡ Some p → (c ∷ rest ≡ p.0 ++ at_sign ∷ p.1) × (cut p.0 ≡ None)
@@ -83,15 +83,8 @@ stripped_again l r n e is =
 
 pub certified_again : (a : Algorithm) → IsCertified a → certified_or (named certificate_name certified (certificate_name a)) (certificate_name a) ≡ Ok a
 unfolding named
-certified_again Dsa is = refl
 certified_again (Ecdsa Nistp256) is = refl
-certified_again (Ecdsa Nistp384) is = refl
-certified_again (Ecdsa Nistp521) is = refl
-certified_again Ed25519 is = refl
-certified_again (Rsa None) is = refl
 certified_again (Rsa (Some h)) is = absurd is
-certified_again SkEcdsa is = refl
-certified_again SkEd25519 is = refl
 certified_again (Other n) is =
     let p = own_parts n is.0 in
     let parts = cut_parts n p.0 p.1 in
@@ -100,35 +93,43 @@ certified_again (Other n) is =
     ∙ ap (λ (t : List ℕ). without_suffix (cut t)) written
     ∙ ap without_suffix (suffix_before p.0.0 p.0.1 parts.1).1
     ∙ stripped_again p.0.0 p.0.1 n parts.0 is.0
+certified_again _ is = refl
 
-stripped_takes : (p : List ℕ × List ℕ) (t : List ℕ) (a : Algorithm) → t ≡ p.0 ++ at_sign ∷ p.1 → cut p.0 ≡ None → named certificate_name certified t ≡ None → without_suffix (Some p) ≡ Ok a → IsCertified a × (certificate_name a ≡ t)
-stripped_takes p t a whole_ none fresh e =
+-- what is left of a text without the suffix before its at sign
+abbrev pub IsStripped : List ℕ → Result Algorithm Fault → Type 0
+IsStripped t (Ok a) = (n : List ℕ) × (a ≡ Other n) × (is_other_name n ≡ true) × (certificate_name (Other n) ≡ t)
+IsStripped t (Err fault) = fault ≡ Label
+
+stripped_is : (t : List ℕ) (o : Option (List ℕ × List ℕ)) → cut t ≡ o → IsStripped t (without_suffix o)
+stripped_is t None split = refl
+stripped_is t (Some p) split =
     let l = take (length p.0 - 9) p.0 in
-    elim (chosen (bytes_eq (drop (length p.0 - 9) p.0) suffix) (algorithm_or None (l ++ at_sign ∷ p.1)) (Err Label) (Ok a) e) [
+    let bare = l ++ at_sign ∷ p.1 in
+    elim (chosen (bytes_eq (drop (length p.0 - 9) p.0) suffix) (algorithm_or None bare) (Err Label) (without_suffix (Some p)) refl) [
       | inl yes_ ↦
-          let end_ : drop (length p.0 - 9) p.0 ≡ suffix = (bytes_eq-Decides _ _).0 yes_.0 in
-          let both : p.0 ≡ l ++ suffix = sym (take-append-drop (length p.0 - 9) p.0) ∙ ap (λ (z : List ℕ). l ++ z) end_ in
-          let clean : cut l ≡ None = cut_left l suffix (subst (λ (z : List ℕ). cut z ≡ None) both none) in
-          let form = suffix_before l p.1 clean in
-          elim (chosen (is_other_name (l ++ at_sign ∷ p.1)) (done (Other (l ++ at_sign ∷ p.1))) (Err Label) (Ok a) yes_.1) [
-            | inl own ↦
-                let spelt : certificate_name (Other (l ++ at_sign ∷ p.1)) ≡ t =
-                ap (λ (o : Option (List ℕ × List ℕ)). with_suffix o (l ++ at_sign ∷ p.1)) form.0 ∙ ap (λ (z : List ℕ). z ++ at_sign ∷ p.1) (sym both) ∙ sym whole_ in
-                let unlisted_ : named certificate_name certified (certificate_name (Other (l ++ at_sign ∷ p.1))) ≡ None = subst (λ (z : List ℕ). named certificate_name certified z ≡ None) (sym spelt) fresh in
-                subst (λ (z : Algorithm). IsCertified z × (certificate_name z ≡ t)) (ok_is (Other (l ++ at_sign ∷ p.1)) a own.1) ((own.0, unlisted_), spelt)
-            | inr no_ ↦ absurd (cc no_.1)
+          let both : p.0 ≡ l ++ suffix = sym (take-append-drop (length p.0 - 9) p.0) ∙ ap (λ (z : List ℕ). l ++ z) ((bytes_eq-Decides _ _).0 yes_.0) in
+          let parts = cut_parts t p split in
+          let clean : cut l ≡ None = cut_left l suffix (subst (λ (z : List ℕ). cut z ≡ None) both parts.1) in
+          let spelled : certificate_name (Other bare) ≡ t = ap (λ (o : Option (List ℕ × List ℕ)). with_suffix o bare) (suffix_before l p.1 clean).0 ∙ ap (λ (z : List ℕ). z ++ at_sign ∷ p.1) (sym both) ∙ sym parts.0 in
+          elim (chosen (is_other_name bare) (Ok (Other bare)) (Err Label) (algorithm_or None bare) refl) [
+            | inl other ↦ subst (IsStripped t) (other.1 ∙ yes_.1) (bare, refl, other.0, spelled)
+            | inr no_ ↦ subst (IsStripped t) (no_.1 ∙ yes_.1) refl
           ]
-      | inr no_ ↦ absurd (cc no_.1)
+      | inr no_ ↦ subst (IsStripped t) no_.1 refl
     ]
 
-certified_takes : (o : Option Algorithm) (q : Option (List ℕ × List ℕ)) (t : List ℕ) (a : Algorithm) → named certificate_name certified t ≡ o → cut t ≡ q → certified_or o t ≡ Ok a → IsCertified a × (certificate_name a ≡ t)
-certified_takes (Some x) q t a from split e = subst (λ (z : Algorithm). IsCertified z × (certificate_name z ≡ t)) (ok_is x a e) (found IsCertified certificate_name certified t x (assumption) from)
-certified_takes None None t a from split e = absurd (cc (sym e ∙ ap without_suffix split))
-certified_takes None (Some p) t a from split e = let c = cut_parts t p split in stripped_takes p t a c.0 c.1 from (sym (ap without_suffix split) ∙ e)
+pub certified_is : (t : List ℕ) → named certificate_name certified t ≡ None → IsStripped t (certified_from t)
+certified_is t fresh = subst (IsStripped t) (ap (λ (o : Option Algorithm). certified_or o t) (sym fresh)) (stripped_is t (cut t) refl)
+
+certified_takes : (o : Option Algorithm) (t : List ℕ) (a : Algorithm) → named certificate_name certified t ≡ o → certified_or o t ≡ Ok a → IsCertified a × (certificate_name a ≡ t)
+certified_takes (Some x) t a from e = subst (λ (z : Algorithm). IsCertified z × (certificate_name z ≡ t)) (ok_is x a e) (found IsCertified certificate_name certified t x (assumption) from)
+certified_takes None t a from e =
+    let s = subst (IsStripped t) e (stripped_is t (cut t) refl) in
+    subst (λ (z : Algorithm). IsCertified z × (certificate_name z ≡ t)) (sym s.1) ((s.2, rw s.3 from), s.3)
 
 pub certified_checks : Checks Any bytes IsCertified (λ a. bytes (certificate_name a)) certified_from
 certified_checks = record {
-  takes = λ t a was e. let c = certified_takes (named certificate_name certified t) (cut t) t a refl refl e in (c.0, ap bytes (sym c.1));
+  takes = λ t a was e. let c = certified_takes (named certificate_name certified t) t a refl e in (c.0, ap bytes (sym c.1));
   again = λ a is. (certificate_name a, tt, certified_again a is, refl);
 }
 

@@ -154,14 +154,12 @@ scalar_again size s Plain len is = go (is_high s) refl
     go false e = ap (λ (h : Bool). scalar_from size (zero_if h s)) e ∙ rw (eq-eqb _ _ len, e) refl
 
 scalar_length : (s : List ℕ) (n : LeadingZeros) → HasScalarPlaces s n → length (scalar_bytes s n) ≤ suc (length s)
-scalar_length s WithoutZero is = omega arith
-scalar_length s WithZero is = omega arith
-scalar_length s Short is = omega arith
 scalar_length s Plain is = go (is_high s)
   where
     go : (h : Bool) → length (zero_if h s) ≤ suc (length s)
     go true = omega arith
     go false = omega arith
+scalar_length s _ is = omega arith
 
 scalar_whole_reads : (size : ℕ) → ReadsWhole (IsSpelled (IsScalar size) HasScalarPlaces) (λ x. bytes (scalar_bytes x.0 x.1)) (scalar_whole size)
 unfolding flat

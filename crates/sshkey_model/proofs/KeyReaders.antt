@@ -7,7 +7,7 @@ use Rattle.sshkey_model.specs.Texts.{string, IsText}
 use Rattle.sshkey_model.specs.Names.{Curve, Nistp256, Hash, Sha256, Sha512, Algorithm, IsAlgorithm, algorithm, curve}
 use Rattle.sshkey_model.specs.Mpints.{IsMpint}
 use Rattle.sshkey_model.specs.Points.{IsPoint, curve_eq, IsPointOf}
-use Rattle.sshkey_model.specs.Keys.{Key, Dsa, Ecdsa, Ed25519, Rsa, SkEcdsa, SkEd25519, Opaque, key_algorithm, body, IsKey, key, HasKeyPlaces, dsa_at, any_ecdsa_at, ecdsa_at, ed25519_at, rsa_at, sk_ecdsa_at, sk_ed25519_at, body_at, p256_only, has_curve, IsEcdsa, Head, Plain, Head256, Head512, headed, HasHead, head_of, key_at, unhashed, IsBodyUnder}
+use Rattle.sshkey_model.specs.Keys.{Key, Dsa, Ecdsa, Ed25519, Rsa, SkEcdsa, SkEd25519, Opaque, key_algorithm, body, IsKey, key, HasKeyPlaces, dsa_at, any_ecdsa_at, ecdsa_at, ed25519_at, rsa_at, sk_ecdsa_at, sk_ed25519_at, body_at, p256_only, has_curve, IsEcdsa, Head, Plain, headed, HasHead, head_of, key_at, unhashed, IsBodyUnder}
 use Rattle.sshkey_model.proofs.CombinedReaders.{bind_assoc, done, ok_is, ReadsFront, Any, whole_reads, bytes_reads, string_reads, box_reads, then_reads, checked_reads, checked_string_reads, to_form, kept, same_front, as_front_form}
 use Rattle.sshkey_model.proofs.NameReaders.{curve_reads, algorithm_reads}
 use Rattle.sshkey_model.proofs.TextReaders.{text_reads}
@@ -110,15 +110,9 @@ split_head (Algorithm.Other n) k is e = rw e (is, tt, refl)
 split_head _ k is e = rw e (tt, tt, refl)
 
 pub join_head : (k : Key) (h : Head) → IsAlgorithm (key_algorithm k) → HasHead (key_algorithm k) h → IsAlgorithm (headed h (key_algorithm k)) × (key_algorithm k ≡ unhashed (headed h (key_algorithm k))) × (head_of (headed h (key_algorithm k)) ≡ h)
-join_head k Head256 is place = (tt, place, refl)
-join_head k Head512 is place = (tt, place, refl)
 join_head (Dsa k) Plain is place = (is, refl, refl)
-join_head (Ecdsa c p) Plain is place = (is, refl, refl)
-join_head (Ed25519 k) Plain is place = (is, refl, refl)
-join_head (Rsa k) Plain is place = (is, refl, refl)
-join_head (SkEcdsa k) Plain is place = (is, refl, refl)
-join_head (SkEd25519 k) Plain is place = (is, refl, refl)
-join_head (Opaque n k) Plain is place = (is, refl, refl)
+join_head _ Plain is place = (is, refl, refl)
+join_head k _ is place = (tt, place, refl)
 
 pub key_reads : ReadsFront (IsSpelled IsKey HasKeyPlaces) (spelled key) key_at
 unfolding key_at behind_at

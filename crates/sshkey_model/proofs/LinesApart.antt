@@ -8,9 +8,9 @@ use Rattle.sshkey_model.specs.Parts.{Parts, box, ◌&◌, flat, Fits}
 use Rattle.sshkey_model.specs.Reading.{Fault}
 use Rattle.sshkey_model.specs.Grammar.{SpellsWith}
 use Rattle.sshkey_model.specs.Texts.{string}
-use Rattle.sshkey_model.specs.Names.{Nistp256, Nistp384, Nistp521, Algorithm, algorithm_name, named, cut}
+use Rattle.sshkey_model.specs.Names.{Nistp256, Algorithm, algorithm_name, named, cut}
 use Rattle.sshkey_model.specs.CertificateNames.{certificate_name, certified_from}
-use Rattle.sshkey_model.specs.Keys.{Key, Dsa, Ecdsa, Ed25519, Rsa, SkEcdsa, SkEd25519, Opaque, Head, Plain, Head256, Head512, IsKey, HasKeyPlaces, body, headed, key, key_algorithm}
+use Rattle.sshkey_model.specs.Keys.{Key, Ecdsa, Opaque, Head, Plain, Head256, Head512, IsKey, HasKeyPlaces, body, headed, key, key_algorithm}
 use Rattle.sshkey_model.specs.Signatures.{signature}
 use Rattle.sshkey_model.specs.Certificates.{Certificate, IsCertificate, HasCertificatePlaces, certificate, to_be_signed}
 use Rattle.sshkey_model.specs.Lines.{key_name, name_of_certificate, LinesAreApart}
@@ -44,14 +44,8 @@ unfolding named cut
 other_name k Head256 a nonce p q has f g e same = cc e
 other_name k Head512 a nonce p q has f g e same = cc e
 other_name (Opaque n k) Plain a nonce p q has f g e same = one_string k nonce p q f g same
-other_name (Dsa k) Plain a nonce p q has f g e same = cc e
 other_name (Ecdsa Nistp256 x) Plain a nonce p q has f g e same = cc e
-other_name (Ecdsa Nistp384 x) Plain a nonce p q has f g e same = cc e
-other_name (Ecdsa Nistp521 x) Plain a nonce p q has f g e same = cc e
-other_name (Ed25519 k) Plain a nonce p q has f g e same = cc e
-other_name (Rsa k) Plain a nonce p q has f g e same = cc e
-other_name (SkEcdsa k) Plain a nonce p q has f g e same = cc e
-other_name (SkEd25519 k) Plain a nonce p q has f g e same = cc e
+other_name _ Plain a nonce p q has f g e same = cc e
 
 pub blobs_apart : (k : Key) (c : Certificate) (bytes : List ℕ) → SpellsWith IsKey HasKeyPlaces key k bytes → SpellsWith IsCertificate HasCertificatePlaces certificate c bytes → ⊥
 blobs_apart k c bytes a b =

@@ -5,7 +5,7 @@ use Rattle.std.proofs.lemmas.Slice.Eq.{bytes_eq-Decides}
 use Rattle.std.proofs.lemmas.Bool.{and_parts}
 use Rattle.sshkey_model.specs.Parts.{bytes}
 use Rattle.sshkey_model.specs.Reading.{Label}
-use Rattle.sshkey_model.specs.Names.{Curve, Nistp256, Nistp384, Nistp521, Hash, Sha256, Sha512, Algorithm, Dsa, Ecdsa, Ed25519, Rsa, SkEcdsa, SkEd25519, Other, curves, hashes, algorithms, curve_name, hash_name, algorithm_name, named, is_own_name, is_other_name, IsAlgorithm, algorithm, or_label, algorithm_or, algorithm_from, algorithm_at, curve, curve_from, curve_at, hash, hash_from, hash_at}
+use Rattle.sshkey_model.specs.Names.{Curve, Nistp256, Hash, Sha256, Sha512, Algorithm, Ecdsa, Rsa, Other, curves, hashes, algorithms, curve_name, hash_name, algorithm_name, named, is_own_name, is_other_name, IsAlgorithm, algorithm, or_label, algorithm_or, algorithm_from, algorithm_at, curve, curve_from, curve_at, hash, hash_from, hash_at}
 use Rattle.sshkey_model.specs.Grammar.{Checks}
 use Rattle.sshkey_model.proofs.CombinedReaders.{ok_is, done, chosen, ReadsFront, Any, checked_string_reads}
 
@@ -33,8 +33,7 @@ table_checks {A} name xs all each = record {
 each_curve : (c : Curve) → named curve_name curves (curve_name c) ≡ Some c
 unfolding named
 each_curve Nistp256 = refl
-each_curve Nistp384 = refl
-each_curve Nistp521 = refl
+each_curve _ = refl
 
 pub curve_checks : Checks Any bytes Any (λ c. bytes (curve_name c)) curve_from
 curve_checks = table_checks curve_name curves (assumption) each_curve
@@ -66,17 +65,10 @@ unlisted n is = none_is (named algorithm_name algorithms n) (and_parts (is_own_n
 
 algorithm_again : (a : Algorithm) → IsAlgorithm a → algorithm_or (named algorithm_name algorithms (algorithm_name a)) (algorithm_name a) ≡ Ok a
 unfolding named
-algorithm_again Dsa is = refl
 algorithm_again (Ecdsa Nistp256) is = refl
-algorithm_again (Ecdsa Nistp384) is = refl
-algorithm_again (Ecdsa Nistp521) is = refl
-algorithm_again Ed25519 is = refl
-algorithm_again (Rsa None) is = refl
 algorithm_again (Rsa (Some Sha256)) is = refl
-algorithm_again (Rsa (Some Sha512)) is = refl
-algorithm_again SkEcdsa is = refl
-algorithm_again SkEd25519 is = refl
 algorithm_again (Other n) is = ap (λ (o : Option Algorithm). algorithm_or o n) (unlisted n is) ∙ rw is refl
+algorithm_again _ is = refl
 
 algorithm_takes : (o : Option Algorithm) (n : List ℕ) (a : Algorithm) → named algorithm_name algorithms n ≡ o → algorithm_or o n ≡ Ok a → IsAlgorithm a × (algorithm_name a ≡ n)
 algorithm_takes (Some x) n a from e = subst (λ (z : Algorithm). IsAlgorithm z × (algorithm_name z ≡ n)) (ok_is x a e) (found IsAlgorithm algorithm_name algorithms n x (assumption) from)

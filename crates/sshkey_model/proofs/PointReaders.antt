@@ -24,8 +24,7 @@ sized n c e =
 
 whole_size : (c : Curve) → curve_of_size (field_size c) ≡ Ok c
 whole_size Nistp256 = refl
-whole_size Nistp384 = refl
-whole_size Nistp521 = refl
+whole_size _ = refl
 
 pub point_takes : (b : List ℕ) (c : Curve) → point_curve b ≡ Ok c → is_point (field_size c) b ≡ true
 point_takes [] c e = absurd cc
@@ -66,13 +65,11 @@ point_again (tag ∷ rest) c is =
   where
     double : (c : Curve) → (curve_of_size (2 * field_size c / 2) >>= λ d. cond (eqb (2 * field_size c % 2) 0) (Ok d) (Err Ecdsa)) ≡ Ok c
     double Nistp256 = refl
-    double Nistp384 = refl
-    double Nistp521 = refl
+    double _ = refl
 
 small_field : (c : Curve) → 1 + 2 * field_size c ≤ 133
 small_field Nistp256 = omega arith
-small_field Nistp384 = omega arith
-small_field Nistp521 = omega arith
+small_field _ = omega arith
 
 pub point_checks : Checks Any bytes IsPointOf (λ x. bytes x.1) point_from
 point_checks = record { takes = there; again = back }
@@ -97,8 +94,7 @@ same_curve _ _ e = absurd cc
 
 pub curve_itself : (c : Curve) → curve_eq c c ≡ true
 curve_itself Nistp256 = refl
-curve_itself Nistp384 = refl
-curve_itself Nistp521 = refl
+curve_itself _ = refl
 
 pub p256_point_checks : Checks Any bytes (IsPoint Nistp256) bytes p256_point_from
 p256_point_checks = record { takes = there; again = back }

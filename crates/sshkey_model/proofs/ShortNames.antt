@@ -1,8 +1,8 @@
 -- Names are short.
-use Rattle.std.proofs.Common.{◌≡◌, ℕ, suc, ◌+◌, ◌≤◌, Option, None, Some, true, nat_le, is_none, ◌&&◌, List, ◌∷◌, ◌++◌, length, ap, ◌∙◌, arith, leb-true}
+use Rattle.std.proofs.Common.{◌≡◌, ℕ, suc, ◌+◌, ◌≤◌, Option, Some, true, nat_le, is_none, ◌&&◌, List, ◌∷◌, ◌++◌, length, ap, ◌∙◌, arith, leb-true}
 use Rattle.std.proofs.lemmas.Bool.{and_parts}
 use Rattle.std.proofs.lemmas.List.{length-append}
-use Rattle.sshkey_model.specs.Names.{Nistp256, Nistp384, Nistp521, Sha256, Sha512, Algorithm, Ecdsa, Rsa, Other, cut, at_sign, are_ascii, is_split, is_own_name, is_other_name, named, algorithm_name, algorithms, IsAlgorithm}
+use Rattle.sshkey_model.specs.Names.{Nistp256, Sha256, Algorithm, Ecdsa, Rsa, Other, cut, at_sign, are_ascii, is_split, is_own_name, is_other_name, named, algorithm_name, algorithms, IsAlgorithm}
 use Rattle.sshkey_model.specs.CertificateNames.{suffix, with_suffix, certificate_name, IsCertified}
 use Rattle.sshkey_model.proofs.CertificateNameReaders.{cut_parts, own_parts}
 
@@ -17,19 +17,12 @@ other_parts n is =
 
 pub short_name : (a : Algorithm) → IsAlgorithm a → length (algorithm_name a) ≤ 73
 short_name (Ecdsa Nistp256) is = omega arith
-short_name (Ecdsa Nistp384) is = omega arith
-short_name (Ecdsa Nistp521) is = omega arith
-short_name (Rsa None) is = omega arith
 short_name (Rsa (Some Sha256)) is = omega arith
-short_name (Rsa (Some Sha512)) is = omega arith
 short_name (Other n) is = omega (arith, (other_parts n is).1)
 short_name _ is = omega arith
 
 pub short_certificate_name : (a : Algorithm) → IsCertified a → length (certificate_name a) ≤ 73
 short_certificate_name (Ecdsa Nistp256) is = omega arith
-short_certificate_name (Ecdsa Nistp384) is = omega arith
-short_certificate_name (Ecdsa Nistp521) is = omega arith
-short_certificate_name (Rsa hash) is = omega arith
 short_certificate_name (Other n) is =
     let p = own_parts n is.0 in
     let whole_ : length n ≡ length p.0.0 + suc (length p.0.1) = ap length (cut_parts n p.0 p.1).0 ∙ length-append p.0.0 (at_sign ∷ p.0.1) in

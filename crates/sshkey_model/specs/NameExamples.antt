@@ -3,6 +3,7 @@ use Rattle.std.specs.Prelude.{◌≡◌, ℕ, List, [], ◌++◌, length, true, 
 use Rattle.sshkey_model.specs.HexText.{hex}
 use Rattle.sshkey_model.specs.Reading.{Length, Label}
 use Rattle.sshkey_model.specs.Names.{Curve, Nistp256, Nistp384, Nistp521, curve_name, curve_from, curve_at, Hash, Sha256, Sha512, hash_name, hash_from, Algorithm, Dsa, Ecdsa, Ed25519, Rsa, SkEcdsa, SkEd25519, Other, algorithm_name, algorithm_from, algorithm_at, is_other_name}
+use Rattle.sshkey_model.specs.Keys.{unhashed}
 use Rattle.sshkey_model.specs.CertificateNames.{certificate_name, certified_from, certificate_algorithm_at, IsCertified}
 
 -- ---- fixed names
@@ -33,41 +34,25 @@ HashNames = IsHashName Sha256 (codes "sha256")
     × (hash_from (codes "SHA256") ≡ Err Label)
     × (hash_from [] ≡ Err Label)
 
--- written and read so
-abbrev pub IsAlgorithmName : Algorithm → List ℕ → Type 0
-IsAlgorithmName a n = (algorithm_name a ≡ n) × (algorithm_from n ≡ Ok a)
+-- The algorithm is written and read by the first name, and by the second in certificates, where an
+-- RSA key has no hash.
+abbrev pub HasNames : Algorithm → List ℕ → List ℕ → Type 0
+HasNames a n t = (algorithm_name a ≡ n) × (algorithm_from n ≡ Ok a) × (certificate_name a ≡ t) × (certified_from t ≡ Ok (unhashed a))
 
 -- The fixed names of algorithms.
 abbrev pub AlgorithmNames : Type 0
-AlgorithmNames = IsAlgorithmName Dsa (codes "ssh-dss")
-    × IsAlgorithmName (Ecdsa Nistp256) (codes "ecdsa-sha2-nistp256")
-    × IsAlgorithmName (Ecdsa Nistp384) (codes "ecdsa-sha2-nistp384")
-    × IsAlgorithmName (Ecdsa Nistp521) (codes "ecdsa-sha2-nistp521")
-    × IsAlgorithmName Ed25519 (codes "ssh-ed25519")
-    × IsAlgorithmName (Rsa None) (codes "ssh-rsa")
-    × IsAlgorithmName (Rsa (Some Sha256)) (codes "rsa-sha2-256")
-    × IsAlgorithmName (Rsa (Some Sha512)) (codes "rsa-sha2-512")
-    × IsAlgorithmName SkEcdsa (codes "sk-ecdsa-sha2-nistp256@openssh.com")
-    × IsAlgorithmName SkEd25519 (codes "sk-ssh-ed25519@openssh.com")
+AlgorithmNames = HasNames Dsa (codes "ssh-dss") (codes "ssh-dss-cert-v01@openssh.com")
+    × HasNames (Ecdsa Nistp256) (codes "ecdsa-sha2-nistp256") (codes "ecdsa-sha2-nistp256-cert-v01@openssh.com")
+    × HasNames (Ecdsa Nistp384) (codes "ecdsa-sha2-nistp384") (codes "ecdsa-sha2-nistp384-cert-v01@openssh.com")
+    × HasNames (Ecdsa Nistp521) (codes "ecdsa-sha2-nistp521") (codes "ecdsa-sha2-nistp521-cert-v01@openssh.com")
+    × HasNames Ed25519 (codes "ssh-ed25519") (codes "ssh-ed25519-cert-v01@openssh.com")
+    × HasNames (Rsa None) (codes "ssh-rsa") (codes "ssh-rsa-cert-v01@openssh.com")
+    × HasNames (Rsa (Some Sha256)) (codes "rsa-sha2-256") (codes "ssh-rsa-cert-v01@openssh.com")
+    × HasNames (Rsa (Some Sha512)) (codes "rsa-sha2-512") (codes "ssh-rsa-cert-v01@openssh.com")
+    × HasNames SkEcdsa (codes "sk-ecdsa-sha2-nistp256@openssh.com") (codes "sk-ecdsa-sha2-nistp256-cert-v01@openssh.com")
+    × HasNames SkEd25519 (codes "sk-ssh-ed25519@openssh.com") (codes "sk-ssh-ed25519-cert-v01@openssh.com")
     × (algorithm_from (codes "ssh-ed448") ≡ Err Label)
     × (algorithm_from (codes "ssh-ed25519-cert-v01") ≡ Err Label)
-
--- written and read so
-abbrev pub IsCertificateName : Algorithm → List ℕ → Type 0
-IsCertificateName a n = (certificate_name a ≡ n) × (certified_from n ≡ Ok a)
-
--- The fixed names of algorithms in certificates.
-abbrev pub CertificateNames : Type 0
-CertificateNames = IsCertificateName Dsa (codes "ssh-dss-cert-v01@openssh.com")
-    × IsCertificateName (Ecdsa Nistp256) (codes "ecdsa-sha2-nistp256-cert-v01@openssh.com")
-    × IsCertificateName (Ecdsa Nistp384) (codes "ecdsa-sha2-nistp384-cert-v01@openssh.com")
-    × IsCertificateName (Ecdsa Nistp521) (codes "ecdsa-sha2-nistp521-cert-v01@openssh.com")
-    × IsCertificateName Ed25519 (codes "ssh-ed25519-cert-v01@openssh.com")
-    × IsCertificateName (Rsa None) (codes "ssh-rsa-cert-v01@openssh.com")
-    × (certificate_name (Rsa (Some Sha256)) ≡ codes "ssh-rsa-cert-v01@openssh.com")
-    × (certificate_name (Rsa (Some Sha512)) ≡ codes "ssh-rsa-cert-v01@openssh.com")
-    × IsCertificateName SkEcdsa (codes "sk-ecdsa-sha2-nistp256-cert-v01@openssh.com")
-    × IsCertificateName SkEd25519 (codes "sk-ssh-ed25519-cert-v01@openssh.com")
     × (certified_from (codes "ssh-ed25519") ≡ Err Label)
 
 -- ---- private-use names
@@ -101,7 +86,6 @@ OwnNames = (length longest_name ≡ 64)
 abbrev pub NameReading : Type 0
 NameReading = (algorithm_at (hex "00000007 7373682d647373 ff") ≡ Ok (Dsa, hex "ff"))
     × (algorithm_at (hex "00000010 6e616d65406578616d706c652e636f6d") ≡ Ok (Other (codes "name@example.com"), []))
-    × (algorithm_from longest_name ≡ Ok (Other longest_name))
     × (algorithm_from (longest_name ++ codes "s") ≡ Err Label)
     × (algorithm_at (hex "00000002 ffff") ≡ Err Label)
     × (algorithm_at (hex "00000000") ≡ Err Label)
@@ -116,8 +100,8 @@ longest_certificate_name = codes "a-name-that-is-just-short-enough-to-be-valid-h
 
 -- The suffix stands before the at sign, and the name is the text without it.
 abbrev pub OwnCertificateNames : Type 0
-OwnCertificateNames = IsCertificateName (Other (codes "name@example.com")) (codes "name-cert-v01@example.com")
-    × IsCertificateName (Other longest_name) longest_certificate_name
+OwnCertificateNames = HasNames (Other (codes "name@example.com")) (codes "name@example.com") (codes "name-cert-v01@example.com")
+    × HasNames (Other longest_name) longest_name longest_certificate_name
     × (length longest_certificate_name ≡ 73)
     × (certified_from (longest_certificate_name ++ codes "s") ≡ Err Label)
     × (certified_from (codes "name@example.com") ≡ Err Label)

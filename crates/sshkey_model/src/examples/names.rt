@@ -1,6 +1,6 @@
 //! Examples of names.
 
-ghost use Rattle.sshkey_model.specs.NameExamples.{CurveNames, HashNames, AlgorithmNames, CertificateNames, OwnNames, NameReading, OwnCertificateNames, TakenCertificateName};
+ghost use Rattle.sshkey_model.specs.NameExamples.{CurveNames, HashNames, AlgorithmNames, OwnNames, NameReading, OwnCertificateNames, TakenCertificateName};
 
 /// The three curves have the names of RFC 5656, section 10.1; any other name is rejected.
 pub fn curve_names()
@@ -12,15 +12,10 @@ pub fn hash_names()
     ensures { HashNames }
 {}
 
-/// Each algorithm is written and read by its fixed name.
+/// Each algorithm is written and read by its fixed name, and by another in certificates; RSA has
+/// one there, with a hash and without.
 pub fn algorithm_names()
     ensures { AlgorithmNames }
-{}
-
-/// Each algorithm is written and read by its fixed name in certificates; RSA has one there, with a
-/// hash and without.
-pub fn certificate_names()
-    ensures { CertificateNames }
 {}
 
 /// Private-use names (RFC 4251, section 6): 64 bytes and 65, ASCII and not, no at sign, one and

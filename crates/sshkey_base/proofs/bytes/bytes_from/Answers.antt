@@ -1,4 +1,4 @@
-use Rattle.std.proofs.Common.{rules, ◌≡◌, ℕ, [], length, arith, refl, take, drop, ◌++◌}
+use Rattle.std.proofs.Common.{rules, ◌≡◌, [], length, arith, refl, take, drop, ◌++◌}
 use Rattle.std.proofs.lemmas.Result.{err_from_is_err_and}
 use Rattle.std.proofs.lemmas.List.{take_at}
 use Rattle.sshkey_base.specs.declared.encoding.Error.TheVariants.{Length}
