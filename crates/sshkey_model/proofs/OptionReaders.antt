@@ -1,12 +1,12 @@
 -- Options are read as they are spelled.
-use Rattle.std.proofs.Common.{◌≡◌, ℕ, ◌<◌, Option, Some, None, true, List, [], ◌∷◌, length, Result, Ok, refl, ap, subst, ◌∙◌, arith}
+use Rattle.std.proofs.Common.{◌≡◌, ℕ, ◌<◌, Option, Some, None, true, List, [], ◌∷◌, length, Result, Ok, refl, sym, ap, subst, ◌∙◌, arith}
 use Rattle.std.proofs.lemmas.Str.{is_utf8-from_IsUtf8, IsUtf8-nil}
 use Rattle.sshkey_model.specs.Parts.{Parts, ◌&◌, each, flat, Fits, InRange, BoxesFit}
 use Rattle.sshkey_model.specs.Reading.{Fault, FormatEncoding, ◌>>=◌, whole, checked_whole, list_whole, IsChain, behind_at}
 use Rattle.sshkey_model.specs.Grammar.{IsSpelled, spelled, Checks}
 use Rattle.sshkey_model.specs.Texts.{string, IsText, text_at}
 use Rattle.sshkey_model.specs.Options.{CertificateOption, Nesting, Plain, Nested, option_value, option, each_option, options, is_after, Rises, AreOptions, HasNesting, HasOptionPlaces, nesting_of, option_value_from, option_before, option_at, firsts, seconds, options_at}
-use Rattle.sshkey_model.proofs.CombinedReaders.{bind_assoc, bind_ok, ok_is, ReadsFront, ReadsWhole, whole_reads, box_reads, then_reads, checked_reads, checked_whole_reads, boxed_checks, to_form, kept, list_reads, same_front}
+use Rattle.sshkey_model.proofs.CombinedReaders.{bind_assoc, ok_is, ReadsFront, ReadsWhole, whole_reads, box_reads, then_reads, checked_reads, checked_whole_reads, boxed_checks, to_form, kept, list_reads, same_front}
 use Rattle.sshkey_model.proofs.TextReaders.{text_reads}
 
 pub no_text : IsText []
@@ -20,33 +20,24 @@ unfolding IsOptionValue
 nested_value [] is = ((is, refl), refl)
 nested_value (c ∷ d) is = ((is, tt), refl)
 
+-- bytes that are some are read as a text
+text_value_reads : ReadsWhole (λ x. IsOptionValue x × (x.1 ≡ nesting_of x.0)) (λ x. option_value x.0 x.1) (λ b. whole text_at b >>= λ d. Ok (d, nesting_of d))
+unfolding IsOptionValue
+text_value_reads = checked_whole_reads (to_form (λ d. (d, nesting_of d)) (λ d is. let n = nested_value d is in ((n.0, refl), n.1)) (λ x h. (x.0, h.0.0, ap (λ (n : Nesting). (x.0, n)) (sym h.1), rw h.1 (nested_value x.0 h.0.0).1))) (whole_reads text_reads)
+
 value_takes : (b : List ℕ) (x : List ℕ × Nesting) → option_value_from b ≡ Ok x → IsOptionValue x × Fits (option_value x.0 x.1) × (b ≡ flat (option_value x.0 x.1))
 unfolding option_value_from flat InRange BoxesFit IsOptionValue
 value_takes [] x e = subst (λ (z : List ℕ × Nesting). IsOptionValue z × Fits (option_value z.0 z.1) × ([] ≡ flat (option_value z.0 z.1))) (ok_is ([], Plain) x e) ((no_text, tt), record { range = tt; boxes = tt }, refl)
-value_takes (c ∷ rest) x e =
-    let d = bind_ok (whole text_at (c ∷ rest)) (λ d. Ok (d, nesting_of d)) x e in
-    let t = (whole_reads text_reads).takes (c ∷ rest) d.0 d.1 in
-    let n = nested_value d.0 t.0 in
-    let inner = subst (λ (p : Parts). Fits p × (c ∷ rest ≡ flat p)) n.1 (t.1, t.2) in
-    subst (λ (z : List ℕ × Nesting). IsOptionValue z × Fits (option_value z.0 z.1) × (c ∷ rest ≡ flat (option_value z.0 z.1))) (ok_is (d.0, nesting_of d.0) x d.2) (n.0, inner.0, inner.1)
-
--- bytes that are some are read as a text
-from_some : (d : List ℕ) → IsText d → Fits (string d) → option_value_from (flat (string d)) ≡ Ok (d, nesting_of d)
-unfolding option_value_from flat
-from_some d is fits = ap (λ (r : Result (List ℕ) Fault). r >>= λ d. Ok (d, nesting_of d)) ((whole_reads text_reads).again d is fits)
-
-empty_again : option_value_from (flat (option_value [] Plain)) ≡ Ok ([], Plain)
-unfolding option_value_from flat
-empty_again = refl
+value_takes (c ∷ rest) x e = let t = text_value_reads.takes (c ∷ rest) x e in (t.0.0, t.1, t.2)
 
 value_again : (x : List ℕ × Nesting) → IsOptionValue x → Fits (option_value x.0 x.1) → option_value_from (flat (option_value x.0 x.1)) ≡ Ok x
-unfolding IsOptionValue
+unfolding option_value_from flat IsOptionValue
 value_again x is fits = go x.0 x.1 is.0 is.1 fits
   where
     go : (d : List ℕ) (n : Nesting) → IsText d → HasNesting d n → Fits (option_value d n) → option_value_from (flat (option_value d n)) ≡ Ok (d, n)
-    go [] Plain text has fits = empty_again
-    go [] Nested text has fits = from_some [] text fits
-    go (c ∷ d) Plain text has fits = from_some (c ∷ d) text fits
+    go [] Plain text has fits = refl
+    go [] Nested text has fits = text_value_reads.again ([], Nested) ((text, has), refl) fits
+    go (c ∷ d) Plain text has fits = text_value_reads.again (c ∷ d, Plain) ((text, has), refl) fits
     go (c ∷ d) Nested text has fits = absurd (cc has)
 
 option_value_reads : ReadsWhole IsOptionValue (λ x. option_value x.0 x.1) option_value_from
@@ -77,42 +68,23 @@ apart_parts : (xs : List Pair) → each (λ (x : Pair). option x.0 x.1) xs ≡ e
 apart_parts [] = refl
 apart_parts (x ∷ xs) = ap (λ (p : Parts). option x.0 x.1 & p) (apart_parts xs)
 
-paired : List CertificateOption → List Nesting → List Pair
-paired (o ∷ os) (n ∷ ns) = (o, n) ∷ paired os ns
-paired _ _ = []
-
-paired_again : (os : List CertificateOption) (ns : List Nesting) → HasOptionPlaces os ns → (firsts (paired os ns) ≡ os) × (seconds (paired os ns) ≡ ns)
-unfolding HasOptionPlaces paired
-paired_again [] [] h = (refl, refl)
-paired_again (o ∷ os) (n ∷ ns) h = let r = paired_again os ns h.1 in (ap (λ (z : List CertificateOption). o ∷ z) r.0, ap (λ (z : List Nesting). n ∷ z) r.1)
-paired_again _ _ h = absurd h
-
-paired_chain : (before : Option Pair) (os : List CertificateOption) (ns : List Nesting) → IsChain Rises (option_before before) os → HasOptionPlaces os ns → IsChain Follows before (paired os ns)
-unfolding IsChain HasOptionPlaces paired
-paired_chain before [] [] chain h = tt
-paired_chain before (o ∷ os) (n ∷ ns) chain h = (((chain.0.0, h.0), chain.0.1), paired_chain (Some (o, n)) os ns chain.1 h.1)
-paired_chain before _ _ chain h = absurd h
+paired : (before : Option Pair) (os : List CertificateOption) (ns : List Nesting) → IsChain Rises (option_before before) os → HasOptionPlaces os ns → (xs : List Pair) × IsChain Follows before xs × (◌≡◌ {A = List CertificateOption × List Nesting} (firsts xs, seconds xs) (os, ns))
+unfolding IsChain HasOptionPlaces
+paired before [] [] chain h = ([], tt, refl)
+paired before (o ∷ os) (n ∷ ns) chain h =
+    let r = paired (Some (o, n)) os ns chain.1 h.1 in
+    ((o, n) ∷ r.0, (((chain.0.0, h.0), chain.0.1), r.1), ap (λ (p : List CertificateOption × List Nesting). (o ∷ p.0, n ∷ p.1)) r.2)
+paired before _ _ chain h = absurd h
 
 option_shows : (x : Pair) → 0 < length (flat (option x.0 x.1))
 unfolding flat
 option_shows x = omega arith
 
-same_pair : (os ps : List CertificateOption) (ns ms : List Nesting) → os ≡ ps → ns ≡ ms → ◌≡◌ {A = List CertificateOption × List Nesting} (os, ns) (ps, ms)
-same_pair os ps ns ms e f = cc
-
-same_options : (os ps : List CertificateOption) (ns ms : List Nesting) → os ≡ ps → ns ≡ ms → each_option os ns ≡ each_option ps ms
-same_options os ps ns ms e f = cc
-
 abbrev apart : List Pair → Result (List CertificateOption × List Nesting) Fault
 apart xs = Ok (firsts xs, seconds xs)
 
 apart_checks : Checks (IsChain Follows None) (each (λ x. option x.0 x.1)) (IsSpelled AreOptions HasOptionPlaces) (spelled each_option) apart
-apart_checks = to_form (λ xs. (firsts xs, seconds xs)) (λ xs h. (let p = apart_chain None xs h in record { is = p.0; place = p.1 }, apart_parts xs)) back
-  where
-    back : (x : List CertificateOption × List Nesting) → IsSpelled AreOptions HasOptionPlaces x → (xs : List Pair) × IsChain Follows None xs × ((firsts xs, seconds xs) ≡ x) × (each (λ (y : Pair). option y.0 y.1) xs ≡ spelled each_option x)
-    back x h =
-        let p = paired_again x.0 x.1 h.place in
-        (paired x.0 x.1, paired_chain None x.0 x.1 h.is h.place, same_pair _ _ _ _ p.0 p.1, apart_parts (paired x.0 x.1) ∙ same_options _ _ _ _ p.0 p.1)
+apart_checks = to_form (λ xs. (firsts xs, seconds xs)) (λ xs h. (let p = apart_chain None xs h in record { is = p.0; place = p.1 }, apart_parts xs)) (λ x h. let p = paired None x.0 x.1 h.is h.place in (p.0, p.1, p.2, apart_parts p.0 ∙ ap (λ (y : List CertificateOption × List Nesting). spelled each_option y) p.2))
 
 pairs_read : ReadsWhole (IsChain Follows None) (each (λ x. option x.0 x.1)) (list_whole option_at)
 pairs_read = list_reads option_reads option_shows None
