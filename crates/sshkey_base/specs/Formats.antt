@@ -5,9 +5,9 @@ use Rattle.sshkey_model.specs.Parts.{Any, bytes}
 use Rattle.sshkey_model.specs.Texts.{string, text_at, texts_at}
 use Rattle.sshkey_model.specs.Mpints.{mpint_at}
 use Rattle.sshkey_model.specs.Reading.{Front, Whole, whole, bytes_at, number_at, string_at, box_at}
-use Rattle.sshkey_model.specs.Grammar.{Spells, Checks, AllEnd, Grammar, MayFollow}
+use Rattle.sshkey_model.specs.Grammar.{Spells, Checks, Grammar, MayFollow}
 use Rattle.sshkey_base.specs.Causes.{Cause, NoMemory}
-use Rattle.sshkey_model.proofs.Grammars.{by_itself, ends}
+use Rattle.sshkey_model.proofs.Grammars.{by_itself}
 use Rattle.sshkey_base.specs.Source.{Source, IsSound}
 use Rattle.sshkey_base.specs.Needs.{NoNeed, NeedsBoxed, NeedsString}
 use Rattle.sshkey_base.specs.Stops.{NoOverrun, OverrunsString, OverrunsBoxed, OverrunsList, AreLengths, StopsBy}
@@ -45,10 +45,6 @@ pub record Begins {Y : Type 0} (f : Format Y) (y : Y) (bytes rest : List ℕ) : 
   pub spelled : f.Spells y front
   pub all : bytes ≡ front ++ rest
   pub may_follow : MayFollow f.grammar.delimited_at y front rest
-
--- Where all values end by themselves, each spelling begins whatever it stands in.
-pub begins : {Y : Type 0} (f : Format Y) → AllEnd f.grammar → (y : Y) (front rest : List ℕ) → f.Spells y front → Begins f y (front ++ rest) rest
-begins f all y front rest s = record { front = front; spelled = s; all = refl; may_follow = ends f.grammar all y front rest s }
 
 -- The bytes that were taken spell the value, and nothing else changed. A sound source is refused
 -- when out of memory, or because it begins with no value.

@@ -8,7 +8,7 @@ use Rattle.sshkey_model.specs.Reading.{Fault, Length, FormatEncoding, ◌>>=◌,
 use Rattle.sshkey_model.specs.Grammar.{Checks}
 pub use Rattle.sshkey_model.proofs.LawfulReaders.{Any, bind_ok, bind_assoc, done, ok_is, chosen, passed, met, bytes_fit, fit_bytes, are_bytes-append, number_bytes, fits_both, fits_first, fits_second, fits_box, fits_inside, fits_length, fits_bytes, fits_number, ReadsFront, ReadsWhole, bytes_reads, all_reads, IsWide, wide8, wide32, wide64, number_reads}
 use Rattle.sshkey_model.proofs.LawfulReaders.{bind_ok, done, ok_is, met, fits_both, fits_first, fits_second, ReadsFront, ReadsWhole, bytes_reads, all_reads, Any}
-use Rattle.sshkey_model.proofs.Grammars.{grammar, by_itself, ends, all_end, whole_spells, box_grammar, then_grammar, tested_grammar}
+use Rattle.sshkey_model.proofs.Grammars.{grammar, same_grammar, by_itself, ends, all_end, whole_spells, box_grammar, then_grammar, tested_grammar}
 use Rattle.sshkey_model.proofs.Trees.{alike, leaf_tree, choice_tree, box_tree, tested_tree, tree_reads, plain_prefix}
 
 -- ---- boxes
@@ -18,10 +18,7 @@ box_reads reads = tree_reads tt (box_tree leaf_tree) (box_grammar (λ b y. (λ e
 
 -- the same reader, written otherwise
 pub same_front : {A : Type 0} {Is : A → Type 0} {spell : A → Parts} {read other : Front A} → ReadsFront Is spell read → ((b : List ℕ) → other b ≡ read b) → ReadsFront Is spell other
-same_front {A} {Is} {spell} {read} {other} reads same = record {
-  takes = λ b x rest e. reads.takes b x rest (sym (same b) ∙ e);
-  again = λ x rest is fits. same (flat (spell x) ++ rest) ∙ reads.again x rest is fits;
-}
+same_front reads same = tree_reads {S = Unit {0}} tt leaf_tree (same_grammar (grammar reads) (λ b. sym (same b)))
 
 pub bind_same : {A B : Type 0} (r : Result A Fault) (f g : A → Result B Fault) → ((x : A) → f x ≡ g x) → (r >>= f) ≡ (r >>= g)
 bind_same (Ok x) f g h = h x
@@ -117,21 +114,19 @@ kept {A} {Was} {spelled} test fault = record {
   again = λ a is. (a, is.0, rw is.1 refl, refl);
 }
 
--- The same of bytes of which nothing else is asked.
-pub kept_bytes : (test : List ℕ → Bool) (fault : Fault) → Checks Any bytes (λ b. test b ≡ true) bytes (λ b. cond (test b) (Ok b) (Err fault))
-kept_bytes test fault = record {
-  takes = λ a b was e. let k = (kept {Was = Any} {spelled = bytes} test fault).takes a b tt e in (k.0.1, k.1);
-  again = λ b is. (b, tt, rw is refl, refl);
+-- the same, asked in another form
+pub as_checks : {A B : Type 0} {Was : A → Type 0} {spelled : A → Parts} {Is Are : B → Type 0} {spell : B → Parts} {check : A → Result B Fault} → ((b : B) → Is b → Are b) → ((b : B) → Are b → Is b) → Checks Was spelled Is spell check → Checks Was spelled Are spell check
+as_checks there back checks = record {
+  takes = λ a b was e. let t = checks.takes a b was e in (there b t.0, t.1);
+  again = λ b is. checks.again b (back b is);
 }
 
+-- A test of bytes of which nothing else is asked.
+pub kept_bytes : (test : List ℕ → Bool) (fault : Fault) → Checks Any bytes (λ b. test b ≡ true) bytes (λ b. cond (test b) (Ok b) (Err fault))
+kept_bytes test fault = as_checks (λ b h. h.1) (λ b h. (tt, h)) (kept {Was = Any} {spelled = bytes} test fault)
+
 literal_checks : (text : List ℕ) → Checks (HasLength (length text)) bytes (λ b. b ≡ text) bytes (literal_from text)
-literal_checks text = record {
-  takes = λ a b was e.
-      let h = met (bytes_eq a text) FormatEncoding (Ok a) b e in
-      let same : a ≡ b = ok_is a b h.1 in
-      (sym same ∙ (bytes_eq-Decides a text).0 h.0, ap bytes same);
-  again = λ b is. (b, ap length is, (let same = (bytes_eq-Decides b text).1 is in rw same refl), refl);
-}
+literal_checks text = as_checks (λ b h. (bytes_eq-Decides b text).0 h.1) (λ b is. (ap length is, (bytes_eq-Decides b text).1 is)) (kept (λ b. bytes_eq b text) FormatEncoding)
 
 -- Just these bytes.
 pub literal_reads : (text : List ℕ) → ReadsFront (λ b. b ≡ text) bytes (literal_at text)

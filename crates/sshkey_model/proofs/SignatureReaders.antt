@@ -10,7 +10,7 @@ use Rattle.sshkey_model.specs.Mpints.{is_mpint, mpint_from, positive_part}
 use Rattle.sshkey_model.specs.Points.{field_size}
 use Rattle.sshkey_model.specs.Signatures.{has_part, small_part, IsComponent, component_from, component_at, IsEcdsaBlob, ecdsa_blob_from, sized_from, some_from, none_from, trailed_at, without_trailer, trailer, signature_blob, signature, IsSignatureBlob, IsSignature, signature_blob_at, signature_at}
 use Rattle.sshkey_model.specs.Grammar.{Checks}
-use Rattle.sshkey_model.proofs.CombinedReaders.{bind_assoc, bind_ok, done, ok_is, met, fits_both, fits_first, fits_second, ReadsFront, Any, string_reads, bytes_reads, then_reads, checked_reads, checked_string_reads, to_form, kept_bytes, same_front, as_front_form}
+use Rattle.sshkey_model.proofs.CombinedReaders.{bind_assoc, bind_ok, done, ok_is, met, fits_both, fits_first, fits_second, ReadsFront, Any, string_reads, bytes_reads, then_reads, checked_reads, checked_string_reads, to_form, as_checks, kept_bytes, same_front, as_front_form}
 use Rattle.sshkey_model.proofs.NameReaders.{algorithm_reads}
 
 component_reads : (size : ℕ) → ReadsFront (IsComponent size) string (component_at size)
@@ -62,16 +62,10 @@ ecdsa_blob_checks size = record { takes = there; again = λ x is. (x, tt, back x
         rw (first, second) refl
 
 pub sized_checks : (n : ℕ) → Checks Any bytes (HasLength n) bytes (sized_from n)
-sized_checks n = record {
-  takes = λ a b was e. let k = (kept_bytes (λ d. eqb (length d) n) Length).takes a b tt e in (eqb-true _ _ k.0, k.1);
-  again = λ b is. (b, tt, (let k = eq-eqb (length b) n is in rw k refl), refl);
-}
+sized_checks n = as_checks (λ b. eqb-true _ _) (λ b. eq-eqb _ _) (kept_bytes (λ d. eqb (length d) n) Length)
 
 some_checks : Checks Any bytes (λ d. 0 < length d) bytes some_from
-some_checks = record {
-  takes = λ a b was e. let k = (kept_bytes (λ d. ltb 0 (length d)) Length).takes a b tt e in (ltb-true _ _ k.0, k.1);
-  again = λ b is. (b, tt, (let k = lt-ltb 0 (length b) is in rw k refl), refl);
-}
+some_checks = as_checks (λ b. ltb-true _ _) (λ b. lt-ltb _ _) (kept_bytes (λ d. ltb 0 (length d)) Length)
 
 none_checks : Checks Any bytes (λ (d : List ℕ). ⊥) bytes none_from
 none_checks = record { takes = λ a b was e. absurd cc; again = λ b is. absurd is }

@@ -83,16 +83,6 @@ module _ {A S : Type 0} {Spelling : A → List ℕ → Type 0} {Is : A × S → 
     again = λ x is fits. record { inside = flat (tree x); spelled = t.again x is (fits_inside (tree x) fits); short = fits_length (tree x) fits; whole = refl };
   }
 
-  -- values that a test keeps
-  pub kept_tree : (test : A → Bool) (fault : A → Fault) → IsTree (SpellsTested Spelling (λ a. cond (test a) (Ok a) (Err (fault a)))) (λ x. Is x × (test x.0 ≡ true)) tree
-  kept_tree test fault = record {
-    takes = λ a b s.
-        let h = met (test s.inner) (fault s.inner) (Ok s.inner) a s.makes in
-        let x = t.takes s.inner b s.spelled in
-        subst (λ (z : A). (u : S) × (Is (z, u) × (test z ≡ true)) × Fits (tree (z, u)) × (b ≡ flat (tree (z, u)))) (ok_is s.inner a h.1) (x.0, (x.1, h.0), x.2, x.3);
-    again = λ x is fits. record { inner = x.0; spelled = t.again x is.0 fits; makes = rw is.1 refl };
-  }
-
   -- values that a test makes of these
   pub tested_tree : {B U : Type 0} {IsMade : B × U → Type 0} {made : B × U → Parts} (test : A → Result B Fault) → ((x : A × S) (y : B) → Is x → test x.0 ≡ Ok y → (u : U) × IsMade (y, u) × Alike (tree x) (made (y, u))) → ((y : B × U) → IsMade y → (x : A × S) × Is x × (test x.0 ≡ Ok y.0) × Alike (tree x) (made y)) → IsTree (SpellsTested Spelling test) IsMade made
   tested_tree test there back = record {
@@ -104,6 +94,12 @@ module _ {A S : Type 0} {Spelling : A → List ℕ → Type 0} {Is : A × S → 
         let x = back y is in
         record { inner = x.0.0; spelled = subst (Spelling x.0.0) x.3.bytes (t.again x.0 x.1 (x.3.back fits)); makes = x.2 };
   }
+
+  -- values that a test keeps
+  pub kept_tree : (test : A → Bool) (fault : A → Fault) → IsTree (SpellsTested Spelling (λ a. cond (test a) (Ok a) (Err (fault a)))) (λ x. Is x × (test x.0 ≡ true)) tree
+  kept_tree test fault = tested_tree (λ a. cond (test a) (Ok a) (Err (fault a)))
+      (λ x y is e. let h = met (test x.0) (fault x.0) (Ok x.0) y e in subst (λ (z : A). (u : S) × (Is (z, u) × (test z ≡ true)) × Alike (tree x) (tree (z, u))) (ok_is x.0 y h.1) (x.1, (is, h.0), alike _ _ refl))
+      (λ y is. (y, is.0, rw is.1 refl, alike _ _ refl))
 
   -- values that are made of these
   pub made_tree : {B U : Type 0} {IsMade : B × U → Type 0} {made : B × U → Parts} (to : A → B) → ((x : A × S) → Is x → (u : U) × IsMade (to x.0, u) × Alike (tree x) (made (to x.0, u))) → ((y : B × U) → IsMade y → (x : A × S) × Is x × (to x.0 ≡ y.0) × Alike (tree x) (made y)) → IsTree (SpellsTested Spelling (λ a. Ok (to a))) IsMade made
