@@ -1,5 +1,7 @@
 //! Laws of SSH signatures: each stands for all values, and makes no call.
 
+#![tactic(auto, using(crate::specs::SshSignatureReaders::laws))]
+
 ghost use Rattle.std.specs.Prelude.{◌≡◌, ◌↔◌, ◌++◌, ℕ, List, length};
 ghost use Rattle.sshkey_base.specs.Comparisons.{EqualMeanSame, IsEqualityAmong};
 ghost use Rattle.sshkey_base.specs.Digests.{digest_len};
@@ -28,7 +30,6 @@ pub fn compared_ssh_signatures()
 }
 
 /// SSH signatures are read exactly where they are spelled.
-#[tactic(auto, using(crate::specs::SshSignatureReaders::ssh_signature_grammar))]
 pub fn exact_ssh_signature()
     ensures { IsGrammar SpellsSshSignature ssh_signature_value_at }
 {}
