@@ -1,18 +1,16 @@
 -- A record that its first value calls for: what the call says that reads that value, and what the
 -- call says that reads the record behind it, is said of the whole.
-use Rattle.std.proofs.Common.{◌≡◌, ◌⊎◌, inl, inr, ℕ, List, IsErrAnd, Result, Ok, Err, ◌∙◌}
-use Rattle.std.specs.Prelude.{IsOkAnd}
-use Rattle.sshkey_model.specs.Reading.{Length, Front}
-use Rattle.sshkey_base.specs.Causes.{Cause, Faulty}
+use Rattle.std.proofs.Common.{◌≡◌, ℕ, List, IsErrAnd, Result, Ok, Err, ◌∙◌}
+use Rattle.sshkey_model.specs.Reading.{Front}
+use Rattle.sshkey_base.specs.Causes.{Cause}
 use Rattle.sshkey_base.specs.Needs.{Asks, NeedsThen}
 use Rattle.sshkey_base.specs.Reading.{Reads, IsRefused, Gives}
 use Rattle.sshkey_base.specs.Source.{Source}
-use Rattle.sshkey_base.specs.Stops.{OverrunsThen, AreLengths, RanOut, Stopped, StopsBy}
+use Rattle.sshkey_base.specs.Stops.{OverrunsThen, AreLengths, Stopped, StopsBy}
 use Rattle.sshkey_base.proofs.Places.{later_none, later_then}
 use Rattle.sshkey_base.proofs.Steps.{refused_first, refused_later, asks_later}
-use Rattle.sshkey_base.proofs.Stopping.{step_ok, read_past}
 use Rattle.sshkey_terms.specs.Terms.{IsChosen}
-use Rattle.sshkey_terms.proofs.Stopping.{some_ok}
+use Rattle.sshkey_terms.proofs.Stopping.{handed_stops, later_past, later_ran, step_stopped}
 
 -- ---- the first value is refused
 
@@ -20,20 +18,9 @@ pub chosen_refused : {A Z : Type 0} (read : Front A) (next : A → Front Z) (m :
 chosen_refused read next m c b record_at same h = rw (same.same b) (refused_first m c (read b) _ h)
 
 pub chosen_stopped : {A Z : Type 0} (read : Front A) (next : A → Front Z) (first over : List ℕ → ℕ → Type 0) (needs overs : A → List ℕ → ℕ → Type 0) (c : Cause) (s : Source) (record_at : Front Z) → IsChosen record_at read next → Stopped c read first over s → Stopped c record_at (NeedsThen first read needs) (OverrunsThen over read overs) s
-chosen_stopped read next first over needs overs c s record_at same h = record {
-  takes = λ ok. more (h.takes (step_ok (read s.left) _ (rw (same.same s.left) at ok)));
-  past = past;
-}
-  where
-    more : RanOut c first s → RanOut c (NeedsThen first read needs) s
-    more m = record { memory = m.memory; needed = inl m.needed }
-
-    past : over s.left s.missing ⊎ IsOkAnd (read s.left) (λ x. overs x.0 x.1 s.missing) → (c ≡ Faulty Length) ⊎ RanOut c (NeedsThen first read needs) s
-    past (inl o) = elim (h.past o) [
-      | inl is ↦ inl is
-      | inr m ↦ inr (more m)
-    ]
-    past (inr o) = inr (more (h.takes (some_ok (λ x. overs x.0 x.1 s.missing) (read s.left) o)))
+chosen_stopped read next first over needs overs c s record_at same h =
+    let k = step_stopped first over read read needs overs (λ x. next x.0 x.1) c s h in
+    record { takes = λ ok. k.takes (rw (same.same s.left) at ok); past = k.past }
 
 -- what `?` hands on
 pub chosen_handed : {A Z W E : Type 0} (read : Front A) (next : A → Front Z) (s t : Source) (record_at : Front Z) (means : W → Z) (why : E → Cause) (r : Result W E) (e : E) → IsErrAnd r (λ x. x ≡ e) → IsChosen record_at read next → IsRefused s.missing (why e) (read s.left) → Gives means why record_at s r t
@@ -41,8 +28,7 @@ chosen_handed read next s t record_at means why (Ok w) e is same h = absurd is
 chosen_handed read next s t record_at means why (Err x) e is same h = rw is (chosen_refused read next s.missing (why e) s.left record_at same h)
 
 pub chosen_handed_stops : {A Z W E : Type 0} (read : Front A) (next : A → Front Z) (first over : List ℕ → ℕ → Type 0) (needs overs : A → List ℕ → ℕ → Type 0) (s : Source) (record_at : Front Z) (why : E → Cause) (r : Result W E) (e : E) → IsErrAnd r (λ x. x ≡ e) → IsChosen record_at read next → Stopped (why e) read first over s → StopsBy why record_at (NeedsThen first read needs) (OverrunsThen over read overs) s r
-chosen_handed_stops read next first over needs overs s record_at why (Ok w) e is same h = absurd is
-chosen_handed_stops read next first over needs overs s record_at why (Err x) e is same h = rw is (chosen_stopped read next first over needs overs (why e) s record_at same h)
+chosen_handed_stops read next first over needs overs s record_at why r e is same h = handed_stops record_at (NeedsThen first read needs) (OverrunsThen over read overs) s why r e is (chosen_stopped read next first over needs overs (why e) s record_at same h)
 
 -- ---- the first value was read, and the call behind it decides
 
@@ -66,16 +52,9 @@ module _ {A X Z W E : Type 0} (means : X → A) (read : Front A) (next : A → F
     where
       go : (r : Result W E) → StopsBy why (next (means x)) (needs (means x)) (overs (means x)) t r → StopsBy why record_at (NeedsThen first read needs) (OverrunsThen over read overs) s r
       go (Ok w) k = tt
-      go (Err e) k = record { takes = λ ok. more (k.takes (rw (same.same s.left, h.value) at ok)); past = past }
-        where
-          more : RanOut (why e) (needs (means x)) t → RanOut (why e) (NeedsThen first read needs) s
-          more m = record { memory = m.memory; needed = inr (rw (h.value, ← h.missing) m.needed) }
-
-          past : over s.left s.missing ⊎ IsOkAnd (read s.left) (λ y. overs y.0 y.1 s.missing) → (why e ≡ Faulty Length) ⊎ RanOut (why e) (NeedsThen first read needs) s
-          past (inl o) = read_past means read over s t x lengths h o
-          past (inr o) = elim (k.past (rw (h.value, ← h.missing) at o)) [
-            | inl is ↦ inl is
-            | inr m ↦ inr (more m)
-          ]
+      go (Err e) k = record {
+        takes = λ ok. later_ran first over read read needs overs next means (why e) s t x (λ b y i. i) lengths h (k.takes (rw (same.same s.left, h.value) at ok));
+        past = later_past first over read read needs overs next means (why e) s t x (λ b y i. i) lengths h k.past;
+      }
 
 pub ruleset chosen = (later_none, later_then, chosen_refused, chosen_stopped, chosen_handed, chosen_handed_stops, chosen_gives, chosen_asks, chosen_stops)

@@ -7,7 +7,7 @@ use Rattle.sshkey_base.specs.Needs.{NoNeed, NeedsThen}
 use Rattle.sshkey_base.specs.Source.{Source, IsSound}
 use Rattle.sshkey_base.specs.Stops.{Stopped, StopsBy}
 use Rattle.sshkey_terms.specs.Terms.{IsMapped}
-use Rattle.sshkey_terms.proofs.Stopping.{mapped_stopped}
+use Rattle.sshkey_terms.proofs.Stopping.{handed_stops, mapped_stopped}
 
 -- neither of two values does
 no_needs : {A Z : Type 0} (read : Front A) (s : Source) → NeedsThen NoNeed read (λ _. NoNeed) s.left s.missing → Z
@@ -36,7 +36,6 @@ needless_stops first read overruns why s (Err e) h = needless first read overrun
 
 -- what `?` hands on of a record that is read as a term
 pub needless_handed : {A Y Z W E : Type 0} (first : Front A) (read : Front Y) (overruns : List ℕ → ℕ → Type 0) (s : Source) (form : Y → Result Z Fault) (record_at : Front Z) (why : E → Cause) (r : Result W E) (e : E) → IsErrAnd r (λ x. x ≡ e) → IsMapped record_at form read → Stopped (why e) read (NeedsThen NoNeed first (λ _. NoNeed)) overruns s → StopsBy why record_at NoNeed overruns s r
-needless_handed first read overruns s form record_at why (Ok w) e is m h = absurd is
-needless_handed first read overruns s form record_at why (Err x) e is m h = rw is (needless first record_at overruns (why e) s (mapped_stopped read (NeedsThen NoNeed first (λ _. NoNeed)) overruns (why e) s form record_at m h))
+needless_handed first read overruns s form record_at why r e is m h = handed_stops record_at NoNeed overruns s why r e is (needless first record_at overruns (why e) s (mapped_stopped read (NeedsThen NoNeed first (λ _. NoNeed)) overruns (why e) s form record_at m h))
 
 pub ruleset needless_parts = (needless_asks, needless_stops, needless_handed)

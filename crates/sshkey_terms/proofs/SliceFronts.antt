@@ -1,5 +1,5 @@
 -- Values that are cut off the front of a slice.
-use Rattle.std.proofs.Common.{◌≡◌, ℕ, ◌≤◌, ◌<◌, true, List, [], ◌∷◌, ◌++◌, length, ltb, take, drop, Result, Ok, Err, refl, sym, ◌∙◌, subst, inl, inr, lt-ltb}
+use Rattle.std.proofs.Common.{◌≡◌, ℕ, ◌≤◌, ◌<◌, true, List, [], ◌∷◌, ◌++◌, length, ltb, take, drop, Result, Ok, Err, refl, sym, subst, inl, inr, lt-ltb}
 use Rattle.std.proofs.lemmas.Bool.{le-ltb, cases_lt, and_parts}
 use Rattle.std.proofs.lemmas.List.{take-append-drop}
 use Rattle.std.specs.Int.{Width, w32, byte_len, from_be_bytes}
@@ -11,7 +11,6 @@ use Rattle.sshkey_model.specs.Grammar.{IsGrammar}
 use Rattle.sshkey_model.proofs.Grammars.{none_spelled}
 use Rattle.sshkey_base.specs.Answers.{AnswersAlways}
 use Rattle.sshkey_base.specs.Causes.{Cause, Faulty}
-use Rattle.sshkey_base.specs.Reading.{Refuses}
 use Rattle.sshkey_base.proofs.Judging.{answers_first, answers_later}
 use Rattle.sshkey_terms.specs.Slices.{Splits, is_taken, AcceptsSplit}
 
