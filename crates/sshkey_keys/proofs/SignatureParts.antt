@@ -10,10 +10,10 @@ use Rattle.sshkey_base.specs.declared.error.Error.{Error}
 use Rattle.sshkey_base.specs.Causes.{cause}
 use Rattle.sshkey_base.specs.Needs.{Asks, NeedsString}
 use Rattle.sshkey_base.specs.Source.{Source}
-use Rattle.sshkey_base.specs.Stops.{OverrunsString, RanOut, StopsBy}
+use Rattle.sshkey_base.specs.Stops.{RanOut, StopsBy}
 use Rattle.sshkey_terms.specs.Terms.{IsMapped}
 use Rattle.sshkey_keys.specs.KeyFormats.{signature_under, signature_with}
-use Rattle.sshkey_keys.specs.SignatureForms.{NeedsTrailed, has_trailer, string_from}
+use Rattle.sshkey_keys.specs.SignatureForms.{NeedsTrailed, OverrunsBlob, OverrunsInside, OverrunsNumbers, has_trailer, string_from}
 
 -- ---- reading
 
@@ -55,11 +55,11 @@ module _ (a : Algorithm) (trailed : has_trailer a ≡ true) where
   blob_asks s (Ok x) h = tt
   blob_asks s (Err e) h = λ memory sound. needs_string _ _ (h memory sound)
 
-  pub blob_stops : {X : Type 0} (s : Source) (r : Result X Error) → StopsBy cause (trailed_at (string_from a)) (NeedsTrailed (string_from a)) OverrunsString s r → StopsBy cause (signature_blob_at a) NeedsString OverrunsString s r
+  pub blob_stops : {X : Type 0} (s : Source) (r : Result X Error) → StopsBy cause (trailed_at (string_from a)) (NeedsTrailed (string_from a)) (OverrunsInside (OverrunsNumbers a) 5) s r → StopsBy cause (signature_blob_at a) NeedsString (OverrunsBlob a) s r
   blob_stops s (Ok x) h = tt
   blob_stops s (Err e) h = record {
     takes = λ ok. more (h.takes (rw (trailed_is a s.left trailed) ok));
-    past = λ o. elim (h.past o) [
+    past = λ o. elim (h.past (rw trailed at o)) [
       | inl is ↦ inl is
       | inr m ↦ inr (more m)
     ];
@@ -67,6 +67,11 @@ module _ (a : Algorithm) (trailed : has_trailer a ≡ true) where
     where
       more : RanOut (cause e) (NeedsTrailed (string_from a)) s → RanOut (cause e) NeedsString s
       more m = record { memory = m.memory; needed = needs_string _ _ m.needed }
+
+-- a string alone
+pub string_stops : {X : Type 0} (a : Algorithm) (s : Source) (r : Result X Error) → has_trailer a ≡ false → StopsBy cause (checked_at (string_from a) string_at) NeedsString (OverrunsInside (OverrunsNumbers a) 0) s r → StopsBy cause (signature_blob_at a) NeedsString (OverrunsBlob a) s r
+string_stops a s (Ok x) plain h = tt
+string_stops a s (Err e) plain h = record { takes = λ ok. h.takes (rw (string_is a s.left plain) ok); past = λ o. h.past (rw plain at o) }
 
 -- what is read is well-formed
 pub read_formed : (a : Algorithm) (b blob rest : List ℕ) → signature_blob_at a b ≡ Ok (blob, rest) → IsSignatureBlob a blob

@@ -4,12 +4,13 @@ use Rattle.std.specs.Int.{w32}
 use Rattle.std.specs.Prelude.{IsOkAnd}
 use Rattle.std.proofs.lemmas.Bool.{le-ltb}
 use Rattle.std.proofs.lemmas.List.{take_at}
-use Rattle.sshkey_model.specs.Reading.{Fault, ◌>>=◌, Whole, number_at, string_at, bytes_at}
+use Rattle.sshkey_model.specs.Reading.{Fault, Length, ◌>>=◌, Whole, number_at, string_at, bytes_at, checked_at}
+use Rattle.sshkey_model.specs.Names.{Algorithm}
 use Rattle.sshkey_model.specs.Signatures.{trailed_at}
 use Rattle.sshkey_base.specs.declared.error.Error.{Error}
 use Rattle.sshkey_base.specs.declared.error.Error.TheVariants.{Memory}
 use Rattle.sshkey_base.specs.Answers.{Answers, AnswersAlways}
-use Rattle.sshkey_base.specs.Causes.{Cause, NoMemory, cause}
+use Rattle.sshkey_base.specs.Causes.{Cause, Faulty, NoMemory, cause}
 use Rattle.sshkey_base.specs.Source.{Source, IsSound}
 use Rattle.sshkey_base.specs.Reading.{Reads, Refuses, Gives}
 use Rattle.sshkey_base.specs.Lengths.{string_lengths}
@@ -17,7 +18,9 @@ use Rattle.sshkey_base.specs.Needs.{NeedsBytes, NeedsString, Asks}
 use Rattle.sshkey_base.specs.Stops.{OverrunsString, RanOut, Stopped, StopsBy}
 use Rattle.sshkey_base.proofs.Steps.{string_stood}
 use Rattle.sshkey_base.proofs.Stopping.{step_ok, not_taken, read_past}
-use Rattle.sshkey_keys.specs.SignatureForms.{NeedsTrailed, joined_from}
+use Rattle.sshkey_terms.proofs.Stopping.{some_ok}
+use Rattle.sshkey_keys.specs.KeyFormats.{numbers_lengths}
+use Rattle.sshkey_keys.specs.SignatureForms.{NeedsTrailed, OverrunsInside, OverrunsNumbers, joined_from, string_from}
 
 -- ---- the string, judged, and the trailer
 
@@ -38,27 +41,53 @@ pub ruleset joining = (joined_refused, joined_made)
 
 -- ---- on any source
 
+-- a length of a string that is refused passes, or stands in one that is all there
+refused_past : (a : Algorithm) (n : ℕ) (s : Source) (c : Cause) → Stopped c string_at NeedsString OverrunsString s → OverrunsInside (OverrunsNumbers a) n s.left s.missing → (c ≡ Faulty Length) ⊎ RanOut c NeedsString s
+refused_past a n s c h (inl o) = h.past o
+refused_past a n s c h (inr o) = inr (h.takes (some_ok _ (string_at s.left) o))
+
+-- of a string that was read, one in it
+read_inside : (a : Algorithm) (n : ℕ) (s t : Source) (b : List ℕ) → Reads (λ x. x) string_at s b t → OverrunsInside (OverrunsNumbers a) n s.left s.missing → IsOk (bytes_at n t.left) × OverrunsNumbers a b
+read_inside a n s t b read (inl o) = read_past (λ x. x) string_at OverrunsString s t b string_lengths read o
+read_inside a n s t b read (inr o) = rw read.value at o
+
 -- the string is refused
 pub string_asks : (judge : Whole (List ℕ)) (s : Source) (c : Cause) → (c ≡ NoMemory → IsSound s → NeedsString s.left s.missing) → c ≡ NoMemory → IsSound s → NeedsTrailed judge s.left s.missing
 string_asks judge s c h memory sound = inl (h memory sound)
 
-pub string_stopped : (judge : Whole (List ℕ)) (s : Source) (c : Cause) → Stopped c string_at NeedsString OverrunsString s → Stopped c (trailed_at judge) (NeedsTrailed judge) OverrunsString s
-string_stopped judge s c h = record {
+pub string_stopped : (a : Algorithm) (s : Source) (c : Cause) → Stopped c string_at NeedsString OverrunsString s → Stopped c (trailed_at (string_from a)) (NeedsTrailed (string_from a)) (OverrunsInside (OverrunsNumbers a) 5) s
+string_stopped a s c h = record {
   takes = λ ok. more (h.takes (step_ok (string_at s.left) _ ok));
-  past = λ o. elim (h.past o) [
+  past = λ o. elim (refused_past a 5 s c h o) [
     | inl is ↦ inl is
     | inr m ↦ inr (more m)
   ];
 }
   where
-    more : RanOut c NeedsString s → RanOut c (NeedsTrailed judge) s
+    more : RanOut c NeedsString s → RanOut c (NeedsTrailed (string_from a)) s
     more m = record { memory = m.memory; needed = inl m.needed }
 
--- the string was read, and what stands behind it is refused: so its length did not pass
-pub trailer_stopped : (judge : Whole (List ℕ)) (s t : Source) (b : List ℕ) (c : Cause) → Reads (λ x. x) string_at s b t → Refuses t.missing c (bytes_at 5 t.left) → Stopped c (trailed_at judge) (NeedsTrailed judge) OverrunsString s
-trailer_stopped judge s t b c read h = record {
-  takes = λ ok. not_taken (trailed_at judge s.left) h.met (rw (read.value, h.is) refl) ok;
-  past = λ o. read_past (λ x. x) string_at OverrunsString s t b string_lengths read o;
+-- the same where nothing stands behind it
+pub judged_stopped : (a : Algorithm) (s : Source) (c : Cause) → Stopped c string_at NeedsString OverrunsString s → Stopped c (checked_at (string_from a) string_at) NeedsString (OverrunsInside (OverrunsNumbers a) 0) s
+judged_stopped a s c h = record { takes = λ ok. h.takes (step_ok (string_at s.left) _ ok); past = refused_past a 0 s c h }
+
+-- the string was read, and is refused
+pub judged_past : (a : Algorithm) (s t : Source) (b : List ℕ) (r : Result (List ℕ) Error) → Reads (λ x. x) string_at s b t → AnswersAlways (λ x. x) cause (string_from a b) r → StopsBy cause (checked_at (string_from a) string_at) NeedsString (OverrunsInside (OverrunsNumbers a) 0) s r
+judged_past a s t b (Ok x) read h = tt
+judged_past a s t b (Err e) read h = go (string_from a b) refl h
+  where
+    go : (found : Result (List ℕ) Fault) → string_from a b ≡ found → AnswersAlways {X = List ℕ} (λ x. x) cause found (Err e) → Stopped (cause e) (checked_at (string_from a) string_at) NeedsString (OverrunsInside (OverrunsNumbers a) 0) s
+    go (Ok c) is h = absurd h
+    go (Err f) is h = record {
+      takes = λ ok. not_taken (checked_at (string_from a) string_at s.left) f (rw (read.value, is) refl) ok;
+      past = λ o. let long = numbers_lengths a b (read_inside a 0 s t b read o).1 in inl cc;
+    }
+
+-- the string was read, and what stands behind it is refused: so no length passed
+pub trailer_stopped : (a : Algorithm) (s t : Source) (b : List ℕ) (c : Cause) → Reads (λ x. x) string_at s b t → Refuses t.missing c (bytes_at 5 t.left) → Stopped c (trailed_at (string_from a)) (NeedsTrailed (string_from a)) (OverrunsInside (OverrunsNumbers a) 5) s
+trailer_stopped a s t b c read h = record {
+  takes = λ ok. not_taken (trailed_at (string_from a) s.left) h.met (rw (read.value, h.is) refl) ok;
+  past = λ o. not_taken (bytes_at 5 t.left) h.met h.is (read_inside a 5 s t b read o).0;
 }
 
 -- it may stand before the trailer, so memory is needed: for its own bytes, or where it has none for
@@ -100,18 +129,21 @@ module _ (judge : Whole (List ℕ)) (s t u : Source) (b trailer : List ℕ) (r :
       go (Ok c) is (Err e) h = λ memory sound. judged_needs judge s t b read (rw is refl)
       go (Err f) is (Err e) h = λ memory sound. absurd cc
 
-  pub both_stops : StopsBy cause (trailed_at judge) (NeedsTrailed judge) OverrunsString s r
-  both_stops = go (judge b) refl r answer
-    where
-      go : (found : Result (List ℕ) Fault) → judge b ≡ found → (r : Result (List ℕ) Error) → Answers (λ x. x) cause (found >>= with_trailer trailer) r → StopsBy cause (trailed_at judge) (NeedsTrailed judge) OverrunsString s r
-      go found is (Ok blob) h = tt
-      go (Ok c) is (Err e) h = record {
-        takes = λ ok. record { memory = h; needed = judged_needs judge s t b read (rw is refl) };
-        past = λ o. read_past (λ x. x) string_at OverrunsString s t b string_lengths read o;
-      }
-      go (Err f) is (Err e) h = record {
-        takes = λ ok. not_taken (trailed_at judge s.left) f (rw (read.value, behind.value, is) refl) ok;
-        past = λ o. read_past (λ x. x) string_at OverrunsString s t b string_lengths read o;
-      }
+pub both_stops : (a : Algorithm) (s t u : Source) (b trailer : List ℕ) (r : Result (List ℕ) Error) → Reads (λ x. x) string_at s b t → Reads (λ x. x) (bytes_at 5) t trailer u → Answers (λ x. x) cause (joined_from (string_from a) trailer b) r → StopsBy cause (trailed_at (string_from a)) (NeedsTrailed (string_from a)) (OverrunsInside (OverrunsNumbers a) 5) s r
+both_stops a s t u b trailer r read behind answer = go (string_from a b) refl r answer
+  where
+    long : OverrunsInside (OverrunsNumbers a) 5 s.left s.missing → string_from a b ≡ Err Length
+    long o = numbers_lengths a b (read_inside a 5 s t b read o).1
 
-pub ruleset trailed_blobs = (string_asks, string_stopped, trailer_stopped, both_gives, both_asks, both_stops)
+    go : (found : Result (List ℕ) Fault) → string_from a b ≡ found → (r : Result (List ℕ) Error) → Answers (λ x. x) cause (found >>= with_trailer trailer) r → StopsBy cause (trailed_at (string_from a)) (NeedsTrailed (string_from a)) (OverrunsInside (OverrunsNumbers a) 5) s r
+    go found is (Ok blob) h = tt
+    go (Ok c) is (Err e) h = record {
+      takes = λ ok. record { memory = h; needed = judged_needs (string_from a) s t b read (rw is refl) };
+      past = λ o. let e = long o in absurd cc;
+    }
+    go (Err f) is (Err e) h = record {
+      takes = λ ok. not_taken (trailed_at (string_from a) s.left) f (rw (read.value, behind.value, is) refl) ok;
+      past = λ o. let e = long o in inl cc;
+    }
+
+pub ruleset trailed_blobs = (string_asks, string_stopped, judged_stopped, judged_past, trailer_stopped, both_gives, both_asks, both_stops)

@@ -1,11 +1,12 @@
 -- Which bytes are those of a signature, and why others are not.
-use Rattle.std.specs.Prelude.{ℕ, suc, List, [], length, ◌++◌, Bool, true, false, Option, Some, None, Result, Ok, Err, IsOk, ◌⊎◌, nat_lt, ◌==◌, if◌then◌else◌}
-use Rattle.sshkey_model.specs.Reading.{Fault, Length, Crypto, ◌>>=◌, Whole, string_at}
+use Rattle.std.specs.Prelude.{ℕ, suc, List, [], length, ◌++◌, Bool, true, false, Option, Some, None, Result, Ok, Err, IsOk, IsOkAnd, ◌⊎◌, nat_lt, ◌==◌, if◌then◌else◌}
+use Rattle.sshkey_model.specs.Reading.{Fault, Length, Crypto, ◌>>=◌, Whole, string_at, bytes_at}
 use Rattle.sshkey_model.specs.Names.{Nistp256, Algorithm}
 use Rattle.sshkey_model.specs.Mpints.{mpint_from, positive_part}
 use Rattle.sshkey_model.specs.Points.{field_size}
-use Rattle.sshkey_model.specs.Signatures.{Signature, without_trailer, ecdsa_blob_from, sized_from, some_from, none_from}
+use Rattle.sshkey_model.specs.Signatures.{Signature, without_trailer, component_at, ecdsa_blob_from, sized_from, some_from, none_from}
 use Rattle.sshkey_base.specs.Needs.{HasString, NeedsString}
+use Rattle.sshkey_base.specs.Stops.{OverrunsString, OverrunsThen}
 use Rattle.sshkey_terms.specs.Slices.{is_taken}
 
 -- Flags and a counter stand behind the string.
@@ -41,6 +42,20 @@ joined_from judge trailer b = judge b >>= λ string. Ok (string ++ trailer)
 -- none may stand before it.
 abbrev pub NeedsTrailed : Whole (List ℕ) → List ℕ → ℕ → Type 0
 NeedsTrailed judge b m = NeedsString b m ⊎ (HasString b m × IsOk (judge []))
+
+-- Of the two numbers in the string, the length of one passes.
+abbrev pub OverrunsNumbers : Algorithm → List ℕ → Type 0
+OverrunsNumbers (Algorithm.Ecdsa c) b = OverrunsThen OverrunsString (component_at (field_size c)) (λ r. OverrunsString) b 0
+OverrunsNumbers Algorithm.SkEcdsa b = OverrunsThen OverrunsString (component_at (field_size Nistp256)) (λ r. OverrunsString) b 0
+OverrunsNumbers _ b = ⊥
+
+-- The length of the string passes; or the string is all there, with so many bytes behind it, and a
+-- length in it passes.
+abbrev pub OverrunsInside : (List ℕ → Type 0) → ℕ → List ℕ → ℕ → Type 0
+OverrunsInside inside n b m = OverrunsString b m ⊎ IsOkAnd (string_at b) (λ x. IsOk (bytes_at n x.1) × inside x.0)
+
+abbrev pub OverrunsBlob : Algorithm → List ℕ → ℕ → Type 0
+OverrunsBlob a = OverrunsInside (OverrunsNumbers a) (if has_trailer a then 5 else 0)
 
 abbrev pub blob_from : Algorithm → Whole (List ℕ)
 blob_from a b = if has_trailer a then trailed_from (string_from a) b else string_from a b

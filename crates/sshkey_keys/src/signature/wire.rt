@@ -8,12 +8,12 @@ ghost use Rattle.sshkey_base.specs.Formats.{Stops};
 ghost use Rattle.sshkey_base.specs.Names.{algorithm_of};
 ghost use Rattle.sshkey_base.specs.Needs.{Asks, NeedsString};
 ghost use Rattle.sshkey_base.specs.Source.{Later, all_of};
-ghost use Rattle.sshkey_base.specs.Stops.{OverrunsString, StopsBy};
+ghost use Rattle.sshkey_base.specs.Stops.{StopsBy};
 ghost use Rattle.sshkey_base.specs.Sink.{Encodes, Measures};
 ghost use Rattle.sshkey_model.specs.Reading.{checked_at, string_at, whole};
 ghost use Rattle.sshkey_model.specs.Signatures.{Signature as TheSignature, IsSignature, signature, signature_blob, signature_blob_at, signature_at, trailed_at};
 ghost use Rattle.sshkey_keys.specs.Blobs.{ReadsFrontOf, MakesBlob};
-ghost use Rattle.sshkey_keys.specs.SignatureForms.{NeedsTrailed, joined_from, string_from};
+ghost use Rattle.sshkey_keys.specs.SignatureForms.{NeedsTrailed, OverrunsInside, OverrunsNumbers, joined_from, string_from};
 ghost use Rattle.sshkey_keys.specs.KeyFormats.{blob_format, signature_format, signature_under};
 ghost use Rattle.sshkey_keys.specs.SignatureReaders.{SpellsSignature, signature_normal};
 ghost use Rattle.sshkey_keys.specs.Signatures.{signature_of};
@@ -123,7 +123,7 @@ fn decode_blob<R: Reader>(alloc: Global, reader: &mut R, algorithm: &Algorithm) 
 }
 
 /// A string of bytes that are well-formed.
-#[tactic(auto, using(sshkey_base::proofs::Steps::steps, sshkey_base::proofs::Stopping::stopping))]
+#[tactic(auto, using(sshkey_base::proofs::Steps::steps, sshkey_terms::proofs::Stopping::handed, crate::proofs::TrailedBlobs::trailed_blobs))]
 fn decode_string<R: Reader>(alloc: Global, reader: &mut R, algorithm: &Algorithm) -> Result<Bytes>
     ensures gives { Gives (λ b. b) cause
         (checked_at (string_from (algorithm_of algorithm.now)) string_at)
@@ -131,7 +131,8 @@ fn decode_string<R: Reader>(alloc: Global, reader: &mut R, algorithm: &Algorithm
     ensures later { Later (R.source reader.old) (R.source reader.new) }
     ensures asks { Asks cause NeedsString (R.source reader.old) result }
     ensures past { StopsBy cause (checked_at (string_from (algorithm_of algorithm.now)) string_at)
-        NeedsString OverrunsString (R.source reader.old) result }
+        NeedsString (OverrunsInside (OverrunsNumbers (algorithm_of algorithm.now)) 0)
+        (R.source reader.old) result }
 {
     let bytes = Bytes::decode(alloc, reader)?;
     checked(algorithm, bytes)
@@ -155,7 +156,8 @@ fn decode_trailed<R: Reader>(alloc: Global, reader: &mut R, algorithm: &Algorith
     ensures asks { Asks cause (NeedsTrailed (string_from (algorithm_of algorithm.now)))
         (R.source reader.old) result }
     ensures past { StopsBy cause (trailed_at (string_from (algorithm_of algorithm.now)))
-        (NeedsTrailed (string_from (algorithm_of algorithm.now))) OverrunsString
+        (NeedsTrailed (string_from (algorithm_of algorithm.now)))
+        (OverrunsInside (OverrunsNumbers (algorithm_of algorithm.now)) 5)
         (R.source reader.old) result }
 {
     let bytes = Bytes::decode_with_spare(alloc, reader, TRAILER_LEN)?;

@@ -9,7 +9,7 @@ pub returns-in_err-trailer-clause-later : goal.returns-in_err-trailer-clause-lat
 returns-in_err-trailer-clause-later g c = later_then _ _ _ c.in_ok-bytes.ensures.later c.in_err-trailer.ensures.later
 
 pub returns-in_err-trailer-clause-past : goal.returns-in_err-trailer-clause-past
-returns-in_err-trailer-clause-past g c = widened_stops _ _ _ _ _ _ c.from_residual-in_err-trailer.ensures.1 (trailer_stopped (string_from (algorithm_of c.args.algorithm.now)) _ _ _ _ c.in_ok-bytes.ensures.gives c.in_err-trailer.ensures.gives)
+returns-in_err-trailer-clause-past g c = widened_stops _ _ _ _ _ _ c.from_residual-in_err-trailer.ensures.1 (trailer_stopped (algorithm_of c.args.algorithm.now) _ _ _ _ c.in_ok-bytes.ensures.gives c.in_err-trailer.ensures.gives)
 
 pub returns-clause-later : goal.returns-clause-later
 returns-clause-later g c = later_then _ _ _ c.in_ok-bytes.ensures.later c.in_ok-trailer.ensures.later
@@ -18,4 +18,4 @@ pub returns-clause-asks : goal.returns-clause-asks
 returns-clause-asks g c = both_asks (string_from (algorithm_of c.args.algorithm.now)) _ _ _ _ _ _ c.in_ok-bytes.ensures.gives c.in_ok-trailer.ensures.gives c.joined.ensures
 
 pub returns-clause-past : goal.returns-clause-past
-returns-clause-past g c = both_stops (string_from (algorithm_of c.args.algorithm.now)) _ _ _ _ _ _ c.in_ok-bytes.ensures.gives c.in_ok-trailer.ensures.gives c.joined.ensures
+returns-clause-past g c = both_stops (algorithm_of c.args.algorithm.now) _ _ _ _ _ _ c.in_ok-bytes.ensures.gives c.in_ok-trailer.ensures.gives c.joined.ensures
