@@ -29,10 +29,6 @@ marker_field : (m : Marker) → IsField (marker_text m)
 marker_field CertAuthority i l = not-true _ (each is_no_blank (marker_text CertAuthority) refl i l)
 marker_field Revoked i l = not-true _ (each is_no_blank (marker_text Revoked) refl i l)
 
-begins : (m : Marker) (rest : List ℕ) → slice_index (marker_text m ++ rest) 0 ≡ at_sign
-begins CertAuthority rest = refl
-begins Revoked rest = refl
-
 one_text : (m n : Marker) → marker_text m ≡ marker_text n → m ≡ n
 one_text CertAuthority CertAuthority e = refl
 one_text CertAuthority Revoked e = let second : 0x63 ≡ 0x72 = ap (λ (l : List ℕ). slice_index l 1) e in absurd (omega (arith, second))

@@ -1,14 +1,13 @@
 -- What a part about certificates says, by its kind.
-use Rattle.std.proofs.Common.{◌≡◌, ℕ, Bool, not, ◌&&◌, List, [], ◌∷◌, Result, Ok, Err, refl}
-use Rattle.std.specs.Prelude.{◌==◌}
+use Rattle.std.proofs.Common.{◌≡◌, ℕ, Bool, List, [], ◌∷◌, Result, Ok, Err, refl}
 use Rattle.std.specs.Int.{w64}
 use Rattle.sshkey_base.proofs.Judging.{answers_first, answers_later}
 use Rattle.sshkey_base.specs.Answers.{AnswersAlways}
 use Rattle.sshkey_base.specs.Causes.{Cause}
-use Rattle.sshkey_model.specs.Reading.{Fault, ◌>>=◌, Front, checked_at, checked_whole, end_of, list_whole, number_at, string_at, whole, behind_at}
+use Rattle.sshkey_model.specs.Reading.{Fault, ◌>>=◌, checked_whole, end_of, list_whole, number_at, string_at, whole, behind_at}
 use denote.Ref.{Bor}
-use Rattle.sshkey_krl.specs.Asked.{Asked, grant_in, key_id_says, part_says, serial_says}
-use Rattle.sshkey_krl.specs.Parts.{body, key_id_format, key_id_shows, serial_format, serial_shows}
+use Rattle.sshkey_krl.specs.Asked.{Asked, key_id_says, part_says}
+use Rattle.sshkey_krl.specs.Parts.{body, key_id_format, key_id_shows}
 use Rattle.sshkey_krl.specs.Revocation.{Numbers, Part}
 use Rattle.sshkey_krl.specs.Serials.{Serials, bitmap_from, range_from}
 use Rattle.sshkey_krl.specs.declared.part.PartKind.TheVariants as kinds
@@ -21,17 +20,7 @@ module _ (a : Asked) where
   abbrev pub numbers_said : Serials → Bool
   numbers_said s = part_says a (Numbers s)
 
-  -- ---- serial numbers one by one, and key ids
-
-  abbrev pub with_serial : Bool → Result Bool Fault
-  with_serial y = Ok (not ((grant_in a).serial == 0) && y)
-
-  pub serials_said : (b : List ℕ) → checked_whole said (whole (body kinds.Serials).read) b ≡ (asked serial_format serial_shows (serial_says a) b >>= with_serial)
-  serials_said b = go (list_whole (λ _. serial_format.read) b) refl
-    where
-      go : (found : Result (List ℕ) Fault) → list_whole (λ _. serial_format.read) b ≡ found → checked_whole said (whole (body kinds.Serials).read) b ≡ (asked serial_format serial_shows (serial_says a) b >>= with_serial)
-      go (Ok ns) e = rw e refl
-      go (Err d) e = rw e refl
+  -- ---- key ids
 
   pub key_ids_said : (b : List ℕ) → checked_whole said (whole (body kinds.KeyIds).read) b ≡ asked key_id_format key_id_shows (key_id_says a) b
   key_ids_said b = go (list_whole (λ _. key_id_format.read) b) refl
@@ -143,44 +132,3 @@ module _ (a : Asked) where
 
     pub bitmap_ends : {X : Type 0} (means : X → Serials) (p : ℕ × Bor (List ℕ)) (q : Bor (List ℕ) × Bor (List ℕ)) (x : X) (r : Result Bool E) → AnswersAlways number narrow (number_at w64 b) (Ok p) → AnswersAlways string narrow (string_at p.1.now) (Ok q) → AnswersAlways {E = E} means cause (bitmap_from (p.0, q.0.now)) (Ok x) → AnswersAlways (λ y. y) cause (to_end q.1.now (means x)) r → SaysBitmap r
     bitmap_ends means p q x r h i k g = behind_bits p q r h i (answers_later means cause (λ y. y) cause (bitmap_from (p.0, q.0.now)) (to_end q.1.now) x r k g)
-
--- ---- a value that is read, and what a test makes of it
-
-module _ {A B X Y D E : Type 0} (first : X → A) (narrow : D → Cause) (means : Y → B) (cause : E → Cause) (read : Front A) (test : A → Result B Fault) (says : B → Bool) (b : List ℕ) where
-  abbrev answer_of : B → Result Bool Fault
-  answer_of v = Ok (says v)
-
-  abbrev with_rest : List ℕ → B → Result (Bool × List ℕ) Fault
-  with_rest rest v = Ok (says v, rest)
-
-  abbrev after_read : A × List ℕ → Result (Bool × List ℕ) Fault
-  after_read x = test x.0 >>= with_rest x.1
-
-  tested_is : checked_at answer_of (checked_at test read) b ≡ (read b >>= after_read)
-  tested_is = go (read b) refl
-    where
-      value : (x : A × List ℕ) → read b ≡ Ok x → (found : Result B Fault) → test x.0 ≡ found → checked_at answer_of (checked_at test read) b ≡ (read b >>= after_read)
-      value x h (Err d) i = rw (h, i) refl
-      value x h (Ok v) i = rw (h, i) refl
-
-      go : (found : Result (A × List ℕ) Fault) → read b ≡ found → checked_at answer_of (checked_at test read) b ≡ (read b >>= after_read)
-      go (Err d) h = rw h refl
-      go (Ok x) h = value x h (test x.0) refl
-
-  abbrev cut : X × Bor (List ℕ) → A × List ℕ
-  cut p = (first p.0, p.1.now)
-
-  abbrev said_of : Bool × Bor (List ℕ) → Bool × List ℕ
-  said_of p = (p.0, p.1.now)
-
-  abbrev Says : Result (Bool × Bor (List ℕ)) E → Type 0
-  Says r = AnswersAlways said_of cause (checked_at answer_of (checked_at test read) b) r
-
-  pub not_read : (d : D) (e : E) → AnswersAlways cut narrow (read b) (Err d) → cause e ≡ narrow d → Says (Err e)
-  not_read d e h same = rw tested_is (answers_first cut narrow said_of cause (read b) after_read d e h same)
-
-  pub not_tested : (p : X × Bor (List ℕ)) (e f : E) → AnswersAlways cut narrow (read b) (Ok p) → AnswersAlways means cause (test (first p.0)) (Err e) → cause f ≡ cause e → Says (Err f)
-  not_tested p e f h i same = rw tested_is (answers_later cut narrow said_of cause (read b) after_read p (Err f) h (answers_first means cause said_of cause (test (first p.0)) (with_rest p.1.now) e f i same))
-
-  pub was_tested : (p : X × Bor (List ℕ)) (y : Y) (s : Bool) → AnswersAlways cut narrow (read b) (Ok p) → AnswersAlways {E = E} means cause (test (first p.0)) (Ok y) → s ≡ says (means y) → Says (Ok (s, p.1))
-  was_tested p y s h i is = rw (tested_is, is) (answers_later cut narrow said_of cause (read b) after_read p (Ok (says (means y), p.1)) h (answers_later means cause said_of cause (test (first p.0)) (with_rest p.1.now) y (Ok (says (means y), p.1)) i refl))
