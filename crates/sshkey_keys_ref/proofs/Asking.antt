@@ -2,7 +2,7 @@
 use Rattle.std.proofs.Common.{◌≡◌, ℕ, ◌≤◌, List, [], length, true, Some, Ok, refl, sym, ap, subst, ◌∙◌, arith}
 use Rattle.sshkey_model.specs.Names.{Curve, Nistp256, Hash, Algorithm, algorithm_from, algorithm_at}
 use Rattle.sshkey_model.specs.Points.{curve_eq}
-use Rattle.sshkey_model.specs.Keys.{Key, Dsa, Ecdsa, Ed25519, Rsa, SkEcdsa, SkEd25519, Opaque, SecurityKey}
+use Rattle.sshkey_model.specs.Keys.{Key, Dsa, Ecdsa, Ed25519, Rsa, SkEcdsa, SkEd25519, SecurityKey}
 use Rattle.sshkey_model.specs.Signatures.{Signature, IsSignatureBlob, signature_at, signature_blob_at, without_trailer}
 use Rattle.sshkey_model.specs.Verification.{security_key_message}
 use Rattle.sshkey_model.proofs.CombinedReaders.{bind_ok, ok_is}
@@ -16,37 +16,29 @@ use Rattle.sshkey_keys_ref.proofs.PlainHeads.{whole_is}
 
 -- ---- the bytes of a signature are well-formed for the name before them
 
-pub blob_formed : (s behind blob : List ℕ) (a : Algorithm) (g : Signature) → label_at algorithm_from s ≡ Ok (a, behind) → IsBlobIn behind blob → SpellsSignature g s → IsSignatureBlob a blob
+pub signature_is : (s behind blob : List ℕ) (a : Algorithm) (g : Signature) → label_at algorithm_from s ≡ Ok (a, behind) → IsBlobIn behind blob → SpellsSignature g s → signature_by a blob ≡ g
 unfolding signature_at algorithm_at label_at
-blob_formed s behind blob a g named holds gs =
+signature_is s behind blob a g named holds gs =
     let read = whole_is signature_at s g (spelled_whole signature_grammar s g gs) in
     let x = bind_ok (signature_blob_at a behind) (λ y. Ok (signature_by a y.0, y.1)) (g, []) (rw named at read) in
     let both = ok_is (signature_by a x.0.0, x.0.1) (g, []) x.2 in
     let is : signature_by a x.0.0 ≡ g = ap (λ (z : Signature × List ℕ). z.0) both in
     let ends : x.0.1 ≡ [] = ap (λ (z : Signature × List ℕ). z.1) both in
     let blob_is : blob ≡ x.0.0 = holds a x.0.0 (x.1 ∙ ap (λ (l : List ℕ). Ok (x.0.0, l)) ends) in
-    let same : signature_by a blob ≡ g = ap (signature_by a) blob_is ∙ is in
-    subst (λ (z : Signature). IsSignatureBlob z.algorithm z.blob) (sym same) gs.is.1
+    ap (signature_by a) blob_is ∙ is
+
+pub blob_formed : (s behind blob : List ℕ) (a : Algorithm) (g : Signature) → label_at algorithm_from s ≡ Ok (a, behind) → IsBlobIn behind blob → SpellsSignature g s → IsSignatureBlob a blob
+blob_formed s behind blob a g named holds gs = subst (λ (z : Signature). IsSignatureBlob z.algorithm z.blob) (sym (signature_is s behind blob a g named holds gs)) gs.is.1
 
 -- ---- keys that are asked about themselves
 
 pub dsa_itself : (k : Key) → is_dsa k ≡ true → IsAskedItself Algorithm.Dsa k
 dsa_itself (Dsa d) is = λ m b. refl
-dsa_itself (Ecdsa c point) is = absurd (cc is)
-dsa_itself (Ed25519 d) is = absurd (cc is)
-dsa_itself (Rsa d) is = absurd (cc is)
-dsa_itself (SkEcdsa d) is = absurd (cc is)
-dsa_itself (SkEd25519 d) is = absurd (cc is)
-dsa_itself (Opaque n d) is = absurd (cc is)
+dsa_itself _ is = absurd (cc is)
 
 pub rsa_itself : (h : Hash) (k : Key) → is_rsa k ≡ true → IsAskedItself (Algorithm.Rsa (Some h)) k
 rsa_itself h (Rsa d) is = λ m b. refl
-rsa_itself h (Dsa d) is = absurd (cc is)
-rsa_itself h (Ecdsa c point) is = absurd (cc is)
-rsa_itself h (Ed25519 d) is = absurd (cc is)
-rsa_itself h (SkEcdsa d) is = absurd (cc is)
-rsa_itself h (SkEd25519 d) is = absurd (cc is)
-rsa_itself h (Opaque n d) is = absurd (cc is)
+rsa_itself h _ is = absurd (cc is)
 
 pub itself_asked : (a : Algorithm) (k : Key) (m blob : List ℕ) → IsSignatureBlob a blob → IsAskedItself a k → IsAsked (record { algorithm = a; key = k; message = m; blob = blob })
 itself_asked a k m blob form itself = record { key = k; message = m; signature = signature_by a blob; form = form; is = itself m blob }

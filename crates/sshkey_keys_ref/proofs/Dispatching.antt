@@ -1,21 +1,21 @@
 -- What the verifier is asked about a key and a signature that are slices.
-use Rattle.std.proofs.Common.{◌≡◌, ℕ, ◌≤◌, ◌-◌, List, [], ◌++◌, length, drop, append-nil, Bool, ◌||◌, true, false, Option, Some, None, ◌≢◌, IsTrue, inl, Result, Ok, Err, IfOk, IfErr, refl, sym, ap, subst, arith, ◌∙◌}
+use Rattle.std.proofs.Common.{◌≡◌, ℕ, ◌≤◌, ◌-◌, List, [], ◌++◌, length, drop, append-nil, Bool, ◌||◌, true, false, Option, Some, None, ◌≢◌, IsTrue, inl, Result, Ok, Err, IfOk, IfErr, refl, subst, arith, ◌∙◌}
 use Rattle.std.specs.Int.{w32, to_be_bytes}
 use Rattle.std.proofs.lemmas.List.{take-append-drop, length-append}
 use Rattle.sshkey_model.specs.Parts.{flat}
 use Rattle.sshkey_model.specs.Reading.{Fault}
 use Rattle.sshkey_model.specs.Names.{Hash, Algorithm, algorithm_from, algorithm_at}
-use Rattle.sshkey_model.specs.Keys.{Key, Dsa, Ecdsa, Ed25519, Rsa, SkEcdsa, SkEd25519, Opaque}
+use Rattle.sshkey_model.specs.Keys.{Key, Opaque}
 use Rattle.sshkey_model.specs.Signatures.{Signature, IsSignatureBlob, signature_at, signature_blob, signature_blob_at, without_trailer, trailer}
-use Rattle.sshkey_model.specs.Verification.{Question, question, is_yes}
-use Rattle.sshkey_model.proofs.CombinedReaders.{bind_ok, ok_is}
+use Rattle.sshkey_model.specs.Verification.{Question, asked, question, is_yes}
 use Rattle.sshkey_model.proofs.SignatureReaders.{signature_blob_reads}
 use Rattle.sshkey_base.specs.Labels.{label_at}
 use Rattle.sshkey_base.proofs.Accepted.{spelled_whole}
 use Rattle.sshkey_keys.specs.KeyKinds.{is_dsa, is_rsa, is_opaque}
 use Rattle.sshkey_keys.specs.KeyReaders.{key_grammar}
 use Rattle.sshkey_keys.specs.SignatureReaders.{SpellsSignature, signature_grammar}
-use Rattle.sshkey_keys_ref.specs.Dispatch.{AsksBytes, AsksKey, Dispatches, DispatchesBytes, DispatchesKey, DispatchesKind, Answered, IsBlobIn, RunsOutFor, signature_by}
+use Rattle.sshkey_keys_ref.specs.Dispatch.{AsksBytes, AsksKey, Dispatches, DispatchesBytes, DispatchesKey, DispatchesKind, Answered, IsAskedItself, IsBlobIn, RunsOutFor, signature_by}
+use Rattle.sshkey_keys_ref.proofs.Asking.{signature_is, blob_formed, dsa_itself, rsa_itself}
 use Rattle.sshkey_keys_ref.proofs.PlainHeads.{broken, whole_is}
 
 -- ---- the bytes of a signature
@@ -36,28 +36,15 @@ unfolding flat
 blob_behind a b x e = go a (((signature_blob_reads a).takes b x [] e).2)
   where
     go : (a : Algorithm) → b ≡ flat (signature_blob a x) ++ [] → (4 ≤ length b) × (drop 4 b ≡ x)
-    go Algorithm.Dsa e = string_behind x b e
-    go (Algorithm.Ecdsa c) e = string_behind x b e
-    go Algorithm.Ed25519 e = string_behind x b e
-    go (Algorithm.Rsa h) e = string_behind x b e
     go Algorithm.SkEcdsa e = trailed_behind x b e
     go Algorithm.SkEd25519 e = trailed_behind x b e
-    go (Algorithm.Other n) e = string_behind x b e
+    go _ e = string_behind x b e
 
 -- ---- from parts to the whole
 
 -- what is said of the parts of a signature is said of it
 from_parts : (Says : Signature → Type 0) (s behind blob : List ℕ) (a : Algorithm) (g : Signature) → label_at algorithm_from s ≡ Ok (a, behind) → IsBlobIn behind blob → SpellsSignature g s → (IsSignatureBlob a blob → Says (signature_by a blob)) → Says g
-unfolding signature_at algorithm_at label_at
-from_parts Says s behind blob a g named holds gs said =
-    let read = whole_is signature_at s g (spelled_whole signature_grammar s g gs) in
-    let x = bind_ok (signature_blob_at a behind) (λ y. Ok (signature_by a y.0, y.1)) (g, []) (rw named at read) in
-    let both = ok_is (signature_by a x.0.0, x.0.1) (g, []) x.2 in
-    let is : signature_by a x.0.0 ≡ g = ap (λ (z : Signature × List ℕ). z.0) both in
-    let ends : x.0.1 ≡ [] = ap (λ (z : Signature × List ℕ). z.1) both in
-    let blob_is : blob ≡ x.0.0 = holds a x.0.0 (x.1 ∙ ap (λ (l : List ℕ). Ok (x.0.0, l)) ends) in
-    let same : signature_by a blob ≡ g = ap (signature_by a) blob_is ∙ is in
-    subst Says same (said (subst (λ (z : Signature). IsSignatureBlob z.algorithm z.blob) (sym same) gs.is.1))
+from_parts Says s behind blob a g named holds gs said = subst Says (signature_is s behind blob a g named holds gs) (said (blob_formed s behind blob a g named holds gs))
 
 pub dispatched : {E : Type 0} (accepts : Question → Bool) (key m s behind blob : List ℕ) (a : Algorithm) (r : Result Bool E) → label_at algorithm_from s ≡ Ok (a, behind) → IsBlobIn behind blob → DispatchesKey accepts key m a blob r → DispatchesBytes accepts key m s r
 dispatched accepts key m s behind blob a r named holds answered k g ks gs = from_parts (λ z. Dispatches accepts k m z r) s behind blob a g named holds gs (answered k (spelled_whole key_grammar key k ks))
@@ -71,31 +58,15 @@ no_signature s f g e gs = absurd (broken (algorithm_at s) _ (g, []) f e (whole_i
 
 -- ---- keys that are made in memory
 
+itself_answered : {E : Type 0} (accepts : Question → Bool) (a : Algorithm) (k : Key) (m blob : List ℕ) (r : Result Bool E) → IsAskedItself a k → IfOk r (λ x. x ≡ accepts (asked k m (signature_by a blob))) → Dispatches accepts k m (signature_by a blob) r
+itself_answered accepts a k m blob (Ok x) itself h = rw (itself m blob) h
+itself_answered accepts a k m blob (Err e) itself h = λ none. let some = itself m blob in absurd (cc (none, some))
+
 pub dsa_asked : {E : Type 0} (accepts : Question → Bool) (key m blob : List ℕ) (r : Result Bool E) → Answered accepts key m (signature_by Algorithm.Dsa blob) r → DispatchesKind (λ k. is_dsa k ≡ true) accepts key m (signature_by Algorithm.Dsa blob) r
-dsa_asked {E} accepts key m blob r h k e is = go k r (h k e) is
-  where
-    go : (k : Key) (r : Result Bool E) → IfOk r (λ x. x ≡ accepts (record { algorithm = Algorithm.Dsa; key = k; message = m; blob = blob })) → is_dsa k ≡ true → Dispatches accepts k m (signature_by Algorithm.Dsa blob) r
-    go (Dsa d) (Ok x) h is = h
-    go (Dsa d) (Err e) h is = λ none. absurd (cc none)
-    go (Ecdsa c point) r h is = absurd (cc is)
-    go (Ed25519 d) r h is = absurd (cc is)
-    go (Rsa d) r h is = absurd (cc is)
-    go (SkEcdsa d) r h is = absurd (cc is)
-    go (SkEd25519 d) r h is = absurd (cc is)
-    go (Opaque n d) r h is = absurd (cc is)
+dsa_asked accepts key m blob r h k e is = itself_answered accepts Algorithm.Dsa k m blob r (dsa_itself k is) (h k e)
 
 pub rsa_asked : {E : Type 0} (accepts : Question → Bool) (a : Algorithm) (hash : Hash) (key m blob : List ℕ) (r : Result Bool E) → a ≡ Algorithm.Rsa (Some hash) → Answered accepts key m (signature_by a blob) r → DispatchesKind (λ k. is_rsa k ≡ true) accepts key m (signature_by a blob) r
-rsa_asked {E} accepts a hash key m blob r under h k e is = rw under (go k r (rw under at (h k e)) is)
-  where
-    go : (k : Key) (r : Result Bool E) → IfOk r (λ x. x ≡ accepts (record { algorithm = Algorithm.Rsa (Some hash); key = k; message = m; blob = blob })) → is_rsa k ≡ true → Dispatches accepts k m (signature_by (Algorithm.Rsa (Some hash)) blob) r
-    go (Rsa d) (Ok x) h is = h
-    go (Rsa d) (Err e) h is = λ none. absurd (cc none)
-    go (Dsa d) r h is = absurd (cc is)
-    go (Ecdsa c point) r h is = absurd (cc is)
-    go (Ed25519 d) r h is = absurd (cc is)
-    go (SkEcdsa d) r h is = absurd (cc is)
-    go (SkEd25519 d) r h is = absurd (cc is)
-    go (Opaque n d) r h is = absurd (cc is)
+rsa_asked accepts a hash key m blob r under h k e is = itself_answered accepts a k m blob r (rw under (rsa_itself hash k is)) (h k e)
 
 -- memory may run out for such a key
 pub made_asks : {E : Type 0} (accepts : Question → Bool) (runs_out : Question → Type 0) (k : Key) (m : List ℕ) (g : Signature) (r : Result Bool E) → IsTrue (is_dsa k || is_rsa k) → Dispatches accepts k m g r → IfErr r (λ _. RunsOutFor runs_out k (question k m g))
@@ -121,17 +92,6 @@ pub never_asked : (accepts : Question → Bool) (a : Algorithm) (k : Key) (m blo
 never_asked accepts a (Opaque n d) m blob is = under a
   where
     under : (a : Algorithm) → false ≡ is_yes accepts (question (Opaque n d) m (signature_by a blob))
-    under Algorithm.Dsa = refl
-    under (Algorithm.Ecdsa c) = refl
-    under Algorithm.Ed25519 = refl
     under (Algorithm.Rsa None) = refl
-    under (Algorithm.Rsa (Some h)) = refl
-    under Algorithm.SkEcdsa = refl
-    under Algorithm.SkEd25519 = refl
-    under (Algorithm.Other name) = refl
-never_asked accepts a (Dsa d) m blob is = absurd (cc is)
-never_asked accepts a (Ecdsa c point) m blob is = absurd (cc is)
-never_asked accepts a (Ed25519 d) m blob is = absurd (cc is)
-never_asked accepts a (Rsa d) m blob is = absurd (cc is)
-never_asked accepts a (SkEcdsa d) m blob is = absurd (cc is)
-never_asked accepts a (SkEd25519 d) m blob is = absurd (cc is)
+    under _ = refl
+never_asked accepts a _ m blob is = absurd (cc is)

@@ -2,7 +2,7 @@
 use Rattle.std.proofs.Common.{◌≡◌, ℕ, List, [], true, inl, inr, Result, Ok, Err, refl, sym, ap, ◌∙◌}
 use Rattle.sshkey_model.specs.Reading.{Fault, AlgorithmUnknown, whole}
 use Rattle.sshkey_model.specs.Names.{Curve, Algorithm, algorithm_from}
-use Rattle.sshkey_model.specs.Keys.{Key, Dsa, Ecdsa, Ed25519, Rsa, SkEcdsa, SkEd25519, Opaque, key_algorithm, unhashed, body_at, any_ecdsa_at, ecdsa_at, has_curve, wanted_curve}
+use Rattle.sshkey_model.specs.Keys.{Key, Dsa, key_algorithm, unhashed, body_at, any_ecdsa_at, ecdsa_at, has_curve, wanted_curve}
 use Rattle.sshkey_model.proofs.CombinedReaders.{bind_ok, ok_is, chosen}
 use Rattle.sshkey_model.proofs.KeyReaders.{body_reads}
 use Rattle.sshkey_base.specs.Labels.{label_at}
@@ -19,12 +19,7 @@ never r f y e d = absurd (cc (e, d))
 
 pub of_dsa : (k : Key) → key_algorithm k ≡ Algorithm.Dsa → is_dsa k ≡ true
 of_dsa (Dsa k) e = refl
-of_dsa (Ecdsa c point) e = absurd cc
-of_dsa (Ed25519 k) e = absurd cc
-of_dsa (Rsa k) e = absurd cc
-of_dsa (SkEcdsa k) e = absurd cc
-of_dsa (SkEd25519 k) e = absurd cc
-of_dsa (Opaque n k) e = absurd cc
+of_dsa _ e = absurd cc
 
 -- a body is one of its algorithm
 pub body_algorithm : (a : Algorithm) (b rest : List ℕ) (k : Key) → body_at a b ≡ Ok (k, rest) → key_algorithm k ≡ unhashed a

@@ -9,7 +9,7 @@ use Rattle.sshkey_base.specs.Needs.{Asks}
 use Rattle.sshkey_base.specs.Reading.{AcceptsWhole}
 use Rattle.sshkey_base.specs.Source.{all_of}
 use Rattle.sshkey_base.specs.declared.error.Error.{Error}
-use Rattle.sshkey_model.specs.Keys.{Key, Dsa, Ecdsa, Ed25519, Rsa, SkEcdsa, SkEd25519, Opaque, key_algorithm, unhashed, body_at}
+use Rattle.sshkey_model.specs.Keys.{Key, Ecdsa, key_algorithm, unhashed, body_at}
 use Rattle.sshkey_model.specs.Names as names
 use Rattle.sshkey_model.specs.Names.{Algorithm, algorithm_from}
 use Rattle.sshkey_model.specs.Reading.{Fault, ◌>>=◌}
@@ -26,25 +26,16 @@ is_of_one_size names.Ed25519 = true
 is_of_one_size _ = false
 
 pub sized : (k : Key) → IsTrue (is_ecdsa k || is_ed25519 k) → is_of_one_size (key_algorithm k) ≡ true
-sized (Dsa k) is = is
 sized (Ecdsa c point) is = refl
-sized (Ed25519 k) is = refl
-sized (Rsa k) is = is
-sized (SkEcdsa k) is = is
-sized (SkEd25519 k) is = is
-sized (Opaque name k) is = is
+sized _ is = is
 
 -- neither the name of such a key needs memory, nor its body
 no_need : (a : Algorithm) (b : List ℕ) → is_of_one_size (unhashed a) ≡ true → IsPrivateUse a ⊎ (body_format a).needs b 0 → ⊥
-no_need names.Dsa b sized needs = cc
 no_need (names.Ecdsa curve) b sized (inl name) = name
 no_need (names.Ecdsa curve) b sized (inr body) = body
 no_need names.Ed25519 b sized (inl name) = name
 no_need names.Ed25519 b sized (inr body) = body
-no_need (names.Rsa hash) b sized needs = cc
-no_need names.SkEcdsa b sized needs = cc
-no_need names.SkEd25519 b sized needs = cc
-no_need (names.Other name) b sized needs = cc
+no_need _ b sized needs = cc
 
 -- the last step of the reader
 abbrev done : Key × List ℕ → Result (Key × List ℕ) Fault

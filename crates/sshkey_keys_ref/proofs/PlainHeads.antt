@@ -3,7 +3,7 @@ use Rattle.std.proofs.Common.{◌≡◌, ◌↔◌, ℕ, List, [], ◌∷◌, ap
 use Rattle.sshkey_model.specs.Parts.{flat}
 use Rattle.sshkey_model.specs.Reading.{Fault, Front, ◌>>=◌, whole, end_of}
 use Rattle.sshkey_model.specs.Names.{Algorithm, Sha256, Sha512, algorithm_from, algorithm_at}
-use Rattle.sshkey_model.specs.Keys.{Key, Dsa, Ecdsa, Ed25519, Rsa, SkEcdsa, SkEd25519, Opaque, Head, Plain, Head256, Head512, HasKeyPlaces, head_of, key_algorithm, key, normal_key, key_at, body_at}
+use Rattle.sshkey_model.specs.Keys.{Key, Rsa, Head, Plain, Head256, Head512, HasKeyPlaces, head_of, key_algorithm, key, normal_key, key_at, body_at}
 use Rattle.sshkey_model.proofs.CombinedReaders.{bind_ok, ok_is, prefix}
 use Rattle.sshkey_model.proofs.KeyReaders.{key_reads}
 use Rattle.sshkey_model.proofs.NormalFits.{key_fits}
@@ -38,13 +38,7 @@ head_is b rest a k h named e =
 plainly : (a : Algorithm) → (not (is_hashed a) ≡ true) ↔ (head_of a ≡ Plain)
 plainly (Algorithm.Rsa (Some Sha256)) = (λ e. absurd cc, λ e. absurd cc)
 plainly (Algorithm.Rsa (Some Sha512)) = (λ e. absurd cc, λ e. absurd cc)
-plainly (Algorithm.Rsa None) = (λ e. refl, λ e. refl)
-plainly Algorithm.Dsa = (λ e. refl, λ e. refl)
-plainly (Algorithm.Ecdsa c) = (λ e. refl, λ e. refl)
-plainly Algorithm.Ed25519 = (λ e. refl, λ e. refl)
-plainly Algorithm.SkEcdsa = (λ e. refl, λ e. refl)
-plainly Algorithm.SkEd25519 = (λ e. refl, λ e. refl)
-plainly (Algorithm.Other n) = (λ e. refl, λ e. refl)
+plainly _ = (λ e. refl, λ e. refl)
 
 pub plain_head : (b rest : List ℕ) (a : Algorithm) → label_at algorithm_from b ≡ Ok (a, rest) → HasPlainHead b (not (is_hashed a))
 plain_head b rest a named k h e =
@@ -65,13 +59,8 @@ pub plainly_normal : (b : List ℕ) (r : Bool) → HasPlainHead b r → r ≡ tr
 plainly_normal b r heads yes_ k s = s.shape ∙ ap (λ (h : Head). flat (key k h)) ((heads k s.choices (spelled_is b k s)).0 yes_)
 
 pub of_rsa : (k : Key) → key_algorithm k ≡ Algorithm.Rsa None → is_rsa k ≡ true
-of_rsa (Dsa k) e = absurd cc
-of_rsa (Ecdsa c point) e = absurd cc
-of_rsa (Ed25519 k) e = absurd cc
 of_rsa (Rsa k) e = refl
-of_rsa (SkEcdsa k) e = absurd cc
-of_rsa (SkEd25519 k) e = absurd cc
-of_rsa (Opaque n k) e = absurd cc
+of_rsa _ e = absurd cc
 
 headed_rsa : (k : Key) (h : Head) → HasKeyPlaces k h → (h ≡ Plain → ⊥) → is_rsa k ≡ true
 headed_rsa k Plain place other = absurd (other refl)
