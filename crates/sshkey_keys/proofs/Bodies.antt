@@ -5,14 +5,11 @@ use Rattle.sshkey_model.specs.Reading.{AlgorithmUnknown}
 use Rattle.sshkey_model.specs.Keys.{Key, any_ecdsa_at, body_at, ecdsa_at, has_curve, key_algorithm, unhashed, wanted_curve}
 use Rattle.sshkey_model.specs.Names.{Algorithm, Curve}
 use Rattle.sshkey_model.proofs.KeyReaders.{body_reads}
-use Rattle.sshkey_base.specs.declared.algorithm.Algorithm as rust
 use Rattle.sshkey_base.specs.declared.error.Error.{Error}
 use Rattle.sshkey_base.specs.Reading.{AcceptsFront, Gives, Reads}
 use Rattle.sshkey_base.specs.Causes.{Cause, cause}
-use Rattle.sshkey_base.specs.Formats.{Stops}
-use Rattle.sshkey_base.specs.Names.{algorithm_of}
-use Rattle.sshkey_base.specs.Needs.{Asks, NoNeed}
-use Rattle.sshkey_base.specs.Source.{Source, Later}
+use Rattle.sshkey_base.specs.Needs.{NoNeed}
+use Rattle.sshkey_base.specs.Source.{Source}
 use Rattle.sshkey_base.specs.Stops.{Stopped}
 use Rattle.sshkey_base.proofs.Accepted.{accepts_front}
 use Rattle.sshkey_terms.specs.Terms.{IsMapped}
@@ -22,7 +19,6 @@ use Rattle.sshkey_terms.proofs.Tested.{tested_stopped}
 use Rattle.sshkey_keys.specs.declared.key_data.KeyData.{KeyData}
 use Rattle.sshkey_keys.specs.declared.key_data.KeyData.TheVariants as kinds
 use Rattle.sshkey_keys.specs.Keys.{stored_algorithm, key_of}
-use Rattle.sshkey_keys.specs.KeyFormats.{body_format}
 use Rattle.sshkey_keys.specs.KeyReaders.{body_grammar}
 
 pub body_accepted : (a : Algorithm) (s t : Source) (r : Result KeyData Error) → Gives key_of cause (body_at a) s r t → AcceptsFront key_of (SpellsBody a) cause s r t
@@ -39,12 +35,7 @@ not_opaque (kinds.Other k) a named is = absurd (other a named (sym is))
   where
     other : (a : Algorithm) {n : _} → is_named a ≡ true → a ≡ Algorithm.Other n → ⊥
     other a named is = cc (named, is)
-not_opaque (kinds.Dsa k) a named is = is
-not_opaque (kinds.Ecdsa k) a named is = is
-not_opaque (kinds.Ed25519 k) a named is = is
-not_opaque (kinds.Rsa k) a named is = is
-not_opaque (kinds.SkEcdsaSha2NistP256 k) a named is = is
-not_opaque (kinds.SkEd25519 k) a named is = is
+not_opaque _ a named is = is
 
 -- What is read under a fixed name stands under it.
 pub body_beside : (a : Algorithm) (s t : Source) (r : Result KeyData Error) → is_named (unhashed a) ≡ true → Gives key_of cause (body_at a) s r t → IfOk r (λ k. stored_algorithm k ≡ unhashed a)

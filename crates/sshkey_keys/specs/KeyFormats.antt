@@ -49,12 +49,7 @@ kind_format (names.Other name) = tested (with_name name) string_format
 pub body_lengths : (a : Algorithm) → AreLengths (body_at a) (kind_format a).overruns
 unfolding ecdsa_at ed25519_body_at
 body_lengths names.Dsa = dsa_format.lengths
-body_lengths (names.Ecdsa curve) = checked_lengths (of_curve curve) ecdsa_format.lengths
-body_lengths names.Ed25519 = ed25519_format.lengths
-body_lengths (names.Rsa hash) = rsa_format.lengths
-body_lengths names.SkEcdsa = sk_ecdsa_format.lengths
-body_lengths names.SkEd25519 = sk_ed25519_format.lengths
-body_lengths (names.Other name) = checked_lengths (with_name name) string_lengths
+body_lengths a = (kind_format a).lengths
 
 abbrev pub body_format : Algorithm → Format Key
 body_format a = record { Spells = SpellsBody a; read = body_at a; needs = (kind_format a).needs; overruns = (kind_format a).overruns; grammar = by_itself (body_grammar a); lengths = body_lengths a }

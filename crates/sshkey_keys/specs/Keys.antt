@@ -26,13 +26,8 @@ key_of (kinds.Other k) = opaque_of k
 
 -- its algorithm; an opaque key's is the one beside its bytes, whichever that is
 abbrev pub stored_algorithm : KeyData → Algorithm
-stored_algorithm (kinds.Dsa k) = key_algorithm (dsa_of k)
-stored_algorithm (kinds.Ecdsa k) = key_algorithm (ecdsa_key_of k)
-stored_algorithm (kinds.Ed25519 k) = key_algorithm (ed25519_of k)
-stored_algorithm (kinds.Rsa k) = key_algorithm (rsa_of k)
-stored_algorithm (kinds.SkEcdsaSha2NistP256 k) = key_algorithm (sk_ecdsa_of k)
-stored_algorithm (kinds.SkEd25519 k) = key_algorithm (sk_ed25519_of k)
 stored_algorithm (kinds.Other k) = algorithm_of k.algorithm
+stored_algorithm k = key_algorithm (key_of k)
 
 -- the bytes spell the key, whose name stands before its body
 abbrev pub SpellsKey : Key → List ℕ → Type 0

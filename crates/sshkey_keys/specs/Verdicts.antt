@@ -24,13 +24,8 @@ judged accepts algorithm (Some q) = if accepts q then Ok tt else Err NotAccepted
 -- A key under a private-use name verifies nothing, and its algorithm is named. Else that of the
 -- signature is.
 abbrev pub unsupported_of : KeyData → Signature → Algorithm
-unsupported_of (kinds.Dsa key) g = g.algorithm
-unsupported_of (kinds.Ecdsa key) g = g.algorithm
-unsupported_of (kinds.Ed25519 key) g = g.algorithm
-unsupported_of (kinds.Rsa key) g = g.algorithm
-unsupported_of (kinds.SkEcdsaSha2NistP256 key) g = g.algorithm
-unsupported_of (kinds.SkEd25519 key) g = g.algorithm
 unsupported_of (kinds.Other key) g = key.algorithm
+unsupported_of _ g = g.algorithm
 
 abbrev pub verdict : (Question → Bool) → KeyData → List ℕ → Signature → Result Unit SignatureRefusal
 verdict accepts key message g = judged accepts (unsupported_of key g) (question (key_of key) message (signature_of g))

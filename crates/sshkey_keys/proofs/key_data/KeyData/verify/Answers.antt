@@ -1,4 +1,4 @@
-use Rattle.std.proofs.Common.{◌≡◌, ap, sym, ◌∙◌, option_map}
+use Rattle.std.proofs.Common.{ap, sym, ◌∙◌, option_map}
 use Rattle.sshkey_keys.specs.Keys.{key_of}
 use Rattle.sshkey_keys.specs.Questions.{question_of}
 use Rattle.sshkey_keys.specs.Signatures.{signature_of}
