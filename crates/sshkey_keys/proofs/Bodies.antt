@@ -13,13 +13,12 @@ use Rattle.sshkey_base.specs.Source.{Source}
 use Rattle.sshkey_base.specs.Stops.{Stopped}
 use Rattle.sshkey_base.proofs.Accepted.{accepts_front}
 use Rattle.sshkey_terms.specs.Terms.{IsMapped}
-use Rattle.sshkey_kinds.specs.Bodies.{SpellsBody}
+use Rattle.sshkey_kinds.specs.Bodies.{SpellsBody, body_grammar}
 use Rattle.sshkey_kinds.specs.KeyFormats.{ecdsa_format}
 use Rattle.sshkey_terms.proofs.Tested.{tested_stopped}
 use Rattle.sshkey_keys.specs.declared.key_data.KeyData.{KeyData}
 use Rattle.sshkey_keys.specs.declared.key_data.KeyData.TheVariants as kinds
 use Rattle.sshkey_keys.specs.Keys.{stored_algorithm, key_of}
-use Rattle.sshkey_keys.specs.KeyReaders.{body_grammar}
 
 pub body_accepted : (a : Algorithm) (s t : Source) (r : Result KeyData Error) → Gives key_of cause (body_at a) s r t → AcceptsFront key_of (SpellsBody a) cause s r t
 body_accepted a s t r gives = accepts_front (body_grammar a) key_of cause s t r gives

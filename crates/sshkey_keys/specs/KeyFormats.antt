@@ -18,10 +18,10 @@ use Rattle.sshkey_base.specs.NameNeeds.{NeedsAlgorithm}
 use Rattle.sshkey_base.specs.Needs.{NeedsString}
 use Rattle.sshkey_base.specs.Stops.{OverrunsString, OverrunsThen, AreLengths}
 use Rattle.sshkey_terms.specs.Terms.{IsChosen, chosen_of, tested}
-use Rattle.sshkey_kinds.specs.Bodies.{SpellsBody, ed25519_body_at}
+use Rattle.sshkey_kinds.specs.Bodies.{SpellsBody, body_grammar, ed25519_body_at}
 use Rattle.sshkey_kinds.specs.KeyFormats.{dsa_format, ecdsa_format, ed25519_format, rsa_format, sk_ecdsa_format, sk_ed25519_format}
 use Rattle.sshkey_keys.specs.Keys.{key_data_at}
-use Rattle.sshkey_keys.specs.KeyReaders.{body_grammar, key_grammar}
+use Rattle.sshkey_keys.specs.KeyReaders.{key_grammar}
 use Rattle.sshkey_keys.specs.SignatureForms.{OverrunsBlob, OverrunsInside, OverrunsNumbers, string_from}
 use Rattle.sshkey_keys.specs.SignatureReaders.{signature_grammar}
 

@@ -3,13 +3,12 @@ use Rattle.std.proofs.Common.{◌≡◌, ℕ, List, Result, Ok, Err, refl}
 use Rattle.sshkey_model.specs.Parts.{flat, Fits}
 use Rattle.sshkey_model.specs.Reading.{Fault, ◌>>=◌}
 use Rattle.sshkey_model.specs.Grammar.{IsGrammar}
-use Rattle.sshkey_model.specs.Names.{Algorithm, algorithm_at}
+use Rattle.sshkey_model.specs.Names.{algorithm_at}
 use Rattle.sshkey_model.specs.Keys.{Key, Plain, IsKey, normal_key, key_at, body_at, head_of}
 use Rattle.sshkey_model.proofs.CombinedReaders.{bind_assoc}
-use Rattle.sshkey_model.proofs.Grammars.{grammar, grammar_with, same_grammar}
-use Rattle.sshkey_model.proofs.KeyReaders.{body_reads, key_reads}
+use Rattle.sshkey_model.proofs.Grammars.{grammar_with, same_grammar}
+use Rattle.sshkey_model.proofs.KeyReaders.{key_reads}
 use Rattle.sshkey_base.specs.Labels.{label_at}
-use Rattle.sshkey_kinds.specs.Bodies.{SpellsBody}
 use Rattle.sshkey_keys.specs.Keys.{SpellsKey, key_data_at}
 
 -- what follows two steps follows the second of them
@@ -20,9 +19,6 @@ after_both (Err fault) body both value = refl
 pub key_grammar : IsGrammar SpellsKey key_data_at
 unfolding key_data_at key_at algorithm_at label_at
 key_grammar = same_grammar (grammar_with key_reads) (λ b. after_both {B = Key × List ℕ} (algorithm_at b) (λ n. body_at n.0 n.1) (λ n k. Ok ((k.0, head_of n.0), k.1)) (λ k. Ok (k.0.0, k.1)))
-
-pub body_grammar : (a : Algorithm) → IsGrammar (SpellsBody a) (body_at a)
-body_grammar a = grammar (body_reads a)
 
 -- what is written of a key is one of its spellings
 pub key_normal : (k : Key) → IsKey k → Fits (normal_key k) → SpellsKey k (flat (normal_key k))

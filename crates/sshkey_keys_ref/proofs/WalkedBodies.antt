@@ -1,20 +1,18 @@
 -- Bodies that a walk over a slice takes.
-use Rattle.std.proofs.Common.{◌≡◌, ℕ, ◌-◌, List, ◌∷◌, ◌++◌, length, take, drop, bytes_eq, inl, inr, Option, Some, None, Result, Ok, Err, IfErr, true, refl, sym, ap, ◌∙◌}
+use Rattle.std.proofs.Common.{◌≡◌, ℕ, List, ◌++◌, None, Result, Ok, Err, IfErr, true, refl, subst}
 use denote.Ref.{Bor}
-use Rattle.sshkey_model.specs.Reading.{Fault, Label, Front, Whole, string_at, bytes_at, checked_at}
-use Rattle.sshkey_model.specs.Names.{Algorithm, named, at_sign, cut, is_other_name, algorithm_or}
-use Rattle.sshkey_model.specs.CertificateNames.{certificate_name, certified, certified_from, certified_or, without_suffix, suffix}
+use Rattle.sshkey_model.specs.Reading.{Fault, Front, Whole, string_at, bytes_at, checked_at}
+use Rattle.sshkey_model.specs.Names.{Algorithm, named, algorithm_at, algorithm_from}
+use Rattle.sshkey_model.specs.CertificateNames.{certificate_name, certified, certified_from}
 use Rattle.sshkey_model.specs.Keys.{Opaque, body_at}
 use Rattle.sshkey_base.specs.Answers.{Judges, Answers, AnswersAlways}
 use Rattle.sshkey_base.specs.Causes.{Cause, NoMemory}
 use Rattle.sshkey_base.specs.Reading.{Reads, GivesWhole}
 use Rattle.sshkey_base.proofs.Judging.{only_memory}
 use Rattle.sshkey_base.proofs.Steps.{refuses_first}
-use Rattle.sshkey_model.proofs.CombinedReaders.{chosen}
+use Rattle.sshkey_model.proofs.CertificateNameReaders.{IsStripped, certified_is}
 use Rattle.sshkey_base.specs.Source.{all_of}
-use Rattle.sshkey_model.specs.Names.{algorithm_from}
 use Rattle.sshkey_model.specs.Signatures.{signature_at, signature_blob_at, trailed_at}
-use Rattle.sshkey_model.specs.Names.{algorithm_at}
 use Rattle.sshkey_base.specs.Labels.{label_at}
 use Rattle.sshkey_terms.specs.Slices.{is_taken}
 use Rattle.sshkey_keys_ref.specs.Taking.{Skips}
@@ -29,25 +27,13 @@ pub skips_under : {E : Type 0} (cause : E → Cause) (name b : List ℕ) (a : Al
 skips_under cause name b a (Ok rest) is h = (h.0, rw is h.1)
 skips_under cause name b a (Err e) is h = rw is h
 
-stripped : (o : Option (List ℕ × List ℕ)) (a : Algorithm) → without_suffix o ≡ Ok a → (n : List ℕ) × (a ≡ Algorithm.Other n)
-stripped None a e = absurd (cc e)
-stripped (Some p) a e =
-    let bare = take (length p.0 - 9) p.0 ++ at_sign ∷ p.1 in
-    elim (chosen (bytes_eq (drop (length p.0 - 9) p.0) suffix) (algorithm_or None bare) (Err Label) (Ok a) e) [
-      | inl yes_ ↦ elim (chosen (is_other_name bare) (Ok (Algorithm.Other bare)) (Err Label) (Ok a) yes_.1) [
-        | inl other ↦ (bare, cc other.1)
-        | inr no_ ↦ absurd (cc no_.1)
-      ]
-      | inr no_ ↦ absurd (cc no_.1)
-    ]
-
 pub skips_other : {D E : Type 0} (narrow : D → Cause) (cause : E → Cause) (name b : List ℕ) (r : Result (Bor (List ℕ)) E) → named certificate_name certified name ≡ None → Judges narrow (certified_from name) (Ok tt) → Skips cause string_at b r → Skips cause (certified_body_at name) b r
 skips_other narrow cause name b r none judged h = go (certified_from name) refl judged
   where
     go : (found : Result Algorithm Fault) → certified_from name ≡ found → Judges narrow found (Ok tt) → Skips cause (certified_body_at name) b r
     go (Ok a) e j =
-        let o = stripped (cut name) a (ap (λ (o : Option Algorithm). certified_or o name) (sym none) ∙ e) in
-        skips_under cause name b a r e (rw o.1 (skips_opaque cause o.0 b r h))
+        let own = subst (IsStripped name) e (certified_is name none) in
+        skips_under cause name b a r e (rw own.1 (skips_opaque cause own.0 b r h))
     go (Err f) e j = absurd j
 
 -- ---- what was taken once is taken again

@@ -1,23 +1,18 @@
 -- What stands behind the name of each kind of key, by the terms that it is read as.
-use Rattle.std.proofs.Common.{◌≡◌, ℕ, List, Result, Ok, refl, sym, ap}
-use Rattle.sshkey_model.specs.Reading.{Fault, ◌>>=◌, Front, checked_at, box_at, whole, bytes_at, string_at, both_at, behind_at}
-use Rattle.sshkey_model.specs.Texts.{string, text_at}
-use Rattle.sshkey_model.specs.Names.{Curve, Nistp256, curve, curve_at, curve_from}
-use Rattle.sshkey_model.specs.Points.{IsPoint, IsPointOf, of_curve, point_at, point_from, p256_point_from}
+use Rattle.std.proofs.Common.{ℕ, List, None, Result, Ok, refl}
+use Rattle.sshkey_model.specs.Reading.{Fault, ◌>>=◌, box_at, whole, bytes_at, both_at, behind_at}
+use Rattle.sshkey_model.specs.Texts.{text_at}
+use Rattle.sshkey_model.specs.Names.{Algorithm, Curve, curve_at, curve_from}
+use Rattle.sshkey_model.specs.Points.{of_curve, point_at, point_from, p256_point_from}
 use Rattle.sshkey_model.specs.Keys.{Key, Dsa, Ecdsa, Ed25519, Rsa, SkEcdsa, SkEd25519, dsa_at, any_ecdsa_at, rsa_at, ed25519_at, sk_ecdsa_at, sk_ed25519_at, p256_only}
 use Rattle.sshkey_model.specs.Mpints.{mpint_at}
-use Rattle.sshkey_model.specs.Grammar.{IsGrammar, Spells, Checks}
-use Rattle.sshkey_model.proofs.CombinedReaders.{Any, bind_assoc, done, ok_is, checked_reads, checked_string_reads}
-use Rattle.sshkey_model.proofs.NameReaders.{curve_reads, curve_checks}
-use Rattle.sshkey_model.proofs.PointReaders.{point_reads, p256_point_checks}
-use Rattle.sshkey_model.proofs.Grammars.{grammar, by_itself}
-use Rattle.sshkey_base.specs.Formats.{Format, array_format, label_format, mpint_format, text_format}
+use Rattle.sshkey_model.proofs.CombinedReaders.{bind_assoc}
+use Rattle.sshkey_model.proofs.NameReaders.{curve_checks}
+use Rattle.sshkey_base.specs.Formats.{Format, array_format, label_format, mpint_format, string_format, text_format}
 use Rattle.sshkey_base.specs.Labels.{label_at}
-use Rattle.sshkey_base.specs.Lengths.{checked_lengths, string_lengths}
 use Rattle.sshkey_base.specs.Needs.{NoNeed}
-use Rattle.sshkey_base.specs.Stops.{OverrunsString}
-use Rattle.sshkey_terms.specs.Terms.{◌then◌, IsMapped, made_of, without_memory}
-use Rattle.sshkey_kinds.specs.Bodies.{dsa_grammar, rsa_grammar, ed25519_body_at, ed25519_body_grammar, any_ecdsa_grammar, sk_ecdsa_grammar, sk_ed25519_grammar}
+use Rattle.sshkey_terms.specs.Terms.{◌then◌, IsMapped, made_of, tested, without_memory}
+use Rattle.sshkey_kinds.specs.Bodies.{body_grammar, ed25519_body_at, ed25519_body_grammar, any_ecdsa_grammar}
 
 -- ---- numbers
 
@@ -29,7 +24,7 @@ unfolding dsa_at behind_at
 dsa_parts_read = record { same = λ b. simp bind_assoc }
 
 abbrev pub dsa_format : Format Key
-dsa_format = made_of (mpint_format then mpint_format then mpint_format then mpint_format) dsa_parts_read dsa_grammar
+dsa_format = made_of (mpint_format then mpint_format then mpint_format then mpint_format) dsa_parts_read (body_grammar Algorithm.Dsa)
 
 abbrev rsa_of_parts : List ℕ × List ℕ → Result Key Fault
 rsa_of_parts a = Ok (Rsa (record { e = a.0; n = a.1 }))
@@ -39,7 +34,7 @@ unfolding rsa_at behind_at
 rsa_parts_read = record { same = λ b. simp bind_assoc }
 
 abbrev pub rsa_format : Format Key
-rsa_format = made_of (mpint_format then mpint_format) rsa_parts_read rsa_grammar
+rsa_format = made_of (mpint_format then mpint_format) rsa_parts_read (body_grammar (Algorithm.Rsa None))
 
 -- ---- 32 bytes
 
@@ -61,7 +56,7 @@ unfolding sk_ed25519_at ed25519_at behind_at
 sk_ed25519_parts_read = record { same = λ b. simp bind_assoc }
 
 abbrev pub sk_ed25519_format : Format Key
-sk_ed25519_format = made_of (array_format 32 then text_format) sk_ed25519_parts_read sk_ed25519_grammar
+sk_ed25519_format = made_of (array_format 32 then text_format) sk_ed25519_parts_read (body_grammar Algorithm.SkEd25519)
 
 -- ---- points
 
@@ -70,7 +65,7 @@ curve_format = label_format NoNeed curve_checks
 
 -- a point of whichever curve
 abbrev pub any_point_format : Format (Curve × List ℕ)
-any_point_format = record { Spells = Spells IsPointOf (λ x. string x.1); read = point_at; needs = NoNeed; overruns = OverrunsString; grammar = by_itself (grammar point_reads); lengths = checked_lengths point_from string_lengths }
+any_point_format = without_memory (tested point_from string_format)
 
 -- the point, where it is one of the stated curve
 abbrev pub ecdsa_of_parts : Curve × (Curve × List ℕ) → Result Key Fault
@@ -90,41 +85,18 @@ ecdsa_format = without_memory (made_of ecdsa_parts_format ecdsa_parts_read any_e
 -- ---- a P-256 key that a security key holds
 
 -- the name of P-256
-abbrev pub p256_name_at : Front Curve
-p256_name_at = checked_at p256_only (label_at curve_from)
-
-abbrev pub SpellsP256Name : Curve → List ℕ → Type 0
-SpellsP256Name = Spells (λ c. c ≡ Nistp256) curve
-
-p256_only_checks : Checks Any curve (λ c. c ≡ Nistp256) curve p256_only
-p256_only_checks = record { takes = λ a b was e. only a b e; again = λ b is. (Nistp256, tt, ap (λ (c : Curve). done c) (sym is), ap curve (sym is)) }
-  where
-    only : (a b : Curve) → p256_only a ≡ Ok b → (b ≡ Nistp256) × (curve a ≡ curve b)
-    only Nistp256 b e = let same = ok_is Nistp256 b e in (sym same, ap curve same)
-    only _ b e = absurd cc
-
-pub p256_name_grammar : IsGrammar SpellsP256Name p256_name_at
-unfolding curve_at label_at
-p256_name_grammar = grammar (checked_reads p256_only_checks curve_reads)
-
-pub p256_name_read : IsMapped p256_name_at p256_only (label_at curve_from)
-p256_name_read = record { same = λ b. refl }
-
 abbrev pub p256_name_format : Format Curve
-p256_name_format = made_of curve_format p256_name_read p256_name_grammar
-
-abbrev pub p256_point_at : Front (List ℕ)
-p256_point_at = checked_at p256_point_from string_at
+p256_name_format = tested p256_only curve_format
 
 abbrev pub p256_point_format : Format (List ℕ)
-p256_point_format = record { Spells = Spells (IsPoint Nistp256) string; read = p256_point_at; needs = NoNeed; overruns = OverrunsString; grammar = by_itself (grammar (checked_string_reads p256_point_checks)); lengths = checked_lengths p256_point_from string_lengths }
+p256_point_format = without_memory (tested p256_point_from string_format)
 
 abbrev sk_ecdsa_of_parts : Curve × (List ℕ × List ℕ) → Result Key Fault
 sk_ecdsa_of_parts a = Ok (SkEcdsa (record { key = a.1.0; application = a.1.1 }))
 
-pub sk_ecdsa_parts_read : IsMapped sk_ecdsa_at sk_ecdsa_of_parts (both_at p256_name_at (both_at p256_point_at text_at))
+pub sk_ecdsa_parts_read : IsMapped sk_ecdsa_at sk_ecdsa_of_parts (both_at p256_name_format.read (both_at p256_point_format.read text_at))
 unfolding sk_ecdsa_at behind_at curve_at label_at
 sk_ecdsa_parts_read = record { same = λ b. simp bind_assoc }
 
 abbrev pub sk_ecdsa_format : Format Key
-sk_ecdsa_format = made_of (p256_name_format then p256_point_format then text_format) sk_ecdsa_parts_read sk_ecdsa_grammar
+sk_ecdsa_format = made_of (p256_name_format then p256_point_format then text_format) sk_ecdsa_parts_read (body_grammar Algorithm.SkEcdsa)

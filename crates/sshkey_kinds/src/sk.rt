@@ -120,7 +120,7 @@ impl Decode for SkEcdsaSha2NistP256 {
 #[derive(Drop)]
 struct P256Name;
 
-#[tactic(auto, using(sshkey_base::proofs::Steps::steps, sshkey_terms::proofs::Mapped::mapped, sshkey_terms::proofs::Tested::tested, crate::specs::KeyFormats::p256_name_read, sshkey_base::specs::Lengths::label_lengths))]
+#[tactic(auto, using(sshkey_base::proofs::Steps::steps, sshkey_terms::proofs::Mapped::mapped, sshkey_terms::proofs::Tested::tested, sshkey_terms::specs::Terms::checked_read, sshkey_base::specs::Lengths::label_lengths))]
 impl Decode for P256Name {
     ghost use Rattle.sshkey_model.specs.Names.{Curve, Nistp256};
     ghost use Rattle.sshkey_kinds.specs.KeyFormats.{p256_name_format};

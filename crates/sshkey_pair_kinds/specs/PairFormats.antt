@@ -1,17 +1,14 @@
 -- What stands behind the name of each kind of pair, by the terms that it is read as.
 use Rattle.std.proofs.Common.{ℕ, List, Result, Ok, Err, None, refl}
-use Rattle.std.specs.Int.{w8}
-use Rattle.sshkey_model.specs.Reading.{Fault, Length, ◌>>=◌, number_at, string_at, box_at, whole, bytes_at, both_at, behind_at}
-use Rattle.sshkey_model.specs.Grammar.{IsGrammar, Spells, value_at}
+use Rattle.sshkey_model.specs.Reading.{Fault, Length, ◌>>=◌, box_at, whole, bytes_at, both_at, behind_at}
+use Rattle.sshkey_model.specs.Grammar.{value_at}
 use Rattle.sshkey_model.specs.Keys.{Key, Dsa, Ecdsa, SkEcdsa, SkEd25519, dsa_at, any_ecdsa_at, ed25519_at, sk_ecdsa_at, sk_ed25519_at}
 use Rattle.sshkey_model.specs.Mpints.{mpint_at}
 use Rattle.sshkey_model.specs.Names.{Algorithm}
-use Rattle.sshkey_model.specs.Parts.{Any}
 use Rattle.sshkey_model.specs.Points.{field_size}
-use Rattle.sshkey_model.specs.KeyPairs.{KeyPair, DsaPair, EcdsaPair, Ed25519Pair, RsaPair, SkEcdsaPair, SkEd25519Pair, RsaPrivate, SecurityPrivate, security_private, private_before, scalar_at, scalar_whole, dsa_pair_at, any_ecdsa_pair_at, ed25519_pair_at, rsa_private_at, rsa_pair_at, security_private_at, sk_ecdsa_pair_at, sk_ed25519_pair_at}
+use Rattle.sshkey_model.specs.KeyPairs.{KeyPair, DsaPair, EcdsaPair, Ed25519Pair, RsaPair, SkEcdsaPair, SkEd25519Pair, RsaPrivate, SecurityPrivate, private_before, scalar_at, scalar_whole, dsa_pair_at, any_ecdsa_pair_at, ed25519_pair_at, rsa_private_at, rsa_pair_at, security_private_at, sk_ecdsa_pair_at, sk_ed25519_pair_at}
+use Rattle.sshkey_model.proofs.Grammars.{by_itself}
 use Rattle.sshkey_model.proofs.CombinedReaders.{bind_assoc}
-use Rattle.sshkey_model.proofs.Grammars.{grammar, by_itself}
-use Rattle.sshkey_model.proofs.KeyPairReaders.{security_private_reads}
 use Rattle.sshkey_base.specs.Formats.{Format, array_format, byte_format, mpint_format, string_format}
 use Rattle.sshkey_base.specs.Lengths.{box_lengths}
 use Rattle.sshkey_base.specs.Needs.{NoNeed}
@@ -101,21 +98,11 @@ ecdsa_pair_format = without_memory (chosen_of ecdsa_format pair_of_key ecdsa_pai
 -- ---- what is kept of a key that a security key holds: the flags, the key handle and the reserved
 -- bytes
 
-abbrev pub SpellsHeld : SecurityPrivate → List ℕ → Type 0
-SpellsHeld = Spells Any security_private
-
-pub held_grammar : IsGrammar SpellsHeld security_private_at
-held_grammar = grammar security_private_reads
-
 abbrev pub held_of_parts : ℕ × (List ℕ × List ℕ) → Result SecurityPrivate Fault
 held_of_parts a = Ok (record { flags = a.0; handle = a.1.0; reserved = a.1.1 })
 
-pub held_parts_read : IsMapped security_private_at held_of_parts (both_at (number_at w8) (both_at string_at string_at))
-unfolding security_private_at behind_at
-held_parts_read = record { same = λ b. simp bind_assoc }
-
 abbrev pub held_format : Format SecurityPrivate
-held_format = made_of (byte_format then string_format then string_format) held_parts_read held_grammar
+held_format = tested held_of_parts (byte_format then string_format then string_format)
 
 -- ---- the public key of a security key, and what is kept of it
 
@@ -124,15 +111,15 @@ security_pair_of_parts (SkEcdsa k, r) = Ok (SkEcdsaPair k r)
 security_pair_of_parts (SkEd25519 k, r) = Ok (SkEd25519Pair k r)
 security_pair_of_parts _ = Err Length
 
-pub sk_ecdsa_pair_parts_read : IsMapped (value_at sk_ecdsa_pair_at) security_pair_of_parts (both_at sk_ecdsa_at security_private_at)
-unfolding sk_ecdsa_pair_at sk_ecdsa_at behind_at
+pub sk_ecdsa_pair_parts_read : IsMapped (value_at sk_ecdsa_pair_at) security_pair_of_parts (both_at sk_ecdsa_at held_format.read)
+unfolding security_private_at sk_ecdsa_pair_at sk_ecdsa_at behind_at
 sk_ecdsa_pair_parts_read = record { same = λ b. simp bind_assoc }
 
 abbrev pub sk_ecdsa_pair_format : Format KeyPair
 sk_ecdsa_pair_format = made_of (sk_ecdsa_format then held_format) sk_ecdsa_pair_parts_read (pair_grammar Algorithm.SkEcdsa)
 
-pub sk_ed25519_pair_parts_read : IsMapped (value_at sk_ed25519_pair_at) security_pair_of_parts (both_at sk_ed25519_at security_private_at)
-unfolding sk_ed25519_pair_at sk_ed25519_at behind_at
+pub sk_ed25519_pair_parts_read : IsMapped (value_at sk_ed25519_pair_at) security_pair_of_parts (both_at sk_ed25519_at held_format.read)
+unfolding security_private_at sk_ed25519_pair_at sk_ed25519_at behind_at
 sk_ed25519_pair_parts_read = record { same = λ b. simp bind_assoc }
 
 abbrev pub sk_ed25519_pair_format : Format KeyPair

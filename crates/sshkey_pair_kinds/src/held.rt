@@ -52,7 +52,7 @@ impl Held {
 }
 
 /// The flags, the key handle and the reserved bytes.
-#[tactic(auto, using(sshkey_terms::proofs::Mapped::mapped, crate::specs::PairFormats::held_parts_read))]
+#[tactic(auto, using(sshkey_terms::proofs::Mapped::mapped, sshkey_terms::specs::Terms::checked_read))]
 impl Decode for Held {
     ghost use Rattle.sshkey_pair_kinds.specs.PairFormats.{held_format};
 

@@ -1,18 +1,18 @@
 -- What stands behind a private-use name, behind a name, and a pair with its name, by the terms that
 -- they are read as.
-use Rattle.std.proofs.Common.{ℕ, List, [], Option, Some, Result, Ok, refl}
-use Rattle.sshkey_model.specs.Reading.{Fault, string_at, both_at, behind_at}
+use Rattle.std.proofs.Common.{◌≡◌, ℕ, List, [], Option, Some, Result, Ok, refl}
+use Rattle.sshkey_model.specs.Reading.{Fault, Front, string_at, both_at, behind_at}
 use Rattle.sshkey_model.specs.Grammar.{value_at}
 use Rattle.sshkey_model.specs.Names.{Algorithm, algorithm_from}
 use Rattle.sshkey_model.specs.Names as names
-use Rattle.sshkey_model.specs.KeyPairs.{KeyPair, OpaquePair, opaque_pair_at, pair_at}
+use Rattle.sshkey_model.specs.Keys.{wanted_curve}
+use Rattle.sshkey_model.specs.KeyPairs.{KeyPair, OpaquePair, public_half, opaque_pair_at, pair_at}
 use Rattle.sshkey_model.proofs.CombinedReaders.{bind_assoc}
 use Rattle.sshkey_base.specs.Formats.{Format, string_format}
 use Rattle.sshkey_model.proofs.Grammars.{by_itself}
 use Rattle.sshkey_base.specs.Labels.{label_at}
-use Rattle.sshkey_base.specs.Needs.{NoNeed}
 use Rattle.sshkey_base.specs.Stops.{AreLengths}
-use Rattle.sshkey_terms.specs.Terms.{◌then◌, chosen_of, tested, IsChosen, IsMapped, made_of, mapped_lengths}
+use Rattle.sshkey_terms.specs.Terms.{◌then◌, chosen_of, tested, IsChosen, IsMapped, made_of}
 use Rattle.sshkey_keys.specs.KeyFormats.{name_format}
 use Rattle.sshkey_pair_kinds.specs.PairFormats.{dsa_pair_format, ecdsa_pair_format, ed25519_pair_format, rsa_pair_format, sk_ecdsa_pair_format, sk_ed25519_pair_format}
 use Rattle.sshkey_pair_kinds.specs.PairReaders.{SpellsPair, pair_grammar}
@@ -41,34 +41,33 @@ opaque_pair_format name = made_of (string_format then string_format) (opaque_pai
 
 -- ---- a pair under that algorithm
 
+abbrev pub kind_format : Algorithm → Format KeyPair
+kind_format names.Dsa = dsa_pair_format
+kind_format (names.Ecdsa curve) = tested (wanted_curve public_half curve) ecdsa_pair_format
+kind_format names.Ed25519 = ed25519_pair_format
+kind_format (names.Rsa hash) = rsa_pair_format
+kind_format names.SkEcdsa = sk_ecdsa_pair_format
+kind_format names.SkEd25519 = sk_ed25519_pair_format
+kind_format (names.Other name) = opaque_pair_format name
+
 -- where it needs memory; of ECDSA and Ed25519 nowhere
 abbrev pub NeedsPair : Algorithm → List ℕ → ℕ → Type 0
-NeedsPair names.Dsa = dsa_pair_format.needs
-NeedsPair (names.Ecdsa curve) = NoNeed
-NeedsPair names.Ed25519 = NoNeed
-NeedsPair (names.Rsa hash) = rsa_pair_format.needs
-NeedsPair names.SkEcdsa = sk_ecdsa_pair_format.needs
-NeedsPair names.SkEd25519 = sk_ed25519_pair_format.needs
-NeedsPair (names.Other name) = (opaque_pair_format name).needs
+NeedsPair a = (kind_format a).needs
 
 -- where a length passes
 abbrev pub OverrunsPair : Algorithm → List ℕ → ℕ → Type 0
-OverrunsPair names.Dsa = dsa_pair_format.overruns
-OverrunsPair (names.Ecdsa curve) = ecdsa_pair_format.overruns
-OverrunsPair names.Ed25519 = ed25519_pair_format.overruns
-OverrunsPair (names.Rsa hash) = rsa_pair_format.overruns
-OverrunsPair names.SkEcdsa = sk_ecdsa_pair_format.overruns
-OverrunsPair names.SkEd25519 = sk_ed25519_pair_format.overruns
-OverrunsPair (names.Other name) = (opaque_pair_format name).overruns
+OverrunsPair a = (kind_format a).overruns
+
+-- step by step
+abbrev pub steps_at : Algorithm → Front KeyPair
+steps_at a = (kind_format a).read
+
+pub same_steps : (a : Algorithm) (b : List ℕ) → value_at (pair_at a) b ≡ steps_at a b
+same_steps (names.Ecdsa curve) b = (ecdsa_under_read curve).same b
+same_steps _ b = refl
 
 pub pair_lengths : (a : Algorithm) → AreLengths (value_at (pair_at a)) (OverrunsPair a)
-pair_lengths names.Dsa = dsa_pair_format.lengths
-pair_lengths (names.Ecdsa curve) = mapped_lengths (ecdsa_under_read curve) ecdsa_pair_format.lengths
-pair_lengths names.Ed25519 = ed25519_pair_format.lengths
-pair_lengths (names.Rsa hash) = rsa_pair_format.lengths
-pair_lengths names.SkEcdsa = sk_ecdsa_pair_format.lengths
-pair_lengths names.SkEd25519 = sk_ed25519_pair_format.lengths
-pair_lengths (names.Other name) = (opaque_pair_format name).lengths
+pair_lengths a b n over = rw (same_steps a b) ((kind_format a).lengths b n over)
 
 abbrev pub pair_format : Algorithm → Format KeyPair
 pair_format a = record { Spells = SpellsPair a; read = value_at (pair_at a); needs = NeedsPair a; overruns = OverrunsPair a; grammar = by_itself (pair_grammar a); lengths = pair_lengths a }

@@ -2,9 +2,9 @@
 use Rattle.std.proofs.Common.{◌≡◌, ℕ, Bool, true, false, cond, Option, Some, None, List, ◌++◌, Result, Ok, Err, refl, sym, subst}
 use Rattle.sshkey_model.specs.Reading.{Fault, AlgorithmUnknown, ◌>>=◌, Front, checked_at}
 use Rattle.sshkey_model.specs.Grammar.{IsGrammar, SpellsWith, value_at}
-use Rattle.sshkey_model.specs.Names.{Algorithm, Curve, Dsa, Ecdsa, Ed25519, Rsa, SkEcdsa, SkEd25519, Other, algorithm_from, algorithm_at}
+use Rattle.sshkey_model.specs.Names.{Algorithm, Curve, algorithm_from, algorithm_at}
 use Rattle.sshkey_model.specs.Keys.{head_of, has_curve, wanted_curve}
-use Rattle.sshkey_model.specs.KeyPairs.{LeadingZeros, KeyPair, KeyPairChoices, IsKeyPair, HasKeyPairPlaces, keypair, public_half, any_ecdsa_pair_at, ecdsa_pair_at, dsa_pair_at, ed25519_pair_at, rsa_pair_at, sk_ecdsa_pair_at, sk_ed25519_pair_at, opaque_pair_at, pair_at, keypair_at}
+use Rattle.sshkey_model.specs.KeyPairs.{LeadingZeros, KeyPair, KeyPairChoices, IsKeyPair, HasKeyPairPlaces, keypair, public_half, any_ecdsa_pair_at, ecdsa_pair_at, pair_at, keypair_at}
 use Rattle.sshkey_model.proofs.CombinedReaders.{bind_ok, ok_is}
 use Rattle.sshkey_model.proofs.Grammars.{grammar_with, same_grammar}
 use Rattle.sshkey_model.proofs.KeyPairReaders.{keypair_reads}
@@ -26,20 +26,10 @@ keypair_data_at b = do
   name ← label_at algorithm_from b
   some_at (value_at (pair_at name.0)) name.1
 
--- ---- a pair under its algorithm, step by step
+-- ---- a pair on the curve that the algorithm names, step by step
 
--- on the curve that the algorithm names
 abbrev pub ecdsa_under : Curve → Front KeyPair
 ecdsa_under wanted = checked_at (wanted_curve public_half wanted) (value_at any_ecdsa_pair_at)
-
-abbrev pub steps_at : Algorithm → Front KeyPair
-steps_at Dsa = value_at dsa_pair_at
-steps_at (Ecdsa curve) = ecdsa_under curve
-steps_at Ed25519 = value_at ed25519_pair_at
-steps_at (Rsa hash) = value_at rsa_pair_at
-steps_at SkEcdsa = value_at sk_ecdsa_pair_at
-steps_at SkEd25519 = value_at sk_ed25519_pair_at
-steps_at (Other name) = value_at (opaque_pair_at name)
 
 abbrev bare : (KeyPair × LeadingZeros) × List ℕ → Result (KeyPair × List ℕ) Fault
 bare x = Ok (x.0.0, x.1)
@@ -61,15 +51,6 @@ ecdsa_under_same wanted b = go (any_ecdsa_pair_at b)
 
 pub ecdsa_under_read : (wanted : Curve) → IsMapped (value_at (ecdsa_pair_at wanted)) (wanted_curve public_half wanted) (value_at any_ecdsa_pair_at)
 ecdsa_under_read wanted = record { same = ecdsa_under_same wanted }
-
-pub same_steps : (a : Algorithm) (b : List ℕ) → value_at (pair_at a) b ≡ steps_at a b
-same_steps Dsa b = refl
-same_steps (Ecdsa curve) b = ecdsa_under_same curve b
-same_steps Ed25519 b = refl
-same_steps (Rsa hash) b = refl
-same_steps SkEcdsa b = refl
-same_steps SkEd25519 b = refl
-same_steps (Other name) b = refl
 
 -- ---- it takes exactly the spellings
 
