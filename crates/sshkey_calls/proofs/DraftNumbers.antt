@@ -1,6 +1,6 @@
 -- Nothing is wrong with a draft that tells a certificate; and what is wrong first with one that
 -- tells none.
-use Rattle.std.proofs.Common.{◌≡◌, ◌≢◌, ◌==◌, ◌↔◌, inl, inr, ◌<◌, ℕ, zero, suc, List, [], ◌∷◌, length, Bool, true, false, cond, nat_lt, Result, Ok, Err, refl, sym, ap, subst, ◌∙◌, arith, lt-ltb}
+use Rattle.std.proofs.Common.{◌≡◌, ◌≢◌, ◌==◌, ◌↔◌, inl, inr, ◌<◌, ℕ, List, [], ◌∷◌, length, Bool, true, false, cond, nat_lt, Result, Ok, Err, refl, sym, ap, subst, ◌∙◌, arith, lt-ltb}
 use Rattle.std.proofs.Math.Bool.{beq}
 use Rattle.std.proofs.lemmas.Bool.{cases_lt, eqb-true, eqb-false}
 use Rattle.sshkey_model.specs.Certificates.{CertificateType, IsEnd, IsTime, SignedFields, User, Host, is_end, is_time, type_from, type_number}
@@ -70,8 +70,7 @@ first_here a ns some = go (a == 0) refl
     go false e = refl
 
 pub first_behind : (a : ℕ) (ns : List ℕ) → a ≡ 0 → first_number (a ∷ ns) ≡ first_number ns
-first_behind zero ns none = refl
-first_behind (suc a) ns none = absurd (omega (arith, none))
+first_behind a ns none = rw none refl
 
 first_alone : (a : ℕ) → first_number (a ∷ []) ≡ a
 first_alone a = go (a == 0) refl
@@ -102,25 +101,6 @@ last_three a b c none last = elim (cases_lt 0 a) [
       let second : b ≡ 0 = sym (first_two a b first) ∙ none in
       first_behind a (b ∷ c ∷ []) first ∙ first_behind b (c ∷ []) second ∙ first_here c [] last
 ]
-
-module _ (a b c d e f : ℕ) where
-  pub first_1 : 0 < a → first_number (a ∷ b ∷ c ∷ d ∷ e ∷ f ∷ []) ≡ a
-  first_1 = first_here a (b ∷ c ∷ d ∷ e ∷ f ∷ [])
-
-  pub first_2 : a ≡ 0 → 0 < b → first_number (a ∷ b ∷ c ∷ d ∷ e ∷ f ∷ []) ≡ b
-  first_2 ea some = first_behind a (b ∷ c ∷ d ∷ e ∷ f ∷ []) ea ∙ first_here b (c ∷ d ∷ e ∷ f ∷ []) some
-
-  pub first_3 : a ≡ 0 → b ≡ 0 → 0 < c → first_number (a ∷ b ∷ c ∷ d ∷ e ∷ f ∷ []) ≡ c
-  first_3 ea eb some = first_behind a (b ∷ c ∷ d ∷ e ∷ f ∷ []) ea ∙ first_behind b (c ∷ d ∷ e ∷ f ∷ []) eb ∙ first_here c (d ∷ e ∷ f ∷ []) some
-
-  pub first_4 : a ≡ 0 → b ≡ 0 → c ≡ 0 → 0 < d → first_number (a ∷ b ∷ c ∷ d ∷ e ∷ f ∷ []) ≡ d
-  first_4 ea eb ec some = first_behind a (b ∷ c ∷ d ∷ e ∷ f ∷ []) ea ∙ first_behind b (c ∷ d ∷ e ∷ f ∷ []) eb ∙ first_behind c (d ∷ e ∷ f ∷ []) ec ∙ first_here d (e ∷ f ∷ []) some
-
-  pub first_5 : a ≡ 0 → b ≡ 0 → c ≡ 0 → d ≡ 0 → 0 < e → first_number (a ∷ b ∷ c ∷ d ∷ e ∷ f ∷ []) ≡ e
-  first_5 ea eb ec ed some = first_behind a (b ∷ c ∷ d ∷ e ∷ f ∷ []) ea ∙ first_behind b (c ∷ d ∷ e ∷ f ∷ []) eb ∙ first_behind c (d ∷ e ∷ f ∷ []) ec ∙ first_behind d (e ∷ f ∷ []) ed ∙ first_here e (f ∷ []) some
-
-  pub first_6 : a ≡ 0 → b ≡ 0 → c ≡ 0 → d ≡ 0 → e ≡ 0 → first_number (a ∷ b ∷ c ∷ d ∷ e ∷ f ∷ []) ≡ f
-  first_6 ea eb ec ed ee = first_behind a (b ∷ c ∷ d ∷ e ∷ f ∷ []) ea ∙ first_behind b (c ∷ d ∷ e ∷ f ∷ []) eb ∙ first_behind c (d ∷ e ∷ f ∷ []) ec ∙ first_behind d (e ∷ f ∷ []) ed ∙ first_two e f ee
 
 -- ---- of one part
 
@@ -215,22 +195,22 @@ module _ (d : CertificateDraft) where
   of_extensions = list_number options_value_at d.extensions.now
 
   pub wrong_key : 0 < of_key → parts_fault d ≡ of_key
-  wrong_key = first_1 of_key of_authority of_key_id of_principals of_critical of_extensions
+  wrong_key = first_here of_key (of_authority ∷ of_key_id ∷ of_principals ∷ of_critical ∷ of_extensions ∷ [])
 
   pub wrong_authority : of_key ≡ 0 → 0 < of_authority → parts_fault d ≡ of_authority
-  wrong_authority = first_2 of_key of_authority of_key_id of_principals of_critical of_extensions
+  wrong_authority key some = rw key (first_here of_authority (of_key_id ∷ of_principals ∷ of_critical ∷ of_extensions ∷ []) some)
 
   pub wrong_key_id : of_key ≡ 0 → of_authority ≡ 0 → 0 < of_key_id → parts_fault d ≡ of_key_id
-  wrong_key_id = first_3 of_key of_authority of_key_id of_principals of_critical of_extensions
+  wrong_key_id key authority some = rw (key, authority) (first_here of_key_id (of_principals ∷ of_critical ∷ of_extensions ∷ []) some)
 
   pub wrong_principals : of_key ≡ 0 → of_authority ≡ 0 → of_key_id ≡ 0 → 0 < of_principals → parts_fault d ≡ of_principals
-  wrong_principals = first_4 of_key of_authority of_key_id of_principals of_critical of_extensions
+  wrong_principals key authority id_ some = rw (key, authority, id_) (first_here of_principals (of_critical ∷ of_extensions ∷ []) some)
 
   pub wrong_critical : of_key ≡ 0 → of_authority ≡ 0 → of_key_id ≡ 0 → of_principals ≡ 0 → 0 < of_critical → parts_fault d ≡ of_critical
-  wrong_critical = first_5 of_key of_authority of_key_id of_principals of_critical of_extensions
+  wrong_critical key authority id_ principals some = rw (key, authority, id_, principals) (first_here of_critical (of_extensions ∷ []) some)
 
   pub last_part : of_key ≡ 0 → of_authority ≡ 0 → of_key_id ≡ 0 → of_principals ≡ 0 → of_critical ≡ 0 → parts_fault d ≡ of_extensions
-  last_part = first_6 of_key of_authority of_key_id of_principals of_critical of_extensions
+  last_part key authority id_ principals critical = rw (key, authority, id_, principals) (first_two of_critical of_extensions critical)
 
 -- ---- of a draft that tells a certificate
 
