@@ -1,25 +1,40 @@
 -- The string at a place.
-use Rattle.std.proofs.Common.{◌≡◌, ◌≢◌, ◌≤◌, ◌<◌, ◌+◌, ◌-◌, ℕ, List, [], ◌++◌, length, take, drop, Result, Ok, Err, refl, sym, ap, subst, ◌∙◌, arith, append_assoc, length-append, length-drop, take-append-drop}
+use Rattle.std.proofs.Common.{◌≡◌, ◌≢◌, ◌≤◌, ◌<◌, ◌+◌, ◌-◌, ◌↔◌, ℕ, List, [], ◌++◌, length, take, drop, Ok, refl, sym, ap, subst, ◌∙◌, arith, append_assoc, length-append, length-drop}
 use Rattle.std.specs.Int.{w32, to_be_bytes}
 use Rattle.std.proofs.Math.ListN.{drop_of_length-le}
-use Rattle.std.proofs.lemmas.List.{take_all}
-use Rattle.std.proofs.Math.Seq.{take-append_seam, drop-append_seam, drop-append-add}
+use Rattle.std.proofs.lemmas.List.{drop-drop, take_all}
+use Rattle.std.proofs.Math.Seq.{take-append_seam, drop-append_seam}
 use Rattle.sshkey_model.specs.Parts.{flat}
-use Rattle.sshkey_model.specs.Reading.{Fault, bytes_at, number_at, string_at}
+use Rattle.sshkey_model.specs.Reading.{bytes_at, number_at, string_at}
 use Rattle.sshkey_model.specs.Texts.{string}
-use Rattle.sshkey_base.specs.Answers.{AnswersAlways}
-use Rattle.sshkey_base.specs.Causes.{Cause}
+use Rattle.sshkey_model.proofs.CombinedReaders.{wide32}
 use Rattle.sshkey_calls.specs.Strings.{FindsString}
+use Rattle.sshkey_calls.specs.Rooms.{IsPartOf, bytes_of}
 use Rattle.sshkey_calls.specs.declared.part.Part.{Part}
 
--- ---- a string behind other bytes, and its head
+-- ---- what stands behind so many bytes
 
-module _ (before head s rest : List ℕ) where
-  pub content : take (length s) (drop (length before + length head) (before ++ ((head ++ s) ++ rest))) ≡ s
-  content = simp (append_assoc, drop-append-add, drop-append_seam, take-append_seam)
+-- The part has these bytes, and the rest stands behind it.
+pub record Stands (b s rest : List ℕ) (part : Part) : Type 0 where
+  pub content : bytes_of part b ≡ s
+  pub behind : drop (part.start + part.length) b ≡ rest
+  pub within : IsPartOf part b
 
-  behind : drop (length before + (length head + length s)) (before ++ ((head ++ s) ++ rest)) ≡ rest
-  behind = simp (append_assoc, drop-append-add, drop-append_seam)
+pub stands : (b x s rest : List ℕ) (n : ℕ) → n ≤ length b → drop n b ≡ x ++ (s ++ rest) → Stands b s rest (record { start = n + length x; length = length s })
+stands b x s rest n most is =
+    let there : drop (n + length x) b ≡ s ++ rest = sym (drop-drop (length x) n b) ∙ ap (drop (length x)) is ∙ drop-append_seam x (s ++ rest) in
+    record {
+      content = ap (take (length s)) there ∙ take-append_seam s rest;
+      behind = sym (drop-drop (length s) (n + length x) b) ∙ ap (drop (length s)) there ∙ drop-append_seam s rest;
+      within = omega (arith, most, ap length is, length-drop n b, length-append x (s ++ rest), length-append s rest);
+    }
+
+pub string_stands : (b s rest : List ℕ) (n : ℕ) → drop n b ≡ flat (string s) ++ rest → Stands b s rest (record { start = n + 4; length = length s })
+unfolding flat
+string_stands b s rest n is =
+    let head = to_be_bytes w32 (length s) in
+    let most : n ≤ length b = omega (arith, ap length is, length-drop n b, length-append (head ++ s) rest, length-append head s, wide32.len (length s)) in
+    subst (λ (k : ℕ). Stands b s rest (record { start = n + k; length = length s })) (wide32.len (length s)) (stands b head s rest n most (is ∙ append_assoc head s rest))
 
 -- ---- nothing begins at the end, or behind it
 
@@ -30,65 +45,41 @@ empty x e = cc e
 nothing_behind : (b : List ℕ) (place : ℕ) → length b ≤ place → (x : List ℕ × List ℕ) → string_at (drop place b) ≢ Ok x
 nothing_behind b place h x e = empty x (subst (λ (l : List ℕ). string_at l ≡ Ok x) (drop_of_length-le b h) e)
 
-nothing_at : (b : List ℕ) (place : ℕ) → place ≡ length b → (x : List ℕ × List ℕ) → string_at (drop place b) ≢ Ok x
-nothing_at b place e = nothing_behind b place (omega (arith, e))
-
-both : (a b c d : List ℕ) → a ≡ c → b ≡ d → ◌≡◌ {A = Result (List ℕ × List ℕ) Fault} (Ok (a, b)) (Ok (c, d))
-both a b c d e f = cc
-
 -- the slice from a place on
 pub whole_slice : (b : List ℕ) (place : ℕ) → take (length b - place) (drop place b) ≡ drop place b
 whole_slice b place = take_all (length b - place) (drop place b) (omega (arith, length-drop place b))
 
--- what a call gives that always answers
-pub given_is : {X Y E : Type 0} (means : X → Y) (cause : E → Cause) (found : Result Y Fault) (x : X) → AnswersAlways means cause found (Ok x) → found ≡ Ok (means x)
-given_is {Y = Y} means cause (Ok y) x h = ap (λ (z : Y). Ok z) (sym h)
-given_is means cause (Err f) x h = absurd h
-
 -- ---- where it was found
 
-module _ (b : List ℕ) (place : ℕ) (s rest : List ℕ) (within : place ≤ length b) (found : drop place b ≡ flat (string s) ++ rest) where
-  head : List ℕ
-  head = to_be_bytes w32 (length s)
-
-  whole_is : b ≡ take place b ++ ((to_be_bytes w32 (length s) ++ s) ++ rest)
-  unfolding flat
-  whole_is = sym (take-append-drop place b) ∙ ap (λ (x : List ℕ). take place b ++ x) found
-
-  start_is : (length b - length rest) - length s ≡ length (take place b) + length (to_be_bytes w32 (length s))
-  start_is = omega (arith, ap length whole_is, length-append (take place b) ((to_be_bytes w32 (length s) ++ s) ++ rest), length-append (to_be_bytes w32 (length s) ++ s) rest, length-append (to_be_bytes w32 (length s)) s)
-
-  pub content_is : take (length s) (drop ((length b - length rest) - length s) b) ≡ s
-  content_is = rw start_is (subst (λ (x : List ℕ). take (length s) (drop (length (take place b) + length (to_be_bytes w32 (length s))) x) ≡ s) (sym whole_is) (content (take place b) (to_be_bytes w32 (length s)) s rest))
-
-  end_is : ((length b - length rest) - length s) + length s ≡ length (take place b) + (length (to_be_bytes w32 (length s)) + length s)
-  end_is = omega (arith, start_is)
-
-  pub behind_is : drop (((length b - length rest) - length s) + length s) b ≡ rest
-  behind_is = rw end_is (subst (λ (x : List ℕ). drop (length (take place b) + (length (to_be_bytes w32 (length s)) + length s)) x ≡ rest) (sym whole_is) (behind (take place b) (to_be_bytes w32 (length s)) s rest))
-
-  fits_before : length s + length rest ≤ length b
-  fits_before = omega (arith, ap length whole_is, length-append (take place b) ((to_be_bytes w32 (length s) ++ s) ++ rest), length-append (to_be_bytes w32 (length s) ++ s) rest, length-append (to_be_bytes w32 (length s)) s)
-
-  pub short_enough : length s ≤ length b - length rest
-  short_enough = omega (arith, fits_before)
-
-  pub finds : (was : Part) → string_at (drop place b) ≡ Ok (s, rest) → FindsString b place 0 was (record { start = (length b - length rest) - length s; length = length s })
-  finds was is = record {
-    found = λ _. is ∙ both s rest _ _ (sym content_is) (sym behind_is);
-    within = λ _. omega (arith, fits_before);
-    last = λ e. absurd (cc e);
-    at_end = λ e. absurd (nothing_at b place e (s, rest) is);
-    none = λ some _ _. some refl;
-    others = λ some _. absurd (some refl);
-    stays = λ some. absurd (some refl);
-  }
+pub finds : (b s rest : List ℕ) (place : ℕ) (was : Part) → drop place b ≡ flat (string s) ++ rest → string_at (drop place b) ≡ Ok (s, rest) → FindsString b place 0 was (record { start = place + 4; length = length s })
+finds b s rest place was all is =
+    let there = string_stands b s rest place all in
+    record {
+      found = λ _. rw (there.content, there.behind) is;
+      within = λ _. there.within;
+      last = λ e. absurd (cc e);
+      at_end = λ e. absurd (nothing_behind b place (omega (arith, e)) (s, rest) is);
+      none = λ some _ _. some refl;
+      others = λ some _. absurd (some refl);
+      stays = λ some. absurd (some refl);
+    }
 
 -- ---- where there is none
 
 module _ (b : List ℕ) (place : ℕ) (answer : Part) where
+  none : (n : ℕ) → n ≢ 0 → (n ≡ 3) ↔ (place ≡ length b) → (n ≢ 3 → n ≡ 13) → length b ≤ place → FindsString b place n answer answer
+  none n some end_ others past = record {
+    found = λ z. absurd (some z);
+    within = λ z. absurd (some z);
+    last = end_.0;
+    at_end = end_.1;
+    none = λ _. nothing_behind b place past;
+    others = λ _. others;
+    stays = λ _. refl;
+  }
+
   pub ends : place ≡ length b → FindsString b place 3 answer answer
-  ends e = record { found = λ z. absurd (cc z); within = λ z. absurd (cc z); last = λ _. e; at_end = λ _. refl; none = λ _ x is. nothing_at b place e x is; others = λ _ other. absurd (other refl); stays = λ _. refl }
+  ends e = none 3 (λ z. cc z) (λ _. e, λ _. refl) (λ other. absurd (other refl)) (omega (arith, e))
 
   pub is_past : length b < place → FindsString b place 13 answer answer
-  is_past h = record { found = λ z. absurd (cc z); within = λ z. absurd (cc z); last = λ z. absurd (cc z); at_end = λ e. absurd (omega (arith, h, e)); none = λ _ x is. nothing_behind b place (omega (arith, h)) x is; others = λ _ _. refl; stays = λ _. refl }
+  is_past h = none 13 (λ z. cc z) (λ z. absurd (cc z), λ e. absurd (omega (arith, h, e))) (λ _. refl) (omega (arith, h))

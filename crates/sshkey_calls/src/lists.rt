@@ -45,17 +45,18 @@ pub fn certificate_parts(certificate: &[u8], answer: &mut CertificateParts) -> u
 fn parts_of(read: &CertificateRef<'_>) -> CertificateParts
     ensures { ArePartsOf (certificate_of read.now) (certificate_bytes read.now) result }
 {
-    let signature = string_before(read.as_bytes().len(), read.signature_ref().as_bytes().len());
-    let authority = string_before(head(signature), read.signature_key_ref().as_bytes().len());
-    let reserved = string_before(head(authority), read.reserved().len());
-    let extensions = string_before(head(reserved), read.extensions().as_bytes().len());
-    let critical_options = string_before(
-        head(extensions),
+    let end = read.as_bytes().len();
+    let signature = end.saturating_sub(read.signature_ref().as_bytes().len());
+    let authority = content_before(signature, read.signature_key_ref().as_bytes().len());
+    let reserved = content_before(authority.start, read.reserved().len());
+    let extensions = content_before(reserved.start, read.extensions().as_bytes().len());
+    let critical_options = content_before(
+        extensions.start,
         read.critical_options().as_bytes().len(),
     );
-    let window = head(critical_options).saturating_sub(16);
-    let principals = string_before(window, read.valid_principals().as_bytes().len());
-    let key_id = string_before(head(principals), read.key_id().len());
+    let window = critical_options.start.saturating_sub(16);
+    let principals = content_before(window, read.valid_principals().as_bytes().len());
+    let key_id = content_before(principals.start, read.key_id().len());
     CertificateParts {
         key_id,
         principals,
@@ -65,20 +66,14 @@ fn parts_of(read: &CertificateRef<'_>) -> CertificateParts
     }
 }
 
-/// The content of that length of the string that ends there. All of it is there, so nothing
-/// saturates.
-fn string_before(end: usize, length: usize) -> Part
-    ensures { result ≡ record { start = end - length; length = length } }
+/// The content of that length before the one that begins there behind its own length, of four
+/// bytes. All of it is there, so nothing saturates.
+fn content_before(next: usize, length: usize) -> Part
+    ensures start { result.start ≡ (next - 4) - length }
+    ensures length { result.length ≡ length }
 {
     Part {
-        start: end.saturating_sub(length),
+        start: next.saturating_sub(4).saturating_sub(length),
         length,
     }
-}
-
-/// Where the string begins that has this content: with its length, of four bytes.
-fn head(content: Part) -> usize
-    ensures { result ≡ content.start - 4 }
-{
-    content.start.saturating_sub(4)
 }

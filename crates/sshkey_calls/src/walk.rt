@@ -21,9 +21,9 @@ pub fn next_string(bytes: &[u8], place: usize, answer: &mut Part) -> u32
         return LENGTH;
     }
     match split_string(&bytes[place..]) {
-        Ok((string, behind)) => {
+        Ok((string, _)) => {
             *answer = Part {
-                start: bytes.len() - behind.len() - string.len(),
+                start: place + 4,
                 length: string.len(),
             };
             DONE
