@@ -4,7 +4,7 @@ use Rattle.sshkey_keys.proofs.key_data.KeyData.fixed_name_string.Goals.{in-Dsa, 
 
 pub returns : goal.returns
 returns c = elim c.match-self.branch [
-    in-Dsa w ↦ search rules
+  | in-Dsa w ↦ search rules
   | in-Ecdsa-NistP256 w ↦ rw (w.in-Ecdsa-NistP256.is, w.result-is) (search rules)
   | in-Ecdsa-NistP384 w ↦ rw (w.in-Ecdsa-NistP384.is, w.result-is) (search rules)
   | in-Ecdsa-NistP521 w ↦ rw (w.in-Ecdsa-NistP521.is, w.result-is) (search rules)
@@ -12,4 +12,4 @@ returns c = elim c.match-self.branch [
   | in-Rsa w ↦ search rules
   | in-SkEcdsaSha2NistP256 w ↦ search rules
   | in-SkEd25519 w ↦ search rules
-  ]
+]
