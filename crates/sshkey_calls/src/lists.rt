@@ -54,8 +54,8 @@ fn parts_of(read: &CertificateRef<'_>) -> CertificateParts
         extensions.start,
         read.critical_options().as_bytes().len(),
     );
-    let window = critical_options.start.saturating_sub(16);
-    let principals = content_before(window, read.valid_principals().as_bytes().len());
+    let without_window = critical_options.start.saturating_sub(16);
+    let principals = content_before(without_window, read.valid_principals().as_bytes().len());
     let key_id = content_before(principals.start, read.key_id().len());
     CertificateParts {
         key_id,
@@ -66,8 +66,8 @@ fn parts_of(read: &CertificateRef<'_>) -> CertificateParts
     }
 }
 
-/// The content of that length before the one that begins there behind its own length, of four
-/// bytes. All of it is there, so nothing saturates.
+/// The content of that length that ends four bytes before that place. All of it is there, so
+/// nothing saturates.
 fn content_before(next: usize, length: usize) -> Part
     ensures start { result.start ≡ (next - 4) - length }
     ensures length { result.length ≡ length }

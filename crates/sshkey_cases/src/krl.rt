@@ -1,7 +1,7 @@
 //! Key revocation lists.
 
 ghost use Rattle.sshkey_krl.specs.Owned.{authority_of};
-ghost use Rattle.sshkey_krl.specs.Written.{HasWellFormedKey};
+ghost use Rattle.sshkey_krl.specs.Written.{IsWellFormedAuthority};
 
 use crate::bytes::{NO_LINE, part};
 use sshkey_base::{Decode, Result, decode_whole};
@@ -67,7 +67,7 @@ fn add_all(
     parts: &[Vec<u8>],
     list: &mut Krl,
 ) -> Result<()>
-    requires { HasWellFormedKey (authority_of authority) }
+    requires { IsWellFormedAuthority (authority_of authority) }
 {
     for it in parts.iter().skip(1) {
         add(alloc, authority, it, list)?;
@@ -76,7 +76,7 @@ fn add_all(
 }
 
 fn add(alloc: Global, authority: Option<&KeyData>, added: &[u8], list: &mut Krl) -> Result<()>
-    requires { HasWellFormedKey (authority_of authority) }
+    requires { IsWellFormedAuthority (authority_of authority) }
 {
     let Some((number, bytes)) = added.split_first() else {
         return Err(NO_LINE);

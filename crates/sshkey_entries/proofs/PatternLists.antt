@@ -6,7 +6,7 @@ use Rattle.std.proofs.lemmas.List.Splits.{slice_split_none, slice_split_first, l
 use Rattle.std.proofs.lemmas.Str.Pattern.{IsSplitOnceResult, split_parts, split_once_first}
 use Rattle.sshkey_entries.specs.Items.{patterns, without_empty_last, is_comma}
 use Rattle.sshkey_entries.proofs.Cuts.{kept_first, kept_last}
-use Rattle.sshkey_entries.specs.Patterns.{IsShortPattern, MatchesPlain, MatchesNegated}
+use Rattle.sshkey_entries.specs.Patterns.{IsShortPattern, MatchesUnnegated, MatchesNegated}
 
 -- ---- the patterns of a list
 
@@ -49,7 +49,7 @@ module _ {X : Type 0} (P : X → Type 0) (x : X) (xs : List X) where
 
 -- One was found before, or is among these; none of these refuses the text, or is too long.
 pub record StillListed (fold : ℕ → ℕ) (found : Bool) (text : List ℕ) (ps : List (List ℕ)) : Type 0 where
-  pub named : IsTrue found ⊎ Any (MatchesPlain fold text) ps
+  pub named : IsTrue found ⊎ Any (MatchesUnnegated fold text) ps
   pub not_refused : ¬ Any (MatchesNegated fold text) ps
   pub short : All IsShortPattern ps
 
@@ -80,13 +80,13 @@ module _ (fold : ℕ → ℕ) (found : Bool) (text pattern : List ℕ) (all ps :
   pub refused : MatchesNegated fold text pattern → StillListed fold found text all → ⊥
   refused refusal still = still.not_refused (subst (Any (MatchesNegated fold text)) (sym is) (any_here (MatchesNegated fold text) pattern ps refusal))
 
-  module _ (named_here : Bool) (short : IsShortPattern pattern) (kept : MatchesNegated fold text pattern → ⊥) (names : IsTrue named_here ↔ MatchesPlain fold text pattern) where
+  module _ (named_here : Bool) (short : IsShortPattern pattern) (kept : MatchesNegated fold text pattern → ⊥) (names : IsTrue named_here ↔ MatchesUnnegated fold text pattern) where
     pub one_less : StillListed fold found text all ↔ StillListed fold (found || named_here) text ps
     one_less = (
       λ still. record {
         named = elim still.named [
           | inl before ↦ inl (or_named found named_here (inl before))
-          | inr some ↦ elim (any_cases (MatchesPlain fold text) pattern ps (subst (Any (MatchesPlain fold text)) is some)) [
+          | inr some ↦ elim (any_cases (MatchesUnnegated fold text) pattern ps (subst (Any (MatchesUnnegated fold text)) is some)) [
             | inl here ↦ inl (or_named found named_here (inr (names.1 here)))
             | inr behind ↦ inr behind
           ]
@@ -98,9 +98,9 @@ module _ (fold : ℕ → ℕ) (found : Bool) (text pattern : List ℕ) (all ps :
         named = elim still.named [
           | inl before ↦ elim (either_named found named_here before) [
             | inl found_before ↦ inl found_before
-            | inr here ↦ inr (subst (Any (MatchesPlain fold text)) (sym is) (any_here (MatchesPlain fold text) pattern ps (names.0 here)))
+            | inr here ↦ inr (subst (Any (MatchesUnnegated fold text)) (sym is) (any_here (MatchesUnnegated fold text) pattern ps (names.0 here)))
           ]
-          | inr behind ↦ inr (subst (Any (MatchesPlain fold text)) (sym is) (any_behind (MatchesPlain fold text) pattern ps behind))
+          | inr behind ↦ inr (subst (Any (MatchesUnnegated fold text)) (sym is) (any_behind (MatchesUnnegated fold text) pattern ps behind))
         ];
         not_refused = λ refusal. elim (any_cases (MatchesNegated fold text) pattern ps (subst (Any (MatchesNegated fold text)) is refusal)) [
           | inl here ↦ kept here

@@ -32,8 +32,8 @@ unmarked [] = []
 unmarked (c ∷ pattern) = if c == exclamation_mark then pattern else c ∷ pattern
 
 -- The pattern is not negated, and matches the text.
-abbrev pub MatchesPlain : (ℕ → ℕ) → List ℕ → List ℕ → Type 0
-MatchesPlain fold text pattern = (slice_index pattern 0 ≢ exclamation_mark) × Matches fold pattern text
+abbrev pub MatchesUnnegated : (ℕ → ℕ) → List ℕ → List ℕ → Type 0
+MatchesUnnegated fold text pattern = (slice_index pattern 0 ≢ exclamation_mark) × Matches fold pattern text
 
 -- It is negated, by a `!` in front, and what stands behind matches the text.
 abbrev pub MatchesNegated : (ℕ → ℕ) → List ℕ → List ℕ → Type 0
@@ -41,7 +41,7 @@ MatchesNegated fold text pattern = (slice_index pattern 0 ≡ exclamation_mark) 
 
 -- One of the patterns names the text, and no negated one refuses it.
 abbrev pub IsNamed : (ℕ → ℕ) → List ℕ → List (List ℕ) → Type 0
-IsNamed fold text patterns = Any (MatchesPlain fold text) patterns × ¬ Any (MatchesNegated fold text) patterns
+IsNamed fold text patterns = Any (MatchesUnnegated fold text) patterns × ¬ Any (MatchesNegated fold text) patterns
 
 -- OpenSSH has 1,024 bytes for a pattern, and takes a list with one that does not fit for nobody's.
 abbrev pub IsShortPattern : List ℕ → Type 0

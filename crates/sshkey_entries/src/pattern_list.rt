@@ -3,7 +3,7 @@
 ghost use Rattle.std.specs.Prelude.{◌≡◌, ◌<◌, ◌∷◌, ◌↔◌, length, slice_index, IsTrue};
 ghost use Rattle.std.specs.List.{after_first, before_first};
 ghost use Rattle.sshkey_entries.specs.Items.{is_comma, patterns};
-ghost use Rattle.sshkey_entries.specs.Patterns.{IsShortPattern, MatchesList, MatchesPlain, MatchesNegated, exclamation_mark, unmarked};
+ghost use Rattle.sshkey_entries.specs.Patterns.{IsShortPattern, MatchesList, MatchesUnnegated, MatchesNegated, exclamation_mark, unmarked};
 ghost use Rattle.sshkey_entries.specs.LetterCases.{fold_of};
 
 use crate::pattern::{LetterCase, is_match};
@@ -39,7 +39,7 @@ pub fn matches_pattern_list(text: &str, list: &str, letter_case: LetterCase) -> 
 /// Whether the pattern, one of a list, is not negated by a `!` in front, and matches the text. Does
 /// not allocate.
 pub fn is_named_by(text: &str, pattern: &str, letter_case: LetterCase) -> bool
-    ensures { IsTrue result ↔ MatchesPlain (fold_of letter_case) text.now pattern.now }
+    ensures { IsTrue result ↔ MatchesUnnegated (fold_of letter_case) text.now pattern.now }
 {
     let pattern = pattern.as_bytes();
     !is_negated(pattern) && is_match(text.as_bytes(), pattern, letter_case)

@@ -33,7 +33,10 @@ is_opaque _ = false
 
 -- An opaque key that stands under this algorithm has the algorithm's name in certificates, too.
 abbrev pub keeps_name : names.Algorithm → Bool
+keeps_name names.Dsa = true
+keeps_name (names.Ecdsa c) = true
+keeps_name names.Ed25519 = true
+keeps_name (names.Rsa hash) = true
 keeps_name names.SkEcdsa = false
 keeps_name names.SkEd25519 = false
 keeps_name (names.Other n) = false
-keeps_name _ = true

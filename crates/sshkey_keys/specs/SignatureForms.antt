@@ -43,7 +43,8 @@ joined_from judge trailer b = judge b >>= λ string. Ok (string ++ trailer)
 abbrev pub NeedsTrailed : Whole (List ℕ) → List ℕ → ℕ → Type 0
 NeedsTrailed judge b m = NeedsString b m ⊎ (HasString b m × IsOk (judge []))
 
--- Of the two numbers in the string, the length of one passes.
+-- In the string of an ECDSA signature the length of one of its two numbers passes. In other strings
+-- no length stands.
 abbrev pub OverrunsNumbers : Algorithm → List ℕ → Type 0
 OverrunsNumbers (Algorithm.Ecdsa c) b = OverrunsThen OverrunsString (component_at (field_size c)) (λ r. OverrunsString) b 0
 OverrunsNumbers Algorithm.SkEcdsa b = OverrunsThen OverrunsString (component_at (field_size Nistp256)) (λ r. OverrunsString) b 0
@@ -54,6 +55,7 @@ OverrunsNumbers _ b = ⊥
 abbrev pub OverrunsInside : (List ℕ → Type 0) → ℕ → List ℕ → ℕ → Type 0
 OverrunsInside inside n b m = OverrunsString b m ⊎ IsOkAnd (string_at b) (λ x. IsOk (bytes_at n x.1) × inside x.0)
 
+-- the same of what stands behind that name, with a security key's five bytes behind the string
 abbrev pub OverrunsBlob : Algorithm → List ℕ → ℕ → Type 0
 OverrunsBlob a = OverrunsInside (OverrunsNumbers a) (if has_trailer a then 5 else 0)
 

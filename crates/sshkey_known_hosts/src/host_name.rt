@@ -5,7 +5,7 @@ ghost use Rattle.std.specs.Char.{to_ascii_lowercase};
 ghost use Rattle.std.specs.List.{All, Any};
 ghost use Rattle.sshkey_base.specs.declared.error.Error.TheVariants as wide;
 ghost use Rattle.sshkey_entries.specs.HostNames.{AreForName, BeginWithBar, known_name};
-ghost use Rattle.sshkey_entries.specs.Patterns.{IsShortPattern, MatchesPlain, MatchesNegated};
+ghost use Rattle.sshkey_entries.specs.Patterns.{IsShortPattern, MatchesUnnegated, MatchesNegated};
 
 use sshkey_base::{Result, Text};
 use sshkey_entries::{LetterCase, is_named_by, is_refused_by, is_short_pattern};
@@ -39,7 +39,7 @@ fn some_refuses(patterns: &[Text], name: &str) -> bool
 }
 
 fn some_names(patterns: &[Text], name: &str) -> bool
-    ensures { IsTrue result ↔ Any (MatchesPlain to_ascii_lowercase name.now) patterns.now }
+    ensures { IsTrue result ↔ Any (MatchesUnnegated to_ascii_lowercase name.now) patterns.now }
 {
     for pattern in patterns {
         if is_named_by(name, pattern.as_str(), LetterCase::Insensitive) {

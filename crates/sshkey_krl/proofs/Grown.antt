@@ -36,7 +36,7 @@ use Rattle.sshkey_krl.specs.Parts.{key_id_format, numbered, part_format, part_sh
 use Rattle.sshkey_krl.specs.Revocation.{Authority, Certificates, Everybody, KeyIds, Keys, Krl, Numbers, Part, Section, Sha1s, Sha256s, Signer, begun, with_section, without_zero}
 use Rattle.sshkey_krl.specs.Sections.{authority_from, body, kind_from, section_format}
 use Rattle.sshkey_krl.specs.Serials.{Listed, Range, range_from}
-use Rattle.sshkey_krl.specs.Written.{Appends, HasWellFormedKey, RefusesToWrite, authority_string, certificates_section, framed, has_zero, header, key_id_part, key_section, range_part, serials_part, sha1_section, sha256_section}
+use Rattle.sshkey_krl.specs.Written.{Appends, IsWellFormedAuthority, RefusesToWrite, authority_string, certificates_section, framed, has_zero, header, key_id_part, key_section, range_part, serials_part, sha1_section, sha256_section}
 use Rattle.sshkey_krl.specs.declared.part.PartKind.TheVariants as kinds
 use Rattle.sshkey_krl.specs.declared.section.SectionKind.TheVariants as sections
 use Rattle.sshkey_krl.proofs.Krls.{spelled}
@@ -158,14 +158,14 @@ signer_from k is fits = go (flat (normal_key k)) some (spelled_whole key_grammar
 abbrev authority_format : Format Authority
 authority_format = tested authority_from string_format
 
-authority_spelled : (a : Authority) → HasWellFormedKey a → Fits (authority_string a) → authority_format.Spells a (flat (authority_string a))
+authority_spelled : (a : Authority) → IsWellFormedAuthority a → Fits (authority_string a) → authority_format.Spells a (flat (authority_string a))
 authority_spelled Everybody is fits = record { inner = []; spelled = string_normal [] tt fits; makes = refl }
 authority_spelled (Signer k) is fits = record { inner = flat (normal_key k); spelled = string_spelled (normal_key k) fits; makes = signer_from k is (fits_inside (normal_key k) fits) }
 
 part_ends : AllEnd part_format.grammar
 part_ends = called_ends (tested parts.kind_from byte_format) (λ k. boxed (parts.body k)) (λ b. refl) (λ k b. refl)
 
-pub certificates_spelled : (a : Authority) (x : Part) (q : Parts) → HasWellFormedKey a → (Fits q → part_format.Spells x (flat q)) → Fits (certificates_section a q) → section_format.Spells (Certificates a (x ∷ [])) (flat (certificates_section a q))
+pub certificates_spelled : (a : Authority) (x : Part) (q : Parts) → IsWellFormedAuthority a → (Fits q → part_format.Spells x (flat q)) → Fits (certificates_section a q) → section_format.Spells (Certificates a (x ∷ [])) (flat (certificates_section a q))
 unfolding flat
 certificates_spelled a x q is part fits =
     let both = framed_inside 1 (authority_string a & string [] & q) fits in

@@ -15,9 +15,9 @@ abbrev pub has_zero : List ℕ → Bool
 has_zero xs = list_any (λ x. x == 0) xs
 
 -- The key is well-formed, where one is given.
-abbrev pub HasWellFormedKey : Authority → Type 0
-HasWellFormedKey Everybody = Unit {0}
-HasWellFormedKey (Signer key) = IsKey key
+abbrev pub IsWellFormedAuthority : Authority → Type 0
+IsWellFormedAuthority Everybody = Unit {0}
+IsWellFormedAuthority (Signer key) = IsKey key
 
 -- what stands before the sections, where nothing is flagged or reserved; the magic is a number here
 abbrev pub header : ℕ → ℕ → List ℕ → Parts

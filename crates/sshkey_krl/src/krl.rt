@@ -37,7 +37,7 @@ impl Krl {
     ghost use Rattle.sshkey_krl.specs.Revocation.{KeyIds, Keys, Numbers, Sha1s, Sha256s};
     ghost use Rattle.sshkey_krl.specs.Serials.{Listed};
     ghost use Rattle.sshkey_krl.specs.Serials as serials;
-    ghost use Rattle.sshkey_krl.specs.Written.{HasWellFormedKey, has_zero, key_id_part, key_section, range_part, serials_part, sha1_section, sha256_section};
+    ghost use Rattle.sshkey_krl.specs.Written.{IsWellFormedAuthority, has_zero, key_id_part, key_section, range_part, serials_part, sha1_section, sha256_section};
 
     /// A list with that number, date and comment that revokes nothing. The date is in seconds since
     /// 1970.
@@ -143,7 +143,7 @@ impl Krl {
     /// Fails with `FormatEncoding` for the number 0, which no list can name, and otherwise as
     /// `revoke_key` does.
     pub fn revoke_serials(&mut self, authority: Option<&KeyData>, serials: &[u64]) -> Result<()>
-        requires { HasWellFormedKey (authority_of authority) }
+        requires { IsWellFormedAuthority (authority_of authority) }
         ensures added { has_zero serials.now ≡ false →
             AddsPart authority.entry (Numbers (Listed serials.now)) (serials_part serials.now)
             (krl_bytes self.old) result (krl_bytes self.new) }
@@ -161,7 +161,7 @@ impl Krl {
     /// Fails with `FormatEncoding` for the number 0 and for a range that ends before it begins, and
     /// otherwise as `revoke_key` does.
     pub fn revoke_range(&mut self, authority: Option<&KeyData>, first: u64, last: u64) -> Result<()>
-        requires { HasWellFormedKey (authority_of authority) }
+        requires { IsWellFormedAuthority (authority_of authority) }
         ensures added { 0 < first → first ≤ last →
             AddsPart authority.entry (Numbers (serials.Range first last)) (range_part first last)
             (krl_bytes self.old) result (krl_bytes self.new) }
@@ -176,7 +176,7 @@ impl Krl {
     ///
     /// Fails with `FormatEncoding` for a zero byte in it, and otherwise as `revoke_key` does.
     pub fn revoke_key_id(&mut self, authority: Option<&KeyData>, key_id: &str) -> Result<()>
-        requires { HasWellFormedKey (authority_of authority) }
+        requires { IsWellFormedAuthority (authority_of authority) }
         ensures added { has_zero key_id.now ≡ false →
             AddsPart authority.entry (KeyIds (key_id.now ∷ [])) (key_id_part key_id.now)
             (krl_bytes self.old) result (krl_bytes self.new) }

@@ -41,33 +41,33 @@ opaque_pair_format name = made_of (string_format then string_format) (opaque_pai
 
 -- ---- a pair under that algorithm
 
-abbrev pub kind_format : Algorithm → Format KeyPair
-kind_format names.Dsa = dsa_pair_format
-kind_format (names.Ecdsa curve) = tested (wanted_curve public_half curve) ecdsa_pair_format
-kind_format names.Ed25519 = ed25519_pair_format
-kind_format (names.Rsa hash) = rsa_pair_format
-kind_format names.SkEcdsa = sk_ecdsa_pair_format
-kind_format names.SkEd25519 = sk_ed25519_pair_format
-kind_format (names.Other name) = opaque_pair_format name
+abbrev pub pair_kind_format : Algorithm → Format KeyPair
+pair_kind_format names.Dsa = dsa_pair_format
+pair_kind_format (names.Ecdsa curve) = tested (wanted_curve public_half curve) ecdsa_pair_format
+pair_kind_format names.Ed25519 = ed25519_pair_format
+pair_kind_format (names.Rsa hash) = rsa_pair_format
+pair_kind_format names.SkEcdsa = sk_ecdsa_pair_format
+pair_kind_format names.SkEd25519 = sk_ed25519_pair_format
+pair_kind_format (names.Other name) = opaque_pair_format name
 
 -- where it needs memory; of ECDSA and Ed25519 nowhere
 abbrev pub NeedsPair : Algorithm → List ℕ → ℕ → Type 0
-NeedsPair a = (kind_format a).needs
+NeedsPair a = (pair_kind_format a).needs
 
 -- where a length passes
 abbrev pub OverrunsPair : Algorithm → List ℕ → ℕ → Type 0
-OverrunsPair a = (kind_format a).overruns
+OverrunsPair a = (pair_kind_format a).overruns
 
--- step by step
+-- the pair, read in the steps that the call takes
 abbrev pub steps_at : Algorithm → Front KeyPair
-steps_at a = (kind_format a).read
+steps_at a = (pair_kind_format a).read
 
 pub same_steps : (a : Algorithm) (b : List ℕ) → value_at (pair_at a) b ≡ steps_at a b
 same_steps (names.Ecdsa curve) b = (ecdsa_under_read curve).same b
 same_steps _ b = refl
 
 pub pair_lengths : (a : Algorithm) → AreLengths (value_at (pair_at a)) (OverrunsPair a)
-pair_lengths a b n over = rw (same_steps a b) ((kind_format a).lengths b n over)
+pair_lengths a b n over = rw (same_steps a b) ((pair_kind_format a).lengths b n over)
 
 abbrev pub pair_format : Algorithm → Format KeyPair
 pair_format a = record { Spells = SpellsPair a; read = value_at (pair_at a); needs = NeedsPair a; overruns = OverrunsPair a; grammar = by_itself (pair_grammar a); lengths = pair_lengths a }

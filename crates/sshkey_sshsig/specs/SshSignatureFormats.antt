@@ -31,24 +31,24 @@ namespace_format = tested namespace_from text_format
 abbrev pub hash_format : Format Hash
 hash_format = label_format NoNeed hash_checks
 
-abbrev pub SignatureOpening : Type 0
-SignatureOpening = List ℕ × (ℕ × Key)
+abbrev pub SshSignatureOpening : Type 0
+SshSignatureOpening = List ℕ × (ℕ × Key)
 
 abbrev pub Statement : Type 0
 Statement = List ℕ × (List ℕ × (Hash × Signature))
 
 -- the bytes SSHSIG, the version and the key
-abbrev pub opening_format : Format SignatureOpening
+abbrev pub opening_format : Format SshSignatureOpening
 opening_format = magic_format then version_format then boxed key_format
 
 -- the namespace, the reserved bytes, the hash's name and the signature
 abbrev pub statement_format : Format Statement
 statement_format = namespace_format then string_format then hash_format then boxed signature_format
 
-abbrev pub ssh_signature_with : SignatureOpening × Statement → SshSignature
+abbrev pub ssh_signature_with : SshSignatureOpening × Statement → SshSignature
 ssh_signature_with x = record { version = x.0.1.0; key = x.0.1.1; namespace = x.1.0; reserved = x.1.1.0; hash = x.1.1.1.0; signature = x.1.1.1.1 }
 
-abbrev pub ssh_signature_of_parts : SignatureOpening × Statement → Result SshSignature Fault
+abbrev pub ssh_signature_of_parts : SshSignatureOpening × Statement → Result SshSignature Fault
 ssh_signature_of_parts x = Ok (ssh_signature_with x)
 
 abbrev pub ssh_signature_format : Format SshSignature

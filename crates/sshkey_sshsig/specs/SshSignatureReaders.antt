@@ -12,7 +12,7 @@ use Rattle.sshkey_model.proofs.Grammars.{all_end, ends}
 use Rattle.sshkey_base.specs.Formats.{string_format}
 use Rattle.sshkey_model.proofs.Trees.{IsTree, Alike, regrouped, leaf_tree, open_tree, then_tree, box_tree, kept_tree, made_tree, determined, read_back}
 use Rattle.sshkey_sshsig.specs.SshSignatures.{statement}
-use Rattle.sshkey_sshsig.specs.SshSignatureFormats.{SignatureOpening, magic_format, version_format, opening_format, namespace_format, hash_format, ssh_signature_with, ssh_signature_format}
+use Rattle.sshkey_sshsig.specs.SshSignatureFormats.{SshSignatureOpening, magic_format, version_format, opening_format, namespace_format, hash_format, ssh_signature_with, ssh_signature_format}
 
 abbrev pub ssh_signature_value_at : Front SshSignature
 ssh_signature_value_at = ssh_signature_format.read
@@ -24,7 +24,7 @@ SpellsSshSignature = ssh_signature_format.Spells
 pub ssh_signature_grammar : IsGrammar SpellsSshSignature ssh_signature_value_at
 ssh_signature_grammar = all_end ssh_signature_format.grammar (λ b. refl)
 
-opening_tree : IsTree opening_format.Spells (λ (x : SignatureOpening × (Unit {0} × (Unit {0} × Head))). (x.0.0 ≡ signature_magic) × ((Any x.0.1.0 × (nat_lt x.0.1.0 2 ≡ true)) × IsSpelled IsKey HasKeyPlaces (x.0.1.1, x.1.1.1))) (λ x. bytes x.0.0 & number w32 x.0.1.0 & box (key x.0.1.1 x.1.1.1))
+opening_tree : IsTree opening_format.Spells (λ (x : SshSignatureOpening × (Unit {0} × (Unit {0} × Head))). (x.0.0 ≡ signature_magic) × ((Any x.0.1.0 × (nat_lt x.0.1.0 2 ≡ true)) × IsSpelled IsKey HasKeyPlaces (x.0.1.1, x.1.1.1))) (λ x. bytes x.0.0 & number w32 x.0.1.0 & box (key x.0.1.1 x.1.1.1))
 opening_tree =
     then_tree {First = magic_format.Spells} {delimited_at = magic_format.grammar.delimited_at} (ends magic_format.grammar (λ _. refl)) leaf_tree
     (then_tree {First = version_format.Spells} {delimited_at = version_format.grammar.delimited_at} (ends version_format.grammar (λ _. refl)) (kept_tree leaf_tree (λ n. nat_lt n 2) Version) (box_tree open_tree))

@@ -12,7 +12,7 @@ use Rattle.sshkey_base.specs.Source.{Source}
 use Rattle.sshkey_base.specs.Stops.{RanOut, Stopped}
 use Rattle.sshkey_base.proofs.FirstValues.{Begun, needed, still_begun}
 use Rattle.sshkey_base.proofs.Stopping.{step_ok, read_past}
-use Rattle.sshkey_terms.specs.Counted.{NeedsValues, OverrunsTimes, times_at}
+use Rattle.sshkey_terms.specs.Counted.{NeedsValues, OverrunsValues, times_at}
 use Rattle.sshkey_terms.proofs.Stopping.{some_ok}
 
 abbrev onto : {A : Type 0} → List A → List A × List ℕ → Result (List A × List ℕ) Fault
@@ -62,14 +62,14 @@ module _ {A : Type 0} (f : Format A) where
       go (Err fault) is ok = absurd cc
 
   -- what overruns does so behind a value that was read
-  rest_over : {X : Type 0} (means : X → A) (k : ℕ) (t u : Source) (x : X) → Reads means item t x u → OverrunsTimes f (suc k) t.left t.missing → OverrunsTimes f k u.left u.missing
+  rest_over : {X : Type 0} (means : X → A) (k : ℕ) (t u : Source) (x : X) → Reads means item t x u → OverrunsValues f (suc k) t.left t.missing → OverrunsValues f k u.left u.missing
   rest_over means k t u x r (inl o) = read_past means item f.overruns t u x f.lengths r o
   rest_over means k t u x r (inr o) = go (delimited_at t.left) refl o
     where
-      go : (y : Result (A × List ℕ) Fault) → delimited_at t.left ≡ y → IsOkAnd y (λ y. OverrunsTimes f k y.1 t.missing) → OverrunsTimes f k u.left u.missing
+      go : (y : Result (A × List ℕ) Fault) → delimited_at t.left ≡ y → IsOkAnd y (λ y. OverrunsValues f k y.1 t.missing) → OverrunsValues f k u.left u.missing
       go (Ok y) is o =
           let same : y ≡ (means x, u.left) = ok_is y (means x, u.left) (sym (f.grammar.same t.left y is) ∙ r.value) in
-          rw r.missing (subst (λ (p : A × List ℕ). OverrunsTimes f k p.1 t.missing) same o)
+          rw r.missing (subst (λ (p : A × List ℕ). OverrunsValues f k p.1 t.missing) same o)
       go (Err fault) is o = absurd o
 
   -- The values so far stand before what is left, and those behind them decide.
@@ -79,7 +79,7 @@ module _ {A : Type 0} (f : Format A) where
     pub rest : times_at item n s.left ≡ (times_at item (n - length done) t.left >>= onto done)
     pub begun : Begun item s t
     pub delimits : IsOk (times_at delimited_at n s.left) → IsOk (times_at delimited_at (n - length done) t.left)
-    pub overruns : OverrunsTimes f n s.left s.missing → OverrunsTimes f (n - length done) t.left t.missing
+    pub overruns : OverrunsValues f n s.left s.missing → OverrunsValues f (n - length done) t.left t.missing
 
   module _ (n : ℕ) (s t : Source) (done : List A) (h : Gathers n s done t) where
     pub gathers_more : {X : Type 0} (means : X → A) (x : X) (u : Source) → length done < n → Reads means item t x u → Gathers n s (done ++ means x ∷ []) u
@@ -115,7 +115,7 @@ module _ {A : Type 0} (f : Format A) where
           rw e f.2;
     }
 
-    pub gathers_stopped : (c : Cause) → length done < n → Stopped c delimited_at f.needs f.overruns t → Stopped c (times_at delimited_at n) (NeedsValues f n) (OverrunsTimes f n) s
+    pub gathers_stopped : (c : Cause) → length done < n → Stopped c delimited_at f.needs f.overruns t → Stopped c (times_at delimited_at n) (NeedsValues f n) (OverrunsValues f n) s
     gathers_stopped c lt k = record {
       takes = λ ok. more (k.takes (first_ok (n - suc (length done)) t.left (rw (left lt) at h.delimits ok)));
       past = λ o. next (rw (left lt) at h.overruns o);
@@ -124,7 +124,7 @@ module _ {A : Type 0} (f : Format A) where
         more : RanOut c f.needs t → RanOut c (NeedsValues f n) s
         more m = record { memory = m.memory; needed = (omega (arith, lt), needed item s t h.begun f.needs m.needed) }
 
-        next : OverrunsTimes f (suc (n - suc (length done))) t.left t.missing → (c ≡ Faulty Length) ⊎ RanOut c (NeedsValues f n) s
+        next : OverrunsValues f (suc (n - suc (length done))) t.left t.missing → (c ≡ Faulty Length) ⊎ RanOut c (NeedsValues f n) s
         next (inl o) = elim (k.past o) [
           | inl is ↦ inl is
           | inr m ↦ inr (more m)
@@ -132,7 +132,7 @@ module _ {A : Type 0} (f : Format A) where
         next (inr o) = inr (more (k.takes (some_ok _ (delimited_at t.left) o)))
 
     -- there is no memory for a value that was read
-    pub gathers_full : {X : Type 0} (means : X → A) (x : X) (u : Source) (c : Cause) → length done < n → Reads means item t x u → c ≡ NoMemory → Stopped c (times_at delimited_at n) (NeedsValues f n) (OverrunsTimes f n) s
+    pub gathers_full : {X : Type 0} (means : X → A) (x : X) (u : Source) (c : Cause) → length done < n → Reads means item t x u → c ≡ NoMemory → Stopped c (times_at delimited_at n) (NeedsValues f n) (OverrunsValues f n) s
     gathers_full means x u c lt r memory = record { takes = λ _. ran; past = λ _. inr ran }
       where
         ran : RanOut c (NeedsValues f n) s

@@ -12,32 +12,32 @@ use Rattle.sshkey_base.specs.Reading.{Reads, Refuses}
 use Rattle.sshkey_base.specs.Source.{Source}
 use Rattle.sshkey_base.specs.Stops.{NoOverrun, OverrunsString, OverrunsThen}
 use Rattle.sshkey_base.proofs.Stopping.{read_past}
-use Rattle.sshkey_terms.specs.Past.{PastAlways}
+use Rattle.sshkey_terms.specs.Past.{StopsPastAlways}
 
 -- said of any source, it is said of those with a fault
-said : (X : Type 0) {E : Type 0} (why : E → Cause) (overruns : List ℕ → ℕ → Type 0) (b : List ℕ) (m : ℕ) (e : E) → (overruns b m → why e ≡ Faulty Length) → PastAlways {X = X} why overruns b m (Err e)
+said : (X : Type 0) {E : Type 0} (why : E → Cause) (overruns : List ℕ → ℕ → Type 0) (b : List ℕ) (m : ℕ) (e : E) → (overruns b m → why e ≡ Faulty Length) → StopsPastAlways {X = X} why overruns b m (Err e)
 said X why overruns b zero e h = tt
 said X why overruns b (suc m) e h = h
 
 -- and the other way round, where the plain reader refuses
-meant : (X : Type 0) {E Y : Type 0} (why : E → Cause) (f : Format Y) (s : Source) (e : E) → Refuses s.missing (why e) (f.read s.left) → PastAlways {X = X} why f.overruns s.left s.missing (Err e) → f.overruns s.left s.missing → why e ≡ Faulty Length
+meant : (X : Type 0) {E Y : Type 0} (why : E → Cause) (f : Format Y) (s : Source) (e : E) → Refuses s.missing (why e) (f.read s.left) → StopsPastAlways {X = X} why f.overruns s.left s.missing (Err e) → f.overruns s.left s.missing → why e ≡ Faulty Length
 meant X why f s e h k o = go s.missing refl k
   where
-    go : (m : ℕ) → s.missing ≡ m → PastAlways {X = X} why f.overruns s.left m (Err e) → why e ≡ Faulty Length
+    go : (m : ℕ) → s.missing ≡ m → StopsPastAlways {X = X} why f.overruns s.left m (Err e) → why e ≡ Faulty Length
     go zero is k = let same = h.same is in let met = h.is in let long = f.lengths s.left s.missing o in cc
     go (suc m) is k = k (rw is at o)
 
 -- no length stands in it
-pub past_none : {X E : Type 0} (why : E → Cause) (b : List ℕ) (m : ℕ) (r : Result X E) → PastAlways why NoOverrun b m r
+pub past_none : {X E : Type 0} (why : E → Cause) (b : List ℕ) (m : ℕ) (r : Result X E) → StopsPastAlways why NoOverrun b m r
 past_none why b zero r = tt
 past_none why b (suc m) (Ok x) = tt
 past_none why b (suc m) (Err e) = λ o. absurd o
 
 -- a string
-pub past_string : {X : Type 0} (s : Source) (r : Result X encoding.Error) → PastIs (λ x y. y ≡ x) s r → PastAlways encoding_cause OverrunsString s.left s.missing r
+pub past_string : {X : Type 0} (s : Source) (r : Result X encoding.Error) → PastIs (λ x y. y ≡ x) s r → StopsPastAlways encoding_cause OverrunsString s.left s.missing r
 past_string {X} s r h = go s.missing refl r h
   where
-    go : (m : ℕ) → s.missing ≡ m → (r : Result X encoding.Error) → PastIs (λ x y. y ≡ x) s r → PastAlways encoding_cause OverrunsString s.left m r
+    go : (m : ℕ) → s.missing ≡ m → (r : Result X encoding.Error) → PastIs (λ x y. y ≡ x) s r → StopsPastAlways encoding_cause OverrunsString s.left m r
     go zero is r h = tt
     go (suc m) is (Ok x) h = tt
     go (suc m) is (Err e) h = λ o. by (number_at w32 s.left) refl (rw (← is) at o)
@@ -48,7 +48,7 @@ past_string {X} s r h = go s.missing refl r h
 
 module _ {A B : Type 0} (first : Format A) (second : Format B) where
   -- the second is refused
-  pub past_second : {C : Type 0} (X Z : Type 0) {E : Type 0} (means : C → A) (why : E → Cause) (s t : Source) (x : C) (e : E) → Reads means first.read s x t → Refuses t.missing (why e) (second.read t.left) → PastAlways {X = X} why second.overruns t.left t.missing (Err e) → PastAlways {X = Z} why (OverrunsThen first.overruns first.grammar.delimited_at (λ _. second.overruns)) s.left s.missing (Err e)
+  pub past_second : {C : Type 0} (X Z : Type 0) {E : Type 0} (means : C → A) (why : E → Cause) (s t : Source) (x : C) (e : E) → Reads means first.read s x t → Refuses t.missing (why e) (second.read t.left) → StopsPastAlways {X = X} why second.overruns t.left t.missing (Err e) → StopsPastAlways {X = Z} why (OverrunsThen first.overruns first.grammar.delimited_at (λ _. second.overruns)) s.left s.missing (Err e)
   past_second X Z means why s t x e r h k = said Z why (OverrunsThen first.overruns first.grammar.delimited_at (λ _. second.overruns)) s.left s.missing e go
     where
       passed : (y : Result (A × List ℕ) Fault) → first.grammar.delimited_at s.left ≡ y → IsOkAnd y (λ y. second.overruns y.1 s.missing) → second.overruns t.left t.missing

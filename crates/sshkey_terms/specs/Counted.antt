@@ -60,30 +60,30 @@ NeedsValues item n b m = (0 < n) × NeedsFirst item.needs item.read b m
 abbrev pub NeedsCounted : {A : Type 0} → Format A → ℕ → List ℕ → ℕ → Type 0
 NeedsCounted item n b m = (n ≤ length b + m) × NeedsValues item n b m
 
--- One of the values overruns.
-abbrev pub OverrunsTimes : {A : Type 0} → Format A → ℕ → List ℕ → ℕ → Type 0
-OverrunsTimes item zero b m = ⊥
-OverrunsTimes item (suc n) b m = item.overruns b m ⊎ IsOkAnd (item.grammar.delimited_at b) (λ x. OverrunsTimes item n x.1 m)
+-- One of so many values overruns, behind others that end by themselves.
+abbrev pub OverrunsValues : {A : Type 0} → Format A → ℕ → List ℕ → ℕ → Type 0
+OverrunsValues item zero b m = ⊥
+OverrunsValues item (suc n) b m = item.overruns b m ⊎ IsOkAnd (item.grammar.delimited_at b) (λ x. OverrunsValues item n x.1 m)
 
 -- More values are wanted than bytes were announced, or one of them overruns.
-abbrev pub OverrunsCount : {A : Type 0} → Format A → ℕ → List ℕ → ℕ → Type 0
-OverrunsCount item n b m = (length b + m < n) ⊎ OverrunsTimes item n b m
+abbrev pub OverrunsCounted : {A : Type 0} → Format A → ℕ → List ℕ → ℕ → Type 0
+OverrunsCounted item n b m = (length b + m < n) ⊎ OverrunsValues item n b m
 
 module _ {A : Type 0} (item : Format A) where
   abbrev before_others : A → List A × List ℕ → Result (List A × List ℕ) Fault
   before_others x xs = Ok (x ∷ xs.0, xs.1)
 
-  times_lengths : (n : ℕ) (b : List ℕ) (m : ℕ) → OverrunsTimes item n b m → times_at item.read n b ≡ Err Length
+  times_lengths : (n : ℕ) (b : List ℕ) (m : ℕ) → OverrunsValues item n b m → times_at item.read n b ≡ Err Length
   unfolding times_at
   times_lengths zero b m o = absurd o
   times_lengths (suc n) b m (inl o) = rw (item.lengths b m o) refl
   times_lengths (suc n) b m (inr o) = behind (λ rest. times_lengths n rest m) (item.grammar.delimited_at b) refl o
     where
-      behind : ((rest : List ℕ) → OverrunsTimes item n rest m → times_at item.read n rest ≡ Err Length) → (r : Result (A × List ℕ) Fault) → item.grammar.delimited_at b ≡ r → IsOkAnd r (λ x. OverrunsTimes item n x.1 m) → (item.read b >>= λ x. times_at item.read n x.1 >>= before_others x.0) ≡ Err Length
+      behind : ((rest : List ℕ) → OverrunsValues item n rest m → times_at item.read n rest ≡ Err Length) → (r : Result (A × List ℕ) Fault) → item.grammar.delimited_at b ≡ r → IsOkAnd r (λ x. OverrunsValues item n x.1 m) → (item.read b >>= λ x. times_at item.read n x.1 >>= before_others x.0) ≡ Err Length
       behind met (Ok x) e o = rw (item.grammar.same b x e, met x.1 o) refl
       behind met (Err fault) e o = absurd o
 
-  pub values_lengths : (n : ℕ) → AreLengths (values_at item.read n) (OverrunsCount item n)
+  pub values_lengths : (n : ℕ) → AreLengths (values_at item.read n) (OverrunsCounted item n)
   unfolding values_at
   values_lengths n b m (inl o) = let lt : length b < n = omega (arith, o) in rw (lt-ltb _ _ lt) refl
   values_lengths n b m (inr o) = go (ltb (length b) n) (times_at item.read n b) (times_lengths n b m o)
@@ -195,7 +195,7 @@ values_format item n = record {
   Spells = SpellsValues item.Spells item.grammar.delimited_at n;
   read = values_at item.read n;
   needs = NeedsCounted item n;
-  overruns = OverrunsCount item n;
+  overruns = OverrunsCounted item n;
   grammar = values_grammar item.grammar n;
   lengths = values_lengths item n;
 }

@@ -3,7 +3,7 @@
 ghost use Rattle.sshkey_base.specs.Formats.{Format};
 ghost use Rattle.sshkey_base.specs.Reading.{GivesAlways};
 ghost use Rattle.sshkey_base.specs.Source.{Later};
-ghost use Rattle.sshkey_terms.specs.Past.{PastAlways};
+ghost use Rattle.sshkey_terms.specs.Past.{StopsPastAlways};
 
 use sshkey_base::{DecodeError, Reader};
 
@@ -28,13 +28,13 @@ pub trait ReadFrom<R: Reader>: Sized {
     /// Reads a value from the front, and leaves what follows it.
     ///
     /// It is what the plain reader gives of the bytes that are left, and where the plain reader
-    /// rejects them, a sound source is rejected with its fault, and one with a fault with `Length`
-    /// if a stated length exceeds all that was announced. Does not allocate. After an error some of
-    /// the remaining bytes may have been consumed; nothing else has changed.
+    /// rejects them, a sound source is rejected with its fault. On a source that breaks off, a
+    /// stated length that exceeds all that was announced fails with `Length`. Does not allocate.
+    /// After an error some of the remaining bytes may have been consumed; nothing else has changed.
     fn read_from(reader: &mut R) -> Result<Self, Self::Error>
         ensures gives { GivesAlways means Self.Error.cause format.read
             (R.source reader.old) result (R.source reader.new) }
         ensures later { Later (R.source reader.old) (R.source reader.new) }
-        ensures past { PastAlways Self.Error.cause format.overruns
+        ensures past { StopsPastAlways Self.Error.cause format.overruns
             (R.source reader.old).left (R.source reader.old).missing result };
 }

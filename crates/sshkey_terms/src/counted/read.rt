@@ -6,7 +6,7 @@ ghost use Rattle.sshkey_base.specs.Needs.{Asks};
 ghost use Rattle.sshkey_base.specs.Reading.{Gives};
 ghost use Rattle.sshkey_base.specs.Source.{Later};
 ghost use Rattle.sshkey_base.specs.Stops.{StopsBy};
-ghost use Rattle.sshkey_terms.specs.Counted.{NeedsValues, OverrunsTimes, counted_format, times_at, values_format};
+ghost use Rattle.sshkey_terms.specs.Counted.{NeedsValues, OverrunsValues, counted_format, times_at, values_format};
 
 use sshkey_base::encoding::{self, Error};
 use sshkey_base::{Decode, Reader};
@@ -73,7 +73,7 @@ fn times_from<T: Decode + Drop, R: Reader>(
     ensures later { Later (R.source reader.old) (R.source reader.new) }
     ensures asks { Asks T.Error.cause (NeedsValues T.format count) (R.source reader.old) result }
     ensures past { StopsBy T.Error.cause (times_at T.format.grammar.delimited_at count)
-        (NeedsValues T.format count) (OverrunsTimes T.format count) (R.source reader.old) result }
+        (NeedsValues T.format count) (OverrunsValues T.format count) (R.source reader.old) result }
 {
     let mut values = Vec::new(alloc);
     'reads: while values.len() < count {

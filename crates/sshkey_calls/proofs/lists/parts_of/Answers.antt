@@ -32,7 +32,7 @@ returns c =
     let reserved = c.content_before-reserved.ensures in
     let extensions = c.content_before-extensions.ensures in
     let critical_options = c.content_before-critical_options.ensures in
-    let window = c.saturating_sub-window.ensures in
+    let without_window = c.saturating_sub-without_window.ensures in
     let principals = c.content_before-principals.ensures in
     let key_id = c.content_before-key_id.ensures in
     rw (
