@@ -1,5 +1,5 @@
 -- A value and its padding, up to the end of a source.
-use Rattle.std.proofs.Common.{◌≡◌, ◌≢◌, ℕ, ◌%◌, Bool, true, false, cond, ltb, List, [], length, Result, Ok, Err, IsErrAnd, bytes_eq, refl, ap, ◌∙◌, arith}
+use Rattle.std.proofs.Common.{◌≡◌, ◌≢◌, ◌⊎◌, inl, inr, ℕ, ◌%◌, Bool, true, false, cond, ltb, List, [], length, Result, Ok, Err, IsErrAnd, bytes_eq, refl, ap, ◌∙◌, arith}
 use Rattle.std.proofs.lemmas.Bool.{eq-eqb, ne_eqb}
 use Rattle.std.proofs.lemmas.Result.{err_from_is_err_and}
 use Rattle.sshkey_model.specs.Reading.{Fault, Length, FormatEncoding, ◌>>=◌, Front}
@@ -8,6 +8,7 @@ use Rattle.sshkey_model.proofs.CombinedReaders.{ok_is, bind_assoc, bind_same}
 use Rattle.sshkey_base.specs.Causes.{Cause, NoMemory, Faulty}
 use Rattle.sshkey_base.specs.Source.{Source, IsSound, announced_len}
 use Rattle.sshkey_base.specs.Reading.{Reads, IsRefused, to_end}
+use Rattle.sshkey_base.specs.Stops.{RanOut}
 use Rattle.sshkey_ciphers.specs.Paddings.{end_padding_below, padding_end}
 use Rattle.sshkey_private.specs.Padded.{padded_below, NeedsPadded}
 
@@ -79,3 +80,7 @@ module _ {A : Type 0} (limit : ℕ) (read : Front A) where
 -- memory is asked for by the value alone, in whole blocks
 pub asks_padded : (needs : List ℕ → ℕ → Type 0) (s : Source) (c : Cause) → announced_len s % 8 ≡ 0 → (c ≡ NoMemory → IsSound s → needs s.left s.missing) → c ≡ NoMemory → IsSound s → NeedsPadded needs s.left s.missing
 asks_padded needs s c multiple h memory sound = (multiple, h memory sound)
+
+pub past_padded : (needs : List ℕ → ℕ → Type 0) (s : Source) (c : Cause) → announced_len s % 8 ≡ 0 → (c ≡ Faulty Length) ⊎ RanOut c needs s → (c ≡ Faulty Length) ⊎ RanOut c (NeedsPadded needs) s
+past_padded needs s c multiple (inl is) = inl is
+past_padded needs s c multiple (inr m) = inr (record { memory = m.memory; needed = (multiple, m.needed) })

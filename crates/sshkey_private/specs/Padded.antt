@@ -1,6 +1,6 @@
 -- A value and its padding, which fill whole blocks (PROTOCOL.key). The lemmas are proved, and need
 -- not be believed.
-use Rattle.std.proofs.Common.{◌≡◌, ℕ, ◌+◌, ◌%◌, ◌<◌, eqb, ltb, true, cond, List, [], ◌++◌, length, Ok, Err, bytes_eq, refl, sym, ap, subst, ◌∙◌, arith}
+use Rattle.std.proofs.Common.{◌≡◌, ℕ, ◌+◌, ◌%◌, ◌<◌, eqb, ltb, Bool, true, false, cond, List, [], ◌++◌, length, Ok, Err, bytes_eq, refl, sym, ap, subst, ◌∙◌, arith}
 use Rattle.std.specs.Prelude.{◌==◌, if◌then◌else◌}
 use Rattle.std.proofs.lemmas.Bool.{eqb-true, eq-eqb, ltb-true, lt-ltb}
 use Rattle.std.proofs.lemmas.Slice.Eq.{bytes_eq-Decides}
@@ -11,9 +11,8 @@ use Rattle.sshkey_model.proofs.CombinedReaders.{bind_ok, met, ok_is}
 use Rattle.sshkey_base.specs.Formats.{Format}
 use Rattle.sshkey_model.specs.Grammar.{AllEnd}
 use Rattle.sshkey_model.proofs.Grammars.{all_end, to_the_end}
-use Rattle.sshkey_base.specs.Lengths.{no_lengths}
 use Rattle.sshkey_base.specs.Reading.{to_end}
-use Rattle.sshkey_base.specs.Stops.{NoOverrun}
+use Rattle.sshkey_base.specs.Stops.{AreLengths}
 use Rattle.sshkey_ciphers.specs.Paddings.{end_padding_below}
 use Rattle.sshkey_ciphers.proofs.Paddings.{rising_length}
 
@@ -68,13 +67,22 @@ module _ {A : Type 0} (limit : ℕ) (inner : Format A) (all : AllEnd inner.gramm
       let read : inner.read b ≡ Ok (value, pad) = ap inner.read s.all ∙ (all_end inner.grammar all).again value s.front pad s.spelled in
       rw (blocks, read, few, same) refl
 
+  -- the lengths are those of the value
+  pub padded_lengths : AreLengths (to_end (padded_below limit inner.read)) inner.overruns
+  unfolding padded_below
+  padded_lengths b m o = go (eqb (length b % 8) 0)
+    where
+      go : (blocks : Bool) → ◌>>=◌ {B = A × List ℕ} (cond blocks (inner.read b >>= λ x. end_padding_below limit x.0 x.1) (Err Length)) (λ x. Ok (x, [])) ≡ Err Length
+      go true = rw (inner.lengths b m o) refl
+      go false = refl
+
   -- the value, which ends by itself, and its padding
   abbrev pub padded_format : Format A
   padded_format = record {
     Spells = SpellsPadded limit inner.Spells;
     read = to_end (padded_below limit inner.read);
     needs = NeedsPadded inner.needs;
-    overruns = NoOverrun;
+    overruns = inner.overruns;
     grammar = to_the_end padded_takes padded_alone;
-    lengths = no_lengths (to_end (padded_below limit inner.read));
+    lengths = padded_lengths;
   }

@@ -1,6 +1,6 @@
 -- A private key file (PROTOCOL.key): the terms that it is read as, with a limit on the padding, and
 -- where it needs memory or has lengths. The lemmas are proved, and need not be believed.
-use Rattle.std.proofs.Common.{◌≡◌, inl, ℕ, List, length, Bool, true, false, Option, Some, None, Result, Ok, Err, refl, sym, ap, ◌∙◌}
+use Rattle.std.proofs.Common.{◌≡◌, inl, ℕ, List, length, Option, Some, None, Result, Ok, Err, refl, sym, ap, ◌∙◌}
 use Rattle.std.specs.Prelude.{if◌then◌else◌}
 use Rattle.sshkey_model.specs.Reading.{Fault, Crypto, PublicKey, TrailingKeyData, ◌>>=◌, Front}
 use Rattle.sshkey_model.specs.Grammar.{IsGrammar, AllEnd}
@@ -74,27 +74,24 @@ NeedsContent NoCipher NoKdf public = (part_format 8 public).needs
 NeedsContent NoCipher (Bcrypt o) public = NoNeed
 NeedsContent c k public = NeedsString
 
--- a private part is read: not where there is a key derivation without a cipher
-abbrev pub is_held : Cipher → Kdf → Bool
-is_held NoCipher (Bcrypt o) = false
-is_held _ _ = true
+-- a length of the part of a key that is not encrypted passes, or that of a ciphertext
+abbrev pub OverrunsContent : Cipher → Kdf → Key → List ℕ → ℕ → Type 0
+OverrunsContent NoCipher NoKdf public = (part_format 8 public).overruns
+OverrunsContent NoCipher (Bcrypt o) public = NoOverrun
+OverrunsContent c k public = OverrunsString
 
--- the length of the private part passes
-abbrev pub OverrunsContent : Cipher → Kdf → List ℕ → ℕ → Type 0
-OverrunsContent c k b m = (is_held c k ≡ true) × OverrunsString b m
+pub content_lengths : (limit : ℕ) (c : Cipher) (k : Kdf) (public : Key) → AreLengths (content_term limit c k public).read (OverrunsContent c k public)
+content_lengths limit NoCipher NoKdf public b m o = (unencrypted_format limit public).lengths b m o
+content_lengths limit NoCipher (Bcrypt p) public b m o = absurd o
+content_lengths limit c k public b m o = (encrypted_format c k public).lengths b m (inl o)
 
-pub content_lengths : (limit : ℕ) (c : Cipher) (k : Kdf) (public : Key) → AreLengths (content_term limit c k public).read (OverrunsContent c k)
-content_lengths limit NoCipher NoKdf public b m o = (unencrypted_format limit public).lengths b m (inl o.1)
-content_lengths limit NoCipher (Bcrypt p) public b m o = absurd (cc o.0)
-content_lengths limit c k public b m o = (encrypted_format c k public).lengths b m (inl o.1)
-
--- What it needs, and where its length passes, does not depend on the limit.
+-- What it needs, and where its lengths pass, does not depend on the limit.
 abbrev pub content_format : ℕ → Opening → Format PrivateKey
 content_format limit h = record {
   Spells = (content_term limit h.cipher h.kdf h.public).Spells;
   read = (content_term limit h.cipher h.kdf h.public).read;
   needs = NeedsContent h.cipher h.kdf h.public;
-  overruns = OverrunsContent h.cipher h.kdf;
+  overruns = OverrunsContent h.cipher h.kdf h.public;
   grammar = (content_term limit h.cipher h.kdf h.public).grammar;
   lengths = content_lengths limit h.cipher h.kdf h.public;
 }
@@ -112,7 +109,7 @@ file_grammar limit = all_end (file_format limit).grammar (called_ends opening_fo
 abbrev pub NeedsPrivateKey : List ℕ → ℕ → Type 0
 NeedsPrivateKey = (file_format 8).needs
 
--- a length of the opening, or behind it that of the private part
+-- a length of the opening, or behind it one of the private part
 abbrev pub OverrunsPrivateKey : List ℕ → ℕ → Type 0
 OverrunsPrivateKey = (file_format 8).overruns
 

@@ -3,10 +3,11 @@
 ghost use Rattle.std.specs.Prelude.{◌≡◌, true, IfOk, suc};
 ghost use Rattle.sshkey_base.specs.Answers.{AnswersAlways};
 ghost use Rattle.sshkey_base.specs.Causes.{cause};
+ghost use Rattle.sshkey_base.specs.Formats.{Stops};
 ghost use Rattle.sshkey_base.specs.Needs.{Asks, NoNeed};
 ghost use Rattle.sshkey_base.specs.Reading.{Gives, to_end};
 ghost use Rattle.sshkey_base.specs.Source.{Later};
-ghost use Rattle.sshkey_base.specs.Stops.{OverrunsString, StopsBy};
+ghost use Rattle.sshkey_base.specs.Stops.{StopsPast};
 ghost use Rattle.sshkey_pairs.specs.KeypairFormats.{keypair_format};
 ghost use Rattle.sshkey_pairs.specs.Keypairs.{pair_of};
 ghost use Rattle.sshkey_keys.specs.Keys.{key_of};
@@ -17,7 +18,7 @@ ghost use Rattle.sshkey_model.specs.KeyPairs.{public_half};
 ghost use Rattle.sshkey_model.specs.PrivateKeys.{key_eq};
 ghost use Rattle.sshkey_pair_kinds.specs.Pairs.{ecdsa_pair_of};
 ghost use Rattle.sshkey_private.specs.Halves.{is_half};
-ghost use Rattle.sshkey_private.specs.Inner.{inner_of, inner_at, inner_format, part_format, checkint_at, one_checkint, half_of, pair_with_at};
+ghost use Rattle.sshkey_private.specs.Inner.{inner_of, inner_at, inner_format, part_format, checkint_at, checkint_format, one_checkint, half_of, pair_format, pair_with_at};
 ghost use Rattle.sshkey_private.specs.Padded.{padded_below, NeedsPadded};
 
 use crate::part::Inner;
@@ -48,8 +49,7 @@ pub(crate) fn decode_inner<R: Reader>(
     ensures later { Later (R.source reader.old) (R.source reader.new) }
     ensures asks { Asks cause (part_format (suc most) (key_of public.now)).needs
         (R.source reader.old) result }
-    ensures past { StopsBy cause (part_format (suc most) (key_of public.now)).read
-        (part_format (suc most) (key_of public.now)).needs OverrunsString
+    ensures past { Stops cause (part_format (suc most) (key_of public.now))
         (R.source reader.old) result }
 {
     reader.read_prefixed(|part| padded_inner_from(alloc, part, public, most))
@@ -68,6 +68,8 @@ fn padded_inner_from<R: Reader>(
     ensures later { Later (R.source reader.old) (R.source reader.new) }
     ensures asks { Asks cause (NeedsPadded (inner_format (key_of public.now)).needs)
         (R.source reader.old) result }
+    ensures past { StopsPast cause (NeedsPadded (inner_format (key_of public.now)).needs)
+        (inner_format (key_of public.now)).overruns (R.source reader.old) result }
 {
     if reader.remaining_len() % 8 != 0 {
         return Err(Error::Encoding(encoding::Error::Length));
@@ -85,6 +87,7 @@ fn inner_from<R: Reader>(alloc: Global, reader: &mut R, public: &KeyData) -> Res
     ensures later { Later (R.source reader.old) (R.source reader.new) }
     ensures asks { Asks cause (inner_format (key_of public.now)).needs
         (R.source reader.old) result }
+    ensures past { Stops cause (inner_format (key_of public.now)) (R.source reader.old) result }
 {
     let checkint = checkint_from(alloc, reader)?;
     let pair = pair_from(alloc, reader, public)?;
@@ -103,6 +106,7 @@ fn checkint_from<R: Reader>(alloc: Global, reader: &mut R) -> Result<u32>
         (R.source reader.old) result (R.source reader.new) }
     ensures later { Later (R.source reader.old) (R.source reader.new) }
     ensures asks { Asks cause NoNeed (R.source reader.old) result }
+    ensures past { Stops cause checkint_format (R.source reader.old) result }
 {
     let Then(checkint, again) = Then::<u32, u32>::decode(alloc, reader)?;
     check_again(checkint, again)
@@ -119,12 +123,13 @@ fn check_again(checkint: u32, again: u32) -> Result<u32>
 }
 
 /// A pair whose public half is that key.
-#[tactic(auto, using(sshkey_base::proofs::Steps::steps, sshkey_base::proofs::Judging::judged, sshkey_base::proofs::Judging::judged_asks), unfolding(crate::specs::Inner::pair_with_at))]
+#[tactic(auto, using(sshkey_base::proofs::Steps::steps, sshkey_base::proofs::Stopping::checked_stopped, sshkey_base::proofs::Judging::judged, sshkey_base::proofs::Judging::judged_asks), unfolding(crate::specs::Inner::pair_with_at))]
 fn pair_from<R: Reader>(alloc: Global, reader: &mut R, public: &KeyData) -> Result<KeypairData>
     ensures gives { Gives pair_of cause (pair_with_at (key_of public.now))
         (R.source reader.old) result (R.source reader.new) }
     ensures later { Later (R.source reader.old) (R.source reader.new) }
     ensures asks { Asks cause keypair_format.needs (R.source reader.old) result }
+    ensures past { Stops cause (pair_format (key_of public.now)) (R.source reader.old) result }
     ensures half { IfOk result (λ k. is_half (pair_of k) (key_of public.now) ≡ true) }
 {
     let pair = KeypairData::decode(alloc, reader)?;

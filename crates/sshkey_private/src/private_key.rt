@@ -93,9 +93,9 @@ impl Decode for PrivateKey {
     /// - `Error::TrailingData`, with their number: bytes after an encrypted key
     ///
     /// On a source with a fault, a key that is not encrypted and complete before the fault fails
-    /// only with `Memory`, and only if it needs some. A length that stands in the opening, or the
-    /// one before the private part or the ciphertext, fails with `Length` where it passes all that
-    /// was announced, unless memory ran out for a value before it, or a key derivation stands
+    /// only with `Memory`, and only if it needs some. A length in the opening, the one before the
+    /// private part, or one in a part that is not encrypted fails with `Length` where it passes all
+    /// that was announced, unless memory ran out for a value before it, or a key derivation stands
     /// without a cipher. How else such a source is rejected is open.
     fn decode<R: Reader>(alloc: Global, reader: &mut R) -> Result<PrivateKey>
         ensures gives { Gives private_of cause private_value_at

@@ -2,6 +2,7 @@
 
 ghost use Rattle.std.specs.Prelude.{◌≡◌, ◌%◌, [], false, true, length, suc, Ok, IfOk};
 ghost use Rattle.sshkey_base.specs.Causes.{cause};
+ghost use Rattle.sshkey_base.specs.Formats.{Stops};
 ghost use Rattle.sshkey_base.specs.Needs.{Asks, NeedsString};
 ghost use Rattle.sshkey_base.specs.Reading.{Gives, GivesWhole};
 ghost use Rattle.sshkey_base.specs.Source.{Later, all_of};
@@ -15,7 +16,7 @@ ghost use Rattle.sshkey_ciphers.specs.Ciphers.{cipher_of, kdf_of};
 ghost use Rattle.sshkey_ciphers.specs.Ciphertexts.{sealed_format, tag_bytes};
 ghost use Rattle.sshkey_private.specs.Halves.{is_half};
 ghost use Rattle.sshkey_private.specs.Inner.{inner_of, part_format};
-ghost use Rattle.sshkey_private.specs.PrivateKeyFormats.{NeedsContent, NeedsPrivateKey, OverrunsContent, OverrunsPrivateKey, key_of_part, steps_at, sealed_with, unencrypted_below, last_content_at, last_encrypted_at};
+ghost use Rattle.sshkey_private.specs.PrivateKeyFormats.{NeedsContent, NeedsPrivateKey, OverrunsContent, OverrunsPrivateKey, key_of_part, steps_at, sealed_with, unencrypted_below, unencrypted_format, last_content_at, last_encrypted_at};
 ghost use Rattle.sshkey_private.specs.PrivateKeyGrammars.{delimited_by};
 ghost use Rattle.sshkey_private.specs.PrivateKeys.{private_of, is_encrypted, outer_of, HasWrittenComment};
 ghost use Rattle.sshkey_public.specs.PublicKeys.{comment_of};
@@ -80,7 +81,7 @@ fn content_from<R: Reader>(
     ensures past { StopsBy cause (delimited_by (last_content_at (suc most)
         (cipher_of opening.cipher) (kdf_of opening.kdf) (key_of opening.public)))
         (NeedsContent (cipher_of opening.cipher) (kdf_of opening.kdf) (key_of opening.public))
-        (OverrunsContent (cipher_of opening.cipher) (kdf_of opening.kdf))
+        (OverrunsContent (cipher_of opening.cipher) (kdf_of opening.kdf) (key_of opening.public))
         (R.source reader.old) result }
     ensures comment { IfOk result HasWrittenComment }
 {
@@ -105,8 +106,7 @@ fn unencrypted_from<R: Reader>(
     ensures later { Later (R.source reader.old) (R.source reader.new) }
     ensures asks { Asks cause (part_format (suc most) (key_of public)).needs
         (R.source reader.old) result }
-    ensures past { StopsBy cause (unencrypted_below (suc most) (key_of public))
-        (part_format (suc most) (key_of public)).needs OverrunsString
+    ensures past { Stops cause (unencrypted_format (suc most) (key_of public))
         (R.source reader.old) result }
     ensures plain { IfOk result (λ k. is_encrypted (private_of k) ≡ false) }
 {

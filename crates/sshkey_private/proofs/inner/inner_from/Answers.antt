@@ -1,4 +1,15 @@
+use Rattle.std.proofs.Common.{ℕ, List, Option}
+use Rattle.std.proofs.lemmas.Result.{err_from_is_err_and}
+use Rattle.sshkey_model.specs.Keys.{Key}
+use Rattle.sshkey_model.specs.KeyPairs.{KeyPair}
+use Rattle.sshkey_base.specs.Causes.{same_cause}
+use Rattle.sshkey_base.specs.Formats.{Format, text_format}
 use Rattle.sshkey_base.proofs.Places.{later_then}
+use Rattle.sshkey_keys.specs.Keys.{key_of}
+use Rattle.sshkey_pairs.specs.Keypairs.{pair_of}
+use Rattle.sshkey_terms.specs.Terms.{◌then◌, IsMapped}
+use Rattle.sshkey_terms.proofs.Stopping.{mapped_stopped, stopped_first, stopped_later}
+use Rattle.sshkey_private.specs.Inner.{unencrypted_of_parts, inner_at, inner_is, checkint_format, pair_format}
 use Rattle.sshkey_private.proofs.inner.inner_from.Goals as goal
 
 pub returns-in_err-comment-clause-later : goal.returns-in_err-comment-clause-later
@@ -6,3 +17,32 @@ returns-in_err-comment-clause-later g c = later_then _ _ _ c.in_ok-checkint.ensu
 
 pub returns-clause-later : goal.returns-clause-later
 returns-clause-later g c = later_then _ _ _ c.in_ok-checkint.ensures.later (later_then _ _ _ c.in_ok-pair.ensures.later c.in_ok-comment.ensures.later)
+
+abbrev behind_checkint : Key → Format (Option KeyPair × List ℕ)
+behind_checkint public = pair_format public then text_format
+
+inner_read : (public : Key) → IsMapped (inner_at public) unencrypted_of_parts (checkint_format then behind_checkint public).read
+inner_read public = record { same = inner_is public }
+
+pub returns-in_err-checkint-clause-past : goal.returns-in_err-checkint-clause-past
+returns-in_err-checkint-clause-past g c =
+    let p = err_from_is_err_and c.from_residual.result c.from_residual.ensures.1 in
+    let public = key_of c.args.public.now in
+    let rest = behind_checkint public in
+    rw (p.1, p.2) (mapped_stopped _ _ _ _ _ unencrypted_of_parts (inner_at public) (inner_read public) (stopped_first checkint_format.needs checkint_format.overruns checkint_format.grammar.delimited_at checkint_format.read (λ _. rest.needs) (λ _. rest.overruns) (λ _. rest.grammar.delimited_at) _ _ c.in_err-checkint.ensures.past))
+
+pub returns-in_err-pair-clause-past : goal.returns-in_err-pair-clause-past
+returns-in_err-pair-clause-past g c =
+    let p = err_from_is_err_and c.from_residual-in_err-pair.result c.from_residual-in_err-pair.ensures.1 in
+    let public = key_of c.args.public.now in
+    let pair = pair_format public in
+    let rest = behind_checkint public in
+    rw (p.1, p.2) (mapped_stopped _ _ _ _ _ unencrypted_of_parts (inner_at public) (inner_read public) (stopped_later checkint_format.needs checkint_format.overruns checkint_format.grammar.delimited_at checkint_format.read (λ _. rest.needs) (λ _. rest.overruns) (λ _. rest.grammar.delimited_at) (λ n. n) _ _ _ _ checkint_format.grammar.same checkint_format.lengths c.in_ok-checkint.ensures.gives (stopped_first pair.needs pair.overruns pair.grammar.delimited_at pair.read (λ _. text_format.needs) (λ _. text_format.overruns) (λ _. text_format.grammar.delimited_at) _ _ c.in_err-pair.ensures.past)))
+
+pub returns-in_err-comment-clause-past : goal.returns-in_err-comment-clause-past
+returns-in_err-comment-clause-past g c =
+    let p = err_from_is_err_and c.from_residual-in_err-comment.result c.from_residual-in_err-comment.ensures.1 in
+    let public = key_of c.args.public.now in
+    let pair = pair_format public in
+    let rest = behind_checkint public in
+    rw (p.1, p.2, same_cause c.in_err-comment.field-0.0) (mapped_stopped _ _ _ _ _ unencrypted_of_parts (inner_at public) (inner_read public) (stopped_later checkint_format.needs checkint_format.overruns checkint_format.grammar.delimited_at checkint_format.read (λ _. rest.needs) (λ _. rest.overruns) (λ _. rest.grammar.delimited_at) (λ n. n) _ _ _ _ checkint_format.grammar.same checkint_format.lengths c.in_ok-checkint.ensures.gives (stopped_later pair.needs pair.overruns pair.grammar.delimited_at pair.read (λ _. text_format.needs) (λ _. text_format.overruns) (λ _. text_format.grammar.delimited_at) pair_of _ _ _ _ pair.grammar.same pair.lengths c.in_ok-pair.ensures.gives c.in_err-comment.ensures.past)))

@@ -1,9 +1,10 @@
-use Rattle.std.proofs.Common.{◌%◌, ◌∙◌, ap, sym, ℕ, suc}
+use Rattle.std.proofs.Common.{◌%◌, ◌∙◌, ap, sym, inl, refl, ℕ, suc}
 use Rattle.std.proofs.lemmas.Result.{err_from_is_err_and}
 use Rattle.sshkey_keys.specs.Keys.{key_of}
 use Rattle.sshkey_base.proofs.Places.{later_then}
+use Rattle.sshkey_base.proofs.Stopping.{read_past}
 use Rattle.sshkey_private.specs.Inner.{inner_of, inner_at, inner_format}
-use Rattle.sshkey_private.proofs.PaddedReaders.{not_whole, value_refused, padding_refused, padded_read, asks_padded}
+use Rattle.sshkey_private.proofs.PaddedReaders.{not_whole, value_refused, padding_refused, padded_read, asks_padded, past_padded}
 use Rattle.sshkey_private.proofs.inner.padded_inner_from.Goals as goal
 
 pub returns-then-remaining_len-ne0-clause-gives : goal.returns-then-remaining_len-ne0-clause-gives
@@ -37,3 +38,17 @@ returns-in_err-padding_from-clause-asks g c =
 
 pub returns-clause-later : goal.returns-clause-later
 returns-clause-later g c = later_then _ _ _ c.in_ok-inner.ensures.later c.in_ok-padding_from.ensures.later
+
+pub returns-then-remaining_len-ne0-clause-past : goal.returns-then-remaining_len-ne0-clause-past
+returns-then-remaining_len-ne0-clause-past g c = λ o. inl refl
+
+pub returns-in_err-inner-clause-past : goal.returns-in_err-inner-clause-past
+returns-in_err-inner-clause-past g c =
+    let p = err_from_is_err_and c.from_residual.result c.from_residual.ensures.1 in
+    rw (p.1, p.2) (λ o. past_padded (inner_format (key_of c.args.public.now)).needs (g.R.Reader.source c.args.reader.now) _ (sym (ap (λ (n : ℕ). n % 8) c.remaining_len.ensures) ∙ c.if-remaining_len-ne0.false) (c.in_err-inner.ensures.past.past o))
+
+pub returns-in_err-padding_from-clause-past : goal.returns-in_err-padding_from-clause-past
+returns-in_err-padding_from-clause-past g c =
+    let p = err_from_is_err_and c.from_residual-in_err-padding_from.result c.from_residual-in_err-padding_from.ensures.1 in
+    let inner = inner_format (key_of c.args.public.now) in
+    rw (p.1, p.2) (λ o. read_past inner_of inner.read inner.overruns _ _ _ inner.lengths c.in_ok-inner.ensures.gives o)
