@@ -8,8 +8,10 @@ use Rattle.sshkey_model.proofs.KeyPairReaders.{keypair_reads, pair_reads, plain_
 use Rattle.sshkey_model.proofs.KeyReaders.{body_reads, key_reads}
 use Rattle.sshkey_model.proofs.NormalForms.{plain_choices_have, plain_options_have}
 use Rattle.sshkey_model.proofs.OptionReaders.{options_reads}
+use Rattle.sshkey_model.proofs.Trees.{determined, read_back}
 use Rattle.sshkey_base.specs.Labels.{label_at}
 use Rattle.sshkey_ciphers.specs.Ciphers.{cipher_checks, kdf_algorithm_checks}
+use Rattle.sshkey_sshsig.specs.SshSignatureReaders.{ssh_signature_grammar, ssh_signature_normal}
 use Rattle.ssh_key.proofs.NormalForms.{normal_forms, plain_forms}
 use Rattle.ssh_key.proofs.laws.normal_forms.Goals as goal
 
@@ -18,6 +20,9 @@ returns-clause-bodies c = λ a. normal_forms (body_reads a)
 
 pub returns-clause-keys : goal.returns-clause-keys
 returns-clause-keys c = plain_forms key key_reads (λ _. Head.Plain) (λ _ _. tt)
+
+pub returns-clause-ssh_signatures : goal.returns-clause-ssh_signatures
+returns-clause-ssh_signatures c = record { determine = determined ssh_signature_grammar ssh_signature_normal; again = read_back ssh_signature_grammar ssh_signature_normal }
 
 pub returns-clause-options : goal.returns-clause-options
 returns-clause-options c = plain_forms options options_reads plain_nestings (λ os _. plain_options_have os)
