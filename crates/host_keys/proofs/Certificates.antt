@@ -2,7 +2,7 @@
 use Rattle.std.proofs.Common.{◌≡◌, ◌≢◌, ap, ℕ, List, [], ◌∷◌, Bool, Result, Ok, Err, IfErr, Some, option_map, refl, subst, sym}
 use Rattle.openssh_limits.specs.Read.{AreReadPrincipals}
 use Rattle.ssh_key.specs.base.Acceptance.{AcceptsExactly}
-use Rattle.ssh_key.specs.cert.Validity.{JudgesFor, fingerprint_of, fingerprints_of, refusal_error}
+use Rattle.ssh_key.specs.cert.Validity.{JudgesCertificateFor, fingerprint_of, fingerprints_of, refusal_error}
 use Rattle.ssh_key.specs.keys.Fingerprints.{IsFingerprint}
 use Rattle.ssh_key.specs.model.Certificates.{Certificate, Host}
 use Rattle.ssh_key.specs.model.Fingerprints as model
@@ -26,10 +26,10 @@ module _ (accepts : Question → Bool) (t : ℕ) (host : List ℕ) (c : Certific
   same : fingerprints_of (f ∷ []) ≡ signers c
   same = ap (λ (g : model.Fingerprint). g ∷ []) (own c.signed.signature_key f is)
 
-  pub good : (r : Result (Unit {0}) Error) → JudgesFor accepts (f ∷ []) t host c r → AcceptsExactly (IsGoodFor accepts t host c) r
+  pub good : (r : Result (Unit {0}) Error) → JudgesCertificateFor accepts (f ∷ []) t host c r → AcceptsExactly (IsGoodFor accepts t host c) r
   good (Ok u) valid = record { for_hosts = hosts; no_options = none; key_id = key_id; principals = principals; valid = subst (λ (given : List model.Fingerprint). IsValidFor accepts given t host c) same valid }
   good (Err e) judged = λ other is. (judged other).0 (subst (λ (given : List model.Fingerprint). IsValidFor accepts given t host c) (sym same) is.valid)
 
-  pub bad : (r : Result (Unit {0}) Error) → JudgesFor accepts (f ∷ []) t host c r → IfErr r (λ e. e ≢ Memory → IsBadFor accepts t host c e)
+  pub bad : (r : Result (Unit {0}) Error) → JudgesCertificateFor accepts (f ∷ []) t host c r → IfErr r (λ e. e ≢ Memory → IsBadFor accepts t host c e)
   bad (Ok u) valid = tt
   bad (Err e) judged = λ other. NotValid hosts none key_id principals e (subst (λ (given : List model.Fingerprint). option_map refusal_error (first_refusal_for accepts given t host c) ≡ Some e) same (judged other).1)

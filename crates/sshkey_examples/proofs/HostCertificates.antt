@@ -4,7 +4,7 @@ use Rattle.std.specs.Prelude.{IsErrAnd}
 use Rattle.ssh_key.specs.base.Acceptance.{AcceptsExactly}
 use Rattle.ssh_key.specs.base.Causes.{Faulty, NoMemory, cause}
 use Rattle.ssh_key.specs.cert.CertificateReaders.{SpellsCertificate}
-use Rattle.ssh_key.specs.cert.Validity.{JudgesFor, fingerprints_of}
+use Rattle.ssh_key.specs.cert.Validity.{JudgesCertificateFor, fingerprints_of}
 use Rattle.ssh_key.specs.slices.Slices.{Keeps}
 use Rattle.ssh_key.specs.model.Certificates.{Certificate}
 use Rattle.ssh_key.specs.model.Fingerprints.{Fingerprint}
@@ -17,11 +17,11 @@ use Rattle.sshkey_examples.specs.HostCertificates.{CertifiesHost, IsBadFor, IsCe
 
 -- ---- the validation decides
 
-pub certifies_host : (accepts : Question → Bool) (given : List code.Fingerprint) (t : ℕ) (host : List ℕ) (c : Certificate) → IsPlainForHosts c → (r : Result (Unit {0}) Error) → JudgesFor accepts given t host c r → AcceptsExactly (CertifiesHost accepts (fingerprints_of given) t host c) r
+pub certifies_host : (accepts : Question → Bool) (given : List code.Fingerprint) (t : ℕ) (host : List ℕ) (c : Certificate) → IsPlainForHosts c → (r : Result (Unit {0}) Error) → JudgesCertificateFor accepts given t host c r → AcceptsExactly (CertifiesHost accepts (fingerprints_of given) t host c) r
 certifies_host accepts given t host c plain (Ok u) valid = record { plain = plain; valid = valid }
 certifies_host accepts given t host c plain (Err e) judged = λ other is. (judged other).0 is.valid
 
-pub not_valid : (accepts : Question → Bool) (given : List code.Fingerprint) (t : ℕ) (host : List ℕ) (c : Certificate) → IsPlainForHosts c → (r : Result (Unit {0}) Error) → JudgesFor accepts given t host c r → IfErr r (λ e. e ≢ Memory → IsBadFor accepts (fingerprints_of given) t host c e)
+pub not_valid : (accepts : Question → Bool) (given : List code.Fingerprint) (t : ℕ) (host : List ℕ) (c : Certificate) → IsPlainForHosts c → (r : Result (Unit {0}) Error) → JudgesCertificateFor accepts given t host c r → IfErr r (λ e. e ≢ Memory → IsBadFor accepts (fingerprints_of given) t host c e)
 not_valid accepts given t host c plain (Ok u) valid = tt
 not_valid accepts given t host c plain (Err e) judged = λ other. NotValid plain e (judged other).1
 
