@@ -5,9 +5,8 @@ use Rattle.std.specs.Prelude.{◌==◌, if◌then◌else◌, map}
 use Rattle.std.specs.Int.{w8, w32}
 use Rattle.std.specs.List.{AllByRecursion}
 use Rattle.ssh_key.specs.base.Formats.{Format, number32_format, string_format, text_format}
-use Rattle.ssh_key.specs.model.Grammar.{AllEnd}
-use Rattle.ssh_key.specs.base.Leaves.{SpellsString, number32_normal, string_normal}
-use Rattle.ssh_key.specs.base.Texts.{text_normal}
+use Rattle.ssh_key.specs.model.Grammar.{AllEnd, normal_is_spelling}
+use Rattle.ssh_key.specs.base.Leaves.{SpellsString}
 use Rattle.ssh_key.specs.counted.Counted.{each_normal}
 use Rattle.ssh_key.specs.counted.ToEnd.{HasBytes, values_to_end}
 use Rattle.ssh_key.specs.format.Terms.{◌then◌, IsChosen, called, called_chosen, called_ends, tested}
@@ -89,9 +88,9 @@ abbrev SpellsBody : ConstraintKind → Constraint → List ℕ → Type 0
 SpellsBody k = (body_format k).Spells
 
 pub constraint_normal : (c : code.Constraint) → IsWellFormedConstraint c → Fits (constraint c) → constraint_format.Spells (constraint_of c) (flat (constraint c))
-constraint_normal (variants.Lifetime seconds) is fits = after_number kind_from SpellsBody 1 kinds.Lifetime (Lifetime seconds) (number w32 seconds) refl (λ f. record { inner = seconds; spelled = number32_normal seconds tt f; makes = refl }) fits
+constraint_normal (variants.Lifetime seconds) is fits = after_number kind_from SpellsBody 1 kinds.Lifetime (Lifetime seconds) (number w32 seconds) refl (λ f. record { inner = seconds; spelled = normal_is_spelling seconds tt f; makes = refl }) fits
 constraint_normal variants.Confirm is fits = number_alone kind_from SpellsBody 2 kinds.Confirm Confirm refl (refl, refl) fits
-constraint_normal (variants.Extension name details) is fits = after_number kind_from SpellsBody 255 kinds.Extension (Extension name details) (string name & string details) refl (λ f. record { inner = (name, details); spelled = both_spelled text_format (λ b. refl) SpellsString name details (string name) (string details) (text_normal name is) (string_normal details tt) f; makes = refl }) fits
+constraint_normal (variants.Extension name details) is fits = after_number kind_from SpellsBody 255 kinds.Extension (Extension name details) (string name & string details) refl (λ f. record { inner = (name, details); spelled = both_spelled text_format (λ b. refl) SpellsString name details (string name) (string details) (normal_is_spelling name is) (normal_is_spelling details tt) f; makes = refl }) fits
 
 pub constraints_normal : (cs : List code.Constraint) → AllByRecursion IsWellFormedConstraint cs → Fits (each constraint cs) → constraints.Spells (map constraint_of cs) (flat (each constraint cs))
 constraints_normal = each_normal constraint_of constraint IsWellFormedConstraint constraint_format constraint_ends constraint_normal

@@ -5,13 +5,13 @@ use Rattle.std.proofs.lemmas.List.{length-append}
 use Rattle.std.specs.Int.{w8}
 use Rattle.ssh_key.specs.base.Formats.{Format, byte_format}
 use Rattle.ssh_key.proofs.Grammars.{by_itself, ends}
-use Rattle.ssh_key.specs.base.Leaves.{SpellsByte, byte_normal}
+use Rattle.ssh_key.specs.base.Leaves.{SpellsByte}
 use Rattle.ssh_key.specs.base.Needs.{NoNeed}
 use Rattle.ssh_key.specs.base.Stops.{NoOverrun}
 use Rattle.ssh_key.specs.base.Lengths.{no_lengths}
 use Rattle.ssh_key.specs.format.Terms.{boxed, called, tested}
 pub use Rattle.ssh_key.specs.format.Terms.{checked_read}
-use Rattle.ssh_key.specs.model.Grammar.{IsGrammar, AllEnd, SpellsBoth, SpellsBoxed, SpellsTested, SpellsThen}
+use Rattle.ssh_key.specs.model.Grammar.{IsGrammar, AllEnd, SpellsBoth, SpellsBoxed, SpellsTested, SpellsThen, normal_is_spelling}
 use Rattle.ssh_key.specs.model.Parts.{Parts, ◌&◌, box, flat, number, Fits}
 use Rattle.ssh_key.specs.model.Reading.{Fault, Front}
 use Rattle.ssh_key.proofs.CombinedReaders.{fits_first, fits_inside, fits_length, fits_second, ok_is}
@@ -71,7 +71,7 @@ module _ {K M : Type 0} (kind_from : ℕ → Result K Fault) (Body : K → M →
   pub after_number : (n : ℕ) (k : K) (m : M) (p : Parts) → kind_from n ≡ Ok k → (Fits p → Body k m (flat p)) → Fits (number w8 n & p) → SpellsNumbered m (flat (number w8 n & p))
   unfolding flat
   after_number n k m p is second fits =
-      let first : (numbered kind_from).Spells k (flat (number w8 n)) = record { inner = n; spelled = byte_normal n tt (fits_first (number w8 n) p fits); makes = is } in
+      let first : (numbered kind_from).Spells k (flat (number w8 n)) = record { inner = n; spelled = normal_is_spelling n tt (fits_first (number w8 n) p fits); makes = is } in
       record {
         inner = (k, m);
         spelled = record {
@@ -92,7 +92,7 @@ module _ {K M : Type 0} (kind_from : ℕ → Result K Fault) (Body : K → M →
     spelled = record {
       front = flat (number w8 n);
       behind = [];
-      first = record { inner = n; spelled = byte_normal n tt fits; makes = is };
+      first = record { inner = n; spelled = normal_is_spelling n tt fits; makes = is };
       second = second;
       all = sym (append-nil (flat (number w8 n)));
       may_follow = inl refl;

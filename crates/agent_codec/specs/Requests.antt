@@ -6,9 +6,8 @@ use Rattle.std.specs.Int.{w8}
 use Rattle.std.specs.List.{AllByRecursion}
 use Rattle.ssh_key.specs.base.Formats.{Format, string_format}
 use Rattle.ssh_key.proofs.Grammars.{all_end}
-use Rattle.ssh_key.specs.base.Leaves.{string_normal}
 use Rattle.ssh_key.specs.format.Terms.{◌then◌, IsMapped, tested}
-use Rattle.ssh_key.specs.model.Grammar.{IsGrammar}
+use Rattle.ssh_key.specs.model.Grammar.{IsGrammar, normal_is_spelling}
 use Rattle.ssh_key.specs.model.Parts.{Parts, box, each, flat, Fits, number, ◌&◌}
 use Rattle.ssh_key.specs.model.Reading.{Fault, FormatEncoding, both_at}
 use Rattle.ssh_key.specs.model.Texts.{string}
@@ -123,7 +122,7 @@ IsWellFormed (variants.Unlock passphrase) = Unit {0}
 IsWellFormed (variants.AddIdentityConstrained a cs) = IsWellFormedAddition a × AllByRecursion IsWellFormedConstraint cs.items
 
 string_spelled : (make : List ℕ → Request) (bytes : List ℕ) → Fits (string bytes) → (string_body make).Spells (make bytes) (flat (string bytes))
-string_spelled make bytes fits = record { inner = bytes; spelled = string_normal bytes tt fits; makes = refl }
+string_spelled make bytes fits = record { inner = bytes; spelled = normal_is_spelling bytes tt fits; makes = refl }
 
 abbrev SpellsBody : RequestKind → Request → List ℕ → Type 0
 SpellsBody k = (body k).Spells

@@ -9,9 +9,9 @@ use Rattle.ssh_key.specs.base.Formats.{Format}
 use Rattle.ssh_key.specs.counted.Counted.{counted, counted_format, counted_normal}
 use Rattle.ssh_key.specs.format.Terms.{boxed, tested}
 use Rattle.ssh_key.specs.keys.KeyFormats.{signature_format}
-use Rattle.ssh_key.specs.keys.SignatureReaders.{SpellsSignature, signature_normal}
+use Rattle.ssh_key.specs.keys.SignatureReaders.{SpellsSignature}
 use Rattle.ssh_key.specs.keys.Signatures.{signature_of}
-use Rattle.ssh_key.specs.model.Grammar.{IsGrammar}
+use Rattle.ssh_key.specs.model.Grammar.{IsGrammar, normal_is_spelling}
 use Rattle.ssh_key.specs.model.Parts.{Parts, box, bytes, flat, Fits, number, ◌&◌}
 use Rattle.ssh_key.specs.model.Reading.{Fault, FormatEncoding}
 use Rattle.ssh_key.specs.model.Signatures.{Signature, IsSignature, signature}
@@ -120,7 +120,7 @@ message_normal : (r : code.Response) → IsWellFormed r → Fits (response r) �
 message_normal variants.Failure is fits = number_alone kind_from SpellsBody 5 kinds.Failure Failure refl (refl, refl) fits
 message_normal variants.Success is fits = number_alone kind_from SpellsBody 6 kinds.Success Success refl (refl, refl) fits
 message_normal (variants.IdentitiesAnswer keys) is fits = after_number kind_from SpellsBody 12 kinds.IdentitiesAnswer (Identities (map identity_of keys.items)) (answer keys.items) refl (λ f. record { inner = map identity_of keys.items; spelled = answer_normal keys.items f; makes = refl }) fits
-message_normal (variants.SignResponse g) is fits = after_number kind_from SpellsBody 14 kinds.SignResponse (Signed (signature_of g)) (signed g) refl (λ f. record { inner = signature_of g; spelled = frame_spelled SpellsSignature (signature_of g) (signature (signature_of g)) (signature_normal (signature_of g) is) f; makes = refl }) fits
+message_normal (variants.SignResponse g) is fits = after_number kind_from SpellsBody 14 kinds.SignResponse (Signed (signature_of g)) (signed g) refl (λ f. record { inner = signature_of g; spelled = frame_spelled SpellsSignature (signature_of g) (signature (signature_of g)) (normal_is_spelling (signature_of g) is) f; makes = refl }) fits
 
 pub response_normal : (r : code.Response) → IsWellFormed r → Fits (box (response r)) → response_format.Spells (response_of r) (flat (box (response r)))
 response_normal r is fits = frame_spelled (message kind_from body).Spells (response_of r) (response r) (message_normal r is) fits

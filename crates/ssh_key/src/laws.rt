@@ -189,7 +189,7 @@ pub use sshkey_sshsig::laws::spelled_ssh_signature;
 /// Of every kind of value: two have equal normal forms exactly if they agree in every field, of
 /// private keys also in checkint and tag, and what reads a normal form gives the value that it is
 /// of, so that normalising twice is normalising once.
-#[tactic(auto, using(sshkey_model::proofs::Lawful::laws, sshkey_ciphers::specs::KdfFormats::laws, sshkey_private::specs::PrivateKeyTrees::laws))]
+#[tactic(auto, using(sshkey_model::proofs::Lawful::laws, sshkey_ciphers::proofs::Lawful::laws, sshkey_private::proofs::Lawful::laws))]
 pub fn normal_forms()
     ensures mpints { AreNormalForms IsMpint string mpint_at }
     ensures texts { AreNormalForms IsText string text_at }

@@ -4,7 +4,8 @@ use Rattle.std.proofs.lemmas.Bool.{cases_lt, lt-ltb, le-ltb}
 use Rattle.std.proofs.lemmas.List.{length-replicate}
 use Rattle.std.specs.Int.{w32}
 use Rattle.sshkey_model.specs.Parts.{Any, number, flat, Fits, BoxesFit}
-use Rattle.sshkey_base.specs.Leaves.{SpellsNumber32, number32_normal, count}
+use Rattle.sshkey_model.specs.Grammar.{normal_is_spelling}
+use Rattle.sshkey_base.specs.Leaves.{SpellsNumber32, count}
 
 pub count_is : (n : ℕ) → n < 2 ^ 32 → count n ≡ number w32 n
 unfolding count
@@ -19,6 +20,6 @@ count_misfit n ge fits =
 pub count_normal : (n : ℕ) → Any n → Fits (count n) → SpellsNumber32 n (flat (count n))
 count_normal n is fits =
     elim (cases_lt n (2 ^ 32)) [
-      | inl lt ↦ rw (count_is n lt) (number32_normal n is (rw (count_is n lt) at fits))
+      | inl lt ↦ rw (count_is n lt) (normal_is_spelling n is (rw (count_is n lt) at fits))
       | inr ge ↦ absurd (count_misfit n ge fits.boxes)
     ]

@@ -1,8 +1,8 @@
 -- A name that is read and written as a string (RFC 4251, section 6).
-use Rattle.std.specs.Prelude.{◌≡◌, ◌≢◌, ℕ, List, Result, Ok, Err, refl}
+use Rattle.std.specs.Prelude.{◌≡◌, ◌≢◌, ℕ, List, Result, Ok, Err}
 use Rattle.std.specs.Int.{w32}
 use Rattle.sshkey_model.specs.Reading.{Whole, Label, Front, number_at, string_at, checked_at}
-use Rattle.sshkey_model.specs.Parts.{Any, bytes, flat, Fits}
+use Rattle.sshkey_model.specs.Parts.{Any, bytes}
 use Rattle.sshkey_model.specs.Texts.{string}
 use Rattle.sshkey_model.specs.Grammar.{IsGrammar, Spells, Checks}
 use Rattle.sshkey_model.proofs.CombinedReaders.{checked_string_reads}
@@ -38,6 +38,3 @@ label_at named = checked_at named string_at
 pub label_grammar : {N : Type 0} {Is : N → Type 0} {name : N → List ℕ} {named : Whole N} → Checks Any bytes Is (λ n. bytes (name n)) named → IsGrammar (Spells Is (λ n. string (name n))) (label_at named)
 unfolding label_at
 label_grammar checks = grammar (checked_string_reads checks)
-
-pub label_normal : {N : Type 0} (Is : N → Type 0) (name : N → List ℕ) (n : N) → Is n → Fits (string (name n)) → Spells Is (λ n. string (name n)) n (flat (string (name n)))
-label_normal Is name n is fits = record { is = is; fits = fits; shape = refl }

@@ -1,7 +1,7 @@
 -- The readers of the leaves take exactly their spellings.
-use Rattle.std.specs.Prelude.{◌≡◌, ℕ, ◌^◌, List, length, replicate, nat_lt, if◌then◌else◌, refl}
+use Rattle.std.specs.Prelude.{◌≡◌, ℕ, ◌^◌, List, length, replicate, nat_lt, if◌then◌else◌}
 use Rattle.std.specs.Int.{w8, w32, w64}
-use Rattle.sshkey_model.specs.Parts.{Parts, Any, bytes, number, box, flat, Fits, HasLength}
+use Rattle.sshkey_model.specs.Parts.{Parts, Any, bytes, number, box, HasLength}
 use Rattle.sshkey_model.specs.Texts.{string}
 use Rattle.sshkey_model.specs.Mpints.{IsMpint, mpint_at}
 use Rattle.sshkey_model.proofs.MpintReaders.{mpint_reads}
@@ -54,20 +54,3 @@ array_grammar n = grammar (box_reads (whole_reads (bytes_reads n)))
 
 pub mpint_grammar : IsGrammar SpellsMpint mpint_at
 mpint_grammar = grammar mpint_reads
-
--- ---- what is written is a spelling
-
-pub byte_normal : (n : ℕ) → Any n → Fits (number w8 n) → SpellsByte n (flat (number w8 n))
-byte_normal n is fits = record { is = is; fits = fits; shape = refl }
-
-pub number32_normal : (n : ℕ) → Any n → Fits (number w32 n) → SpellsNumber32 n (flat (number w32 n))
-number32_normal n is fits = record { is = is; fits = fits; shape = refl }
-
-pub number64_normal : (n : ℕ) → Any n → Fits (number w64 n) → SpellsNumber64 n (flat (number w64 n))
-number64_normal n is fits = record { is = is; fits = fits; shape = refl }
-
-pub string_normal : (b : List ℕ) → Any b → Fits (string b) → SpellsString b (flat (string b))
-string_normal b is fits = record { is = is; fits = fits; shape = refl }
-
-pub array_normal : (n : ℕ) (b : List ℕ) → length b ≡ n → Fits (string b) → SpellsArray n b (flat (string b))
-array_normal n b is fits = record { is = is; fits = fits; shape = refl }

@@ -1,11 +1,9 @@
 //! Values that are read back from what is written of them.
 
 ghost use Rattle.std.specs.Prelude.{◌≡◌, length};
+ghost use Rattle.sshkey_model.specs.Grammar.{normal_is_spelling};
 ghost use Rattle.sshkey_model.specs.Parts.{Fits, flat};
 ghost use Rattle.sshkey_model.specs.Texts.{IsText};
-ghost use Rattle.sshkey_base.specs.Leaves.{byte_normal, number32_normal, number64_normal, string_normal, array_normal};
-ghost use Rattle.sshkey_base.specs.Labels.{label_normal};
-ghost use Rattle.sshkey_base.specs.Texts.{text_normal};
 
 use crate::bytes::Bytes;
 use crate::decode::Decode;
@@ -25,47 +23,47 @@ pub trait NormalForm: Decode + Encode {
 impl NormalForm for u8 {
     ghost IsWellFormed = { λ _. Unit {0} };
 
-    ghost normal_spells = { byte_normal };
+    ghost normal_spells = { normal_is_spelling };
 }
 
 impl NormalForm for u32 {
     ghost IsWellFormed = { λ _. Unit {0} };
 
-    ghost normal_spells = { number32_normal };
+    ghost normal_spells = { normal_is_spelling };
 }
 
 impl NormalForm for u64 {
     ghost IsWellFormed = { λ _. Unit {0} };
 
-    ghost normal_spells = { number64_normal };
+    ghost normal_spells = { normal_is_spelling };
 }
 
 impl NormalForm for Bytes {
     ghost IsWellFormed = { λ _. Unit {0} };
 
-    ghost normal_spells = { string_normal };
+    ghost normal_spells = { normal_is_spelling };
 }
 
 impl NormalForm for Text {
     ghost IsWellFormed = { IsText };
 
-    ghost normal_spells = { text_normal };
+    ghost normal_spells = { normal_is_spelling };
 }
 
 impl NormalForm for Vec<u8> {
     ghost IsWellFormed = { λ _. Unit {0} };
 
-    ghost normal_spells = { λ v. string_normal v.items };
+    ghost normal_spells = { λ v. normal_is_spelling v.items };
 }
 
 impl<const N: usize> NormalForm for [u8; N] {
     ghost IsWellFormed = { λ b. length b ≡ N };
 
-    ghost normal_spells = { array_normal N };
+    ghost normal_spells = { normal_is_spelling };
 }
 
 impl<T: Label> NormalForm for T {
     ghost IsWellFormed = { λ x. T.IsNamed (T.stands_for x) };
 
-    ghost normal_spells = { λ x. label_normal T.IsNamed T.name (T.stands_for x) };
+    ghost normal_spells = { λ x. normal_is_spelling (T.stands_for x) };
 }

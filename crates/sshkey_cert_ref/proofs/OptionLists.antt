@@ -9,7 +9,6 @@ use Rattle.sshkey_base.specs.Causes.{Cause}
 use Rattle.sshkey_base.specs.Reading.{NoSpelling}
 use Rattle.sshkey_base.specs.Lengths.{with_rest}
 use Rattle.sshkey_base.proofs.MappedBoxes.{on_value, made}
-use Rattle.sshkey_cert_values.specs.OptionLists.{two_lists}
 use Rattle.sshkey_cert_ref.specs.declared.options_ref.OptionsRef.{OptionsRef}
 use Rattle.sshkey_cert_ref.specs.OptionLists.{SpellsEachOption, options_in, nestings_in, are_plain, plainness_from}
 use Rattle.sshkey_cert_ref.specs.Views.{bytes_of_options, spelled_options_of}
@@ -19,6 +18,9 @@ use Rattle.sshkey_cert_ref.proofs.BoxedBytes.{bytes_box, box_bytes}
 
 abbrev Pair : Type 0
 Pair = CertificateOption × Nesting
+
+abbrev two_lists : List Pair → List CertificateOption × List Nesting
+two_lists xs = (firsts xs, seconds xs)
 
 -- the options and their choices
 abbrev pub spelled_from : Whole (List CertificateOption × List Nesting)

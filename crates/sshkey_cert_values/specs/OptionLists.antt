@@ -4,7 +4,7 @@ use Rattle.std.proofs.Common.{◌≡◌, ℕ, zero, suc, Bool, true, false, Opti
 use Rattle.std.specs.Prelude.{IsOkAnd}
 use Rattle.sshkey_model.specs.Reading.{Fault, Length, FormatEncoding, ◌>>=◌, whole, number_at, bytes_at, box_at, list_within, list_whole}
 use Rattle.sshkey_model.specs.Texts.{text_at}
-use Rattle.sshkey_model.specs.Options.{CertificateOption, Nesting, nesting_of, option_value_from, option_before, option_at, firsts, seconds, options_at}
+use Rattle.sshkey_model.specs.Options.{CertificateOption, Nesting, nesting_of, option_value_from, option_before, option_at, firsts, options_at}
 use Rattle.sshkey_model.proofs.CombinedReaders.{bind_assoc}
 use Rattle.sshkey_base.specs.Formats.{Format}
 use Rattle.sshkey_model.proofs.Grammars.{by_itself}
@@ -56,9 +56,6 @@ list_is zero before (c ∷ b) = refl
 list_is (suc n) before (c ∷ b) =
     let behind : (x : Pair) (b : List ℕ) → list_within item n (Some x.0) b ≡ (list_within option_at n (Some x) b >>= made firsts) = λ x b. list_is n (Some x) b in
     simp (item_is, behind, bind_assoc)
-
-abbrev pub two_lists : List Pair → List CertificateOption × List Nesting
-two_lists xs = (firsts xs, seconds xs)
 
 pub options_is : (b : List ℕ) → box_at option_list_at b ≡ options_value_at b
 unfolding options_value_at options_at

@@ -1,2 +1,3 @@
 pub mod Paddings
 pub mod Tags
+pub mod Lawful

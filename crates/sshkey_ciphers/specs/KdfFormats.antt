@@ -14,7 +14,7 @@ use Rattle.sshkey_base.specs.Formats.{Format, number32_format, string_format, la
 use Rattle.sshkey_model.proofs.Grammars.{all_end, ends}
 use Rattle.sshkey_base.specs.Needs.{NoNeed}
 use Rattle.sshkey_terms.specs.Terms.{◌then◌, boxed, called, called_chosen, called_ends, tested, IsChosen, IsMapped, read_as}
-use Rattle.sshkey_model.proofs.Trees.{IsTree, Alike, alike, leaf_tree, choice_tree, then_tree, box_tree, tested_tree, made_tree, plain_prefix, determined, read_back}
+use Rattle.sshkey_model.proofs.Trees.{IsTree, Alike, alike, leaf_tree, dependent_tree, then_tree, box_tree, tested_tree, made_tree, plain_prefix, determined, read_back}
 use Rattle.sshkey_ciphers.specs.Ciphers.{cipher_checks, kdf_algorithm_checks}
 
 abbrev pub cipher_format : Format Cipher
@@ -124,7 +124,7 @@ options_tree BcryptDerivation = bcrypt_tree
 
 pub kdf_tree : IsTree SpellsKdf (λ (x : Kdf × Unit {0}). Any x.0) (λ x. kdf x.0)
 kdf_tree = made_tree
-    (choice_tree {First = algorithm_format.Spells} {delimited_at = algorithm_format.grammar.delimited_at} (ends algorithm_format.grammar (λ _. refl)) leaf_tree options_tree)
+    (dependent_tree {First = algorithm_format.Spells} {delimited_at = algorithm_format.grammar.delimited_at} (ends algorithm_format.grammar (λ _. refl)) leaf_tree options_tree)
     (λ x. x.1)
     (λ x is. (tt, tt, alike _ _ (ap (λ (a : KdfAlgorithm). kdf_algorithm a & kdf_options x.0.1) (sym is.1))))
     (λ y is. (((derivation y.0, y.0), (tt, tt)), (tt, refl), refl, alike _ _ refl))
@@ -132,22 +132,3 @@ kdf_tree = made_tree
 -- what is written is a spelling
 pub kdf_normal : (k : Kdf) → Any k → Fits (kdf k) → SpellsKdf k (flat (kdf k))
 kdf_normal k is fits = kdf_tree.again (k, tt) is fits
-
--- ---- what the laws name
-
-pub exact_ciphers : IsGrammar (Spells Any cipher) cipher_at
-exact_ciphers = all_end cipher_format.grammar (λ b. refl)
-
-pub exact_algorithms : IsGrammar (Spells Any kdf_algorithm) kdf_algorithm_at
-exact_algorithms = all_end algorithm_format.grammar (λ b. refl)
-
-pub prefix_ciphers : IsPrefixFree Any cipher
-prefix_ciphers = prefix_free (checked_string_reads cipher_checks)
-
-pub prefix_algorithms : IsPrefixFree Any kdf_algorithm
-prefix_algorithms = prefix_free (checked_string_reads kdf_algorithm_checks)
-
-pub prefix_kdfs : IsPrefixFree Any kdf
-prefix_kdfs = plain_prefix Any kdf kdf_tree kdf_grammar
-
-pub ruleset laws = (exact_ciphers, exact_algorithms, prefix_ciphers, prefix_algorithms, prefix_kdfs, determined, read_back, kdf_grammar, kdf_normal)

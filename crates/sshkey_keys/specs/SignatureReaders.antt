@@ -1,6 +1,5 @@
 -- The plain reader of signatures takes exactly the spellings.
-use Rattle.std.proofs.Common.{ℕ, List, refl}
-use Rattle.sshkey_model.specs.Parts.{flat, Fits}
+use Rattle.std.proofs.Common.{ℕ, List}
 use Rattle.sshkey_model.specs.Grammar.{IsGrammar, Spells}
 use Rattle.sshkey_model.specs.Signatures.{Signature, IsSignature, signature, signature_at}
 use Rattle.sshkey_model.proofs.Grammars.{grammar}
@@ -12,7 +11,3 @@ SpellsSignature = Spells IsSignature signature
 
 pub signature_grammar : IsGrammar SpellsSignature signature_at
 signature_grammar = grammar signature_reads
-
--- what is written of a signature is its spelling
-pub signature_normal : (g : Signature) → IsSignature g → Fits (signature g) → SpellsSignature g (flat (signature g))
-signature_normal g is fits = record { is = is; fits = fits; shape = refl }

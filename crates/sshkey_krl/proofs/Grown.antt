@@ -6,9 +6,9 @@ use Rattle.sshkey_base.proofs.Accepted.{spelled_whole}
 use Rattle.std.proofs.Math.Seq.{take-append_seam}
 use Rattle.sshkey_base.proofs.Writing.{length_both}
 use Rattle.sshkey_base.specs.Formats.{Format, array_format, byte_format, number32_format, number64_format, string_format}
-use Rattle.sshkey_model.specs.Grammar.{AllEnd}
+use Rattle.sshkey_model.specs.Grammar.{AllEnd, normal_is_spelling}
 use Rattle.sshkey_model.proofs.Grammars.{ends}
-use Rattle.sshkey_base.specs.Leaves.{SpellsString, array_normal, byte_normal, number32_normal, number64_normal, string_normal}
+use Rattle.sshkey_base.specs.Leaves.{SpellsString}
 use Rattle.sshkey_base.specs.Sink.{NotWritten, Sink, Written, after}
 use Rattle.sshkey_base.specs.declared.encoding.Error as narrow
 use Rattle.sshkey_base.specs.declared.encoding.Error.TheVariants as encoding
@@ -92,7 +92,7 @@ module _ {K A : Type 0} (kinds : ℕ → Result K Fault) (within : K → Format 
   framed_spelled : (n : ℕ) (k : K) (x : A) (p : Parts) → kinds n ≡ Ok k → Fits (framed n p) → (within k).Spells x (flat p) → (numbered kinds within).Spells x (flat (framed n p))
   unfolding flat
   framed_spelled n k x p is fits s =
-      let first : (tested kinds byte_format).Spells k (flat (number w8 n)) = record { inner = n; spelled = byte_normal n tt (fits_first (number w8 n) (box p) fits); makes = is } in
+      let first : (tested kinds byte_format).Spells k (flat (number w8 n)) = record { inner = n; spelled = normal_is_spelling n tt (fits_first (number w8 n) (box p) fits); makes = is } in
       record {
         inner = (k, x);
         spelled = record {
@@ -135,7 +135,7 @@ key_spelled p fits = framed_spelled kind_from body 2 sections.Keys (Keys (flat p
 -- ---- a section of a digest
 
 digests_spelled : (n k : ℕ) (d : List ℕ) → length d ≡ k → Fits (framed n (string d)) → SpellsEach (array_format k).Spells (array_format k).grammar.delimited_at (d ∷ []) (flat (string d))
-digests_spelled n k d is fits = one (array_format k) (λ b. refl) d (flat (string d)) (array_normal k d is (framed_inside n (string d) fits))
+digests_spelled n k d is fits = one (array_format k) (λ b. refl) d (flat (string d)) (normal_is_spelling d is (framed_inside n (string d) fits))
 
 pub sha1_spelled : (d : List ℕ) → length d ≡ 20 → Fits (sha1_section d) → section_format.Spells (Sha1s (d ∷ [])) (flat (sha1_section d))
 sha1_spelled d is fits = framed_spelled kind_from body 3 sections.Sha1 (Sha1s (d ∷ [])) (string d) refl fits (record { inner = d ∷ []; spelled = digests_spelled 3 20 d is fits; makes = refl })
@@ -159,7 +159,7 @@ abbrev authority_format : Format Authority
 authority_format = tested authority_from string_format
 
 authority_spelled : (a : Authority) → IsWellFormedAuthority a → Fits (authority_string a) → authority_format.Spells a (flat (authority_string a))
-authority_spelled Everybody is fits = record { inner = []; spelled = string_normal [] tt fits; makes = refl }
+authority_spelled Everybody is fits = record { inner = []; spelled = normal_is_spelling [] tt fits; makes = refl }
 authority_spelled (Signer k) is fits = record { inner = flat (normal_key k); spelled = string_spelled (normal_key k) fits; makes = signer_from k is (fits_inside (normal_key k) fits) }
 
 part_ends : AllEnd part_format.grammar
@@ -171,7 +171,7 @@ certificates_spelled a x q is part fits =
     let both = framed_inside 1 (authority_string a & string [] & q) fits in
     let later = fits_second (authority_string a) (string [] & q) both in
     let first = authority_spelled a is (fits_first (authority_string a) (string [] & q) both) in
-    let second = string_normal [] tt (fits_first (string []) q later) in
+    let second = normal_is_spelling [] tt (fits_first (string []) q later) in
     framed_spelled kind_from body 1 sections.Certificates (Certificates a (x ∷ [])) (authority_string a & string [] & q) refl fits (record {
       inner = (a, ([], x ∷ []));
       spelled = spells_then authority_format (string_format then values_to_end part_format part_shows) (λ b. refl) a ([], x ∷ []) (flat (authority_string a)) (flat (string [] & q)) first (spells_then string_format (values_to_end part_format part_shows) string_ends [] (x ∷ []) (flat (string [])) (flat q) second (one part_format part_ends x (flat q) (part (fits_second (string []) q later))));
@@ -186,7 +186,7 @@ not_first false true e = absurd (cc e)
 not_first true q e = absurd (cc e)
 
 serial_spelled : (n : ℕ) → (n == 0) ≡ false → Fits (number w64 n) → serial_format.Spells n (flat (number w64 n))
-serial_spelled n some fits = record { inner = n; spelled = number64_normal n tt fits; makes = rw some refl }
+serial_spelled n some fits = record { inner = n; spelled = normal_is_spelling n tt fits; makes = rw some refl }
 
 each_spelled : (ns : List ℕ) → has_zero ns ≡ false → Fits (each (number w64) ns) → SpellsEach serial_format.Spells serial_format.grammar.delimited_at ns (flat (each (number w64) ns))
 unfolding flat
@@ -203,10 +203,10 @@ pub range_spelled : (lo hi : ℕ) → range_from (lo, hi) ≡ Ok (Range lo hi) �
 unfolding flat
 range_spelled lo hi is fits =
     let both = framed_inside 0x21 (number w64 lo & number w64 hi) fits in
-    let first = number64_normal lo tt (fits_first (number w64 lo) (number w64 hi) both) in
+    let first = normal_is_spelling lo tt (fits_first (number w64 lo) (number w64 hi) both) in
     framed_spelled parts.kind_from parts.body 0x21 kinds.Range (Numbers (Range lo hi)) (number w64 lo & number w64 hi) refl fits (record {
       inner = (lo, hi);
-      spelled = spells_then number64_format number64_format (λ b. refl) lo hi (flat (number w64 lo)) (flat (number w64 hi)) first (number64_normal hi tt (fits_second (number w64 lo) (number w64 hi) both));
+      spelled = spells_then number64_format number64_format (λ b. refl) lo hi (flat (number w64 lo)) (flat (number w64 hi)) first (normal_is_spelling hi tt (fits_second (number w64 lo) (number w64 hi) both));
       makes = rw is refl;
     })
 
@@ -226,7 +226,7 @@ text_is b some = rw (same_text b some, some) refl
 pub key_id_spelled : (b : List ℕ) → has_zero b ≡ false → Fits (key_id_part b) → part_format.Spells (KeyIds (b ∷ [])) (flat (key_id_part b))
 key_id_spelled b some fits = framed_spelled parts.kind_from parts.body 0x23 kinds.KeyIds (KeyIds (b ∷ [])) (string b) refl fits (record {
   inner = b ∷ [];
-  spelled = one key_id_format (λ b. refl) b (flat (string b)) (record { inner = b; spelled = string_normal b tt (framed_inside 0x23 (string b) fits); makes = text_is b some });
+  spelled = one key_id_format (λ b. refl) b (flat (string b)) (record { inner = b; spelled = normal_is_spelling b tt (framed_inside 0x23 (string b) fits); makes = text_is b some });
   makes = refl;
 })
 
@@ -247,12 +247,12 @@ begun_spelled n date comment some fits =
     let rest = fits_second numbers (number w64 0 & texts) later in
     let c = fits_second (number w64 0) texts rest in
     let literal : (literal_format magic).Spells magic (flat (number w64 0x5353484b524c0a00)) = record { is = refl; fits = fits_bytes magic refl; shape = refl } in
-    let version : (tested version_from number32_format).Spells 1 (flat (number w32 1)) = record { inner = 1; spelled = number32_normal 1 tt (fits_second (number w64 0x5353484b524c0a00) (number w32 1) a); makes = refl } in
-    let first = number64_normal n tt (fits_first (number w64 n) (number w64 date) b) in
-    let second = number64_normal date tt (fits_second (number w64 n) (number w64 date) b) in
-    let third = number64_normal 0 tt (fits_first (number w64 0) texts rest) in
-    let reserved = string_normal [] tt (fits_first (string []) (string comment) c) in
-    let text : (tested text_from string_format).Spells comment (flat (string comment)) = record { inner = comment; spelled = string_normal comment tt (fits_second (string []) (string comment) c); makes = text_is comment some } in
+    let version : (tested version_from number32_format).Spells 1 (flat (number w32 1)) = record { inner = 1; spelled = normal_is_spelling 1 tt (fits_second (number w64 0x5353484b524c0a00) (number w32 1) a); makes = refl } in
+    let first = normal_is_spelling n tt (fits_first (number w64 n) (number w64 date) b) in
+    let second = normal_is_spelling date tt (fits_second (number w64 n) (number w64 date) b) in
+    let third = normal_is_spelling 0 tt (fits_first (number w64 0) texts rest) in
+    let reserved = normal_is_spelling [] tt (fits_first (string []) (string comment) c) in
+    let text : (tested text_from string_format).Spells comment (flat (string comment)) = record { inner = comment; spelled = normal_is_spelling comment tt (fits_second (string []) (string comment) c); makes = text_is comment some } in
     let opened = spells_then (literal_format magic) (tested version_from number32_format) (λ b. refl) magic 1 (flat (number w64 0x5353484b524c0a00)) (flat (number w32 1)) literal version in
     let counted = spells_then number64_format (number64_format then number64_format) (λ b. refl) n (date, 0) (flat (number w64 n)) (flat (number w64 date & number w64 0)) first (spells_then number64_format number64_format (λ b. refl) date 0 (flat (number w64 date)) (flat (number w64 0)) second third) in
     let told = spells_then string_format (tested text_from string_format) (λ b. refl) [] comment (flat (string [])) (flat (string comment)) reserved text in

@@ -63,5 +63,5 @@ normal_keypairs = determined_plain keypair keypair_reads (λ _. plain_pair) (λ 
 -- how each kind is read
 pub ruleset readers = (text_reads, texts_reads, curve_reads, hash_reads, algorithm_reads, certificate_algorithm_reads, mpint_reads, point_reads, body_reads, any_ecdsa_reads, key_reads, signature_reads, options_reads, type_reads, time_reads, end_reads, signed_fields_reads, certificate_reads, scalar_reads, rsa_private_reads, any_ecdsa_pair_reads, pair_reads, keypair_reads)
 
--- what follows of it
+-- what follows from that
 pub ruleset laws = (readers, grammar, prefix_free, prefix_points, prefix_bodies, prefix_scalars, determined, normal_points, normal_bodies, normal_keys, normal_option_lists, normal_certificates, normal_keypairs, read_back, read_back_plain, plain_options_have, plain_choices_have, plain_keypair_has, key_fits, options_fit, certificate_fits, signed_fields_fit, ssh_signature_fits, determine_fields, determine_signed_data, inserted, signed_through, are_apart, key_blobs, certificate_blobs, key_normally, certificate_normally, one_value, lines_read_back, lines_apart)

@@ -5,7 +5,7 @@ use Rattle.std.specs.Prelude.{◌↔◌}
 use Rattle.std.specs.Int.{w32, to_be_bytes}
 use Rattle.sshkey_model.specs.Parts.{Parts, box, ◌&◌, flat, Fits, InRange, BoxesFit, IsPrefixFree}
 use Rattle.sshkey_model.specs.Reading.{Fault, Front}
-use Rattle.sshkey_model.specs.Grammar.{IsGrammar, Spells, SpellsWith, IsSpelled, spelled, MayFollow, SpellsBoth, SpellsThen, SpellsTested, SpellsBoxed}
+use Rattle.sshkey_model.specs.Grammar.{IsGrammar, Spells, normal_is_spelling, SpellsWith, IsSpelled, spelled, MayFollow, SpellsBoth, SpellsThen, SpellsTested, SpellsBoxed}
 use Rattle.sshkey_model.specs.Laws.{DetermineValues, ReadBack}
 use Rattle.sshkey_model.proofs.LawfulReaders.{ReadsFront, ok_is, met, fits_both, fits_first, fits_second, fits_box, fits_inside, fits_length}
 use Rattle.sshkey_model.proofs.Grammars.{one_front}
@@ -44,7 +44,7 @@ regrouped p q r s = record {
 -- ---- of leaves
 
 pub leaf_tree : {A : Type 0} {Is : A → Type 0} {spell : A → Parts} → IsTree {A = A} {S = Unit {0}} (Spells Is spell) (λ x. Is x.0) (λ x. spell x.0)
-leaf_tree = record { takes = λ a b s. (tt, s.is, s.fits, s.shape); again = λ x is fits. record { is = is; fits = fits; shape = refl } }
+leaf_tree = record { takes = λ a b s. (tt, s.is, s.fits, s.shape); again = λ x. normal_is_spelling x.0 }
 
 pub open_tree : {A S : Type 0} {Is : A → Type 0} {HasPlace : A → S → Type 0} {spell : A → S → Parts} → IsTree (SpellsWith Is HasPlace spell) (IsSpelled Is HasPlace) (spelled spell)
 open_tree = record {
@@ -56,9 +56,9 @@ open_tree = record {
 
 -- the first always ends by itself
 module _ {A B S T : Type 0} {First : A → List ℕ → Type 0} {delimited_at : Front A} {Second : A → B → List ℕ → Type 0} {Is : A × S → Type 0} {IsNext : A → B × T → Type 0} {tree : A × S → Parts} {next : A → B × T → Parts} (ends : (a : A) (front rest : List ℕ) → First a front → MayFollow delimited_at a front rest) (first : IsTree First Is tree) (second : (a : A) → IsTree (Second a) (IsNext a) (next a)) where
-  pub choice_tree : IsTree (SpellsThen First delimited_at Second) (λ (x : (A × B) × (S × T)). Is (x.0.0, x.1.0) × IsNext x.0.0 (x.0.1, x.1.1)) (λ (x : (A × B) × (S × T)). tree (x.0.0, x.1.0) & next x.0.0 (x.0.1, x.1.1))
+  pub dependent_tree : IsTree (SpellsThen First delimited_at Second) (λ (x : (A × B) × (S × T)). Is (x.0.0, x.1.0) × IsNext x.0.0 (x.0.1, x.1.1)) (λ (x : (A × B) × (S × T)). tree (x.0.0, x.1.0) & next x.0.0 (x.0.1, x.1.1))
   unfolding flat
-  choice_tree = record {
+  dependent_tree = record {
     takes = λ p b s.
         let x = first.takes p.0 s.front s.first in
         let y = (second p.0).takes p.1 s.behind s.second in
@@ -71,7 +71,7 @@ module _ {A B S T : Type 0} {First : A → List ℕ → Type 0} {delimited_at : 
 
 module _ {A B S T : Type 0} {First : A → List ℕ → Type 0} {delimited_at : Front A} {Second : B → List ℕ → Type 0} {Is : A × S → Type 0} {IsNext : B × T → Type 0} {tree : A × S → Parts} {next : B × T → Parts} (ends : (a : A) (front rest : List ℕ) → First a front → MayFollow delimited_at a front rest) (first : IsTree First Is tree) (second : IsTree Second IsNext next) where
   pub then_tree : IsTree (SpellsBoth First delimited_at Second) (λ (x : (A × B) × (S × T)). Is (x.0.0, x.1.0) × IsNext (x.0.1, x.1.1)) (λ (x : (A × B) × (S × T)). tree (x.0.0, x.1.0) & next (x.0.1, x.1.1))
-  then_tree = choice_tree ends first (λ _. second)
+  then_tree = dependent_tree ends first (λ _. second)
 
 module _ {A S : Type 0} {Spelling : A → List ℕ → Type 0} {Is : A × S → Type 0} {tree : A × S → Parts} (t : IsTree Spelling Is tree) where
   pub box_tree : IsTree (SpellsBoxed Spelling) Is (λ x. box (tree x))

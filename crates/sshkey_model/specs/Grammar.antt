@@ -1,5 +1,5 @@
 -- Which bytes are a spelling of which value.
-use Rattle.std.specs.Prelude.{◌≡◌, ◌⊎◌, ◌<◌, ◌^◌, List, [], ◌++◌, length, ℕ, Result, Ok}
+use Rattle.std.specs.Prelude.{◌≡◌, ◌⊎◌, ◌<◌, ◌^◌, List, [], ◌++◌, length, ℕ, Result, Ok, refl}
 use Rattle.std.specs.Int.{w32, to_be_bytes}
 use Rattle.sshkey_model.specs.Parts.{Parts, flat, Fits}
 use Rattle.sshkey_model.specs.Reading.{Fault, ◌>>=◌, Front}
@@ -9,6 +9,10 @@ pub record Spells {V : Type 0} (Is : V → Type 0) (spell : V → Parts) (value 
   pub is : Is value
   pub fits : Fits (spell value)
   pub shape : b ≡ flat (spell value)
+
+-- what is written of a value is its spelling
+pub normal_is_spelling : {V : Type 0} {Is : V → Type 0} {spell : V → Parts} (value : V) → Is value → Fits (spell value) → Spells Is spell value (flat (spell value))
+normal_is_spelling value is fits = record { is = is; fits = fits; shape = refl }
 
 -- The same of a value some parts of which may be spelled in several ways: each choice has its
 -- place.
@@ -48,7 +52,7 @@ pub record IsGrammar {V : Type 0} (Spelling : V → List ℕ → Type 0) (read :
 abbrev pub MayFollow : {A : Type 0} → Front A → A → List ℕ → List ℕ → Type 0
 MayFollow delimited_at value front rest = (rest ≡ []) ⊎ (delimited_at front ≡ Ok (value, []))
 
--- The same of a reader some of whose values end by themselves.
+-- The reader takes exactly the spellings, where some values end by themselves.
 pub record Grammar {A : Type 0} (Spells : A → List ℕ → Type 0) (read : Front A) : Type 0 where
   -- the plain reader of the values that end by themselves; nothing may follow any other
   pub delimited_at : Front A

@@ -7,3 +7,4 @@ pub mod KeyPrefixes
 pub mod NewKeys
 pub mod WrittenKeys
 pub mod Stopping
+pub mod Lawful

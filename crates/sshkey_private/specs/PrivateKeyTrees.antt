@@ -8,7 +8,6 @@ use Rattle.std.proofs.lemmas.List.{length-append}
 use Rattle.sshkey_model.specs.Parts.{Parts, Any, nothing, bytes, number, box, ◌&◌, flat, Fits, InRange, BoxesFit, HasLength, are_bytes}
 use Rattle.sshkey_model.specs.Reading.{Length, Crypto, PublicKey}
 use Rattle.sshkey_model.specs.Grammar.{IsSpelled, spelled}
-use Rattle.sshkey_model.specs.Laws.{DetermineValues, ReadBack}
 use Rattle.sshkey_model.specs.Texts.{IsText, string}
 use Rattle.sshkey_model.specs.Keys.{Key, IsKey, key, key_algorithm, Head, HasHead, HasKeyPlaces}
 use Rattle.sshkey_model.specs.KeyDerivation.{Cipher, NoCipher, block_size, tag_size, cipher, Kdf, NoKdf, Bcrypt, kdf}
@@ -19,7 +18,7 @@ use Rattle.sshkey_model.proofs.EqualKeys.{same_key, key_itself}
 use Rattle.sshkey_model.proofs.KeyPairReaders.{plain_keypair_has}
 use Rattle.sshkey_model.proofs.Grammars.{ends}
 use Rattle.sshkey_base.specs.Formats.{number32_format}
-use Rattle.sshkey_model.proofs.Trees.{IsTree, Alike, alike, grouped, leaf_tree, open_tree, choice_tree, then_tree, box_tree, kept_tree, tested_tree, made_tree, determined}
+use Rattle.sshkey_model.proofs.Trees.{IsTree, Alike, alike, grouped, leaf_tree, open_tree, dependent_tree, then_tree, box_tree, kept_tree, tested_tree, made_tree}
 use Rattle.sshkey_ciphers.proofs.Paddings.{rising_length}
 use Rattle.sshkey_ciphers.specs.Ciphertexts.{AreBlocks, blocks_format}
 use Rattle.sshkey_ciphers.specs.KdfFormats.{cipher_format, kdf_tree}
@@ -29,8 +28,8 @@ use Rattle.sshkey_private.specs.Inner.{unencrypted, one_checkint, checkint_forma
 use Rattle.sshkey_private.specs.Openings.{Opening, magic_format, one_format, sealing_format, opening_with, opening_format}
 use Rattle.sshkey_private.specs.Padded.{SpellsPadded}
 use Rattle.sshkey_private.specs.PaddedKeys.{PaddedChoices, padded_content, padded_private_key, HasPadding, HasPlacesBelow}
-use Rattle.sshkey_private.specs.PrivateKeyFormats.{key_of_part, sealed_with, encrypted_format, content_term, file_grammar}
-use Rattle.sshkey_private.specs.PrivateKeyGrammars.{SpellsFile, SpellsPrivateKey, SpellsPaddedKey, private_value_at, file_alone}
+use Rattle.sshkey_private.specs.PrivateKeyFormats.{key_of_part, sealed_with, encrypted_format, content_term}
+use Rattle.sshkey_private.specs.PrivateKeyGrammars.{SpellsFile, SpellsPrivateKey, SpellsPaddedKey}
 
 -- ---- the checkint, and the same again
 
@@ -228,7 +227,7 @@ read_tree x = before_content x.0.0.cipher x.0.0.kdf x.0.0.public x.1.0 & padded_
 
 pub file_tree : (limit : ℕ) → limit < 257 → IsTree (SpellsFile limit) (IsSpelled IsPrivateKey (HasPlacesBelow limit)) (spelled padded_private_key)
 file_tree limit low = made_tree
-    (choice_tree {First = opening_format.Spells} {delimited_at = opening_format.grammar.delimited_at} (ends opening_format.grammar (λ _. refl)) opening_tree (λ h. content_tree limit low h.cipher h.kdf h.public))
+    (dependent_tree {First = opening_format.Spells} {delimited_at = opening_format.grammar.delimited_at} (ends opening_format.grammar (λ _. refl)) opening_tree (λ h. content_tree limit low h.cipher h.kdf h.public))
     (λ a. a.1)
     there
     back
@@ -301,15 +300,6 @@ plain_has (Encrypted k) = (tt, refl)
 -- what is written of a private key is one of its spellings
 pub private_normal : (k : PrivateKey) → IsPrivateKey k → Fits (normal_private_key k) → SpellsPrivateKey k (flat (normal_private_key k))
 private_normal k is fits = private_key_tree.again (k, plain_private_key) (record { is = is; place = plain_has k }) fits
-
-pub private_determined : DetermineValues IsPrivateKey normal_private_key
-private_determined = determined (file_grammar 8) private_normal
-
-pub private_read_back : ReadBack IsPrivateKey normal_private_key private_value_at
-unfolding ReadBack
-private_read_back k is fits = file_alone 8 k (flat (normal_private_key k)) (private_normal k is fits)
-
-pub ruleset laws = (private_determined, private_read_back)
 
 pub more_places : (k : PrivateKey) (s : PaddedChoices) → HasPlacesBelow 8 k s → HasPlacesBelow 256 k s
 more_places (Unencrypted k) s h = (h.0, (h.1.0, omega (arith, h.1.1)))

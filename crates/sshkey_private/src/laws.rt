@@ -57,13 +57,13 @@ pub fn decode_private_key()
 {}
 
 /// Two private keys have equal normal forms exactly if they are equal, checkint and tag included.
-#[tactic(auto, using(crate::specs::PrivateKeyTrees::laws))]
+#[tactic(auto, using(crate::proofs::Lawful::laws))]
 pub fn normal_private_keys()
     ensures { DetermineValues IsPrivateKey normal_private_key }
 {}
 
 /// The normal form of a private key is read as that key.
-#[tactic(auto, using(crate::specs::PrivateKeyTrees::laws))]
+#[tactic(auto, using(crate::proofs::Lawful::laws))]
 pub fn read_back_private_key()
     ensures { ReadBack IsPrivateKey normal_private_key private_value_at }
 {}

@@ -1,2 +1,3 @@
 pub mod Measured
 mod SignedParts
+pub mod Lawful

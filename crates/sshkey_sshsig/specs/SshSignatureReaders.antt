@@ -10,7 +10,7 @@ use Rattle.sshkey_model.specs.Keys.{Head, Plain, IsKey, HasKeyPlaces, key}
 use Rattle.sshkey_model.specs.SshSignatures.{SshSignature, IsSshSignature, HasSshSignaturePlaces, ssh_signature, normal_ssh_signature, signature_magic}
 use Rattle.sshkey_model.proofs.Grammars.{all_end, ends}
 use Rattle.sshkey_base.specs.Formats.{string_format}
-use Rattle.sshkey_model.proofs.Trees.{IsTree, Alike, regrouped, leaf_tree, open_tree, then_tree, box_tree, kept_tree, made_tree, determined, read_back}
+use Rattle.sshkey_model.proofs.Trees.{IsTree, Alike, regrouped, leaf_tree, open_tree, then_tree, box_tree, kept_tree, made_tree}
 use Rattle.sshkey_sshsig.specs.SshSignatures.{statement}
 use Rattle.sshkey_sshsig.specs.SshSignatureFormats.{SshSignatureOpening, magic_format, version_format, opening_format, namespace_format, hash_format, ssh_signature_with, ssh_signature_format}
 
@@ -51,6 +51,3 @@ ssh_signature_tree = made_tree
 -- what is written of an SSH signature is one of its spellings
 pub ssh_signature_normal : (f : SshSignature) → IsSshSignature f → Fits (normal_ssh_signature f) → SpellsSshSignature f (flat (normal_ssh_signature f))
 ssh_signature_normal f is fits = ssh_signature_tree.again (f, Plain) (record { is = is; place = tt }) fits
-
--- what the laws name
-pub ruleset laws = (determined, read_back, ssh_signature_grammar, ssh_signature_normal)

@@ -10,12 +10,13 @@ ghost use Rattle.sshkey_base.specs.Needs.{Asks, NeedsString};
 ghost use Rattle.sshkey_base.specs.Source.{Later, all_of};
 ghost use Rattle.sshkey_base.specs.Stops.{StopsBy};
 ghost use Rattle.sshkey_base.specs.Sink.{Encodes, Measures};
+ghost use Rattle.sshkey_model.specs.Grammar.{normal_is_spelling};
 ghost use Rattle.sshkey_model.specs.Reading.{checked_at, string_at, whole};
 ghost use Rattle.sshkey_model.specs.Signatures.{Signature as TheSignature, IsSignature, signature, signature_blob, signature_blob_at, signature_at, trailed_at};
 ghost use Rattle.sshkey_keys.specs.Blobs.{ReadsFrontOf, MakesBlob};
 ghost use Rattle.sshkey_keys.specs.SignatureForms.{NeedsTrailed, OverrunsInside, OverrunsNumbers, joined_from, string_from};
 ghost use Rattle.sshkey_keys.specs.KeyFormats.{blob_format, signature_format, signature_under};
-ghost use Rattle.sshkey_keys.specs.SignatureReaders.{SpellsSignature, signature_normal};
+ghost use Rattle.sshkey_keys.specs.SignatureReaders.{SpellsSignature};
 ghost use Rattle.sshkey_keys.specs.Signatures.{signature_of};
 
 use super::Signature;
@@ -234,5 +235,5 @@ fn encode_blob<W: Writer>(
 impl NormalForm for Signature {
     ghost IsWellFormed = { λ g. IsSignature (signature_of g) };
 
-    ghost normal_spells = { λ g. signature_normal (signature_of g) };
+    ghost normal_spells = { λ g. normal_is_spelling (signature_of g) };
 }
