@@ -1,5 +1,5 @@
 -- Whether one of some lines has a property, one after the other.
-use Rattle.std.proofs.Common.{zero, suc, List, ◌∷◌, subst, sym, refl, arith}
+use Rattle.std.proofs.Common.{zero, suc, List, ◌∷◌, subst, sym, arith}
 use Rattle.std.specs.List.{Any}
 
 module _ {X : Type 0} (P : X → Type 0) where

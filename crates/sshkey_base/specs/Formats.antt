@@ -1,5 +1,5 @@
 -- A format: how values are spelled, and what a reading call makes of bytes.
-use Rattle.std.specs.Prelude.{◌≡◌, ◌≢◌, ℕ, List, ◌++◌, Result, Ok, Err, refl}
+use Rattle.std.specs.Prelude.{◌≡◌, ◌≢◌, ℕ, List, ◌++◌, Result, Ok, Err}
 use Rattle.std.specs.Int.{w8, w32, w64}
 use Rattle.sshkey_model.specs.Parts.{Any, bytes}
 use Rattle.sshkey_model.specs.Texts.{string, text_at, texts_at}

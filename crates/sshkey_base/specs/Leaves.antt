@@ -1,5 +1,5 @@
 -- The readers of the leaves take exactly their spellings.
-use Rattle.std.specs.Prelude.{◌≡◌, ℕ, ◌^◌, List, length, replicate, nat_lt, if◌then◌else◌}
+use Rattle.std.specs.Prelude.{ℕ, ◌^◌, List, replicate, nat_lt, if◌then◌else◌}
 use Rattle.std.specs.Int.{w8, w32, w64}
 use Rattle.sshkey_model.specs.Parts.{Parts, Any, bytes, number, box, HasLength}
 use Rattle.sshkey_model.specs.Texts.{string}

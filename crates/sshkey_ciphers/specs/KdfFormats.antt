@@ -4,17 +4,17 @@ use Rattle.std.proofs.Common.{◌≡◌, ℕ, eqb, List, Result, Ok, Err, refl, 
 use Rattle.std.specs.Prelude.{◌==◌, if◌then◌else◌}
 use Rattle.std.specs.Int.{w32}
 use Rattle.std.proofs.lemmas.Bool.{eqb-true}
-use Rattle.sshkey_model.specs.Parts.{Any, number, box, ◌&◌, flat, Fits, IsPrefixFree}
+use Rattle.sshkey_model.specs.Parts.{Any, number, box, ◌&◌, flat, Fits}
 use Rattle.sshkey_model.specs.Reading.{Fault, Front, AlgorithmUnknown}
 use Rattle.sshkey_model.specs.Grammar.{IsGrammar, AllEnd, Spells}
 use Rattle.sshkey_model.specs.Texts.{string}
-use Rattle.sshkey_model.specs.KeyDerivation.{Cipher, cipher, Kdf, NoKdf, Bcrypt, KdfAlgorithm, NoDerivation, BcryptDerivation, derivation, kdf_algorithm, kdf_options, kdf}
-use Rattle.sshkey_model.proofs.CombinedReaders.{met, ok_is, prefix_free, checked_string_reads}
+use Rattle.sshkey_model.specs.KeyDerivation.{Cipher, Kdf, NoKdf, Bcrypt, KdfAlgorithm, NoDerivation, BcryptDerivation, derivation, kdf_algorithm, kdf_options, kdf}
+use Rattle.sshkey_model.proofs.CombinedReaders.{met, ok_is}
 use Rattle.sshkey_base.specs.Formats.{Format, number32_format, string_format, label_format}
 use Rattle.sshkey_model.proofs.Grammars.{all_end, ends}
 use Rattle.sshkey_base.specs.Needs.{NoNeed}
 use Rattle.sshkey_terms.specs.Terms.{◌then◌, boxed, called, called_chosen, called_ends, tested, IsChosen, IsMapped, read_as}
-use Rattle.sshkey_model.proofs.Trees.{IsTree, Alike, alike, leaf_tree, dependent_tree, then_tree, box_tree, tested_tree, made_tree, plain_prefix, determined, read_back}
+use Rattle.sshkey_model.proofs.Trees.{IsTree, Alike, alike, leaf_tree, dependent_tree, then_tree, box_tree, tested_tree, made_tree}
 use Rattle.sshkey_ciphers.specs.Ciphers.{cipher_checks, kdf_algorithm_checks}
 
 abbrev pub cipher_format : Format Cipher

@@ -1,5 +1,5 @@
 -- A list, and one section more.
-use Rattle.std.proofs.Common.{◌≡◌, ◌<◌, inl, inr, ℕ, zero, suc, Bool, true, false, ◌||◌, Option, None, List, [], ◌∷◌, ◌++◌, length, take, append-nil, append_assoc, Result, Ok, Err, refl, sym, ap, ◌∙◌, arith}
+use Rattle.std.proofs.Common.{◌≡◌, ◌<◌, inl, inr, ℕ, zero, suc, Bool, true, false, ◌||◌, None, List, [], ◌∷◌, ◌++◌, length, take, append-nil, append_assoc, Result, Ok, Err, refl, sym, ap, ◌∙◌, arith}
 use Rattle.std.specs.Prelude.{◌==◌, ◌-◌, slice_index}
 use Rattle.std.specs.Int.{w8, w32, w64}
 use Rattle.sshkey_base.proofs.Accepted.{spelled_whole}

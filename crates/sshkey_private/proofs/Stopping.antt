@@ -1,6 +1,6 @@
 -- How a private key is refused on any source.
 use Rattle.std.proofs.Common.{◌≡◌, ◌⊎◌, ℕ, List, [], ◌∷◌, IsOk, Result, Ok, Err, refl}
-use Rattle.sshkey_model.specs.Reading.{Fault, Length, ◌>>=◌, Front}
+use Rattle.sshkey_model.specs.Reading.{Fault, Length, ◌>>=◌}
 use Rattle.sshkey_model.specs.Keys.{Key}
 use Rattle.sshkey_model.specs.KeyDerivation.{Cipher, NoCipher, Kdf, NoKdf, Bcrypt}
 use Rattle.sshkey_model.specs.PrivateKeys.{PrivateKey}

@@ -1,9 +1,9 @@
 -- Which error reading a line gives.
-use Rattle.std.proofs.Common.{◌≡◌, ◌≢◌, ℕ, ◌%◌, List, [], length, IsErrAnd, Result, Ok, Err, inl, inr, sym, ap, subst, refl, arith}
+use Rattle.std.proofs.Common.{◌≡◌, ℕ, ◌%◌, List, [], length, IsErrAnd, Result, Ok, Err, inl, inr, sym, ap, subst, refl, arith}
 use Rattle.sshkey_model.proofs.LineCuts.{one_cut}
 use Rattle.sshkey_model.specs.Lines.{IsCut}
 use Rattle.sshkey_model.specs.Reading.{whole}
-use Rattle.sshkey_base.specs.Causes.{cause, NoMemory, Faulty}
+use Rattle.sshkey_base.specs.Causes.{cause, Faulty}
 use Rattle.sshkey_base.specs.Formats.{Format}
 use Rattle.sshkey_base.specs.Reading.{GivesWhole}
 use Rattle.sshkey_base.specs.Source.{Source}

@@ -1,5 +1,5 @@
 -- What reading a line gives.
-use Rattle.std.proofs.Common.{◌≡◌, ℕ, ◌≤◌, ◌<◌, ◌+◌, ◌%◌, List, [], length, Result, Ok, Err, Some, inl, inr, sym, ap, ◌∙◌, subst, arith}
+use Rattle.std.proofs.Common.{◌≡◌, ℕ, ◌≤◌, ◌<◌, ◌+◌, ◌%◌, List, [], length, Result, Ok, Err, Some, inl, inr, sym, ap, subst, arith}
 use Rattle.std.specs.Prelude.{IfSome, true}
 use Rattle.std.specs.Str.{is_utf8}
 use Rattle.base64.specs.GeneralPurpose.{IsBytes}

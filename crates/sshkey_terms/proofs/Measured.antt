@@ -1,5 +1,5 @@
 -- How many bytes values have that stand one after the other in a box.
-use Rattle.std.proofs.Common.{◌≡◌, ◌+◌, ◌-◌, ℕ, length, Result, Ok, Err, arith}
+use Rattle.std.proofs.Common.{◌≡◌, ◌+◌, ℕ, length, Result, Ok, Err, arith}
 use Rattle.sshkey_model.specs.Parts.{Parts, box, ◌&◌, flat, BoxesFit}
 use Rattle.sshkey_base.specs.declared.encoding.Error.{Error}
 use Rattle.sshkey_base.specs.Sink.{IsLength, MeasuresBoxed}

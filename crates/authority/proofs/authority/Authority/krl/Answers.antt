@@ -1,7 +1,7 @@
 use Rattle.std.proofs.Common.{[], ◌∷◌, refl, ap, ◌∙◌}
 use Rattle.std.proofs.lemmas.Result.{err_from_is_err_and}
 use Rattle.ssh_key.specs.keys.Keys.{key_of}
-use Rattle.ssh_key.specs.krl.Revocation.{Certificates, Krl, Numbers, Signer, begun, with_section}
+use Rattle.ssh_key.specs.krl.Revocation.{Certificates, Krl, Numbers, Signer, with_section}
 use Rattle.ssh_key.specs.krl.Serials.{Listed}
 use Rattle.ssh_key.specs.krl.Owned.{krl_of}
 use Rattle.authority.proofs.Revoked.{none_added, none_begun, stated, takes_back}
