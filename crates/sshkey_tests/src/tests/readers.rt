@@ -4,6 +4,7 @@ use super::support::{is_debugged, is_wanted};
 use sshkey_base::encoding::{Error, Result};
 use sshkey_base::{Algorithm, Bytes, Decode, NestedReader, Reader, ShortBytes, decode_whole};
 use sshkey_doubles::Faulty;
+use sshkey_terms::Counted;
 use std::alloc::Global;
 
 /// The name `ssh-ed25519` as a string.
@@ -117,4 +118,17 @@ fn a_front_before_a_fault(rt: HostRuntime) {
     let name = Bytes::decode(rt.alloc(), &mut source);
     assert!(rt; name.is_ok_and(|name| name.as_slice() == b"ssh-ed25519".as_slice()));
     assert!(rt; source.remaining_len() == 20 && !source.is_finished());
+}
+
+/// The fault of two strings after their count, the second of which states so many bytes, where
+/// eight of them are missing.
+fn fault_of_second(alloc: Global, len: u8) -> Option<Error> {
+    let bytes = [0, 0, 0, 2, 0, 0, 0, 1, 42, 0, 0, 0, len];
+    Counted::<Bytes>::decode(alloc, &mut Faulty::new(&bytes, 8)).err()
+}
+
+#[test]
+fn a_counted_value_before_a_fault(rt: HostRuntime) {
+    assert!(rt; is_wanted(fault_of_second(rt.alloc(), 8), Some(Error::Base64)));
+    assert!(rt; is_wanted(fault_of_second(rt.alloc(), 9), Some(Error::Length)));
 }
