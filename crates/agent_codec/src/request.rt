@@ -25,9 +25,9 @@ use std::alloc::Global;
 /// A request (draft-miller-ssh-agent, section 4). It has no `Debug`: it may hold a passphrase, over
 /// which it writes zeros when it is dropped.
 ///
-/// What ssh-agent does besides is left to an agent over this. A security key whose application does
-/// not begin with `ssh:` signs only messages of SSH itself, which are logins and SSH signatures: any
-/// other message may be a website's. A request that cannot be read is answered by
+/// An agent over this must itself do the rest of what ssh-agent does. By a security key whose
+/// application does not begin with `ssh:` it signs only messages of SSH itself, logins and SSH
+/// signatures: any other message may be a website's. A request that cannot be read is answered by
 /// `Response::Failure`, and the connection stays.
 pub enum Request {
     /// Which keys the agent holds.
@@ -40,7 +40,7 @@ pub enum Request {
     RemoveIdentity(Bytes),
     /// Forget all keys.
     RemoveAllIdentities,
-    /// Use no key until that passphrase is told again.
+    /// Use no key until `Unlock` gives that passphrase.
     Lock(Bytes),
     /// Use the keys again: the passphrase.
     Unlock(Bytes),

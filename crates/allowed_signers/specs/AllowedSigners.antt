@@ -75,7 +75,7 @@ pub record Counts (accepts : Question → Bool) (revokes : List ℕ → Bool) (s
   pub unrevoked : is_key_revoked revokes f.key ≡ false
   pub signed : HasSigned accepts namespace message f
 
--- The bytes spell a signature of which this holds.
+-- The bytes spell a signature for which this holds.
 abbrev pub HasSignature : List ℕ → (SshSignature → Type 0) → Type 0
 HasSignature bytes Holds = (f : SshSignature) × SpellsSshSignature f bytes × Holds f
 

@@ -3,7 +3,7 @@ use Rattle.std.specs.Prelude.{◌≡◌, Option, Some, None, Result, Ok, Err}
 use Rattle.sshkey_base.specs.declared.error.Error.{Error}
 use Rattle.sshkey_base.specs.declared.error.Error.TheVariants.{Memory}
 
--- The one value of which it holds; or it holds of none.
+-- It holds for this value alone; or for no value.
 abbrev pub IsTheOne : {X Y : Type 0} → (X → Y) → (Y → Type 0) → Option X → Type 0
 IsTheOne {X} {Y} means Holds None = (y : Y) → Holds y → ⊥
 IsTheOne {X} {Y} means Holds (Some x) = Holds (means x) × ((y : Y) → Holds y → y ≡ means x)

@@ -15,8 +15,8 @@ pub record CutsFirst (line first rest : List ℕ) : Type 0 where
   pub unquoted : IsUnquoted first
   pub is : CutsField line first rest ⊎ (line ≡ quote ∷ (first ++ (quote ∷ rest)))
 
--- The line is the principals and then the rest. No carriage return stands in them: ssh-keygen ends
--- an unquoted word there, and in quotes none is let be either.
+-- The line is the principals and then the rest. They have no carriage return: ssh-keygen ends an
+-- unquoted word there, and here quotes do not allow one either.
 pub record HasPrincipals (line principals rest : List ℕ) : Type 0 where
   pub cut : CutsFirst line principals rest
   pub no_return : IsWithout carriage_return principals

@@ -78,7 +78,7 @@ pub record IsMoment (m : Moment) : Type 0 where
   pub minute : m.minute < 60
   pub second : m.second < 62
 
--- The text is that of a time so many seconds after the start of 1970, at least one.
+-- The text is a time `t` seconds after the start of 1970, where `t` is at least 1.
 pub record IsTimeText (text : List ℕ) (t : ℕ) : Type 0 where
   pub size : (length (digits text) ≡ 8) ⊎ (length (digits text) ≡ 12) ⊎ (length (digits text) ≡ 14)
   pub in_utc : IsZone (zone text)

@@ -29,8 +29,8 @@ pub struct Limits {
 }
 
 impl Limits {
-    /// Returns the limits with these users and extensions, windows of at most so many seconds, and
-    /// all kinds of key but DSA. Does not allocate.
+    /// Returns the limits with these users and extensions, windows of at most `longest` seconds,
+    /// and all kinds of key but DSA. Does not allocate.
     pub fn new(principals: Vec<String>, extensions: Vec<String>, longest: u64) -> Limits
         ensures principals { result.principals ≡ principals }
         ensures extensions { result.extensions ≡ extensions }
@@ -45,8 +45,8 @@ impl Limits {
         }
     }
 
-    /// Whether the request is within the limits, at that time in seconds since 1970: its key is
-    /// of one of `kinds`, and one that sshd(8) reads; it is for some users, up to 256, each of whom is listed; each
+    /// Checks that the request is within the limits, at that time in seconds since 1970: its key is
+    /// of one of `kinds`, and one that sshd(8) reads; it is for 1 to 256 users, all listed; each
     /// extension is listed; the key id, the users and the extensions have no zero byte; and its
     /// window has a second and no more than `longest`, is not over, and ends `longest` seconds
     /// from now or before. Does not allocate.

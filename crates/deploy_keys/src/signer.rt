@@ -17,8 +17,8 @@ use ssh_key::revocation::Revocations;
 use ssh_key::{AuthorizedKeys, Error, RawVerifier, Result, SshSig};
 use std::alloc::Global;
 
-/// The comment of the first deploy key that has signed the content, in that namespace (git's is
-/// `git`), or `None` if none of them has.
+/// Returns the comment of the first deploy key that has signed the content, in that namespace
+/// (git's is `git`), or `None` if no deploy key has: `Ok` alone is no yes.
 ///
 /// `keys` is read as sshd(8) reads authorized_keys. A line that is no entry, one with options, or
 /// one whose key `revocations` revokes, is passed over: no deploy key stands there. The comment is

@@ -28,7 +28,7 @@ use Rattle.ssh_key.specs.types.known_hosts.Verdict.TheVariants.{Changed, Revoked
 
 -- ---- the lines
 
--- the lines of all the texts, one text behind the other, but for those that are empty and comments
+-- the lines of all the texts, in order, without empty lines and comments
 abbrev pub lines_of : List (Bor (List ℕ)) → List (List ℕ)
 lines_of texts = flat_map (λ text. filled_lines text.now) texts
 

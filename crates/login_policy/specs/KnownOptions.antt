@@ -35,8 +35,8 @@ flags = codes "permit-X11-forwarding" ∷ codes "permit-agent-forwarding" ∷ co
 abbrev pub IsEmptyIfFlag : CertificateOption → Type 0
 IsEmptyIfFlag o = Contains flags o.name → o.value ≡ []
 
--- And no byte of the name is 0: sshd takes the name to end at the last one, and reads none with
--- another.
+-- And no byte of the name is 0: sshd drops a zero byte that ends the name, and refuses a name with
+-- a zero byte elsewhere.
 pub record IsPlainExtension (o : CertificateOption) : Type 0 where
   pub no_zero : IsWithout 0 o.name
   pub empty : IsEmptyIfFlag o

@@ -2,8 +2,8 @@
 use Rattle.std.specs.Prelude.{◌≢◌, ℕ, List, []}
 use Rattle.openssh_limits.specs.Read.{AreReadPrincipals}
 
--- One name or more, such as sshd(8) reads, for a user who has one, too: a certificate may list a
--- name without a letter.
+-- One name or more, each of which sshd(8) reads, and a user whose name is not empty: a certificate
+-- may list an empty name.
 pub record AreForUser (user : List ℕ) (names : List (List ℕ)) : Type 0 where
   pub named : user ≢ []
   pub some : names ≢ []

@@ -40,8 +40,8 @@ pub data HasWrongField (user : List ℕ) (offered : Key) (c : Certificate) : Ref
   OtherKeyId : c.signed.certificate_type ≡ User → IsOwn offered c → All IsKnownOption c.signed.critical_options → All IsPlainExtension c.signed.extensions → ¬ IsWithout 0 c.signed.key_id → HasWrongField user offered c (invalid field.KeyId)
   OtherPrincipals : c.signed.certificate_type ≡ User → IsOwn offered c → All IsKnownOption c.signed.critical_options → All IsPlainExtension c.signed.extensions → IsWithout 0 c.signed.key_id → ¬ AreForUser user c.signed.valid_principals → HasWrongField user offered c (invalid field.ValidPrincipals)
 
--- The refusal says what is wrong first behind the fields: the authority, then that the certificate is
--- revoked, and only then what the verifier, the time or the user's name say.
+-- The refusal says what is wrong first once the fields are right: the authority, then revocation,
+-- and only then the signature, the time or the user's name.
 pub data IsUntrusted (accepts : Question → Bool) (revokes : List ℕ → krl.Grant → Bool) (authorities : List Fingerprint) (t : ℕ) (user : List ℕ) (c : Certificate) : Refusal → Type 0 where
   OtherAuthority : has_trusted_authority authorities c ≡ false → IsUntrusted accepts revokes authorities t user c (refusal.Certificate error.CertificateValidation)
   IsRevoked : IsTrue (has_trusted_authority authorities c) → IsTrue (is_certificate_revoked revokes c) → IsUntrusted accepts revokes authorities t user c refusal.Revoked
@@ -62,7 +62,7 @@ RefusesCertificateLine accepts revokes authorities t user offered text r = (IsNo
 abbrev pub NeedsJudging : List Fingerprint → Certificate → Type 0
 NeedsJudging authorities c = ¬ IsShort c.signed.signature_key ⊎ IsTrue (has_trusted_authority authorities c)
 
--- What stands in the text needs memory; or a comment does, behind a certificate; or it is the line of a
--- certificate that needs some to be judged.
+-- The certificate in the text needs memory, or the comment after it does; or the text is the line
+-- of a certificate that needs memory to be judged.
 abbrev pub NeedsMemory : List Fingerprint → List ℕ → Type 0
 NeedsMemory authorities text = NeedsValue certificate_format text ⊎ HasComment name_of_certificate SpellsCertificate text ⊎ ((c : Certificate) × (comment : List ℕ) × IsCertificateLine text c comment × NeedsJudging authorities c)

@@ -25,16 +25,16 @@ pub struct Grant {
     /// Whether a security key has to have verified its user: the bit 0x04 in the flags of its
     /// signature, where those of `touch_required` are. Refuse a signature without it.
     pub verify_required: bool,
-    /// Whether somebody has to have touched a security key: always, but with the extension
-    /// `no-touch-required`. Then refuse the client's signature for the login if the bit 0x01 of its
-    /// flags is not set. These are the fifth byte from the end of `Signature::as_bytes`, before the
-    /// counter, and byte 32 of the message that the verifier is asked about (PROTOCOL.u2f). Nothing
-    /// here looks at them, and a key that is none of a device has none.
+    /// Whether somebody has to have touched a security key: `true` unless the certificate has the
+    /// extension `no-touch-required`, also for a plain key, whose signatures have no flags. For a
+    /// security key, refuse the client's signature for the login without the bit 0x01 in its flags:
+    /// the fifth byte from the end of `Signature::as_bytes`, before the counter, and byte 32 of the
+    /// message that the verifier is asked about (PROTOCOL.u2f). Nothing here looks at them.
     pub touch_required: bool,
-    /// What is permitted besides: a terminal by `permit-pty`; forwarding of ports, of an agent and
-    /// of X11 by `permit-port-forwarding`, `permit-agent-forwarding` and `permit-X11-forwarding`;
-    /// that the user's `~/.ssh/rc` runs by `permit-user-rc`. What has no extension here is not
-    /// permitted, and an extension that is not known is to be ignored.
+    /// What the login may also do: `permit-pty` allows a terminal, `permit-port-forwarding`,
+    /// `permit-agent-forwarding` and `permit-X11-forwarding` allow forwarding, and `permit-user-rc`
+    /// runs the user's `~/.ssh/rc`. Refuse what no extension here allows, and ignore an extension
+    /// that you do not know.
     pub extensions: OptionsMap,
     /// The certificate's serial number, by which it can be revoked; 0 stands for none.
     pub serial: u64,

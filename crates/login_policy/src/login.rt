@@ -45,10 +45,10 @@ use std::alloc::Global;
 /// certificate lets nobody in: sshd_config(5), `TrustedUserCAKeys`), more than 256, or one with a
 /// zero byte, and if the user's name is empty, which a certificate may list;
 /// `CertificateValidation` for another authority; `Revoked`; the errors of
-/// `Certificate::validate_principal_at`. Where the line is no certificate's, `Memory` means what it
-/// means of `Certificate::from_openssh`. `CertificateValidation` is the error for another authority,
-/// for a bad signature and for a time out of the window alike: for a log
-/// `Certificate::first_refusal_for` tells which.
+/// `Certificate::validate_principal_at`. For a line that is no certificate's, `Memory` means what
+/// it means for `Certificate::from_openssh`. Another authority, a bad signature and a time outside
+/// the window are all `CertificateValidation`: for a log `Certificate::first_refusal_for` tells
+/// which, but it asks the verifier first, also about a stranger's key.
 ///
 /// The verifier is asked only about a certificate by one of the authorities that is not revoked: a
 /// key that a client made and signed with never reaches it.

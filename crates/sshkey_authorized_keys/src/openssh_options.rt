@@ -66,7 +66,8 @@ impl OpenSshOptions {
     ///
     /// Fails with `FormatEncoding` exactly if the text is no list of options, also where what is
     /// none stands after the option that was asked for. sshd(8) rejects an entry that names
-    /// `command`, `from`, `principals` or `tunnel` twice: to do the same, count by `iter`.
+    /// `command`, `from` or `principals` twice: to do the same, count by `iter`. Of two `tunnel` it
+    /// takes the last.
     ///
     /// So `get` is not enough for a login. Of two options `expiry-time` sshd takes the earlier
     /// time; of `pty`, `no-pty` and `restrict` the last one counts, and so does that of

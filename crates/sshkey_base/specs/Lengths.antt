@@ -37,7 +37,7 @@ with_first x xs = Ok (x ∷ xs)
 abbrev pub with_rest : {A : Type 0} → List ℕ → A → Result (A × List ℕ) Fault
 with_rest rest x = Ok (x, rest)
 
--- behind the length of a box
+-- after the length of a box
 abbrev pub box_step : {A : Type 0} → Whole A → ℕ × List ℕ → Result (A × List ℕ) Fault
 box_step read n = cond (ltb (length n.1) n.0) (Err Length) (read (take n.0 n.1) >>= with_rest (drop n.0 n.1))
 

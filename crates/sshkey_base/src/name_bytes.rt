@@ -9,7 +9,7 @@ use crate::encoding::{Error, Result};
 use crate::reader::Reader;
 use crate::short_bytes::ShortBytes;
 
-/// No name has more bytes, and that of a private-use algorithm in a certificate may have so many.
+/// No name has more bytes; a private-use name in a certificate may have this many.
 const MAX_LEN: usize = 73;
 
 /// The next `len` bytes, if they are not too many for a name; else they are passed, and the answer

@@ -50,7 +50,7 @@ abbrev pub DecodesGroups : List ℕ → List ℕ → Result (Unit {0}) narrow.Er
 DecodesGroups w bytes (Ok _) = w ≡ encode_of standard bytes
 DecodesGroups w bytes (Err e) = (e ≡ encoding.Base64) × ((b : List ℕ) → IsBytes b → length b ≡ length bytes → w ≡ encode_of standard b → ⊥)
 
--- The word is that of the first bytes, so many; or of none.
+-- The word is that of the first n bytes; or of no bytes.
 abbrev pub DecodesSome : List ℕ → List ℕ → Option ℕ → Type 0
 DecodesSome w bytes (Some n) = (decode_of standard w ≡ Ok (take n bytes)) × (n ≤ length bytes) × (are_bytes bytes ≡ true)
 DecodesSome w bytes None = (b : List ℕ) → decode_of standard w ≡ Ok b → ⊥

@@ -28,7 +28,7 @@ pub struct Base64Reader<'a> {
     ghost characters: { are_bytes text.now ≡ true },
 }
 
-/// How many `=` stand at the end, of which two are counted at most.
+/// How many `=` stand at the end, at most two.
 fn pad_count(text: &[u8]) -> usize
     requires { length text.now % 4 ≡ 0 }
     ensures { result ≡ pad_count text.now }

@@ -31,10 +31,9 @@ beginning c = certificate_algorithm (key_algorithm c.signed.key)
 abbrev pub part_end : Part → ℕ
 part_end part = part.start + part.length
 
--- Each part stands behind its length, which has four bytes: the key id behind all that the
--- certificate begins with, the principals behind the key id, the critical options behind these and
--- the window of sixteen bytes, the extensions behind them, and the authority's key behind these and
--- the reserved string.
+-- Each part follows its length, of four bytes. In order: all that the certificate begins with, the
+-- key id, the principals, the window of sixteen bytes, the critical options, the extensions, the
+-- reserved string, the authority's key.
 pub record ArePlaced (c : Certificate) (p : CertificateParts) : Type 0 where
   pub key_id : p.key_id.start ≡ length (flat (beginning c)) + 4
   pub principals : p.principals.start ≡ part_end p.key_id + 4

@@ -18,8 +18,8 @@ use Rattle.sshkey_calls.specs.Writing.{WritesContent}
 use Rattle.sshkey_calls.specs.declared.digest.Sha256Digest.{Sha256Digest}
 use Rattle.sshkey_calls.specs.declared.question.Question.{Question}
 
--- This is told of the SSH signature that the bytes spell, or the number of their fault; or memory
--- ran out, which a part asks for that stands whole before the first fault, and nothing changed.
+-- `Told` holds for the SSH signature that the bytes spell, or the number is that of their fault; or
+-- memory ran out for a part that is whole before the first fault, and nothing changed.
 abbrev pub TellsOfSshSignature : List ℕ → (SshSignature → Type 0) → ℕ → Type 0 → Type 0
 TellsOfSshSignature bytes Told n Stays = TellsOf SpellsSshSignature ssh_signature_value_at bytes Told n Stays ⊎ ((n ≡ 1) × ssh_signature_format.needs bytes 0 × Stays)
 

@@ -59,8 +59,9 @@ pub fn certificate_validate(
     )
 }
 
-/// The same for a principal: the certificate lists it, or no principals, and 34, the last of what
-/// is wrong, where it does not. 4 for a principal that is not UTF-8, whatever the certificate is.
+/// The same for a principal, which the certificate must allow: it lists the principal, or nobody.
+/// Returns what `certificate_validate` does, and last 34 for a principal that is not allowed. 4,
+/// first of all, for a principal that is not UTF-8.
 ///
 /// A certificate without principals allows everybody here (PROTOCOL.certkeys), while sshd(8)
 /// rejects it for a user.

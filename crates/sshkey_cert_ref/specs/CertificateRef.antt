@@ -23,7 +23,7 @@ choices_of r = (spelled_in r.bytes.now).1
 abbrev pub IsUnplain : CertificateRef → Type 0
 IsUnplain r = choices_of r ≢ plain_choices (certificate_of r).signed
 
--- Asking about its signature needs memory: what was signed is made anew, or a verifier is asked that
--- runs out of it, or under a key of DSA or RSA.
+-- Asking about its signature needs memory: the signed bytes are built, or the verifier may run out,
+-- or the question is under a DSA or RSA key.
 abbrev pub NeedsAnswer : (Question → Type 0) → CertificateRef → Type 0
 NeedsAnswer runs_out r = IsUnplain r ⊎ RunsOutFor runs_out (certificate_of r).signed.signature_key (certificate_question (certificate_of r))

@@ -29,7 +29,7 @@ pub struct EndTime {
 impl EndTime {
     ghost use Rattle.sshkey_cert_values.specs.Times.{end_of};
 
-    /// The end at so many seconds since 1970, or none for `FOREVER`. Fails with `Time` for any
+    /// The end `secs` seconds after the start of 1970, or none for `FOREVER`. Fails with `Time` for any
     /// other number above 2^63 - 1, which is this library's own limit (`UnixTime`). Does not
     /// allocate.
     pub fn new(secs: u64) -> Result<EndTime>

@@ -8,7 +8,7 @@ use Rattle.sshkey_entries.specs.OptionItems.{AreKeyOptions, HasKeyOptions, KeyOp
 use Rattle.sshkey_calls.specs.Rooms.{GivesValue, IsAtFront, IsPlaced, LacksRoom}
 use Rattle.sshkey_entry_calls.specs.declared.options.OptionParts.{OptionParts}
 
--- the option that so many stand before; or there are no more than so many
+-- the option with `number` others before it; or there are at most `number` options
 abbrev pub IsNthOption : ℕ → List KeyOption → Option KeyOption → Type 0
 IsNthOption number options (Some o) = (before : List KeyOption) × (after : List KeyOption) × (options ≡ before ++ (o ∷ after)) × (length before ≡ number)
 IsNthOption number options None = length options ≤ number

@@ -12,9 +12,11 @@ use ssh_key::laws::one_certificate;
 use ssh_key::{Error, Fingerprint, RawVerifier, Result};
 use std::alloc::Global;
 
-/// Accepts the bytes that a host shows where they are a certificate for hosts, valid at that time
-/// for the host's name, by one of the authorities with these fingerprints. Reading copies nothing
-/// of them.
+/// Accepts the bytes that a host shows if they are a certificate for hosts, valid at that time for
+/// the host's name, by one of the authorities with these fingerprints. Reading copies nothing.
+///
+/// It asks no revocation list, asks the verifier before it looks at the authority, and compares the
+/// name as it is given: `host_keys::check_certificate` does all three as ssh(1) does.
 ///
 /// A certificate that lists no principals is for each host (PROTOCOL.certkeys). Whoever wants a
 /// name to be listed asks that `valid_principals` is not empty.

@@ -12,7 +12,8 @@ use ssh_key::public::KeyData;
 use ssh_key::{Error, RawVerifier, Result, Signature};
 use std::alloc::Global;
 
-/// Whether the blob spells a signature of the message that the verifier accepts under the key.
+/// Returns whether the blob spells a signature of the message that the verifier accepts under the
+/// key. `Ok(false)` is a no: never ask `is_ok` alone.
 ///
 /// Unless memory runs out, it fails exactly if the blob spells no signature, with its first fault
 /// from the left. Where it spells none, `Memory` means that an allocation for what stands in front

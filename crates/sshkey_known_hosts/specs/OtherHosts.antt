@@ -12,7 +12,7 @@ use Rattle.sshkey_known_hosts.specs.HostFaults.{IsNoBase64}
 abbrev pub AreForOthers : (List ℕ → List ℕ → List ℕ) → List ℕ → List ℕ → Type 0
 AreForOthers hmac name text = (h : Hosts) × IsHosts text h × ¬ AreFor hmac name h
 
--- These are so many, and just these if they are 20.
+-- The bytes have that length, and are those of the pair if it is 20.
 abbrev pub AreTwenty : List ℕ → List ℕ × ℕ → Type 0
 AreTwenty all x = (length all ≡ x.1) × (x.1 ≡ 20 → all ≡ x.0)
 

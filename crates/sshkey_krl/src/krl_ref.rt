@@ -74,7 +74,7 @@ impl<'a> KrlRef<'a> {
     /// Whether the list revokes a certificate of the key with that serial number and key id, which
     /// the signature key signed. Both keys are the bytes of their normal form. Does not allocate.
     ///
-    /// It does where it has one of the two keys, and where a section about the certificates of the
+    /// It does if it has one of the two keys, or if a section about the certificates of the
     /// signature key, or of every key, has the serial number or the key id. A list revokes no
     /// certificate by the serial number 0. A zero byte at the end of a key id does not count, as in
     /// OpenSSH. Nothing else in a certificate counts.

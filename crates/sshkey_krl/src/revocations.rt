@@ -163,7 +163,8 @@ impl<R: Revocations, E> Revocations for Result<R, E> {
     }
 }
 
-/// Revokes what one of them does.
+/// Revokes what one of them does: an empty slice revokes nothing. Keep the `Err` of a list that
+/// could not be read as an item.
 impl<R: Revocations> Revocations for &[R] {
     ghost revokes = { λ all key asked. list_any (λ it. R.revokes it key asked) all.now };
 

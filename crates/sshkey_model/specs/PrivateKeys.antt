@@ -42,7 +42,7 @@ public_key (Encrypted k) = k.public
 
 -- ---- the padding
 
--- the numbers from k on, so many
+-- the first n numbers from k on
 abbrev pub rising : ℕ → ℕ → List ℕ
 rising k zero = []
 rising k (suc n) = k ∷ rising (suc k) n

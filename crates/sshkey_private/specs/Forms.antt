@@ -25,7 +25,7 @@ is_no_kdf NoKdf = true
 is_no_kdf (Bcrypt o) = false
 
 -- A pair stands beside its public key, without a cipher; a ciphertext under a cipher, in whole
--- blocks and with that one's tag.
+-- blocks and with the cipher's tag.
 abbrev pub has_form : Option KeyPair → EncryptedKey → Bool
 has_form (Some k) e = is_no_cipher e.cipher && is_no_kdf e.kdf && key_eq (public_half k) e.public
 has_form None e = not (is_no_cipher e.cipher) && (length e.ciphertext % block_size e.cipher == 0) && (length e.tag == tag_size e.cipher)

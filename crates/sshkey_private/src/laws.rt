@@ -80,8 +80,8 @@ pub fn prefix_padded_private_key()
     ensures { IsPrefixFree (IsSpelled IsPrivateKey HasPaddedPlaces) (spelled padded_private_key) }
 {}
 
-/// What spells a private key spells the same one where more padding is let be; so what
-/// `PrivateKey::from_bytes` gives of bytes, `PrivateKey::from_padded_bytes` gives of them.
+/// What spells a private key spells the same one if more padding is allowed; so whatever
+/// `PrivateKey::from_bytes` reads, `PrivateKey::from_padded_bytes` reads as the same key.
 #[tactic(auto, using(crate::specs::PrivateKeyTrees::plain_padding, crate::proofs::KeyReaders::plain_read))]
 pub fn plain_padded_private_key()
     ensures spelled { (k : ThePrivateKey) → (b : List ℕ) → SpellsPrivateKey k b

@@ -51,7 +51,7 @@ impl HashAlg {
         }
     }
 
-    /// How many bytes a digest has.
+    /// How many bytes a digest has: 32 or 64.
     pub fn digest_size(&self) -> usize
         ensures { result ≡ digest_len (hash_of self.now) }
     {

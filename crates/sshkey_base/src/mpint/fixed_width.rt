@@ -17,7 +17,7 @@ use crate::reader::{Reader, length_from};
 
 impl Mpint {
     /// Reads a number that is not negative, at the width of `SIZE` bytes, most significant first: a
-    /// string of so many bytes, or of 00 and so many, or of fewer that are the number's shortest
+    /// string of `SIZE` bytes, of 00 and `SIZE` bytes, or of fewer that are the number's shortest
     /// form (RFC 4251, section 5).
     ///
     /// Fails with `Length` if the string exceeds what is left; with `FormatEncoding` for `SIZE + 1`
