@@ -1,43 +1,40 @@
 -- Signatures are read as they are spelled.
-use Rattle.std.proofs.Common.{◌≡◌, ℕ, suc, ◌-◌, ◌<◌, ◌≤◌, eqb, ltb, Option, Some, None, Bool, true, false, cond, List, [], ◌++◌, length, Result, Ok, Err, refl, sym, ap, subst, ◌∙◌, append-nil, arith}
+use Rattle.std.proofs.Common.{◌≡◌, ℕ, suc, ◌-◌, ◌<◌, ◌≤◌, eqb, ltb, Option, Some, None, ok_or, true, cond, List, [], ◌++◌, length, Result, Ok, Err, refl, sym, ap, subst, ◌∙◌, append-nil, arith}
 use Rattle.std.proofs.lemmas.Bool.{eqb-true, eq-eqb, ltb-true, lt-ltb}
 use Rattle.std.proofs.lemmas.List.{take_at, drop_at, take-append-drop, length-append, length-take, length-drop, nil_from_length}
-use Rattle.sshkey_model.specs.Parts.{Parts, bytes, box, ◌&◌, flat, HasLength}
-use Rattle.sshkey_model.specs.Reading.{Fault, Length, FormatEncoding, ◌>>=◌, Whole, behind_at}
+use Rattle.sshkey_model.specs.Parts.{Parts, bytes, box, ◌&◌, flat, Fits, HasLength}
+use Rattle.sshkey_model.specs.Reading.{Fault, Length, FormatEncoding, Crypto, ◌>>=◌, Whole, string_at, behind_at}
 use Rattle.sshkey_model.specs.Texts.{string}
 use Rattle.sshkey_model.specs.Names.{Algorithm}
 use Rattle.sshkey_model.specs.Mpints.{is_mpint, mpint_from, positive_part}
 use Rattle.sshkey_model.specs.Points.{field_size}
-use Rattle.sshkey_model.specs.Signatures.{has_part, small_part, IsComponent, component_from, component_at, IsEcdsaBlob, ecdsa_blob_from, sized_from, some_from, none_from, trailed_at, without_trailer, trailer, signature_blob, signature, IsSignatureBlob, IsSignature, signature_blob_at, signature_at}
+use Rattle.sshkey_model.specs.Signatures.{has_part, IsComponent, positive_from, after_component, IsEcdsaBlob, ecdsa_blob_from, sized_from, some_from, none_from, trailed_at, without_trailer, trailer, signature_blob, signature, IsSignatureBlob, IsSignature, signature_blob_at, signature_at}
 use Rattle.sshkey_model.specs.Grammar.{Checks}
 use Rattle.sshkey_model.proofs.CombinedReaders.{bind_assoc, bind_ok, done, ok_is, met, fits_both, fits_first, fits_second, ReadsFront, Any, string_reads, bytes_reads, then_reads, checked_reads, checked_string_reads, to_form, as_checks, kept_bytes, same_front, as_front_form}
 use Rattle.sshkey_model.proofs.NameReaders.{algorithm_reads}
 
-component_reads : (size : ℕ) → ReadsFront (IsComponent size) string (component_at size)
-unfolding component_at
-component_reads size = checked_string_reads (record { takes = there; again = back })
-  where
-    part : (o : Option (List ℕ)) (r x : List ℕ) → small_part size o r ≡ Ok x → (has_part size o ≡ true) × (r ≡ x)
-    part None r x e = absurd cc
-    part (Some p) r x e = go (ltb (length p) (suc size)) e
-      where
-        go : (t : Bool) → cond t (done r) (Err Length) ≡ Ok x → (t ≡ true) × (r ≡ x)
-        go true e = (refl, ok_is r x e)
-        go false e = absurd cc
+-- a positive number of at most so many bytes
+module _ (size : ℕ) where
+  short : (o : Option (List ℕ)) (p rest out : List ℕ) → ok_or o Crypto ≡ Ok p → cond (ltb (length p) (suc size)) (done rest) (Err Length) ≡ Ok out → (has_part size o ≡ true) × (rest ≡ out)
+  short None p rest out e f = absurd cc
+  short (Some q) p rest out e f = let k = met (ltb (length p) (suc size)) Length (Ok rest) out f in (rw (ok_is q p e) k.0, ok_is rest out k.1)
 
-    again_part : (o : Option (List ℕ)) (r : List ℕ) → has_part size o ≡ true → small_part size o r ≡ Ok r
-    again_part None r e = absurd cc
-    again_part (Some p) r e = rw e refl
+  short_again : (o : Option (List ℕ)) (rest : List ℕ) → has_part size o ≡ true → (ok_or o Crypto >>= λ p. cond (ltb (length p) (suc size)) (done rest) (Err Length)) ≡ Ok rest
+  short_again None rest e = absurd cc
+  short_again (Some p) rest e = rw e refl
 
-    there : (b x : List ℕ) → Any b → component_from size b ≡ Ok x → IsComponent size x × (bytes b ≡ bytes x)
-    there b x was e =
-        let r = bind_ok (mpint_from b) (λ r. small_part size (positive_part r) r) x e in
-        let m = (kept_bytes is_mpint FormatEncoding).takes b r.0 tt r.1 in
-        let p = part (positive_part r.0) r.0 x r.2 in
-        subst (λ (z : List ℕ). IsComponent size z × (bytes b ≡ bytes z)) p.1 ((m.0, p.0), m.1)
+  component_takes : (b out : List ℕ) → after_component size b ≡ Ok out → (x : List ℕ) × IsComponent size x × Fits (string x) × (b ≡ flat (string x) ++ out)
+  component_takes b out e =
+      let x = bind_ok (string_at b) (λ x. positive_from x.0 >>= λ p. cond (ltb (length p) (suc size)) (Ok x.1) (Err Length)) out e in
+      let p = bind_ok (positive_from x.0.0) (λ p. cond (ltb (length p) (suc size)) (Ok x.0.1) (Err Length)) out x.2 in
+      let r = bind_ok (mpint_from x.0.0) (λ r. ok_or (positive_part r) Crypto) p.0 p.1 in
+      let m = met (is_mpint x.0.0) FormatEncoding (Ok x.0.0) r.0 r.1 in
+      let k = short (positive_part r.0) p.0 x.0.1 out r.2 p.2 in
+      let s = string_reads.takes b x.0.0 x.0.1 x.1 in
+      (x.0.0, (m.0, rw (ok_is x.0.0 r.0 m.1) k.0), s.1, s.2 ∙ ap (λ (z : List ℕ). flat (string x.0.0) ++ z) k.1)
 
-    back : (x : List ℕ) → IsComponent size x → (b : List ℕ) × Any b × (component_from size b ≡ Ok x) × (bytes b ≡ bytes x)
-    back x is = (x, tt, rw is.0 (again_part (positive_part x) x is.1), refl)
+  component_again : (x rest : List ℕ) → IsComponent size x → Fits (string x) → after_component size (flat (string x) ++ rest) ≡ Ok rest
+  component_again x rest is fits = rw (string_reads.again x rest tt fits, is.0) (short_again (positive_part x) rest is.1)
 
 pub ecdsa_blob_checks : (size : ℕ) → Checks Any bytes (IsEcdsaBlob size) bytes (ecdsa_blob_from size)
 unfolding ecdsa_blob_from flat
@@ -45,20 +42,19 @@ ecdsa_blob_checks size = record { takes = there; again = λ x is. (x, tt, back x
   where
     there : (b x : List ℕ) → Any b → ecdsa_blob_from size b ≡ Ok x → IsEcdsaBlob size x × (bytes b ≡ bytes x)
     there b x was e =
-        let r = bind_ok (component_at size b) (λ r. component_at size r.1 >>= λ s. cond (eqb (length s.1) 0) (Ok b) (Err Length)) x e in
-        let s = bind_ok (component_at size r.0.1) (λ s. cond (eqb (length s.1) 0) (Ok b) (Err Length)) x r.2 in
-        let g = met (eqb (length s.0.1) 0) Length (Ok b) x s.2 in
-        let t = (component_reads size).takes b r.0.0 r.0.1 r.1 in
-        let u = (component_reads size).takes r.0.1 s.0.0 s.0.1 s.1 in
-        let none : s.0.1 ≡ [] = nil_from_length s.0.1 (eqb-true _ _ g.0) in
-        let shape : b ≡ flat (string r.0.0) ++ flat (string s.0.0) = t.2 ∙ ap (λ (z : List ℕ). flat (string r.0.0) ++ z) (u.2 ∙ ap (λ (z : List ℕ). flat (string s.0.0) ++ z) none ∙ append-nil (flat (string s.0.0))) in
-        let both = fits_both (string r.0.0) (string s.0.0) t.1 u.1 in
-        subst (λ (z : List ℕ). IsEcdsaBlob size z × (bytes b ≡ bytes z)) (ok_is b x g.1) (record { r = r.0.0; s = s.0.0; r_is = t.0; s_is = u.0; fits = both; shape = shape }, refl)
+        let r = bind_ok (after_component size b) (λ r. after_component size r >>= λ s. cond (eqb (length s) 0) (Ok b) (Err Length)) x e in
+        let s = bind_ok (after_component size r.0) (λ s. cond (eqb (length s) 0) (Ok b) (Err Length)) x r.2 in
+        let g = met (eqb (length s.0) 0) Length (Ok b) x s.2 in
+        let t = component_takes size b r.0 r.1 in
+        let u = component_takes size r.0 s.0 s.1 in
+        let none : s.0 ≡ [] = nil_from_length s.0 (eqb-true _ _ g.0) in
+        let shape : b ≡ flat (string t.0) ++ flat (string u.0) = t.3 ∙ ap (λ (z : List ℕ). flat (string t.0) ++ z) (u.3 ∙ ap (λ (z : List ℕ). flat (string u.0) ++ z) none ∙ append-nil (flat (string u.0))) in
+        subst (λ (z : List ℕ). IsEcdsaBlob size z × (bytes b ≡ bytes z)) (ok_is b x g.1) (record { r = t.0; s = u.0; r_is = t.1; s_is = u.1; fits = fits_both (string t.0) (string u.0) t.2 u.2; shape = shape }, refl)
 
     back : (x : List ℕ) → IsEcdsaBlob size x → ecdsa_blob_from size x ≡ Ok x
     back x is =
-        let second : component_at size (flat (string is.s)) ≡ Ok (is.s, []) = ap (component_at size) (sym (append-nil (flat (string is.s)))) ∙ (component_reads size).again is.s [] is.s_is (fits_second (string is.r) (string is.s) is.fits) in
-        let first : component_at size x ≡ Ok (is.r, flat (string is.s)) = ap (component_at size) is.shape ∙ (component_reads size).again is.r (flat (string is.s)) is.r_is (fits_first (string is.r) (string is.s) is.fits) in
+        let second : after_component size (flat (string is.s)) ≡ Ok [] = ap (after_component size) (sym (append-nil (flat (string is.s)))) ∙ component_again size is.s [] is.s_is (fits_second (string is.r) (string is.s) is.fits) in
+        let first : after_component size x ≡ Ok (flat (string is.s)) = ap (after_component size) is.shape ∙ component_again size is.r (flat (string is.s)) is.r_is (fits_first (string is.r) (string is.s) is.fits) in
         rw (first, second) refl
 
 pub sized_checks : (n : ℕ) → Checks Any bytes (HasLength n) bytes (sized_from n)
@@ -112,7 +108,7 @@ signature_blob_reads Algorithm.Dsa = checked_string_reads (sized_checks 40)
 signature_blob_reads (Algorithm.Ecdsa c) = checked_string_reads (ecdsa_blob_checks (field_size c))
 signature_blob_reads Algorithm.Ed25519 = checked_string_reads (sized_checks 64)
 signature_blob_reads (Algorithm.Rsa None) = checked_string_reads none_checks
-signature_blob_reads (Algorithm.Rsa (Some h)) = string_reads
+signature_blob_reads (Algorithm.Rsa (Some h)) = checked_string_reads (to_form (λ b. b) (λ b h. (tt, refl)) (λ b is. (b, tt, refl, refl)))
 signature_blob_reads Algorithm.SkEcdsa = trailed_reads (ecdsa_blob_checks 32)
 signature_blob_reads Algorithm.SkEd25519 = as_front_form (λ d h. omega (arith, h.1, length-take (length d - 5) d)) (λ d h. (omega (arith, h), omega (arith, h, length-take (length d - 5) d))) (trailed_reads (sized_checks 64))
 signature_blob_reads (Algorithm.Other n) = checked_string_reads some_checks

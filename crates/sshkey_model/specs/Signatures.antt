@@ -1,8 +1,8 @@
 -- Signatures (RFC 4253, section 6.6; RFC 5656, section 3.1.2; RFC 8332, section 3; RFC 8709,
 -- section 6; PROTOCOL.u2f).
-use Rattle.std.specs.Prelude.{◌≡◌, ℕ, suc, ◌-◌, ◌<◌, ◌≤◌, List, ◌++◌, length, take, drop, Bool, true, false, Option, Some, None, Result, Ok, Err, nat_lt, ◌==◌, if◌then◌else◌}
+use Rattle.std.specs.Prelude.{◌≡◌, ℕ, suc, ◌-◌, ◌<◌, ◌≤◌, List, ◌++◌, length, take, drop, Bool, true, false, Option, Some, None, ok_or, Ok, Err, nat_lt, ◌==◌, if◌then◌else◌}
 use Rattle.sshkey_model.specs.Parts.{Parts, bytes, ◌&◌, flat, Fits}
-use Rattle.sshkey_model.specs.Reading.{Fault, Length, Crypto, ◌>>=◌, Front, Whole, string_at, bytes_at, checked_at}
+use Rattle.sshkey_model.specs.Reading.{Length, Crypto, ◌>>=◌, Front, Whole, string_at, bytes_at, checked_at}
 use Rattle.sshkey_model.specs.Texts.{string}
 use Rattle.sshkey_model.specs.Names.{Nistp256, Algorithm, IsAlgorithm, algorithm, algorithm_at}
 use Rattle.sshkey_model.specs.Mpints.{IsMpint, mpint_from, positive_part}
@@ -40,10 +40,13 @@ abbrev pub trailer : List ℕ → List ℕ
 trailer blob = drop (length blob - 5) blob
 
 -- These five bytes stand behind the string.
+abbrev pub has_trailer : Algorithm → Bool
+has_trailer Algorithm.SkEcdsa = true
+has_trailer Algorithm.SkEd25519 = true
+has_trailer _ = false
+
 abbrev pub signature_blob : Algorithm → List ℕ → Parts
-signature_blob Algorithm.SkEcdsa blob = string (without_trailer blob) & bytes (trailer blob)
-signature_blob Algorithm.SkEd25519 blob = string (without_trailer blob) & bytes (trailer blob)
-signature_blob _ blob = string blob
+signature_blob a blob = if has_trailer a then string (without_trailer blob) & bytes (trailer blob) else string blob
 
 abbrev pub signature : Signature → Parts
 signature g = algorithm g.algorithm & signature_blob g.algorithm g.blob
@@ -63,22 +66,23 @@ IsSignature g = IsAlgorithm g.algorithm × IsSignatureBlob g.algorithm g.blob
 
 -- ---- reading
 
-abbrev pub small_part : ℕ → Option (List ℕ) → List ℕ → Result (List ℕ) Fault
-small_part size None r = Err Crypto
-small_part size (Some p) r = if nat_lt (length p) (suc size) then Ok r else Err Length
+-- the positive number of these bytes
+abbrev pub positive_from : Whole (List ℕ)
+positive_from b = mpint_from b >>= λ r. ok_or (positive_part r) Crypto
 
-abbrev pub component_from : ℕ → Whole (List ℕ)
-component_from size b = mpint_from b >>= λ r. small_part size (positive_part r) r
-
-unfoldable pub component_at : ℕ → Front (List ℕ)
-component_at size = checked_at (component_from size) string_at
+-- what stands behind a positive number of at most so many bytes
+abbrev pub after_component : ℕ → Whole (List ℕ)
+after_component size b = do
+  x ← string_at b
+  p ← positive_from x.0
+  if nat_lt (length p) (suc size) then Ok x.1 else Err Length
 
 -- r, and s, each judged as it comes, and nothing after
 unfoldable pub ecdsa_blob_from : ℕ → Whole (List ℕ)
 ecdsa_blob_from size b = do
-  r ← component_at size b
-  s ← component_at size r.1
-  if length s.1 == 0 then Ok b else Err Length
+  r ← after_component size b
+  s ← after_component size r
+  if length s == 0 then Ok b else Err Length
 
 abbrev pub sized_from : ℕ → Whole (List ℕ)
 sized_from n b = if length b == n then Ok b else Err Length
@@ -89,6 +93,17 @@ some_from b = if nat_lt 0 (length b) then Ok b else Err Length
 abbrev pub none_from : Whole (List ℕ)
 none_from b = Err Length
 
+-- what stands in the string
+abbrev pub string_from : Algorithm → Whole (List ℕ)
+string_from Algorithm.Dsa b = sized_from 40 b
+string_from (Algorithm.Ecdsa c) b = ecdsa_blob_from (field_size c) b
+string_from Algorithm.Ed25519 b = sized_from 64 b
+string_from (Algorithm.Rsa None) b = none_from b
+string_from (Algorithm.Rsa (Some h)) b = Ok b
+string_from Algorithm.SkEcdsa b = ecdsa_blob_from (field_size Nistp256) b
+string_from Algorithm.SkEd25519 b = sized_from 64 b
+string_from (Algorithm.Other n) b = some_from b
+
 -- The string and the trailer are read before the string is judged.
 abbrev pub trailed_at : Whole (List ℕ) → Front (List ℕ)
 trailed_at judge b = do
@@ -98,14 +113,7 @@ trailed_at judge b = do
   Ok (blob ++ t.0, t.1)
 
 abbrev pub signature_blob_at : Algorithm → Front (List ℕ)
-signature_blob_at Algorithm.Dsa b = checked_at (sized_from 40) string_at b
-signature_blob_at (Algorithm.Ecdsa c) b = checked_at (ecdsa_blob_from (field_size c)) string_at b
-signature_blob_at Algorithm.Ed25519 b = checked_at (sized_from 64) string_at b
-signature_blob_at (Algorithm.Rsa None) b = checked_at none_from string_at b
-signature_blob_at (Algorithm.Rsa (Some h)) b = string_at b
-signature_blob_at Algorithm.SkEcdsa b = trailed_at (ecdsa_blob_from (field_size Nistp256)) b
-signature_blob_at Algorithm.SkEd25519 b = trailed_at (sized_from 64) b
-signature_blob_at (Algorithm.Other n) b = checked_at some_from string_at b
+signature_blob_at a = if has_trailer a then trailed_at (string_from a) else checked_at (string_from a) string_at
 
 unfoldable pub signature_at : Front Signature
 signature_at b = do
