@@ -1,10 +1,8 @@
 -- What stands behind the name of an algorithm.
-use Rattle.std.proofs.Common.{◌≡◌, inl, inr, ℕ, true, false, Some, None, List, [], Result, Ok, Err, IsOk, refl}
-use Rattle.sshkey_model.specs.Parts.{bytes, ◌&◌}
-use Rattle.sshkey_model.specs.Reading.{Fault, ◌>>=◌, number_at, bytes_at, string_at, checked_at}
-use Rattle.sshkey_model.specs.Texts.{string}
+use Rattle.std.proofs.Common.{◌≡◌, inl, inr, ℕ, true, false, List, [], Result, Ok, Err, IsOk, refl}
+use Rattle.sshkey_model.specs.Reading.{number_at, bytes_at, string_at, checked_at}
 use Rattle.sshkey_model.specs.Names.{Algorithm}
-use Rattle.sshkey_model.specs.Signatures.{IsSignatureBlob, signature_blob, signature_blob_at, trailed_at, without_trailer, trailer, ecdsa_blob_from, component_at}
+use Rattle.sshkey_model.specs.Signatures.{IsSignatureBlob, has_trailer, string_from, trailed_at, signature_blob_at, ecdsa_blob_from}
 use Rattle.sshkey_model.proofs.SignatureReaders.{signature_blob_reads}
 use Rattle.sshkey_base.specs.declared.error.Error.{Error}
 use Rattle.sshkey_base.specs.Causes.{cause}
@@ -13,34 +11,11 @@ use Rattle.sshkey_base.specs.Source.{Source}
 use Rattle.sshkey_base.specs.Stops.{RanOut, StopsBy}
 use Rattle.sshkey_terms.specs.Terms.{IsMapped}
 use Rattle.sshkey_keys.specs.KeyFormats.{signature_under, signature_with}
-use Rattle.sshkey_keys.specs.SignatureForms.{NeedsTrailed, OverrunsBlob, OverrunsInside, OverrunsNumbers, has_trailer, string_from}
-
--- ---- reading
-
-kept_string : (m : Result (List ℕ × List ℕ) Fault) → (m >>= λ x. Ok x) ≡ m
-kept_string (Ok x) = refl
-kept_string (Err f) = refl
-
--- no trailer stands behind the string
-pub string_is : (a : Algorithm) (b : List ℕ) → has_trailer a ≡ false → checked_at (string_from a) string_at b ≡ signature_blob_at a b
-string_is Algorithm.Dsa b e = refl
-string_is (Algorithm.Ecdsa c) b e = refl
-string_is Algorithm.Ed25519 b e = refl
-string_is (Algorithm.Rsa None) b e = refl
-string_is (Algorithm.Rsa (Some h)) b e = kept_string (string_at b)
-string_is Algorithm.SkEcdsa b e = absurd cc
-string_is Algorithm.SkEd25519 b e = absurd cc
-string_is (Algorithm.Other n) b e = refl
-
--- a trailer stands behind it
-pub trailed_is : (a : Algorithm) (b : List ℕ) → has_trailer a ≡ true → trailed_at (string_from a) b ≡ signature_blob_at a b
-trailed_is Algorithm.SkEcdsa b e = refl
-trailed_is Algorithm.SkEd25519 b e = refl
-trailed_is _ b e = absurd cc
+use Rattle.sshkey_keys.specs.SignatureForms.{NeedsTrailed, OverrunsBlob, OverrunsInside, OverrunsNumbers}
 
 -- a string of no bytes is refused where a trailer stands behind it
 none_before : (a : Algorithm) → has_trailer a ≡ true → IsOk (string_from a []) → ⊥
-unfolding ecdsa_blob_from component_at string_at number_at bytes_at
+unfolding ecdsa_blob_from string_at number_at bytes_at
 none_before Algorithm.SkEcdsa trailed ok = cc
 none_before Algorithm.SkEd25519 trailed ok = cc
 none_before _ trailed ok = cc
@@ -58,7 +33,7 @@ module _ (a : Algorithm) (trailed : has_trailer a ≡ true) where
   pub blob_stops : {X : Type 0} (s : Source) (r : Result X Error) → StopsBy cause (trailed_at (string_from a)) (NeedsTrailed (string_from a)) (OverrunsInside (OverrunsNumbers a) 5) s r → StopsBy cause (signature_blob_at a) NeedsString (OverrunsBlob a) s r
   blob_stops s (Ok x) h = tt
   blob_stops s (Err e) h = record {
-    takes = λ ok. more (h.takes (rw (trailed_is a s.left trailed) ok));
+    takes = λ ok. more (h.takes (rw trailed at ok));
     past = λ o. elim (h.past (rw trailed at o)) [
       | inl is ↦ inl is
       | inr m ↦ inr (more m)
@@ -70,8 +45,7 @@ module _ (a : Algorithm) (trailed : has_trailer a ≡ true) where
 
 -- a string alone
 pub string_stops : {X : Type 0} (a : Algorithm) (s : Source) (r : Result X Error) → has_trailer a ≡ false → StopsBy cause (checked_at (string_from a) string_at) NeedsString (OverrunsInside (OverrunsNumbers a) 0) s r → StopsBy cause (signature_blob_at a) NeedsString (OverrunsBlob a) s r
-string_stops a s (Ok x) plain h = tt
-string_stops a s (Err e) plain h = record { takes = λ ok. h.takes (rw (string_is a s.left plain) ok); past = λ o. h.past (rw plain at o) }
+string_stops a s r plain h = rw plain h
 
 -- what is read is well-formed
 pub read_formed : (a : Algorithm) (b blob rest : List ℕ) → signature_blob_at a b ≡ Ok (blob, rest) → IsSignatureBlob a blob
@@ -80,10 +54,3 @@ read_formed a b blob rest e = ((signature_blob_reads a).takes b blob rest e).0
 -- the signature is made of it
 pub under_read : (a : Algorithm) → IsMapped (signature_under a).read (signature_with a) (signature_blob_at a)
 under_read a = record { same = λ b. refl }
-
--- ---- writing
-
-pub trailed_parts : (a : Algorithm) (b : List ℕ) → has_trailer a ≡ true → signature_blob a b ≡ string (without_trailer b) & bytes (trailer b)
-trailed_parts Algorithm.SkEcdsa b e = refl
-trailed_parts Algorithm.SkEd25519 b e = refl
-trailed_parts _ b e = absurd cc

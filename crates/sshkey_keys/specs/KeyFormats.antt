@@ -1,28 +1,28 @@
 -- What stands behind a name, keys and signatures, by the terms that they are read as.
-use Rattle.std.proofs.Common.{◌≡◌, ◌++◌, ◌==◌, if◌then◌else◌, inl, inr, ℕ, List, length, None, Some, IsOk, Result, Ok, Err, refl}
+use Rattle.std.proofs.Common.{◌≡◌, ◌++◌, ◌==◌, if◌then◌else◌, inl, inr, ℕ, Bool, true, false, List, length, IsOk, Result, Ok, Err, refl}
 use Rattle.std.specs.Prelude.{IsOkAnd}
-use Rattle.sshkey_model.specs.Reading.{Fault, Length, ◌>>=◌, Whole, bytes_at, string_at, checked_at}
+use Rattle.sshkey_model.specs.Reading.{Fault, Length, ◌>>=◌, bytes_at, string_at, checked_at}
 use Rattle.sshkey_model.specs.Names.{Algorithm, Curve, Nistp256, algorithm_at, algorithm_from}
 use Rattle.sshkey_model.specs.Names as names
 use Rattle.sshkey_model.specs.Points.{field_size}
 use Rattle.sshkey_model.specs.Keys.{Key, Opaque, body_at, ecdsa_at, wanted_curve}
-use Rattle.sshkey_model.specs.Signatures.{Signature, IsSignatureBlob, signature_blob, signature_blob_at, signature_at, trailed_at, component_at, component_from, ecdsa_blob_from, sized_from, some_from, none_from}
+use Rattle.sshkey_model.specs.Signatures.{Signature, IsSignatureBlob, has_trailer, after_component, ecdsa_blob_from, string_from, trailed_at, signature_blob, signature_blob_at, signature_at}
 use Rattle.sshkey_model.specs.Grammar.{Spells}
 use Rattle.sshkey_model.proofs.Grammars.{grammar, by_itself}
 use Rattle.sshkey_model.proofs.NameReaders.{algorithm_checks}
 use Rattle.sshkey_model.proofs.SignatureReaders.{signature_blob_reads}
 use Rattle.sshkey_base.specs.Formats.{Format, label_format, string_format}
 use Rattle.sshkey_base.specs.Labels.{label_at}
-use Rattle.sshkey_base.specs.Lengths.{checked_lengths, string_lengths, with_rest}
+use Rattle.sshkey_base.specs.Lengths.{string_lengths, with_rest}
 use Rattle.sshkey_base.specs.NameNeeds.{NeedsAlgorithm}
 use Rattle.sshkey_base.specs.Needs.{NeedsString}
-use Rattle.sshkey_base.specs.Stops.{OverrunsString, OverrunsThen, AreLengths}
+use Rattle.sshkey_base.specs.Stops.{OverrunsString, AreLengths}
 use Rattle.sshkey_terms.specs.Terms.{IsChosen, chosen_of, tested}
 use Rattle.sshkey_kinds.specs.Bodies.{SpellsBody, body_grammar, ed25519_body_at}
 use Rattle.sshkey_kinds.specs.KeyFormats.{dsa_format, ecdsa_format, ed25519_format, rsa_format, sk_ecdsa_format, sk_ed25519_format}
 use Rattle.sshkey_keys.specs.Keys.{key_data_at}
 use Rattle.sshkey_keys.specs.KeyReaders.{key_grammar}
-use Rattle.sshkey_keys.specs.SignatureForms.{OverrunsBlob, OverrunsInside, OverrunsNumbers, string_from}
+use Rattle.sshkey_keys.specs.SignatureForms.{OverrunsBlob, OverrunsComponents, OverrunsInside, OverrunsNumbers}
 use Rattle.sshkey_keys.specs.SignatureReaders.{signature_grammar}
 
 -- a name of an algorithm
@@ -74,17 +74,13 @@ key_format = chosen_of name_format body_format key_chosen key_grammar
 -- ---- a signature: the name, and then a string of bytes that are well-formed, with a trailer
 -- behind it for security keys
 
-component_lengths : (size : ℕ) → AreLengths (component_at size) OverrunsString
-unfolding component_at
-component_lengths size = checked_lengths (component_from size) string_lengths
-
-ecdsa_lengths : (size : ℕ) (b : List ℕ) → OverrunsThen OverrunsString (component_at size) (λ r. OverrunsString) b 0 → ecdsa_blob_from size b ≡ Err Length
+ecdsa_lengths : (size : ℕ) (b : List ℕ) → OverrunsComponents size b → ecdsa_blob_from size b ≡ Err Length
 unfolding ecdsa_blob_from
-ecdsa_lengths size b (inl o) = rw (component_lengths size b 0 o) refl
-ecdsa_lengths size b (inr o) = go (component_at size b) o
+ecdsa_lengths size b (inl o) = rw (string_lengths b 0 o) refl
+ecdsa_lengths size b (inr o) = go (after_component size b) o
   where
-    go : (r : Result (List ℕ × List ℕ) Fault) → IsOkAnd r (λ x. OverrunsString x.1 0) → (r >>= λ r. component_at size r.1 >>= λ s. if length s.1 == 0 then Ok b else Err Length) ≡ Err Length
-    go (Ok x) o = rw (component_lengths size x.1 0 o) refl
+    go : (r : Result (List ℕ) Fault) → IsOkAnd r (λ r. OverrunsString r 0) → (r >>= λ r. after_component size r >>= λ s. if length s == 0 then Ok b else Err Length) ≡ Err Length
+    go (Ok r) o = rw (string_lengths r 0 o) refl
     go (Err f) o = absurd o
 
 -- a length in the string passes
@@ -93,48 +89,29 @@ numbers_lengths (names.Ecdsa curve) b o = ecdsa_lengths (field_size curve) b o
 numbers_lengths names.SkEcdsa b o = ecdsa_lengths (field_size Nistp256) b o
 numbers_lengths _ b o = absurd o
 
--- no length stands in it
-plain_lengths : AreLengths string_at (OverrunsInside (λ b. ⊥) 0)
-plain_lengths b m (inl o) = string_lengths b m o
-plain_lengths b m (inr o) = go (string_at b) o
-  where
-    go : (r : Result (List ℕ × List ℕ) Fault) → IsOkAnd r (λ x. IsOk (bytes_at 0 x.1) × ⊥) → r ≡ Err Length
-    go (Ok x) o = absurd o.1
-    go (Err f) o = absurd o
-
 abbrev before_trailer : List ℕ × List ℕ → List ℕ → Result (List ℕ × List ℕ) Fault
 before_trailer t blob = Ok (blob ++ t.0, t.1)
 
-module _ (judge : Whole (List ℕ)) (inside : List ℕ → Type 0) (passes : (b : List ℕ) → inside b → judge b ≡ Err Length) where
-  judged_lengths : AreLengths (checked_at judge string_at) (OverrunsInside inside 0)
-  judged_lengths b m (inl o) = rw (string_lengths b m o) refl
-  judged_lengths b m (inr o) = go (string_at b) o
+module _ (a : Algorithm) where
+  -- a string in which a length passes is refused
+  inside_lengths : (n : ℕ) (next : List ℕ × List ℕ → Result (List ℕ × List ℕ) Fault) → ((x : List ℕ × List ℕ) → IsOk (bytes_at n x.1) → string_from a x.0 ≡ Err Length → next x ≡ Err Length) → AreLengths (λ b. string_at b >>= next) (OverrunsInside (OverrunsNumbers a) n)
+  inside_lengths n next refused b m (inl o) = rw (string_lengths b m o) refl
+  inside_lengths n next refused b m (inr o) = go (string_at b) o
     where
-      go : (r : Result (List ℕ × List ℕ) Fault) → IsOkAnd r (λ x. IsOk (bytes_at 0 x.1) × inside x.0) → (r >>= λ x. judge x.0 >>= with_rest x.1) ≡ Err Length
-      go (Ok x) o = rw (passes x.0 o.1) refl
+      go : (r : Result (List ℕ × List ℕ) Fault) → IsOkAnd r (λ x. IsOk (bytes_at n x.1) × OverrunsNumbers a x.0) → (r >>= next) ≡ Err Length
+      go (Ok x) o = refused x o.0 (numbers_lengths a x.0 o.1)
       go (Err f) o = absurd o
 
-  trailed_lengths : AreLengths (trailed_at judge) (OverrunsInside inside 5)
-  trailed_lengths b m (inl o) = rw (string_lengths b m o) refl
-  trailed_lengths b m (inr o) = go (string_at b) o
+  behind : (r : Result (List ℕ × List ℕ) Fault) (string : List ℕ) → IsOk r → string_from a string ≡ Err Length → (r >>= λ t. string_from a string >>= before_trailer t) ≡ Err Length
+  behind (Ok t) string there refused = rw refused refl
+  behind (Err f) string there refused = absurd cc
+
+  pub blob_lengths : AreLengths (signature_blob_at a) (OverrunsBlob a)
+  blob_lengths = go (has_trailer a)
     where
-      behind : (r : Result (List ℕ × List ℕ) Fault) (string : List ℕ) → IsOk r → inside string → (r >>= λ t. judge string >>= before_trailer t) ≡ Err Length
-      behind (Ok t) string there o = rw (passes string o) refl
-      behind (Err f) string there o = absurd cc
-
-      go : (r : Result (List ℕ × List ℕ) Fault) → IsOkAnd r (λ x. IsOk (bytes_at 5 x.1) × inside x.0) → (r >>= λ x. bytes_at 5 x.1 >>= λ t. judge x.0 >>= before_trailer t) ≡ Err Length
-      go (Ok x) o = behind (bytes_at 5 x.1) x.0 o.0 o.1
-      go (Err f) o = absurd o
-
-pub blob_lengths : (a : Algorithm) → AreLengths (signature_blob_at a) (OverrunsBlob a)
-blob_lengths names.Dsa = judged_lengths (sized_from 40) (λ _. ⊥) (numbers_lengths names.Dsa)
-blob_lengths (names.Ecdsa curve) = judged_lengths (ecdsa_blob_from (field_size curve)) (OverrunsNumbers (names.Ecdsa curve)) (numbers_lengths (names.Ecdsa curve))
-blob_lengths names.Ed25519 = judged_lengths (sized_from 64) (λ _. ⊥) (numbers_lengths names.Ed25519)
-blob_lengths (names.Rsa None) = judged_lengths none_from (λ _. ⊥) (numbers_lengths (names.Rsa None))
-blob_lengths (names.Rsa (Some hash)) = plain_lengths
-blob_lengths names.SkEcdsa = trailed_lengths (ecdsa_blob_from (field_size Nistp256)) (OverrunsNumbers names.SkEcdsa) (numbers_lengths names.SkEcdsa)
-blob_lengths names.SkEd25519 = trailed_lengths (sized_from 64) (λ _. ⊥) (numbers_lengths names.SkEd25519)
-blob_lengths (names.Other name) = judged_lengths some_from (λ _. ⊥) (numbers_lengths (names.Other name))
+      go : (t : Bool) → AreLengths (if t then trailed_at (string_from a) else checked_at (string_from a) string_at) (OverrunsInside (OverrunsNumbers a) (if t then 5 else 0))
+      go true = inside_lengths 5 (λ x. bytes_at 5 x.1 >>= λ t. string_from a x.0 >>= before_trailer t) (λ x. behind (bytes_at 5 x.1) x.0)
+      go false = inside_lengths 0 (λ x. string_from a x.0 >>= with_rest x.1) (λ x there refused. rw refused refl)
 
 abbrev pub blob_format : Algorithm → Format (List ℕ)
 blob_format a = record { Spells = Spells (IsSignatureBlob a) (signature_blob a); read = signature_blob_at a; needs = NeedsString; overruns = OverrunsBlob a; grammar = by_itself (grammar (signature_blob_reads a)); lengths = blob_lengths a }

@@ -4,8 +4,8 @@ ghost use Rattle.std.specs.Prelude.{◌≡◌};
 ghost use Rattle.sshkey_base.specs.Answers.{AnswersAlways};
 ghost use Rattle.sshkey_base.specs.Causes.{cause};
 ghost use Rattle.sshkey_base.specs.Names.{algorithm_of};
-ghost use Rattle.sshkey_model.specs.Signatures.{sized_from, without_trailer, trailer, ecdsa_blob_from};
-ghost use Rattle.sshkey_keys.specs.SignatureForms.{has_trailer, string_from, blob_from, positive_from, after_component};
+ghost use Rattle.sshkey_model.specs.Signatures.{has_trailer, string_from, sized_from, without_trailer, trailer, ecdsa_blob_from, positive_from, after_component};
+ghost use Rattle.sshkey_keys.specs.SignatureForms.{blob_from};
 
 use sshkey_base::{Algorithm, EcdsaCurve, Error, Result, encoding};
 use sshkey_terms::split_string;

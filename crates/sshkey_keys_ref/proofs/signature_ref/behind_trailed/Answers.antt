@@ -1,5 +1,5 @@
 use Rattle.sshkey_base.specs.Causes.{cause}
-use Rattle.sshkey_keys.specs.SignatureForms.{string_from}
+use Rattle.sshkey_model.specs.Signatures.{string_from}
 use Rattle.sshkey_keys_ref.specs.NameRef.{named_of}
 use Rattle.sshkey_keys_ref.proofs.WalkedBodies.{skips_trailed}
 use Rattle.sshkey_keys_ref.proofs.signature_ref.behind_trailed.Goals as goal
