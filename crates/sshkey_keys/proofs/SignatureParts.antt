@@ -1,6 +1,6 @@
 -- What stands behind the name of an algorithm.
-use Rattle.std.proofs.Common.{◌≡◌, inl, inr, ℕ, true, false, List, [], Result, Ok, Err, IsOk, refl}
-use Rattle.sshkey_model.specs.Reading.{number_at, bytes_at, string_at, checked_at}
+use Rattle.std.proofs.Common.{◌≡◌, inl, inr, ℕ, true, List, [], Result, Ok, Err, IsOk, refl}
+use Rattle.sshkey_model.specs.Reading.{number_at, bytes_at, string_at}
 use Rattle.sshkey_model.specs.Names.{Algorithm}
 use Rattle.sshkey_model.specs.Signatures.{IsSignatureBlob, has_trailer, string_from, trailed_at, signature_blob_at, ecdsa_blob_from}
 use Rattle.sshkey_model.proofs.SignatureReaders.{signature_blob_reads}
@@ -42,10 +42,6 @@ module _ (a : Algorithm) (trailed : has_trailer a ≡ true) where
     where
       more : RanOut (cause e) (NeedsTrailed (string_from a)) s → RanOut (cause e) NeedsString s
       more m = record { memory = m.memory; needed = needs_string _ _ m.needed }
-
--- a string alone
-pub string_stops : {X : Type 0} (a : Algorithm) (s : Source) (r : Result X Error) → has_trailer a ≡ false → StopsBy cause (checked_at (string_from a) string_at) NeedsString (OverrunsInside (OverrunsNumbers a) 0) s r → StopsBy cause (signature_blob_at a) NeedsString (OverrunsBlob a) s r
-string_stops a s r plain h = rw plain h
 
 -- what is read is well-formed
 pub read_formed : (a : Algorithm) (b blob rest : List ℕ) → signature_blob_at a b ≡ Ok (blob, rest) → IsSignatureBlob a blob

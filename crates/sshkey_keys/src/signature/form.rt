@@ -90,6 +90,7 @@ fn check_len(len: usize, bytes: &[u8]) -> Result<()>
 }
 
 /// Whether the bytes are two positive numbers of at most `size` bytes each, and nothing more.
+#[tactic(auto, using(sshkey_base::proofs::Judging::answers_first, sshkey_base::proofs::Judging::answers_later), unfolding(sshkey_model::specs::Signatures::ecdsa_blob_from))]
 fn check_ecdsa(size: usize, bytes: &[u8]) -> Result<()>
     ensures { AnswersAlways (λ _. bytes.now) cause (ecdsa_blob_from size bytes.now) result }
 {

@@ -108,6 +108,7 @@ fn decode_under<R: Reader>(alloc: Global, reader: &mut R, algorithm: Algorithm) 
 }
 
 /// What stands after the name of that algorithm.
+#[tactic(auto, using(crate::proofs::SignatureParts::blob_asks, crate::proofs::SignatureParts::blob_stops))]
 fn decode_blob<R: Reader>(alloc: Global, reader: &mut R, algorithm: &Algorithm) -> Result<Bytes>
     ensures gives { DecodesWide (λ b. b) (signature_blob_at (algorithm_of algorithm.now))
         R.source reader.old result reader.new }
@@ -204,6 +205,7 @@ impl Encode for Signature {
 }
 
 /// How many bytes stand after the name of the algorithm.
+#[tactic(auto, using(sshkey_base::proofs::Writing::measuring, sshkey_base::proofs::Writing::boxes_bytes, sshkey_base::proofs::Writing::length_bytes))]
 fn blob_len(algorithm: &Algorithm, blob: &[u8]) -> encoding::Result<usize>
     ensures measures { Measures (signature_blob (algorithm_of algorithm.now) blob.now) result }
     ensures short { IfOk result (λ n. n ≤ 2 ^ 32 + 8) }
@@ -216,6 +218,7 @@ fn blob_len(algorithm: &Algorithm, blob: &[u8]) -> encoding::Result<usize>
 }
 
 /// Writes what stands after the name of the algorithm.
+#[tactic(auto, using(sshkey_base::proofs::Writing::not_first, sshkey_base::proofs::Writing::plain_bytes, sshkey_base::proofs::PlainParts::encodes_later))]
 fn encode_blob<W: Writer>(
     algorithm: &Algorithm,
     blob: &[u8],
