@@ -12,7 +12,6 @@ abbrev pub HasNone : List ℕ → Type 0
 HasNone t = (i : ℕ) → i < length t → get_or t i 0 ≢ at_sign
 
 pub cut-none : (t : List ℕ) → HasNone t → cut t ≡ None
-unfolding cut
 cut-none [] none = refl
 cut-none (c ∷ t) none =
     let later : cut t ≡ None = cut-none t (λ i within same. none (i + 1) (omega arith) (rw add-one same)) in

@@ -4,7 +4,7 @@ use Rattle.std.specs.List.{AllByRecursion}
 use Rattle.std.specs.Prelude.{IsOk}
 use Rattle.std.proofs.lemmas.Bool.{and_parts, le-leb}
 use Rattle.sshkey_model.specs.Reading.{Fault, Label, string_at}
-use Rattle.sshkey_model.specs.Names.{Nistp256, Algorithm, Ecdsa, Other, algorithm_name, algorithms, named, are_ascii, at_sign, cut, is_own_name, is_other_name}
+use Rattle.sshkey_model.specs.Names.{Nistp256, Algorithm, Ecdsa, Other, algorithm_name, algorithms, named, are_ascii, at_sign, is_own_name, is_other_name}
 use Rattle.sshkey_model.specs.CertificateNames.{IsCertified, suffix, certificate_name, certified, certified_or, certified_from, certificate_algorithm_at}
 use Rattle.sshkey_model.proofs.CertificateNameReaders.{IsStripped, certified_again, certified_checks, certified_is}
 use Rattle.sshkey_model.proofs.NameReaders.{found}
@@ -27,7 +27,7 @@ abbrev pub HasFixed : Algorithm → Type 0
 HasFixed a = is_own_name (algorithm_name a) ≡ true → named certificate_name certified (certificate_name (Other (algorithm_name a))) ≡ None → ⊥
 
 each_fixed : AllByRecursion HasFixed algorithms
-unfolding named is_own_name cut
+unfolding named is_own_name
 each_fixed = (λ own. absurd (cc own), (λ own. absurd (cc own), (λ own. absurd (cc own), (λ own. absurd (cc own), (λ own. absurd (cc own), (λ own. absurd (cc own), (λ own. absurd (cc own), (λ own. absurd (cc own), (λ own none. cc none, (λ own none. cc none, tt))))))))))
 
 -- so a name whose name in a certificate is not fixed is itself none of the fixed ones

@@ -36,7 +36,7 @@ pub hash_refusals : (t : List ℕ) (fault : Fault) → hash_from t ≡ Err fault
 hash_refusals t = unlisted_label (named hash_name hashes t)
 
 pub algorithm_ascii : (a : Algorithm) → IsAlgorithm a → are_ascii (algorithm_name a) ≡ true
-algorithm_ascii (Ecdsa c) is = curve_ascii c is
+algorithm_ascii (Ecdsa Nistp256) is = refl
 algorithm_ascii (Rsa (Some Sha256)) is = refl
 algorithm_ascii (Other n) is = (other_parts n is).0
 algorithm_ascii _ is = refl

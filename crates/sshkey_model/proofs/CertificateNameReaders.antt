@@ -12,7 +12,6 @@ use Rattle.sshkey_model.proofs.CombinedReaders.{ok_is, chosen, ReadsFront, check
 use Rattle.sshkey_model.proofs.NameReaders.{found}
 
 cut_later : (c : ℕ) (rest : List ℕ) (p : List ℕ × List ℕ) (o : Option (List ℕ × List ℕ)) → ((q : List ℕ × List ℕ) → cut rest ≡ Some q → (rest ≡ q.0 ++ at_sign ∷ q.1) × (cut q.0 ≡ None)) → cut rest ≡ o → eqb c at_sign ≡ false → behind_first c o ≡ Some p → (c ∷ rest ≡ p.0 ++ at_sign ∷ p.1) × (cut p.0 ≡ None)
-unfolding cut
 cut_later c rest p None below is no_ f = absurd (cc f)
 cut_later c rest p (Some q) below is no_ f =
     let b = below q is in
@@ -20,7 +19,6 @@ cut_later c rest p (Some q) below is no_ f =
     subst (λ (z : List ℕ × List ℕ). (c ∷ rest ≡ z.0 ++ at_sign ∷ z.1) × (cut z.0 ≡ None)) same (ap (λ (z : List ℕ). c ∷ z) b.0, rw (no_, b.1) refl)
 
 pub cut_parts : (t : List ℕ) (p : List ℕ × List ℕ) → cut t ≡ Some p → (t ≡ p.0 ++ at_sign ∷ p.1) × (cut p.0 ≡ None)
-unfolding cut
 cut_parts [] p e = absurd cc
 cut_parts (c ∷ rest) p e =
     elim (chosen (eqb c at_sign) (Some ([], rest)) (behind_first c (cut rest)) (Some p) e) [
@@ -30,7 +28,6 @@ cut_parts (c ∷ rest) p e =
 
 -- no at sign in a, so the first one is in b
 pub cut_append : (a b : List ℕ) (q : List ℕ × List ℕ) → cut a ≡ None → cut b ≡ Some q → cut (a ++ b) ≡ Some (a ++ q.0, q.1)
-unfolding cut
 cut_append [] b q none e = e
 cut_append (c ∷ a) b q none e =
     elim (chosen (eqb c at_sign) (Some ([], a)) (behind_first c (cut a)) None none) [
@@ -43,7 +40,6 @@ cut_append (c ∷ a) b q none e =
     rest_none c (Some q) e = absurd cc
 
 pub cut_left : (a b : List ℕ) → cut (a ++ b) ≡ None → cut a ≡ None
-unfolding cut
 cut_left [] b none = refl
 cut_left (c ∷ a) b none =
     elim (chosen (eqb c at_sign) (Some ([], a ++ b)) (behind_first c (cut (a ++ b))) None none) [
@@ -57,7 +53,6 @@ cut_left (c ∷ a) b none =
 
 -- a name of two parts, and the same with the suffix
 pub suffix_before : (l r : List ℕ) → cut l ≡ None → (cut (l ++ at_sign ∷ r) ≡ Some (l, r)) × (cut (l ++ suffix ++ at_sign ∷ r) ≡ Some (l ++ suffix, r))
-unfolding cut
 suffix_before l r none = (cut_append l (at_sign ∷ r) ([], r) none refl ∙ ap (λ (z : List ℕ). Some (z, r)) (append-nil l), ap cut (append_assoc l suffix (at_sign ∷ r)) ∙ cut_append l (suffix ++ at_sign ∷ r) (suffix, r) none refl)
 
 -- an other name has two parts

@@ -8,7 +8,7 @@ use Rattle.sshkey_model.specs.Parts.{Parts, box, ◌&◌, flat, Fits}
 use Rattle.sshkey_model.specs.Reading.{Fault}
 use Rattle.sshkey_model.specs.Grammar.{SpellsWith}
 use Rattle.sshkey_model.specs.Texts.{string}
-use Rattle.sshkey_model.specs.Names.{Nistp256, Algorithm, algorithm_name, named, cut}
+use Rattle.sshkey_model.specs.Names.{Nistp256, Algorithm, algorithm_name, named}
 use Rattle.sshkey_model.specs.CertificateNames.{certificate_name, certified_from}
 use Rattle.sshkey_model.specs.Keys.{Key, Ecdsa, Opaque, Head, Plain, Head256, Head512, IsKey, HasKeyPlaces, body, headed, key, key_algorithm}
 use Rattle.sshkey_model.specs.Signatures.{signature}
@@ -40,7 +40,7 @@ found a = Ok a
 
 -- the name before a key that is not opaque is none of a certificate
 other_name : (k : Key) (h : Head) (a : Algorithm) (nonce : List ℕ) (p q : Parts) → HasKeyPlaces k h → Fits (body k) → Fits (string nonce & p) → certified_from (algorithm_name (headed h (key_algorithm k))) ≡ found a → flat (body k) ≡ flat (string nonce & p) ++ flat (box q) → ⊥
-unfolding named cut
+unfolding named
 other_name k Head256 a nonce p q has f g e same = cc e
 other_name k Head512 a nonce p q has f g e same = cc e
 other_name (Opaque n k) Plain a nonce p q has f g e same = one_string k nonce p q f g same

@@ -3,27 +3,21 @@ use Rattle.std.specs.Prelude.{◌≡◌, ℕ, ◌-◌, List, [], ◌∷◌, ◌+
 use Rattle.sshkey_model.specs.Parts.{Parts}
 use Rattle.sshkey_model.specs.Reading.{Fault, Label, Front, string_at, checked_at}
 use Rattle.sshkey_model.specs.Texts.{string}
-use Rattle.sshkey_model.specs.Names.{Nistp256, Nistp384, Nistp521, Algorithm, Dsa, Ecdsa, Ed25519, Rsa, SkEcdsa, SkEd25519, Other, named, at_sign, cut, is_other_name, algorithm_or}
+use Rattle.sshkey_model.specs.Names.{Nistp256, Nistp384, Nistp521, Algorithm, Dsa, Ecdsa, Ed25519, Rsa, SkEcdsa, SkEd25519, Other, algorithm_name, named, at_sign, cut, is_other_name, algorithm_or}
 
 abbrev pub suffix : List ℕ
 suffix = codes "-cert-v01"
 
--- the name with the suffix before its at sign
+-- a name with the suffix before its at sign; this one, if it has none
 abbrev pub with_suffix : Option (List ℕ × List ℕ) → List ℕ → List ℕ
 with_suffix None n = n
 with_suffix (Some p) n = p.0 ++ suffix ++ at_sign ∷ p.1
 
 -- RSA keys have one name there, with and without a hash.
 abbrev pub certificate_name : Algorithm → List ℕ
-certificate_name Dsa = codes "ssh-dss-cert-v01@openssh.com"
-certificate_name (Ecdsa Nistp256) = codes "ecdsa-sha2-nistp256-cert-v01@openssh.com"
-certificate_name (Ecdsa Nistp384) = codes "ecdsa-sha2-nistp384-cert-v01@openssh.com"
-certificate_name (Ecdsa Nistp521) = codes "ecdsa-sha2-nistp521-cert-v01@openssh.com"
-certificate_name Ed25519 = codes "ssh-ed25519-cert-v01@openssh.com"
 certificate_name (Rsa hash) = codes "ssh-rsa-cert-v01@openssh.com"
-certificate_name SkEcdsa = codes "sk-ecdsa-sha2-nistp256-cert-v01@openssh.com"
-certificate_name SkEd25519 = codes "sk-ssh-ed25519-cert-v01@openssh.com"
 certificate_name (Other n) = with_suffix (cut n) n
+certificate_name a = with_suffix (cut (algorithm_name a)) (algorithm_name a ++ codes "-cert-v01@openssh.com")
 
 abbrev pub certified : List Algorithm
 certified = Dsa ∷ Ecdsa Nistp256 ∷ Ecdsa Nistp384 ∷ Ecdsa Nistp521 ∷ Ed25519 ∷ Rsa None ∷ SkEcdsa ∷ SkEd25519 ∷ []

@@ -1,5 +1,5 @@
 -- Names of algorithms, curves and hashes.
-use Rattle.std.specs.Prelude.{◌≡◌, ℕ, List, [], ◌∷◌, ◌++◌, length, Bool, true, false, ◌&&◌, Option, Some, None, is_none, Result, Ok, Err, nat_lt, nat_le, ◌==◌, if◌then◌else◌, codes, bytes_eq}
+use Rattle.std.specs.Prelude.{◌≡◌, ℕ, List, [], ◌∷◌, length, Bool, true, false, ◌&&◌, Option, Some, None, is_none, Result, Ok, Err, nat_lt, nat_le, ◌==◌, if◌then◌else◌, codes, bytes_eq}
 use Rattle.sshkey_model.specs.Parts.{Parts}
 use Rattle.sshkey_model.specs.Reading.{Fault, Label, Front, string_at, checked_at}
 use Rattle.sshkey_model.specs.Texts.{string}
@@ -43,7 +43,9 @@ pub data Algorithm : Type 0 where
 -- PROTOCOL.u2f
 abbrev pub algorithm_name : Algorithm → List ℕ
 algorithm_name Dsa = codes "ssh-dss"
-algorithm_name (Ecdsa c) = codes "ecdsa-sha2-" ++ curve_name c
+algorithm_name (Ecdsa Nistp256) = codes "ecdsa-sha2-nistp256"
+algorithm_name (Ecdsa Nistp384) = codes "ecdsa-sha2-nistp384"
+algorithm_name (Ecdsa Nistp521) = codes "ecdsa-sha2-nistp521"
 algorithm_name Ed25519 = codes "ssh-ed25519"
 algorithm_name (Rsa None) = codes "ssh-rsa"
 algorithm_name (Rsa (Some Sha256)) = codes "rsa-sha2-256"
@@ -84,7 +86,7 @@ behind_first c None = None
 behind_first c (Some p) = Some (c ∷ p.0, p.1)
 
 -- what stands before the first at sign, and behind it
-unfoldable pub cut : List ℕ → Option (List ℕ × List ℕ)
+abbrev pub cut : List ℕ → Option (List ℕ × List ℕ)
 cut [] = None
 cut (c ∷ rest) = if c == at_sign then Some ([], rest) else behind_first c (cut rest)
 

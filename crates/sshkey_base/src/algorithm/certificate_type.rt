@@ -104,20 +104,19 @@ impl Algorithm {
         ensures short { IfOk result (λ text. length text.now ≤ 73) }
         ensures private { IfErr result (λ name. algorithm_of self.now ≡ Other name.now) }
     {
-        let text = match self {
-            Algorithm::Dsa => names::SSH_DSS_CERT,
+        match self {
+            Algorithm::Dsa => Ok(names::SSH_DSS_CERT),
             Algorithm::Ecdsa { curve } => match curve {
-                EcdsaCurve::NistP256 => names::ECDSA_SHA2_NISTP256_CERT,
-                EcdsaCurve::NistP384 => names::ECDSA_SHA2_NISTP384_CERT,
-                EcdsaCurve::NistP521 => names::ECDSA_SHA2_NISTP521_CERT,
+                EcdsaCurve::NistP256 => Ok(names::ECDSA_SHA2_NISTP256_CERT),
+                EcdsaCurve::NistP384 => Ok(names::ECDSA_SHA2_NISTP384_CERT),
+                EcdsaCurve::NistP521 => Ok(names::ECDSA_SHA2_NISTP521_CERT),
             },
-            Algorithm::Ed25519 => names::SSH_ED25519_CERT,
-            Algorithm::Rsa { .. } => names::SSH_RSA_CERT,
-            Algorithm::SkEcdsaSha2NistP256 => names::SK_ECDSA_SHA2_NISTP256_CERT,
-            Algorithm::SkEd25519 => names::SK_SSH_ED25519_CERT,
-            Algorithm::Other(name) => return Err(name),
-        };
-        Ok(text)
+            Algorithm::Ed25519 => Ok(names::SSH_ED25519_CERT),
+            Algorithm::Rsa { .. } => Ok(names::SSH_RSA_CERT),
+            Algorithm::SkEcdsaSha2NistP256 => Ok(names::SK_ECDSA_SHA2_NISTP256_CERT),
+            Algorithm::SkEd25519 => Ok(names::SK_SSH_ED25519_CERT),
+            Algorithm::Other(name) => Err(name),
+        }
     }
 
     /// Reads the string of a name in a certificate from the front, and leaves what follows it.
