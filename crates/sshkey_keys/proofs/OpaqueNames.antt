@@ -1,18 +1,16 @@
 -- The name in certificates of an opaque key.
 use Rattle.std.proofs.Common.{◌≡◌, ◌≤◌, length, true, false, Some, refl}
-use Rattle.sshkey_model.specs.Names.{Algorithm, Ecdsa, Rsa, Other, Nistp256, Sha256, algorithm_name, cut}
+use Rattle.sshkey_model.specs.Names.{Algorithm, Ecdsa, Rsa, Other, Nistp256, Sha256, algorithm_name}
 use Rattle.sshkey_model.specs.CertificateNames.{certificate_name}
 use Rattle.sshkey_model.proofs.ShortNames as names
 use Rattle.sshkey_keys.specs.KeyKinds.{keeps_name}
 
 pub plain_name : (a : Algorithm) → keeps_name a ≡ true → certificate_name (Other (algorithm_name a)) ≡ algorithm_name a
-unfolding cut
 plain_name (Ecdsa Nistp256) e = cc
 plain_name (Rsa (Some Sha256)) e = cc
 plain_name _ e = cc
 
 pub own_name : (a : Algorithm) → keeps_name a ≡ false → certificate_name (Other (algorithm_name a)) ≡ certificate_name a
-unfolding cut
 own_name (Other n) e = refl
 own_name _ e = cc
 

@@ -1,14 +1,14 @@
 -- An opaque key whose name is a private-use one stands under an algorithm with a private-use name.
 use Rattle.std.proofs.Common.{◌≡◌, ◌∙◌, ℕ, List, Some, refl, sym, ap}
 use Rattle.sshkey_model.specs.Keys.{IsKey, key_algorithm}
-use Rattle.sshkey_model.specs.Names.{Algorithm, Ecdsa, Rsa, Other, Nistp256, Sha256, algorithm_name, named, cut, is_own_name, is_other_name, IsAlgorithm}
+use Rattle.sshkey_model.specs.Names.{Algorithm, Ecdsa, Rsa, Other, Nistp256, Sha256, algorithm_name, named, is_own_name, is_other_name, IsAlgorithm}
 use Rattle.sshkey_base.specs.Names.{algorithm_of}
 use Rattle.sshkey_keys.specs.declared.key_data.KeyData.{KeyData}
 use Rattle.sshkey_keys.specs.declared.key_data.KeyData.TheVariants as kinds
 use Rattle.sshkey_keys.specs.Keys.{key_of, stored_algorithm}
 
 own_algorithm : (a : Algorithm) → IsAlgorithm (Other (algorithm_name a)) → a ≡ Other (algorithm_name a)
-unfolding is_other_name is_own_name named cut
+unfolding is_other_name is_own_name named
 own_algorithm (Ecdsa Nistp256) is = absurd cc
 own_algorithm (Rsa (Some Sha256)) is = absurd cc
 own_algorithm (Other n) is = refl
