@@ -25,7 +25,7 @@ no_word [] rest quoted plain (inl none) e = cc (e ∙ none)
 no_word [] rest quoted plain (inr blank) e = cc (sym blank ∙ ap (λ (t : List ℕ). is_blank (slice_index t 0)) (sym e))
 no_word (c ∷ word) rest quoted plain ends e = plain 0 (omega arith) (ap (λ (t : List ℕ). slice_index t 0) (sym e))
 
--- behind a quote stand the principals and another
+-- after a quote come the principals and another quote
 behind_quote : (line quoted : List ℕ) (p : Parts) → line ≡ quote ∷ quoted → CutsFirst line p.0 p.1 → quoted ≡ p.0 ++ (quote ∷ p.1)
 behind_quote line quoted p e has = elim has.is [
   | inl cut ↦ absurd (no_word p.0 p.1 quoted has.unquoted cut.ends (sym e ∙ cut.is))

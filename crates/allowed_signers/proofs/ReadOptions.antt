@@ -9,7 +9,7 @@ abbrev pub Says : Terms → List ℕ → Terms → Type 0
 Says s text t = (options : List KeyOption) × AreKeyOptions text options × AddOptions options s t
 
 module _ (old new : List ℕ) (o : KeyOption) (s : Terms) (is : IsOptionAt (without_commas old) o new) where
-  -- what the options behind this one add
+  -- what the options after this one add
   pub said_later : (u t : Terms) → AddsOption o s u → Says u new t → Says s old t
   said_later u t adds says = (o ∷ says.0, (new, is, says.1), (u, adds, says.2))
 

@@ -45,9 +45,9 @@ pub record IsEntryFor (namespace : List ℕ) (time : ℕ) (key : Key) (entry : A
 abbrev pub HasEntryFor : List ℕ → ℕ → Key → List ℕ → Type 0
 HasEntryFor namespace time key text = (entry : AuthorizedKey) × IsAuthorizedLine text entry × IsEntryFor namespace time key entry
 
--- The line lets the key sign for the identity, in the namespace and at the time: its principals
--- list the identity, letters in their own case, and behind them stands such an entry. No byte is 0,
--- where ssh-keygen takes the line to end.
+-- The line lets the key sign for the identity, in the namespace and at the time. Its principals
+-- list the identity, letters in their own case, and such an entry follows them. No byte is 0, where
+-- ssh-keygen takes the line to end.
 pub record AllowsSigner (identity namespace : List ℕ) (time : ℕ) (key : Key) (line : List ℕ) : Type 0 where
   pub no_zero : IsWithout 0 line
   pub principals : List ℕ

@@ -43,7 +43,7 @@ epoch = days_of_years 1970 * 86400
 
 -- ---- the text
 
--- the digits in front, and what stands behind them
+-- the digits in front, and what follows them
 abbrev pub digits : List ℕ → List ℕ
 digits text = take_while is_ascii_digit text
 

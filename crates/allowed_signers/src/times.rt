@@ -89,7 +89,7 @@ fn digit(text: &[u8], place: usize) -> u64
     }
 }
 
-/// The moment that so many digits spell.
+/// The moment that the digits spell.
 fn read_moment(digits: &[u8]) -> Moment
     ensures value { result ≡ moment digits.now }
     ensures short { result.year < 2 ^ 20 }

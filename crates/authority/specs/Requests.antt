@@ -131,7 +131,7 @@ abbrev pub CertifiesExactly : (Question → Bool) → Key → (List ℕ → Erro
 CertifiesExactly accepts authority refuses r serial nonce (Ok c) = IsIssued accepts authority r serial nonce c
 CertifiesExactly accepts authority refuses r serial nonce (Err e) = bad_window r.valid_after r.valid_before ≡ None → names_of r ≢ [] → RefusesToSign refuses (fields_for r serial nonce authority) e
 
--- A serial number is left: there is one behind it.
+-- A serial number is left: the one after it is below 2^64.
 abbrev pub IsLeft : ℕ → Type 0
 IsLeft serial = serial + 1 < 2 ^ 64
 

@@ -52,9 +52,9 @@ impl Authority {
     /// The certificate that is asked for, without a comment, if the request is within the limits at
     /// that time, in seconds since 1970.
     ///
-    /// `CertificateFieldInvalid` where it is not, as `Limits::check` has it, or where no serial
-    /// number is left (`Field::Serial`), and then nothing is changed. Else the refusals of
-    /// `Builder::new` and of `Builder::sign`. A serial number is used up also where signing is
+    /// Fails with `CertificateFieldInvalid` if it is not, as `Limits::check` does, or if no serial
+    /// number is left (`Field::Serial`); then nothing is changed. Other refusals are those of
+    /// `Builder::new` and of `Builder::sign`. A serial number is used up also if signing is
     /// refused, since the signer may have signed. The signer is asked for that certificate alone.
     ///
     /// It does not ask who asks: that whoever does is the users in the request, and holds the
@@ -122,8 +122,8 @@ impl Authority {
     /// ssh(1): it revokes the certificates that were taken back, of those that this key signed, and
     /// nothing else. Give each list a higher number than the one before.
     ///
-    /// Fails with `Length` where the serial numbers or the key have 2^32 bytes or more, and
-    /// otherwise only when out of memory.
+    /// Fails with `Length` if the serial numbers or the key have 2^32 bytes or more, and otherwise
+    /// only when out of memory.
     pub fn krl(&self, alloc: Global, number: u64, date: u64, public_key: &KeyData) -> Result<Krl>
         requires { IsKey (key_of public_key.now) }
         ensures stated { IfOk result (λ k. IsStated number date (krl_of k)) }

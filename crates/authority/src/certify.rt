@@ -51,7 +51,7 @@ fn add_principals(builder: &mut Builder, principals: Vec<String>) -> Result<()>
     Ok(())
 }
 
-/// Adds the extension of each name, without data, where it is not there. Refused only when out of
+/// Adds the extension of each name, without data, if it is not there yet. Refused only when out of
 /// memory.
 fn add_extensions(alloc: Global, builder: &mut Builder, names: Vec<String>) -> Result<()>
     ensures { AddsEach (map string_bytes names.items) builder.old result builder.new }
@@ -62,7 +62,7 @@ fn add_extensions(alloc: Global, builder: &mut Builder, names: Vec<String>) -> R
     Ok(())
 }
 
-/// Adds the extension of that name, without data, where it is not there. Refused only when out of
+/// Adds the extension of that name, without data, if it is not there yet. Refused only when out of
 /// memory.
 fn add_extension(alloc: Global, builder: &mut Builder, name: String) -> Result<()>
     ensures { AddsEach (string_bytes name ∷ []) builder.old result builder.new }

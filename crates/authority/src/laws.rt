@@ -4,8 +4,8 @@ ghost use Rattle.std.specs.Prelude.{ℕ, List, ◌++◌, ◌<◌, length, slice_
 ghost use Rattle.authority.specs.Serials.{IsHistory};
 
 /// The histories of calls that follow one another are one history, and in a history each serial
-/// number is above those before it: no two certificates have one. None of them is 0 where the first
-/// is not.
+/// number is above those before it: no two certificates have one. None of them is 0 if the first is
+/// not.
 pub fn serials()
     ensures joined { (from between to : ℕ) (first then : List ℕ) → IsHistory from first between →
         IsHistory between then to → IsHistory from (first ++ then) to }

@@ -62,7 +62,7 @@ impl Limits {
     /// that name may be of another kind of key.
     ///
     /// A window may begin before now, as that of `ssh-keygen -V -5m:+1h` does for machines whose
-    /// clock is slow, and then these seconds count too: that one has 3,900.
+    /// clock is slow, and then these seconds count too: this example has 3,900.
     pub fn check(&self, request: &Request, unix_timestamp: u64) -> Result<()>
         ensures exactly { AcceptsExactly (IsWithinLimits self.now unix_timestamp request.now)
             result }

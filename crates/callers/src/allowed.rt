@@ -8,7 +8,7 @@ use ssh_key::Result;
 use std::alloc::{AllocError, Global};
 
 /// Whether the signature is the identity's of the message before it, by the text of allowed signers
-/// and the lists of revoked keys behind it, all in hexadecimal digits.
+/// and the lists of revoked keys after it, all in hexadecimal digits.
 pub(crate) fn answer(alloc: Global, words: &[&str], told: &Told) -> Result<String> {
     let [
         signers,

@@ -8,7 +8,7 @@ use ssh_key::Result;
 use std::alloc::{AllocError, Global};
 
 /// Whose signature it is. The deploy keys, the content, what stands in the armour of the signature,
-/// and the lists of what is revoked behind it are spelled in hexadecimal digits; the namespace
+/// and the lists of what is revoked after it are spelled in hexadecimal digits; the namespace
 /// stands before the content.
 pub(crate) fn answer(alloc: Global, words: &[&str], told: &Told) -> Result<String> {
     let [keys, namespace, content, signature, revoked @ ..] = words else {

@@ -9,7 +9,7 @@ use ssh_key::{Certificate, PublicKey, Result};
 use std::alloc::{AllocError, Global};
 
 /// Whether the key is the host's, by the texts of known_hosts in hexadecimal digits, and by the
-/// lists of what is revoked, which are the words behind it.
+/// lists of what is revoked, which are the words after the key.
 pub(crate) fn key(alloc: Global, words: &[&str], hashes: &Hashes) -> Result<String> {
     let [known_hosts, host, port, key, revoked @ ..] = words else {
         return Err(NO_LINE);
@@ -28,7 +28,7 @@ pub(crate) fn key(alloc: Global, words: &[&str], hashes: &Hashes) -> Result<Stri
     shown(alloc, answer)
 }
 
-/// The same of a certificate at the second that is the word behind it.
+/// The same for a certificate at the second that is the word after it.
 pub(crate) fn certificate(
     alloc: Global,
     words: &[&str],

@@ -8,7 +8,7 @@ use ssh_key::{Error, PublicKey, Result};
 use std::alloc::{AllocError, Global};
 
 /// Whether the user is let in, who is the first word, at the second that is the second one, with
-/// the offered key, by the certificate, by the authorities with the fingerprints in the word behind
+/// the offered key, by the certificate, by the authorities with the fingerprints in the word after
 /// it, and by the lists of what is revoked in all the others.
 pub(crate) fn answer(alloc: Global, words: &[&str], told: &Told) -> Result<String> {
     let [

@@ -2,7 +2,7 @@
 //!
 //! A line is a question and what it is about, with a tab between; its answer is written on a line.
 //! Comments and empty lines are written as they are. A line `verified` tells of a signature that
-//! another program has verified: those, and no others, are accepted in the lines behind it. A line
+//! another program has verified: those, and no others, are accepted in the lines after it. A line
 //! `hashed` tells of an HMAC-SHA1 that another program has computed. A line `questions` before a
 //! question has the number of times written that the verifier is asked for its answer.
 #![tactic(auto)]

@@ -42,9 +42,9 @@ use std::alloc::Global;
 ///
 /// So the verifier is asked only about a certificate by an authority of the host.
 ///
-/// Where it would refuse a host at another port than 22 with `Unknown`, it asks, as ssh(1) does,
-/// all the texts about the host's plain name. Whether the certified key is one that the host is
-/// known by is `check_key`'s question, and not asked here.
+/// If it would refuse a host at another port than 22 with `Unknown`, it asks, as ssh(1) does, all
+/// the texts about the host's plain name. Whether the certified key is one that the host is known
+/// by is `check_key`'s question, and not asked here.
 pub fn check_certificate<H: HmacSha1, R: Revocations, V: RawVerifier>(
     alloc: Global,
     texts: &[&str],

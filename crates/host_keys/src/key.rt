@@ -28,8 +28,8 @@ use std::alloc::Global;
 /// - `Changed`: other keys are listed for the host, and not this one;
 /// - `Unknown`: no key is listed for it.
 ///
-/// Where it would refuse a host at another port than 22 with `Unknown`, it asks, as ssh(1) does,
-/// all the texts about the host's plain name, and that answer is the answer.
+/// If it would refuse a host at another port than 22 with `Unknown`, it asks, as ssh(1) does, all
+/// the texts about the host's plain name, and that answer is the answer.
 pub fn check_key<H: HmacSha1, R: Revocations>(
     alloc: Global,
     texts: &[&str],

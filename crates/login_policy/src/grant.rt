@@ -18,7 +18,7 @@ pub struct Grant {
     /// The one command that may run, whatever the client asks for. It is never empty.
     pub force_command: Option<String>,
     /// The addresses that the login may come from, never empty: addresses and networks in CIDR
-    /// notation, with commas between. Refuse the login for a list that is malformed, also where an
+    /// notation, with commas between. Refuse the login for a list that is malformed, even if an
     /// address in it matches, as sshd(8) does; and compare the IPv4 address of a client that a
     /// socket for IPv6 shows as `::ffff:10.1.2.3`, for whom `::/0` is not.
     pub source_address: Option<String>,

@@ -39,16 +39,16 @@ use std::alloc::Global;
 /// Out of memory aside, it refuses all others with the first of these, where each but `Revoked`
 /// stands in a `Certificate`: the errors of `Certificate::from_openssh`; `CertificateFieldInvalid`
 /// with `CertType` for a certificate for hosts, with `PublicKey` for one of another key or for a
-/// zero byte in the application, with `CriticalOptions` where an option is not known or sshd reads
-/// no such value, with `Extensions` where data stand in a flag or a name has a zero byte, with
-/// `KeyId` where the key id has one, and with `ValidPrincipals` if it lists no principal (such a
-/// certificate lets nobody in: sshd_config(5), `TrustedUserCAKeys`), more than 256, or one with a
-/// zero byte, and if the user's name is empty, which a certificate may list;
-/// `CertificateValidation` for another authority; `Revoked`; the errors of
-/// `Certificate::validate_principal_at`. For a line that is no certificate's, `Memory` means what
-/// it means for `Certificate::from_openssh`. Another authority, a bad signature and a time outside
-/// the window are all `CertificateValidation`: for a log `Certificate::first_refusal_for` tells
-/// which, but it asks the verifier first, also about a stranger's key.
+/// zero byte in the application, with `CriticalOptions` if an option is not known or sshd reads no
+/// such value, with `Extensions` if data stand in a flag or a name has a zero byte, with `KeyId` if
+/// the key id has one, and with `ValidPrincipals` if it lists no principal (such a certificate lets
+/// nobody in: sshd_config(5), `TrustedUserCAKeys`), more than 256, or one with a zero byte, and if
+/// the user's name is empty, which a certificate may list; `CertificateValidation` for another
+/// authority; `Revoked`; the errors of `Certificate::validate_principal_at`. For a line that is no
+/// certificate's, `Memory` means what it means for `Certificate::from_openssh`. Another authority,
+/// a bad signature and a time outside the window are all `CertificateValidation`: for a log
+/// `Certificate::first_refusal_for` tells which, but it asks the verifier first, also about a
+/// stranger's key.
 ///
 /// The verifier is asked only about a certificate by one of the authorities that is not revoked: a
 /// key that a client made and signed with never reaches it.
@@ -62,8 +62,8 @@ use std::alloc::Global;
 ///
 /// Whoever calls it has asked the client for a signature under the offered key, and does what the
 /// grant says, the flags in a security key's signature included. The options of a line
-/// `cert-authority` of authorized_keys, by which sshd trusts an authority for one user, bind a
-/// login besides: of an authority that stands there they are the caller's to judge.
+/// `cert-authority` of authorized_keys, by which sshd trusts an authority for one user, also bind a
+/// login: for an authority that stands there, the caller must judge them.
 pub fn log_in<R: Revocations, V: RawVerifier>(
     alloc: Global,
     line: &str,

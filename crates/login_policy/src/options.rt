@@ -88,7 +88,7 @@ fn is_empty_if_flag(name: &str, value: &str) -> bool
     true
 }
 
-/// Whether it is an extension of which sshd reads the name alone.
+/// Whether it names an extension that is a flag: sshd reads its name alone.
 fn is_flag(name: &str) -> bool
     ensures { result ≡ list_any (bytes_eq name.now) flags }
 {

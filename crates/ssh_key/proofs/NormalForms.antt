@@ -11,7 +11,7 @@ use Rattle.ssh_key.specs.NormalForms.{AreNormalForms}
 pub normal_forms : {V : Type 0} {Is : V → Type 0} {spell : V → Parts} {read : Front V} → ReadsFront Is spell read → AreNormalForms Is spell read
 normal_forms reads = record { determine = determined reads; again = read_back reads }
 
--- the same where parts may be spelled in several ways, of which one is plain
+-- the same where parts may be spelled in several ways, one of them plain
 pub plain_forms : {V S : Type 0} {Is : V → Type 0} {HasPlace : V → S → Type 0} (spell : V → S → Parts) {read : Front (V × S)} → ReadsFront (IsSpelled Is HasPlace) (spelled spell) read → (plain : V → S) → ((v : V) → Is v → HasPlace v (plain v)) → AreNormalForms Is (λ v. spell v (plain v)) (value_at read)
 unfolding ReadBack ReadBackPlain
 plain_forms spell reads plain has = record {

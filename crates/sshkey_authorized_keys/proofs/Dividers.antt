@@ -35,7 +35,7 @@ divides_not text i none = by_case (is_comma (slice_index text i)) refl (is_quote
     by_case true c true d = (λ j. c j && not (d j))
     by_case true c false d = absurd (none (eqb-true _ 0x2c c) d)
 
--- Behind a divider quotation begins anew.
+-- After a divider quotation begins anew.
 after_divider : (text : List ℕ) (i k : ℕ) → i < length text → at text i ≡ true → at text (i + 1 + k) ≡ at (drop (i + 1) text) k
 unfolding is_quoted
 after_divider text i k l divider =
@@ -57,7 +57,7 @@ pub no_items : items [] ≡ []
 unfolding items
 no_items = refl
 
--- up to the first divider, and behind it
+-- up to the first divider, and after it
 pub items_first : (text : List ℕ) (i : ℕ) → FindsDivider text (Some i) → items text ≡ take i text ∷ items (drop (i + 1) text)
 items_first text i h =
     items_cuts text

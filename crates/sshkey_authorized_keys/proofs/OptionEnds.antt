@@ -58,7 +58,7 @@ options_cut text bytes front back n same e first rest =
     let size : length front ≡ n = ap length first ∙ length-take-le n text (omega (arith, ends.within)) in
     (sym (take-append-drop n text) ∙ (λ j. sym first j ++ sym rest j), subst (EndsOptions text) (sym size) ends)
 
--- ---- behind options
+-- ---- after options
 
 pub uncut : (text : List ℕ) → HasNoEnd text → (a : AuthorizedKey) → IsBehindOptions text a → ⊥
 uncut text none a is = none (length a.options) is.ends

@@ -1,4 +1,4 @@
--- What an entry of authorized_keys means, and when a line is read behind options.
+-- What an entry of authorized_keys means, and when a line is read after options.
 use Rattle.std.specs.Prelude.{ℕ, List, ◌≤◌, count_by}
 use Rattle.sshkey_keys.specs.Comparisons.{HasForm}
 use Rattle.sshkey_public.specs.PublicKeys.{data_of, public_of, comment_of}

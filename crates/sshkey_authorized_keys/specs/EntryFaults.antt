@@ -14,9 +14,9 @@ use Rattle.sshkey_entries.specs.ConfigOptions.{AreOptionCharacters}
 abbrev pub HasFaultOfKey : List ℕ → Error → Type 0
 HasFaultOfKey = HasFaultOfLine key_format key_name SpellsKey
 
--- `FormatEncoding` where there is no space, and the fault of the key's line where there are one or
--- two. Where there are more, `CharacterEncoding` if options do not have what stands before the
--- first, and else the fault of the key's line behind it.
+-- `FormatEncoding` if there is no space, and the fault of the key's line if there are one or two.
+-- If there are more, `CharacterEncoding` if options cannot hold what stands before the first, and
+-- else the fault of the key's line after it.
 pub record HasFault (line : List ℕ) (e : Error) : Type 0 where
   pub no_space : count_by is_space line ≡ 0 → e ≡ FormatEncoding
   pub no_key : 0 < count_by is_space line → count_by is_space line < 3 → HasFaultOfKey line e

@@ -26,8 +26,8 @@ abbrev pub CutsOptions : List ℕ → Option (Bor (List ℕ) × Bor (List ℕ)) 
 CutsOptions text None = HasNoEnd text
 CutsOptions text (Some x) = (text ≡ x.0.now ++ x.1.now) × EndsOptions text (length x.0.now)
 
--- Of a text that no key begins: `FormatEncoding` where options have no end, and else the fault of
--- the key's fields behind them.
+-- For a text that no key begins: `FormatEncoding` if options have no end, and else the fault of the
+-- key's fields after them.
 pub record HasTextFault (text : List ℕ) (e : Error) : Type 0 where
   pub no_end : HasNoEnd text → e ≡ FormatEncoding
   pub fields : (options rest : List ℕ) → text ≡ options ++ rest → EndsOptions text (length options) → HasKeyFault (without_blanks rest) e

@@ -23,7 +23,7 @@ use Rattle.sshkey_base.proofs.Steps.{never_asks, refuses_first, refuses_sound, g
 same_outer : (a b : Outer) (xs ys : List Outer) → a ∷ xs ≡ b ∷ ys → (a ≡ b) × (xs ≡ ys)
 same_outer a b xs ys e = (cc, cc)
 
--- some bytes behind a value
+-- some bytes after a value
 pub some_behind : {A : Type 0} (x : A) (rest : List ℕ) (n : ℕ) → length rest ≡ n → 0 < n → end_of x rest ≡ Err (TrailingData n)
 some_behind x [] n e lt = absurd (omega arith)
 some_behind x (b ∷ rest) n e lt = rw (← e) refl
@@ -193,7 +193,7 @@ module _ {F N T E Y : Type 0} (call : Once F (MutBor N × Unit {0}) (Result T E 
         past_of (inr (inr (inl h))) o = absurd (within_not read h.len s h.after h.number h.within o)
         past_of (inr (inr (inr h))) o = absurd (within_not read h.calls.len s h.calls.after h.calls.number h.calls.within o)
 
-  -- Memory is asked for behind a length that is there.
+  -- Memory is asked for after a length that is there.
   module _ (needs : List ℕ → ℕ → Type 0) (by : AsksBy call source cause f needs) where
     asks_inside : (s : Source) (e : E) (h : Calls call source from_gives f s (Err e)) → cause e ≡ NoMemory → IsSound s → NeedsBoxed needs s.left s.missing
     asks_inside s e h memory sound =

@@ -78,7 +78,7 @@ fixed_is size b = bind_assoc (number_at w32 b) (scalar_step size) bare ∙ bind_
 pub both_read : (n : ℕ) (s t u : Source) (a b : List ℕ) → length a + length b ≡ n → Advances s a t → Advances t b u → Reads (λ x. x) (bytes_at n) s (a ++ b) u
 both_read n s t u a b len f g = front_reads n s u (a ++ b) (length-append a b ∙ len) (advances_both s t u a b f g)
 
--- ---- 00 and so many bytes
+-- ---- 00 and `size` bytes
 
 pub no_sign : (size : ℕ) (s : Source) (a : List ℕ) (e : Error) → length a ≡ 1 → TooFew s (length a) e → Refuses s.missing (encoding_cause e) (checked_at (fixed_from size) (bytes_at (suc size)) s.left)
 no_sign size s a e one h =
@@ -141,7 +141,7 @@ put_width size k b le len =
 pub put_full : (size k : ℕ) (b : List ℕ) → length b ≡ size → k ≡ length b → put_mid (size - length b) k (replicate size 0) b ≡ b
 put_full size k b len same = let none : size - length b ≡ 0 = omega arith in put_width size k b (omega arith) same ∙ rw none refl
 
--- ---- behind the length
+-- ---- after the length
 
 -- a length that is not too long is that of bytes, be there as many or not
 pub step_within : (size n : ℕ) (b : List ℕ) → n ≤ suc size → fixed_step size (n, b) ≡ checked_at (fixed_from size) (bytes_at n) b
@@ -157,7 +157,7 @@ unfolding fixed_at
 behind_length size n s t u (Ok b) a le h = record { value = rw (a.value, step_within size n t.left le) h.value; missing = h.missing ∙ a.missing; outer = h.outer ∙ a.outer }
 behind_length size n s t u (Err e) a le h = record { met = h.met; is = rw (a.value, step_within size n t.left le) h.is; same = λ none. h.same (a.missing ∙ none) }
 
--- ---- so many bytes at most
+-- ---- at most `size` bytes
 
 pub short_taken : (size : ℕ) (b : List ℕ) → length b < size → is_natural b ≡ true → fixed_from size b ≡ Ok (at_width size b)
 short_taken size b short is = rw (ne_eqb (length b) size (λ e. omega arith), ne_eqb (length b) (suc size) (λ e. omega arith), lt-ltb _ _ short, is) refl

@@ -66,7 +66,7 @@ front_is n l b r le e = go (are_bytes (take n l)) refl
         let h : ◌≡◌ {A = Taken} (Err Length) (Ok (b, r)) = rw (le-ltb (length l) n le, f) at e in
         absurd (front_none Length b r h)
 
--- what stands behind the first bytes of a source
+-- what follows the first bytes of a source
 behind_is : (n : ℕ) (s t : Source) (l : Later s t) → length l.passed ≡ n → t ≡ behind n s
 behind_is n s t l len = rw (l.left, drop_at l.passed t.left n len, ← l.missing, ← l.outer) refl
 
@@ -79,7 +79,7 @@ behind_more k n s t u b within is len a =
     let size : length (take k s.left ++ b) ≡ k + n = omega (arith, length-append (take k s.left) b, length-take-le k s.left within) in
     behind_is (k + n) s u (record { passed = take k s.left ++ b; left = all; missing = a.missing ∙ first.missing; outer = a.outer ∙ first.outer }) size
 
--- so many bytes of a part
+-- `len` bytes of a part
 abbrev part_front : (name n len : ℕ) (s : Source) → len ≤ n → len ≤ length s.left → Later (part name n s) (part name (n - len) (behind len s))
 part_front name n len s le within =
     let size : length (take len s.left) ≡ len = length-take-le len s.left within in
@@ -101,7 +101,7 @@ part_lends name n len s b le within h =
     let same : take len (take n s.left) ≡ take len s.left = rw l.left (take_at (take len s.left) _ len (length-take-le len s.left within)) in
     lent_front len (part name n s) b (omega (arith, length-take n s.left)) (front.0 ∙ sym same) front.1
 
--- and stands behind what that one passes
+-- and the part is past the same `len` bytes as its source
 pub part_behind : (name n len : ℕ) (s t : Source) → len ≤ length (take n s.left) → t ≡ behind len s → part name (n - len) t ≡ behind len (part name n s)
 part_behind name n len s t within is =
     let sizes = length-take n s.left in

@@ -1,4 +1,4 @@
--- A value that is made of another one, in a box or behind what is left of it.
+-- A value that is made of another one, in a box or before what is left.
 use Rattle.std.proofs.Common.{◌≡◌, ℕ, ◌≤◌, ◌<◌, Bool, true, false, ltb, List, length, take, drop, Result, Ok, Err, refl, sym, ap, ◌∙◌, arith, cond}
 use Rattle.std.specs.Int.{w32}
 use Rattle.std.proofs.lemmas.List.{length-drop}
@@ -29,7 +29,7 @@ made_rest : {A B : Type 0} (f : A → B) (r : Result A Fault) (rest : List ℕ) 
 made_rest f (Ok x) rest = refl
 made_rest f (Err e) rest = refl
 
--- what a box holds is read by another reader, and its value made from that one's
+-- what a box holds is read by another reader, and its value is made from that reader's
 pub box_map : {A B : Type 0} (read : Whole A) (other : Whole B) (f : A → B) → ((b : List ℕ) → other b ≡ (read b >>= made f)) → (b : List ℕ) → box_at other b ≡ (box_at read b >>= on_value f)
 unfolding box_at
 box_map {A} {B} read other f same b = go (number_at w32 b)

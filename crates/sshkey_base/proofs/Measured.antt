@@ -1,4 +1,4 @@
--- How many bytes parts have, one behind the other.
+-- How many bytes parts have, one after the other.
 use Rattle.std.proofs.Common.{◌≡◌, ℕ, ◌+◌, length, Result, Ok, Err, IsErrAnd, arith, ◌∙◌}
 use Rattle.std.proofs.lemmas.List.{length-append}
 use Rattle.sshkey_model.specs.Parts.{Parts, ◌&◌, flat, BoxesFit}
@@ -6,7 +6,7 @@ use Rattle.sshkey_base.specs.Sink.{Measures}
 use Rattle.sshkey_base.specs.declared.encoding.Error.{Error}
 use Rattle.sshkey_base.specs.declared.encoding.Error.TheVariants.{Length}
 
--- So many bytes, and no box is too long.
+-- They have `n` bytes, and no box is too long.
 abbrev pub Has : Parts → ℕ → Type 0
 Has p n = BoxesFit p × (n ≡ length (flat p))
 

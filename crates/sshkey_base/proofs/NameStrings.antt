@@ -40,7 +40,7 @@ same_kept {B} a b c d e =
     let same : ◌≡◌ {A = B × List ℕ} (a, c) (b, d) = cc e in
     (ap (λ (p : B × List ℕ). p.0) same, ap (λ (p : B × List ℕ). p.1) same)
 
--- so many bytes are taken
+-- `n` bytes are taken
 front_len : (n : ℕ) (b x rest : List ℕ) → bytes_at n b ≡ Ok (x, rest) → length x ≡ n
 unfolding bytes_at
 front_len n b x rest e = go (ltb (length b) n) (are_bytes (take n b)) refl refl
@@ -199,7 +199,7 @@ looked_up_names stands_for named b (Err e) l = λ other.
 
 -- ---- passing them
 
--- So many bytes were passed.
+-- `n` bytes were passed.
 pub record Passed (n : ℕ) (s t : Source) : Type 0 where
   pub front : List ℕ
   pub size : length front ≡ n

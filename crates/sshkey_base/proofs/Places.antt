@@ -77,7 +77,7 @@ part_takes name n s t bytes (Err e) le takes l =
     let few = takes.few in
     record { few = omega (arith, length-take n s.left); sound = λ sound. absurd (omega arith) }
 
--- ---- behind a closure over a part
+-- ---- after a closure over a part
 
 -- What was passed of a part was passed in the reader.
 pub later_around : (name other n m : ℕ) (s t : Source) → Later (part name n s) (part other m t) → (name ≡ other) × Later s t

@@ -38,7 +38,7 @@ module _ {A : Type 0} (item : Option A → Front A) where
   joined done x (Ok ys) = rw append_assoc refl
   joined done x (Err fault) = refl
 
-  -- The values so far, of which `before` is the last, stand before what is left: what follows them
+  -- The values so far, with `before` as the last, stand before what is left: what follows them
   -- decides.
   pub record Collects (s : Source) (before : Option A) (done : List A) (t : Source) : Type 0 where
     pub missing : t.missing ≡ s.missing

@@ -67,7 +67,7 @@ string_stood {X} means s t x h = go (number_at w32 s.left) h.value
           | inr le ↦ omega arith
         ]
 
--- the bytes of a string, judged behind its length
+-- the bytes of a string, judged after its length
 pub behind_length : {B X E : Type 0} (means : X → B) (cause : E → Cause) (judge : List ℕ → Result B Fault) (n : ℕ) (s t u : Source) (r : Result X E) → Reads (λ k. k) (number_at w32) s n t → Gives means cause (checked_at judge (bytes_at n)) t r u → Gives means cause (checked_at judge string_at) s r u
 unfolding string_at
 behind_length means cause judge n s t u (Ok x) h k = record { value = rw h.value k.value; missing = k.missing ∙ h.missing; outer = k.outer ∙ h.outer }

@@ -1,4 +1,4 @@
--- A loop that writes values one behind the other, or adds up their bytes.
+-- A loop that writes values one after the other, or adds up their bytes.
 use Rattle.std.proofs.Common.{◌≡◌, ◌≤◌, ◌<◌, ◌+◌, ◌^◌, ℕ, List, [], ◌∷◌, append-nil, length, get_or, drop, map, Result, Ok, Err, refl, arith}
 use Rattle.std.proofs.lemmas.List.{drop_more, drop_all}
 use Rattle.sshkey_model.specs.Parts.{Parts, nothing, box, ◌&◌, each, flat, InRange, BoxesFit}
@@ -25,7 +25,7 @@ module _ {A : Type 0} (normal : A → Parts) (xs : List A) where
 
   -- ---- writing
 
-  -- What is added behind the first i values decides about all.
+  -- What is added after the first `i` values decides about all.
   abbrev pub DecidesFrom : (Error → Type 0) → ℕ → Sink → Sink → Type 0
   DecidesFrom fault i s t = (u : Sink) (r : Result (Unit {0}) Error) → Encodes fault (from i) t r u → Encodes fault (each normal xs) s r u
 
@@ -45,7 +45,7 @@ module _ {A : Type 0} (normal : A → Parts) (xs : List A) where
 
   -- ---- adding up
 
-  -- The first i values have so many bytes, which a box can hold.
+  -- The first `i` values have `len` bytes, which a box can hold.
   pub record HasLen (i len : ℕ) : Type 0 where
     pub rest : len + length (flat (from i)) ≡ length (flat (each normal xs))
     pub fit : BoxesFit (from i) → BoxesFit (each normal xs)

@@ -41,16 +41,16 @@ IsCutOf t None = cut t ≡ None
 IsCutOf t (Some p) = cut t ≡ Some (p.0.now, p.1.now)
 
 -- The text has the suffix before its first at sign, and these are what stands before the suffix and
--- behind that sign.
+-- after that sign.
 pub record AreNameParts (t l r : List ℕ) : Type 0 where
   pub first : cut l ≡ None
   pub whole : t ≡ l ++ suffix ++ at_sign ∷ r
 
--- What stands before the first at sign of a name, and behind it.
+-- What stands before the first at sign of a name, and after it.
 abbrev pub are_own_parts : List ℕ → List ℕ → Bool
 are_own_parts l r = are_ascii l && are_ascii r && nat_lt (length l + length r) 64 && is_split (Some (l, r))
 
--- What stands before and behind the at sign of the name that has this name in a certificate, if one
+-- What stands before and after the at sign of the name that has this name in a certificate, if one
 -- has.
 abbrev pub AreCertifiedParts : List ℕ → Option (Bor (List ℕ) × Bor (List ℕ)) → Type 0
 AreCertifiedParts t None = IsNoCertificateType t

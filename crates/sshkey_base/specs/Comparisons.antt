@@ -17,7 +17,7 @@ use Rattle.sshkey_base.specs.declared.certificate.field.Field.TheVariants as fie
 abbrev pub IsEqualityOf : {X Y : Type 0} → (X → Y) → (X → X → Bool) → Type 0
 IsEqualityOf {X} means eq = (x y : X) → (eq x y ≡ true) ↔ (means x ≡ means y)
 
--- Among those of which P holds, two are equal exactly if they mean the same.
+-- Among those for which P holds, two are equal exactly if they mean the same.
 abbrev pub IsEqualityAmong : {X Y : Type 0} → (X → Type 0) → (X → Y) → (X → X → Bool) → Type 0
 IsEqualityAmong {X} P means eq = (x y : X) → P x → P y → (eq x y ≡ true) ↔ (means x ≡ means y)
 

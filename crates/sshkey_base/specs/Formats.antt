@@ -28,8 +28,7 @@ pub record Format (A : Type 0) : Type 1 where
   pub needs : List ℕ → ℕ → Type 0
   -- where a stated length passes all of that
   pub overruns : List ℕ → ℕ → Type 0
-  -- the plain reader takes exactly the spellings, and bytes may stand behind a value that ends by
-  -- itself
+  -- the plain reader takes exactly the spellings, and bytes may follow a value that ends by itself
   pub grammar : Grammar Spells read
   -- and refuses with `Length` where a length passes
   pub lengths : AreLengths read overruns
@@ -39,7 +38,7 @@ pub record Format (A : Type 0) : Type 1 where
 abbrev pub Stops : {X Y E : Type 0} → (E → Cause) → Format Y → Source → Result X E → Type 0
 Stops cause f s r = StopsBy cause f.grammar.delimited_at f.needs f.overruns s r
 
--- The bytes begin with a spelling of the value, and the rest stands behind it.
+-- The bytes begin with a spelling of the value, and the rest follows it.
 pub record Begins {Y : Type 0} (f : Format Y) (y : Y) (bytes rest : List ℕ) : Type 0 where
   pub front : List ℕ
   pub spelled : f.Spells y front
@@ -82,10 +81,10 @@ text_format = record { Spells = SpellsText; read = text_at; needs = NeedsString;
 abbrev pub mpint_format : Format (List ℕ)
 mpint_format = record { Spells = SpellsMpint; read = mpint_at; needs = NeedsString; overruns = OverrunsString; grammar = by_itself mpint_grammar; lengths = mpint_lengths }
 
--- a string of texts, one behind the other
+-- a string of texts, one after the other
 abbrev pub texts_format : Format (List (List ℕ))
 texts_format = record { Spells = SpellsTexts; read = texts_at; needs = NeedsBoxed NeedsTexts; overruns = OverrunsBoxed (OverrunsList (λ before. text_at) OverrunsString); grammar = by_itself texts_grammar; lengths = texts_lengths }
 
--- a name, of which `needs` says where its value keeps memory
+-- a name; `needs` says where its value keeps memory
 abbrev pub label_format : {N : Type 0} {Is : N → Type 0} {name : N → List ℕ} {named : Whole N} → (List ℕ → ℕ → Type 0) → Checks Any bytes Is (λ n. bytes (name n)) named → Format N
 label_format {N} {Is} {name} {named} needs checks = record { Spells = Spells Is (λ n. string (name n)); read = label_at named; needs = needs; overruns = OverrunsString; grammar = by_itself (label_grammar checks); lengths = label_lengths named }

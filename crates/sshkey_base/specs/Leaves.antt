@@ -20,8 +20,8 @@ SpellsNumber32 = Spells Any (number w32)
 abbrev pub SpellsNumber64 : ℕ → List ℕ → Type 0
 SpellsNumber64 = Spells Any (number w64)
 
--- A count in four bytes. One that needs more is spelled as a box of so many bytes, which does not
--- fit either.
+-- A count in four bytes. A count that needs more is spelled as a box of that many bytes, which does
+-- not fit either.
 unfoldable pub count : ℕ → Parts
 count n = if nat_lt n (2 ^ 32) then number w32 n else box (bytes (replicate n 0))
 

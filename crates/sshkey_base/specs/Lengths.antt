@@ -69,7 +69,7 @@ boxed_lengths h = filled_lengths (λ b m o. rw (h b m o) refl)
 
 -- ---- lists
 
--- a step behind a value that was read
+-- a step after a value that was read
 behind_lengths : {A : Type 0} (Passes : A → List ℕ → Type 0) (next : A → List ℕ → Result (List A) Fault) (r : Result (A × List ℕ) Fault) → IsOkAnd r (λ x. Passes x.0 x.1) → ((a : A) (rest : List ℕ) → Passes a rest → next a rest ≡ Err Length) → (r >>= λ x. next x.0 x.1 >>= with_first x.0) ≡ Err Length
 behind_lengths Passes next (Ok x) o met = rw (met x.0 x.1 o) refl
 behind_lengths Passes next (Err e) o met = absurd o

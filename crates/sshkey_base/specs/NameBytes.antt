@@ -17,7 +17,7 @@ name_at n b = do
   x ← bytes_at n b
   Ok (not_too_long x.0, x.1)
 
--- the next n bytes, of which nothing is kept
+-- the next n bytes, none of them kept
 unfoldable pub passed_at : ℕ → Front (Unit {0})
 passed_at n b = do
   x ← bytes_at n b

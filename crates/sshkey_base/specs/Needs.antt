@@ -6,7 +6,7 @@ use Rattle.sshkey_base.specs.Causes.{Cause, NoMemory}
 use Rattle.sshkey_base.specs.Source.{Source, IsSound}
 
 -- Each of these is asked about the bytes before the end or the fault, and how many more were
--- announced behind them.
+-- announced after them.
 
 -- no memory
 abbrev pub NoNeed : List ℕ → ℕ → Type 0
@@ -16,7 +16,7 @@ NoNeed b m = ⊥
 abbrev pub HasString : List ℕ → ℕ → Type 0
 HasString b m = IsOkAnd (number_at w32 b) (λ x. x.0 ≤ length x.1 + m)
 
--- n bytes, of which there is one, are no more than was announced.
+-- `n` bytes, at least one, and no more than were announced.
 abbrev pub NeedsBytes : ℕ → List ℕ → ℕ → Type 0
 NeedsBytes n b m = (0 < n) × (n ≤ length b + m)
 
@@ -24,7 +24,7 @@ NeedsBytes n b m = (0 < n) × (n ≤ length b + m)
 abbrev pub NeedsString : List ℕ → ℕ → Type 0
 NeedsString b m = IsOkAnd (number_at w32 b) (λ x. NeedsBytes x.0 x.1 m)
 
--- What the first value needs, or the second behind it, which may depend on the first.
+-- What the first value needs, or the second after it, which may depend on the first.
 abbrev pub NeedsThen : {A : Type 0} → (List ℕ → ℕ → Type 0) → Front A → (A → List ℕ → ℕ → Type 0) → List ℕ → ℕ → Type 0
 NeedsThen first read second b m = first b m ⊎ IsOkAnd (read b) (λ x. second x.0 x.1 m)
 

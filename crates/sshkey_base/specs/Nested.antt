@@ -62,7 +62,7 @@ module _ {F N T E : Type 0} (call : Once F (MutBor N × Unit {0}) (Result T E ×
     pub some : 0 < rest
     pub is : from_gives (TrailingData rest) e
 
-  -- The closure took the whole part, and the reader stands behind it.
+  -- The closure took the whole part, and the reader is past it.
   pub record Finishes (s : Source) (x : T) (u : Source) : Type 0 where
     pub calls : Calls s (Ok x)
     pub other : ℕ

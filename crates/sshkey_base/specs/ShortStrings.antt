@@ -1,4 +1,4 @@
--- Strings that have at most so many bytes (RFC 4251, section 5).
+-- Strings of at most `n` bytes (RFC 4251, section 5).
 use Rattle.std.specs.Prelude.{◌≡◌, ℕ, List, length, true, Result, Ok, Err, nat_le, if◌then◌else◌}
 use Rattle.sshkey_model.specs.Reading.{Fault, Length, Front, string_at, checked_at}
 use Rattle.sshkey_model.specs.Texts.{string}

@@ -4,8 +4,7 @@ use Rattle.sshkey_model.specs.Parts.{are_bytes}
 use Rattle.sshkey_base.specs.declared.encoding.Error.{Error}
 use Rattle.sshkey_base.specs.declared.encoding.Error.TheVariants.{Length}
 
--- A reader of which a part is being read: its name, the bytes behind that part, and how many it
--- lacks.
+-- A reader while a part of it is read: its name, the bytes after that part, and how many it lacks.
 pub record Outer : Type 0 where
   pub name : ℕ
   pub rest : List ℕ
@@ -50,7 +49,7 @@ pub record Later (s t : Source) : Type 0 where
   pub missing : t.missing ≡ s.missing
   pub outer : t.outer ≡ s.outer
 
--- The source behind its next n bytes.
+-- The source after its next `n` bytes.
 abbrev pub behind : ℕ → Source → Source
 behind n s = record { left = drop n s.left; missing = s.missing; outer = s.outer }
 

@@ -6,7 +6,7 @@ use Rattle.sshkey_base.specs.Causes.{Cause, NoMemory, Faulty}
 use Rattle.sshkey_base.specs.Source.{Source}
 
 -- Each of these is asked about the bytes before the end or the fault, and how many more were
--- announced behind them: a stated length passes all of that.
+-- announced after them: a stated length passes all of that.
 
 -- no length stands in it
 abbrev pub NoOverrun : List ℕ → ℕ → Type 0
@@ -20,8 +20,8 @@ OverrunsString b m = IsOkAnd (number_at w32 b) (λ x. length x.1 + m < x.0)
 abbrev pub OverrunsBytes : ℕ → List ℕ → ℕ → Type 0
 OverrunsBytes n b m = length b + m < n
 
--- The first value overruns, or it ends by itself and the second overruns behind it, which may
--- depend on the first.
+-- The first value overruns, or it ends by itself and the second, which may depend on the first,
+-- overruns after it.
 abbrev pub OverrunsThen : {A : Type 0} → (List ℕ → ℕ → Type 0) → Front A → (A → List ℕ → ℕ → Type 0) → List ℕ → ℕ → Type 0
 OverrunsThen first read second b m = first b m ⊎ IsOkAnd (read b) (λ x. second x.0 x.1 m)
 
@@ -29,8 +29,8 @@ OverrunsThen first read second b m = first b m ⊎ IsOkAnd (read b) (λ x. secon
 abbrev pub OverrunsBoxed : (List ℕ → ℕ → Type 0) → List ℕ → ℕ → Type 0
 OverrunsBoxed inner b m = OverrunsString b m ⊎ IsOkAnd (number_at w32 b) (λ x. (x.0 ≤ length x.1 + m) × inner (take x.0 x.1) (x.0 - length x.1))
 
--- Of values one behind the other, each of which may depend on the one before it, one overruns; the
--- number bounds how many stand before it.
+-- One of the values overruns that stand one after the other, each perhaps depending on the one
+-- before it; the number bounds how many stand before it.
 abbrev pub OverrunsWithin : {A : Type 0} → (Option A → Front A) → (List ℕ → ℕ → Type 0) → ℕ → Option A → List ℕ → ℕ → Type 0
 OverrunsWithin item over n before [] m = ⊥
 OverrunsWithin item over zero before (b ∷ rest) m = ⊥

@@ -63,7 +63,7 @@ impl Bytes {
         &self.bytes
     }
 
-    /// Reads a string as `decode` does. Where the reader lends its bytes, the memory that they are
+    /// Reads a string as `decode` does. If the reader lends its bytes, the memory that they are
     /// copied into has room for `spare` more, which no contract can say.
     #[tactic(auto, using(crate::proofs::Steps::steps, crate::proofs::Stopping::stopping), unfolding(sshkey_model::specs::Reading::string_at))]
     pub fn decode_with_spare<R: Reader>(
@@ -131,7 +131,7 @@ impl Decode for Bytes {
     }
 }
 
-/// The next `len` bytes; where they are lent, in memory that has room for `spare` more. Fails with
+/// The next `len` bytes; if they are lent, in memory that has room for `spare` more. Fails with
 /// `Length` if more are asked for than are announced.
 #[tactic(auto, using(crate::proofs::Lending::lending))]
 #[inline(always)]

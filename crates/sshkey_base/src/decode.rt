@@ -182,7 +182,7 @@ pub fn decode_boxed<T: Decode + Drop, R: Reader>(
 
 /// Reads a value from the front, in the words of the grammar.
 ///
-/// The bytes taken spell the value, and the rest is left. Nothing is left behind a value that does
+/// The bytes taken spell the value, and the rest is left. Nothing is left after a value that does
 /// not end by itself. Unless memory runs out, a sound source is rejected only if it begins with no
 /// value, and with `Memory` only if the value needs some: a stated length that exceeds what is left
 /// fails with `Length`.

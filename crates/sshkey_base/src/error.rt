@@ -35,8 +35,8 @@ pub enum Error {
     },
     /// A verifier said no; or a key or a signature is not one of its kind: a number in a signature
     /// is not positive, the curve of a security key is not P-256, the public bytes in an Ed25519
-    /// pair differ, two checkints differ, a ciphertext is not whole blocks, or a key derivation
-    /// stands where nothing is encrypted.
+    /// pair differ, two checkints differ, a ciphertext is not whole blocks, or there is a key
+    /// derivation though nothing is encrypted.
     #[error("cryptographic error")]
     Crypto,
     /// The private key is not encrypted. The crate ssh-key has this error; no call of these crates

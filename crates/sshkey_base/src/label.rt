@@ -51,7 +51,7 @@ pub trait Label: Sized {
         ensures { result.now ≡ name (stands_for self.now) };
 
     /// The value of that name. Fails with `Label` exactly if there is none, unless memory runs out;
-    /// memory is allocated only where the value keeps some.
+    /// memory is allocated only if the value keeps some.
     fn from_label(alloc: Global, text: &str) -> Result<Self>
         ensures gives { LooksUp stands_for named text.now result }
         ensures asks { AsksNamed encoding_cause needs text.now result };

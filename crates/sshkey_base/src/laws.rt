@@ -21,8 +21,8 @@ pub use sshkey_model::laws::{
     prefix_texts,
 };
 
-/// What is written of a well-formed value that fits is read back as that value where nothing
-/// follows it, and whatever follows it where the value ends by itself.
+/// What is written of a well-formed value that fits is read back as that value if nothing follows
+/// it, and whatever follows it if the value ends by itself.
 pub fn read_back<T: NormalForm>()
     ensures { ReadBackBeginning T.IsWellFormed T.normal T.means T.format }
 {}

@@ -27,8 +27,8 @@ pub trait Reader: Sized {
         ensures takes { Takes (source self.old) buffer.new result (source self.new) }
         ensures later { Later (source self.old) (source self.new) };
 
-    /// The next `len` bytes where they lie in memory. `None` where fewer are left, and always from
-    /// a reader that does not hold its bytes. That a reader lends any is promised of a slice alone.
+    /// The next `len` bytes where they lie in memory. `None` if fewer are left, and always from a
+    /// reader that does not hold its bytes. That a reader lends any is promised of a slice alone.
     fn ahead(&self, len: usize) -> Option<&[u8]>
         ensures lent { IfSome result (λ bytes. Reads (λ x. x) (bytes_at len)
             (source self.now) bytes.now (behind len (source self.now))) }
@@ -136,7 +136,7 @@ impl Reader for &[u8] {
         Ok(())
     }
 
-    /// The next `len` bytes, wherever so many are left.
+    /// The next `len` bytes, if that many are left.
     #[inline(always)]
     fn ahead(&self, len: usize) -> Option<&[u8]>
         ensures lent { IfSome result (λ bytes. Reads (λ x. x) (bytes_at len)
@@ -159,7 +159,7 @@ impl Reader for &[u8] {
     }
 }
 
-/// The first `len` bytes, if there are so many.
+/// The first `len` bytes, if there are that many.
 #[inline(always)]
 fn first(bytes: &[u8], len: usize) -> Option<&[u8]>
     ensures lent { IfSome result (λ front. Reads (λ x. x) (bytes_at len)

@@ -34,8 +34,8 @@ impl<const MAX: usize> ShortBytes<MAX> {
     }
 
     /// The next `len` bytes where they lie in memory, if they are not more than `MAX`. `None` also
-    /// where fewer are left, and always from a reader that does not hold its bytes; that any are
-    /// lent is not promised.
+    /// if fewer are left, and always from a reader that does not hold its bytes; that any are lent
+    /// is not promised.
     pub fn ahead<R: Reader>(len: usize, reader: &R) -> Option<&[u8]>
         ensures lent { IfSome result (λ bytes. Reads (λ x. x)
             (checked_at (at_most MAX) (bytes_at len)) (R.source reader.now)

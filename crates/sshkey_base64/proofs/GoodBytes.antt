@@ -257,7 +257,7 @@ before_long x (c ∷ rest) m k some le long = cases (length x == 3) refl long
     cases true is h = let three = eqb-true (length x) 3 is in (three, omega (arith, three, length-append x m))
     cases false is h = absurd (omega arith)
 
--- A front of whole groups, all of which give three bytes.
+-- A front of whole groups, each of which gives three bytes.
 pub record IsWholeWord (w : List ℕ) (k : ℕ) : Type 0 where
   pub bytes : List ℕ
   pub are : are_bytes bytes ≡ true

@@ -14,7 +14,7 @@ use Rattle.sshkey_base.proofs.PlainParts.{plain_parts, encodes_later}
 use Rattle.sshkey_base64.proofs.GoodBytes.{length_word}
 use Rattle.sshkey_base64.proofs.Spreading.{size_of}
 
--- So many of the bytes were written in Base64.
+-- The first `done` bytes were written in Base64.
 pub record Pieces (blob : List ℕ) (s t : Sink) (done : ℕ) : Type 0 where
   pub within : done ≤ length blob
   pub whole : (done % 3 ≡ 0) ⊎ (done ≡ length blob)
@@ -30,7 +30,7 @@ pub both_bytes : (a b : List ℕ) → flat (bytes a & bytes b) ≡ a ++ b
 unfolding flat
 both_bytes a b = refl
 
--- a piece behind those that were written
+-- a piece after those that were written
 piece : (fault : Error → Type 0) (blob : List ℕ) (s t u : Sink) (r : Result (Unit {0}) Error) (done m : ℕ) (word : List ℕ) → Pieces blob s t done → done < length blob → done + m ≤ length blob → word ≡ encode_of standard (take m (drop done blob)) → Encodes fault (bytes word) t r u
     → Encodes fault (bytes (encode_of standard (take (done + m) blob))) s r u
 piece fault blob s t u r done m word p lt le is h =

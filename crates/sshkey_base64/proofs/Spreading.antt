@@ -9,7 +9,7 @@ use borrow.Rule.Slice.PartMut.{put_mid}
 use Rattle.sshkey_base64.proofs.GoodBytes.{length_word}
 use Rattle.sshkey_base64.proofs.WordSources.{no_items}
 
--- So many of the bytes are encoded, and the others stand where they stood.
+-- `n` of the `count` bytes are encoded, and the others stand where they stood.
 pub record Spreads (old word : List ℕ) (count n : ℕ) : Type 0 where
   pub within : n ≤ count
   pub whole : (n % 3 ≡ 0) ⊎ (n ≡ count)

@@ -31,7 +31,7 @@ take_both (suc n) (x ∷ xs) ys = ap (λ (l : List ℕ). x ∷ l) (take_both n x
 
 -- ---- one write
 
--- Bytes were written behind those that are kept.
+-- Bytes were written after those that are kept.
 pub kept_more : (all added kept new : List ℕ) (start before len size passed count i n m : ℕ) → before ≡ start - length all → take len kept ≡ take size (drop start all) → len ≤ size → length kept ≡ size
     → passed ≡ min before (length added) → count ≡ min (length added - passed) (size - len) → i ≡ count → n ≡ count → m ≡ len + count → new ≡ put_mid len n kept (take i (drop passed added)) → take m new ≡ take size (drop start (all ++ added))
 kept_more all added kept new start before len size passed count i n m before_is kept_is le size_is passed_is count_is i_is n_is m_is new_is =

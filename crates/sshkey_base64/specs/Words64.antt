@@ -13,7 +13,7 @@ pub record IsSourceOf (word : List ℕ) (s : Source) : Type 0 where
   pub only : IsSound s → word ≡ encode_of standard s.left
   pub every : (b : List ℕ) → IsBytes b → word ≡ encode_of standard b → IsSound s × (s.left ≡ b)
 
--- how many `=` stand at the end, of which two are counted at most
+-- how many `=` stand at the end, at most two of them counted
 abbrev pub pad_count : List ℕ → ℕ
 pad_count w = if slice_index w (length w - 1) == 61 then (if slice_index w (length w - 2) == 61 then 2 else 1) else 0
 

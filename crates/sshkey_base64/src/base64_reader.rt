@@ -43,7 +43,7 @@ fn pad_count(text: &[u8]) -> usize
     }
 }
 
-/// How many bytes so many whole groups have.
+/// How many bytes the text's whole groups have, without their padding.
 fn announced(text: &[u8]) -> usize
     requires { length text.now % 4 ≡ 0 }
     ensures { result ≡ announced text.now }
@@ -51,8 +51,8 @@ fn announced(text: &[u8]) -> usize
     text.len() / 4 * 3 - pad_count(text)
 }
 
-/// Decodes groups of four characters, of which the last may have padding, and says how many bytes
-/// they have. The engine stands on the stack, where groups without a fault do not pay for it.
+/// Decodes groups of four characters, the last perhaps with padding, and says how many bytes they
+/// have. The engine stands on the stack, where groups without a fault do not pay for it.
 #[cold]
 #[inline(never)]
 fn decode_by_engine(text: &[u8], bytes: &mut [u8]) -> Option<usize>
@@ -66,8 +66,8 @@ fn decode_by_engine(text: &[u8], bytes: &mut [u8]) -> Option<usize>
     }
 }
 
-/// Decodes groups of four characters, of which the last may have padding, and says how many bytes
-/// they have.
+/// Decodes groups of four characters, the last perhaps with padding, and says how many bytes they
+/// have.
 fn decode_some(text: &[u8], bytes: &mut [u8]) -> Option<usize>
     requires groups { length text.now % 4 ≡ 0 }
     requires room { 3 * (length text.now / 4) ≡ length bytes.old }
@@ -108,7 +108,7 @@ fn copy_few(from: &[u8], to: &mut [u8])
     }
 }
 
-/// Whether a group of so many bytes may stand before that rest.
+/// Whether a group of `count` bytes may stand before the rest.
 fn is_in_place(count: usize, rest: &[u8]) -> bool
     ensures { IsTrue result ↔ ((count ≡ 3) ⊎ (length rest.now ≡ 0)) }
 {

@@ -26,7 +26,7 @@ pub(crate) struct Window {
 }
 
 impl Window {
-    /// A window that begins after so many bytes. Nothing is written yet.
+    /// A window that begins after `start` bytes. Nothing is written yet.
     pub(crate) fn new(start: usize) -> Window
         ensures start { result.start ≡ start }
         ensures empty { result.history.bytes ≡ [] }

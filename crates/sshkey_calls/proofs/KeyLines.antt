@@ -19,7 +19,7 @@ use Rattle.sshkey_calls.specs.declared.line.Line.{Line}
 
 -- ---- in the room
 
--- A blob, and a comment that was added behind it.
+-- A blob, and a comment that was added after it.
 pub laid : (kind : ℕ) (blob comment before content : List ℕ) (line : Line) → before ≡ blob → content ≡ before ++ comment → line.kind ≡ kind → line.blob.start ≡ 0 → line.blob.length ≡ length before → line.comment.start ≡ length before → line.comment.length ≡ length comment → line.length ≡ length content → IsLaidOut line_bytes ArePlaced (content_of kind blob comment) content line
 laid kind blob comment before content line is added same at_front blob_length behind comment_length all =
     let content_is : content ≡ blob ++ comment = added ∙ ap (λ (x : List ℕ). x ++ comment) is in (

@@ -63,7 +63,7 @@ module _ (c : Certificate) (s : CertificateChoices) where
       let others : Part = record { start = part_end critical + 4; length = length extensions } in
       record { key_id = key_id; principals = texts; critical_options = critical; extensions = others; authority = record { start = part_end others + 4 + length c.signed.reserved + 4; length = length authority } }
 
-  -- They stand there in the bytes, and the signature behind them.
+  -- They stand there in the bytes, and the signature after them.
   pub stand : (b : List ℕ) → b ≡ flat (certificate c s) → SpellsEachText c.signed.valid_principals principals → SpellsEachOption (c.signed.critical_options, s.critical_options) critical_options → SpellsEachOption (c.signed.extensions, s.extensions) extensions → SpellsKey c.signed.signature_key authority → ArePartsOf c b parts × (length b ≡ part_end parts.authority + 4 + length (flat (signature c.signature)))
   stand b is texts critical others key =
       let f = flat (beginning c) in

@@ -12,9 +12,9 @@ use Rattle.sshkey_calls.specs.Strings.{FindsString}
 use Rattle.sshkey_calls.specs.Rooms.{IsPartOf, bytes_of}
 use Rattle.sshkey_calls.specs.declared.part.Part.{Part}
 
--- ---- what stands behind so many bytes
+-- ---- what follows the first bytes
 
--- The part has these bytes, and the rest stands behind it.
+-- The part has these bytes, and the rest follows it.
 pub record Stands (b s rest : List ℕ) (part : Part) : Type 0 where
   pub content : bytes_of part b ≡ s
   pub behind : drop (part.start + part.length) b ≡ rest
@@ -36,7 +36,7 @@ string_stands b s rest n is =
     let most : n ≤ length b = omega (arith, ap length is, length-drop n b, length-append (head ++ s) rest, length-append head s, wide32.len (length s)) in
     subst (λ (k : ℕ). Stands b s rest (record { start = n + k; length = length s })) (wide32.len (length s)) (stands b head s rest n most (is ∙ append_assoc head s rest))
 
--- ---- nothing begins at the end, or behind it
+-- ---- nothing begins at the end, or after it
 
 empty : (x : List ℕ × List ℕ) → string_at [] ≢ Ok x
 unfolding string_at number_at bytes_at

@@ -36,7 +36,7 @@ NeedsLine text = NeedsValue key_format text ⊎ (NeedsValue certificate_format t
 
 -- ---- in the room
 
--- the blob, and behind it the comment
+-- the blob, and after it the comment
 abbrev pub line_bytes : Content → List ℕ
 line_bytes x = x.blob ++ x.comment
 

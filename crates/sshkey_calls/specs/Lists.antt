@@ -16,7 +16,7 @@ use Rattle.sshkey_calls.specs.Rooms.{IsPartOf, bytes_of}
 use Rattle.sshkey_calls.specs.declared.lists.CertificateParts.{CertificateParts}
 use Rattle.sshkey_calls.specs.declared.part.Part.{Part}
 
--- the bytes spell the options, one behind the other, empty values in either way
+-- the bytes spell the options, one after the other, empty values in either way
 abbrev pub SpellsOptionList : List CertificateOption → List ℕ → Type 0
 SpellsOptionList os bytes = (nestings : List Nesting) × SpellsEachOption (os, nestings) bytes
 

@@ -11,7 +11,7 @@ use Rattle.sshkey_calls.specs.Outcomes.{TellsOf}
 use Rattle.sshkey_calls.specs.Rooms.{GivesValue, IsPlaced}
 use Rattle.sshkey_calls.specs.declared.question.Question.{Question}
 
--- its parts, one behind the other
+-- its parts, one after the other
 abbrev pub question_bytes : model.Question → List ℕ
 question_bytes q = flat (normal_key q.key) ++ (q.message ++ q.blob)
 

@@ -25,7 +25,7 @@ pub record IsAtFront (bytes : List ℕ) (Placed : Type 0) (before after : List �
   pub content : after ≡ bytes ++ drop (length bytes) before
   pub placed : Placed
 
--- The room is too short for the bytes, and stays as it was; so many are needed.
+-- The room is too short for the bytes, and stays as it was; `len` bytes are needed.
 pub record LacksRoom (bytes : List ℕ) (len : ℕ) (before after : List ℕ) : Type 0 where
   pub needed : len ≡ length bytes
   pub short : length before < length bytes

@@ -33,6 +33,6 @@ IsNoRoomFor p e = ((BoxesFit p → ⊥) × (e ≡ Encoding Length)) ⊎ (BoxesFi
 abbrev pub IsNotAdded : Parts → Error → Type 0
 IsNotAdded p e = ((BoxesFit p → ⊥) × (e ≡ Encoding Length)) ⊎ (e ≡ Memory)
 
--- A beginning of the bytes stands behind what stood before, which may be none of them.
+-- A beginning of the bytes, perhaps none of them, follows what stood before.
 abbrev pub AddsBeginning : List ℕ → List ℕ → List ℕ → Type 0
 AddsBeginning before bytes after = (count : ℕ) × (after ≡ before ++ take count bytes)

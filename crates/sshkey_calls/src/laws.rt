@@ -9,7 +9,7 @@ ghost use Rattle.sshkey_sshsig.specs.SshSignatureReaders.{SpellsSshSignature, ss
 ghost use Rattle.sshkey_calls.specs.Outcomes.{HasOneOutcome};
 
 /// Bytes that spell a value spell no other, and have no fault. So a call tells of a value exactly
-/// if the bytes spell one, and it is that one.
+/// if the bytes spell one, and of no other value.
 pub fn one_outcome()
     ensures key { HasOneOutcome SpellsKey key_data_at }
     ensures signature { HasOneOutcome SpellsSignature signature_at }

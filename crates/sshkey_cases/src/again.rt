@@ -79,7 +79,7 @@ fn comment_of_host(alloc: Global, entry: Result<sshkey_known_hosts::Entry>) -> R
     }
 }
 
-/// Adds a text, behind `; ` where it is not the first.
+/// Adds a text, after `; ` if it is not the first.
 pub(crate) fn add(shown: &mut String, said: &str) -> Result<()> {
     if !shown.is_empty() {
         shown.push_str("; ")?;

@@ -1,9 +1,9 @@
-//! How a line spells bytes: words with a space between, one behind the other.
+//! How a line spells bytes: words with a space between, one after the other.
 //!
 //! - `09a3` is these bytes, and `09a3*4` four times these bytes
 //! - `"text"` is the text in UTF-8, in which no space stands
 //! - `base64:AAAA` is what the padded Base64 stands for
-//! - `[` before a word and `]` behind the same or a later one box what stands between: a length of
+//! - `[` before a word and `]` after the same or a later one box what stands between: a length of
 //!   four bytes comes first
 //! - `,` ends the first byte string and begins the next
 

@@ -73,7 +73,7 @@ fn algorithm_and_bytes(alloc: Global, key: &PublicKey) -> Result<String> {
     Ok(format!(in alloc; "{algorithm}, {fingerprint}, {digits}")?)
 }
 
-/// What is written of the options of these names, each with the value behind it.
+/// What is written of the options of these names, each with its value after it.
 pub(crate) fn options(alloc: Global, parts: &[Vec<u8>]) -> Result<String> {
     let mut pairs = Vec::new(alloc);
     for at in 0..parts.len() / 2 {

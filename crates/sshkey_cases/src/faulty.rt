@@ -13,7 +13,7 @@ use sshkey_private::PrivateKey;
 use sshkey_sshsig::SshSig;
 use std::alloc::Global;
 
-/// How many bytes are missing behind all the bytes of a value.
+/// How many bytes are missing after all the bytes of a value.
 const BEHIND: u32 = 16;
 
 /// At how many of the bytes a value of that kind is refused where its source breaks off in front of
@@ -36,9 +36,9 @@ pub(crate) fn value(alloc: Global, kind: &str, bytes: &[u8]) -> Result<String> {
     }
 }
 
-/// At how many of the places the length that is `ffffffff` there is refused as such, where the
-/// source breaks off behind it and what is left of the value is missing, or at which it is not. A
-/// place is two bytes.
+/// At how many of the places a length of `ffffffff` is refused as such if the source breaks off
+/// after it and the rest of the value is missing; or at which place it is not. A place is two
+/// bytes.
 pub(crate) fn overlong(alloc: Global, kind: &str, parts: &[Vec<u8>]) -> Result<String> {
     let (bytes, places) = (part(parts, 0), part(parts, 1));
     match kind {
@@ -80,7 +80,7 @@ fn number_of(place: &[u8]) -> Result<usize> {
     }
 }
 
-/// The refusal of the value whose length there is `ffffffff`, where its source breaks off behind.
+/// The refusal of the value whose length there is `ffffffff`, if its source breaks off after it.
 fn refusal_at<T>(alloc: Global, bytes: &[u8], at: usize) -> Result<Option<Error>>
 where
     T: Decode + Drop,
@@ -157,8 +157,8 @@ fn otherwise(alloc: Global, len: usize) -> Result<String> {
     Ok(format!(in alloc; "not refused by the source at {len}")?)
 }
 
-/// The answer where each beginning was refused. Behind it stands what becomes of all the bytes,
-/// where these are refused, or where not all that is missing is left.
+/// The answer if each beginning was refused. After it stands what becomes of all the bytes, if
+/// these are refused, or if not all that is missing is left.
 fn all(alloc: Global, refusal: Option<Error>, source: &Faulty<'_>, bytes: &[u8]) -> Result<String> {
     let count = bytes.len();
     let left = source.remaining_len();

@@ -19,7 +19,7 @@ pub(crate) fn certificate(alloc: Global, parts: &[Vec<u8>]) -> Result<String> {
     signed(alloc, builder, key, refused)
 }
 
-/// What is written of the builder's certificate, signed by that key, behind whether memory was
+/// What is written of the builder's certificate, signed by that key, after whether memory was
 /// refused.
 pub(crate) fn signed(
     alloc: Global,

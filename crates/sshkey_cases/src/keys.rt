@@ -9,8 +9,8 @@ use sshkey_kinds::{
 };
 use std::alloc::Global;
 
-/// The name and the kind of the key that all the bytes spell, and how many bytes stand behind the
-/// name where it is written, of a copy of the key.
+/// The name and the kind of the key that all the bytes spell, and how many bytes follow the name
+/// where it is written, of a copy of the key.
 pub(crate) fn name_and_kind(alloc: Global, bytes: &[u8]) -> Result<String> {
     said(alloc, &copied(alloc, bytes)?)
 }
@@ -28,7 +28,7 @@ fn said(alloc: Global, key: &KeyData) -> Result<String> {
     Ok(format!(in alloc; "{name}, {}, {len} bytes", kind_of(key))?)
 }
 
-/// The kind of which the key is said to be, and as which it is seen.
+/// The kind that the key is said to be, and that it is seen as.
 fn kind_of(key: &KeyData) -> &'static str {
     if key.is_dsa() && key.dsa().is_some() {
         "DSA"
@@ -80,7 +80,7 @@ fn fingerprint(alloc: Global, key: &KeyData) -> Result<String> {
     Ok(key.fingerprint(alloc, HashAlg::Sha256)?.to_string(alloc)?)
 }
 
-/// The fingerprint of the key that is made of its parts: the first byte string says of which kind.
+/// The fingerprint of the key that is made of its parts: the first byte string names its kind.
 pub(crate) fn made(alloc: Global, parts: &[Vec<u8>]) -> Result<String> {
     let number = |place: usize| Mpint::from_positive_bytes(alloc, part(parts, place));
     let key = match text(parts, 0)? {

@@ -1,6 +1,6 @@
 //! Answers the questions of a table, line by line. A line is a question and what it is about, in
-//! the words of `bytes`; it is written again with its answer behind it. Comments and empty lines
-//! are written as they are. The questions stand in the file `stdin`, and with their answers in
+//! the words of `bytes`; it is written again with its answer after it. Comments and empty lines are
+//! written as they are. The questions stand in the file `stdin`, and with their answers in
 //! `stdout`.
 #![tactic(auto)]
 

@@ -4,7 +4,7 @@ use crate::bytes::{part, text};
 use sshkey_base::{Algorithm, HashAlg, Result};
 use std::alloc::Global;
 
-/// The kind of which the algorithm of that name is said to be, and its name in certificates.
+/// The kind that the algorithm of that name is said to be, and its name in certificates.
 pub(crate) fn algorithm(alloc: Global, name: &str) -> Result<String> {
     let algorithm = Algorithm::new(alloc, name)?;
     let certified = algorithm.to_certificate_type(alloc)?;

@@ -23,7 +23,7 @@ pub(crate) fn host(alloc: Global, line: &str) -> Result<String> {
     host_parts(alloc, &entry)
 }
 
-/// Adds what is shown of an entry, or why it is refused, behind `; ` where something stands.
+/// Adds what is shown of an entry, or why it is refused, after `; ` if something stands there.
 fn add_entry(alloc: Global, shown: &mut String, entry: Result<String>) -> Result<()> {
     if !shown.is_empty() {
         shown.push_str("; ")?;

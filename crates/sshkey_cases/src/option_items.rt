@@ -6,7 +6,7 @@ use sshkey_base::Result;
 use sshkey_public::PublicKey;
 use std::alloc::Global;
 
-/// The option in brackets: its name, and its value behind an equals sign.
+/// The option in brackets: its name, and its value after an equals sign.
 fn shown(alloc: Global, option: &OpenSshOption<'_>) -> Result<String> {
     let name = option.name();
     match option.value(alloc)? {

@@ -65,7 +65,7 @@ pub(crate) fn body(alloc: Global, parts: &[Vec<u8>]) -> Result<String> {
     Ok(format!(in alloc; "{} taken, {} left", body.len(), left.len())?)
 }
 
-/// The texts of the list at the front, each behind a space, and how many bytes are left.
+/// The texts of the list at the front, each after a space, and how many bytes are left.
 pub(crate) fn texts(alloc: Global, bytes: &[u8]) -> Result<String> {
     let (texts, left) = TextsRef::from_front(bytes)?;
     let mut answer = format!(in alloc; "{} left:", left.len())?;
@@ -76,7 +76,7 @@ pub(crate) fn texts(alloc: Global, bytes: &[u8]) -> Result<String> {
     Ok(answer)
 }
 
-/// Whether the options at the front are written as they stand, each behind a space, and how many
+/// Whether the options at the front are written as they stand, each after a space, and how many
 /// bytes are left.
 pub(crate) fn options(alloc: Global, bytes: &[u8]) -> Result<String> {
     let (options, left) = OptionsRef::from_front(bytes)?;

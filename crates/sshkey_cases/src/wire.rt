@@ -132,8 +132,8 @@ pub(crate) fn positive(alloc: Global, bytes: &[u8]) -> Result<String> {
     Ok(format!(in alloc; "{number}")?)
 }
 
-/// The values of the byte strings, which are in rising order: each is less than those behind it,
-/// and equals itself alone.
+/// The values of the byte strings, which are in rising order: each is less than those after it, and
+/// equals itself alone.
 pub(crate) fn rising<T: Decode + Ord + Drop>(alloc: Global, parts: &[Vec<u8>]) -> Result<String>
 where
     Error: From<T::Error>,

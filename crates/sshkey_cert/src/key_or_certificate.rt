@@ -1,4 +1,4 @@
-//! A key or a certificate, where a format takes either.
+//! A key or a certificate, for formats that take either.
 
 ghost use Rattle.std.specs.Prelude.{◌≡◌, IfErr, IfOk};
 ghost use Rattle.sshkey_base.specs.Causes.{cause};
@@ -32,13 +32,13 @@ impl Drop for KeyOrCertificate {
 }
 
 impl KeyOrCertificate {
-    /// Reads a key or a certificate that all the bytes encode. Where they begin with a
-    /// certificate's name, as `ssh-ed25519-cert-v01@openssh.com`, they are a certificate or are
-    /// rejected, and else a key.
+    /// Reads a key or a certificate that all the bytes encode. If they begin with a certificate's
+    /// name, as `ssh-ed25519-cert-v01@openssh.com`, they are a certificate or are rejected, and
+    /// else a key.
     ///
     /// Unless memory runs out, fails only with the error of `Certificate::from_bytes` or of a key's
-    /// reader, as the name says. Fails with `Memory` only where the reader that the name selects
-    /// needs some.
+    /// reader, as the name says. Fails with `Memory` only if the reader that the name selects needs
+    /// some.
     pub fn from_bytes(alloc: Global, bytes: &[u8]) -> Result<KeyOrCertificate>
         ensures accepts { AcceptsEither bytes.now result }
         ensures refused { IfErr result (λ e. RefusesEither bytes.now e) }

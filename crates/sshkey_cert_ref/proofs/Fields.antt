@@ -1,4 +1,4 @@
--- The fields before the signature: the name, the nonce and the key, and what stands behind them.
+-- The fields before the signature: the name, the nonce and the key, and what follows them.
 use Rattle.std.proofs.Common.{◌≡◌, ℕ, List, Ok}
 use Rattle.sshkey_model.specs.Reading.{◌>>=◌, Front, behind_at}
 use Rattle.sshkey_model.specs.Certificates.{SignedFields, CertificateChoices, signed_fields_at, type_at, time_at, end_at}

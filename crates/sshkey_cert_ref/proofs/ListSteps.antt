@@ -30,7 +30,7 @@ module _ {A : Type 0} (item : Option A → Front A) (less : (before : Option A) 
       go (Err f) e same = rw e refl
       go (Ok x) e same = rw (e, same x.0 x.1 e) refl
 
-  -- what may stand behind a value may stand first
+  -- what may follow a value may stand first
   first_again : (n : ℕ) (before : A) (b : List ℕ) (xs : List A) → list_within item n (Some before) b ≡ Ok xs → list_within item n None b ≡ Ok xs
   unfolding list_within
   first_again zero before [] xs e = e
@@ -40,7 +40,7 @@ module _ {A : Type 0} (item : Option A → Front A) (less : (before : Option A) 
       let x = bind_ok (item (Some before) (c ∷ b)) _ xs e in
       rw (weaker before (c ∷ b) x.0 x.1) x.2
 
-  -- The first value, and the list of those behind it.
+  -- The first value, and the list of those after it.
   pub record IsStep (b : List ℕ) (xs : List A) : Type 0 where
     pub first : A
     pub behind : List ℕ
@@ -65,7 +65,7 @@ module _ {A : Type 0} (item : Option A → Front A) (less : (before : Option A) 
         later = same_bound (length x.0.1) (length b) None x.0.1 (omega arith) (omega arith) ∙ first_again (length b) x.0.0 x.0.1 ys.0 ys.1;
       }
 
-  -- The first value of some bytes: the others stand behind it.
+  -- The first value of some bytes: the others follow it.
   pub record IsFirst (b : List ℕ) (first : A) (behind : List ℕ) : Type 0 where
     pub read : item None b ≡ Ok (first, behind)
     pub all : found_or [] (list_whole item b) ≡ first ∷ found_or [] (list_whole item behind)

@@ -32,7 +32,7 @@ option_less before b x rest e = leaves_less (option_reads before) option_shows b
 kept_order : (before : Pair) (x y : Pair) → in_order (Some before) x ≡ Ok y → x ≡ y
 kept_order before x y e = ok_is x y (met (is_after (option_before (Some before)) x.0) FormatEncoding (Ok x) y e).1
 
--- an option that may stand behind another may stand first
+-- an option that may follow another may stand first
 option_again : (before : Pair) (b : List ℕ) (y : Pair × List ℕ) → option_at (Some before) b ≡ Ok y → option_at None b ≡ Ok y
 unfolding option_at
 option_again before b y e =
@@ -47,7 +47,7 @@ option_again before b y e =
 abbrev Taken : Option Pair → List ℕ → Result SpelledOption wide-error.Error → List ℕ → Type 0
 Taken before b r rest = TakesValue pair_of cause (option_at before) b r rest
 
--- It is the first of the list, and the others stand behind it.
+-- It is the first of the list, and the others follow it.
 pub record IsFirstOption (b : List ℕ) (first : CertificateOption) (rest : List ℕ) : Type 0 where
   pub all : options_in b ≡ first ∷ options_in rest
   pub later : is_taken (list_whole option_at rest) ≡ true
@@ -82,7 +82,7 @@ no_options b none = ap firsts (empty_list option_at b none)
 
 -- ---- a walk to the end
 
--- the options so far, whether all are plain, and what is left behind them
+-- the options so far, whether all are plain, and what is left after them
 pub record Walks (b : List ℕ) (before : Option SpelledOption) (plain : Bool) (rest : List ℕ) : Type 0 where
   pub done : List Pair
   pub are : plain ≡ are_plain (seconds done)

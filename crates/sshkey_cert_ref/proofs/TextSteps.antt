@@ -42,7 +42,7 @@ text_string b x rest e =
     let k = utf8_kept (is_utf8 s.0.0) s.0.0 s.0.1 x rest s.2 in
     subst (λ (p : List ℕ × List ℕ). (string_at b ≡ Ok p) × IsText p.0) k.1 (s.1, k.0)
 
--- It is the first of the list, and the others stand behind it.
+-- It is the first of the list, and the others follow it.
 pub record IsFirstText (b text rest : List ℕ) : Type 0 where
   pub string : string_at b ≡ Ok (text, rest)
   pub is : IsText text
@@ -100,7 +100,7 @@ no_text_list {E} cause b e judged ts s =
 
 -- ---- a walk to the end
 
--- the texts so far, and what is left behind them
+-- the texts so far, and what is left after them
 abbrev pub Walks : List ℕ → Option (List ℕ) → List (List ℕ) → List ℕ → Type 0
 Walks b before done rest = Collects (λ _. text_at) (all_of b) before done (all_of rest)
 

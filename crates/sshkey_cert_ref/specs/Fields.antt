@@ -1,4 +1,4 @@
--- The fields of a certificate behind its key, with the choices of their spelling, by the term that
+-- The fields of a certificate after its key, with the choices of their spelling, by the term that
 -- they are read as.
 use Rattle.std.specs.Prelude.{ℕ, List, []}
 use Rattle.sshkey_model.specs.Grammar.{SpellsAs}

@@ -1,4 +1,4 @@
--- Options that stand in bytes, one behind the other (PROTOCOL.certkeys).
+-- Options that stand in bytes, one after the other (PROTOCOL.certkeys).
 use Rattle.std.specs.Prelude.{ℕ, List, [], ◌∷◌, Bool, true, false, Ok}
 use denote.Ref.{Bor}
 use Rattle.sshkey_model.specs.Parts.{flat}

@@ -10,7 +10,7 @@ abbrev pub TakesWhole : {X Y E : Type 0} → (X → Y → Type 0) → (E → Cau
 TakesWhole {Y = Y} BelongsTo cause found (Ok x) = (y : Y) × BelongsTo x y × (found ≡ Ok y)
 TakesWhole BelongsTo cause found (Err e) = Refuses 0 (cause e) found
 
--- What belongs to the value that the plain reader gives, and the bytes behind it, or its fault.
+-- What belongs to the value that the plain reader gives, and the bytes after it, or its fault.
 abbrev pub Cuts : {X Y E : Type 0} → (X → Y → Type 0) → (E → Cause) → Front Y → List ℕ → Result (X × Bor (List ℕ)) E → Type 0
 Cuts {Y = Y} BelongsTo cause read b (Ok p) = (y : Y) × BelongsTo p.0 y × (read b ≡ Ok (y, p.1.now))
 Cuts BelongsTo cause read b (Err e) = Refuses 0 (cause e) (read b)

@@ -1,4 +1,4 @@
--- Texts that stand in bytes, each a string, one behind the other (RFC 4251, section 5).
+-- Texts that stand in bytes, each a string, one after the other (RFC 4251, section 5).
 use Rattle.std.specs.Prelude.{ℕ, List, []}
 use Rattle.std.specs.List.{AllByRecursion}
 use Rattle.sshkey_model.specs.Parts.{each}

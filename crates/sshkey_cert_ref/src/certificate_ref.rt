@@ -53,12 +53,12 @@ impl<'a> CertificateRef<'a> {
     /// allocate.
     ///
     /// It accepts what `Certificate::from_bytes` with enough memory accepts, and rejects the rest
-    /// with the same faults, of which the first from the left counts: `Length` for a stated length
-    /// that passes the bytes, `Label` for a name of no algorithm, `CharacterEncoding` for a text
-    /// that is not UTF-8, `FormatEncoding` for a type other than 1 and 2 and for options that do
-    /// not rise, `Time` for a time above 2^63 - 1 that is not the end 2^64 - 1, the faults of keys
-    /// and of signatures, where one by RSA with SHA-1 fails with `Length`, and `TrailingData` with
-    /// the number of bytes after a certificate.
+    /// with the same faults, the first from the left: `Length` for a stated length that passes the
+    /// bytes, `Label` for a name of no algorithm, `CharacterEncoding` for a text that is not UTF-8,
+    /// `FormatEncoding` for a type other than 1 and 2 and for options that do not rise, `Time` for
+    /// a time above 2^63 - 1 that is not the end 2^64 - 1, the faults of keys and of signatures,
+    /// where one by RSA with SHA-1 fails with `Length`, and `TrailingData` with the number of bytes
+    /// after a certificate.
     pub fn from_bytes(bytes: &'a [u8]) -> Result<CertificateRef<'a>>
         ensures keeps { Keeps certificate_bytes cause (whole certificate_at bytes.now)
             bytes.now result }

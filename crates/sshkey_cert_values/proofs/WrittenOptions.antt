@@ -33,7 +33,7 @@ entries_parts es = each plain_option (map option_of es)
 module _ {Y Z : Type 0} (all : List (String Y × String Z)) where
   -- ---- writing
 
-  -- What is added behind those so far decides about all.
+  -- What is added after those so far decides about all.
   abbrev pub Decides : (Error → Type 0) → List (String Y × String Z) → Sink → Sink → Type 0
   Decides fault rest s t = (u : Sink) (r : Result (Unit {0}) Error) → Encodes fault (entries_parts rest) t r u → Encodes fault (entries_parts all) s r u
 
@@ -49,7 +49,7 @@ module _ {Y Z : Type 0} (all : List (String Y × String Z)) where
 
   -- ---- adding up
 
-  -- Those so far have so many bytes, which a box can hold.
+  -- Those so far have `len` bytes, which a box can hold.
   pub record HasLen (rest : List (String Y × String Z)) (len : ℕ) : Type 0 where
     pub total : len + length (flat (entries_parts rest)) ≡ length (flat (entries_parts all))
     pub fit : BoxesFit (entries_parts rest) → BoxesFit (entries_parts all)

@@ -16,7 +16,7 @@ use Rattle.sshkey_cert_values.specs.Times.{end_of, time_of}
 abbrev pub time_key : UnixTime → List ℕ
 time_key t = time_of t ∷ []
 
--- forever is behind each time
+-- forever comes after each time
 abbrev pub end_key : EndTime → List ℕ
 end_key t = end_of t ∷ []
 

@@ -28,7 +28,8 @@ pub const MAX_SECS: u64 = i64::MAX as u64;
 impl UnixTime {
     ghost use Rattle.sshkey_cert_values.specs.Times.{time_of};
 
-    /// The time of so many seconds since 1970. Fails with `Time` above 2^63 - 1. Does not allocate.
+    /// The time `secs` seconds after the start of 1970. Fails with `Time` above 2^63 - 1. Does not
+    /// allocate.
     pub fn new(secs: u64) -> Result<UnixTime>
         ensures { AnswersAlways time_of cause (time_from secs) result }
     {

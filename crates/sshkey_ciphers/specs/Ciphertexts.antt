@@ -1,4 +1,4 @@
--- What is encrypted: whole blocks, and a tag behind them (PROTOCOL.key). The lemmas are proved, and
+-- What is encrypted: whole blocks, and a tag after them (PROTOCOL.key). The lemmas are proved, and
 -- need not be believed.
 use Rattle.std.specs.Prelude.{◌≡◌, ℕ, ◌%◌, List, [], length, true, Option, Some, None, Result, Ok, Err, ◌==◌, if◌then◌else◌}
 use Rattle.sshkey_model.specs.Parts.{bytes, HasLength}
@@ -39,7 +39,7 @@ blocks_format c = record { Spells = Spells (AreBlocks c) string; read = blocks_a
 abbrev pub tag_format : Cipher → Format (List ℕ)
 tag_format c = record { Spells = Spells (HasLength (tag_size c)) bytes; read = bytes_at (tag_size c); needs = NoNeed; overruns = NoOverrun; grammar = by_itself (grammar (bytes_reads (tag_size c))); lengths = no_lengths (bytes_at (tag_size c)) }
 
--- the ciphertext, and its tag behind it
+-- the ciphertext, and its tag after it
 abbrev pub sealed_format : Cipher → Format (List ℕ × List ℕ)
 sealed_format c = blocks_format c then tag_format c
 

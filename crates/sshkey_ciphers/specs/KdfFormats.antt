@@ -65,7 +65,7 @@ options_end BcryptDerivation b = refl
 
 -- ---- a key derivation
 
--- a name, and behind it what that one takes
+-- an algorithm's name, and after it what that algorithm takes
 abbrev pub kdf_term : Format Kdf
 kdf_term = called algorithm_format options_format
 

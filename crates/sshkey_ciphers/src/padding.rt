@@ -68,7 +68,7 @@ pub fn encode_padded<T: Encode, W: Writer>(value: &T, writer: &mut W) -> encodin
     write_padding(len, writer)
 }
 
-/// Writes the padding after so many bytes.
+/// Writes the padding after `len` bytes.
 fn write_padding<W: Writer>(len: usize, writer: &mut W) -> encoding::Result<()>
     ensures { Encodes W.fault (bytes (padding len))
         (W.sink writer.old) result (W.sink writer.new) }

@@ -14,8 +14,8 @@ pub struct Faulty<'s> {
 }
 
 impl<'s> Faulty<'s> {
-    /// The source that has these bytes, and lacks so many after them. Where it lacks none, a read
-    /// past the bytes is rejected as that of a slice.
+    /// The source that has these bytes, and lacks `missing` more after them. If it lacks none, a
+    /// read past the bytes is rejected as that of a slice.
     pub fn new(bytes: &'s [u8], missing: u32) -> Faulty<'s>
         ensures { ⟦<Faulty<'s> as Reader>⟧.source result
             ≡ record { left = bytes.now; missing = missing; outer = [] } }

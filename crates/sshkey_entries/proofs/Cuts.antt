@@ -41,7 +41,7 @@ cuts_none f (c ∷ t) h =
     let rest = cuts_none (λ k. f (suc k)) t (λ k l. h (suc k) (omega arith)) in
     λ i. cond (h 0 (omega arith) i) ([] ∷ rest i) (onto_first c (rest i))
 
--- up to the first place that passes, and behind it
+-- up to the first place that passes, and after it
 pub cuts_first : (f : ℕ → Bool) (i : ℕ) (t : List ℕ) → i < length t → f i ≡ true → ((k : ℕ) → k < i → f k ≡ false) → cuts f t ≡ take i t ∷ cuts (λ k. f (i + 1 + k)) (drop (i + 1) t)
 unfolding cuts
 cuts_first f i [] l passes none = absurd (omega arith)

@@ -36,7 +36,7 @@ module _ (is : ℕ → Bool) where
   all_stays [] e = nothing_stays
   all_stays (c ∷ text) e = stays c text e
 
-  -- so many are left out, and then a text is left that none begins
+  -- `n` are left out, and then a text is left that none begins
   so_many : (n : ℕ) (text : List ℕ) → ((i : ℕ) → i < n → is (slice_index text i) ≡ true) → is (slice_index text n) ≡ false → without_front is text ≡ drop n text
   so_many zero text before here = all_stays text here
   so_many (suc n) [] before here = nothing_stays

@@ -98,7 +98,7 @@ module _ (fold : ℕ → ℕ) where
   goes_further pattern text rest left behind more c x rest_is left_is other stands g =
       goes_more pattern text c x behind more other stands (subst (GoesOn fold pattern text (c ∷ behind)) left_is (subst (λ (l : List ℕ). GoesOn fold pattern text l left) rest_is g))
 
-  -- a star at the front, and what stands behind it
+  -- a star at the front, and what follows it
   pub behind_star : (rest left : List ℕ) → 1 ≤ length rest → slice_index rest 0 ≡ star → Matches fold rest left ↔ MatchesLater fold (take (length rest - 1) (drop 1 rest)) left
   behind_star [] left some e = absurd (omega (arith, some))
   behind_star (c ∷ rest) left some e =

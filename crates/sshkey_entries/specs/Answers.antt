@@ -26,12 +26,12 @@ AsksEntry Needs line (Err e) = cause e ≡ NoMemory → Needs line
 abbrev pub AnswersEntry : {X Y : Type 0} → (X → Y) → (List ℕ → Y → Type 0) → (List ℕ → Error → Type 0) → (List ℕ → Type 0) → List ℕ → Result X Error → Type 0
 AnswersEntry means IsEntry HasFault Needs line r = ReadsEntry means IsEntry line r × RefusesFor HasFault line r × AsksEntry Needs line r
 
--- The line is its entry, and what stands behind it.
+-- The line is its entry, and what follows it.
 abbrev pub AreLineParts : List ℕ → Bor (List ℕ) × Bor (List ℕ) → Type 0
 AreLineParts line parts = (parts.0.now ≡ uncommented line) × (line ≡ parts.0.now ++ parts.1.now)
 
--- One call of an iterator over entries, of which it is seen as the list that is left: `None` where
--- none is left, and else the first is taken off and answered.
+-- One call of an iterator over entries, seen as the list of those that are left: `None` if none is
+-- left, and else the first is taken off and answered.
 abbrev pub YieldsAnswers : {X : Type 0} → (List ℕ → X → Type 0) → List (List ℕ) → Option X → List (List ℕ) → Type 0
 YieldsAnswers Answers old None new = (old ≡ []) × (new ≡ [])
 YieldsAnswers Answers old (Some answer) new = (entry : List ℕ) × (old ≡ entry ∷ new) × Answers entry answer
@@ -68,7 +68,7 @@ ReadsFile means IsEntry (Err e) = Unit {0}
 -- ---- memory
 
 -- The first line has a value, which is kept, or needs memory itself. No other line counts: what
--- stands behind a line without a value is not read.
+-- follows a line without a value is not read.
 abbrev pub NeedsFirstLine : {Y : Type 0} → (List ℕ → Y → Type 0) → (List ℕ → Type 0) → List (List ℕ) → Type 0
 NeedsFirstLine IsEntry Needs [] = ⊥
 NeedsFirstLine {Y} IsEntry Needs (line ∷ lines) = ((y : Y) × IsEntry line y) ⊎ Needs line

@@ -10,7 +10,7 @@ use Rattle.sshkey_entries.specs.KnownHosts.{Marker, Revoked, Patterns, HashedNam
 abbrev pub authorized : List ℕ → List ℕ → AuthorizedKey
 authorized options comment = record { options = options; key = rsa_key; comment = comment }
 
--- Options need a comment behind the key, or at least a space; without, the line is a key's or
+-- Options need a comment after the key, or at least a space; without, the line is a key's or
 -- nothing.
 abbrev pub Options : Type 0
 Options = IsAuthorizedKey rsa_line (authorized [] [])

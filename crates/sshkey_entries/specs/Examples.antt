@@ -52,8 +52,8 @@ Characters = filter is_option_character (rising 0 256) ≡ codes "!\"#$%&'()*+,-
 abbrev pub HashedName : Type 0
 HashedName = hashed_text (hex "25f29374187bacd6d7915010091a78390a0f7e62") (hex "512102af74967f52543ec9ace40a9f0f941fc643") ≡ codes "|1|JfKTdBh7rNbXkVAQCRp4OQoPfmI=|USECr3SWf1JUPsms5AqfD5QfxkM="
 
--- The first space of the first line is quoted, and that of the others is not: a quote behind a
--- backslash is none.
+-- The first space of the first line is quoted, and that of the others is not: a quote that follows
+-- a backslash is none.
 abbrev pub Quoted : Type 0
 Quoted = (is_inside (codes "c=\"x ssh-rsa A y\" ssh-rsa B z") 4 ≡ true)
     × (is_inside (codes "c=\"x\" ssh-rsa B z") 5 ≡ false)

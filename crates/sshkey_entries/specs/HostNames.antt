@@ -27,6 +27,6 @@ abbrev pub standard_port : ℕ
 standard_port = 22
 
 -- The name of a host in known_hosts: in small letters, and at another port than the standard one
--- between brackets, with a colon and the port behind.
+-- between brackets, with a colon and the port after them.
 abbrev pub known_name : List ℕ → ℕ → List ℕ
 known_name host port = if port == standard_port then map to_ascii_lowercase host else codes "[" ++ map to_ascii_lowercase host ++ codes "]:" ++ decimal port

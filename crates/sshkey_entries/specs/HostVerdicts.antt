@@ -18,7 +18,7 @@ pub record Lists (hmac : List ℕ → List ℕ → List ℕ) (name : List ℕ) (
   pub key_is : entry.key ≡ key
   pub is_for : AreFor hmac name entry.hosts
 
--- Hosts stand in the line, behind a marker or none, and they are not for the name. No byte is 0,
+-- Hosts stand in the line, after a marker or none, and they are not for the name. No byte is 0,
 -- where ssh takes the hosts to end.
 pub record IsForOthers (hmac : List ℕ → List ℕ → List ℕ) (name line : List ℕ) : Type 0 where
   pub no_zero : IsWithout 0 line

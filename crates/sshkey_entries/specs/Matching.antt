@@ -4,7 +4,7 @@ use Rattle.sshkey_entries.specs.Patterns.{Matches, star}
 use denote.Ref.{Bor}
 
 -- What is left matches exactly if all does, and whatever else the pattern matches, what is left of
--- it matches what stands behind as many characters.
+-- it matches what follows as many characters.
 pub record GoesOn (fold : ℕ → ℕ) (pattern text rest left : List ℕ) : Type 0 where
   pub steps : ℕ
   pub is : left ≡ drop steps text
@@ -16,7 +16,7 @@ pub record GoesOn (fold : ℕ → ℕ) (pattern text rest left : List ℕ) : Typ
 abbrev pub IsStuck : (ℕ → ℕ) → List ℕ → List ℕ → Type 0
 IsStuck fold rest left = slice_index rest 0 ≢ star → Matches fold rest left → (rest ≡ []) × (left ≡ [])
 
--- The pattern matches the text behind so many of its characters.
+-- The pattern matches what is left of the text after some of its characters, or after none.
 abbrev pub MatchesLater : (ℕ → ℕ) → List ℕ → List ℕ → Type 0
 MatchesLater fold pattern text = (k : ℕ) × Matches fold pattern (drop k text)
 

@@ -1,6 +1,6 @@
 -- The lines of authorized_keys and known_hosts as OpenSSH reads them (sshd(8), "AUTHORIZED_KEYS
 -- FILE FORMAT" and "SSH_KNOWN_HOSTS FILE FORMAT"): a line that begins with a `#` is a comment, and
--- fields are separated by spaces or tabs, of which some may stand in front.
+-- fields are separated by spaces or tabs, which may also stand in front.
 use Rattle.std.specs.Prelude.{◌≡◌, ◌≢◌, ◌⊎◌, ℕ, List, [], ◌++◌, length, slice_index, Option, Some, None}
 use Rattle.sshkey_model.specs.Lines.{space, IsWithout}
 use Rattle.sshkey_entries.specs.AuthorizedKeys.{AuthorizedKey}
@@ -32,7 +32,7 @@ pub record IsAuthorizedLine (line : List ℕ) (a : AuthorizedKey) : Type 0 where
 -- ---- known_hosts
 
 -- ssh ends a marker at the first space of the line, and at a tab only where no space follows. A
--- revocation counts behind a tab all the same.
+-- revocation counts even with a tab after its marker.
 abbrev pub EndsMarker : Marker → List ℕ → Type 0
 EndsMarker CertAuthority behind = (slice_index behind 0 ≡ space) ⊎ IsWithout space behind
 EndsMarker Revoked behind = Unit {0}

@@ -1,6 +1,5 @@
 -- Where OpenSSH ends the options of a line of authorized_keys (sshd(8): no spaces are permitted in
--- options, except within double quotes; a double quote in a quoted string stands behind a
--- backslash).
+-- options, except within double quotes; a double quote in a quoted string follows a backslash).
 use Rattle.std.specs.Prelude.{◌≡◌, ℕ, ◌-◌, ◌<◌, List, length, count_by, slice_index, nat_lt, Bool, true, false, not, ◌&&◌, ◌||◌, ◌==◌}
 use Rattle.std.specs.List.{range_with_len}
 use Rattle.sshkey_model.specs.Lines.{space}

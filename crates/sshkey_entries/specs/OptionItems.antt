@@ -1,6 +1,6 @@
 -- The options before a key as items (sshd(8), "AUTHORIZED_KEYS FILE FORMAT"): comma-separated
 -- option specifications, without spaces but within double quotes. Each is a keyword, or a keyword,
--- `=` and a value in double quotes, in which a quote stands behind a backslash. OpenSSH passes over
+-- `=` and a value in double quotes, in which a quote follows a backslash. OpenSSH passes over
 -- commas that stand in a row, or at either end.
 use Rattle.std.specs.Prelude.{◌≡◌, ◌⊎◌, ℕ, ◌<◌, List, [], ◌∷◌, ◌++◌, length, map, slice_index, EachIndex, Bool, true, false, not, ◌&&◌, ◌||◌, ◌==◌, if◌then◌else◌, Option, Some, None}
 use Rattle.std.specs.Char.{to_ascii_lowercase}
@@ -30,7 +30,7 @@ AreNameCharacters text = EachIndex text (λ i. is_name_character (slice_index te
 
 -- ---- values
 
--- Each quote in the text stands behind a backslash, and one behind the text does not.
+-- Each quote in the text follows a backslash, and one after the text does not.
 pub record IsQuoted (text : List ℕ) : Type 0 where
   pub inner : (i : ℕ) → i < length text → is_mark text i ≡ false
   pub ends : is_mark (text ++ (quote ∷ [])) (length text) ≡ true
@@ -69,7 +69,7 @@ IsNoOption text = (o : KeyOption) (rest : List ℕ) → IsOptionAt text o rest �
 abbrev pub without_commas : List ℕ → List ℕ
 without_commas = without_front is_comma
 
--- The text is these options, one behind the other.
+-- The text is these options, one after the other.
 abbrev pub AreKeyOptions : List ℕ → List KeyOption → Type 0
 AreKeyOptions text [] = without_commas text ≡ []
 AreKeyOptions text (o ∷ more) = (rest : List ℕ) × IsOptionAt (without_commas text) o rest × AreKeyOptions rest more

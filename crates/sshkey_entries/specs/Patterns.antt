@@ -35,7 +35,7 @@ unmarked (c ∷ pattern) = if c == exclamation_mark then pattern else c ∷ patt
 abbrev pub MatchesUnnegated : (ℕ → ℕ) → List ℕ → List ℕ → Type 0
 MatchesUnnegated fold text pattern = (slice_index pattern 0 ≢ exclamation_mark) × Matches fold pattern text
 
--- It is negated, by a `!` in front, and what stands behind matches the text.
+-- It is negated, by a `!` in front, and what follows that matches the text.
 abbrev pub MatchesNegated : (ℕ → ℕ) → List ℕ → List ℕ → Type 0
 MatchesNegated fold text pattern = (slice_index pattern 0 ≡ exclamation_mark) × Matches fold (unmarked pattern) text
 

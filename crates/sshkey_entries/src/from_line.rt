@@ -38,8 +38,8 @@ pub trait FromLine: Drop + Sized {
 
 /// All entries of a text, in order, or the error of the first line that is no entry.
 ///
-/// No line behind that one is read. So `Memory` means that an allocation failed, and of a text
-/// whose first line is no entry only where reading that line needs memory.
+/// No line after that line is read. So `Memory` means that an allocation failed, and for a text
+/// whose first line is no entry, that reading that line needs memory.
 pub fn entries_of_text<E: FromLine>(alloc: Global, text: &str) -> Result<Vec<E>>
     ensures reads { ReadsEntries E.means E.IsEntry E.HasFault (entries text.now) result }
     ensures asks { AsksEntries E.IsEntry E.Needs (entries text.now) result }

@@ -6,7 +6,7 @@ use Rattle.sshkey_entries.specs.OptionItems.{HasKeyOptions, KeyOption}
 use Rattle.sshkey_entry_calls.specs.Options.{FindsKeyOption, IsNthOption, IsOptionOf, TellsOption, found_option}
 use Rattle.sshkey_entry_calls.specs.declared.options.OptionParts.{OptionParts}
 
--- So many options were read, and of them it is the one of that number, or so many are still to be
+-- Of the options that were read it is the one of that number, or `passing` more are still to be
 -- passed over.
 abbrev pub IsCounted : ℕ → List KeyOption → Option OpenSshOption → ℕ → Type 0
 IsCounted number options None passing = length options + passing ≡ number

@@ -150,7 +150,7 @@ only_blanks (c ∷ blanks) are =
     ap (λ (all : List (List ℕ)). filter is_filled (map without_blanks all)) (last_line (c ∷ blanks) (omega arith) are.one_line)
     ∙ ap (λ (l : List ℕ). filter is_filled (l ∷ [])) are.skipped
 
--- a line with others behind it has an end
+-- a line with others after it has an end
 has_end : (end behind : List ℕ) → IsLineEnd end behind → 0 < length behind → 0 < length end
 has_end end behind (inl none) more = absurd (omega (arith, more, ap length none.1))
 has_end end behind (inr (inl feed)) more = omega (arith, ap length feed)
@@ -158,8 +158,8 @@ has_end end behind (inr (inr both)) more = omega (arith, ap length both)
 
 -- ---- where it is
 
--- what is left stands behind what was passed, which has none of the lines that are asked for, and
--- has all of these
+-- what is left follows what was passed, which has none of the lines that are asked for, and has all
+-- of these
 pub record IsLeft (text : List ℕ) (place : ℕ) (left : List ℕ) : Type 0 where
   pub before : List ℕ
   pub is : text ≡ before ++ left

@@ -35,7 +35,7 @@ of_known_host h = entry_text (hosts_text h.hosts) h.key h.comment (marker_number
 
 -- ---- in the room
 
--- the parts, one behind the other
+-- the parts, one after the other
 abbrev pub content_of : EntryText → List ℕ
 content_of x = x.front ++ (x.key ++ x.comment)
 

@@ -12,8 +12,8 @@ is_line_end c = c == 10
 abbrev pub IsLineEnd : List ℕ → List ℕ → Type 0
 IsLineEnd end behind = ((end ≡ []) × (behind ≡ [])) ⊎ (end ≡ 10 ∷ []) ⊎ (end ≡ 13 ∷ 10 ∷ [])
 
--- The text is its first line, the end of that, and what stands behind; and so with any bytes in
--- place of these, where the line has an end.
+-- The text is its first line, the end of that, and what follows; and so with any bytes in place of
+-- these, if the line has an end.
 pub record CutsLine (text line behind : List ℕ) : Type 0 where
   pub end : List ℕ
   pub is : text ≡ line ++ (end ++ behind)
@@ -21,9 +21,8 @@ pub record CutsLine (text line behind : List ℕ) : Type 0 where
   pub first : lines text ≡ line ∷ lines behind
   pub any_behind : 0 < length end → (x : List ℕ) → lines (line ++ (end ++ x)) ≡ line ∷ lines x
 
--- 0 and the first of the filled lines from that place on, which lies there, before which there is
--- none, and behind which the others are found; 3 exactly where there is none, and then the part is
--- as it was.
+-- 0 and the first of the filled lines from that place on, which lies there; none comes before it,
+-- and the others are found after it. 3 exactly if there is none, and then the part is as it was.
 pub record FindsLine (text : List ℕ) (place n : ℕ) (was part : Part) : Type 0 where
   pub found : n ≡ 0 → filled_lines (drop place text) ≡ bytes_of part text ∷ filled_lines (drop (part.start + part.length) text)
   pub within : n ≡ 0 → (place ≤ part.start) × (part.start + part.length ≤ length text)

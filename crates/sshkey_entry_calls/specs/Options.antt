@@ -27,7 +27,7 @@ abbrev pub value_number : Option (List ℕ) → ℕ
 value_number None = 0
 value_number (Some value) = 1
 
--- the name, and behind it the value
+-- the name, and after it the value
 abbrev pub option_bytes : KeyOption → List ℕ
 option_bytes o = o.name ++ value_bytes o.value
 

@@ -54,7 +54,7 @@ pub record IsJudged (accepts : Question → Bool) (revokes : List ℕ → Bool) 
   pub counts : SaysWhether (HasSignature bytes (Counts accepts revokes signers identity namespace message time)) n
   pub first : n ≢ 0 → n ≢ 1 → (r : Refusal) × IsWhy accepts revokes signers identity namespace message time bytes r × (n ≡ verdict_number (Err r))
 
--- For bytes that spell a signature the number says this, memory aside, of each message of which the
--- verification said so.
+-- For bytes that spell a signature the number says this, memory aside, about each message about
+-- which the verification said so.
 abbrev pub TellsSigner : List ℕ → List ℕ → List ℕ → ℕ → List ℕ → ℕ → List ℕ → ℕ → Type 0
 TellsSigner signers identity namespace time revoked is_verified bytes n = SpellsSome SpellsSshSignature bytes → n ≢ 1 → (read : Result RevokedKeys Error) × IsReadOf revoked read × ((accepts : Question → Bool) (message : List ℕ) → SaysOf accepts bytes message is_verified → IsJudged accepts (revokes_of read) signers identity namespace message time bytes n)

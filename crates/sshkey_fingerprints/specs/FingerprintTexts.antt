@@ -34,7 +34,7 @@ IsRefusedDigest size text e =
     ⊎ ((length text ≤ 86) × ((b : List ℕ) → IsEncoded text b → ⊥) × (e ≡ Encoding Base64))
     ⊎ ((length text ≤ 86) × ((b : List ℕ) × IsEncoded text b × (length b ≢ size)) × (e ≡ Encoding Length))
 
--- The name of no hash stands in front with a colon; or why no digest by that hash stands behind it.
+-- The name of no hash stands in front with a colon; or why no digest by that hash follows it.
 abbrev pub IsRefusedText : List ℕ → Error → Type 0
 IsRefusedText text e =
     (((h : Hash) (rest : List ℕ) → text ≢ fingerprint_prefix h ++ rest) × (e ≡ AlgorithmUnknown))
@@ -45,7 +45,7 @@ abbrev pub ReadsFingerprint : List ℕ → Result Fingerprint Error → Type 0
 ReadsFingerprint text (Ok f) = text ≡ shown f
 ReadsFingerprint text (Err e) = IsNoFingerprint text × IsRefusedText text e
 
--- the same of what stands behind the colon
+-- the same for what follows the colon
 abbrev pub ReadsDigest : ℕ → List ℕ → Result (List ℕ) Error → Type 0
 ReadsDigest size text (Ok d) = text ≡ encode_of standard_no_pad d
 ReadsDigest size text (Err e) = IsRefusedDigest size text e

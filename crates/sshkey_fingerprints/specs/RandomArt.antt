@@ -84,6 +84,6 @@ hash_label Sha512 = codes "[SHA512]"
 unfoldable pub rows : List ℕ → List ℕ
 rows d = flat_map (row_line d) (range_with_len 0 9)
 
--- The header, the nine rows, and the name of the hash; no line end behind it.
+-- The header, the nine rows, and the name of the hash; no line end after it.
 unfoldable pub picture : List ℕ → Hash → List ℕ → List ℕ
 picture header h d = title header ++ (codes "\n" ++ (rows d ++ title (hash_label h)))

@@ -34,7 +34,7 @@ pub enum Fingerprint {
     Sha512([u8; 64]),
 }
 
-/// Keys of at most so many bytes, all but RSA and DSA keys in use today, are digested in place.
+/// Keys of at most this many bytes, all but RSA and DSA keys in use today, are digested in place.
 const SHORT_KEY_LEN: usize = 256;
 
 impl Fingerprint {

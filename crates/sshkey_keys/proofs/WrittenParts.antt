@@ -1,4 +1,4 @@
--- Two parts, written one behind the other.
+-- Two parts, written one after the other.
 use Rattle.std.proofs.Common.{◌≡◌, refl, ℕ, ◌≤◌, List, ◌++◌, length, take, drop, append-nil, replicate, ◌+◌, sym, ap, arith, ◌∙◌}
 use Rattle.std.proofs.lemmas.List.{take-append-drop, length-append, drop_at, drop-drop, take_at}
 use Rattle.std.proofs.lemmas.Slice.{take-put_mid, drop-put_mid}

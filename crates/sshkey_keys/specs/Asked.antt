@@ -15,7 +15,7 @@ pub record IsAsked (q : Question) : Type 0 where
   pub form : IsSignatureBlob signature.algorithm signature.blob
   pub is : question key message signature ≡ Some q
 
--- Something is asked of which a verifier may run out of memory.
+-- Something is asked over which a verifier may run out of memory.
 abbrev pub RunsOut : (Question → Type 0) → Option Question → Type 0
 RunsOut runs_out None = ⊥
 RunsOut runs_out (Some q) = runs_out q

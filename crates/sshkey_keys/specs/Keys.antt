@@ -35,7 +35,7 @@ SpellsKey = SpellsWith IsKey HasKeyPlaces key
 
 -- ---- reading
 
--- What a call gives that reads what stands behind the name of that algorithm.
+-- What a call gives that reads what follows the name of that algorithm.
 abbrev pub DecodesBody : {R : Type 0} → Algorithm → (R → Source) → R → Result KeyData Error → R → Type 0
 DecodesBody a source before result after = Gives key_of cause (body_at a) (source before) result (source after)
 

@@ -149,7 +149,7 @@ impl KeyData {
     /// algorithm; the hash of an RSA name is not kept.
     ///
     /// The bytes taken spell the body. A sound source is rejected only if no front is the body of
-    /// such a key, with the first fault from the left, or for memory that ran out, where the body
+    /// such a key, with the first fault from the left, or for memory that ran out, if the body
     /// needs some.
     #[tactic(auto, using(crate::proofs::Bodies::body_accepted))]
     pub fn decode_as<R: Reader>(

@@ -77,8 +77,8 @@ impl<'a> Question<'a> {
 }
 
 impl KeyData {
-    /// What a verifier is asked about a signature of the message under this key, or `None` where
-    /// the key and the signature's algorithm do not go together: then no verifier is asked, and the
+    /// What a verifier is asked about a signature of the message under this key, or `None` if the
+    /// key and the signature's algorithm do not go together: then no verifier is asked, and the
     /// signature counts for nothing. `verify` asks its verifier just this. Does not allocate.
     ///
     /// A DSA, an Ed25519 or an RSA key goes together with its own algorithm, RSA with a hash, and

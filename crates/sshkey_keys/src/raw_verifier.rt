@@ -23,7 +23,7 @@ pub trait RawVerifier {
     /// Which signatures it accepts, a function of its value and the question.
     ghost accepts: { Self → Question → Bool };
 
-    /// Of which questions it may run out of memory; of all, unless an implementation says less.
+    /// The questions over which it may run out of memory: all, unless an implementation says less.
     ghost runs_out: { Self → Question → Type 0 } = { λ _ _. Unit {0} };
 
     /// Returns whether these bytes are a signature of the message under the key by the algorithm.

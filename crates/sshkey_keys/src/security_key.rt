@@ -45,7 +45,7 @@ fn application_and_trailer(application: &str, trailer: [u8; 5]) -> [u8; 37]
     bytes
 }
 
-/// The flags and the counter, the last five bytes; zeros where there are fewer.
+/// The flags and the counter, the last five bytes; zeros if there are fewer.
 fn trailer_of(signature: &[u8]) -> [u8; 5]
     ensures is { 5 ≤ length signature.now → result ≡ trailer signature.now }
     ensures short { length signature.now < 5 → result ≡ replicate 5 0 }

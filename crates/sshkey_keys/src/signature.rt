@@ -48,7 +48,7 @@ impl Signature {
     ghost use Rattle.sshkey_keys.specs.SignatureForms.{signature_from};
     ghost use Rattle.sshkey_keys.specs.Signatures.{signature_algorithm, signature_of};
 
-    /// The signature by that algorithm that has these bytes, where they are well-formed for it.
+    /// The signature by that algorithm that has these bytes, if they are well-formed for it.
     ///
     /// Fails with the first fault from the left of an ECDSA signature: `FormatEncoding` for a
     /// number with a needless leading 00, `Crypto` for one that is not positive; and with `Length`

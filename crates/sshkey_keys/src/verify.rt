@@ -60,7 +60,7 @@ impl KeyData {
     }
 
     /// Whether the verifier is called for the question that `question` returns, and returns true:
-    /// exactly where `verify` is `Ok`, unless memory runs out. Does not allocate.
+    /// exactly if `verify` is `Ok`, unless memory runs out. Does not allocate.
     ///
     /// Fails only if the verifier runs out of memory.
     pub fn accepts<V: RawVerifier>(
@@ -81,7 +81,7 @@ impl KeyData {
         verifier.verify(algorithm, key, question.message(), question.signature())
     }
 
-    /// The algorithm that is named where nothing is asked.
+    /// The algorithm that is named if nothing is asked.
     fn unsupported_algorithm<'a>(&'a self, signature: &'a Signature) -> &'a Algorithm
         ensures { result.now ≡ unsupported_of self.now signature.now }
     {

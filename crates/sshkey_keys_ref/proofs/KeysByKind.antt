@@ -25,7 +25,7 @@ of_dsa _ e = absurd cc
 pub body_algorithm : (a : Algorithm) (b rest : List ℕ) (k : Key) → body_at a b ≡ Ok (k, rest) → key_algorithm k ≡ unhashed a
 body_algorithm a b rest k e = ((body_reads a).takes b k rest e).0.0
 
--- of whichever curve it is wanted
+-- the same key, whatever curve is wanted
 pub ecdsa_found : (c : Curve) (b p q : List ℕ) (x k : Key) → any_ecdsa_at b ≡ Ok (x, p) → ecdsa_at c b ≡ Ok (k, q) → k ≡ x
 unfolding ecdsa_at
 ecdsa_found c b p q x k e d =

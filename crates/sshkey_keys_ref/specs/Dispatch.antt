@@ -66,6 +66,6 @@ IsOfKind Is key = (k : Key) → whole key_data_at key ≡ Ok k → Is k
 abbrev pub IsAskedItself : Algorithm → Key → Type 0
 IsAskedItself a k = (message blob : List ℕ) → question k message (signature_by a blob) ≡ Some (asked k message (signature_by a blob))
 
--- These bytes stand behind the length of a string.
+-- These bytes follow the length of a string.
 abbrev pub IsBlobIn : List ℕ → List ℕ → Type 0
 IsBlobIn b blob = (a : Algorithm) (expected : List ℕ) → signature_blob_at a b ≡ Ok (expected, []) → blob ≡ expected

@@ -10,7 +10,7 @@ use Rattle.sshkey_base.specs.Source.{all_of}
 abbrev pub TakesValue : {X Y E : Type 0} → (X → Y) → (E → Cause) → Front Y → List ℕ → Result X E → List ℕ → Type 0
 TakesValue means cause read b r rest = GivesAlways means cause read (all_of b) r (all_of rest)
 
--- What stands behind the value that the plain reader gives, or a refusal with its fault.
+-- What follows the value that the plain reader gives, or a refusal with its fault.
 abbrev pub Skips : {Y E : Type 0} → (E → Cause) → Front Y → List ℕ → Result (Bor (List ℕ)) E → Type 0
 Skips {Y} cause read b (Ok rest) = (y : Y) × (read b ≡ Ok (y, rest.now))
 Skips cause read b (Err e) = Refuses 0 (cause e) (read b)
@@ -22,19 +22,19 @@ Finds means read b None = (f : Fault) × (read b ≡ Err f)
 
 -- ---- in the words of the grammar
 
--- The bytes are a spelling of some value, and the rest stands behind it.
+-- The bytes are a spelling of some value, and the rest follows it.
 pub record StandsBehind {Y : Type 0} (Spells : Y → List ℕ → Type 0) (b rest : List ℕ) : Type 0 where
   pub value : Y
   pub front : List ℕ
   pub spelled : Spells value front
   pub all : b ≡ front ++ rest
 
--- What stands behind a front that spells some value, or a refusal where no front does.
+-- What follows a front that spells some value, or a refusal if no front does.
 abbrev pub PassesFront : {Y E : Type 0} → (Y → List ℕ → Type 0) → List ℕ → Result (Bor (List ℕ)) E → Type 0
 PassesFront Spells b (Ok rest) = StandsBehind Spells b rest.now
 PassesFront Spells b (Err e) = NoFront Spells b
 
--- The front spells some value, and the rest stands behind it.
+-- The front spells some value, and the rest follows it.
 pub record IsFrontOf {Y : Type 0} (Spells : Y → List ℕ → Type 0) (b front rest : List ℕ) : Type 0 where
   pub value : Y
   pub spelled : Spells value front

@@ -1,5 +1,5 @@
--- Points are equal exactly where their lengths and their arrays are, since zeros stand behind the
--- bytes of each.
+-- Points are equal exactly where their lengths and their arrays are, since zeros follow the bytes
+-- of each.
 use Rattle.std.proofs.Common.{◌≡◌, ℕ, ◌-◌, ◌++◌, true, length, take, replicate, ◌∙◌, sym, ap, arith}
 use Rattle.std.specs.Str.{bytes_eq}
 use Rattle.std.proofs.lemmas.List.{take-append-drop, length-take-le}

@@ -1,4 +1,4 @@
--- A point string that is judged behind its length.
+-- A point string that is judged after its length.
 use Rattle.std.proofs.Common.{◌≡◌, ℕ, ◌<◌, List, Result, Ok, Err, refl, ◌∙◌}
 use Rattle.std.specs.Int.{w32}
 use Rattle.sshkey_model.specs.Reading.{Fault, Length, Whole, number_at, bytes_at, string_at, checked_at}

@@ -1,4 +1,4 @@
--- What stands behind the name of each kind of key, by the terms that it is read as.
+-- What follows the name of each kind of key, by the terms that it is read as.
 use Rattle.std.proofs.Common.{ℕ, List, None, Result, Ok, refl}
 use Rattle.sshkey_model.specs.Reading.{Fault, ◌>>=◌, box_at, whole, bytes_at, both_at, behind_at}
 use Rattle.sshkey_model.specs.Texts.{text_at}
@@ -63,7 +63,7 @@ sk_ed25519_format = made_of (array_format 32 then text_format) sk_ed25519_parts_
 abbrev pub curve_format : Format Curve
 curve_format = label_format NoNeed curve_checks
 
--- a point of whichever curve
+-- a point on any curve
 abbrev pub any_point_format : Format (Curve × List ℕ)
 any_point_format = without_memory (tested point_from string_format)
 

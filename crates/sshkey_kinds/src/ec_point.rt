@@ -69,7 +69,7 @@ impl<const LEN: usize> EcPoint<LEN> {
     }
 }
 
-/// The curve whose longest point string has so many bytes.
+/// The curve whose longest point string has `longest` bytes.
 fn curve_of_longest(longest: usize) -> Option<EcdsaCurve>
     ensures { option_map curve_of result ≡ curve_of_longest longest }
 {
@@ -81,7 +81,7 @@ fn curve_of_longest(longest: usize) -> Option<EcdsaCurve>
     }
 }
 
-/// Whether the bytes are a point string of the curve whose longest one has so many bytes.
+/// Whether the bytes are a point string of the curve whose longest one has `longest` bytes.
 fn is_point_within(longest: usize, bytes: &[u8]) -> bool
     ensures { result ≡ is_point_within longest bytes.now }
 {
@@ -113,7 +113,7 @@ impl<const LEN: usize> PartialEq for EcPoint<LEN> {
         ensures value { result ≡ on point_of bytes_eq self.now other.now }
         ensures exact { IsTrue result ↔ (point_of self.now ≡ point_of other.now) }
     {
-        // Zeros stand behind the bytes of both, and arrays are compared faster than slices.
+        // Zeros follow the bytes of both, and arrays are compared faster than slices.
         self.len == other.len && self.bytes == other.bytes
     }
 }

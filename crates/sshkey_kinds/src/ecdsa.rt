@@ -136,7 +136,7 @@ impl Decode for EcdsaPublicKey {
     }
 }
 
-/// A point string of any of the curves, none of which is longer than 133 bytes.
+/// A point string on any of the curves, at most 133 bytes long.
 struct AnyPoint(EcdsaPublicKey);
 
 #[tactic(auto, using(sshkey_base::proofs::Steps::steps, sshkey_terms::proofs::Stopping::handed, sshkey_base::proofs::Stopping::judged_length_stopped, crate::proofs::PointStrings::behind_refused_stopped), unfolding(sshkey_model::specs::Reading::string_at))]

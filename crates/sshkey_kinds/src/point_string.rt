@@ -1,4 +1,4 @@
-//! Points behind the length of their strings.
+//! Points after the length of their strings.
 
 ghost use Rattle.std.specs.Prelude.{◌≡◌, ◌<◌, ◌≤◌, IsErrAnd};
 ghost use Rattle.sshkey_base.specs.Answers.{AnswersAlways};

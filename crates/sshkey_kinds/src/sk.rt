@@ -142,7 +142,7 @@ impl Decode for P256Name {
     }
 }
 
-/// A point string of P-256, none of which is longer than 65 bytes.
+/// A point string of P-256, at most 65 bytes long.
 #[derive(Drop)]
 struct P256Point(EcdsaNistP256PublicKey);
 

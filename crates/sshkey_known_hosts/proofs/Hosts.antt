@@ -22,7 +22,7 @@ use Rattle.sshkey_known_hosts.specs.HostFaults.{HasNoBar, HasNoBase64, HasNoPart
 
 -- ---- a hashed name
 
--- Behind two words the bar between them stands.
+-- If two words follow the mark, so does the bar between them.
 parted : (salt hash rest : List ℕ) → hashed_mark ++ (salt ++ (bar ∷ hash)) ≡ hashed_mark ++ rest → IsWithout bar rest → ⊥
 parted salt hash rest is without =
     let same : rest ≡ salt ++ (bar ∷ hash) = ap (drop 3) (sym is) in
@@ -102,7 +102,7 @@ refused_is_none text (Encoding Length) x other = other_hosts text x
 refused_is_none text Memory x other = absurd (other refl)
 refused_is_none text e x other = absurd x
 
--- what is read behind the mark
+-- what is read after the mark
 pub reads_behind_mark : (text rest : List ℕ) (r : Result HostPatterns Error) → text ≡ hashed_mark ++ rest → ReadsHashed rest r → ReadsEntry hosts_of IsHosts text r
 reads_behind_mark text rest (Ok h) is x = subst (λ (t : List ℕ). IsHosts t (hosts_of h)) (sym is) x
 reads_behind_mark text rest (Err e) is x = λ other. subst (IsNoEntry IsHosts) (sym is) (refused_is_none (hashed_mark ++ rest) e x other)

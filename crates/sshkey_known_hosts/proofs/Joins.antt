@@ -7,7 +7,7 @@ more : (c : ℕ) (piece next : List ℕ) (pieces : List (List ℕ)) → join_wit
 more c piece next [] = refl
 more c piece next (second ∷ pieces) = ap (λ (l : List ℕ). piece ++ (c ∷ l)) (more c second next pieces) ∙ sym (append_assoc piece (c ∷ join_with_byte c (second ∷ pieces)) (c ∷ next))
 
--- the first piece, and another behind some
+-- the first piece, and another after some
 pub join_one : (c i : ℕ) (pieces : List (List ℕ)) (next : List ℕ) → i < length pieces → i ≡ 0 → get_or pieces i next ≡ next → join_with_byte c (take (i + 1) pieces) ≡ next
 join_one c i pieces next l zero is = ap (join_with_byte c) (take_more pieces i next l ∙ (λ j. take (zero j) pieces ++ (is j ∷ [])))
 

@@ -10,7 +10,7 @@ use Rattle.sshkey_model.proofs.CombinedReaders.{are_bytes-append, bytes_fit}
 use Rattle.sshkey_known_hosts.specs.HostFaults.{IsNoBase64}
 use Rattle.sshkey_known_hosts.specs.OtherHosts.{ReadsAll, ReadsTwenty}
 
--- These were read, and are the 20 bytes if so many were announced.
+-- These were read, and are the 20 bytes if that many were announced.
 pub record ReadSoFar (s t : Source) (bytes : List ℕ) : Type 0 where
   pub passed : List ℕ
   pub left : s.left ≡ passed ++ t.left

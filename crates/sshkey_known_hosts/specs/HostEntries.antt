@@ -61,7 +61,7 @@ abbrev pub ReadsPatterns : {Z : Type 0} → List ℕ → Result (Vec (List ℕ) 
 ReadsPatterns text (Ok v) = v.items ≡ patterns text
 ReadsPatterns text (Err e) = e ≡ Memory
 
--- behind the mark
+-- after the mark
 abbrev pub ReadsHashed : List ℕ → Result HostPatterns Error → Type 0
 ReadsHashed text (Ok h) = IsHosts (hashed_mark ++ text) (hosts_of h)
 ReadsHashed text (Err e) = RefusesHosts (hashed_mark ++ text) e

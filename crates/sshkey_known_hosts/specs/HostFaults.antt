@@ -16,15 +16,15 @@ use Rattle.sshkey_entries.specs.KnownHosts.{Hosts, Marker, IsHosts, IsMarked, ba
 abbrev pub IsNoBase64 : List ℕ → Type 0
 IsNoBase64 word = (b : List ℕ) → IsBytes b → word ≡ encode_of standard b → ⊥
 
--- the mark, and no bar behind it
+-- the mark, and no bar after it
 abbrev pub HasNoBar : List ℕ → Type 0
 HasNoBar text = (rest : List ℕ) × (text ≡ hashed_mark ++ rest) × IsWithout bar rest
 
--- Neither patterns stand in it, nor two words behind the mark.
+-- Neither patterns stand in it, nor two words after the mark.
 abbrev pub HasNoParts : List ℕ → Type 0
 HasNoParts text = (text ≡ []) ⊎ HasNoBar text
 
--- the mark and two words, of which one is no Base64
+-- the mark and two words, one of them no Base64
 pub record HasNoBase64 (text : List ℕ) : Type 0 where
   pub salt : List ℕ
   pub hash : List ℕ
@@ -49,7 +49,7 @@ RefusesHosts text (Encoding Length) = HasOtherSize text
 RefusesHosts text Memory = HasNoParts text → ⊥
 RefusesHosts text _ = ⊥
 
--- `FormatEncoding` for another marker and for a space that is missing behind the hosts, then the
+-- `FormatEncoding` for another marker and for a space that is missing after the hosts, then the
 -- fault of the hosts, and then that of the key's line.
 pub record HasFault (line : List ℕ) (e : Error) : Type 0 where
   pub no_marker : ((m : Option Marker) (rest : List ℕ) → IsMarked m line rest → ⊥) → e ≡ FormatEncoding
@@ -59,7 +59,7 @@ pub record HasFault (line : List ℕ) (e : Error) : Type 0 where
 
 -- ---- memory
 
--- Reading the line needs memory: behind a marker or none, parts of hosts stand before a space.
+-- Reading the line needs memory: after a marker or none, parts of hosts stand before a space.
 pub record NeedsLine (line : List ℕ) : Type 0 where
   pub marker : Option Marker
   pub hosts : List ℕ

@@ -22,7 +22,7 @@ abbrev pub SplitsMarkerField : List ℕ → Result (Option Marker × Bor (List �
 SplitsMarkerField text (Ok x) = IsMarkedLine (option_map marker_of x.0) text x.1.now
 SplitsMarkerField text (Err e) = (e ≡ FormatEncoding) × ((m : Option known.Marker) (rest : List ℕ) → IsMarkedLine m text rest → ⊥)
 
--- Behind a marker or none the text is a field and what follows it.
+-- After a marker or none the text is a field and what follows it.
 pub record HasHostsField (text hosts rest : List ℕ) : Type 0 where
   pub marker : Option known.Marker
   pub marked : IsMarkedLine marker text (hosts ++ rest)
@@ -45,7 +45,7 @@ pub record HasLineFault (line : List ℕ) (e : Error) : Type 0 where
 -- ---- memory
 
 -- Reading the line needs memory: it has no zero byte and is no comment, and parts of hosts stand in
--- it, behind a marker or none.
+-- it, after a marker or none.
 pub record NeedsHostLine (line : List ℕ) : Type 0 where
   pub hosts : List ℕ
   pub rest : List ℕ

@@ -174,7 +174,7 @@ impl HostPatterns {
     }
 }
 
-/// The bytes of a word in padded Base64, of which each has one word only.
+/// The bytes that the word spells in padded Base64; no other word spells them.
 fn decode_word(alloc: Global, word: &str) -> Result<Vec<u8>>
     ensures { ReadsBase64 word.now result }
 {

@@ -122,9 +122,9 @@ impl Entry {
 /// The entries of a text as OpenSSH reads it: one answer for each, in order, which
 /// `Entry::from_line_openssh` gives.
 ///
-/// An entry is a line in which something stands besides spaces and tabs, and which no `#` begins
-/// after these. A line that is rejected ends nothing: the next call answers the entry after it. The
-/// text is borrowed, and what an entry keeps is copied.
+/// An entry is a line with more than spaces and tabs, whose first other character is no `#`. A line
+/// that is rejected ends nothing: the next call answers the entry after it. The text is borrowed,
+/// and what an entry keeps is copied.
 ///
 /// Contracts see the list of the lines that are left, without the spaces and tabs at their front.
 #[derive(Drop)]

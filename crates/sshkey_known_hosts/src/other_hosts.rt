@@ -41,7 +41,7 @@ fn read_twenty(word: &str) -> Option<([u8; LEN], usize)>
     }
 }
 
-/// Whether a salt and a hash stand behind the mark, which are not of the name.
+/// Whether a salt and a hash follow the mark, and they are not the name's.
 fn is_other_hash<H: HmacSha1>(hashed: &str, name: &str, hmac: &H) -> bool
     ensures { IsTrue result ↔ AreForOthers (H.hmac hmac.now) name.now (hashed_mark ++ hashed.now) }
 {

@@ -47,7 +47,7 @@ module _ {A : Type 0} (f : Format A) (shows : HasBytes f) (says : A → Bool) wh
   abbrev behind : A × List ℕ → Result (Bool × List ℕ) Fault
   behind x = said x.0 >>= λ y. Ok (y, x.1)
 
-  -- an item, and those behind it
+  -- an item, and those after it
   onto : (x : A) (found : Result (List A) Fault) → ((found >>= λ xs. Ok (x ∷ xs)) >>= any) ≡ ((found >>= any) >>= or (says x))
   onto x (Ok xs) = refl
   onto x (Err e) = refl
@@ -66,7 +66,7 @@ module _ {A : Type 0} (f : Format A) (shows : HasBytes f) (says : A → Bool) wh
 
   -- ---- the walk
 
-  -- what was found, or what is said behind it
+  -- what was found, or what is said after it
   abbrev pub Walks : List ℕ → Bool → List ℕ → Type 0
   Walks b found rest = asked b ≡ (asked rest >>= or found)
 

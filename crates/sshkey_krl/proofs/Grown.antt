@@ -210,7 +210,7 @@ range_spelled lo hi is fits =
       makes = rw is refl;
     })
 
--- no byte of the text is zero, so none stands behind it
+-- no byte of a text without zeros is zero
 index_some : (b : List ℕ) (i : ℕ) → has_zero b ≡ false → i < length b → (slice_index b i == 0) ≡ false
 index_some [] i some lt = absurd (omega arith)
 index_some (c ∷ b) zero some lt = (not_first (c == 0) (has_zero b) some).0
@@ -276,7 +276,7 @@ begun_spelled n date comment some fits =
 pub begins : (n date : ℕ) (comment b : List ℕ) → has_zero comment ≡ false → Fits (header n date comment) → b ≡ flat (header n date comment) → SpellsKrl (begun n date comment) b
 begins n date comment b some fits is = rw is (begun_spelled n date comment some fits)
 
--- the bytes with the section's behind them, or as they were
+-- the bytes with the section's after them, or as they were
 pub still_list : (s : Section) (p : Parts) (b c : List ℕ) (r : Result (Unit {0}) Error) → (Fits p → section_format.Spells s (flat p)) → is_taken (whole krl_format.read b) ≡ true → Appends p b r c → is_taken (whole krl_format.read c) ≡ true
 still_list s p b c (Ok x) section taken h = rw h.1 (spelled_taken _ _ (grown (krl_in b) s b (flat p) (spelled b taken) (section h.0)))
 still_list s p b c (Err e) section taken h = rw h.1 taken
@@ -285,7 +285,7 @@ pub adds : (s : Section) (p : Parts) (b c : List ℕ) (r : Result (Unit {0}) Err
 adds s p b c (Ok x) section taken h = (ap krl_in h.1 ∙ spelled_is _ _ (grown (krl_in b) s b (flat p) (spelled b taken) (section h.0)), h.1)
 adds s p b c (Err e) section taken h = h
 
--- ---- bytes behind others
+-- ---- bytes after others
 
 abbrev sink : List ℕ → Sink
 sink b = record { written = b; limit = None }

@@ -1,4 +1,4 @@
--- The bytes behind leading zeros, one zero after the other.
+-- The bytes after leading zeros, one zero after the other.
 use Rattle.std.proofs.Common.{◌≡◌, ℕ, zero, suc, List, [], ◌∷◌, length, refl, sym, subst, ◌∙◌}
 use Rattle.std.proofs.lemmas.List.{nil_from_length}
 use Rattle.sshkey_krl.specs.Serials.{significant}

@@ -26,7 +26,7 @@ number_shows kind_from body x b s =
     let byte = s.spelled.first in
     omega (arith, ap length s.spelled.all, length-append s.spelled.front s.spelled.behind, ap length byte.spelled.shape, length_number8 byte.inner)
 
--- ---- a text, behind which a zero byte may stand
+-- ---- a text, which a zero byte may follow
 
 abbrev pub text_from : List ℕ → Result (List ℕ) Fault
 text_from b = let text = without_zero b in if list_any (λ c. c == 0) text then Err FormatEncoding else Ok text

@@ -31,13 +31,13 @@ serial_from n = if n == 0 then Err FormatEncoding else Ok n
 abbrev pub range_from : ℕ × ℕ → Result Serials Fault
 range_from r = if r.0 == 0 || nat_lt r.1 r.0 then Err FormatEncoding else Ok (Range r.0 r.1)
 
--- the bytes behind leading zeros
+-- the bytes after leading zeros
 unfoldable pub significant : List ℕ → List ℕ
 significant [] = []
 significant (zero ∷ bytes) = significant bytes
 significant (suc n ∷ bytes) = suc n ∷ bytes
 
--- how many bits the number of those bytes has, of which the first is not zero
+-- how many bits the number of those bytes has, if the first is not zero
 abbrev pub bit_len : List ℕ → ℕ
 bit_len [] = 0
 bit_len (byte ∷ bytes) = 8 * length bytes + (8 - leading_zeros w8 byte)

@@ -87,7 +87,7 @@ impl Encode for KeyString<'_> {
     }
 }
 
-/// The key of an authority in a string, which is empty where everybody is meant.
+/// The key of an authority in a string, which is empty if everybody is meant.
 #[derive(Drop)]
 struct AuthorityString<'k>(Option<&'k KeyData>);
 

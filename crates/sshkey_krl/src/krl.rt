@@ -14,7 +14,7 @@ use sshkey_keys::KeyData;
 use std::alloc::Global;
 
 /// A key revocation list that owns its bytes (PROTOCOL.krl). What is to be revoked is added to it,
-/// each time in a section of its own. Where a call fails, the list is as it was.
+/// each time in a section of its own. If a call fails, the list is as it was.
 ///
 /// An authority is the key that signed the certificates, or `None` for those of everybody.
 #[derive(Debug, Drop)]

@@ -31,7 +31,7 @@ pub(crate) trait Numbered {
     /// What a value says to a query.
     ghost says: { Asked → Value → Bool };
 
-    /// What that number calls for. Fails with `FormatEncoding` where it calls for nothing.
+    /// What that number calls for. Fails with `FormatEncoding` if it calls for nothing.
     fn kind(number: u8) -> Result<Self::Kind>
         ensures { AnswersAlways (λ k. k) cause (kind_from number) result };
 
@@ -57,7 +57,7 @@ pub(crate) fn ask_numbered<'a, N: Numbered>(
     Ok((N::ask_body(query, kind, body)?, rest))
 }
 
-/// The answer, where nothing is left. Fails with `TrailingData` and the number of bytes that are.
+/// The answer, if nothing is left. Fails with `TrailingData` and the number of bytes that are.
 pub(crate) fn at_end(answer: bool, rest: &[u8]) -> Result<bool>
     ensures { AnswersAlways (λ y. y) cause (end_of answer rest.now) result }
 {

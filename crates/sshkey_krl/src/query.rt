@@ -98,7 +98,7 @@ impl<'q> Query<'q> {
         self.certificate.is_some()
     }
 
-    /// The serial number that is asked about; 0 where there is none.
+    /// The serial number that is asked about; 0 if there is none.
     pub(crate) fn serial(&self) -> u64
         ensures { result ≡ (grant_in (asked_of self.now)).serial }
     {
@@ -124,7 +124,7 @@ impl<'q> Query<'q> {
         serial != 0 && first <= serial && has_bit(bitmap, serial - first)
     }
 
-    /// The key id that is asked about, which is empty where there is none.
+    /// The key id that is asked about, which is empty if there is none.
     pub(crate) fn key_id(&self) -> &'q [u8]
         ensures { result.now ≡ (grant_in (asked_of self.now)).key_id }
     {

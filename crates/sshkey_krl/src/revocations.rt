@@ -136,7 +136,7 @@ impl Revocations for KrlRef<'_> {
     }
 }
 
-/// Revokes what was read, and everything where nothing could be read.
+/// Revokes what was read, and everything if nothing could be read.
 impl<R: Revocations, E> Revocations for Result<R, E> {
     ghost revokes = { λ read key asked. unless_read (λ it. R.revokes it key asked) read };
 

@@ -88,7 +88,7 @@ fn ask_certificates(query: &Query<'_>, bytes: &[u8]) -> Result<bool>
     Ok(about & listed)
 }
 
-/// Whether a certificate is asked about that the authority has signed: any where no bytes name it.
+/// Whether a certificate is asked about that the authority has signed: any, if no bytes name it.
 /// Fails as `KeyDataRef::from_bytes` does for bytes that spell no key.
 fn is_about(query: &Query<'_>, authority: &[u8]) -> Result<bool>
     ensures { AnswersAlways (λ y. y) cause

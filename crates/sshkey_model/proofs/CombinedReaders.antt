@@ -121,7 +121,7 @@ as_checks there back checks = record {
   again = λ b is. checks.again b (back b is);
 }
 
--- A test of bytes of which nothing else is asked.
+-- A test of bytes about which nothing else is asked.
 pub kept_bytes : (test : List ℕ → Bool) (fault : Fault) → Checks Any bytes (λ b. test b ≡ true) bytes (λ b. cond (test b) (Ok b) (Err fault))
 kept_bytes test fault = as_checks (λ b h. h.1) (λ b h. (tt, h)) (kept {Was = Any} {spelled = bytes} test fault)
 

@@ -105,7 +105,7 @@ module _ {A : Type 0} {Spells : A → List ℕ → Type 0} {read : Front A} wher
 
 -- ---- a front that is all there is
 
--- nothing stands behind what ended
+-- nothing follows what ended
 ended : {Y : Type 0} (y : Y) (rest : List ℕ) (z : Y) → end_of y rest ≡ Ok z → (rest ≡ []) × (y ≡ z)
 ended y [] z e = (refl, ok_is y z e)
 ended y (b ∷ rest) z e = absurd cc
@@ -194,7 +194,7 @@ module _ {A B : Type 0} {S : A → List ℕ → Type 0} {T : A → B → List �
       subst (λ (p : (A × B) × List ℕ). both_delimited_at (b ++ more) ≡ Ok (p.0, p.1 ++ more)) (ok_is ((y.0.0, z.0.0), z.0.1) (value, rest) z.2)
       (rw (f.before b y.0.0 y.0.1 more y.1, (g y.0.0).before y.0.1 z.0.0 z.0.1 more z.1) refl)
 
-  -- what may stand behind both
+  -- what may follow both
   both_ends : (a : A) (c : B) (front behind rest : List ℕ) → MayFollow f.delimited_at a front (behind ++ rest) → MayFollow (g a).delimited_at c behind rest → MayFollow both_delimited_at (a, c) (front ++ behind) rest
   unfolding behind_at
   both_ends a c front behind rest (inl none) k = inl (none_in behind rest none).1

@@ -78,7 +78,7 @@ shortest_is (suc a ∷ rest) = go (ltb (suc a) 0x80) refl
     go true h = rw h (rw h refl)
     go false h = rw h (rw h refl)
 
--- it is no longer than the scalar, or it is the scalar behind one 00
+-- it is no longer than the scalar, or it is the scalar after one 00
 room_or_sign : (s : List ℕ) → (length (of_positive s) ≤ length s) ⊎ (of_positive s ≡ zero ∷ s)
 room_or_sign [] = inl (omega arith)
 room_or_sign (zero ∷ rest) = elim (room_or_sign rest) [
@@ -242,7 +242,7 @@ ecdsa_pair_reads c = as_front_form (λ x h. record { is = there x.0 h.0.is h.1; 
 
 -- ---- Ed25519
 
--- 32 private bytes, before public ones of which there are 32 as well
+-- 32 private bytes, before 32 public ones
 abbrev AreHalves : List ℕ → List ℕ → Type 0
 AreHalves public private = HasLength 32 private × HasLength 32 public
 

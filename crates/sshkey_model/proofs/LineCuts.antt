@@ -17,7 +17,7 @@ seam_space text xs ys h e =
 later : (c b : ℕ) (bs : List ℕ) → IsWithout c (b ∷ bs) → IsWithout c bs
 later c b bs h = λ i lt. h (suc i) (omega arith)
 
--- what stands before the first such character, and behind it
+-- what stands before the first such character, and after it
 pub one_front : (c : ℕ) (a b x y : List ℕ) → IsWithout c a → IsWithout c b → a ++ (c ∷ x) ≡ b ++ (c ∷ y) → (a ≡ b) × (x ≡ y)
 one_front c [] [] x y _ _ e = (refl, cc e)
 one_front c [] (b ∷ bs) x y _ without e = let here : b ≡ c = cc e in absurd (without 0 (omega arith) here)

@@ -24,7 +24,7 @@ use Rattle.sshkey_model.proofs.Base64Words.{IsDark, word_dark, some_word}
 abbrev Settled : List ℕ → Type 0
 Settled cs = drop_trailing_whitespace cs ≡ cs
 
--- a first character, where something is left behind it
+-- a first character, if something is left after it
 kept : (c : ℕ) (cs ds : List ℕ) → drop_trailing_whitespace cs ≡ ds → 0 < length ds → drop_trailing_whitespace (c ∷ cs) ≡ c ∷ ds
 kept c cs ds e some =
     let more : eqb (length ds) 0 ≡ false = ne_eqb (length ds) 0 (λ none. omega arith) in
@@ -88,7 +88,7 @@ not_trimmed : (text : List ℕ) → IsUtf8 text → Settled (chars text) → tri
 unfolding trim_end
 not_trimmed text u h = ap encode_utf8_all h ∙ encodes-chars text u
 
--- a text that is cut behind a space
+-- a text that is cut after a space
 cut_behind : (a r : List ℕ) → IsUtf8 (a ++ (space ∷ r)) → IsUtf8 (a ++ (space ∷ [])) × IsUtf8 r
 cut_behind a r u =
     let here : get_or (a ++ (space ∷ r)) (length a) 0 ≡ space = get_or-append_seam a space r 0 in

@@ -1,4 +1,4 @@
--- Worked examples: what a verifier is asked, and of which pairs of a key and an algorithm.
+-- Worked examples: what a verifier is asked, and about which pairs of a key and an algorithm.
 use Rattle.std.specs.Prelude.{◌≡◌, ℕ, List, [], ◌∷◌, ◌++◌, length, replicate, Bool, true, false, Some, None, is_some, filter, codes}
 use Rattle.sshkey_model.specs.HexText.{hex}
 use Rattle.sshkey_model.specs.Names.{Nistp256, Nistp384, Nistp521, Sha256, Sha512, Algorithm, Dsa, Ecdsa, Ed25519, Rsa, SkEcdsa, SkEd25519, Other}

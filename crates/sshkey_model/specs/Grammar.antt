@@ -1,4 +1,4 @@
--- Which bytes are a spelling of which value.
+-- Which bytes spell which value.
 use Rattle.std.specs.Prelude.{◌≡◌, ◌⊎◌, ◌<◌, ◌^◌, List, [], ◌++◌, length, ℕ, Result, Ok, refl}
 use Rattle.std.specs.Int.{w32, to_be_bytes}
 use Rattle.sshkey_model.specs.Parts.{Parts, flat, Fits}
@@ -14,8 +14,7 @@ pub record Spells {V : Type 0} (Is : V → Type 0) (spell : V → Parts) (value 
 pub normal_is_spelling : {V : Type 0} {Is : V → Type 0} {spell : V → Parts} (value : V) → Is value → Fits (spell value) → Spells Is spell value (flat (spell value))
 normal_is_spelling value is fits = record { is = is; fits = fits; shape = refl }
 
--- The same of a value some parts of which may be spelled in several ways: each choice has its
--- place.
+-- The same for a value with parts that may be spelled in several ways: each choice has its place.
 pub record SpellsWith {V S : Type 0} (Is : V → Type 0) (HasPlace : V → S → Type 0) (spell : V → S → Parts) (value : V) (b : List ℕ) : Type 0 where
   pub is : Is value
   pub choices : S
@@ -48,7 +47,7 @@ pub record IsGrammar {V : Type 0} (Spelling : V → List ℕ → Type 0) (read :
   -- a spelling is taken, whatever follows it
   pub again : (value : V) (front rest : List ℕ) → Spelling value front → read (front ++ rest) ≡ Ok (value, rest)
 
--- The rest may stand behind the value: there is none, or the value ends by itself.
+-- The rest may follow the value: there is none, or the value ends by itself.
 abbrev pub MayFollow : {A : Type 0} → Front A → A → List ℕ → List ℕ → Type 0
 MayFollow delimited_at value front rest = (rest ≡ []) ⊎ (delimited_at front ≡ Ok (value, []))
 
@@ -72,8 +71,8 @@ AllEnd {read = read} g = (b : List ℕ) → g.delimited_at b ≡ read b
 
 -- ---- what is spelled of parts
 
--- The bytes spell the first value, and behind it the second, whose spelling may depend on the
--- first. Where the second has bytes, the first ends by itself.
+-- The bytes spell the first value, and after it the second, whose spelling may depend on the first.
+-- If the second has bytes, the first ends by itself.
 pub record SpellsThen {A B : Type 0} (First : A → List ℕ → Type 0) (delimited_at : Front A) (Second : A → B → List ℕ → Type 0) (value : A × B) (bytes : List ℕ) : Type 0 where
   pub front : List ℕ
   pub behind : List ℕ
@@ -86,13 +85,13 @@ pub record SpellsThen {A B : Type 0} (First : A → List ℕ → Type 0) (delimi
 abbrev pub SpellsBoth : {A B : Type 0} → (A → List ℕ → Type 0) → Front A → (B → List ℕ → Type 0) → A × B → List ℕ → Type 0
 SpellsBoth First delimited_at Second = SpellsThen First delimited_at (λ _. Second)
 
--- The bytes spell a value of which the test makes this one.
+-- The bytes spell a value from which the test makes this one.
 pub record SpellsTested {A B : Type 0} (Inner : A → List ℕ → Type 0) (test : A → Result B Fault) (value : B) (bytes : List ℕ) : Type 0 where
   pub inner : A
   pub spelled : Inner inner bytes
   pub makes : test inner ≡ Ok value
 
--- A length of four bytes, and so many bytes that spell the value.
+-- A length of four bytes, and that many bytes, which spell the value.
 pub record SpellsBoxed {Y : Type 0} (Spells : Y → List ℕ → Type 0) (y : Y) (bytes : List ℕ) : Type 0 where
   pub inside : List ℕ
   pub spelled : Spells y inside

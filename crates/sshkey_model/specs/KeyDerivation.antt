@@ -40,7 +40,7 @@ block_size Aes128Gcm = 16
 block_size Aes256Gcm = 16
 block_size ChaCha20Poly1305 = 8
 
--- bytes of the tag that stands behind what is encrypted
+-- bytes of the tag that follows what is encrypted
 abbrev pub tag_size : Cipher → ℕ
 tag_size NoCipher = 0
 tag_size TDesCbc = 0

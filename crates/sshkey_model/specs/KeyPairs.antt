@@ -96,8 +96,8 @@ private_half (SkEcdsaPair k r) zeros = security_private r
 private_half (SkEd25519Pair k r) zeros = security_private r
 private_half (OpaquePair name public private) zeros = string private
 
--- What stands behind the name: the body of the public key, and then the private half. Of RSA, n
--- stands before e here.
+-- What follows the name: the body of the public key, and then the private half. For RSA, n stands
+-- before e here.
 abbrev pub pair : KeyPair → LeadingZeros → Parts
 pair (RsaPair k r) zeros = string k.n & string k.e & private_half (RsaPair k r) zeros
 pair k zeros = body (public_half k) & private_half k zeros
@@ -121,7 +121,7 @@ abbrev pub HasPairPlaces : KeyPair → LeadingZeros → Type 0
 HasPairPlaces (EcdsaPair c point s) zeros = HasScalarPlaces s zeros
 HasPairPlaces _ zeros = zeros ≡ Plain
 
--- a pair of ECDSA, of whichever curve
+-- a pair of ECDSA, on any curve
 abbrev pub IsEcdsaPair : KeyPair → Type 0
 IsEcdsaPair (EcdsaPair c point s) = IsPairBody (EcdsaPair c point s)
 IsEcdsaPair _ = ⊥
@@ -205,7 +205,7 @@ at_width size b = replicate (size - length b) 0 ++ b
 abbrev pub short_scalar : ℕ → List ℕ → Result (List ℕ × LeadingZeros) Fault
 short_scalar size b = if is_natural b then Ok (at_width size b, Short) else Err FormatEncoding
 
--- so many bytes, or one more, or fewer
+-- `size` bytes, or one more, or fewer
 abbrev pub scalar_from : ℕ → List ℕ → Result (List ℕ × LeadingZeros) Fault
 scalar_from size b =
     if length b == size then Ok (scalar_alone b)
@@ -231,7 +231,7 @@ dsa_pair_at b = do
   x ← mpint_at y.1
   Ok ((DsaPair (record { p = p.0; q = q.0; g = g.0; y = y.0 }) x.0, Plain), x.1)
 
--- of whichever curve it states
+-- on any curve, which it states
 unfoldable pub any_ecdsa_pair_at : Front (KeyPair × LeadingZeros)
 any_ecdsa_pair_at b = do
   stated ← curve_at b

@@ -40,7 +40,7 @@ key_algorithm (SkEcdsa k) = Algorithm.SkEcdsa
 key_algorithm (SkEd25519 k) = Algorithm.SkEd25519
 key_algorithm (Opaque name k) = Algorithm.Other name
 
--- what stands behind the name
+-- what follows the name
 abbrev pub body : Key → Parts
 body (Dsa k) = string k.p & string k.q & string k.g & string k.y
 body (Ecdsa c point) = curve c & string point
@@ -111,7 +111,7 @@ dsa_at b = do
   y ← mpint_at g.1
   Ok (Dsa (record { p = p.0; q = q.0; g = g.0; y = y.0 }), y.1)
 
--- of whichever curve it states
+-- on any curve, which it states
 unfoldable pub any_ecdsa_at : Front Key
 any_ecdsa_at b = do
   stated ← curve_at b

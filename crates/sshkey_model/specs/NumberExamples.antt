@@ -58,7 +58,7 @@ PositiveParts = (positive_part [] ≡ None)
 
 -- ---- points
 
--- a tag and so many bytes
+-- a tag and `n` bytes
 abbrev pub tagged : ℕ → ℕ → List ℕ
 tagged tag n = tag ∷ replicate n 1
 

@@ -46,7 +46,7 @@ point_curve (tag ∷ rest) =
 abbrev pub point_from : Whole (Curve × List ℕ)
 point_from b = if nat_lt 133 (length b) then Err Length else (point_curve b >>= λ c. Ok (c, b))
 
--- a point of whichever curve
+-- a point on any curve
 abbrev pub point_at : Front (Curve × List ℕ)
 point_at = checked_at point_from string_at
 

@@ -38,7 +38,7 @@ low_scalar = 0x7f ∷ replicate 31 1
 abbrev pub high_scalar : List ℕ
 high_scalar = 0x80 ∷ replicate 31 1
 
--- a string of so many bytes
+-- a string that states `n` bytes
 abbrev pub short_string : ℕ → List ℕ → List ℕ
 short_string n b = 0 ∷ 0 ∷ 0 ∷ n ∷ b
 

@@ -64,7 +64,7 @@ private_key_magic = codes "openssh-key-v1" ++ 0 ∷ []
 abbrev pub private_part : UnencryptedKey → KeyPairChoices → Parts
 private_part k s = number w32 k.checkint & number w32 k.checkint & keypair k.pair s & string k.comment
 
--- the padded part in a string, or the ciphertext in one and the tag behind it
+-- the padded part in a string, or the ciphertext in one and the tag after it
 abbrev pub content : PrivateKey → KeyPairChoices → Parts
 content (Unencrypted k) s = box (padded (private_part k s))
 content (Encrypted k) s = string k.ciphertext & bytes k.tag
@@ -125,9 +125,9 @@ key_eq _ _ = false
 
 -- ---- decoding
 
--- The tag of an encrypted key stands behind the private part with no length of its own, so a byte
--- too much there might be taken for the beginning of something else. Hence an encrypted key must be
--- the last thing there is; bytes behind an unencrypted one are left to what reads on.
+-- The tag of an encrypted key follows the private part with no length of its own, so a byte too
+-- much there might be taken for the beginning of something else. Hence an encrypted key must be the
+-- last thing there is; bytes after an unencrypted one are left to what reads on.
 abbrev pub may_precede : PrivateKey → List ℕ → Bool
 may_precede (Unencrypted k) rest = true
 may_precede (Encrypted k) [] = true

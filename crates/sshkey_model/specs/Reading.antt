@@ -5,14 +5,14 @@ use Rattle.sshkey_model.specs.Parts.{are_bytes}
 
 -- Why bytes are refused, by the names of the errors.
 pub data Fault : Type 0 where
-  -- of the encoding: a length, a text that is not UTF-8, a name, a rest of so many bytes in a box
-  -- or behind a value
+  -- of the encoding: a length, a text that is not UTF-8, a name, a rest of that many bytes in a box
+  -- or after a value
   Length CharacterEncoding Label : Fault
   TrailingData : ℕ → Fault
   -- of what it carries; `PublicKey` is of a private key that has another one
   FormatEncoding AlgorithmUnknown Crypto Ecdsa Time Namespace PublicKey : Fault
   Version : ℕ → Fault
-  -- so many bytes behind an encrypted key
+  -- that many bytes after an encrypted key
   TrailingKeyData : ℕ → Fault
 
 -- a step, and the next one if it did not fail; a `do` block is made of these
@@ -55,19 +55,19 @@ number_at w b = do
   n ← bytes_at (byte_len w) b
   Ok (from_be_bytes w n.0, n.1)
 
--- a length, and so many bytes
+-- a length, and that many bytes
 unfoldable pub string_at : Front (List ℕ)
 string_at b = do
   n ← number_at w32 b
   bytes_at n.0 n.1
 
--- a length, and so many bytes that the whole reader takes
+-- a length, and that many bytes, which the whole reader takes
 unfoldable pub box_at : {A : Type 0} → Whole A → Front A
 box_at read b = do
   n ← number_at w32 b
   if nat_lt (length n.1) n.0 then Err Length else (read (take n.0 n.1) >>= λ x. Ok (x, drop n.0 n.1))
 
--- a value, and what it asks for behind it
+-- a value, and what it asks for after it
 unfoldable pub behind_at : {A B : Type 0} → Front A → (A → Front B) → Front (A × B)
 behind_at read next b = do
   x ← read b

@@ -31,7 +31,7 @@ abbrev pub unless : Bool → Refusal → Option Refusal → Option Refusal
 unless true refusal next = next
 unless false refusal next = Some refusal
 
--- what is wrong first behind the signature, where the window is that
+-- what is wrong first after the signature: the authority, or the time by that window
 abbrev pub refusal_of_authority_or_time : Bool → ℕ × ℕ → ℕ → Option Refusal
 refusal_of_authority_or_time is_trusted window t =
     unless is_trusted UntrustedAuthority

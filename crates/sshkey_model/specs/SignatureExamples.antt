@@ -32,7 +32,7 @@ sk_ed25519_signature = record { algorithm = SkEd25519; blob = sk_ed25519_within 
 abbrev pub sk_ed25519_signature_bytes : List ℕ
 sk_ed25519_signature_bytes = hex "0000001a 736b2d7373682d65643235353139406f70656e7373682e636f6d 00000040" ++ sk_ed25519_within ++ hex "01 00000009"
 
--- Flags and counter stand behind the string, and end the blob.
+-- Flags and counter follow the string, and end the blob.
 abbrev pub SecurityKeySignatures : Type 0
 SecurityKeySignatures = (length sk_ecdsa_signature_bytes ≡ 120)
     × (length sk_ecdsa_blob ≡ 78)
@@ -71,7 +71,7 @@ SignatureSizes = (sized Dsa 39 ≡ Err Length)
     × (sized (Other (codes "name@example.com")) 0 ≡ Err Length)
     × (sized (Other (codes "name@example.com")) 1 ≡ Ok (hex "01", []))
 
--- what a string of n bytes 01 is read as, with so many bytes 02 behind it
+-- what a string of `n` bytes 01 is read as, with `k` bytes 02 after it
 abbrev pub trailed : ℕ → ℕ → Result (List ℕ × List ℕ) Fault
 trailed n k = signature_blob_at SkEd25519 (flat (string (replicate n 1)) ++ replicate k 2)
 

@@ -10,7 +10,7 @@ use borrow.Rule.Slice.PartMut.{put_mid, mid_of}
 pub second_half : (b : List ℕ) → length b ≡ 64 → mid_of 32 32 b ≡ drop 32 b
 second_half b len = take_all 32 (drop 32 b) (omega (arith, length-drop 32 b))
 
--- the second half written behind the first
+-- the second half written after the first
 pub put_second : (a z b : List ℕ) → length a ≡ 32 → length z ≡ 32 → length b ≡ 32 → put_mid 32 32 (a ++ z) b ≡ a ++ b
 put_second a z b a-len z-len b-len =
     let all : List ℕ = put_mid 32 32 (a ++ z) b in

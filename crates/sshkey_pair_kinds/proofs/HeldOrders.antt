@@ -11,7 +11,7 @@ use Rattle.sshkey_pair_kinds.specs.declared.held.Held.{Held}
 three_parts : (f h r : Ordering) → ordering_then f (ordering_then h r) ≡ ordering_then (ordering_then f Equal) (ordering_then h (ordering_then r Equal))
 three_parts f h r = rw (last_of_all f, last_of_all r) refl
 
--- two parts, and what stands behind them
+-- two parts, and what follows them
 two_parts : (p a o : Ordering) → ordering_then (ordering_then p (ordering_then a Equal)) o ≡ ordering_then p (ordering_then a o)
 two_parts Less a o = refl
 two_parts Greater a o = refl

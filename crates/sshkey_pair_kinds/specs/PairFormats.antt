@@ -1,4 +1,4 @@
--- What stands behind the name of each kind of pair, by the terms that it is read as.
+-- What follows the name of each kind of pair, by the terms that it is read as.
 use Rattle.std.proofs.Common.{ℕ, List, Result, Ok, Err, None, refl}
 use Rattle.sshkey_model.specs.Reading.{Fault, Length, ◌>>=◌, box_at, whole, bytes_at, both_at, behind_at}
 use Rattle.sshkey_model.specs.Grammar.{value_at}

@@ -26,7 +26,7 @@ SpellsPair a = SpellsWith (IsPairUnder a) HasPairPlaces pair
 pub pair_grammar : (a : Algorithm) → IsGrammar (SpellsPair a) (value_at (pair_at a))
 pair_grammar a = grammar_with (pair_reads a)
 
--- the same of ECDSA, of whichever curve
+-- the same of ECDSA, on any curve
 abbrev pub SpellsEcdsaPair : KeyPair → List ℕ → Type 0
 SpellsEcdsaPair = SpellsWith IsEcdsaPair HasPairPlaces pair
 

@@ -37,6 +37,6 @@ ecdsa_point_of (on.NistP521 public private) = point_of public
 abbrev pub ed25519_pair_of : Ed25519Keypair → KeyPair
 ed25519_pair_of k = Ed25519Pair k.public.0 (ed25519_private_of k.private)
 
--- 32 private bytes and the public ones behind them, if there are 64
+-- 32 private bytes and the public ones after them, if there are 64
 abbrev pub ed25519_pair_from : Whole KeyPair
 ed25519_pair_from b = if length b == 64 then Ok (Ed25519Pair (drop 32 b) (take 32 b)) else Err Length

@@ -128,7 +128,7 @@ impl<const SIZE: usize> fmt::Debug for EcdsaPrivateKey<SIZE> {
     }
 }
 
-/// A string of `SIZE` bytes, or of 00 and so many, or of fewer that are the scalar's shortest
+/// A string of `SIZE` bytes, or of 00 and that many, or of fewer that are the scalar's shortest
 /// mpint.
 ///
 /// Fails with `Length` if the string exceeds what is left; with `FormatEncoding` for `SIZE + 1`

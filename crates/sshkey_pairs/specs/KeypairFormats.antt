@@ -1,4 +1,4 @@
--- What stands behind a private-use name, behind a name, and a pair with its name, by the terms that
+-- What follows a private-use name, what follows a name, and a pair with its name, by the terms that
 -- they are read as.
 use Rattle.std.proofs.Common.{◌≡◌, ℕ, List, [], Option, Some, Result, Ok, refl}
 use Rattle.sshkey_model.specs.Reading.{Fault, Front, string_at, both_at, behind_at}

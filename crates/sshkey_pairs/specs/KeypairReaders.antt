@@ -1,4 +1,4 @@
--- The reader of pairs of any kind, behind their names.
+-- The reader of pairs of any kind, after their names.
 use Rattle.std.proofs.Common.{◌≡◌, ℕ, Bool, true, false, cond, Option, Some, None, List, ◌++◌, Result, Ok, Err, refl, sym, subst}
 use Rattle.sshkey_model.specs.Reading.{Fault, AlgorithmUnknown, ◌>>=◌, Front, checked_at}
 use Rattle.sshkey_model.specs.Grammar.{IsGrammar, SpellsWith, value_at}

@@ -42,7 +42,7 @@ one_content (Unencrypted k) s u n m is s-has u-has n-has m-has s-fits u-fits e =
     (ap (λ (x : KeyPair × KeyPairChoices). x.1) same.0, sym (rising_length 1 n) ∙ ap length padding ∙ rising_length 1 m)
 one_content (Encrypted k) s u n m is s-has u-has n-has m-has s-fits u-fits e = (s-has ∙ sym u-has, n-has ∙ sym m-has)
 
--- the public key stands behind the number of keys, and behind it the private part
+-- the public key follows the number of keys, and the private part follows it
 behind_fits : (k : PrivateKey) (s : PaddedChoices) → Fits (padded_private_key k s) → Fits (box (key (public_key k) s.key.outer) & padded_content k s.key.pair s.padding)
 behind_fits k s fits = fits_second (number w32 1) _ (fits_second (kdf (key_kdf k)) _ (fits_second (cipher (key_cipher k)) _ (fits_second (bytes private_key_magic) _ fits)))
 

@@ -25,14 +25,14 @@ formed means cause_of s t (Err e) h = tt
 pub plain_read : (b : List ℕ) (k : PrivateKey) → whole private_value_at b ≡ Ok k → whole padded_value_at b ≡ Ok k
 plain_read b k e = (whole_spells padded_key_format.grammar b k).1 (plain_padding k b ((whole_spells private_key_format.grammar b k).0 e))
 
--- ---- behind the value
+-- ---- after the value
 
 module _ {X Y : Type 0} (means : X → Y) (read : Front Y) where
   same_value : (b : Bool) (x y : X) (d : encoding.Error) → ◌≡◌ {A = Result X encoding.Error} (Ok y) (cond b (Ok x) (Err d)) → (b ≡ true) × (y ≡ x)
   same_value true x y d is = (refl, cc)
   same_value false x y d is = absurd cc
 
-  -- nothing stands behind what is finished
+  -- nothing follows what is finished
   pub finished : (s t : Source) (x y : X) → Reads means read s x t → ◌≡◌ {A = Result X encoding.Error} (Ok y) (cond (eqb (announced_len t) 0) (Ok x) (Err (encodings.TrailingData (announced_len t)))) → ReadsAll means (whole read) s y
   finished s t x y h is =
       let same = same_value (eqb (announced_len t) 0) x y _ is in

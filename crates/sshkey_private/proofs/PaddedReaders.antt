@@ -53,7 +53,7 @@ module _ {A : Type 0} (limit : ℕ) (read : Front A) where
   }
 
   module _ {X : Type 0} (means : X → A) (s t : Source) (x : X) (a : Reads means read s x t) (multiple : announced_len s % 8 ≡ 0) where
-    -- what stands behind the value is refused
+    -- what follows the value is refused
     pub padding_refused : (c : Cause) → IsRefused t.missing c (to_end (padding_end limit) t.left) → IsRefused s.missing c (to_end (padded_below limit read) s.left)
     padding_refused c h = record {
       fault = λ other sound.

@@ -51,7 +51,7 @@ plain_stops limit public cause s c k (Ok x) none underived h = tt
 plain_stops limit public cause s c k (Err e) none underived h =
     rw (none, underived) (checked_stopped (cause e) (unencrypted_below limit public) not_encrypted (part_format limit public).needs (part_format limit public).overruns s h)
 
--- ---- behind the opening
+-- ---- after the opening
 
 pub delimited_chosen : (limit : ℕ) → IsChosen (delimited_by (steps_at limit)) opening_at (λ h. delimited_by (last_content_at limit h.cipher h.kdf h.public))
 unfolding steps_at

@@ -49,7 +49,7 @@ sealing_format = magic_format then cipher_format then kdf_format
 abbrev pub OpeningParts : Type 0
 OpeningParts = (List ℕ × (Cipher × Kdf)) × (ℕ × Key)
 
--- and behind them the number of keys and the public key
+-- and after them the number of keys and the public key
 abbrev pub opening_parts : Format OpeningParts
 opening_parts = sealing_format then one_format then boxed key_format
 

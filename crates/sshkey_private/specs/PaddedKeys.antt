@@ -7,13 +7,13 @@ use Rattle.sshkey_model.specs.KeyDerivation.{NoCipher, block_size, cipher, kdf}
 use Rattle.sshkey_model.specs.KeyPairs.{KeyPairChoices}
 use Rattle.sshkey_model.specs.PrivateKeys.{PrivateKey, Unencrypted, Encrypted, key_cipher, key_kdf, public_key, private_key_magic, rising, private_part, content, PrivateKeyChoices, HasPrivateKeyPlaces}
 
--- the choices of a private key, and how many bytes of padding stand behind its comment
+-- the choices of a private key, and how many bytes of padding follow its comment
 pub record PaddedChoices : Type 0 where
   pub key : PrivateKeyChoices
   pub padding : ℕ
 
--- the checkint twice, the pair, the comment and so many bytes 01, 02, 03 and so on, in a string; or
--- the ciphertext and its tag
+-- the checkint twice, the pair, the comment and `n` bytes 01, 02, 03 and so on, in a string; or the
+-- ciphertext and its tag
 abbrev pub padded_content : PrivateKey → KeyPairChoices → ℕ → Parts
 padded_content (Unencrypted k) s n = box (private_part k s & bytes (rising 1 n))
 padded_content (Encrypted k) s n = content (Encrypted k) s

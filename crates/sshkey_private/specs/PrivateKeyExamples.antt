@@ -53,13 +53,13 @@ EncryptedKeys = (flat (normal_private_key (sealed_key (replicate 16 0))) ≡ sea
     × (whole private_value_at (sealed_bytes aes256_ctr block) ≡ Ok (sealed_key (replicate 16 0)))
     × (whole private_value_at (sealed_bytes aes256_ctr (short_string 0 [])) ≡ Ok (sealed_key []))
 
--- 15 bytes of ciphertext, a byte behind the key, and the cipher `none` with a key derivation
+-- 15 bytes of ciphertext, a byte after the key, and the cipher `none` with a key derivation
 abbrev pub RefusedEncryptedKeys : Type 0
 RefusedEncryptedKeys = (private_value_at (sealed_bytes aes256_ctr (short_string 15 (replicate 15 0))) ≡ Err Crypto)
     × (private_value_at (sealed_bytes aes256_ctr (block ++ 0 ∷ [])) ≡ Err (TrailingKeyData 1))
     × (private_value_at (sealed_bytes (short_string 4 (codes "none")) block) ≡ Err Crypto)
 
--- behind the ciphertext of an authenticating cipher stand 16 bytes, no fewer
+-- 16 bytes, no fewer, follow the ciphertext of an authenticating cipher
 abbrev pub Tags : Type 0
 Tags = (private_value_at (sealed_bytes (short_string 22 (codes "aes256-gcm@openssh.com")) (block ++ replicate 15 7)) ≡ Err Length)
     × (private_value_at (sealed_bytes (short_string 22 (codes "aes256-gcm@openssh.com")) (block ++ replicate 17 7)) ≡ Err (TrailingKeyData 1))

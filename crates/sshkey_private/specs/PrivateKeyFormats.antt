@@ -109,13 +109,13 @@ file_grammar limit = all_end (file_format limit).grammar (called_ends opening_fo
 abbrev pub NeedsPrivateKey : List ℕ → ℕ → Type 0
 NeedsPrivateKey = (file_format 8).needs
 
--- a length of the opening, or behind it one of the private part
+-- a length of the opening, or after it one of the private part
 abbrev pub OverrunsPrivateKey : List ℕ → ℕ → Type 0
 OverrunsPrivateKey = (file_format 8).overruns
 
 -- ---- in the steps of the calls that read it
 
--- nothing may stand behind an encrypted key
+-- nothing may follow an encrypted key
 abbrev pub last_of : PrivateKey × List ℕ → Result (PrivateKey × List ℕ) Fault
 last_of x = if may_precede x.0 x.1 then Ok x else Err (TrailingKeyData (length x.1))
 
@@ -159,7 +159,7 @@ content_last limit NoCipher NoKdf public b = unencrypted_last limit public b
 content_last limit NoCipher (Bcrypt o) public b = refl
 content_last limit c k public b = encrypted_last c k public b
 
--- They give what the term gives, where nothing stands behind an encrypted key.
+-- They give what the term gives, and refuse what follows an encrypted key.
 pub steps_are : (limit : ℕ) (b : List ℕ) → steps_at limit b ≡ ((file_format limit).read b >>= last_of)
 unfolding steps_at
 steps_are limit b = go (opening_at b) ∙ ap (λ (r : Result (PrivateKey × List ℕ) Fault). r >>= last_of) (sym ((called_chosen opening_at (λ h. (content_format limit h).read)).same b))

@@ -1,5 +1,5 @@
--- The formats of private keys, behind which nothing may stand if they are encrypted: with the
--- padding that is written, and with more. The lemmas are proved, and need not be believed.
+-- The formats of private keys, which nothing may follow if they are encrypted: with the padding
+-- that is written, and with more. The lemmas are proved, and need not be believed.
 use Rattle.std.proofs.Common.{◌≡◌, inl, inr, ℕ, List, [], ◌∷◌, ◌++◌, length, append-nil, append_assoc, true, Result, Ok, Err, refl, sym, ap, subst, ◌∙◌}
 use Rattle.sshkey_model.specs.PrivateKeys.{PrivateKey, Unencrypted, Encrypted, may_precede}
 use Rattle.sshkey_model.specs.Reading.{Fault, Length, TrailingKeyData, ◌>>=◌, Front, checked_at}

@@ -121,7 +121,7 @@ module _ {A S : Type 0} {Spelling : A → List ℕ → Type 0} {Is : A × S → 
         record { front = text; padding = x.1.1; spelled = t.again (x.0, x.1.0) is.0 (fits_first (tree (x.0, x.1.0)) (bytes (rising 1 x.1.1)) fits); all = refl; few = is.2; blocks = ap (λ (n : ℕ). n % 8) sum ∙ is.1 };
   }
 
--- ---- what stands behind the public key
+-- ---- what follows the public key
 
 abbrev Choices : Type 0
 Choices = KeyPairChoices × ℕ

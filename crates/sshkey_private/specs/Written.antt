@@ -18,7 +18,7 @@ use Rattle.sshkey_private.specs.PrivateKeys.{key_fields}
 abbrev pub part_of : ℕ → KeypairData → List ℕ → Parts
 part_of checkint pair comment = number w32 checkint & number w32 checkint & keypair_parts pair & string comment
 
--- that part, padded in a string, or the ciphertext in one and the tag behind it
+-- that part, padded in a string, or the ciphertext in one and the tag after it
 abbrev pub content_of : KeypairData → ℕ → List ℕ → List ℕ → Parts
 content_of (kinds.Encrypted c) checkint comment tag = string c.items & bytes tag
 content_of pair checkint comment tag = box (padded (part_of checkint pair comment))

@@ -32,10 +32,10 @@ use sshkey_terms::Then;
 use std::alloc::Global;
 
 /// A string of the checkint, the pair and the comment, padded to a multiple of eight bytes, by at
-/// most so many.
+/// most `most`.
 ///
-/// The faults are met in the order of the bytes: `Length` where they are no multiple of eight,
-/// `Crypto` where the checkint is not the same again, the errors of the pair, `PublicKey` where its
+/// The faults are met in the order of the bytes: `Length` if they are no multiple of eight,
+/// `Crypto` if the checkint is not the same again, the errors of the pair, `PublicKey` if its
 /// public half is not that key, the errors of the comment, and those of the padding.
 #[tactic(auto, using(sshkey_base::proofs::Boxes::boxes))]
 pub(crate) fn decode_inner<R: Reader>(

@@ -21,7 +21,7 @@ abbrev pub AsksWord : {X Y : Type 0} → Format Y → List ℕ → Result X Erro
 AsksWord f word (Ok x) = Unit {0}
 AsksWord f word (Err e) = cause e ≡ NoMemory → NeedsWord f word
 
--- The text is cut into words, of which the second needs memory.
+-- The text is cut into words, and the second needs memory.
 pub record NeedsValue {Y : Type 0} (f : Format Y) (text : List ℕ) : Type 0 where
   pub first : List ℕ
   pub word : List ℕ

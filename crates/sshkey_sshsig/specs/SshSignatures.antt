@@ -26,7 +26,7 @@ given_of f = f.signature
 abbrev pub ssh_signature_of : SshSig → model.SshSignature
 ssh_signature_of f = record { version = f.version; key = key_of f.public_key; namespace = f.namespace; reserved = f.reserved; hash = hash_of f.hash_alg; signature = signature_of f.signature }
 
--- what stands behind the key
+-- what follows the key
 abbrev pub statement : model.SshSignature → Parts
 statement f = string f.namespace & string f.reserved & hash f.hash & box (signature f.signature)
 

@@ -1,4 +1,4 @@
--- A call that reads a value, and what stands behind it.
+-- A call that reads a value and what follows it.
 use Rattle.std.proofs.Common.{ℕ, List, refl, ◌∙◌}
 use Rattle.sshkey_base.specs.Causes.{Cause}
 use Rattle.sshkey_base.specs.Reading.{IsRefused, Reads}

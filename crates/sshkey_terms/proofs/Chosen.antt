@@ -1,5 +1,5 @@
 -- A record that its first value calls for: what the call says that reads that value, and what the
--- call says that reads the record behind it, is said of the whole.
+-- call says that reads the record after it, is said of the whole.
 use Rattle.std.proofs.Common.{◌≡◌, ℕ, List, IsErrAnd, Result, Ok, Err, ◌∙◌}
 use Rattle.sshkey_model.specs.Reading.{Front}
 use Rattle.sshkey_base.specs.Causes.{Cause}
@@ -30,7 +30,7 @@ chosen_handed read next s t record_at means why (Err x) e is same h = rw is (cho
 pub chosen_handed_stops : {A Z W E : Type 0} (read : Front A) (next : A → Front Z) (first over : List ℕ → ℕ → Type 0) (needs overs : A → List ℕ → ℕ → Type 0) (s : Source) (record_at : Front Z) (why : E → Cause) (r : Result W E) (e : E) → IsErrAnd r (λ x. x ≡ e) → IsChosen record_at read next → Stopped (why e) read first over s → StopsBy why record_at (NeedsThen first read needs) (OverrunsThen over read overs) s r
 chosen_handed_stops read next first over needs overs s record_at why r e is same h = handed_stops record_at (NeedsThen first read needs) (OverrunsThen over read overs) s why r e is (chosen_stopped read next first over needs overs (why e) s record_at same h)
 
--- ---- the first value was read, and the call behind it decides
+-- ---- the first value was read, and the call after it decides
 
 module _ {A X Z W E : Type 0} (means : X → A) (read : Front A) (next : A → Front Z) (record_at : Front Z) (s t : Source) (x : X) (why : E → Cause) (r : Result W E) where
   pub chosen_gives : (shown : W → Z) (u : Source) → Reads means read s x t → IsChosen record_at read next → Gives shown why (next (means x)) t r u → Gives shown why record_at s r u

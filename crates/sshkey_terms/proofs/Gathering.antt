@@ -1,4 +1,4 @@
--- A loop that reads so many values, one behind the other.
+-- A loop that reads a number of values, one after the other.
 use Rattle.std.proofs.Common.{◌≡◌, ◌⊎◌, inl, inr, IsOk, ◌≤◌, ◌<◌, ◌-◌, ℕ, suc, List, [], ◌∷◌, ◌++◌, append-nil, append_assoc, length, Result, Ok, Err, refl, sym, ap, subst, ◌∙◌, arith}
 use Rattle.std.specs.Prelude.{IsOkAnd}
 use Rattle.std.proofs.lemmas.List.{length-append}
@@ -45,7 +45,7 @@ module _ {A : Type 0} (f : Format A) where
   unfolding times_at
   last_step b done = rw append-nil refl
 
-  -- of values that end by themselves, the first one does, and those behind it
+  -- of values that end by themselves, the first one does, and those after it
   first_ok : (k : ℕ) (b : List ℕ) → IsOk (times_at delimited_at (suc k) b) → IsOk (delimited_at b)
   unfolding times_at
   first_ok k b ok = step_ok (delimited_at b) _ ok
@@ -61,7 +61,7 @@ module _ {A : Type 0} (f : Format A) where
           rw behind (step_ok (times_at delimited_at k y.1) _ ok)
       go (Err fault) is ok = absurd cc
 
-  -- what overruns does so behind a value that was read
+  -- what overruns does so after a value that was read
   rest_over : {X : Type 0} (means : X → A) (k : ℕ) (t u : Source) (x : X) → Reads means item t x u → OverrunsValues f (suc k) t.left t.missing → OverrunsValues f k u.left u.missing
   rest_over means k t u x r (inl o) = read_past means item f.overruns t u x f.lengths r o
   rest_over means k t u x r (inr o) = go (delimited_at t.left) refl o
@@ -72,7 +72,7 @@ module _ {A : Type 0} (f : Format A) where
           rw r.missing (subst (λ (p : A × List ℕ). OverrunsValues f k p.1 t.missing) same o)
       go (Err fault) is o = absurd o
 
-  -- The values so far stand before what is left, and those behind them decide.
+  -- The values so far stand before what is left, and those after them decide.
   pub record Gathers (n : ℕ) (s : Source) (done : List A) (t : Source) : Type 0 where
     pub missing : t.missing ≡ s.missing
     pub outer : t.outer ≡ s.outer

@@ -1,4 +1,4 @@
--- Values of which no part needs memory.
+-- Values whose parts need no memory.
 use Rattle.std.proofs.Common.{◌≡◌, inl, inr, ℕ, List, IsErrAnd, Result, Ok, Err}
 use Rattle.std.specs.Prelude.{IsOkAnd}
 use Rattle.sshkey_model.specs.Reading.{Fault, Front}

@@ -1,4 +1,4 @@
--- A counted list: a number of four bytes, and so many values, one behind the other, of at least a
+-- A counted list: a number of four bytes, and that many values, one after the other, of at least a
 -- byte each. The grammars are proved, and need not be believed.
 use Rattle.std.proofs.Common.{◌≡◌, ◌⊎◌, ◌≤◌, ◌<◌, ◌+◌, inl, inr, ℕ, zero, suc, Bool, true, false, ltb, List, [], ◌∷◌, ◌++◌, length, map, Result, Ok, Err, refl, sym, ap, subst, ◌∙◌, append_assoc, arith}
 use Rattle.std.specs.Prelude.{IsOkAnd, nat_lt, if◌then◌else◌}
@@ -22,12 +22,12 @@ use Rattle.sshkey_terms.specs.Terms.{called}
 abbrev pub counted : {A : Type 0} → (A → Parts) → List A → Parts
 counted spell xs = count (length xs) & each spell xs
 
--- The bytes spell the values, one behind the other. Each that bytes stand behind ends by itself.
+-- The bytes spell the values, one after the other. Each that bytes follow ends by itself.
 abbrev pub SpellsEach : {A : Type 0} → (A → List ℕ → Type 0) → Front A → List A → List ℕ → Type 0
 SpellsEach Spells delimited_at [] b = b ≡ []
 SpellsEach Spells delimited_at (x ∷ xs) b = (front : List ℕ) × (behind : List ℕ) × Spells x front × SpellsEach Spells delimited_at xs behind × (b ≡ front ++ behind) × MayFollow delimited_at x front behind
 
--- So many values, with at least a byte each.
+-- `n` values, with at least a byte each.
 pub record SpellsValues {A : Type 0} (Spells : A → List ℕ → Type 0) (delimited_at : Front A) (n : ℕ) (xs : List A) (b : List ℕ) : Type 0 where
   pub number : length xs ≡ n
   pub each : SpellsEach Spells delimited_at xs b
@@ -35,7 +35,7 @@ pub record SpellsValues {A : Type 0} (Spells : A → List ℕ → Type 0) (delim
 
 -- ---- reading
 
--- so many values, one behind the other
+-- that many values, one after the other
 unfoldable pub times_at : {A : Type 0} → Front A → ℕ → Front (List A)
 times_at item zero b = Ok ([], b)
 times_at item (suc n) b = do
@@ -60,7 +60,7 @@ NeedsValues item n b m = (0 < n) × NeedsFirst item.needs item.read b m
 abbrev pub NeedsCounted : {A : Type 0} → Format A → ℕ → List ℕ → ℕ → Type 0
 NeedsCounted item n b m = (n ≤ length b + m) × NeedsValues item n b m
 
--- One of so many values overruns, behind others that end by themselves.
+-- One of that many values overruns, after others that end by themselves.
 abbrev pub OverrunsValues : {A : Type 0} → Format A → ℕ → List ℕ → ℕ → Type 0
 OverrunsValues item zero b m = ⊥
 OverrunsValues item (suc n) b m = item.overruns b m ⊎ IsOkAnd (item.grammar.delimited_at b) (λ x. OverrunsValues item n x.1 m)
@@ -115,7 +115,7 @@ module _ {A : Type 0} {S : A → List ℕ → Type 0} {read : Front A} (g : Gram
   abbrev Times : ℕ → List ℕ → List A → List ℕ → Type 0
   Times n b xs rest = (front : List ℕ) × (length xs ≡ n) × SpellsEach S g.delimited_at xs front × (b ≡ front ++ rest) × MayFollow (times_at g.delimited_at n) xs front rest
 
-  -- a value, and those behind it
+  -- a value, and those after it
   one_more : (n : ℕ) (x : A) (xs : List A) (front behind rest : List ℕ) → MayFollow g.delimited_at x front (behind ++ rest) → MayFollow (times_at g.delimited_at n) xs behind rest → MayFollow g.delimited_at x front behind × MayFollow (times_at g.delimited_at (suc n)) (x ∷ xs) (front ++ behind) rest
   unfolding times_at
   one_more n x xs front behind rest (inl none) k = let both = none_in behind rest none in (inl both.0, inl both.1)
@@ -200,7 +200,7 @@ values_format item n = record {
   lengths = values_lengths item n;
 }
 
--- their number, and so many values
+-- their number, and that many values
 abbrev pub counted_format : {A : Type 0} → Format A → Format (List A)
 counted_format item = called number32_format (values_format item)
 

@@ -6,7 +6,7 @@ use Rattle.sshkey_base.specs.Answers.{AnswersAlways}
 use Rattle.sshkey_base.specs.Causes.{Cause, Faulty}
 use Rattle.sshkey_base.specs.Reading.{NoFront, NoSpelling}
 
--- The value that the plain reader gives and the bytes behind it, or its fault. It takes no memory.
+-- The value that the plain reader gives and the bytes after it, or its fault. It takes no memory.
 abbrev pub Splits : {X Y E : Type 0} → (X → Y) → (E → Cause) → Front Y → List ℕ → Result (X × Bor (List ℕ)) E → Type 0
 Splits means cause read b r = AnswersAlways (λ p. (means p.0, p.1.now)) cause (read b) r
 
@@ -27,7 +27,7 @@ found_or none (Err fault) = none
 
 -- ---- in the words of the grammar
 
--- A front of the bytes is a spelling, and the rest stands behind it.
+-- A front of the bytes is a spelling, and the rest follows it.
 pub record IsSplit (IsSpelling : List ℕ → Type 0) (b rest : List ℕ) : Type 0 where
   pub front : List ℕ
   pub spelled : IsSpelling front

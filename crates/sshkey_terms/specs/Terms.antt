@@ -1,5 +1,5 @@
 -- The terms that formats are made of. A format is read aloud as it stands: `mpint_format then
--- mpint_format` is two numbers, one behind the other.
+-- mpint_format` is two numbers, one after the other.
 use Rattle.std.proofs.Common.{◌≡◌, inl, inr, ℕ, List, Result, Ok, Err, refl, sym, ◌∙◌}
 use Rattle.std.specs.Prelude.{IsOkAnd}
 use Rattle.sshkey_model.specs.Reading.{Fault, Length, ◌>>=◌, Front, whole, box_at, checked_at, literal_at, behind_at}
@@ -19,7 +19,7 @@ with_first a y = Ok ((a, y.0), y.1)
 pub record IsChosen {A Z : Type 0} (record_at : Front Z) (read : Front A) (next : A → Front Z) : Type 0 where
   pub same : (b : List ℕ) → record_at b ≡ (read b >>= λ x. next x.0 x.1)
 
--- Where a length passes in the first value, or behind it in the second, `Length` is met.
+-- If the first value overruns, or the second after it, the fault is `Length`.
 module _ {A Z : Type 0} {record_at : Front Z} {read delimited_at : Front A} {next : A → Front Z} {over : List ℕ → ℕ → Type 0} {overs : A → List ℕ → ℕ → Type 0} (same : (b : List ℕ) (x : A × List ℕ) → delimited_at b ≡ Ok x → read b ≡ Ok x) where
   pub chosen_lengths : IsChosen record_at read next → AreLengths read over → ((a : A) → AreLengths (next a) (overs a)) → AreLengths record_at (OverrunsThen over delimited_at overs)
   chosen_lengths chosen f g b m (inl o) = rw (chosen.same b, f b m o) refl
@@ -33,8 +33,8 @@ pub then_lengths : {A B : Type 0} {over : List ℕ → ℕ → Type 0} {read del
 unfolding behind_at
 then_lengths {next = next} same f g = chosen_lengths {next = λ a b. next a b >>= with_first a} same (record { same = λ b. refl }) f (λ a b m o. rw (g a b m o) refl)
 
--- A value, and behind it what that value calls for. A length behind the first is met only where the
--- first ends by itself; memory is asked for behind whatever was read.
+-- A value, and after it what that value calls for. A length after the first is met only if the
+-- first ends by itself; memory is asked for after whatever was read.
 abbrev pub dependent : {A B : Type 0} → Format A → (A → Format B) → Format (A × B)
 dependent first second = record {
   Spells = SpellsThen first.Spells first.grammar.delimited_at (λ a. (second a).Spells);
@@ -45,7 +45,7 @@ dependent first second = record {
   lengths = then_lengths first.grammar.same first.lengths (λ a. (second a).lengths);
 }
 
--- a value, and another one behind it
+-- a value, and another one after it
 infixr 5 ◌then◌
 abbrev pub ◌then◌ : {A B : Type 0} → Format A → Format B → Format (A × B)
 first then second = dependent first (λ _. second)
@@ -106,7 +106,7 @@ read_as f read same all = record {
 pub record IsMapped {Y Z : Type 0} (record_at : Front Z) (form : Y → Result Z Fault) (read : Front Y) : Type 0 where
   pub same : (b : List ℕ) → record_at b ≡ checked_at form read b
 
--- where that reader is the test behind it
+-- for the reader with the test after it
 pub checked_read : {A B : Type 0} (test : A → Result B Fault) (read : Front A) → IsMapped (checked_at test read) test read
 checked_read test read = record { same = λ b. refl }
 

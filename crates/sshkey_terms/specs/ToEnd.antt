@@ -18,7 +18,7 @@ use Rattle.sshkey_model.proofs.CombinedReaders.{bind_ok, ok_is}
 abbrev pub HasBytes : {A : Type 0} → Format A → Type 0
 HasBytes {A} item = (x : A) (b : List ℕ) → item.Spells x b → 0 < length b
 
--- Values, one behind the other, up to the end.
+-- Values, one after the other, up to the end.
 abbrev pub each_at : {A : Type 0} → Format A → Front (List A)
 each_at item = to_end (list_whole (λ _. item.read))
 
@@ -92,7 +92,7 @@ module _ {A : Type 0} {S : A → List ℕ → Type 0} {read : Front A} (g : Gram
 
 -- ---- the format
 
--- values, one behind the other, each of which has a byte
+-- values, one after the other, each with a byte
 abbrev pub values_to_end : {A : Type 0} (item : Format A) → HasBytes item → Format (List A)
 values_to_end item shows = record {
   Spells = SpellsEach item.Spells item.grammar.delimited_at;

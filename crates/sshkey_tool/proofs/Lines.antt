@@ -1,4 +1,4 @@
--- Lines, one behind the other.
+-- Lines, one after the other.
 use Rattle.std.proofs.Common.{◌≡◌, ◌<◌, ◌+◌, ℕ, List, [], ◌∷◌, ◌++◌, length, take, get_or, map, refl, sym, ap, ◌∙◌}
 use Rattle.std.proofs.lemmas.List.{append_assoc, map-append, take_more}
 use Rattle.std.specs.Prelude.{String, string_bytes, codes, decimal}
@@ -24,7 +24,7 @@ module _ {Z : Type 0} where
       ∙ ap in_lines (map-append principal_line (map string_bytes ps) (string_bytes p ∷ []))
       ∙ lines_append (map principal_line (map string_bytes ps)) (principal_line (string_bytes p) ∷ [])
 
-  -- the line of the next principal behind those so far
+  -- the line of the next principal after those so far
   pub principal_more : (ps : List (String Z)) (i : ℕ) (p : String Z) (text now : List ℕ) → i < length ps → p ≡ get_or ps i p → text ≡ principal_line (string_bytes p) ++ line_end → now ≡ shown (take i ps) ++ text → now ≡ shown (take (i + 1) ps)
   principal_more ps i p text now below is line behind =
       behind

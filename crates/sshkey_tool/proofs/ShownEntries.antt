@@ -97,7 +97,7 @@ all_shown KnownHosts = all_of IsKnownHost known_text
 
 -- ---- what is written
 
--- The lines of the first entries, of which the last ones are still to be written.
+-- The lines of the first entries, the last of them still to be written.
 pub record WrittenSoFar (file : EntryFile) (text : List ℕ) (left : List (List ℕ)) (old now : Option (List ℕ)) (kept : List ℕ) (status : ℕ) : Type 0 where
   pub shown : List ℕ
   pub refused : Bool
@@ -118,7 +118,7 @@ same_is : (refused : Bool) → entries_status refused ≡ entries_status (refuse
 same_is true = refl
 same_is false = refl
 
--- the status behind one line more
+-- the status after one line more
 abbrev pub IsMoreStatus : Bool → ℕ → ℕ → Type 0
 IsMoreStatus also status after = ((also ≡ true) × (after ≡ 1)) ⊎ ((also ≡ false) × (after ≡ status))
 

@@ -64,18 +64,18 @@ abbrev pub RefusesEntry : {Z : Type 0} → Error → Result (String Z) Error →
 RefusesEntry error (Ok s) = (cause error ≢ NoMemory) × IsRefusalLine (string_bytes s)
 RefusesEntry error (Err e) = IsMachineFault e
 
--- The text and a line end stand behind what stood; or nothing does.
+-- The text and a line end follow what stood; or nothing does.
 abbrev pub PushesLine : {U E : Type 0} → List ℕ → List ℕ → List ℕ → Result U E → Type 0
 PushesLine old new text (Ok _) = new ≡ old ++ (text ++ line_end)
 PushesLine old new text (Err _) = new ≡ old
 
--- The line of an entry stands behind what stood, and whether the entry is refused is said; or the
--- machine failed, and nothing does.
+-- The line of an entry follows what stood, and whether the entry is refused is said; or the machine
+-- failed, and nothing does.
 abbrev pub PushesEntry : EntryFile → List ℕ → List ℕ → List ℕ → Result Bool Error → Type 0
 PushesEntry file entry old new (Ok refused) = (line : List ℕ) × ShowsFileEntry file entry (line, refused) × (new ≡ old ++ (line ++ line_end))
 PushesEntry file entry old new (Err e) = IsMachineFault e × (new ≡ old)
 
--- the status of lines, of which some may be refused
+-- the status of lines, some perhaps refused
 abbrev pub entries_status : Bool → ℕ
 entries_status false = 0
 entries_status true = 1

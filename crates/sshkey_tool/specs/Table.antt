@@ -70,7 +70,7 @@ IsOfLine (commands.Certificate wanted) bytes text =
     (c : Certificate) × (comment : List ℕ) × IsCertificateLine bytes c comment × IsCertificateText wanted c text
 IsOfLine (commands.Entries file) bytes text = ShowsFile file bytes text false
 
--- The bytes are a file of which some entries are refused, and this text is shown of it.
+-- The bytes are a file with refused entries, and this text is shown for it.
 abbrev pub IsPartly : Command → List ℕ → List ℕ → Type 0
 IsPartly (commands.Entries file) bytes text = ShowsFile file bytes text true
 IsPartly (commands.Key c) bytes text = ⊥
@@ -86,7 +86,7 @@ IsOfNoLine (commands.Entries file) bytes = ⊥
 abbrev pub IsShown : Command → List ℕ → List ℕ → Type 0
 IsShown c text bytes = IsUtf8 bytes × IsOfLine c bytes text
 
--- The same of a file of which some entries are refused.
+-- The same for a file with refused entries.
 abbrev pub IsShownPartly : Command → List ℕ → List ℕ → Type 0
 IsShownPartly c text bytes = IsUtf8 bytes × IsPartly c bytes text
 
@@ -96,7 +96,7 @@ IsRefusedInput c bytes = IsUtf8 bytes → IsOfNoLine c bytes
 
 -- ---- the answers
 
--- How it is used; lines that are shown, of which some may be refusals; or why the input is refused.
+-- How it is used; lines that are shown, some perhaps refusals; or why the input is refused.
 pub data Answer : Type 0 where
   Usage : Answer
   Shown Partly Refused : List ℕ → Answer
@@ -152,7 +152,7 @@ pub record FailsWithin (file : EntryFile) (entry : List ℕ) (old new : Option (
   pub begun : IsBegun old new (line ++ line_end)
   pub one : status ≡ 1
 
--- An entry is left behind the lines of the first ones: the output failed within its line, or the
+-- An entry is left after the lines of the first ones: the output failed within its line, or the
 -- line of a fault stands there.
 pub record IsCutShort (file : EntryFile) (input old new : Option (List ℕ)) (status : ℕ) : Type 0 where
   pub shown : List ℕ

@@ -15,7 +15,7 @@ use sshkey_known_hosts::Entry as KnownHost;
 use std::alloc::{AllocError, Global};
 use std::io::Write;
 
-/// So many bytes of lines are written at once, or more.
+/// At least this many bytes of lines are written at once.
 const PIECE: usize = 0x1_0000;
 
 /// The text of an entry of authorized_keys.
@@ -103,7 +103,7 @@ fn refuse_behind<W: Write>(alloc: Global, lines: &str, error: &Error, output: &m
 /// of them is rejected. The first line that can't be made or written is the end.
 ///
 /// The lines are kept until they have `PIECE` bytes, and are written then: so each write but the
-/// last is asked to take at least so many.
+/// last is asked to take at least that many.
 pub(crate) fn write_entries<W: Write>(
     alloc: Global,
     file: EntryFile,

@@ -57,7 +57,7 @@ fn number_from<const SIZE: usize, R: Reader>(reader: &mut R) -> Result<[u8; SIZE
     signed_from::<SIZE, R>(reader)
 }
 
-/// So many bytes, and 00 before them where they are fewer than `SIZE`.
+/// `len` bytes, and 00 before them if they are fewer than `SIZE`.
 #[tactic(auto, using(crate::proofs::Places::places))]
 fn digits_from<const SIZE: usize, R: Reader>(len: usize, reader: &mut R) -> Result<[u8; SIZE]>
     requires { len ≤ SIZE }

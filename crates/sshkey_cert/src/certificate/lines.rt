@@ -138,7 +138,7 @@ impl Certificate {
 }
 
 /// The name of a key's algorithm in certificates is a text. The call is made only for what its
-/// contract and its type say: the key's own name is a text, of which this one is made.
+/// contract and its type say: the key's own name is a text, and this name is made of it.
 fn is_text_in_certificates(key: &KeyData)
     ensures { IsUtf8 (certificate_name (key_algorithm (key_of key.now))) }
 {

@@ -59,8 +59,8 @@ pub fn question_about<'a>(
 }
 
 impl CertificateQuestion<'_> {
-    /// The question, or `None` where the key and the signature's algorithm do not go together: then
-    /// no verifier is asked, and the certificate is not valid. `KeyData::question` gives it; a
+    /// The question, or `None` if the key and the signature's algorithm do not go together: then no
+    /// verifier is asked, and the certificate is not valid. `KeyData::question` gives it; a
     /// security key's is already the one about the plain key within. Does not allocate.
     pub fn question(&self) -> Option<Question<'_>>
         ensures { option_map question_of result ≡ asks self.now }

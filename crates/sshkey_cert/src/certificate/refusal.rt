@@ -51,7 +51,7 @@ pub fn result_of_refusal(first: Option<CertificateRefusal>) -> Result<()>
     }
 }
 
-/// The first refusal, if there is one, and else the principal's where it is not allowed. Does not
+/// The first refusal, if there is one, and else the principal's if that is not allowed. Does not
 /// allocate.
 pub fn refusal_with_principal(
     first: Option<CertificateRefusal>,

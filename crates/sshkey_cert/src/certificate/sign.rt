@@ -19,7 +19,7 @@ use std::alloc::Global;
 impl Certificate {
     /// The certificate of these fields, with the signer's signature and that comment.
     ///
-    /// A key under a private-use name is not refused. Where that is another kind's name, as
+    /// A key under a private-use name is not refused. If that is another kind's name, as
     /// `ssh-ed25519@openssh.com` is, the signed bytes are those of a certificate of that kind's
     /// key, and so is the certificate to whoever reads it: refuse such keys before
     /// (`KeyData::is_other`).
@@ -74,7 +74,7 @@ fn signature_by<S: SigningKey>(
     signing_key.try_sign(alloc, &signed)
 }
 
-/// The bytes that are signed, where they fit.
+/// The bytes that are signed, if they fit.
 fn checked_bytes(alloc: Global, fields: &ToBeSigned) -> Result<Vec<u8>>
     ensures made { MakesBlob (normal_to_be_signed (to_be_signed_of fields.now)) result }
     ensures fits { OnOk result (signed_fits (to_be_signed_of fields.now) ≡ true) }

@@ -91,7 +91,7 @@ impl<'a> CertificateRef<'a> {
         self.parts.critical_options
     }
 
-    /// What the certificate grants besides. Ignore an extension that you do not know.
+    /// What else the certificate grants. Ignore an extension that you do not know.
     pub fn extensions(&self) -> OptionsRef<'a>
         ensures options { options_of result ≡ (certificate_of self.now).signed.extensions }
         ensures choices { nestings_of result ≡ (choices_of self.now).extensions }

@@ -43,7 +43,7 @@ pub(super) fn take_option<'a>(
     Ok(option)
 }
 
-/// Whether the option may stand after that one: its name is above that one's.
+/// Whether the option may stand after `before`: its name is above the name of that option.
 fn may_follow(before: Option<SpelledOption<'_>>, option: SpelledOption<'_>) -> bool
     ensures { result ≡ is_after (option_before (option_map pair_of before.entry))
         (pair_of option.entry).0 }

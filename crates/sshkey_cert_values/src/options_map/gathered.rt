@@ -10,7 +10,7 @@ use sshkey_base::{Error, Result};
 use std::alloc::Global;
 use std::collections::BTreeMap;
 
-/// From so many bytes on, a map takes less time if it is built at once of all its options.
+/// From this many bytes on, a map takes less time if it is built at once of all its options.
 const MANY_BYTES: usize = 512;
 
 /// Pairs of a name and a value, whose names rise.
@@ -18,12 +18,12 @@ const MANY_BYTES: usize = 512;
 pub(super) enum Gathered {
     /// Few, in the map.
     Few(BTreeMap<String, String>),
-    /// Many, of which the map is built at the end.
+    /// Many, from which the map is built at the end.
     Many(Vec<(String, String)>),
 }
 
 impl Gathered {
-    /// No options, before so many bytes of them are read. Does not allocate.
+    /// No options, before `bytes` bytes of them are read. Does not allocate.
     pub(super) fn new(alloc: Global, bytes: usize) -> Gathered
         ensures { gathered_pairs result ≡ [] }
     {
@@ -49,7 +49,7 @@ impl Gathered {
         }
     }
 
-    /// Puts an option behind the last. Fails only when out of memory.
+    /// Puts an option after the last. Fails only when out of memory.
     pub(super) fn push(&mut self, name: String, value: String) -> Result<()>
         requires { may_follow (name_at_end (gathered_pairs self.old)) (string_bytes name) ≡ true }
         ensures ok { OnOk result

@@ -24,7 +24,7 @@ pub fn prefix_pair()
         (spelled pair) }
 {}
 
-/// No pair of ECDSA begins another, of whichever curve.
+/// No pair of ECDSA begins another, whatever their curves.
 pub fn prefix_ecdsa_pair()
     ensures { IsPrefixFree (IsSpelled IsEcdsaPair HasPairPlaces) (spelled pair) }
 {}

@@ -63,7 +63,7 @@ pub fn exact_body()
     ensures { (a : Algorithm) → IsGrammar (Spells (IsBodyUnder a) body) (body_at a) }
 {}
 
-/// ECDSA keys are read exactly where they are spelled, of whichever curve.
+/// ECDSA keys on any curve are read exactly where they are spelled.
 pub fn exact_ecdsa()
     ensures { IsGrammar (Spells IsEcdsa body) any_ecdsa_at }
 {}
@@ -120,7 +120,7 @@ pub fn exact_rsa_private()
     ensures { IsGrammar (Spells IsRsaPrivate rsa_private) rsa_private_at }
 {}
 
-/// Pairs of ECDSA are read exactly where they are spelled, of whichever curve.
+/// Pairs of ECDSA on any curve are read exactly where they are spelled.
 pub fn exact_ecdsa_pair()
     ensures { IsGrammar (SpellsAs IsEcdsaPair HasPairPlaces pair) any_ecdsa_pair_at }
 {}

@@ -32,7 +32,7 @@ use sshkey_pairs::KeypairData;
 use sshkey_public::PublicKey;
 use std::alloc::Global;
 
-/// A private key that all the bytes spell, with at most so many bytes of padding.
+/// A private key that all the bytes spell, with at most `most` bytes of padding.
 pub(super) fn whole_key_from(alloc: Global, bytes: &[u8], most: u8) -> Result<PrivateKey>
     ensures gives { GivesWhole private_of cause (whole (steps_at (suc most)))
         (all_of bytes.now) result }
@@ -44,7 +44,7 @@ pub(super) fn whole_key_from(alloc: Global, bytes: &[u8], most: u8) -> Result<Pr
     Ok(reader.finish(key)?)
 }
 
-/// A private key from the front, with at most so many bytes of padding; nothing may follow an
+/// A private key from the front, with at most `most` bytes of padding; nothing may follow an
 /// encrypted one.
 #[tactic(auto, using(sshkey_base::proofs::Steps::steps), unfolding(crate::specs::PrivateKeyFormats::steps_at))]
 pub(super) fn private_key_from<R: Reader>(

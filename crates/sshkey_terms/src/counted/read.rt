@@ -35,8 +35,8 @@ impl<T: Decode + Drop> Decode for Counted<T> {
     }
 }
 
-/// So many values. Fails with `Length` where more are wanted than bytes are left, or than bytes
-/// were read for them.
+/// `count` values. Fails with `Length` if more are wanted than bytes are left, or than bytes were
+/// read for them.
 fn values_from<T: Decode + Drop, R: Reader>(
     alloc: Global,
     reader: &mut R,
@@ -62,7 +62,7 @@ fn values_from<T: Decode + Drop, R: Reader>(
     Ok(values)
 }
 
-/// So many values, whatever is left.
+/// `count` values, whatever is left.
 fn times_from<T: Decode + Drop, R: Reader>(
     alloc: Global,
     reader: &mut R,
@@ -82,7 +82,7 @@ fn times_from<T: Decode + Drop, R: Reader>(
     Ok(values)
 }
 
-/// The values, and that one after them. Fails only when out of memory.
+/// The values, and `value` after them. Fails only when out of memory.
 pub(crate) fn add<T: Drop>(values: &mut Vec<T>, value: T) -> encoding::Result<()>
     ensures added { OnOk result (values.new.items ≡ values.old.items ++ value ∷ []) }
     ensures memory { IfErr result (λ e. e ≡ Error.Memory) }

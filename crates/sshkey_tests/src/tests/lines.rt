@@ -72,7 +72,7 @@ fn lines_are_written_from_what_was_read(rt: HostRuntime) {
     }
 }
 
-/// Ed25519's line with more behind its word.
+/// Ed25519's line with more after its word.
 fn with_end(alloc: Global, end: &str) -> Result<String, AllocError> {
     format!(in alloc; "ssh-ed25519 {WORD}{end}")
 }
@@ -128,7 +128,7 @@ fn is_one_line(alloc: Global, end: &str) -> Option<bool> {
     Some(key.is_one_line())
 }
 
-/// A name of three bytes before its at sign, the second of which is a line feed, and no body.
+/// A name of three bytes before its at sign, the second a line feed, and no body.
 const NAME_OF_TWO_LINES: [u8; 13] = *b"\x00\x00\x00\x05a\nb@c\x00\x00\x00\x00";
 
 fn is_named_in_one_line(alloc: Global) -> Option<bool> {
@@ -225,7 +225,7 @@ fn a_line_that_does_not_fit_is_begun(rt: HostRuntime) {
     assert!(rt; does_not_fit(rt.alloc()));
 }
 
-/// A key whose blob has so many bytes behind its name, so that it takes more than one window.
+/// A key whose blob has so many bytes after its name that it takes more than one window.
 fn long_line(alloc: Global) -> Option<String> {
     let group = String::from_str(alloc, "CAgI").ok()?;
     let groups = group.repeat(alloc, 1365).ok()?;
@@ -271,7 +271,7 @@ fn has_fingerprint(alloc: Global, key: &PublicKey) -> bool {
     }
 }
 
-/// Its copy is equal, and behind it under another comment.
+/// Its copy is equal, and comes after it under another comment.
 fn is_copied(alloc: Global, key: &PublicKey) -> bool {
     match key.try_clone(alloc) {
         Ok(copy) => copy == *key && is_less_with_comment(alloc, key, copy),

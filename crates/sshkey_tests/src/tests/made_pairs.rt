@@ -4,13 +4,13 @@
 //! ssh-keygen -q -t TYPE -b BITS -N '' -C '' -f KEY
 //! ```
 //!
-//! The pair stands behind the two checkints of the private part (OpenSSH, PROTOCOL.key), before the
+//! The pair follows the two checkints of the private part (OpenSSH, PROTOCOL.key), before the
 //! comment. The public key is that of `KEY.pub`. All in hexadecimal digits.
 
 /// A pair, and its public half.
 #[derive(Clone, Copy)]
 pub(crate) struct MadePair {
-    /// The pair behind its name, as OpenSSH wrote it.
+    /// The pair after its name, as OpenSSH wrote it.
     pub(crate) pair: &'static str,
     /// The same at full width, where OpenSSH wrote it shorter.
     pub(crate) full: Option<&'static str>,

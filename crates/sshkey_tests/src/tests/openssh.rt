@@ -5,7 +5,7 @@
 //! printf message | ssh-keygen -q -Y sign -f KEY -n file
 //! ```
 //!
-//! The first and the last string behind the version are the key and the signature. What was signed
+//! The first and the last string after the version are the key and the signature. What was signed
 //! is `SIGNED` (PROTOCOL.sshsig, section 3). RSA with SHA-256 signs certificates:
 //!
 //! ```text

@@ -130,7 +130,7 @@ fn an_output_that_fails_holds_a_beginning(rt: HostRuntime) {
     }
 }
 
-/// So many lines of authorized_keys.
+/// `count` lines of authorized_keys.
 fn lines(alloc: Global, count: u32) -> Result<Vec<u8>, AllocError> {
     let mut lines = Vec::new(alloc);
     for _ in 0..count {
@@ -139,7 +139,7 @@ fn lines(alloc: Global, count: u32) -> Result<Vec<u8>, AllocError> {
     Ok(lines)
 }
 
-/// The bytes that are written of so many lines, and how often `write` is called for them.
+/// The bytes that are written of `count` lines, and how often `write` is called for them.
 fn written(alloc: Global, count: u32) -> Result<Counted, AllocError> {
     let text = lines(alloc, count)?;
     let mut input = text.as_slice();
@@ -148,7 +148,7 @@ fn written(alloc: Global, count: u32) -> Result<Counted, AllocError> {
     Ok(output)
 }
 
-/// Whether so many bytes are written of so many lines, by at most so many calls of `write`.
+/// Whether `bytes` bytes are written of `count` lines, by at most `most` calls of `write`.
 fn writes_by(alloc: Global, count: u32, bytes: usize, most: usize) -> bool {
     match written(alloc, count) {
         Ok(output) => output.bytes == bytes && output.calls <= most,

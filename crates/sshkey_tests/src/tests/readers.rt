@@ -1,4 +1,4 @@
-//! Readers: slices, parts of them, and a source that has a fault of its own behind its bytes.
+//! Readers: slices, parts of them, and a source that has a fault of its own after its bytes.
 
 use super::support::{is_debugged, is_wanted};
 use sshkey_base::encoding::{Error, Result};
@@ -74,7 +74,7 @@ fn a_part_shows_no_bytes(rt: HostRuntime) {
     );
 }
 
-/// The first `len` bytes of the name, and behind them a fault in place of the next `missing`.
+/// The first `len` bytes of the name, and after them a fault in place of the next `missing`.
 fn cut_short(len: u8, missing: u8) -> Faulty<'static> {
     let len = NAME.len().min(len as usize);
     Faulty::new(&NAME[..len], missing as u32)
@@ -113,15 +113,15 @@ fn a_front_before_a_fault(rt: HostRuntime) {
     // a length past what was announced is `Length`, whatever is missing
     assert!(rt; is_wanted(fault_of_string(rt.alloc(), 14, 0), Some(Error::Length)));
     assert!(rt; is_wanted(fault_of_string(rt.alloc(), 10, 4), Some(Error::Length)));
-    // behind the front the fault is left
+    // after the front the fault is left
     let mut source = cut_short(15, 20);
     let name = Bytes::decode(rt.alloc(), &mut source);
     assert!(rt; name.is_ok_and(|name| name.as_slice() == b"ssh-ed25519".as_slice()));
     assert!(rt; source.remaining_len() == 20 && !source.is_finished());
 }
 
-/// The fault of two strings after their count, the second of which states so many bytes, where
-/// eight of them are missing.
+/// The fault of two strings after their count, the second of which states `len` bytes, when eight
+/// of them are missing.
 fn fault_of_second(alloc: Global, len: u8) -> Option<Error> {
     let bytes = [0, 0, 0, 2, 0, 0, 0, 1, 42, 0, 0, 0, len];
     Counted::<Bytes>::decode(alloc, &mut Faulty::new(&bytes, 8)).err()

@@ -174,7 +174,7 @@ fn the_first_is_kept(rt: HostRuntime) {
     assert!(rt; keeps_the_first(rt.alloc(), set_once(rt.alloc())));
 }
 
-/// All principals, twice, behind one that was named.
+/// All principals, twice, after one that was named.
 fn told_all(alloc: Global, builder: &mut Builder) -> Result<(), Error> {
     builder
         .valid_principal(text(alloc, "a")?)?
@@ -201,7 +201,7 @@ fn set_for_all(alloc: Global) -> Result<Certificate, Error> {
     signed(alloc, builder)
 }
 
-/// One that is named behind all of them is the one that is valid.
+/// One that is named after all of them is the one that is valid.
 fn for_one_again(alloc: Global) -> Result<Certificate, Error> {
     let mut builder = builder(alloc, 10, 20)?;
     told_all(alloc, &mut builder)?;

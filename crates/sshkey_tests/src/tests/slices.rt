@@ -43,7 +43,7 @@ fn has_lists(certificate: &CertificateRef<'_>, made: &Certified) -> bool {
         && has_options(certificate.extensions(), made.extensions)
 }
 
-/// It is signed over so many of its first bytes.
+/// It is signed over its first `len` bytes.
 fn is_signed_over(certificate: &CertificateRef<'_>, len: usize) -> bool {
     match certificate.signed_bytes() {
         Some(signed) => signed.len() == len,
@@ -218,13 +218,13 @@ fn each_slice_is_valid_as_its_certificate_is(rt: HostRuntime) {
     assert!(rt; each().iter().all(|made| is_valid(rt.alloc(), made)));
 }
 
-/// All that stands behind the first word of the stored certificate's line.
+/// All that follows the first word of the stored certificate's line.
 fn stored_bytes(alloc: Global) -> Option<Vec<u8>> {
     let (_, word) = stored().split_once(' ')?;
     STANDARD.decode(alloc, word.as_bytes()).ok()
 }
 
-/// Of these bytes each beginning is refused, and a byte behind them.
+/// Each beginning of these bytes is refused, and a byte after them.
 fn is_whole(alloc: Global, bytes: &mut Vec<u8>) -> bool {
     let len = bytes.len();
     if !(0..len).all(|len| CertificateRef::from_bytes(&bytes[..len]).is_err())

@@ -34,7 +34,7 @@ fn are_equal(alloc: Global, string: &Bytes, bytes: &[u8]) -> bool {
     }
 }
 
-/// The bytes come behind the string.
+/// The bytes come after the string.
 fn are_behind(alloc: Global, string: &Bytes, bytes: &[u8]) -> bool {
     match Bytes::from_slice(alloc, bytes) {
         Ok(other) => *string < other && *string != other,
@@ -63,7 +63,7 @@ fn is_copied(alloc: Global, text: &Text) -> bool {
     }
 }
 
-/// The letters come behind the text.
+/// The letters come after the text.
 fn is_behind(alloc: Global, text: &Text, letters: &str) -> bool {
     match String::from_str(alloc, letters) {
         Ok(letters) => is_less(text, &Text::new(letters)),

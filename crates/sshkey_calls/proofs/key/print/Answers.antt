@@ -6,7 +6,7 @@ use Rattle.base64.specs.GeneralPurpose.{encode_of, encoded_size_of}
 use Rattle.base64.proofs.RoundTrip.{length-encode_symbols}
 use Rattle.sshkey_calls.proofs.key.print.Goals as goal
 
--- without padding, nothing stands behind the symbols
+-- without padding, nothing follows the symbols
 encoded_len : (b : List ℕ) → length (encode_of standard_no_pad b) ≡ encoded_size_of standard_no_pad (length b)
 encoded_len b = ap length (append-nil _) ∙ length-encode_symbols _ b
 

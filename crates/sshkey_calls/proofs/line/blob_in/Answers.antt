@@ -6,7 +6,7 @@ use Rattle.base64.proofs.EngineFacts.{decode_of-encode_of}
 use Rattle.sshkey_model.proofs.Lines.{line_cut}
 use Rattle.sshkey_calls.proofs.line.blob_in.Goals as goal
 
--- what stands behind nothing is all
+-- what follows nothing is all
 behind_nothing : (word blob added : List ℕ) (place : ℕ) → place ≡ 0 → word ≡ encode_of standard blob → decode_of standard (encode_of standard blob) ≡ Ok blob → decode_of standard word ≡ Ok (drop place added) → added ≡ blob
 behind_nothing word blob added place none is back read =
     let both : ◌≡◌ {A = Result (List ℕ) DecodeError} (Ok blob) (Ok (drop place added)) = sym back ∙ ap (decode_of standard) (sym is) ∙ read in

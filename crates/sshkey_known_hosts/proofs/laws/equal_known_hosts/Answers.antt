@@ -16,7 +16,7 @@ some_same m n e = cc
 no_marker : (m : known.Marker) → None ≡ Some m → ⊥
 no_marker m e = cc e
 
--- markers, of which there may be none
+-- markers, or none
 optional_markers : (E : Marker → Marker → Bool) → ((m n : Marker) → Decides (E m n) (marker_of m ≡ marker_of n)) → (m n : Option Marker) → Decides (option_eq E m n) (option_map marker_of m ≡ option_map marker_of n)
 optional_markers E h None None = (λ _. refl, λ _. refl)
 optional_markers E h None (Some n) = (λ never. absurd (true≢false (sym never)), λ same. absurd (no_marker _ same))

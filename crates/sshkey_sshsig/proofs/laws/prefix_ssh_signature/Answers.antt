@@ -12,7 +12,7 @@ use Rattle.sshkey_sshsig.specs.SshSignatures.{statement}
 use Rattle.sshkey_sshsig.specs.SshSignatureReaders.{ssh_signature_grammar, ssh_signature_tree}
 use Rattle.sshkey_sshsig.proofs.laws.prefix_ssh_signature.Goals as goal
 
--- the key in its string stands behind the magic bytes and the version
+-- the key in its string follows the magic bytes and the version
 key_fits : (f : SshSignature) (s : Head) → Fits (ssh_signature f s) → Fits (box (key f.key s))
 key_fits f s fits = fits_first (box (key f.key s)) (statement f) (fits_second (number w32 f.version) (box (key f.key s) & statement f) (fits_second (bytes signature_magic) (number w32 f.version & box (key f.key s) & statement f) fits))
 

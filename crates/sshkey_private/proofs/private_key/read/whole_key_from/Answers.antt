@@ -12,7 +12,7 @@ use Rattle.sshkey_private.specs.PrivateKeyFormats.{steps_at}
 use Rattle.sshkey_private.proofs.KeyReaders.{finished}
 use Rattle.sshkey_private.proofs.private_key.read.whole_key_from.Goals as goal
 
--- bytes behind the key are no want of memory
+-- bytes after the key are no want of memory
 trailing : (ended : Bool) (k : PrivateKey) (n : ℕ) (e : Error) → ◌≡◌ {A = Result PrivateKey Error} (Err e) (cond ended (Ok k) (Err (TrailingData n))) → encoding_cause e ≡ NoMemory → ⊥
 trailing true k n e is memory = absurd cc
 trailing false k n e is memory = let same : e ≡ TrailingData n = cc in let other = rw same at memory in absurd cc
