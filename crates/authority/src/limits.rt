@@ -46,10 +46,10 @@ impl Limits {
     }
 
     /// Checks that the request is within the limits, at that time in seconds since 1970: its key is
-    /// of one of `kinds`, and one that sshd(8) reads; it is for 1 to 256 users, all listed; each
-    /// extension is listed; the key id, the users and the extensions have no zero byte; and its
-    /// window has a second and no more than `longest`, is not over, and ends `longest` seconds
-    /// from now or before. Does not allocate.
+    /// of one of `kinds`, and one that sshd(8) reads. It is for 1 to 256 users, all listed, and
+    /// each extension is listed. The key id, the users and the extensions have no zero byte. Its
+    /// window has a second and no more than `longest`, is not over, and ends `longest` seconds from
+    /// now or before. Does not allocate.
     ///
     /// Else `CertificateFieldInvalid`, with `PublicKey` for the key, `KeyId` for the key id,
     /// `ValidPrincipals` for the users, `Extensions` for the extensions and `ValidBefore` for the

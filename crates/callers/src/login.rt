@@ -7,9 +7,9 @@ use login_policy::{Grant, Refusal, log_in};
 use ssh_key::{Error, PublicKey, Result};
 use std::alloc::{AllocError, Global};
 
-/// Whether the user is let in, who is the first word, at the second that is the second one, with
-/// the offered key, by the certificate, by the authorities with the fingerprints in the word after
-/// it, and by the lists of what is revoked in all the others.
+/// Whether the user is let in. The words are the user, the second, the offered key, the
+/// certificate, the authorities' fingerprints in one word, and the lists of what is revoked in all
+/// others.
 pub(crate) fn answer(alloc: Global, words: &[&str], told: &Told) -> Result<String> {
     let [
         user,

@@ -22,7 +22,7 @@ use std::alloc::Global;
 
 /// Accepts the certificate that a host shows if all of these hold:
 /// - a line `@cert-authority` of the texts of known_hosts, as OpenSSH reads them, has the key that
-///   signed it for the host at that port, and no line for the host revokes one of the two keys;
+///   signed it for the host at that port, and no line for it revokes one of the two keys;
 /// - `revocations`, such as the list of `RevokedHostKeys` (ssh_config(5)), does not revoke it;
 /// - it is one for hosts, without critical options, with texts that ssh(1) reads: at most 256
 ///   principals, and no zero byte in one or in the key id;

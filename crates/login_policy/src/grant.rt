@@ -19,8 +19,8 @@ pub struct Grant {
     pub force_command: Option<String>,
     /// The addresses that the login may come from, never empty: addresses and networks in CIDR
     /// notation, with commas between. Refuse the login for a list that is malformed, even if an
-    /// address in it matches, as sshd(8) does; and compare the IPv4 address of a client that a
-    /// socket for IPv6 shows as `::ffff:10.1.2.3`, for whom `::/0` is not.
+    /// address in it matches, as sshd(8) does. Compare the IPv4 address of a client that a socket
+    /// for IPv6 shows as `::ffff:10.1.2.3`, for whom `::/0` is not.
     pub source_address: Option<String>,
     /// Whether a security key has to have verified its user: the bit 0x04 in the flags of its
     /// signature, where those of `touch_required` are. Refuse a signature without it.

@@ -26,9 +26,9 @@ use ssh_key::{Certificate, Error, Fingerprint, RawVerifier};
 use std::alloc::Global;
 
 /// Lets a user in who holds the offered key, if the line has a certificate for users of just that
-/// key, which lists the user's name, is valid at that time, in seconds since 1970, by one of the
-/// authorities with these SHA-256 fingerprints (others count for nothing), is not revoked, and has
-/// texts and options that sshd(8) reads (PROTOCOL.certkeys):
+/// key, which lists the user's name. It must be valid at that time, in seconds since 1970, by one
+/// of the authorities with these SHA-256 fingerprints (others count for nothing). It must not be
+/// revoked, and must have texts and options that sshd(8) reads (PROTOCOL.certkeys):
 ///
 /// - no zero byte in the application of a security key, in the key id, a principal, or the name of
 ///   an extension, and at most 256 principals;
@@ -38,17 +38,17 @@ use std::alloc::Global;
 ///
 /// Out of memory aside, it refuses all others with the first of these, where each but `Revoked`
 /// stands in a `Certificate`: the errors of `Certificate::from_openssh`; `CertificateFieldInvalid`
-/// with `CertType` for a certificate for hosts, with `PublicKey` for one of another key or for a
-/// zero byte in the application, with `CriticalOptions` if an option is not known or sshd reads no
-/// such value, with `Extensions` if data stand in a flag or a name has a zero byte, with `KeyId` if
-/// the key id has one, and with `ValidPrincipals` if it lists no principal (such a certificate lets
-/// nobody in: sshd_config(5), `TrustedUserCAKeys`), more than 256, or one with a zero byte, and if
-/// the user's name is empty, which a certificate may list; `CertificateValidation` for another
-/// authority; `Revoked`; the errors of `Certificate::validate_principal_at`. For a line that is no
-/// certificate's, `Memory` means what it means for `Certificate::from_openssh`. Another authority,
-/// a bad signature and a time outside the window are all `CertificateValidation`: for a log
-/// `Certificate::first_refusal_for` tells which, but it asks the verifier first, also about a
-/// stranger's key.
+/// with a field; `CertificateValidation` for another authority; `Revoked`; the errors of
+/// `Certificate::validate_principal_at`. The fields, in this order: `CertType` for a certificate
+/// for hosts; `PublicKey` for one of another key or for a zero byte in the application;
+/// `CriticalOptions` if an option is not known or sshd reads no such value; `Extensions` if data
+/// stand in a flag or a name has a zero byte; `KeyId` if the key id has one; `ValidPrincipals` if
+/// it lists no principal (such a certificate lets nobody in: sshd_config(5), `TrustedUserCAKeys`),
+/// more than 256, or one with a zero byte, and if the user's name is empty, which a certificate may
+/// list. For a line that is no certificate's, `Memory` means what it means for
+/// `Certificate::from_openssh`. Another authority, a bad signature and a time outside the window
+/// are all `CertificateValidation`: for a log `Certificate::first_refusal_for` tells which, but it
+/// asks the verifier first, also about a stranger's key.
 ///
 /// The verifier is asked only about a certificate by one of the authorities that is not revoked: a
 /// key that a client made and signed with never reaches it.
@@ -57,8 +57,8 @@ use std::alloc::Global;
 /// revokes every certificate.
 ///
 /// It does not ask which kinds and sizes the certified key and the authority's have, nor whether a
-/// point lies on its curve: sshd(8) refuses DSA, RSA of fewer than 1,024 bits or more than 16,384,
-/// and points that are compressed or off their curve.
+/// point lies on its curve. But sshd(8) refuses DSA, RSA of fewer than 1,024 bits or more than
+/// 16,384, and points that are compressed or off their curve.
 ///
 /// Whoever calls it has asked the client for a signature under the offered key, and does what the
 /// grant says, the flags in a security key's signature included. The options of a line

@@ -64,7 +64,7 @@ impl OpenSshOptions {
     /// Returns the first option of that name, ASCII letters in either case, or `None` if none has
     /// it. Does not allocate.
     ///
-    /// Fails with `FormatEncoding` exactly if the text is no list of options, even if what is none
+    /// Fails with `FormatEncoding` exactly if the text is no list of options, even if the fault
     /// stands after the option that was asked for. sshd(8) rejects an entry that names `command`,
     /// `from` or `principals` twice: to do the same, count by `iter`. Of two `tunnel` it takes the
     /// last.
@@ -72,9 +72,9 @@ impl OpenSshOptions {
     /// So `get` is not enough for a login. Of two options `expiry-time` sshd takes the earlier
     /// time; of `pty`, `no-pty` and `restrict` the last one counts, and so does that of
     /// `touch-required` and `no-touch-required`, and their order is not told here. And sshd rejects
-    /// an entry with `command`, `from`, `expiry-time` or `principals` without a value, for which
-    /// `value` is `None` here, one with a value in a flag, as `restrict="x"`, and one with
-    /// `principals` and without `cert-authority`.
+    /// an entry with `command`, `from`, `expiry-time` or `principals` without a value (`value` is
+    /// `None`), one with a value in a flag, as `restrict="x"`, and one with `principals` and
+    /// without `cert-authority`.
     pub fn get(&self, name: &str) -> Result<Option<OpenSshOption<'_>>>
         ensures { FindsIn self.now name.now result }
     {

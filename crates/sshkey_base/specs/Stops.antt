@@ -29,8 +29,8 @@ OverrunsThen first read second b m = first b m ⊎ IsOkAnd (read b) (λ x. secon
 abbrev pub OverrunsBoxed : (List ℕ → ℕ → Type 0) → List ℕ → ℕ → Type 0
 OverrunsBoxed inner b m = OverrunsString b m ⊎ IsOkAnd (number_at w32 b) (λ x. (x.0 ≤ length x.1 + m) × inner (take x.0 x.1) (x.0 - length x.1))
 
--- One of the values overruns that stand one after the other, each perhaps depending on the one
--- before it; the number bounds how many stand before it.
+-- One of the values in a row overruns, each of which may depend on the one before it; the number
+-- bounds how many stand before it.
 abbrev pub OverrunsWithin : {A : Type 0} → (Option A → Front A) → (List ℕ → ℕ → Type 0) → ℕ → Option A → List ℕ → ℕ → Type 0
 OverrunsWithin item over n before [] m = ⊥
 OverrunsWithin item over zero before (b ∷ rest) m = ⊥

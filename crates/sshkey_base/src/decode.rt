@@ -184,7 +184,7 @@ pub fn decode_boxed<T: Decode + Drop, R: Reader>(
 ///
 /// The bytes taken spell the value, and the rest is left. Nothing is left after a value that does
 /// not end by itself. Unless memory runs out, a sound source is rejected only if it begins with no
-/// value, and with `Memory` only if the value needs some: a stated length that exceeds what is left
+/// value, and with `Memory` only if the value needs some. A stated length that exceeds what is left
 /// fails with `Length`.
 pub fn decode_front<T: Decode, R: Reader>(alloc: Global, reader: &mut R) -> Result<T, T::Error>
     ensures gives { Gives T.means T.Error.cause T.format.read

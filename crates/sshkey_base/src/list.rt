@@ -90,9 +90,9 @@ fn texts_from<R: Reader>(alloc: Global, reader: &mut R) -> Result<Vec<String>>
 /// PROTOCOL.certkeys): a length of four bytes, and strings up to the end of that part.
 ///
 /// Fails with `Length` if the stated length is larger than the remaining input, and then allocates
-/// nothing, or if a text's length is larger than what is left of the list; with `CharacterEncoding`
-/// for a text that is not UTF-8. Over a sound source, fails with `Memory` only if the first text
-/// stands whole in the list.
+/// nothing, or if a text's length is larger than what is left of the list. Fails with
+/// `CharacterEncoding` for a text that is not UTF-8. Over a sound source, fails with `Memory` only
+/// if the first text stands whole in the list.
 #[tactic(auto, using(crate::proofs::Boxes::boxes))]
 impl Decode for Vec<String> {
     type Error = Error;

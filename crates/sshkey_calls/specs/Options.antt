@@ -13,7 +13,7 @@ pub record BeginsWithOption (name value : List ℕ) (bytes rest : List ℕ) : Ty
   pub all : bytes ≡ flat (option (record { name = name; value = value }) nesting) ++ rest
 
 -- 0 and the name and the value of the option that begins there, the name after its length of four
--- bytes and the value last, 3 exactly at the end of the bytes, and 13 where none begins. But for 0,
+-- bytes and the value last. 3 exactly at the end of the bytes, and 13 where none begins. But for 0,
 -- the answer stays as it was.
 pub record FindsOption (bytes : List ℕ) (place n : ℕ) (was o : OptionParts) : Type 0 where
   pub found : n ≡ 0 → BeginsWithOption (bytes_of o.name bytes) (bytes_of o.value bytes) (drop place bytes) (drop o.next bytes)

@@ -36,9 +36,8 @@ pub(crate) fn value(alloc: Global, kind: &str, bytes: &[u8]) -> Result<String> {
     }
 }
 
-/// At how many of the places a length of `ffffffff` is refused as such if the source breaks off
-/// after it and the rest of the value is missing; or at which place it is not. A place is two
-/// bytes.
+/// At how many of the places a length of `ffffffff` is refused as such, or at which it is not. The
+/// source breaks off after that length, and the rest of the value is missing. A place is two bytes.
 pub(crate) fn overlong(alloc: Global, kind: &str, parts: &[Vec<u8>]) -> Result<String> {
     let (bytes, places) = (part(parts, 0), part(parts, 1));
     match kind {

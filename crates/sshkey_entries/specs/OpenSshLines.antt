@@ -1,5 +1,5 @@
 -- The lines of authorized_keys and known_hosts as OpenSSH reads them (sshd(8), "AUTHORIZED_KEYS
--- FILE FORMAT" and "SSH_KNOWN_HOSTS FILE FORMAT"): a line that begins with a `#` is a comment, and
+-- FILE FORMAT" and "SSH_KNOWN_HOSTS FILE FORMAT"). A line that begins with a `#` is a comment, and
 -- fields are separated by spaces or tabs, which may also stand in front.
 use Rattle.std.specs.Prelude.{◌≡◌, ◌≢◌, ◌⊎◌, ℕ, List, [], ◌++◌, length, slice_index, Option, Some, None}
 use Rattle.sshkey_model.specs.Lines.{space, IsWithout}

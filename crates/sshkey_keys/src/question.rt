@@ -78,14 +78,14 @@ impl<'a> Question<'a> {
 
 impl KeyData {
     /// What a verifier is asked about a signature of the message under this key, or `None` if the
-    /// key and the signature's algorithm do not go together: then no verifier is asked, and the
+    /// key and the signature's algorithm do not go together. Then no verifier is asked, and the
     /// signature counts for nothing. `verify` asks its verifier just this. Does not allocate.
     ///
     /// A DSA, an Ed25519 or an RSA key goes together with its own algorithm, RSA with a hash, and
-    /// an ECDSA key with that of its curve: the question is about the key, the message and the
-    /// signature's bytes. A security key goes together with its own algorithm: the question is
-    /// about the plain key within; the message is the SHA-256 digest of the application, the flags,
-    /// the counter and the digest of the message (PROTOCOL.u2f); and the signature is what comes
+    /// an ECDSA key with that of its curve. The question is about the key, the message and the
+    /// signature's bytes. A security key goes together with its own algorithm, and the question is
+    /// about the plain key within. The message is the SHA-256 digest of the application, the flags,
+    /// the counter and the digest of the message (PROTOCOL.u2f), and the signature is what comes
     /// before flags and counter.
     pub fn question<'a>(
         &'a self,

@@ -30,8 +30,8 @@ abbrev pub BeginsList : ℕ → ℕ → List ℕ → Result Krl Error → Type 0
 BeginsList version date comment (Ok k) = (krl_of k ≡ begun version date comment) × (krl_bytes k ≡ flat (header version date comment))
 BeginsList version date comment (Err e) = RefusesToWrite (header version date comment) e
 
--- The bytes spell the list before with one section more, which follows the others as these parts;
--- or they are as they were, if a string in the parts is too long or memory ran out.
+-- The bytes spell the list before with one section more, which follows the others as these parts.
+-- Or they are as they were, if a string in the parts is too long or memory ran out.
 abbrev pub Adds : Section → Parts → List ℕ → Result (Unit {0}) Error → List ℕ → Type 0
 Adds section parts before (Ok _) after = (krl_in after ≡ with_section (krl_in before) section) × (after ≡ before ++ flat parts)
 Adds section parts before (Err e) after = RefusesToWrite parts e × (after ≡ before)

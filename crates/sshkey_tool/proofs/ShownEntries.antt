@@ -97,7 +97,7 @@ all_shown KnownHosts = all_of IsKnownHost known_text
 
 -- ---- what is written
 
--- The lines of the first entries, the last of them still to be written.
+-- The lines of the first entries, those at the end still to be written.
 pub record WrittenSoFar (file : EntryFile) (text : List ℕ) (left : List (List ℕ)) (old now : Option (List ℕ)) (kept : List ℕ) (status : ℕ) : Type 0 where
   pub shown : List ℕ
   pub refused : Bool

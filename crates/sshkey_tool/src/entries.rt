@@ -15,7 +15,7 @@ use sshkey_known_hosts::Entry as KnownHost;
 use std::alloc::{AllocError, Global};
 use std::io::Write;
 
-/// At least this many bytes of lines are written at once.
+/// At least this many bytes of lines are written at once, but for the last.
 const PIECE: usize = 0x1_0000;
 
 /// The text of an entry of authorized_keys.

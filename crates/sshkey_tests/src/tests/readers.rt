@@ -120,8 +120,8 @@ fn a_front_before_a_fault(rt: HostRuntime) {
     assert!(rt; source.remaining_len() == 20 && !source.is_finished());
 }
 
-/// The fault of two strings after their count, the second of which states `len` bytes, when eight
-/// of them are missing.
+/// The fault of two strings after their count, the second of which states `len` bytes, if eight of
+/// them are missing.
 fn fault_of_second(alloc: Global, len: u8) -> Option<Error> {
     let bytes = [0, 0, 0, 2, 0, 0, 0, 1, 42, 0, 0, 0, len];
     Counted::<Bytes>::decode(alloc, &mut Faulty::new(&bytes, 8)).err()

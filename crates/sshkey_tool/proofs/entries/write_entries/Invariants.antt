@@ -2,7 +2,7 @@ use Rattle.std.specs.Prelude.{string_bytes}
 use Rattle.sshkey_tool.proofs.ShownEntries.{WrittenSoFar}
 use Rattle.sshkey_tool.proofs.entries.write_entries.Given as goal
 
--- what was made of the first entries, the last lines of them kept, and the entries that are left
+-- what was made of the first entries, their last lines kept, and the entries that are left
 abbrev pub invariant-loop-entry : goal.invariant-loop-entry
 invariant-loop-entry g l =
     (goal.iterator-loop-entry g).can_next l.entry-iterator ×
