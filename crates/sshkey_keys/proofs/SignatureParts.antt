@@ -1,4 +1,4 @@
--- What stands behind the name of an algorithm.
+-- What follows the name of an algorithm.
 use Rattle.std.proofs.Common.{◌≡◌, inl, inr, ℕ, true, List, [], Result, Ok, Err, IsOk, refl}
 use Rattle.sshkey_model.specs.Reading.{number_at, bytes_at, string_at}
 use Rattle.sshkey_model.specs.Names.{Algorithm}
@@ -13,7 +13,7 @@ use Rattle.sshkey_terms.specs.Terms.{IsMapped}
 use Rattle.sshkey_keys.specs.KeyFormats.{signature_under, signature_with}
 use Rattle.sshkey_keys.specs.SignatureForms.{NeedsTrailed, OverrunsBlob, OverrunsInside, OverrunsNumbers}
 
--- a string of no bytes is refused where a trailer stands behind it
+-- a string of no bytes is refused if a trailer follows it
 none_before : (a : Algorithm) → has_trailer a ≡ true → IsOk (string_from a []) → ⊥
 unfolding ecdsa_blob_from string_at number_at bytes_at
 none_before Algorithm.SkEcdsa trailed ok = cc

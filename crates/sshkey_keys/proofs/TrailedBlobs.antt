@@ -67,7 +67,7 @@ string_stopped a s c h = record {
     more : RanOut c NeedsString s → RanOut c (NeedsTrailed (string_from a)) s
     more m = record { memory = m.memory; needed = inl m.needed }
 
--- the same where nothing stands behind it
+-- the same if nothing follows it
 pub judged_stopped : (a : Algorithm) (s : Source) (c : Cause) → Stopped c string_at NeedsString OverrunsString s → Stopped c (checked_at (string_from a) string_at) NeedsString (OverrunsInside (OverrunsNumbers a) 0) s
 judged_stopped a s c h = record { takes = λ ok. h.takes (step_ok (string_at s.left) _ ok); past = refused_past a 0 s c h }
 
@@ -83,7 +83,7 @@ judged_past a s t b (Err e) read h = go (string_from a b) refl h
       past = λ o. let long = numbers_lengths a b (read_inside a 0 s t b read o).1 in inl cc;
     }
 
--- the string was read, and what stands behind it is refused: so no length passed
+-- the string was read, and what follows it is refused: so no length passed
 pub trailer_stopped : (a : Algorithm) (s t : Source) (b : List ℕ) (c : Cause) → Reads (λ x. x) string_at s b t → Refuses t.missing c (bytes_at 5 t.left) → Stopped c (trailed_at (string_from a)) (NeedsTrailed (string_from a)) (OverrunsInside (OverrunsNumbers a) 5) s
 trailer_stopped a s t b c read h = record {
   takes = λ ok. not_taken (trailed_at (string_from a) s.left) h.met (rw (read.value, h.is) refl) ok;

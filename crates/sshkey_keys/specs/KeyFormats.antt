@@ -1,4 +1,4 @@
--- What stands behind a name, keys and signatures, by the terms that they are read as.
+-- What follows a name, keys and signatures, by the terms that they are read as.
 use Rattle.std.proofs.Common.{◌≡◌, ◌++◌, ◌==◌, if◌then◌else◌, inl, inr, ℕ, Bool, true, false, List, length, IsOk, Result, Ok, Err, refl}
 use Rattle.std.specs.Prelude.{IsOkAnd}
 use Rattle.sshkey_model.specs.Reading.{Fault, Length, ◌>>=◌, bytes_at, string_at, checked_at}
@@ -72,7 +72,7 @@ abbrev pub key_format : Format Key
 key_format = chosen_of name_format body_format key_chosen key_grammar
 
 -- ---- a signature: the name, and then a string of bytes that are well-formed, with a trailer
--- behind it for security keys
+-- after it for security keys
 
 ecdsa_lengths : (size : ℕ) (b : List ℕ) → OverrunsComponents size b → ecdsa_blob_from size b ≡ Err Length
 unfolding ecdsa_blob_from

@@ -31,12 +31,12 @@ OverrunsNumbers (Algorithm.Ecdsa c) b = OverrunsComponents (field_size c) b
 OverrunsNumbers Algorithm.SkEcdsa b = OverrunsComponents (field_size Nistp256) b
 OverrunsNumbers _ b = ⊥
 
--- The length of the string passes; or the string is all there, with so many bytes behind it, and a
--- length in it passes.
+-- The length of the string passes; or the string is all there, with n bytes after it, and a length
+-- in it passes.
 abbrev pub OverrunsInside : (List ℕ → Type 0) → ℕ → List ℕ → ℕ → Type 0
 OverrunsInside inside n b m = OverrunsString b m ⊎ IsOkAnd (string_at b) (λ x. IsOk (bytes_at n x.1) × inside x.0)
 
--- the same of what stands behind that name, with a security key's five bytes behind the string
+-- the same of what follows that name, with a security key's five bytes after the string
 abbrev pub OverrunsBlob : Algorithm → List ℕ → ℕ → Type 0
 OverrunsBlob a = OverrunsInside (OverrunsNumbers a) (if has_trailer a then 5 else 0)
 

@@ -28,7 +28,7 @@ unfolding flat
 first_string n m p on q one other e =
     prefix string_reads n m (flat p) (flat on ++ flat q) tt (fits_first (string n) p one) tt (fits_first (string m) on (fits_first (string m & on) q other)) (e ∙ append_assoc (flat (string m)) (flat on) (flat q))
 
--- one string and nothing more is no string and a box behind it
+-- one string and nothing more is no string and a box after it
 one_string : (k nonce : List ℕ) (p q : Parts) → Fits (string k) → Fits (string nonce & p) → flat (string k) ≡ flat (string nonce & p) ++ flat (box q) → ⊥
 unfolding flat
 one_string k nonce p q one other e =

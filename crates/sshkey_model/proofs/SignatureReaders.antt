@@ -13,7 +13,7 @@ use Rattle.sshkey_model.specs.Grammar.{Checks}
 use Rattle.sshkey_model.proofs.CombinedReaders.{bind_assoc, bind_ok, done, ok_is, met, fits_both, fits_first, fits_second, ReadsFront, Any, string_reads, bytes_reads, then_reads, checked_reads, checked_string_reads, to_form, as_checks, kept_bytes, same_front, as_front_form}
 use Rattle.sshkey_model.proofs.NameReaders.{algorithm_reads}
 
--- a positive number of at most so many bytes
+-- a positive number of at most `size` bytes
 module _ (size : ℕ) where
   short : (o : Option (List ℕ)) (p rest out : List ℕ) → ok_or o Crypto ≡ Ok p → cond (ltb (length p) (suc size)) (done rest) (Err Length) ≡ Ok out → (has_part size o ≡ true) × (rest ≡ out)
   short None p rest out e f = absurd cc
@@ -66,7 +66,7 @@ some_checks = as_checks (λ b. ltb-true _ _) (λ b. lt-ltb _ _) (kept_bytes (λ 
 none_checks : Checks Any bytes (λ (d : List ℕ). ⊥) bytes none_from
 none_checks = record { takes = λ a b was e. absurd cc; again = λ b is. absurd is }
 
--- ---- a trailer of five bytes behind the string
+-- ---- a trailer of five bytes after the string
 
 front_of : (x t : List ℕ) → HasLength 5 t → without_trailer (x ++ t) ≡ x
 front_of x t len = take_at x t (length (x ++ t) - 5) (omega (arith, length-append x t))

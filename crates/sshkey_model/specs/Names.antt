@@ -85,7 +85,7 @@ abbrev pub behind_first : ℕ → Option (List ℕ × List ℕ) → Option (List
 behind_first c None = None
 behind_first c (Some p) = Some (c ∷ p.0, p.1)
 
--- what stands before the first at sign, and behind it
+-- what stands before the first at sign, and after it
 abbrev pub cut : List ℕ → Option (List ℕ × List ℕ)
 cut [] = None
 cut (c ∷ rest) = if c == at_sign then Some ([], rest) else behind_first c (cut rest)

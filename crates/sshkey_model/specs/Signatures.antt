@@ -14,7 +14,7 @@ abbrev pub has_part : ℕ → Option (List ℕ) → Bool
 has_part size None = false
 has_part size (Some p) = nat_lt (length p) (suc size)
 
--- a positive number of at most so many bytes
+-- a positive number of at most `size` bytes
 abbrev pub IsComponent : ℕ → List ℕ → Type 0
 IsComponent size r = IsMpint r × (has_part size (positive_part r) ≡ true)
 
@@ -39,7 +39,7 @@ without_trailer blob = take (length blob - 5) blob
 abbrev pub trailer : List ℕ → List ℕ
 trailer blob = drop (length blob - 5) blob
 
--- These five bytes stand behind the string.
+-- These five bytes follow the string.
 abbrev pub has_trailer : Algorithm → Bool
 has_trailer Algorithm.SkEcdsa = true
 has_trailer Algorithm.SkEd25519 = true
@@ -70,7 +70,7 @@ IsSignature g = IsAlgorithm g.algorithm × IsSignatureBlob g.algorithm g.blob
 abbrev pub positive_from : Whole (List ℕ)
 positive_from b = mpint_from b >>= λ r. ok_or (positive_part r) Crypto
 
--- what stands behind a positive number of at most so many bytes
+-- what follows a positive number of at most `size` bytes
 abbrev pub after_component : ℕ → Whole (List ℕ)
 after_component size b = do
   x ← string_at b
