@@ -7,8 +7,7 @@ use Rattle.std.proofs.lemmas.List.{length-append, take_at, drop_at}
 use Rattle.std.proofs.lemmas.Str.{IsUtf8-append, IsUtf8-from_ascii, IsUtf8-take, IsUtf8-drop, IsCharBoundary-before_ascii}
 use Rattle.std.proofs.Math.Seq.{get_or-append_seam}
 use Rattle.sshkey_model.specs.CertificateNames.{certificate_name, suffix, with_suffix}
-use Rattle.sshkey_model.specs.Lines.{written}
-use Rattle.sshkey_model.specs.Names.{Algorithm, Dsa, Ecdsa, Ed25519, Rsa, SkEcdsa, SkEd25519, Other, Nistp256, Nistp384, Nistp521, algorithm_name, are_ascii, at_sign, cut}
+use Rattle.sshkey_model.specs.Names.{Algorithm, Ecdsa, Other, Nistp256, algorithm_name, are_ascii, at_sign, cut}
 use Rattle.sshkey_model.specs.Parts.{bytes, flat}
 use Rattle.sshkey_model.proofs.CertificateNameReaders.{cut_parts}
 use Rattle.sshkey_base.specs.Sink.{Sink, Written}
@@ -37,15 +36,9 @@ utf8_other n u (Some p) e =
     subst IsUtf8 (sym (certificate_name-cut n p e)) (IsUtf8-append (p.0 ++ suffix) (at_sign ∷ p.1) (IsUtf8-append p.0 suffix sides.0 (ascii_text suffix refl)) sides.1)
 
 pub utf8_name : (a : Algorithm) → IsUtf8 (algorithm_name a) → IsUtf8 (certificate_name a)
-utf8_name Dsa u = ascii_text (certificate_name Dsa) refl
 utf8_name (Ecdsa Nistp256) u = ascii_text (certificate_name (Ecdsa Nistp256)) refl
-utf8_name (Ecdsa Nistp384) u = ascii_text (certificate_name (Ecdsa Nistp384)) refl
-utf8_name (Ecdsa Nistp521) u = ascii_text (certificate_name (Ecdsa Nistp521)) refl
-utf8_name Ed25519 u = ascii_text (certificate_name Ed25519) refl
-utf8_name (Rsa h) u = ascii_text (certificate_name (Rsa h)) refl
-utf8_name SkEcdsa u = ascii_text (certificate_name SkEcdsa) refl
-utf8_name SkEd25519 u = ascii_text (certificate_name SkEd25519) refl
 utf8_name (Other n) u = utf8_other n u (cut n) refl
+utf8_name a u = ascii_text (certificate_name a) refl
 
 -- ---- a name in memory
 

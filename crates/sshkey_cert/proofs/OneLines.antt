@@ -3,7 +3,7 @@ use Rattle.std.proofs.Common.{◌≡◌, ◌≢◌, ◌↔◌, ◌&&◌, ℕ, ze
 use Rattle.std.proofs.lemmas.Bool.{and_parts}
 use Rattle.sshkey_model.specs.CertificateNames.{certificate_name, suffix, with_suffix}
 use Rattle.sshkey_model.specs.Lines.{IsWithout, written}
-use Rattle.sshkey_model.specs.Names.{Algorithm, Dsa, Ecdsa, Ed25519, Rsa, SkEcdsa, SkEd25519, Other, Nistp256, Nistp384, Nistp521, Sha256, Sha512, algorithm_name, at_sign, cut}
+use Rattle.sshkey_model.specs.Names.{Algorithm, Ecdsa, Rsa, Other, Nistp256, Sha256, algorithm_name, at_sign, cut}
 use Rattle.sshkey_model.proofs.CertificateNameReaders.{cut_parts}
 use Rattle.sshkey_base.proofs.CertificateTypes.{certificate_name-cut}
 use Rattle.sshkey_public.specs.OneLine.{IsOneLine, line_feed, carriage_return}
@@ -57,17 +57,10 @@ abbrev HaveBoth : Algorithm → Type 0
 HaveBoth a = IsOneLine (certificate_name a) ↔ IsOneLine (algorithm_name a)
 
 one_line_name : (a : Algorithm) → HaveBoth a
-one_line_name Dsa = both (plain (certificate_name Dsa) refl refl) (plain (algorithm_name Dsa) refl refl)
 one_line_name (Ecdsa Nistp256) = both (plain (certificate_name (Ecdsa Nistp256)) refl refl) (plain (algorithm_name (Ecdsa Nistp256)) refl refl)
-one_line_name (Ecdsa Nistp384) = both (plain (certificate_name (Ecdsa Nistp384)) refl refl) (plain (algorithm_name (Ecdsa Nistp384)) refl refl)
-one_line_name (Ecdsa Nistp521) = both (plain (certificate_name (Ecdsa Nistp521)) refl refl) (plain (algorithm_name (Ecdsa Nistp521)) refl refl)
-one_line_name Ed25519 = both (plain (certificate_name Ed25519) refl refl) (plain (algorithm_name Ed25519) refl refl)
-one_line_name (Rsa None) = both (plain (certificate_name (Rsa None)) refl refl) (plain (algorithm_name (Rsa None)) refl refl)
-one_line_name (Rsa (Some Sha256)) = both (plain (certificate_name (Rsa (Some Sha256))) refl refl) (plain (algorithm_name (Rsa (Some Sha256))) refl refl)
-one_line_name (Rsa (Some Sha512)) = both (plain (certificate_name (Rsa (Some Sha512))) refl refl) (plain (algorithm_name (Rsa (Some Sha512))) refl refl)
-one_line_name SkEcdsa = both (plain (certificate_name SkEcdsa) refl refl) (plain (algorithm_name SkEcdsa) refl refl)
-one_line_name SkEd25519 = both (plain (certificate_name SkEd25519) refl refl) (plain (algorithm_name SkEd25519) refl refl)
+one_line_name (Rsa (Some Sha256)) = both (plain (certificate_name (Rsa None)) refl refl) (plain (algorithm_name (Rsa (Some Sha256))) refl refl)
 one_line_name (Other n) = other_name n (cut n) refl
+one_line_name a = both (plain (certificate_name a) refl refl) (plain (algorithm_name a) refl refl)
 
 -- the line under the one name and under the other
 pub one_line_certified : (a : Algorithm) (blob comment : List ℕ) → IsOneLine (written (algorithm_name a) blob comment) ↔ IsOneLine (written (certificate_name a) blob comment)
