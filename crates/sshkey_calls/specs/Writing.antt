@@ -1,5 +1,5 @@
 -- What is answered of bytes that are written to a room.
-use Rattle.std.specs.Prelude.{◌≡◌, ◌≢◌, ◌⊎◌, ℕ, List, ◌++◌, length, take, Result, Ok, Err}
+use Rattle.std.specs.Prelude.{◌≡◌, ◌⊎◌, ℕ, List, ◌++◌, length, take}
 use Rattle.sshkey_base.specs.declared.encoding.Error.TheVariants.{Length}
 use Rattle.sshkey_base.specs.declared.error.Error.{Error}
 use Rattle.sshkey_base.specs.declared.error.Error.TheVariants.{Encoding, Memory}
@@ -15,12 +15,6 @@ WritesContent Wanted = GivesValue Wanted (λ content. content) (λ content len. 
 -- What a call answers that writes the content that the value has which the bytes spell.
 abbrev pub WritesOf : {V W : Type 0} → (V → List ℕ → Type 0) → Front W → (V → List ℕ) → List ℕ → ℕ → ℕ → ℕ → List ℕ → List ℕ → Type 0
 WritesOf Spells read content_of bytes n was len before after = TellsOf Spells read bytes (λ v. WritesContent (λ content. content ≡ content_of v) n was len before after) n ((len ≡ was) × (after ≡ before))
-
--- What a call gives that looks for the value that `Is` tells: the value, or the number to answer
--- with; but for 1, which is memory, there is none then.
-abbrev pub FindsValue : {X Y : Type 0} → (Y → Type 0) → (X → Y) → Result X ℕ → Type 0
-FindsValue Is means (Ok x) = Is (means x)
-FindsValue {Y = Y} Is means (Err n) = (n ≢ 0) × (n ≢ 2) × (n ≢ 1 → (y : Y) → Is y → ⊥)
 
 -- ---- laid out, before it is written
 
