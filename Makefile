@@ -1,6 +1,6 @@
 # Builds what other languages link, of the proved crate sshkey_c, and the programs of helpers/:
 #
-#     out/libsshkey.a  out/libsshkey.so  out/libsshkey.so.0  out/sshkey.pc
+#     out/libsshkey.a  out/libsshkey.so  out/libsshkey.so.1  out/sshkey.pc
 #     out/sshkey-check  out/sshkey-principals  out/sshkey-authorized-keys
 #
 # and with `make go`, which takes Go (Debian: golang-go), the example in Go: out/check-go;

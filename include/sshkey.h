@@ -44,11 +44,11 @@
 #include <stddef.h>
 #include <stdint.h>
 
-/* The version of this header, as sshkey_version tells that of the library: 100 is 0.1.0. */
-#define SSHKEY_VERSION 100
+/* The version of this header, as sshkey_version tells that of the library: 200 is 0.2.0. */
+#define SSHKEY_VERSION 200
 
 /* What sshkey_abi answers where the library has the structs, the calls and the numbers below. */
-#define SSHKEY_ABI 0
+#define SSHKEY_ABI 1
 
 #ifdef __cplusplus
 extern "C" {
@@ -60,7 +60,7 @@ extern "C" {
  * third. Takes no memory. */
 uint32_t sshkey_version(void);
 
-/* The number of its ABI, with which its name ends: libsshkey.so.0. It stays while calls and numbers
+/* The number of its ABI, with which its name ends: libsshkey.so.1. It stays while calls and numbers
  * are only added; where it is not SSHKEY_ABI, make no other call. A program that is linked with the
  * library need not ask: its linker and its loader do. Takes no memory. */
 uint32_t sshkey_abi(void);

@@ -68,7 +68,7 @@ from ._values import (
     Status,
 )
 
-__version__ = "0.1.0"
+__version__ = "0.2.0"
 
 __all__ = [
     "ALL_PRINCIPALS", "FOREVER", "Algorithm", "AllPrincipals", "AuthorizedEntry", "BytesLike", "CertificateFields",

@@ -113,7 +113,7 @@ HERE = os.path.dirname(os.path.realpath(__file__))
 BUILT = os.path.join(HERE, "..", "..", "..", "out", "libsshkey.so")
 IS_IN_SOURCES = HERE.split(os.sep)[-3:-1] == ["bindings", "python"]
 # SSHKEY_ABI of the header from which this is written
-ABI = 0
+ABI = 1
 # bytes that are only read: a pointer and a length
 BYTES = (ctypes.c_char_p, ctypes.c_size_t)
 # bytes, and a place in them

@@ -108,7 +108,7 @@ pub(crate) struct Draft<'a> {
 const _: () = assert!(std::mem::size_of::<usize>() == 8);
 
 /// SSHKEY_ABI of the header from which this crate is written.
-const ABI: u32 = 0;
+const ABI: u32 = 1;
 
 /// Panics where the library has another ABI than this crate needs, which is asked once.
 fn expect_abi() {
