@@ -10,6 +10,7 @@
 
 #include "judge.h"
 #include "program.h"
+#include "sha1.h"
 #include "show.h"
 #include "sshsig.h"
 #include "verify.h"
@@ -46,6 +47,11 @@ typedef struct {
   size_t count; /* of the lines that are answered */
   bool is_valid;
 } request;
+
+/* Whether it can't tell: nothing follows of what is asked about. */
+static bool is_untold(uint32_t answer) {
+  return answer == SSHKEY_MEMORY || answer == SSHKEY_REVOCATIONS_UNREADABLE;
+}
 
 /* Adds the authority of a line: SSHKEY_DONE, or why it has no key. */
 static uint32_t read_authority(const char *line, size_t length, size_t number, void *given) {
@@ -87,25 +93,38 @@ static const char *path_of(const request *asked) {
 }
 
 /* Shows the certificate of a line, below where it stands, as ssh-keygen does. */
-static uint32_t show_asked(judge_blob certificate, const request *asked, size_t number) {
+static uint32_t show_asked(judge_blob certificate, const request *asked, size_t number,
+                           const char *signed_by) {
   if (asked->path && number == 1)
     printf("%s:\n", asked->path);
   else
     printf("%s:%zu:\n", path_of(asked), number);
-  return show_certificate(certificate);
+  return show_certificate(certificate, signed_by);
 }
 
-/* Answers what is asked about a line; SSHKEY_MEMORY where it can't tell. */
+/* Shows what stands before a signature by SHA-1: SSHKEY_RSA_SHA1, or why not. */
+static uint32_t show_sha1(const char *line, size_t length, const request *asked, size_t number) {
+  judge_blob certificate = {NULL, 0};
+  uint32_t answer = judge_read_sha1(line, length, &certificate);
+  if (answer != SSHKEY_RSA_SHA1) return answer;
+  uint32_t shown = show_asked(certificate, asked, number, "ssh-rsa");
+  free(certificate.bytes);
+  return shown == SSHKEY_DONE ? answer : shown;
+}
+
+/* Answers what is asked about a line: SSHKEY_DONE, or why it can't tell. */
 static uint32_t answer_line(const char *line, size_t length, size_t number, void *given) {
   request *asked = given;
   judge_blob certificate = {NULL, 0};
   uint32_t answer = judge_read_line(line, length, SSHKEY_LINE_CERTIFICATE, &certificate);
   if (answer == SSHKEY_DONE)
     answer = asked->authorities ? judge_asked(certificate, asked)
-                                : show_asked(certificate, asked, number);
+                                : show_asked(certificate, asked, number, NULL);
+  else if (answer == SSHKEY_RSA_SHA1 && !asked->authorities)
+    answer = show_sha1(line, length, asked, number);
   free(certificate.bytes);
   asked->count++;
-  if (answer == SSHKEY_MEMORY) return answer;
+  if (is_untold(answer)) return answer;
   if (asked->authorities) puts(answer == SSHKEY_DONE ? "valid" : "refused");
   if (answer == SSHKEY_DONE) return answer;
   asked->is_valid = false;
@@ -142,8 +161,8 @@ static int verify_file(judge_blob signature, FILE *file, const request *asked) {
       asked->signers
           ? judge_signer_of_digest(signature, asked->name_space, digest, &asked->allowed)
           : judge_sshsig_of_digest(signature, asked->name_space, digest, asked->by);
-  if (answer == SSHKEY_MEMORY) {
-    program_complain("%s", judge_meaning(answer));
+  if (is_untold(answer)) {
+    program_complain("%s: %s (%" PRIu32 ")", asked->signature, judge_meaning(answer), answer);
     return UNTOLD;
   }
   puts(answer == SSHKEY_DONE ? "valid" : "refused");

@@ -101,6 +101,8 @@ enum {
   SSHKEY_UNSUPPORTED_VERSION = 22, /* an SSH signature of a version above 1, or a revocation list
                                       of another version than 1 */
   SSHKEY_OTHER_FAULT = 23,        /* never returned */
+  SSHKEY_RSA_SHA1 = 24,           /* an RSA signature by SHA-1, which no call reads: to them it is
+                                     SSHKEY_LENGTH. judge_read_line of helpers/ tells it */
 
   /* 30 to 34: what is wrong with a certificate that is not valid; the first of these */
   SSHKEY_NOT_SIGNED = 30,          /* it raises no question, or `is_verified` is not 1; a signature
@@ -124,11 +126,15 @@ enum {
   SSHKEY_HOST_CHANGED = 52,    /* a line for the host has another key, and none has this one */
   SSHKEY_HOST_UNKNOWN = 53,    /* no line without a marker is for the host */
 
-  /* 55, 56, and then 30: a signature does not count; the first of these that holds */
+  /* 55, 56 or 58, and then 30: a signature does not count; the first of these that holds */
   SSHKEY_SIGNER_NOT_ALLOWED = 55, /* no line lets its key sign for the identity, there and then */
-  SSHKEY_SIGNER_REVOKED = 56,     /* its key is revoked, or the revocation file can't be read */
+  SSHKEY_SIGNER_REVOKED = 56,     /* its key is revoked */
 
-  /* of a revocation list */
+  SSHKEY_ELSEWHERE = 57,              /* the client's address is none of those that are allowed */
+  SSHKEY_REVOCATIONS_UNREADABLE = 58, /* the revocation file can't be read, and so revokes all */
+  SSHKEY_KEY_NOT_ACCEPTED = 59,       /* a kind or a size of key that OpenSSH does not let in */
+
+  /* of a revocation list or file */
   SSHKEY_NOT_REVOKED = 60 /* it does not revoke the key or the certificate */
 };
 
@@ -142,13 +148,16 @@ static inline const char *sshkey_answer_name(uint32_t answer) {
     SSHKEY_NAMED(FORMAT); SSHKEY_NAMED(ALGORITHM_UNKNOWN); SSHKEY_NAMED(CRYPTO);
     SSHKEY_NAMED(ECDSA); SSHKEY_NAMED(TIME); SSHKEY_NAMED(NAMESPACE);
     SSHKEY_NAMED(PUBLIC_KEY); SSHKEY_NAMED(UNSUPPORTED_VERSION); SSHKEY_NAMED(OTHER_FAULT);
+    SSHKEY_NAMED(RSA_SHA1);
     SSHKEY_NAMED(NOT_SIGNED); SSHKEY_NAMED(UNTRUSTED_AUTHORITY); SSHKEY_NAMED(INVALID_TIME);
     SSHKEY_NAMED(OUT_OF_WINDOW); SSHKEY_NAMED(UNLISTED_PRINCIPAL);
     SSHKEY_NAMED(UNSUPPORTED); SSHKEY_NAMED(OTHER_NAMESPACE);
     SSHKEY_NAMED(PRINCIPALS); SSHKEY_NAMED(EMPTY_WINDOW);
     SSHKEY_NAMED(HOST_REVOKED); SSHKEY_NAMED(HOST_UNREADABLE);
     SSHKEY_NAMED(HOST_CHANGED); SSHKEY_NAMED(HOST_UNKNOWN);
-    SSHKEY_NAMED(SIGNER_NOT_ALLOWED); SSHKEY_NAMED(SIGNER_REVOKED); SSHKEY_NAMED(NOT_REVOKED);
+    SSHKEY_NAMED(SIGNER_NOT_ALLOWED); SSHKEY_NAMED(SIGNER_REVOKED); SSHKEY_NAMED(ELSEWHERE);
+    SSHKEY_NAMED(REVOCATIONS_UNREADABLE); SSHKEY_NAMED(KEY_NOT_ACCEPTED);
+    SSHKEY_NAMED(NOT_REVOKED);
     default: return "no answer";
   }
 #undef SSHKEY_NAMED
@@ -437,15 +446,18 @@ uint32_t sshkey_sshsig_question_of_digest(const uint8_t *signature, size_t signa
 
 /* Whether an SSH signature counts as the identity's in that namespace, by a text of allowed
  * signers (ssh-keygen(1)), at that second (since 1970), as `ssh-keygen -Y verify` says, or more
- * strictly (docs/CALLING.md). `revoked` is what the file of its `-r` has: a list, or keys, one a
- * line; no bytes where there is none. `is_verified` is 1 if the answer to the question of this
- * signature, in the namespace and of the message, is yes; any other number is no. Ask with 0
+ * strictly (docs/CALLING.md), but for times without Z, which are of UTC here and of the machine's
+ * zone there: such a line may count some hours longer, or earlier, than for ssh-keygen. `revoked`
+ * is what the file of its `-r` has: a list, or keys, one a line; a file of no bytes revokes
+ * nothing. Who asks no file passes a list of nothing (judge_no_revocations in helpers/judge.h), and
+ * never what is left where a file was not read. `is_verified` is 1 if the answer to the question of
+ * this signature, in the namespace and of the message, is yes; any other number is no. Ask with 0
  * first: SSHKEY_NOT_SIGNED says that its key may sign, and with any other answer there is nothing
  * to verify.
  *
  * SSHKEY_DONE exactly if the bytes are a signature in the namespace that raises a question,
  * without reserved bytes, `is_verified` is 1, a line lets its key sign for the identity in the
- * namespace at that time, and the key is not revoked (memory aside). Else 55, 56 or
+ * namespace at that time, and the key is not revoked (memory aside). Else 55, 56, 58 or
  * SSHKEY_NOT_SIGNED, 10 to 29 for bytes that are no signature, or SSHKEY_TEXT. SSHKEY_MEMORY only
  * where a part of the signature is whole. Also ask: docs/CHECKLIST.md, "A signature". */
 uint32_t sshkey_signer_verdict(const uint8_t *signers, size_t signers_length,

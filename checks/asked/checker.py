@@ -20,7 +20,7 @@ HOSTILE_WORDS = 150
 WINDOWS = ("always:forever", "20240101:forever", "always:20240101000000", "20240101000000:20240201000000")
 # lines of allowed signers with a signature by {key} of "a text" in SPACE, what it is asked about, what is revoked, and what is said at
 # the middle of a window
-NOBODY, REVOKED = "no allowed signer (55)", "revoked or no file that can be read (56)"
+NOBODY, REVOKED, UNREAD = "no allowed signer (55)", "a signer that is revoked (56)", "the revocation file can't be read (58)"
 ALLOWED = [
     ("as it is", "alice {key}", {}, None, "valid"), ("of one of two", "bob,alice {key}", {}, None, "valid"),
     ("of another text", "alice {key}", {"text": "a texts"}, None, "not signed (30)"),
@@ -34,7 +34,8 @@ ALLOWED = [
     ("after its time", 'alice valid-before="20240101Z" {key}', {}, None, NOBODY),
     ("while another key is revoked", "alice {key}", {}, "{other}", "valid"), ("by a revoked key", "alice {key}", {}, "{key}", REVOKED),
     ("by a revoked key of nobody", "bob {key}", {}, "{key}", NOBODY),
-    ("while a line revokes no key", "alice {key}", {}, "ssh-ed25519 AAAA", REVOKED),
+    ("while an empty file revokes", "alice {key}", {}, "", "valid"), ("while a comment revokes", "alice {key}", {}, "# {key}", "valid"),
+    ("while a line revokes no key", "alice {key}", {}, "ssh-ed25519 AAAA", UNREAD),
 ]  # fmt: skip
 # texts of a certificate that a terminal would take for commands, and how they are shown
 HOSTILE = ("\x1b[2J\x7f\x80\u0085\nx\\y\xa0\u00a9", "\\033[2J\\177\\302\\200\\302\\205\\012x\\134y\xa0\u00a9")
@@ -136,8 +137,8 @@ def check_allowed(count, programs, maker):
         words = ["-f", maker.write("signers", line.format(**keys) + "\n"), "-I", asked.get("who", "alice")]
         words += ["-n", asked.get("space", SPACE), "-s", path]
         files, text, is_valid = [[]], asked.get("text", "a text"), wanted == "valid"
-        if revoked:
-            file = maker.write("revoked", f"# revoked\n{revoked.format(**keys)}\n")
+        if revoked is not None:
+            file = maker.write("revoked", revoked and f"# revoked\n{revoked.format(**keys)}\n")
             files = [["-r", file]]
         if revoked and revoked.startswith("{"):
             ssh_keygen("-q", "-k", "-f", maker.path("revoked.krl"), file)
@@ -145,17 +146,12 @@ def check_allowed(count, programs, maker):
         for more in files:
             judged = run(["ssh-keygen", "-Y", "verify", "-O", at, *words, *more], input=text).returncode == 0
             count.check(f"ssh-keygen, a signature {name}, by {more or 'no file'}", judged == is_valid, judged)
-            said = ("valid\n", "") if is_valid else ("refused\n", f"sshkey-check: {path}: {wanted}\n")
+            said = ("valid\n", "") if is_valid else ("" if wanted == UNREAD else "refused\n", f"sshkey-check: {path}: {wanted}\n")
+            status = VALID if is_valid else UNTOLD if wanted == UNREAD else INVALID
             for program in programs:
                 ran = run([program, "verify", *words, *more, "--at", str(MIDDLE)], input=text)
-                same = (ran.returncode, (ran.stdout, ran.stderr)) == (VALID if is_valid else INVALID, said)
+                same = (ran.returncode, (ran.stdout, ran.stderr)) == (status, said)
                 count.check(f"sshkey-check, a signature {name}", same, ran)
-    # stricter here
-    signers, empty = maker.write("signers", f"alice {keys['key']}\n"), maker.write("revoked", "")
-    words = ["verify", "-f", signers, "-I", "alice", "-n", SPACE, "-s", path, "-r", empty]
-    ran = run([programs[1], *words], input="a text")
-    refused = (INVALID, "refused\n", f"sshkey-check: {path}: {REVOKED}\n")
-    count.check("sshkey-check, a signature while an empty file revokes", (ran.returncode, ran.stdout, ran.stderr) == refused, ran)
 
 
 def check_hostile_signatures(count, programs, maker):
