@@ -75,7 +75,7 @@ static const uint8_t no_revocations[44] = "SSHKRL\n\0\0\0\0\1";
 const judge_blob judge_no_revocations = {(uint8_t *)no_revocations, sizeof no_revocations};
 
 uint32_t judge_revoked(judge_blob blob, bool is_certificate, judge_blob revoked) {
-  if (!revoked.bytes) return SSHKEY_REVOCATIONS_UNREADABLE;
+  if (!revoked.bytes) return SSHKEY_UNREADABLE_REVOCATIONS;
   const uint8_t *bytes = sshkey_bytes(blob.bytes);
   uint32_t answer =
       is_certificate
@@ -86,7 +86,7 @@ uint32_t judge_revoked(judge_blob blob, bool is_certificate, judge_blob revoked)
   case SSHKEY_DONE: return JUDGE_REVOKED;
   case SSHKEY_MEMORY: return SSHKEY_MEMORY;
   /* each caller has read the blob before it asks */
-  default: return SSHKEY_REVOCATIONS_UNREADABLE;
+  default: return SSHKEY_UNREADABLE_REVOCATIONS;
   }
 }
 
@@ -431,7 +431,7 @@ static const struct {
     {SSHKEY_SIGNER_NOT_ALLOWED, "no allowed signer"},
     {SSHKEY_SIGNER_REVOKED, "a signer that is revoked"},
     {SSHKEY_ELSEWHERE, "from an address that is not allowed"},
-    {SSHKEY_REVOCATIONS_UNREADABLE, "the revocation file can't be read"},
+    {SSHKEY_UNREADABLE_REVOCATIONS, "the revocation file can't be read"},
     {SSHKEY_KEY_NOT_ACCEPTED, "a kind or a size of key that OpenSSH does not let in"},
     {SSHKEY_NOT_REVOKED, "not revoked"},
     {JUDGE_NOT_FOR_USERS, "not for users"},

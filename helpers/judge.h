@@ -40,7 +40,7 @@ bool judge_read_file(const char *path, judge_blob *answer);
 extern const judge_blob judge_no_revocations;
 
 /* SSHKEY_DONE where the file does not revoke the certificate or the key of that blob; else
- * JUDGE_REVOKED; SSHKEY_REVOCATIONS_UNREADABLE where it can't be read, which lets nobody in; or
+ * JUDGE_REVOKED; SSHKEY_UNREADABLE_REVOCATIONS where it can't be read, which lets nobody in; or
  * SSHKEY_MEMORY. */
 uint32_t judge_revoked(judge_blob blob, bool is_certificate, judge_blob revoked);
 

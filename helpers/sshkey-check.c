@@ -50,7 +50,7 @@ typedef struct {
 
 /* Whether it can't tell: nothing follows of what is asked about. */
 static bool is_untold(uint32_t answer) {
-  return answer == SSHKEY_MEMORY || answer == SSHKEY_REVOCATIONS_UNREADABLE;
+  return answer == SSHKEY_MEMORY || answer == SSHKEY_UNREADABLE_REVOCATIONS;
 }
 
 /* Adds the authority of a line: SSHKEY_DONE, or why it has no key. */

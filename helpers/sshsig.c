@@ -107,7 +107,7 @@ uint32_t judge_signer_of_digest(judge_blob signature, const char *name_space, ju
   /* no cryptography runs over a key that may not sign */
   uint32_t answer = judge_allowed(signature, name_space, by, false);
   /* here no file was read */
-  if (answer == SSHKEY_NOT_SIGNED && !by->revoked.bytes) answer = SSHKEY_REVOCATIONS_UNREADABLE;
+  if (answer == SSHKEY_NOT_SIGNED && !by->revoked.bytes) answer = SSHKEY_UNREADABLE_REVOCATIONS;
   if (answer != SSHKEY_NOT_SIGNED) return told(answer, signature);
   answer = judge_question(signature, name_space, digest, NULL);
   return answer == SSHKEY_DONE ? judge_allowed(signature, name_space, by, true) : answer;

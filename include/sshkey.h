@@ -131,7 +131,7 @@ enum {
   SSHKEY_SIGNER_REVOKED = 56,     /* its key is revoked */
 
   SSHKEY_ELSEWHERE = 57,              /* the client's address is none of those that are allowed */
-  SSHKEY_REVOCATIONS_UNREADABLE = 58, /* the revocation file can't be read, and so revokes all */
+  SSHKEY_UNREADABLE_REVOCATIONS = 58, /* the revocation file can't be read, and so revokes all */
   SSHKEY_KEY_NOT_ACCEPTED = 59,       /* a kind or a size of key that OpenSSH does not let in */
 
   /* of a revocation list or file */
@@ -156,7 +156,7 @@ static inline const char *sshkey_answer_name(uint32_t answer) {
     SSHKEY_NAMED(HOST_REVOKED); SSHKEY_NAMED(HOST_UNREADABLE);
     SSHKEY_NAMED(HOST_CHANGED); SSHKEY_NAMED(HOST_UNKNOWN);
     SSHKEY_NAMED(SIGNER_NOT_ALLOWED); SSHKEY_NAMED(SIGNER_REVOKED); SSHKEY_NAMED(ELSEWHERE);
-    SSHKEY_NAMED(REVOCATIONS_UNREADABLE); SSHKEY_NAMED(KEY_NOT_ACCEPTED);
+    SSHKEY_NAMED(UNREADABLE_REVOCATIONS); SSHKEY_NAMED(KEY_NOT_ACCEPTED);
     SSHKEY_NAMED(NOT_REVOKED);
     default: return "no answer";
   }
