@@ -7,7 +7,8 @@ import sys
 
 from lib.signatures import armoured
 
-from .linked import BINDINGS, EXAMPLES, run
+from .answers import REFUSALS, WITHOUT_WORDS
+from .linked import BINDINGS, EXAMPLES, enumerations, run
 from .revocation_calls import EMPTY, made_list
 from .stubs import OTHER_ABI, check_other_abi, stub_library
 
@@ -263,13 +264,20 @@ def check_copies(count, built, maker):
         count.check(f"SSHKEY_LIBRARY in a program with the rights of {name}", taken, ran.stdout, ran.stderr)
 
 
+def meanings_wanted(check):
+    """The words for each number, which check.py has for all of the header and of judge.h, each its own."""
+    numbers = {*next(it for it in enumerations() if "SSHKEY_DONE" in it).values(), *REFUSALS.values()}
+    return numbers, {int(it): words for it, words in check.MEANING.items()}
+
+
 def check_meanings(count, built, check):
-    """The words for answers are the same in C and in Python."""
+    """Each number has words, the same in C and in Python, and no two have the same."""
+    numbers, wanted = meanings_wanted(check)
+    count.check("each number of the headers has words in Python", {*wanted} == numbers, {*wanted} ^ numbers)
+    count.check("no two have the same", len({*wanted.values()}) == len(wanted), sorted(wanted.values()))
     said = run([f"{built.plain}/foreign"], input="meanings\n").stdout.rstrip("\n").split(",")
-    wanted = {0: "valid", 1: "no memory", 2: "the room is too short", **{int(it): words for it, words in check.MEANING.items()}}
-    found = dict(enumerate(said))
-    count.check("answers have the same words in C and in Python", found == {it: wanted.get(it, "not in its format") for it in range(200)}, found)
-    count.check("also where a principal is no text", found[4] == "a principal that is not UTF-8", found[4])
+    found = {it: words for it, words in enumerate(said) if words != WITHOUT_WORDS}
+    count.check("answers have the same words in C and in Python", len(said) == 200 and found == wanted, found.items() ^ wanted.items())
 
 
 def check_authorities(count, built, kind):

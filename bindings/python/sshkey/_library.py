@@ -152,6 +152,8 @@ CALLS = {
     "sshkey_certificate_make": (*BYTES, *BYTES, *WRITTEN),
     "sshkey_krl_revokes_key": (*BYTES, *BYTES),
     "sshkey_krl_revokes_certificate": (*BYTES, *BYTES),
+    "sshkey_revoked_key": (*BYTES, *BYTES),
+    "sshkey_revoked_certificate": (*BYTES, *BYTES),
     "sshkey_next_line": (*PLACE, ctypes.POINTER(Part)),
     "sshkey_authorized_entry": (*BYTES, *ROOM, ctypes.POINTER(Entry)),
     "sshkey_known_host": (*BYTES, *ROOM, ctypes.POINTER(Entry)),
