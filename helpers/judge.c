@@ -135,10 +135,8 @@ uint32_t judge_certificate(judge_blob certificate, uint64_t unix_timestamp, cons
   answer = sshkey_certificate_question(certificate.bytes, certificate.length, room, room_length,
                                        &question);
   /* step 3: verify it */
-  uint32_t verified = answer == SSHKEY_DONE ? judge_verify(&question, room) : SSHKEY_NOT_SIGNED;
-  uint32_t is_verified = verified == SSHKEY_DONE;
+  uint32_t is_verified = answer == SSHKEY_DONE && judge_is_signature(&question, room);
   free(room);
-  if (verified == SSHKEY_MEMORY) answer = verified;
   if (answer == SSHKEY_MEMORY || answer == SSHKEY_ROOM) return answer;
   /* step 4: whether it is valid, over the same bytes */
   if (!principal)

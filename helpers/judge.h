@@ -48,8 +48,7 @@ uint32_t judge_revoked(judge_blob blob, bool is_certificate, judge_blob revoked)
 uint32_t judge_add_authority(judge_authorities *to, const char *line, size_t length);
 
 /* Whether the certificate is valid and not revoked: SSHKEY_DONE, or what is wrong first, a number
- * of SSHKEY_* or JUDGE_REVOKED; SSHKEY_MEMORY also where libcrypto had none. For each certificate
- * of another authority it answers
+ * of SSHKEY_* or JUDGE_REVOKED. For each certificate of another authority it answers
  * SSHKEY_UNTRUSTED_AUTHORITY, signed or not: its key may be one that the client made up, and no
  * cryptography runs over it. The principal may be null, and then any is meant. */
 uint32_t judge_certificate(judge_blob certificate, uint64_t unix_timestamp, const char *principal,

@@ -80,8 +80,9 @@ static uint32_t judge_question(judge_blob signature, const char *name_space, jud
       signature.bytes, signature.length, (const uint8_t *)name_space, strlen(name_space),
       digest.bytes, digest.length, room, room_length, &question, &signer);
   if (answer == SSHKEY_DONE && keys) answer = judge_signer(&signer, *keys);
-  if (answer == SSHKEY_DONE && string_of(signature, RESERVED).length) answer = SSHKEY_NOT_SIGNED;
-  if (answer == SSHKEY_DONE) answer = judge_verify(&question, room);
+  if (answer == SSHKEY_DONE &&
+      (string_of(signature, RESERVED).length || !judge_is_signature(&question, room)))
+    answer = SSHKEY_NOT_SIGNED;
   free(room);
   return answer;
 }

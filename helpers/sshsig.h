@@ -14,9 +14,9 @@ uint32_t judge_read_armour(judge_blob text, judge_blob *answer);
 size_t judge_digest_length(judge_blob signature);
 
 /* Whether the signature counts, in that namespace, for a message with that digest: SSHKEY_DONE, or
- * what is wrong first, JUDGE_OTHER_KEY where it is by none of the keys; SSHKEY_MEMORY also where
- * libcrypto had none. No cryptography runs over the key of another signer. With reserved bytes it
- * is SSHKEY_NOT_SIGNED: ssh-keygen verifies it as if there were none. */
+ * what is wrong first, JUDGE_OTHER_KEY where it is by none of the keys. No cryptography runs over
+ * the key of such a one. With reserved bytes it is SSHKEY_NOT_SIGNED: ssh-keygen verifies it as if
+ * there were none. */
 uint32_t judge_sshsig_of_digest(judge_blob signature, const char *name_space, judge_blob digest,
                                 judge_authorities keys);
 

@@ -5,7 +5,6 @@
 #include <openssl/bn.h>
 #include <openssl/core_names.h>
 #include <openssl/ecdsa.h>
-#include <openssl/err.h>
 #include <openssl/evp.h>
 #include <openssl/param_build.h>
 
@@ -128,8 +127,7 @@ static bool is_ed25519(slice key, slice message, slice signature) {
   return yes;
 }
 
-/* Whether the question's signature is one; false also where libcrypto fails. */
-static bool is_verified(const sshkey_question *question, const uint8_t *room) {
+bool judge_is_signature(const sshkey_question *question, const uint8_t *room) {
   slice key = slice_of(room, question->key);
   slice message = slice_of(room, question->message);
   slice signature = slice_of(room, question->signature);
@@ -150,32 +148,6 @@ static bool is_verified(const sshkey_question *question, const uint8_t *room) {
   default: /* DSA: too weak to count */
     return false;
   }
-}
-
-/* Whether libcrypto keeps reports of what fails, for which it takes memory the first time. */
-static bool has_reports(void) {
-  ERR_raise(ERR_LIB_USER, ERR_R_INTERNAL_ERROR);
-  bool yes = ERR_peek_error() != 0;
-  ERR_clear_error();
-  return yes;
-}
-
-/* Whether one of the reports, which it takes away, is of memory that was refused. */
-static bool lacked_memory(void) {
-  bool yes = false;
-  for (unsigned long report = ERR_get_error(); report; report = ERR_get_error())
-    yes |= ERR_GET_REASON(report) == ERR_R_MALLOC_FAILURE;
-  return yes;
-}
-
-uint32_t judge_verify(const sshkey_question *question, const uint8_t *room) {
-  if (!has_reports()) return SSHKEY_MEMORY;
-  if (is_verified(question, room)) return SSHKEY_DONE;
-  return lacked_memory() ? SSHKEY_MEMORY : SSHKEY_NOT_SIGNED;
-}
-
-bool judge_is_signature(const sshkey_question *question, const uint8_t *room) {
-  return judge_verify(question, room) == SSHKEY_DONE;
 }
 
 bool judge_digest(FILE *file, uint8_t *digest, size_t length) {

@@ -57,11 +57,15 @@ def check_certificates(count, built, maker, kind, middle):
         ran = run([*words, good, "--at", str(middle)], stdin=folder)
         count.check(f"{program}: a folder on standard input", ran.returncode == UNTOLD and ran.stderr, ran.returncode, ran.stderr)
         revoked = made_list(maker, None, [kind.line])
-        for name, data, wanted in (("nothing", EMPTY, VALID), ("no bytes", b"", INVALID), ("its key", revoked, INVALID)):
+        unread, own = maker.read("user0.pub")[:40].encode(), kind.maker.read(f"{kind.authority}.pub").encode()
+        for name, data, wanted in (
+            ("nothing", EMPTY, VALID), ("no bytes", b"", VALID), ("its key", revoked, INVALID), ("a text of its authority", own, INVALID),
+            ("half a list", EMPTY[:20], UNTOLD), ("a text of half a key", unread, UNTOLD),
+        ):  # fmt: skip
             with open(maker.path("revocations"), "wb") as file:
                 file.write(data)
             ran = run([*words, good, "--at", str(middle), "--revoked", maker.path("revocations")], input=line)
-            same = ran.returncode == wanted and ("(107)" in ran.stderr) == (wanted == INVALID)
+            same = ran.returncode == wanted and ("(107)" in ran.stderr) == (wanted == INVALID) and bool(ran.stdout) == (wanted != UNTOLD)
             count.check(f"{program}: a revocation list of {name}", same, ran.returncode, ran.stdout, ran.stderr)
         ran = run([*words, good, "--at", str(middle), "--revoked", maker.path("none")], input=line)
         count.check(f"{program}: no file of revocations", ran.returncode == UNTOLD and ran.stderr and not ran.stdout, ran.stdout)
@@ -74,8 +78,10 @@ def check_revoked(count, out, maker, programs):
     """With a list of revocations the programs print what they print without it, unless the list revokes it or can't be read."""
     lists = {
         "a list of nothing": EMPTY, "a list that revokes it": made_list(maker, None, [maker.read("user0.pub")]), "an empty file": b"",
-        "a list of another key": made_list(maker, None, [maker.read("user1.pub")]), "a text of keys": maker.read("user1.pub").encode(),
+        "a list of another key": made_list(maker, None, [maker.read("user1.pub")]), "a text of another key": maker.read("user1.pub").encode(),
+        "a text of its key": maker.read("user0.pub").encode(), "half a list": EMPTY[:20],
     }  # fmt: skip
+    good = ("a list of nothing", "an empty file", "a list of another key", "a text of another key")
     for program, words in programs.items():
         plain = run([f"{out}/{program}", *words])
         for name, data in {**lists, "no such file": None}.items():
@@ -85,7 +91,7 @@ def check_revoked(count, out, maker, programs):
                 with open(path, "wb") as file:
                     file.write(data)
             ran = run([f"{out}/{program}", "--revoked", path, *words])
-            is_good = name in ("a list of nothing", "a list of another key")
+            is_good = name in good
             wanted = (0, plain.stdout) if is_good else (1, "")
             same = (ran.returncode, ran.stdout) == wanted and bool(ran.stderr) != is_good and plain.stdout
             count.check(f"{program}, {os.path.basename(out)}: {name}", same, ran.returncode, ran.stdout, ran.stderr)

@@ -6,11 +6,11 @@
 /* How often the verifier was asked. */
 static size_t verifications;
 
-uint32_t __real_judge_verify(const sshkey_question *question, const uint8_t *room);
+bool __real_judge_is_signature(const sshkey_question *question, const uint8_t *room);
 
-uint32_t __wrap_judge_verify(const sshkey_question *question, const uint8_t *room) {
+bool __wrap_judge_is_signature(const sshkey_question *question, const uint8_t *room) {
   verifications++;
-  return __real_judge_verify(question, room);
+  return __real_judge_is_signature(question, room);
 }
 
 /* Whether the option has the one name that is known, and another value than "unmet". */

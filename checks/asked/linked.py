@@ -15,7 +15,7 @@ C = ["cc", "-std=c11", "-D_POSIX_C_SOURCE=200809L", *WARNINGS, f"-I{ROOT}/includ
 # under which a program that reads or writes where it may not, or gives no memory back, ends with 9
 VALGRIND = ["valgrind", "-q", "--leak-check=full", "--error-exitcode=9"]
 # what memory_calls.h and judge_calls.h wrap
-WRAPPED = "-Wl,--wrap=malloc,--wrap=realloc,--wrap=free,--wrap=judge_verify"
+WRAPPED = "-Wl,--wrap=malloc,--wrap=realloc,--wrap=free,--wrap=judge_is_signature"
 # what the library may take of the C library
 TAKEN = {"malloc", "realloc", "free", "memcpy", "memmove", "memset", "memcmp", "__cxa_finalize"}
 

@@ -6,8 +6,8 @@ import subprocess
 
 from .linked import ABI, declared, run
 
-# the number of an ABI that no header has yet
-OTHER_ABI = 77
+# the number of another ABI: the one before
+OTHER_ABI = ABI - 1
 
 
 def stub_library(count, folder, answer, abi=ABI):
