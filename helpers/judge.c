@@ -61,8 +61,8 @@ bool judge_read_file(const char *path, judge_blob *answer) {
 }
 
 /* PROTOCOL.krl: magic, version 1, three numbers and two empty strings */
-static uint8_t no_revocations[44] = "SSHKRL\n\0\0\0\0\1";
-const judge_blob judge_no_revocations = {no_revocations, sizeof no_revocations};
+static const uint8_t no_revocations[44] = "SSHKRL\n\0\0\0\0\1";
+const judge_blob judge_no_revocations = {(uint8_t *)no_revocations, sizeof no_revocations};
 
 uint32_t judge_revoked(judge_blob blob, bool is_certificate, judge_blob revoked) {
   const uint8_t *list = sshkey_bytes(revoked.bytes), *bytes = sshkey_bytes(blob.bytes);
