@@ -11,7 +11,7 @@ typedef struct {
   const char *user;    /* whom the client wants to be */
   const char *type;    /* the two words of what the client offers */
   const char *base64;
-  const char *revoked; /* the file of a key revocation list; null where none is given */
+  const char *revoked; /* the path of a revocation file; null where none is given */
   bool is_file;        /* by --file the path is that of this user's file */
   bool is_insecure;    /* by --insecure-modes nobody asks who may write the files */
   bool is_logged;      /* by --syslog the system's log is told what standard error is */

@@ -19,7 +19,7 @@ static const char help[] =
     "sshd_config: AuthorizedPrincipalsCommand PATH/sshkey-principals AUTHORITIES %u %t %k\n"
     "             AuthorizedPrincipalsCommandUser sshkey\n"
     "Prints USER if the certificate lets USER in by an authority of a line of AUTHORITIES:\n"
-    "USER[,USER..] TYPE BASE64 [COMMENT], and the key revocation list FILE does not revoke it.\n"
+    "USER[,USER..] TYPE BASE64 [COMMENT], and FILE, as sshd's RevokedKeys, does not revoke it.\n"
     "It does not run as nobody.\n"
     "Status 0: printed, or not let in; 1: it can't tell, as standard error says.\n";
 

@@ -70,9 +70,12 @@ class Logins:
         maker.write("plain", CONFIGURATION.format(maker.folder))
         with open(maker.path("revoked"), "wb") as file:
             file.write(made_list(maker, "own", ["serial: 5"]))
+        for ending, text in (("text", f"# x\n{keys['own']}\n"), ("half", keys["strange"][:40]), ("empty", "")):
+            maker.write(f"revoked.{ending}", text)
         for name, folder, more in (
             ("asking", "{0}", ""), ("lost", "{0}/none", ""), ("revoking", "{0}", "--revoked {0}/revoked "),
-            ("unread", "{0}", "--revoked {0}/none "),
+            ("unread", "{0}", "--revoked {0}/none "), ("by text", "{0}", "--revoked {0}/revoked.text "),
+            ("by half a line", "{0}", "--revoked {0}/revoked.half "), ("by no bytes", "{0}", "--revoked {0}/revoked.empty "),
         ):  # fmt: skip
             command = COMMAND.format(folder.format(maker.folder), program, helper, more.format(maker.folder))
             maker.write(name, CONFIGURATION.format(maker.folder) + command)
@@ -111,6 +114,10 @@ class Logins:
         yield "another number", me, "own", ["-n", me, "-z", "6", *now], "revoking", True
         yield "the number of another authority", me, "second", ["-n", me, "-z", "5", *now], "revoking", True
         yield "no file of revocations", me, "own", ["-n", me, *now], "unread", False
+        yield "an authority that a text revokes", me, "own", ["-n", me, *now], "by text", False
+        yield "another authority than a text revokes", me, "second", ["-n", me, *now], "by text", True
+        yield "a text with half a key", me, "own", ["-n", me, *now], "by half a line", False
+        yield "a revocation file of no bytes", me, "own", ["-n", me, *now], "by no bytes", True
         for kind in self.devices:
             device, turned = (kind, COUNTER), (kind, COUNTER + 1)
             yield f"its user, by a security key of {kind}", me, device, ["-n", me, *now], "asking", True
