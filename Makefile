@@ -1,6 +1,6 @@
 # Builds what other languages link, of the proved crate sshkey_c, and the programs of helpers/:
 #
-#     out/libsshkey.a  out/libsshkey.so  out/libsshkey.so.0  out/sshkey.pc
+#     out/libsshkey.a  out/libsshkey.so  out/libsshkey.so.1  out/sshkey.pc
 #     out/sshkey-check  out/sshkey-principals  out/sshkey-authorized-keys
 #
 # and with `make go`, which takes Go (Debian: golang-go), the example in Go: out/check-go;
@@ -30,15 +30,18 @@ FILL := sed -e 's|@version@|$(VERSION)|'
 
 CC := cc
 CFLAGS := -O2
+# the flag, where the compiler takes it
+TAKEN = $(shell $(CC) -Werror $(1) -E -x c /dev/null >/dev/null 2>&1 && echo $(1))
 # sshd starts the helpers with what a client sent
-HARDENED := -fstack-protector-strong -D_FORTIFY_SOURCE=2 -fPIE
-LINKED := -pie -Wl,-z,relro,-z,now
+HARDENED := -fstack-protector-strong $(call TAKEN,-fstack-clash-protection) -D_FORTIFY_SOURCE=2 -fPIE
+# nothing that is linked later can be written
+READONLY := -Wl,-z,relro,-z,now
 WARNED := -std=c11 -D_POSIX_C_SOURCE=200809L -Wall -Wextra -pedantic -I$(ROOT)/include
 CRYPTO := -lcrypto
 HEADERS := $(ROOT)/include/sshkey.h $(wildcard $(ROOT)/helpers/*.h)
 PROGRAMS := $(OUT)/sshkey-check $(OUT)/sshkey-principals $(OUT)/sshkey-authorized-keys
 # what they are linked with, each with what it takes of it
-PARTS := $(addprefix $(OUT)/,program.o show.o sshsig.o judge.o verify.o)
+PARTS := $(addprefix $(OUT)/,program.o login.o memory.o show.o sshsig.o judge.o sha1.o verify.o)
 PAGES := $(notdir $(wildcard $(ROOT)/helpers/*.[18]))
 
 ifeq ($(KIT),)
@@ -60,8 +63,9 @@ $(OUT)/libsshkey.a: $(LIBRARY) $(HEAP)
 	cd $(OUT)/heap && $(AR) x $(HEAP) && $(AR) rcs $@ *.o
 
 $(OUT)/libsshkey.so: $(OUT)/libsshkey.a $(ROOT)/bindings/sshkey.map
-	$(CC) -shared -o $@ -Wl,-soname,$(SONAME) -Wl,--version-script=$(ROOT)/bindings/sshkey.map \
-		-Wl,--no-undefined -Wl,--whole-archive $(OUT)/libsshkey.a -Wl,--no-whole-archive
+	$(CC) -shared -o $@ $(READONLY) -Wl,-soname,$(SONAME) \
+		-Wl,--version-script=$(ROOT)/bindings/sshkey.map -Wl,--no-undefined \
+		-Wl,--whole-archive $(OUT)/libsshkey.a -Wl,--no-whole-archive
 
 $(OUT)/$(SONAME): $(OUT)/libsshkey.so
 	ln -sf libsshkey.so $@
@@ -79,8 +83,11 @@ $(OUT)/parts.a: $(PARTS)
 	rm -f $@
 	$(AR) rcs $@ $^
 
+# it verifies nothing
+$(OUT)/sshkey-authorized-keys: CRYPTO :=
+
 $(PROGRAMS): $(OUT)/%: $(OUT)/%.o $(OUT)/parts.a $(OUT)/libsshkey.a
-	$(CC) $(CFLAGS) $(LINKED) -o $@ $^ $(CRYPTO)
+	$(CC) $(CFLAGS) -pie $(READONLY) -o $@ $^ $(CRYPTO)
 
 # Go does not see that the library is another, so the program is always linked
 go: $(OUT)/libsshkey.a
@@ -111,6 +118,9 @@ install: all
 		$(ROOT)/bindings/sshkey.pc.in >$(LIB)/pkgconfig/sshkey.pc
 	install -m 755 $(PROGRAMS) $(BIN)
 	$(foreach it,$(PAGES),install -m 644 $(ROOT)/helpers/$(it) $(call INSTALLED,$(it)) &&) true
+	@echo "sshd has to run sshkey-principals and sshkey-authorized-keys as a user that nothing else"
+	@echo "runs as, not as nobody: any process of the same user can answer sshd in their place."
+	@echo "    useradd -r -M -s /usr/sbin/nologin sshkey"
 
 uninstall:
 	rm -f $(INCLUDE)/sshkey.h $(LIB)/libsshkey.a $(LIB)/pkgconfig/sshkey.pc \

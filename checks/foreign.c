@@ -306,6 +306,8 @@ static const struct {
     {"signer", ask_number, "signer_verdict", 5},
     {"revokes-key", ask_revoked, "krl_revokes_key", 2},
     {"revokes-certificate", ask_revoked, "krl_revokes_certificate", 2},
+    {"revoked-key", ask_revoked, "revoked_key", 2},
+    {"revoked-certificate", ask_revoked, "revoked_certificate", 2},
     {"string-places", ask_places, "next_string", 1},
     {"option-places", ask_places, "next_option", 1},
 };

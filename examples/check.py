@@ -5,7 +5,7 @@
     check.py signature SIGNERS NAMESPACE FILE <FILE.sig
 
 AUTHORITIES and SIGNERS are files of public keys, a line each. The first answers of each line of its input, as the example in C
-does without a revocation list. The status is 0 if all is valid, 1 if not, and 2 where it can't tell: so also where there is no
+does without a revocation file. The status is 0 if all is valid, 1 if not, and 2 where it can't tell: so also where there is no
 certificate. A valid certificate may be for a host, or for nobody by name, and - is no name that a client may choose: who logs
 users in calls `validate_user`, and who is shown a host's certificate `validate_host`.
 """
@@ -52,25 +52,34 @@ class Refusal(enum.IntEnum):
         raise TypeError("compare with Status.DONE: a Refusal is no truth value")
 
 
+# the words for each number, as the example in C has them
 MEANING = {
-    Status.TEXT: "a principal that is not UTF-8", Status.BASE64: "not Base64",
+    Status.DONE: "valid", Status.MEMORY: "no memory", Status.ROOM: "the room is too short", Status.END: "nothing is left",
+    Status.TEXT: "a name or a text that is given is not UTF-8", Status.BASE64: "not Base64",
     Status.CHARACTER_ENCODING: "a text that is not UTF-8", Status.LABEL: "a name that may not stand there",
     Status.LENGTH: "a length that passes the bytes", Status.TRAILING_DATA: "bytes after the end",
-    Status.NOT_SIGNED: "not signed", Status.UNTRUSTED_AUTHORITY: "another authority",
+    Status.FORMAT: "a value that has not the form of its kind", Status.ALGORITHM_UNKNOWN: "two names that have to be one",
+    Status.CRYPTO: "a number that is not positive", Status.ECDSA: "no encoding of a point", Status.TIME: "a time above 2^63 - 1",
+    Status.NAMESPACE: "an empty namespace", Status.PUBLIC_KEY: "a public key that is not the private one's",
+    Status.UNSUPPORTED_VERSION: "a version that is not read", Status.OTHER_FAULT: "another fault",
+    Status.RSA_SHA1: "signed by RSA with SHA-1", Status.NOT_SIGNED: "not signed", Status.UNTRUSTED_AUTHORITY: "another authority",
     Status.INVALID_TIME: "no time that a certificate has", Status.OUT_OF_WINDOW: "not valid at that time",
-    Status.UNLISTED_PRINCIPAL: "another principal",
-    Refusal.NOT_FOR_USERS: "not for users", Refusal.NOBODY_LISTED: "no principals", Refusal.OTHER_KEY: "another key",
-    Refusal.UNMET_OPTION: "a critical option that is not known or not met",
+    Status.UNLISTED_PRINCIPAL: "another principal", Status.UNSUPPORTED: "key and signature do not go together",
+    Status.OTHER_NAMESPACE: "another namespace", Status.PRINCIPALS: "principals, or none, against what is said of all",
+    Status.EMPTY_WINDOW: "a window without a second", Status.HOST_REVOKED: "revoked by a line for the host",
+    Status.HOST_UNREADABLE: "a line that may revoke it and can't be read",
+    Status.HOST_CHANGED: "another key than the one known for the host",
+    Status.HOST_UNKNOWN: "no key or authority is known for the host", Status.SIGNER_NOT_ALLOWED: "no allowed signer",
+    Status.SIGNER_REVOKED: "a signer that is revoked", Status.ELSEWHERE: "from an address that is not allowed",
+    Status.UNREADABLE_REVOCATIONS: "the revocation file can't be read",
+    Status.KEY_NOT_ACCEPTED: "a kind or a size of key that OpenSSH does not let in", Status.NOT_REVOKED: "not revoked",
+    Refusal.NOT_FOR_USERS: "not for users", Refusal.NOBODY_LISTED: "no principals",
+    Refusal.UNMET_OPTION: "a critical option that is not known or not met", Refusal.OTHER_KEY: "another key",
     Refusal.FLAG_DATA: "data in an extension that is a flag", Refusal.NOT_FOR_HOSTS: "not for hosts",
-    Refusal.UNREADABLE: "texts or principals that sshd does not read",
-    Refusal.REVOKED: "revoked or no list that can be read",
-    Status.HOST_REVOKED: "revoked", Status.HOST_UNREADABLE: "a line that may revoke it and can't be read",
-    Status.HOST_UNKNOWN: "no authority of the host", Status.OTHER_NAMESPACE: "another namespace",
-    Status.SIGNER_NOT_ALLOWED: "no allowed signer", Status.SIGNER_REVOKED: "revoked or no file that can be read",
-    Status.UNSUPPORTED: "key and signature do not go together",
+    Refusal.UNREADABLE: "texts or principals that sshd does not read", Refusal.REVOKED: "revoked",
 }  # fmt: skip
-# a key revocation list that revokes nothing (PROTOCOL.krl), for who has none: a list of no bytes lets nobody in
-NO_REVOCATIONS = b"SSHKRL\n\0\0\0\0\1" + bytes(32)
+# the word of who asks no revocation file
+NO_REVOCATIONS = sshkey.NO_REVOCATIONS
 # the critical options that have an argument
 WITH_ARGUMENT = {"force-command", "source-address"}
 # the extensions in which nothing may stand (PROTOCOL.certkeys)
@@ -129,25 +138,26 @@ def is_signature(question: sshkey.Question) -> bool:
     return True
 
 
-def is_revoked(krl: bytes, certificate: bytes) -> bool:
-    """Whether the key revocation list revokes the certificate. Where it is no list, it revokes all."""
+def judge_revoked(revoked: bytes, certificate: bytes) -> Status | Refusal:
+    """Status.DONE where the revocation file does not revoke the certificate, else Refusal.REVOKED, or Status.UNREADABLE_REVOCATIONS
+    where it can't be read, which lets nobody in. Raises TypeError where there is none."""
     try:
-        return sshkey.krl_revokes_certificate(krl, certificate)
-    except sshkey.Refused:
-        return True
+        return Refusal.REVOKED if sshkey.revoked_certificate(revoked, certificate) else Status.DONE
+    except sshkey.Refused:  # each caller has read the certificate before it asks
+        return Status.UNREADABLE_REVOCATIONS
 
 
 def judge(
-    certificate: bytes, now: int, principal: str | bytes | None, authorities: Collection[bytes], krl: bytes
+    certificate: bytes, now: int, principal: str | bytes | None, authorities: Collection[bytes], revoked: bytes
 ) -> Status | Refusal:  # fmt: skip
     """Status.DONE, or what is wrong first. For each certificate of another authority it is Status.UNTRUSTED_AUTHORITY, signed or not:
-    its key may be one that the client made up, and no cryptography runs over it. Where the principal is None, any is meant. The list
-    may be NO_REVOCATIONS."""
+    its key may be one that the client made up, and no cryptography runs over it. Where the principal is None, any is meant. What a
+    revocation file has may be NO_REVOCATIONS."""
     try:
         if sshkey.fingerprint(sshkey.certificate_contents(certificate).authority) not in authorities:
             return Status.UNTRUSTED_AUTHORITY
-        if is_revoked(krl, certificate):
-            return Refusal.REVOKED
+        if (status := judge_revoked(revoked, certificate)) != Status.DONE:
+            return status
         is_verified = is_signature(sshkey.certificate_question(certificate))
     except sshkey.Refused:
         is_verified = False
@@ -173,18 +183,19 @@ def is_readable(contents: sshkey.Contents, *texts: str) -> bool:
 
 def validate_user(
     certificate: bytes, key: bytes, now: int, user: str | bytes, authorities: Collection[bytes],
-    is_met: Callable[[str, str], bool] = lambda name, value: False, *, krl: bytes,
+    is_met: Callable[[str, str], bool] = lambda name, value: False, *, revoked: bytes,
 ) -> Status | Refusal:  # fmt: skip
     """Whether the certificate logs the user in at that second: Status.DONE, or what is wrong first, a Status or a Refusal.
 
-    `key` is the blob of the key of which the client has proved that it holds it, and `krl` a key revocation list, which may be
-    NO_REVOCATIONS; where it is no list, the certificate is Refusal.REVOKED. `is_met` says of a critical option, by its name and
-    value, whether it is known and met at this login. It is asked of no force-command or source-address that is empty or has a zero
-    byte, and of no verify-required with a value: such a one is never met. It must refuse a source-address that is no list of
-    networks. Whether somebody touched a security key, and what its extensions say is not looked at (docs/FOREIGN.md)."""
+    `key` is the blob of the key of which the client has proved that it holds it, and `revoked` what a file of sshd's RevokedKeys
+    has, a key revocation list or keys, one a line, or NO_REVOCATIONS; a file of no bytes revokes nothing. `is_met` says of a
+    critical option, by its name and value, whether it is known and met at this login. It is asked of no force-command or
+    source-address that is empty or has a zero byte, and of no verify-required with a value: such a one is never met. It must refuse
+    a source-address that is no list of networks. Whether somebody touched a security key, and what its extensions say is not looked
+    at (docs/FOREIGN.md)."""
     if not user:  # a certificate may list it
         return Status.UNLISTED_PRINCIPAL
-    status = judge(certificate, now, user, authorities, krl)
+    status = judge(certificate, now, user, authorities, revoked)
     if status != Status.DONE:
         return status
     fields, contents = sshkey.certificate_fields(certificate), sshkey.certificate_contents(certificate)
@@ -205,18 +216,20 @@ def validate_user(
 
 
 def validate_host(
-    certificate: bytes, now: int, host: str | bytes, port: int, texts: Collection[bytes], *, krl: bytes
+    certificate: bytes, now: int, host: str | bytes, port: int, texts: Collection[bytes], *, revoked: bytes
 ) -> Status | Refusal:  # fmt: skip
     """Whether the certificate is that of the host at the port, at that second: Status.DONE, or what is wrong first, a Status or a
     Refusal.
 
     `texts` are those of all the known_hosts files that count, the user's and the machine's, and `host` is the name that was asked
     for. The certificate has to list it in small letters, as ssh(1) asks; one that lists none is for each host of its authority.
-    `krl` is a key revocation list, as for `validate_user`. That the host holds the certified key is not looked at (docs/FOREIGN.md)."""
+    `revoked` is that of RevokedHostKeys, as for `validate_user`. That the host holds the certified key is not looked at
+    (docs/FOREIGN.md)."""
     try:
         fields, contents = sshkey.certificate_fields(certificate), sshkey.certificate_contents(certificate)
-        if is_revoked(krl, certificate):  # ssh(1) asks the list before it reads known_hosts
-            return Refusal.REVOKED
+        # ssh(1) asks the list before it reads known_hosts
+        if (status := judge_revoked(revoked, certificate)) != Status.DONE:
+            return status
         verdict = judge_signed(texts, host, port, contents.key, contents.authority)
     except sshkey.Refused as refused:
         return refused.status
@@ -230,7 +243,7 @@ def validate_host(
         return Refusal.UNREADABLE
     # of bytes these are the ASCII letters
     name = host.lower() if isinstance(host, bytes) else host.translate(SMALL)
-    return judge(certificate, now, name, {sshkey.fingerprint(contents.authority)}, krl)
+    return judge(certificate, now, name, {sshkey.fingerprint(contents.authority)}, revoked)
 
 
 def judge_signature(signature: bytes, namespace: str, message: bytes, signers: Collection[bytes]) -> Status | Refusal:
@@ -264,8 +277,8 @@ def judge_signer_of_digest(
     signature: bytes, namespace: str | bytes, digest: bytes, text: bytes, identity: str | bytes, now: int, *, revoked: bytes
 ) -> Status | Refusal:  # fmt: skip
     """Whether the signature, of a message with that digest, is the identity's by the text of a file of allowed signers at that
-    second, as `ssh-keygen -Y verify -r` says: Status.DONE, or what is wrong first. `revoked` is a key revocation list, which may be
-    NO_REVOCATIONS, or keys, one a line; no bytes revoke all keys."""
+    second, as `ssh-keygen -Y verify -r` says, but for times without Z, which are of UTC here: Status.DONE, or what is wrong first.
+    `revoked` is what a revocation file has, as for `validate_user`."""
 
     def allowed(is_verified: bool) -> Status:
         return sshkey.signer_verdict(text, identity, namespace, signature, now, revoked, is_verified)
@@ -274,8 +287,6 @@ def judge_signer_of_digest(
         # no cryptography runs over a key that may not sign
         if (status := allowed(False)) != Status.NOT_SIGNED:
             return status
-        if not revoked:  # to sshkey no bytes revoke nothing: here the list was forgotten
-            return Status.SIGNER_REVOKED
         found = judge_question(signature, lambda: sshkey.sshsig_question_of_digest(signature, namespace, digest), None)
         return allowed(True) if found == Status.DONE else found
     except sshkey.Refused as refused:
@@ -283,7 +294,7 @@ def judge_signer_of_digest(
 
 
 def said(status: Status | Refusal) -> str:
-    return "valid" if status == Status.DONE else f"refused: {MEANING.get(status, 'not in its format')} ({status:d})"
+    return "valid" if status == Status.DONE else f"refused: {MEANING[status]} ({status:d})"
 
 
 def read(line: str | bytes, is_certificate: bool) -> bytes:
@@ -295,14 +306,14 @@ def read(line: str | bytes, is_certificate: bool) -> bytes:
 
 
 def judge_line(
-    line: str | bytes, now: int, principal: str | bytes | None, authorities: Collection[bytes], krl: bytes
+    line: str | bytes, now: int, principal: str | bytes | None, authorities: Collection[bytes], revoked: bytes
 ) -> Status | Refusal:  # fmt: skip
     """Status.DONE, or what is wrong first."""
     try:
         certificate = read(line, is_certificate=True)
     except sshkey.Refused as refused:
         return refused.status
-    return judge(certificate, now, principal, authorities, krl)
+    return judge(certificate, now, principal, authorities, revoked)
 
 
 def fingerprints(path: str) -> set[bytes]:

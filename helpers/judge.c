@@ -4,7 +4,16 @@
 #include <stdlib.h>
 #include <string.h>
 
+#include "sha1.h"
 #include "verify.h"
+
+/* What SSHKEY_LENGTH of the line of a certificate comes from, where that is known. */
+static uint32_t told_length(const char *line, size_t length) {
+  judge_blob found = {NULL, 0};
+  uint32_t answer = judge_read_sha1(line, length, &found);
+  free(found.bytes);
+  return answer;
+}
 
 uint32_t judge_read_line(const char *line, size_t length, uint32_t kind, judge_blob *answer) {
   /* a room as long as the line is enough */
@@ -14,6 +23,7 @@ uint32_t judge_read_line(const char *line, size_t length, uint32_t kind, judge_b
   if (!room) return SSHKEY_MEMORY;
   uint32_t status = sshkey_read_line((const uint8_t *)line, length, room, length, &found);
   if (status == SSHKEY_DONE && found.kind != kind) status = SSHKEY_LABEL;
+  if (status == SSHKEY_LENGTH && kind == SSHKEY_LINE_CERTIFICATE) status = told_length(line, length);
   if (status != SSHKEY_DONE) {
     free(room);
     return status;
@@ -61,17 +71,23 @@ bool judge_read_file(const char *path, judge_blob *answer) {
 }
 
 /* PROTOCOL.krl: magic, version 1, three numbers and two empty strings */
-static uint8_t no_revocations[44] = "SSHKRL\n\0\0\0\0\1";
-const judge_blob judge_no_revocations = {no_revocations, sizeof no_revocations};
+static const uint8_t no_revocations[44] = "SSHKRL\n\0\0\0\0\1";
+const judge_blob judge_no_revocations = {(uint8_t *)no_revocations, sizeof no_revocations};
 
 uint32_t judge_revoked(judge_blob blob, bool is_certificate, judge_blob revoked) {
-  const uint8_t *list = sshkey_bytes(revoked.bytes), *bytes = sshkey_bytes(blob.bytes);
+  if (!revoked.bytes) return SSHKEY_UNREADABLE_REVOCATIONS;
+  const uint8_t *bytes = sshkey_bytes(blob.bytes);
   uint32_t answer =
       is_certificate
-          ? sshkey_krl_revokes_certificate(list, revoked.length, bytes, blob.length)
-          : sshkey_krl_revokes_key(list, revoked.length, bytes, blob.length);
-  if (answer == SSHKEY_NOT_REVOKED) return SSHKEY_DONE;
-  return answer == SSHKEY_MEMORY ? answer : JUDGE_REVOKED;
+          ? sshkey_revoked_certificate(revoked.bytes, revoked.length, bytes, blob.length)
+          : sshkey_revoked_key(revoked.bytes, revoked.length, bytes, blob.length);
+  switch (answer) {
+  case SSHKEY_NOT_REVOKED: return SSHKEY_DONE;
+  case SSHKEY_DONE: return JUDGE_REVOKED;
+  case SSHKEY_MEMORY: return SSHKEY_MEMORY;
+  /* each caller has read the blob before it asks */
+  default: return SSHKEY_UNREADABLE_REVOCATIONS;
+  }
 }
 
 uint32_t judge_add_authority(judge_authorities *to, const char *line, size_t length) {
@@ -371,37 +387,63 @@ uint32_t judge_validate_host(judge_blob certificate, const judge_host *asked) {
   return judge_name(certificate, asked, (judge_authorities){&signer, 1});
 }
 
+/* ---- words */
+
+static const struct {
+  uint32_t answer;
+  const char *words;
+} meanings[] = {
+    {SSHKEY_DONE, "valid"},
+    {SSHKEY_MEMORY, "no memory"},
+    {SSHKEY_ROOM, "the room is too short"},
+    {SSHKEY_END, "nothing is left"},
+    {SSHKEY_TEXT, "a name or a text that is given is not UTF-8"},
+    {SSHKEY_BASE64, "not Base64"},
+    {SSHKEY_CHARACTER_ENCODING, "a text that is not UTF-8"},
+    {SSHKEY_LABEL, "a name that may not stand there"},
+    {SSHKEY_LENGTH, "a length that passes the bytes"},
+    {SSHKEY_TRAILING_DATA, "bytes after the end"},
+    {SSHKEY_FORMAT, "a value that has not the form of its kind"},
+    {SSHKEY_ALGORITHM_UNKNOWN, "two names that have to be one"},
+    {SSHKEY_CRYPTO, "a number that is not positive"},
+    {SSHKEY_ECDSA, "no encoding of a point"},
+    {SSHKEY_TIME, "a time above 2^63 - 1"},
+    {SSHKEY_NAMESPACE, "an empty namespace"},
+    {SSHKEY_PUBLIC_KEY, "a public key that is not the private one's"},
+    {SSHKEY_UNSUPPORTED_VERSION, "a version that is not read"},
+    {SSHKEY_OTHER_FAULT, "another fault"},
+    {SSHKEY_RSA_SHA1, "signed by RSA with SHA-1"},
+    {SSHKEY_NOT_SIGNED, "not signed"},
+    {SSHKEY_UNTRUSTED_AUTHORITY, "another authority"},
+    {SSHKEY_INVALID_TIME, "no time that a certificate has"},
+    {SSHKEY_OUT_OF_WINDOW, "not valid at that time"},
+    {SSHKEY_UNLISTED_PRINCIPAL, "another principal"},
+    {SSHKEY_UNSUPPORTED, "key and signature do not go together"},
+    {SSHKEY_OTHER_NAMESPACE, "another namespace"},
+    {SSHKEY_PRINCIPALS, "principals, or none, against what is said of all"},
+    {SSHKEY_EMPTY_WINDOW, "a window without a second"},
+    {SSHKEY_HOST_REVOKED, "revoked by a line for the host"},
+    {SSHKEY_HOST_UNREADABLE, "a line that may revoke it and can't be read"},
+    {SSHKEY_HOST_CHANGED, "another key than the one known for the host"},
+    {SSHKEY_HOST_UNKNOWN, "no key or authority is known for the host"},
+    {SSHKEY_SIGNER_NOT_ALLOWED, "no allowed signer"},
+    {SSHKEY_SIGNER_REVOKED, "a signer that is revoked"},
+    {SSHKEY_ELSEWHERE, "from an address that is not allowed"},
+    {SSHKEY_UNREADABLE_REVOCATIONS, "the revocation file can't be read"},
+    {SSHKEY_KEY_NOT_ACCEPTED, "a kind or a size of key that OpenSSH does not let in"},
+    {SSHKEY_NOT_REVOKED, "not revoked"},
+    {JUDGE_NOT_FOR_USERS, "not for users"},
+    {JUDGE_NOBODY_LISTED, "no principals"},
+    {JUDGE_UNMET_OPTION, "a critical option that is not known or not met"},
+    {JUDGE_OTHER_KEY, "another key"},
+    {JUDGE_FLAG_DATA, "data in an extension that is a flag"},
+    {JUDGE_NOT_FOR_HOSTS, "not for hosts"},
+    {JUDGE_UNREADABLE, "texts or principals that sshd does not read"},
+    {JUDGE_REVOKED, "revoked"},
+};
+
 const char *judge_meaning(uint32_t answer) {
-  switch (answer) {
-  case SSHKEY_DONE: return "valid";
-  case SSHKEY_MEMORY: return "no memory";
-  case SSHKEY_ROOM: return "the room is too short";
-  case SSHKEY_TEXT: return "a principal that is not UTF-8";
-  case SSHKEY_BASE64: return "not Base64";
-  case SSHKEY_CHARACTER_ENCODING: return "a text that is not UTF-8";
-  case SSHKEY_LABEL: return "a name that may not stand there";
-  case SSHKEY_LENGTH: return "a length that passes the bytes";
-  case SSHKEY_TRAILING_DATA: return "bytes after the end";
-  case SSHKEY_NOT_SIGNED: return "not signed";
-  case SSHKEY_UNTRUSTED_AUTHORITY: return "another authority";
-  case SSHKEY_INVALID_TIME: return "no time that a certificate has";
-  case SSHKEY_OUT_OF_WINDOW: return "not valid at that time";
-  case SSHKEY_UNLISTED_PRINCIPAL: return "another principal";
-  case SSHKEY_UNSUPPORTED: return "key and signature do not go together";
-  case SSHKEY_OTHER_NAMESPACE: return "another namespace";
-  case JUDGE_NOT_FOR_USERS: return "not for users";
-  case JUDGE_NOBODY_LISTED: return "no principals";
-  case JUDGE_UNMET_OPTION: return "a critical option that is not known or not met";
-  case JUDGE_OTHER_KEY: return "another key";
-  case JUDGE_FLAG_DATA: return "data in an extension that is a flag";
-  case JUDGE_NOT_FOR_HOSTS: return "not for hosts";
-  case JUDGE_UNREADABLE: return "texts or principals that sshd does not read";
-  case JUDGE_REVOKED: return "revoked or no list that can be read";
-  case SSHKEY_HOST_REVOKED: return "revoked";
-  case SSHKEY_HOST_UNREADABLE: return "a line that may revoke it and can't be read";
-  case SSHKEY_HOST_UNKNOWN: return "no authority of the host";
-  case SSHKEY_SIGNER_NOT_ALLOWED: return "no allowed signer";
-  case SSHKEY_SIGNER_REVOKED: return "revoked or no file that can be read";
-  default: return "not in its format";
-  }
+  for (size_t at = 0; at < sizeof meanings / sizeof *meanings; at++)
+    if (meanings[at].answer == answer) return meanings[at].words;
+  return "an answer without words";
 }

@@ -21,7 +21,8 @@ typedef struct {
   size_t count;
 } judge_authorities;
 
-/* The key or the certificate of a line, as the kind says: SSHKEY_DONE, or why there is none. */
+/* The key or the certificate of a line, as the kind says: SSHKEY_DONE, or why there is none;
+ * SSHKEY_RSA_SHA1 for a certificate that RSA with SHA-1 signed. */
 uint32_t judge_read_line(const char *line, size_t length, uint32_t kind, judge_blob *answer);
 
 /* The same of two words, as sshd gives them: a type, and Base64. */
@@ -33,12 +34,14 @@ bool judge_read_stream(FILE *file, judge_blob *answer);
 /* Reads a file of that path, likewise. */
 bool judge_read_file(const char *path, judge_blob *answer);
 
-/* A key revocation list that revokes nothing. Who has none passes it: a list of no bytes, as one
- * that is forgotten, lets nobody in. */
+/* The word of who asks no revocation file. What is revoked is else what a file of sshd's
+ * RevokedKeys has: a key revocation list, or keys, one a line; a file of no bytes revokes nothing.
+ * Where no file was read, so that the pointer is null, all is refused. */
 extern const judge_blob judge_no_revocations;
 
-/* SSHKEY_DONE where the list does not revoke the certificate or the key of that blob, else
- * JUDGE_REVOKED or SSHKEY_MEMORY. */
+/* SSHKEY_DONE where the file does not revoke the certificate or the key of that blob; else
+ * JUDGE_REVOKED; SSHKEY_UNREADABLE_REVOCATIONS where it can't be read, which lets nobody in; or
+ * SSHKEY_MEMORY. */
 uint32_t judge_revoked(judge_blob blob, bool is_certificate, judge_blob revoked);
 
 /* Adds the key of the line to the authorities: SSHKEY_DONE, or why not. */
@@ -65,7 +68,7 @@ typedef struct {
   judge_authorities by;    /* who may certify users */
   judge_is_met *is_met;    /* may be null: then each critical option is one that is not known */
   void *given;             /* what is_met gets */
-  judge_blob revoked;      /* a key revocation list, which may be judge_no_revocations */
+  judge_blob revoked;      /* what a revocation file has, or judge_no_revocations */
 } judge_login;
 
 /* What is wrong with a certificate that may be valid, and logs nobody in or is not the host's;
@@ -78,7 +81,7 @@ enum {
   JUDGE_FLAG_DATA = 104,      /* data stand in an extension that is a flag */
   JUDGE_NOT_FOR_HOSTS = 105,  /* it is one for users */
   JUDGE_UNREADABLE = 106,     /* it has texts or principals that OpenSSH does not read */
-  JUDGE_REVOKED = 107         /* the list revokes it, or is no list, as one of no bytes */
+  JUDGE_REVOKED = 107         /* the revocation file revokes it */
 };
 
 /* Whether the certificate logs the user in: SSHKEY_DONE, or what is wrong first, a number of
@@ -93,7 +96,7 @@ typedef struct {
   uint64_t unix_timestamp; /* when that is */
   const judge_blob *texts; /* those of all the known_hosts files that count */
   size_t text_count;
-  judge_blob revoked;      /* a key revocation list, which may be judge_no_revocations */
+  judge_blob revoked;      /* what a revocation file has, or judge_no_revocations */
 } judge_host;
 
 /* Whether the certificate is that of the host: SSHKEY_DONE, or what is wrong first, a number of
@@ -102,7 +105,7 @@ typedef struct {
  * looked at (docs/FOREIGN.md). */
 uint32_t judge_validate_host(judge_blob certificate, const judge_host *asked);
 
-/* What an answer means, in words. */
+/* What an answer means, in words: each has its own. */
 const char *judge_meaning(uint32_t answer);
 
 #endif

@@ -36,25 +36,7 @@ int program_show(int count, char **words, const char *help) {
     program_show_version();
   else
     return -1;
-  return program_is_written() ? 0 : 1;
-}
-
-bool program_read_revoked(int *count, char ***words, judge_blob *answer) {
-  judge_blob none = judge_no_revocations;
-  if (*count > 2 && !strcmp((*words)[1], "--revoked")) {
-    const char *path = (*words)[2];
-    *count -= 2;
-    *words += 2;
-    if (judge_read_file(path, answer)) return true;
-    program_complain("%s: %s", path, strerror(errno));
-    return false;
-  }
-  *answer = (judge_blob){malloc(none.length), none.length};
-  if (answer->bytes)
-    memcpy(answer->bytes, none.bytes, none.length);
-  else
-    program_complain("no memory");
-  return answer->bytes != NULL;
+  return program_is_written() ? 0 : program_untold;
 }
 
 uint32_t program_each_line(judge_blob text, program_line *each, void *given, size_t *number) {
@@ -71,17 +53,22 @@ uint32_t program_each_line(judge_blob text, program_line *each, void *given, siz
   return answer;
 }
 
-bool program_read_keys(const char *path, program_line *each, void *given) {
-  judge_blob text = {NULL, 0};
-  size_t number;
-  if (!judge_read_file(path, &text)) {
-    program_complain("%s: %s", path, strerror(errno));
-    return false;
-  }
-  uint32_t answer = program_each_line(text, each, given, &number);
-  if (answer != SSHKEY_DONE)
-    program_complain("%s:%zu: %s%s", path, number, answer == SSHKEY_MEMORY ? "" : "no key: ",
-                     judge_meaning(answer));
-  free(text.bytes);
-  return answer == SSHKEY_DONE;
+size_t program_run_of(bool are_blanks, const char *line, size_t length, size_t place) {
+  size_t at = place;
+  while (at < length && (line[at] == ' ' || line[at] == '\t') == are_blanks) at++;
+  return at - place;
+}
+
+uint32_t program_add_authority(judge_authorities *to, const char *line, size_t length) {
+  size_t type = program_run_of(false, line, length, 0);
+  size_t base64 = type + program_run_of(true, line, length, type);
+  size_t rest = program_run_of(false, line, length, base64);
+  char *key = malloc(type + 1 + rest);
+  if (!key) return SSHKEY_MEMORY;
+  memcpy(key, line, type);
+  key[type] = ' ';
+  memcpy(key + type + 1, line + base64, rest);
+  uint32_t answer = judge_add_authority(to, key, type + 1 + rest);
+  free(key);
+  return answer;
 }

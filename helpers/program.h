@@ -1,4 +1,4 @@
-/* What the programs here share: what they say of themselves, and how they read files by lines. */
+/* What the programs here share: what they say of themselves, and how they go over lines. */
 #ifndef PROGRAM_H
 #define PROGRAM_H
 #include <stdbool.h>
@@ -6,8 +6,10 @@
 #include <stdint.h>
 #include "judge.h"
 
-/* The name of the program, as it is installed. Each has its own. */
+/* The name of the program, as it is installed, and the status by which it says that it can't tell.
+ * Each has its own. */
 extern const char program_name[];
+extern const int program_untold;
 
 /* Says on standard error, after the name, what is wrong. */
 void program_complain(const char *format, ...) __attribute__((format(printf, 1, 2)));
@@ -18,14 +20,13 @@ bool program_is_written(void);
 /* Prints the version of the library. */
 void program_show_version(void);
 
-/* Prints the help where that or the version is all that the words ask for: 0, or 1 where it can't
- * be written. Else -1. */
+/* Prints the help where that or the version is all that the words ask for: 0, or program_untold
+ * where it can't be written. Else -1. */
 int program_show(int count, char **words, const char *help);
 
-/* The list in the file of `--revoked FILE` in front of the words, from which it takes these two, in
- * memory of malloc; without them one that revokes nothing. False, with a word to standard error,
- * where it can't be read. */
-bool program_read_revoked(int *count, char ***words, judge_blob *answer);
+/* Has the program end with program_untold as soon as libcrypto is refused memory, which itself
+ * answers then as if a signature were wrong. To be called before libcrypto is, once. */
+void program_end_without_memory(void);
 
 /* What is done with a line and its number: SSHKEY_DONE, or why no further one is to be given. */
 typedef uint32_t program_line(const char *line, size_t length, size_t number, void *given);
@@ -34,8 +35,11 @@ typedef uint32_t program_line(const char *line, size_t length, size_t number, vo
  * else it is the answer, and `number` that of the line. */
 uint32_t program_each_line(judge_blob text, program_line *each, void *given, size_t *number);
 
-/* The same of a file of keys; false, with a word to standard error, where it can't be read, or the
- * line is refused. */
-bool program_read_keys(const char *path, program_line *each, void *given);
+/* How many bytes from that place on are blanks, or are none. */
+size_t program_run_of(bool are_blanks, const char *line, size_t length, size_t place);
+
+/* Adds the key of a line to the authorities: SSHKEY_DONE, or why not. Any blanks may stand between
+ * its type and its Base64, and any bytes behind: what a comment holds decides nothing. */
+uint32_t program_add_authority(judge_authorities *to, const char *line, size_t length);
 
 #endif

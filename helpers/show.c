@@ -158,13 +158,13 @@ static void print_options(const char *title, bool is_critical, slice list) {
 /* ---- all of it */
 
 /* The name of the algorithm by which the certificate is signed: its last string begins with it. */
-static slice signed_by(judge_blob certificate, const sshkey_parts *parts) {
+static slice algorithm_of(judge_blob certificate, const sshkey_parts *parts) {
   size_t place = parts->authority.start + parts->authority.length;
   slice rest = {certificate.bytes + place, certificate.length - place};
   return first_string(first_string(rest));
 }
 
-uint32_t show_certificate(judge_blob certificate) {
+uint32_t show_certificate(judge_blob certificate, const char *signed_by) {
   const uint8_t *bytes = certificate.bytes;
   sshkey_fields fields;
   sshkey_parts parts;
@@ -183,7 +183,10 @@ uint32_t show_certificate(judge_blob certificate) {
   answer = print_key(slice_of(bytes, parts.authority), "");
   if (answer != SSHKEY_DONE) return answer;
   printf(" (using ");
-  print_text(signed_by(certificate, &parts));
+  if (signed_by)
+    printf("%s", signed_by);
+  else
+    print_text(algorithm_of(certificate, &parts));
   printf(")\n        Key ID: \"");
   print_text(slice_of(bytes, parts.key_id));
   printf("\"\n        Serial: %" PRIu64 "\n", fields.serial);

@@ -4,7 +4,8 @@
 #include "judge.h"
 
 /* Prints what a certificate says, if it is one: SSHKEY_DONE, or why it is none. Each control
- * character and each backslash of its texts is shown by three octal digits after a backslash. */
-uint32_t show_certificate(judge_blob certificate);
+ * character and each backslash of its texts is shown by three octal digits after a backslash. It is
+ * shown as signed by the algorithm of that name, or, where that is null, by the one in it. */
+uint32_t show_certificate(judge_blob certificate, const char *signed_by);
 
 #endif

@@ -10,6 +10,7 @@
 
 #include "judge.h"
 #include "program.h"
+#include "sha1.h"
 #include "show.h"
 #include "sshsig.h"
 #include "verify.h"
@@ -30,6 +31,7 @@ static const char help[] =
     "Status 0: all is shown, or valid; 1: not all, as standard error says; 2: it can't tell.\n";
 
 enum { VALID = 0, INVALID = 1, UNTOLD = 2 };
+const int program_untold = UNTOLD;
 
 /* What is asked. */
 typedef struct {
@@ -45,12 +47,23 @@ typedef struct {
   uint64_t second;
   size_t count; /* of the lines that are answered */
   bool is_valid;
+  bool is_untold; /* a line of the keys is none */
 } request;
 
-/* Adds the authority of a line: SSHKEY_DONE, or why it has no key. */
-static uint32_t read_authority(const char *line, size_t length, size_t number, void *given) {
-  (void)number;
-  return judge_add_authority(given, line, length);
+/* Whether it can't tell: nothing follows of what is asked about. */
+static bool can_not_tell(uint32_t answer) {
+  return answer == SSHKEY_MEMORY || answer == SSHKEY_UNREADABLE_REVOCATIONS;
+}
+
+/* Adds the key of a line to those that count, or says that it has none. */
+static uint32_t read_key(const char *line, size_t length, size_t number, void *given) {
+  request *asked = given;
+  uint32_t answer = program_add_authority(&asked->by, line, length);
+  if (answer == SSHKEY_DONE || answer == SSHKEY_MEMORY) return answer;
+  asked->is_untold = true;
+  program_complain("%s:%zu: no key: %s", asked->is_verify ? asked->keys : asked->authorities,
+                   number, judge_meaning(answer));
+  return SSHKEY_DONE;
 }
 
 /* ---- certificates */
@@ -87,25 +100,38 @@ static const char *path_of(const request *asked) {
 }
 
 /* Shows the certificate of a line, below where it stands, as ssh-keygen does. */
-static uint32_t show_asked(judge_blob certificate, const request *asked, size_t number) {
+static uint32_t show_asked(judge_blob certificate, const request *asked, size_t number,
+                           const char *signed_by) {
   if (asked->path && number == 1)
     printf("%s:\n", asked->path);
   else
     printf("%s:%zu:\n", path_of(asked), number);
-  return show_certificate(certificate);
+  return show_certificate(certificate, signed_by);
 }
 
-/* Answers what is asked about a line; SSHKEY_MEMORY where it can't tell. */
+/* Shows what stands before a signature by SHA-1: SSHKEY_RSA_SHA1, or why not. */
+static uint32_t show_sha1(const char *line, size_t length, const request *asked, size_t number) {
+  judge_blob certificate = {NULL, 0};
+  uint32_t answer = judge_read_sha1(line, length, &certificate);
+  if (answer != SSHKEY_RSA_SHA1) return answer;
+  uint32_t shown = show_asked(certificate, asked, number, "ssh-rsa");
+  free(certificate.bytes);
+  return shown == SSHKEY_DONE ? answer : shown;
+}
+
+/* Answers what is asked about a line: SSHKEY_DONE, or why it can't tell. */
 static uint32_t answer_line(const char *line, size_t length, size_t number, void *given) {
   request *asked = given;
   judge_blob certificate = {NULL, 0};
   uint32_t answer = judge_read_line(line, length, SSHKEY_LINE_CERTIFICATE, &certificate);
   if (answer == SSHKEY_DONE)
     answer = asked->authorities ? judge_asked(certificate, asked)
-                                : show_asked(certificate, asked, number);
+                                : show_asked(certificate, asked, number, NULL);
+  else if (answer == SSHKEY_RSA_SHA1 && !asked->authorities)
+    answer = show_sha1(line, length, asked, number);
   free(certificate.bytes);
   asked->count++;
-  if (answer == SSHKEY_MEMORY) return answer;
+  if (can_not_tell(answer)) return answer;
   if (asked->authorities) puts(answer == SSHKEY_DONE ? "valid" : "refused");
   if (answer == SSHKEY_DONE) return answer;
   asked->is_valid = false;
@@ -142,8 +168,8 @@ static int verify_file(judge_blob signature, FILE *file, const request *asked) {
       asked->signers
           ? judge_signer_of_digest(signature, asked->name_space, digest, &asked->allowed)
           : judge_sshsig_of_digest(signature, asked->name_space, digest, asked->by);
-  if (answer == SSHKEY_MEMORY) {
-    program_complain("%s", judge_meaning(answer));
+  if (can_not_tell(answer)) {
+    program_complain("%s: %s (%" PRIu32 ")", asked->signature, judge_meaning(answer), answer);
     return UNTOLD;
   }
   puts(answer == SSHKEY_DONE ? "valid" : "refused");
@@ -176,6 +202,17 @@ static bool read_named(const char *path, judge_blob *answer) {
   return false;
 }
 
+/* Reads the file of keys where one is named, likewise, and where a line is none. */
+static bool read_keys(const char *path, request *asked) {
+  judge_blob text = {NULL, 0};
+  size_t number;
+  if (!read_named(path, &text)) return false;
+  uint32_t answer = program_each_line(text, read_key, asked, &number);
+  if (answer != SSHKEY_DONE) program_complain("%s:%zu: %s", path, number, judge_meaning(answer));
+  free(text.bytes);
+  return answer == SSHKEY_DONE && !asked->is_untold;
+}
+
 /* The number of the digits; false where there is another character, none, or too many. */
 static bool read_second(const char *word, uint64_t *answer) {
   char *end = NULL;
@@ -191,7 +228,7 @@ static int answer_request(request *asked) {
     program_complain("%s is no second", asked->at);
     return UNTOLD;
   }
-  if (keys && !program_read_keys(keys, read_authority, &asked->by)) return UNTOLD;
+  if (!read_keys(keys, asked)) return UNTOLD;
   if (!read_named(asked->revoked, &asked->list)) return UNTOLD;
   if (!read_named(asked->signers, &asked->allowed.text)) return UNTOLD;
   asked->allowed.unix_timestamp = asked->second;
@@ -249,6 +286,7 @@ static bool read_words(int count, char **words, request *asked) {
 
 int main(int count, char **words) {
   request asked;
+  program_end_without_memory();
   memset(&asked, 0, sizeof asked);
   asked.second = (uint64_t)time(NULL);
   asked.is_valid = true;

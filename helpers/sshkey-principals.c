@@ -1,23 +1,27 @@
 /* Lets users in by certificates of their own authorities: sshd trusts an authority for all users
  * (TrustedUserCAKeys) or for none, and this says which authority may sign for whom. See
  * sshkey-principals(8). */
-#include <inttypes.h>
 #include <stdbool.h>
 #include <stdio.h>
 #include <stdlib.h>
 #include <string.h>
 
 #include "judge.h"
+#include "login.h"
 #include "program.h"
 
 const char program_name[] = "sshkey-principals";
+const int program_untold = 1;
 static const char help[] =
-    "usage: sshkey-principals [--revoked FILE] AUTHORITIES USER TYPE CERTIFICATE\n"
+    "usage: sshkey-principals [--revoked FILE] [--syslog] [--insecure-modes]\n"
+    "                         AUTHORITIES USER TYPE CERTIFICATE\n"
     "\n"
     "sshd_config: AuthorizedPrincipalsCommand PATH/sshkey-principals AUTHORITIES %u %t %k\n"
+    "             AuthorizedPrincipalsCommandUser sshkey\n"
     "Prints USER if the certificate lets USER in by an authority of a line of AUTHORITIES:\n"
-    "USER[,USER..] TYPE BASE64 [COMMENT], and the key revocation list FILE does not revoke it.\n"
-    "Status 0: printed; 1: not, as standard error tells.\n";
+    "USER[,USER..] TYPE BASE64 [COMMENT], and FILE, as sshd's RevokedKeys, does not revoke it.\n"
+    "It does not run as nobody.\n"
+    "Status 0: printed, or not let in; 1: it can't tell, as standard error says.\n";
 
 /* Whether the list, whose names are apart by commas, has the user. */
 static bool has_user(const char *list, size_t length, const char *user) {
@@ -31,28 +35,35 @@ static bool has_user(const char *list, size_t length, const char *user) {
   return false;
 }
 
-/* How many bytes from that place on are blanks, or are none. */
-static size_t run_of(bool are_blanks, const char *line, size_t length, size_t place) {
-  size_t at = place;
-  while (at < length && (line[at] == ' ' || line[at] == '\t') == are_blanks) at++;
-  return at - place;
-}
-
 /* Whose authorities are read, and to where. */
 typedef struct {
-  const char *user;
+  const login_request *asked;
   judge_authorities by;
-  judge_blob revoked;
+  bool is_whole; /* each line of the user has a key */
 } wanted;
 
-/* Adds the authority of a line if the line has the user: SSHKEY_DONE, or why it has no key. */
+/* Adds the authority of a line if the line has the user, or says that it has no key. */
 static uint32_t read_authority(const char *line, size_t length, size_t number, void *given) {
   wanted *to = given;
-  (void)number;
-  size_t list = run_of(false, line, length, 0);
-  size_t key = list + run_of(true, line, length, list);
-  if (!has_user(line, list, to->user)) return SSHKEY_DONE;
-  return judge_add_authority(&to->by, line + key, length - key);
+  size_t list = program_run_of(false, line, length, 0);
+  size_t key = list + program_run_of(true, line, length, list);
+  if (!has_user(line, list, to->asked->user)) return SSHKEY_DONE;
+  uint32_t answer = program_add_authority(&to->by, line + key, length - key);
+  if (answer == SSHKEY_DONE || answer == SSHKEY_MEMORY) return answer;
+  to->is_whole = false;
+  login_complain(to->asked, "%s:%zu: no key: %s", to->asked->path, number, judge_meaning(answer));
+  return SSHKEY_DONE;
+}
+
+/* Reads the authorities of the user; false where that fails, which is said. */
+static bool read_authorities(wanted *to) {
+  judge_blob text = {NULL, 0};
+  size_t number;
+  if (login_read_file(to->asked, to->asked->path, NULL, &text) != LOGIN_READ) return false;
+  uint32_t answer = program_each_line(text, read_authority, to, &number);
+  if (answer != SSHKEY_DONE) login_complain(to->asked, "%s: no memory", to->asked->path);
+  free(text.bytes);
+  return answer == SSHKEY_DONE && to->is_whole;
 }
 
 /* Whether it is a certificate for users that lists principals: one that lists none allows all. */
@@ -64,45 +75,49 @@ static bool is_for_listed_users(judge_blob certificate) {
          fields.certificate_type == SSHKEY_USER && fields.lists_principals;
 }
 
-/* Prints the user where the certificate lets that user in; false, with a word to standard error,
- * where it does not, or where that fails. */
-static bool let_in(judge_blob certificate, const wanted *asked) {
+/* Prints the user where the certificate lets that user in, and returns the status. */
+static int let_in(judge_blob certificate, const wanted *to, judge_blob revoked) {
+  const login_request *asked = to->asked;
   if (!is_for_listed_users(certificate)) {
-    program_complain("the certificate is not one for users that are listed");
-    return false;
+    login_complain(asked, "refused: the certificate is not one for users that are listed");
+    return 0;
   }
-  uint32_t answer = judge_certificate(certificate, (uint64_t)time(NULL), asked->user, asked->by,
-                                      asked->revoked);
-  if (answer != SSHKEY_DONE) {
-    program_complain("refused: %s (%" PRIu32 ")", judge_meaning(answer), answer);
-    return false;
-  }
+  uint32_t answer =
+      judge_certificate(certificate, (uint64_t)time(NULL), asked->user, to->by, revoked);
+  if (answer != SSHKEY_DONE) return login_refuse(asked, answer);
   puts(asked->user);
-  return program_is_written();
+  return program_is_written() ? 0 : program_untold;
+}
+
+static int answer_request(login_request *asked) {
+  wanted to = {asked, {NULL, 0}, true};
+  judge_blob certificate = {NULL, 0}, revoked = {NULL, 0};
+  int status = program_untold;
+  uint32_t answer =
+      judge_read_words(asked->type, asked->base64, SSHKEY_LINE_CERTIFICATE, &certificate);
+  if (answer != SSHKEY_DONE) {
+    login_complain(asked, "no certificate is offered: %s", judge_meaning(answer));
+  } else {
+    login_note(asked, certificate, true);
+    if (login_read_revoked(asked, &revoked) && read_authorities(&to))
+      status = let_in(certificate, &to, revoked);
+  }
+  free(certificate.bytes);
+  free(to.by.keys);
+  free(revoked.bytes);
+  return status;
 }
 
 int main(int count, char **words) {
-  int shown = program_show(count, words, help);
-  if (shown >= 0) return shown;
-  judge_blob revoked = {NULL, 0};
-  if (!program_read_revoked(&count, &words, &revoked)) return 1;
-  if (count != 5) {
+  login_request asked;
+  program_end_without_memory();
+  int status = program_show(count, words, help);
+  if (status >= 0) return status;
+  if (!login_read_words(count, words, false, &asked)) {
     fputs(help, stderr);
-    free(revoked.bytes);
-    return 1;
+    return program_untold;
   }
-  wanted asked = {words[2], {NULL, 0}, revoked};
-  judge_blob certificate = {NULL, 0};
-  bool is_let_in = false;
-  if (program_read_keys(words[1], read_authority, &asked)) {
-    uint32_t answer = judge_read_words(words[3], words[4], SSHKEY_LINE_CERTIFICATE, &certificate);
-    if (answer == SSHKEY_DONE)
-      is_let_in = let_in(certificate, &asked);
-    else
-      program_complain("no certificate is offered: %s", judge_meaning(answer));
-  }
-  free(certificate.bytes);
-  free(asked.by.keys);
-  free(revoked.bytes);
-  return is_let_in ? 0 : 1;
+  status = login_may_run(&asked) ? answer_request(&asked) : program_untold;
+  login_forget(&asked);
+  return status;
 }

@@ -3,48 +3,15 @@
 #include <stdlib.h>
 #include <string.h>
 
+#include "sha1.h"
 #include "verify.h"
 
 /* where the strings of a signature begin, after SSHSIG and the version: key, namespace, reserved
  * bytes, hash, signature (PROTOCOL.sshsig) */
 #define STRINGS 10
-enum { RESERVED = 2, HASH = 3 };
+enum { RESERVED = 2, HASH = 3, SIGNATURE = 4 };
 
 /* ---- armour */
-
-/* The digit in Base64, or -1. */
-static int digit_of(uint8_t letter) {
-  static const char digits[] =
-      "ABCDEFGHIJKLMNOPQRSTUVWXYZabcdefghijklmnopqrstuvwxyz0123456789+/";
-  const char *found = letter ? strchr(digits, letter) : NULL;
-  return found ? (int)(found - digits) : -1;
-}
-
-/* Whether that many digits and padding are a whole text, and the bits that are left are 0. */
-static bool is_end(size_t digits, size_t padding, uint32_t bits) {
-  if (digits % 4 == 2) return padding == 2 && !(bits & 15);
-  if (digits % 4 == 3) return padding == 1 && !(bits & 3);
-  return digits % 4 == 0 && padding == 0;
-}
-
-/* Decodes Base64 with white space in it to the front of the same bytes: their number, or SIZE_MAX
- * where it is none. */
-static size_t decode(uint8_t *bytes, size_t length) {
-  size_t digits = 0, padding = 0, decoded = 0;
-  uint32_t bits = 0;
-  for (size_t at = 0; at < length; at++) {
-    if (bytes[at] && strchr(" \t\n\v\f\r", bytes[at])) continue;
-    int digit = digit_of(bytes[at]);
-    if (bytes[at] == '=') padding++;
-    if (bytes[at] == '=') continue;
-    if (digit < 0 || padding) return SIZE_MAX;
-    bits = bits << 6 | (uint32_t)digit;
-    /* each digit but the first of four ends a byte */
-    if (digits % 4) bytes[decoded++] = (uint8_t)(bits >> (2 * (3 - digits % 4)));
-    digits++;
-  }
-  return is_end(digits, padding, bits) ? decoded : SIZE_MAX;
-}
 
 uint32_t judge_read_armour(judge_blob text, judge_blob *answer) {
   static const char front[] = "-----BEGIN SSH SIGNATURE-----";
@@ -56,7 +23,7 @@ uint32_t judge_read_armour(judge_blob text, judge_blob *answer) {
   judge_blob made = {malloc(at), at - begin};
   if (!made.bytes) return SSHKEY_MEMORY;
   memcpy(made.bytes, text.bytes + begin, made.length);
-  made.length = decode(made.bytes, made.length);
+  made.length = judge_decode_base64(made.bytes, made.length);
   if (made.length == SIZE_MAX) {
     free(made.bytes);
     return SSHKEY_BASE64;
@@ -82,6 +49,14 @@ size_t judge_digest_length(judge_blob signature) {
   if (hash.length != 6) return 0;
   if (!memcmp(signature.bytes + hash.start, "sha256", 6)) return 32;
   return memcmp(signature.bytes + hash.start, "sha512", 6) ? 0 : 64;
+}
+
+/* The answer; but SSHKEY_LENGTH is SSHKEY_RSA_SHA1 where that is what the signature names. */
+static uint32_t told(uint32_t answer, judge_blob signature) {
+  static const char sha1[] = "\0\0\0\7ssh-rsa";
+  sshkey_part own = string_of(signature, SIGNATURE);
+  if (answer != SSHKEY_LENGTH || own.length < sizeof sha1 - 1) return answer;
+  return memcmp(signature.bytes + own.start, sha1, sizeof sha1 - 1) ? answer : SSHKEY_RSA_SHA1;
 }
 
 /* SSHKEY_DONE where the fingerprint is that of one of the keys. */
@@ -114,7 +89,7 @@ static uint32_t judge_question(judge_blob signature, const char *name_space, jud
 
 uint32_t judge_sshsig_of_digest(judge_blob signature, const char *name_space, judge_blob digest,
                                 judge_authorities keys) {
-  return judge_question(signature, name_space, digest, &keys);
+  return told(judge_question(signature, name_space, digest, &keys), signature);
 }
 
 /* Whether it counts, where that is what the verification said. */
@@ -132,9 +107,9 @@ uint32_t judge_signer_of_digest(judge_blob signature, const char *name_space, ju
   if (!by->identity) return SSHKEY_SIGNER_NOT_ALLOWED;
   /* no cryptography runs over a key that may not sign */
   uint32_t answer = judge_allowed(signature, name_space, by, false);
-  /* by sshkey.h no bytes revoke nothing: here the list was forgotten */
-  if (answer == SSHKEY_NOT_SIGNED && !by->revoked.length) answer = SSHKEY_SIGNER_REVOKED;
-  if (answer != SSHKEY_NOT_SIGNED) return answer;
+  /* here no file was read */
+  if (answer == SSHKEY_NOT_SIGNED && !by->revoked.bytes) answer = SSHKEY_UNREADABLE_REVOCATIONS;
+  if (answer != SSHKEY_NOT_SIGNED) return told(answer, signature);
   answer = judge_question(signature, name_space, digest, NULL);
   return answer == SSHKEY_DONE ? judge_allowed(signature, name_space, by, true) : answer;
 }

@@ -20,13 +20,13 @@ size_t judge_digest_length(judge_blob signature);
 uint32_t judge_sshsig_of_digest(judge_blob signature, const char *name_space, judge_blob digest,
                                 judge_authorities keys);
 
-/* By whom a signature has to be, as `ssh-keygen -Y verify` asks. */
+/* By whom a signature has to be, as `ssh-keygen -Y verify` asks, but for times without Z in the
+ * text, which are of UTC here and of the machine's zone there. */
 typedef struct {
   judge_blob text;         /* that of a file of allowed signers */
   const char *identity;    /* one of those whom it names; null is nobody */
   uint64_t unix_timestamp; /* when that is */
-  judge_blob revoked;      /* a key revocation list, which may be judge_no_revocations, or keys,
-                              one a line; no bytes revoke all keys, as in judge_login */
+  judge_blob revoked;      /* what a revocation file has, or judge_no_revocations */
 } judge_signers;
 
 /* The same, as the identity's by allowed signers: SSHKEY_DONE, or what is wrong first, a number of

@@ -151,7 +151,7 @@ bool judge_is_signature(const sshkey_question *question, const uint8_t *room) {
 }
 
 bool judge_digest(FILE *file, uint8_t *digest, size_t length) {
-  static uint8_t room[65536];
+  uint8_t room[4096];
   EVP_MD_CTX *context = EVP_MD_CTX_new();
   bool yes = context && (length == 32 || length == 64) &&
              EVP_DigestInit_ex(context, length == 32 ? EVP_sha256() : EVP_sha512(), NULL) == 1;

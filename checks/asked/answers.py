@@ -16,8 +16,8 @@ asked/rust over the packages. Words are bytes in hexadecimal (- for none), numbe
                                                              a LIST behind it, where no list revokes nothing
     host-certificate BYTES SECOND HOST PORT TEXT ..          what validate_host says, as check.py prints it, and
     host-revoked BYTES SECOND HOST PORT LIST TEXT ..         with a list
-    sshsig-by BYTES NAMESPACE DIGEST SIGNERS                 in C: what judge_sshsig_of_digest says, and how often it verifies
-    signer-by TEXT IDENTITY NAMESPACE BYTES REVOKED SECOND DIGEST        likewise judge_signer_of_digest
+    signer-by TEXT IDENTITY NAMESPACE BYTES REVOKED SECOND DIGEST        what judge_signer_of_digest says, and how often it verifies
+    sshsig-by BYTES NAMESPACE DIGEST SIGNERS                 in C: likewise judge_sshsig_of_digest
     fields BYTES                                             0 SERIAL AFTER BEFORE TYPE 0|1 0|1
     lists BYTES                                              0 KEY-ID KEY AUTHORITY, principal=NAME and critical=NAME=VALUE and
                                                              extension=NAME=VALUE for each, options by rising names
@@ -27,6 +27,7 @@ asked/rust over the packages. Words are bytes in hexadecimal (- for none), numbe
     normal key|certificate|sshsig|signature BYTES            0 BYTES
     signer TEXT IDENTITY NAMESPACE BYTES REVOKED SECOND 0|1  what a text of allowed signers says, where a verification says no or yes
     revokes-key LIST KEY | revokes-certificate LIST BYTES    0 1 if the list revokes it, else 0 0
+    revoked-key FILE KEY | revoked-certificate FILE BYTES    the same of a file of sshd's RevokedKeys
     draft KEY NONCE KEY-ID PRINCIPALS CRITICAL EXTENSIONS AUTHORITY SERIAL AFTER BEFORE TYPE ALL
                                                              0 BYTES that are to be signed; lists as a certificate has them, of
                                                              which a package makes lists of its own, ALL 1 for everybody
@@ -41,6 +42,7 @@ and a package also
     sshsig-reserved BYTES                                    0 BYTES
     is-sshsig BYTES NAMESPACE MESSAGE SIGNERS                0, or what is wrong first
     is-sshsig-of-digest BYTES NAMESPACE DIGEST SIGNERS
+    is-signer .. as signer-by
     validate BYTES SECOND PRINCIPAL|* AUTHORITIES 0|1        0, or what is wrong first, where a verification says no or yes, and how
                                                              many questions the verifier was asked
     certificate-options BYTES                                0 NAME=VALUE .., by rising names
@@ -55,6 +57,8 @@ from unittest.mock import patch
 
 from .linked import VALGRIND, run, word
 
+# what is said of a number that no answer has
+WITHOUT_WORDS = "an answer without words"
 # the numbers of helpers/judge.h
 REFUSALS = {
     "NOT_FOR_USERS": 100, "NOBODY_LISTED": 101, "UNMET_OPTION": 102, "OTHER_KEY": 103, "FLAG_DATA": 104, "NOT_FOR_HOSTS": 105,
@@ -137,6 +141,9 @@ class Answers:
         *words, by = given
         return self.counted(self.check.judge_signature_of_digest, *map(data_of, words), self.digests(by))
 
+    def is_signer(self, *given):
+        return self.signer_by(*given)[:1]
+
     def signer_by(self, *given):
         text, identity, namespace, signature, revoked, digest = map(data_of, (*given[:5], given[6]))
         call = self.check.judge_signer_of_digest
@@ -161,14 +168,14 @@ class Answers:
             return name.encode() == data_of(known) and value != "unmet"
 
         given = (data_of(data), data_of(key), int(second), data_of(user), self.digests(by), is_met)
-        return [self.check.said(self.check.validate_user(*given, krl=data_of(krl[0]) if krl else self.check.NO_REVOCATIONS))]
+        return [self.check.said(self.check.validate_user(*given, revoked=data_of(krl[0]) if krl else self.check.NO_REVOCATIONS))]
 
     def host_certificate(self, data, second, host, port, *texts):
         return self.host_revoked(data, second, host, port, word(self.check.NO_REVOCATIONS), *texts)
 
     def host_revoked(self, data, second, host, port, krl, *texts):
         given = (data_of(data), int(second), data_of(host), int(port), [data_of(it) for it in texts])
-        return [self.check.said(self.check.validate_host(*given, krl=data_of(krl)))]
+        return [self.check.said(self.check.validate_host(*given, revoked=data_of(krl)))]
 
     def fields(self, data):
         of = self.sshkey.certificate_fields(data_of(data))
@@ -211,6 +218,12 @@ class Answers:
         text, *who, second, yes = given
         signers, identity, namespace, signature, revoked = map(data_of, (text, *who))
         return [str(int(self.sshkey.signer_verdict(signers, identity, namespace, signature, int(second), revoked, yes == "1")))]
+
+    def revoked_key(self, revoked, key):
+        return ["0", str(int(self.sshkey.revoked_key(data_of(revoked), data_of(key))))]
+
+    def revoked_certificate(self, revoked, data):
+        return ["0", str(int(self.sshkey.revoked_certificate(data_of(revoked), data_of(data))))]
 
     def revokes_key(self, krl, key):
         return ["0", str(int(self.sshkey.krl_revokes_key(data_of(krl), data_of(key))))]
@@ -280,7 +293,7 @@ class Judge:
         """What check.py prints of a status or a refusal of that name."""
         number = self.number(status)
         means = {int(it): words for it, words in self.made.check.MEANING.items()}
-        return "valid" if number == 0 else f"refused: {means.get(number, 'not in its format')} ({number})"
+        return "valid" if number == 0 else f"refused: {means[number]} ({number})"
 
     def check(self, name, holds, *details):
         self.count.check(f"{self.asker.language}: {name}", holds, *details)

@@ -5,10 +5,10 @@ import getpass
 import os
 from concurrent.futures import ThreadPoolExecutor
 
-from lib.harness import line_of
+from lib.harness import blob_of, line_of, string, take
 
 from .linked import run
-from .principals import HELPER, SSHD, logs_in
+from .principals import SSHD, login, logs_in
 from .security_key_agent import Agent
 from .security_key_calls import COUNTER, TOUCHED, SecurityKey, certified
 
@@ -26,7 +26,7 @@ READING = "AuthorizedKeysFile {0}/keys/%u\n"
 # as in asked/principals.py, sshd runs env, which runs the program
 ASKING = """\
 AuthorizedKeysFile none
-AuthorizedKeysCommand /usr/bin/env {1} {0}/keys/%u %u %t %k
+AuthorizedKeysCommand /usr/bin/env {1} --insecure-modes {0}/keys %u %t %k
 AuthorizedKeysCommandUser {2}
 """
 # the lines of the user's file, each with a key of its own
@@ -40,8 +40,9 @@ LINES = {
 }  # fmt: skip
 DEVICES = {"device": "Ed25519", "other-device": "ECDSA P-256", "strange-device": "Ed25519"}
 KINDS = {"rsa": "rsa -b 2048", "ecdsa": "ecdsa -b 256"}
-# lines with authorities, and lines that are no entries
-AUTHORITIES, NEVER = ("authority", "listing", "both"), ("no-options", "commented", "strange-device")
+AUTHORITIES = ("authority", "listing", "both")
+# lines that may be for any key: they are no entry, or have a zero byte
+ALWAYS = ("no-options", "zero")
 LET_IN = {
     "alone", "rsa", "ecdsa", "command", "plain", "twice", "both", "by-authority", "by-both", "for-a-listed", "device",
     "other-device", "untouched-other-device", "certified-device",
@@ -51,8 +52,8 @@ LET_IN = {
 class Files:
     """Files of keys, and an sshd that reads them, or asks the program."""
 
-    def __init__(self, maker, program, me):
-        self.maker, self.program, self.me = maker, program, me
+    def __init__(self, maker, program, me, helper):
+        self.maker, self.program, self.me, self.helper = maker, program, me, helper
         os.mkdir(maker.path("keys"))
         # sshd reads a user's file as that user, who has to get there
         for folder in (maker.folder, os.path.dirname(maker.folder)):
@@ -62,13 +63,18 @@ class Files:
         self.agents = {}
         for name, kind in DEVICES.items():
             self.plug(name, SecurityKey(kind, b"ssh:"))
-        lines = [line.format(self.fields(name)) for name, line in LINES.items()]
+        self.lines = {name: line.format(self.fields(name)).split("\n") for name, line in LINES.items()}
         # sshd reads no further than to a zero byte
-        lines.append(f"{self.fields('zero')} a\0b")
-        maker.write(f"keys/{me}", "\r\n".join(["# keys", "", *lines]) + "\n")
+        self.lines["zero"] = [f"{self.fields('zero')} a\0b"]
+        maker.write(f"keys/{me}", "\r\n".join(["# keys", "", *(it for lines in self.lines.values() for it in lines)]) + "\n")
         maker.write("keys/nobody", f"{self.fields('nobody')}\n")
-        maker.write("reading", (CONFIGURATION + READING).format(maker.folder))
-        maker.write("asking", (CONFIGURATION + ASKING).format(maker.folder, program, HELPER))
+        self.configure("", maker.folder)
+
+    def configure(self, name, folder):
+        """Two configurations of sshd: it reads the files of keys below the folder itself, or asks the program."""
+        for way, words in (("reading", READING), ("asking", ASKING)):
+            text = CONFIGURATION.format(self.maker.folder) + words.format(folder, self.program, self.helper)
+            self.maker.write(f"{way}{name}", text)
 
     def plug(self, name, device, flags=TOUCHED):
         """A security key under that name, and an agent that has it."""
@@ -97,8 +103,8 @@ class Files:
             self.maker.write(f"{name}-cert.pub", line_of(certified(agent.key, *blobs, COUNTER)) + "\n")
         return name
 
-    def printed(self, path, offered):
-        ran = run([self.program, path, self.me, *offered.split()[:2]])
+    def printed(self, *words):
+        ran = run([self.program, "--insecure-modes", *words])
         return ran.returncode, ran.stdout
 
     def offers(self):
@@ -123,26 +129,78 @@ class Files:
 
 
 def check_printed(count, name, files):
-    """What is printed of each line: the line as it stands, if the key or its certificate is offered."""
-    path = files.maker.path(f"keys/{files.me}")
-    for key, line in LINES.items():
-        lines = line.format(files.fields(key)).split("\n")
-        authorities = [it.lstrip() for it in lines if "cert-auth" in it.lower()]
-        alone = [it.lstrip() for it in lines if it.lstrip() not in authorities]
-        certificate = files.maker.read(f"{files.certified('printed', key, '-n', files.me)}-cert.pub")
-        for offered, wanted in ((files.fields(key), alone), (certificate, authorities)):
-            wanted = (0, "".join(f"{it}\n" for it in wanted if key not in NEVER))
-            found = files.printed(path, offered)
-            lines = len(wanted[1].splitlines())
-            count.check(f"authorized_keys {name}, {key}: {lines} lines for {offered.split()[0]}", found == wanted, found)
-    alone, folder = files.fields("alone"), files.maker.path("keys")
-    for case, where, offered, wanted in (
-        ("a line with a zero byte", path, files.fields("zero"), (0, "")), ("no such file", f"{path}.none", alone, (1, "")),
-        ("a folder", folder, alone, (1, "")), ("no key", path, "ssh-ed25519 AAAA", (1, "")),
-        ("a key under another name", path, f"ssh-rsa {alone.split()[1]}", (1, "")),
+    """What is printed of each line: the line as it stands, unless it is an entry of another key."""
+    folder, me = files.maker.path("keys"), files.me
+    for key in files.lines:
+        wanted = [it.lstrip() for other, lines in files.lines.items() if other in (key, *ALWAYS) for it in lines if it[0] != "#"]
+        certificate = files.maker.read(f"{files.certified('printed', key, '-n', me)}-cert.pub")
+        for offered in (files.fields(key), certificate):
+            type_and_key = offered.split()[:2]
+            for words in ([folder], ["--file", f"{folder}/{me}"]):
+                found = files.printed(*words, me, *type_and_key)
+                same = found == (0, "".join(f"{it}\n" for it in wanted))
+                count.check(f"authorized_keys {name}, {key}: {len(wanted)} lines for {type_and_key[0]}", same, found)
+
+
+def check_statuses(count, name, files):
+    """What has nothing printed: 0 for a no, and 1 where the program can't tell."""
+    folder, me, alone = files.maker.path("keys"), files.me, files.fields("alone").split()
+    os.mkdir(f"{folder}/folder")
+    for case, words, status in (
+        ("no such file", [folder, "none", *alone], 0), ("no such folder", [f"{folder}/none", me, *alone], 0),
+        ("another user's file", [folder, "nobody", *alone], 0), ("no such path", ["--file", f"{folder}/none", me, *alone], 0),
+        ("a folder", [folder, "folder", *alone], 1), ("no key", [folder, me, "ssh-ed25519", "AAAA"], 1),
+        ("a key under another name", [folder, me, "ssh-rsa", alone[1]], 1), ("no user", [folder, "", *alone], 1),
+        ("the folder itself", [folder, ".", *alone], 1), ("the folder above", [f"{folder}/folder", "..", *alone], 1),
+        ("a hidden file", [folder, f".{me}", *alone], 1), ("out of the folder", [f"{folder}/folder", f"../{me}", *alone], 1),
+        ("below the folder", [files.maker.folder, f"keys/{me}", *alone], 1), ("no words", [folder, me], 1),
+        ("a path and a folder", ["--file", f"{folder}/{me}", folder, me, *alone], 1),
     ):  # fmt: skip
-        found = files.printed(where, offered)
-        count.check(f"authorized_keys {name}: {case}", found == wanted, found)
+        found = files.printed(*words)
+        # of another user's file the lines that are no entries are none
+        count.check(f"authorized_keys {name}: {case} is status {status}", found == (status, ""), found)
+
+
+# ---- which line decides
+
+
+def check_first_lines(count, files):
+    """sshd takes the first line that lets a key in: one that binds the key, which the library does not read, and then one that does
+    not. Where sshd runs the program, the same line decides as where it reads the file itself."""
+    maker, me = files.maker, files.me
+    key, others = files.fields("alone").encode(), [files.fields(it).encode() for it in ("plain", "rsa", "ecdsa")]
+    kind, base64_text = key.split(b" ")
+    short = string(b"ED25519") + string(take(take(blob_of(key.decode()))[1])[0])
+    bound = b'restrict,command="echo BOUND" '
+    free = b"\n" + key + b"\n"
+    texts = {
+        "nothing odd": bound + key + free, "more than 64 options": b"no-pty," * 65 + bound + key + free,
+        "a zero byte in its comment": bound + key + b" x\0y" + free, "a Latin-1 comment": bound + key + b" caf\xe9" + free,
+        "a Latin-1 byte in its command": b'restrict,command="echo BOUND #\xe9" ' + key + free,
+        "a CR within Base64": bound + kind + b" " + base64_text[:20] + b"\r" + base64_text[20:] + b" x" + free,
+        "two CR at its end": bound + key + b"\r\r" + free,
+        "a form feed in its Base64": bound + kind + b" " + base64_text[:20] + b"\f" + base64_text[20:] + free,
+        "a short name in its key": bound + b"ssh-ed25519 " + base64.b64encode(short) + free,
+        "restrict twice": b"restrict," + bound + key + free,
+        "other keys and a comment before": others[1] + b"\n" + others[2] + b" caf\xe9\n# x\n" + bound + key + free,
+        "junk before": b'hello world\nssh-rsa AAAA\n"open\n' + bound + key + free, "not listed": others[0] + b"\n",
+    }  # fmt: skip
+    for at, text in enumerate(texts.values()):
+        os.makedirs(maker.path(f"first{at}/keys"))
+        with open(maker.path(f"first{at}/keys/{me}"), "wb") as file:
+            file.write(text)
+        files.configure(f"-first{at}", maker.path(f"first{at}"))
+    asked = [(f"{way}-first{at}", me, "alone", "none", "echo FREE") for at in range(len(texts)) for way in ("reading", "asking")]
+    with ThreadPoolExecutor(len(os.sched_getaffinity(0))) as pool:
+        found = list(pool.map(lambda it: login(maker, *it), asked))
+    for case, reads, asks in zip(texts, found[::2], found[1::2]):
+        count.check(f"the first line has {case}, as sshd alone says: {reads[1].strip() or 'refused'}", reads == asks, reads, asks)
+    # a later sshd may read fewer of them, and the second line then counts for both
+    said = [it for _, it in found[1::2]]
+    count.check("most of the first lines bind the login", said.count("BOUND\n") > 8 and said[0] == "BOUND\n" and not said[-1], said)
+
+
+# ---- who is let in
 
 
 def check_offers(count, files):
@@ -158,16 +216,18 @@ def check_offers(count, files):
     count.check(f"{len(LET_IN)} of {len(offers)} log the user in", let_in == LET_IN, let_in ^ LET_IN)
 
 
-def check_key_logins(count, built, folder, maker_in):
-    """maker_in gives what makes keys and certificates in a folder."""
+def check_key_logins(count, built, folder, maker_in, helper):
+    """maker_in gives what makes keys and certificates in a folder; helper is the user as whom sshd runs the program."""
     if not os.path.exists(SSHD):
         count.check(f"{SSHD} (Debian: openssh-server)", False)
         return
     for name, out in (("plain", built.plain), ("with sanitizers", built.sanitized)):
         room = f"{folder}/keys-{os.path.basename(out)}"
         os.mkdir(room)
-        files = Files(maker_in(room), f"{out}/sshkey-authorized-keys", getpass.getuser())
+        files = Files(maker_in(room), f"{out}/sshkey-authorized-keys", getpass.getuser(), helper)
         check_printed(count, name, files)
+        check_statuses(count, name, files)
         if out == built.plain:
             check_offers(count, files)
+            check_first_lines(count, files)
         files.unplug()

@@ -61,6 +61,8 @@ typedef struct {
   CALL(next_string, BYTES(0), it->numbers[0], &it->part)                                         \
   CALL(krl_revokes_key, BYTES(0), BYTES(1))                                                      \
   CALL(krl_revokes_certificate, BYTES(0), BYTES(1))                                              \
+  CALL(revoked_key, BYTES(0), BYTES(1))                                                          \
+  CALL(revoked_certificate, BYTES(0), BYTES(1))                                                  \
   CALL(next_line, BYTES(0), it->numbers[0], &it->part)                                           \
   CALL(authorized_entry, BYTES(0), ROOM, &it->entry)                                             \
   CALL(known_host, BYTES(0), ROOM, &it->entry)                                                   \

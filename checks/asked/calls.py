@@ -20,11 +20,11 @@ OTHERS = 25 * SAMPLED
 # the calls that read the bytes of each kind
 FILE, DIGEST = b"file".hex(), "a5" * 64
 OF_KINDS = {
-    "certificate": ["certificate {}", "fields {}", "lists {}", "normal certificate {}", f"revokes-certificate {EMPTY.hex()} {{}}"],
-    "key": ["key {}", "normal key {}", f"revokes-key {EMPTY.hex()} {{}}"],
+    "certificate": ["certificate {}", "fields {}", "lists {}", "normal certificate {}", f"revokes-certificate {EMPTY.hex()} {{}}", "revoked-certificate - {}"],
+    "key": ["key {}", "normal key {}", f"revokes-key {EMPTY.hex()} {{}}", "revoked-key - {}"],
     "ssh-signature": [f"sshsig {{}} {FILE} {b'message'.hex()}", "normal sshsig {}", f"signer - {FILE} {FILE} {{}} - {MIDDLE} 1"],
 }  # fmt: skip
-OF_OTHERS = ["normal signature {}", "lines {}", "entry {}", "host {}", "options {}", "line {}", "revokes-key {} -"]
+OF_OTHERS = ["normal signature {}", "lines {}", "entry {}", "host {}", "options {}", "line {}", "revokes-key {} -", "revoked-key {} -"]
 # those that a package is asked too
 OF_PACKAGES = {
     "certificate": [f"validate {{}} {MIDDLE} * {'00' * 32} 1"], "others": ["strings {}", "certificate-options {}"],

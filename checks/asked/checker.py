@@ -5,10 +5,11 @@ import random
 import re
 import time
 
-from lib.harness import ROOT, line_of, ssh_keygen, string
+from lib.harness import ROOT, blob_of, line_of, ssh_keygen, string
 from lib.signatures import armoured, ssh_signature_over
 
 from .certificate_calls import CASES
+from .key_calls import all_of
 from .example_calls import INVALID, SPACE, UNTOLD, VALID, armour_cases
 from .linked import VALGRIND, run, turned
 from .login_options import certificate
@@ -20,7 +21,7 @@ HOSTILE_WORDS = 150
 WINDOWS = ("always:forever", "20240101:forever", "always:20240101000000", "20240101000000:20240201000000")
 # lines of allowed signers with a signature by {key} of "a text" in SPACE, what it is asked about, what is revoked, and what is said at
 # the middle of a window
-NOBODY, REVOKED = "no allowed signer (55)", "revoked or no file that can be read (56)"
+NOBODY, REVOKED, UNREAD = "no allowed signer (55)", "a signer that is revoked (56)", "the revocation file can't be read (58)"
 ALLOWED = [
     ("as it is", "alice {key}", {}, None, "valid"), ("of one of two", "bob,alice {key}", {}, None, "valid"),
     ("of another text", "alice {key}", {"text": "a texts"}, None, "not signed (30)"),
@@ -34,7 +35,8 @@ ALLOWED = [
     ("after its time", 'alice valid-before="20240101Z" {key}', {}, None, NOBODY),
     ("while another key is revoked", "alice {key}", {}, "{other}", "valid"), ("by a revoked key", "alice {key}", {}, "{key}", REVOKED),
     ("by a revoked key of nobody", "bob {key}", {}, "{key}", NOBODY),
-    ("while a line revokes no key", "alice {key}", {}, "ssh-ed25519 AAAA", REVOKED),
+    ("while an empty file revokes", "alice {key}", {}, "", "valid"), ("while a comment revokes", "alice {key}", {}, "# {key}", "valid"),
+    ("while a line revokes no key", "alice {key}", {}, "ssh-ed25519 AAAA", UNREAD),
 ]  # fmt: skip
 # texts of a certificate that a terminal would take for commands, and how they are shown
 HOSTILE = ("\x1b[2J\x7f\x80\u0085\nx\\y\xa0\u00a9", "\\033[2J\\177\\302\\200\\302\\205\\012x\\134y\xa0\u00a9")
@@ -67,6 +69,40 @@ def check_shown(count, programs, maker):
         ran = run([programs[0], *words], input="\n".join(lines))
         count.check(f"sshkey-check shows {len(shown)} lines of {words or 'its input'}", (ran.returncode, ran.stdout) == (VALID, of), ran)
     check_hostile_texts(count, programs, maker)
+
+
+def check_sha1(count, programs, maker):
+    """Of a certificate that RSA with SHA-1 signed all is shown that ssh-keygen shows; it is named as such a one, and valid for nobody.
+    So is an SSH signature, and what is cut or turned is named as what it is."""
+    maker.key("sha1-authority", "rsa -b 2048")
+    ca, told = maker.path("sha1-authority.pub"), "sshkey-check: {}: signed by RSA with SHA-1 (24)\n"
+    for at, kind in enumerate(KINDS):
+        words = ["-t", "ssh-rsa", "-s", maker.path("sha1-authority"), "-I", "id", "-n", "alice", "-O", "force-command=true"]
+        ssh_keygen("-q", *words, maker.path(f"shown{at}.pub"))
+        path = maker.path(f"shown{at}-cert.pub")
+        wanted = run(["ssh-keygen", "-L", "-f", path]).stdout
+        for program in programs:
+            ran = run([program, path])
+            same = (ran.returncode, ran.stdout, ran.stderr) == (INVALID, wanted, told.format(f"{path}:1")) and "(using ssh-rsa)" in wanted
+            count.check(f"sshkey-check shows a certificate of {kind} that RSA with SHA-1 signed", same, ran, wanted)
+            ran = run([program, "--ca", ca, "--user", "alice", path])
+            same = (ran.returncode, ran.stdout, ran.stderr) == (INVALID, "refused\n", told.format(f"{path}:1"))
+            count.check("and it is valid for nobody", same, ran)
+    blob = blob_of(maker.read("shown0-cert.pub"))
+    lines = [line_of(it) for it in (*(blob[:at] for at in range(1, len(blob), 7)), *turned(blob)[::5])]
+    ran = run([programs[1]], input="".join(f"{it}\n" for it in lines))
+    named = ran.stderr.count("sshkey-check: (stdin):")
+    is_sound = ran.returncode == INVALID and named == len(lines) and 0 < ran.stderr.count("SHA-1") < named
+    count.check(f"sshkey-check names each of {len(lines)} such certificates that are cut or turned", is_sound, ran.stderr[-2000:])
+    signature = maker.signature(f"shown{len(KINDS) - 1}", "a text", SPACE)
+    name, value = all_of(all_of(signature[10:])[4])
+    renamed = signature[: -len(string(string(name) + string(value)))] + string(string(b"ssh-rsa") + string(value))
+    path, key = maker.write("armour.sig", armoured(renamed)), maker.path(f"shown{len(KINDS) - 1}.pub")
+    allowed = maker.write("signers", f"alice {maker.read(f'shown{len(KINDS) - 1}.pub')}\n")
+    for words in (["-k", key], ["-f", allowed, "-I", "alice"]):
+        ran = run([programs[1], "verify", *words, "-n", SPACE, "-s", path], input="a text")
+        same = (ran.returncode, ran.stdout, ran.stderr) == (INVALID, "refused\n", told.format(path))
+        count.check(f"sshkey-check verify {words[0]}, a signature by SHA-1", same, ran)
 
 
 def check_hostile_texts(count, programs, maker):
@@ -136,8 +172,8 @@ def check_allowed(count, programs, maker):
         words = ["-f", maker.write("signers", line.format(**keys) + "\n"), "-I", asked.get("who", "alice")]
         words += ["-n", asked.get("space", SPACE), "-s", path]
         files, text, is_valid = [[]], asked.get("text", "a text"), wanted == "valid"
-        if revoked:
-            file = maker.write("revoked", f"# revoked\n{revoked.format(**keys)}\n")
+        if revoked is not None:
+            file = maker.write("revoked", revoked and f"# revoked\n{revoked.format(**keys)}\n")
             files = [["-r", file]]
         if revoked and revoked.startswith("{"):
             ssh_keygen("-q", "-k", "-f", maker.path("revoked.krl"), file)
@@ -145,17 +181,12 @@ def check_allowed(count, programs, maker):
         for more in files:
             judged = run(["ssh-keygen", "-Y", "verify", "-O", at, *words, *more], input=text).returncode == 0
             count.check(f"ssh-keygen, a signature {name}, by {more or 'no file'}", judged == is_valid, judged)
-            said = ("valid\n", "") if is_valid else ("refused\n", f"sshkey-check: {path}: {wanted}\n")
+            said = ("valid\n", "") if is_valid else ("" if wanted == UNREAD else "refused\n", f"sshkey-check: {path}: {wanted}\n")
+            status = VALID if is_valid else UNTOLD if wanted == UNREAD else INVALID
             for program in programs:
                 ran = run([program, "verify", *words, *more, "--at", str(MIDDLE)], input=text)
-                same = (ran.returncode, (ran.stdout, ran.stderr)) == (VALID if is_valid else INVALID, said)
+                same = (ran.returncode, (ran.stdout, ran.stderr)) == (status, said)
                 count.check(f"sshkey-check, a signature {name}", same, ran)
-    # stricter here
-    signers, empty = maker.write("signers", f"alice {keys['key']}\n"), maker.write("revoked", "")
-    words = ["verify", "-f", signers, "-I", "alice", "-n", SPACE, "-s", path, "-r", empty]
-    ran = run([programs[1], *words], input="a text")
-    refused = (INVALID, "refused\n", f"sshkey-check: {path}: {REVOKED}\n")
-    count.check("sshkey-check, a signature while an empty file revokes", (ran.returncode, ran.stdout, ran.stderr) == refused, ran)
 
 
 def check_hostile_signatures(count, programs, maker):
@@ -243,6 +274,7 @@ def check_checker(count, built, made):
     maker = made.maker
     programs = [f"{it}/sshkey-check" for it in (built.plain, built.sanitized)]
     check_shown(count, programs, maker)
+    check_sha1(count, programs, maker)
     check_verified(count, programs, maker)
     check_allowed(count, programs, maker)
     check_hostile_signatures(count, programs, maker)

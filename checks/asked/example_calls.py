@@ -7,7 +7,8 @@ import sys
 
 from lib.signatures import armoured
 
-from .linked import BINDINGS, EXAMPLES, run
+from .answers import REFUSALS, WITHOUT_WORDS
+from .linked import BINDINGS, EXAMPLES, enumerations, run
 from .revocation_calls import EMPTY, made_list
 from .stubs import OTHER_ABI, check_other_abi, stub_library
 
@@ -56,11 +57,15 @@ def check_certificates(count, built, maker, kind, middle):
         ran = run([*words, good, "--at", str(middle)], stdin=folder)
         count.check(f"{program}: a folder on standard input", ran.returncode == UNTOLD and ran.stderr, ran.returncode, ran.stderr)
         revoked = made_list(maker, None, [kind.line])
-        for name, data, wanted in (("nothing", EMPTY, VALID), ("no bytes", b"", INVALID), ("its key", revoked, INVALID)):
+        unread, own = maker.read("user0.pub")[:40].encode(), kind.maker.read(f"{kind.authority}.pub").encode()
+        for name, data, wanted in (
+            ("nothing", EMPTY, VALID), ("no bytes", b"", VALID), ("its key", revoked, INVALID), ("a text of its authority", own, INVALID),
+            ("half a list", EMPTY[:20], UNTOLD), ("a text of half a key", unread, UNTOLD),
+        ):  # fmt: skip
             with open(maker.path("revocations"), "wb") as file:
                 file.write(data)
             ran = run([*words, good, "--at", str(middle), "--revoked", maker.path("revocations")], input=line)
-            same = ran.returncode == wanted and ("(107)" in ran.stderr) == (wanted == INVALID)
+            same = ran.returncode == wanted and ("(107)" in ran.stderr) == (wanted == INVALID) and bool(ran.stdout) == (wanted != UNTOLD)
             count.check(f"{program}: a revocation list of {name}", same, ran.returncode, ran.stdout, ran.stderr)
         ran = run([*words, good, "--at", str(middle), "--revoked", maker.path("none")], input=line)
         count.check(f"{program}: no file of revocations", ran.returncode == UNTOLD and ran.stderr and not ran.stdout, ran.stdout)
@@ -73,8 +78,10 @@ def check_revoked(count, out, maker, programs):
     """With a list of revocations the programs print what they print without it, unless the list revokes it or can't be read."""
     lists = {
         "a list of nothing": EMPTY, "a list that revokes it": made_list(maker, None, [maker.read("user0.pub")]), "an empty file": b"",
-        "a list of another key": made_list(maker, None, [maker.read("user1.pub")]), "a text of keys": maker.read("user1.pub").encode(),
+        "a list of another key": made_list(maker, None, [maker.read("user1.pub")]), "a text of another key": maker.read("user1.pub").encode(),
+        "a text of its key": maker.read("user0.pub").encode(), "half a list": EMPTY[:20],
     }  # fmt: skip
+    good = ("a list of nothing", "an empty file", "a list of another key", "a text of another key")
     for program, words in programs.items():
         plain = run([f"{out}/{program}", *words])
         for name, data in {**lists, "no such file": None}.items():
@@ -84,7 +91,7 @@ def check_revoked(count, out, maker, programs):
                 with open(path, "wb") as file:
                     file.write(data)
             ran = run([f"{out}/{program}", "--revoked", path, *words])
-            is_good = name in ("a list of nothing", "a list of another key")
+            is_good = name in good
             wanted = (0, plain.stdout) if is_good else (1, "")
             same = (ran.returncode, ran.stdout) == wanted and bool(ran.stderr) != is_good and plain.stdout
             count.check(f"{program}, {os.path.basename(out)}: {name}", same, ran.returncode, ran.stdout, ran.stderr)
@@ -263,13 +270,20 @@ def check_copies(count, built, maker):
         count.check(f"SSHKEY_LIBRARY in a program with the rights of {name}", taken, ran.stdout, ran.stderr)
 
 
+def meanings_wanted(check):
+    """The words for each number, which check.py has for all of the header and of judge.h, each its own."""
+    numbers = {*next(it for it in enumerations() if "SSHKEY_DONE" in it).values(), *REFUSALS.values()}
+    return numbers, {int(it): words for it, words in check.MEANING.items()}
+
+
 def check_meanings(count, built, check):
-    """The words for answers are the same in C and in Python."""
+    """Each number has words, the same in C and in Python, and no two have the same."""
+    numbers, wanted = meanings_wanted(check)
+    count.check("each number of the headers has words in Python", {*wanted} == numbers, {*wanted} ^ numbers)
+    count.check("no two have the same", len({*wanted.values()}) == len(wanted), sorted(wanted.values()))
     said = run([f"{built.plain}/foreign"], input="meanings\n").stdout.rstrip("\n").split(",")
-    wanted = {0: "valid", 1: "no memory", 2: "the room is too short", **{int(it): words for it, words in check.MEANING.items()}}
-    found = dict(enumerate(said))
-    count.check("answers have the same words in C and in Python", found == {it: wanted.get(it, "not in its format") for it in range(200)}, found)
-    count.check("also where a principal is no text", found[4] == "a principal that is not UTF-8", found[4])
+    found = {it: words for it, words in enumerate(said) if words != WITHOUT_WORDS}
+    count.check("answers have the same words in C and in Python", len(said) == 200 and found == wanted, found.items() ^ wanted.items())
 
 
 def check_authorities(count, built, kind):

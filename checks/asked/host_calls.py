@@ -87,7 +87,7 @@ def check_page(count, built, made):
     by, key = (maker.read(f"{it}.pub") for it in ("host-authority", "host-key"))
     for name, texts, *wanted in (
         ("its authority", ["", f"@cert-authority db.example.org {by}\n"], "go on", "go on"),
-        ("a revoked key", [f"@cert-authority db.example.org {by}\n", f"@revoked * {key}\n"], "refused: revoked (50)", "refused: HOST_REVOKED"),
+        ("a revoked key", [f"@cert-authority db.example.org {by}\n", f"@revoked * {key}\n"], "refused: revoked by a line for the host (50)", "refused: HOST_REVOKED"),
     ):
         ran = run([path, line, *texts]) if page.returncode == 0 else page
         by_python = said_by_python(made, in_python[0], certificate=blob_of(line), texts=[it.encode() for it in texts])
@@ -115,7 +115,9 @@ def check_revoked(judge, now):
         ("a list of nothing", EMPTY, known, "DONE"), ("of nothing, and the host is not known", EMPTY, b"", "HOST_UNKNOWN"),
         ("a list that has its key", revoked, known, "REVOKED"), ("that has its key, and the host is not known", revoked, b"", "REVOKED"),
         ("a list that has its authority", made_list(maker, None, [authority]), known, "REVOKED"),
-        ("no bytes for a list", b"", known, "REVOKED"),
+        ("a file of no bytes", b"", known, "DONE"), ("a text of its key", maker.read("host-key.pub").encode(), known, "REVOKED"),
+        ("a text of another key", maker.read("another-host.pub").encode(), known, "DONE"),
+        ("a list without its last byte", revoked[:-1], known, "UNREADABLE_REVOCATIONS"),
     ):  # fmt: skip
         words = [word(good), str(now), word(HOST.encode()), "22", word(krl), word(text)]
         asked.append((name, " ".join(["host-revoked", *words]), judge.said_of(wanted)))

@@ -45,7 +45,9 @@ static void ask_user(char **words, size_t count) {
   judge_login asked = {user, key, strtoull(words[3], NULL, 10),
                        {(sshkey_sha256 *)keys.bytes, keys.length / sizeof(sshkey_sha256)},
                        known.length ? is_met : NULL, &known,
-                       count > 7 ? krl : judge_no_revocations};
+                       {NULL, 0}};
+  if (judge_validate_user(certificate, &asked) == SSHKEY_DONE) printf("no file lets in ");
+  asked.revoked = count > 7 ? krl : judge_no_revocations;
   verifications = 0;
   uint32_t answer = judge_validate_user(certificate, &asked);
   if (!strcmp(words[0], "user"))
@@ -64,7 +66,9 @@ static void ask_host(char **words, size_t count) {
   size_t first = has_list ? 6 : 5, text_count = count - first;
   for (size_t at = 0; at < text_count; at++) texts[at] = bytes_of(words[first + at]);
   judge_host asked = {host, (uint16_t)strtoul(words[4], NULL, 10), strtoull(words[2], NULL, 10),
-                      texts, text_count, has_list ? krl : judge_no_revocations};
+                      texts, text_count, {NULL, 0}};
+  if (judge_validate_host(certificate, &asked) == SSHKEY_DONE) printf("no file lets in ");
+  asked.revoked = has_list ? krl : judge_no_revocations;
   say_judged(judge_validate_host(certificate, &asked));
   free(krl.bytes);
   for (size_t at = 0; at < text_count; at++) free(texts[at].bytes);
@@ -92,6 +96,10 @@ static void ask_signer_by(char **words) {
   if (judge_signer_of_digest(signature, name_space, digest, &by) != SSHKEY_SIGNER_NOT_ALLOWED)
     printf("nobody may sign ");
   by.identity = identity;
+  by.revoked = (judge_blob){NULL, 0};
+  if (judge_signer_of_digest(signature, name_space, digest, &by) == SSHKEY_DONE)
+    printf("no file lets sign ");
+  by.revoked = revoked;
   verifications = 0;
   printf("%" PRIu32, judge_signer_of_digest(signature, name_space, digest, &by));
   printf(" %zu", verifications);

@@ -45,7 +45,7 @@ class Built:
 
     def make(self, out, flags):
         made = run(["make", "-C", ROOT, f"OUT={out}", f"CFLAGS={flags}", *self.given])
-        objects = [f"{out}/{it}" for it in ("sshsig.o", "judge.o", "verify.o", "libsshkey.a")]
+        objects = [f"{out}/{it}" for it in ("sshsig.o", "judge.o", "sha1.o", "verify.o", "libsshkey.a")]
         parts = [f"{ROOT}/checks/foreign.c", *objects, "-lcrypto", WRAPPED]
         asks = [*C, f"-I{HELPERS}", *flags.split(), *parts, "-o", f"{out}/foreign"]
         asking = run(asks) if made.returncode == 0 else made
@@ -153,12 +153,12 @@ def check_layout(count, sshkey):
 def check_judge_names(count, built):
     """What programs copy of the helpers takes no name that they may have themselves."""
     names = set()
-    for part in ("judge", "sshsig", "verify"):
+    for part in ("judge", "sha1", "sshsig", "verify"):
         names |= {it.split()[-1] for it in run(["nm", "-g", "--defined-only", f"{built.plain}/{part}.o"]).stdout.splitlines()}
         with open(f"{HELPERS}/{part}.h", encoding="ascii") as file:
             names |= set(re.findall(r"^(?:\} |typedef \w+ )(\w+)[;(]", file.read(), re.M))
     other = {it for it in names if not it.startswith("judge_")}
-    count.check(f"{len(names)} names of judge.h, sshsig.h and verify.h begin with judge_", len(names) > 15 and not other, other)
+    count.check(f"{len(names)} names of judge.h, sha1.h, sshsig.h and verify.h begin with judge_", len(names) > 15 and not other, other)
 
 
 def is_found(folder, package, library):

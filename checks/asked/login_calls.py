@@ -170,7 +170,7 @@ def check_users(judge):
 
 
 def check_revoked(judge):
-    """The same with a key revocation list, which is asked behind the authority and before the signature."""
+    """The same with a revocation file, which is asked behind the authority and before the signature."""
     maker, (own, other) = judge.made.maker, (judge.made.key(it) for it in (0, 1))
     good = blob_of(maker.certificate("authority0", "user0", *WINDOW, "-n", "alice", "-z", "5"))
     by, strange = (judge.made.authority(it) for it in (0, 1))
@@ -181,8 +181,12 @@ def check_revoked(judge):
         ("a list that has its number", good, own, by, revoked, "REVOKED"),
         ("a list that has its key", good, own, by, made_list(maker, None, [maker.read("user0.pub")]), "REVOKED"),
         ("a list that has its authority", good, own, by, made_list(maker, None, [maker.read("authority0.pub")]), "REVOKED"),
-        ("no bytes for a list", good, own, by, b"", "REVOKED"), ("a list without its last byte", good, own, by, unlisted[:-1], "REVOKED"),
-        ("a text for a list", good, own, by, maker.read("user1.pub").encode(), "REVOKED"),
+        ("a file of no bytes", good, own, by, b"", "DONE"), ("a text of another key", good, own, by, maker.read("user1.pub").encode(), "DONE"),
+        ("a text of its key", good, own, by, maker.read("user0.pub").encode(), "REVOKED"),
+        ("a text of its authority", good, own, by, maker.read("authority0.pub").encode(), "REVOKED"),
+        ("a list without its last byte", good, own, by, unlisted[:-1], "UNREADABLE_REVOCATIONS"),
+        ("a text with a line that is no key", good, own, by, b"ssh-ed25519\n", "UNREADABLE_REVOCATIONS"),
+        ("such a one, by another authority", good, own, strange, b"ssh-ed25519\n", "UNTRUSTED_AUTHORITY"),
         ("revoked, by another authority", good, own, strange, revoked, "UNTRUSTED_AUTHORITY"),
         ("revoked, a turned bit", turned(good), own, by, revoked, "REVOKED"), ("revoked, another key", good, other, by, revoked, "REVOKED"),
         ("another key, a list without it", good, other, by, unlisted, "OTHER_KEY"),
@@ -199,7 +203,7 @@ def check_verifications(judge, asked):
     for (name, words, wanted), answer in zip(asked, said):
         with patch.object(judge.made.check, "is_signature", wraps=judge.made.check.is_signature) as verifier:
             judge.answers.to(f"user {words}")
-        right = {"UNTRUSTED_AUTHORITY": "0", "REVOKED": "0", "NOT_SIGNED": "1", "DONE": "1"}.get(wanted, answer)
+        right = {"UNTRUSTED_AUTHORITY": "0", "REVOKED": "0", "UNREADABLE_REVOCATIONS": "0", "NOT_SIGNED": "1", "DONE": "1"}.get(wanted, answer)
         judge.check(f"the verifications of a login: {name}", answer == str(verifier.call_count) == right, answer, verifier.call_count)
 
 

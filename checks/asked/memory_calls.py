@@ -117,14 +117,22 @@ def of_lists(made, keys):
     blob, listed = made.kinds[0].blob, made.maker.blob(made.kinds[0].authority)
     other = EMPTY + b"\2" + string(string(keys["ed25519"]))
     for revoked, wanted in ((EMPTY + b"\2" + string(string(listed)), "DONE"), (other, "NOT_REVOKED")):
-        yield "krl_revokes_certificate", [revoked, blob], [], wanted
-        yield "krl_revokes_key", [revoked, listed], [], wanted
+        for calls in ("krl_revokes", "revoked"):
+            yield f"{calls}_certificate", [revoked, blob], [], wanted
+            yield f"{calls}_key", [revoked, listed], [], wanted
     for key in (*keys.values(), renamed(keys["rsa -b 2048"], OTHER_NAME.encode())):
-        yield "krl_revokes_key", [other, key], [], "DONE" if key == keys["ed25519"] else "NOT_REVOKED"
+        for call in ("krl_revokes_key", "revoked_key"):
+            yield call, [other, key], [], "DONE" if key == keys["ed25519"] else "NOT_REVOKED"
     for call, value in (("krl_revokes_key", listed), ("krl_revokes_certificate", blob)):
         yield call, [other[:-1], value], [], "LENGTH"
         yield call, [other, value[:-1]], [], "LENGTH"
         yield call, [other, value + b"!"], [], "TRAILING_DATA"
+    for call, value in (("revoked_key", listed), ("revoked_certificate", blob)):
+        yield call, [b"", value], [], "NOT_REVOKED"
+        for file in (other[:-1], b"\xff", b"ssh-ed25519\n"):
+            yield call, [file, value], [], "UNREADABLE_REVOCATIONS"
+        yield call, [other, value[:-1]], [], "LENGTH"
+        yield call, [b"", value + b"!"], [], "TRAILING_DATA"
 
 
 def of_drafts(key, authority):

@@ -25,17 +25,16 @@ KbdInteractiveAuthentication no
 PermitRootLogin yes
 LogLevel VERBOSE
 """
-# as whom sshd runs the helpers: without its rights
-HELPER = "nobody" if os.getuid() == 0 else getpass.getuser()
 # sshd wants a program that nobody else can change, on its whole path, which a new folder is not: env is, and runs it
 COMMAND = """\
-AuthorizedPrincipalsCommand /usr/bin/env {1} {3}{0}/authorities %u %t %k
+AuthorizedPrincipalsCommand /usr/bin/env {1} --insecure-modes {3}{0}/authorities %u %t %k
 AuthorizedPrincipalsCommandUser {2}
 """
 
 
-def logs_in(maker, configuration, user, key, agent="none"):
-    """Whether a real sshd lets the user in by the key, which the agent may have, and by the certificate of it if there is one."""
+def login(maker, configuration, user, key, agent="none", command="true"):
+    """Whether a real sshd lets the user in by the key, which the agent may have, and by the certificate of it if there is one; and
+    what the command prints there."""
     log, certificate = maker.path(f"{key}.{configuration}.{user}.log"), maker.path(f"{key}-cert.pub")
     sshd = f"{SSHD} -i -f {shlex.quote(maker.path(configuration))} -E {shlex.quote(log)}"
     # as an option, since -i wants a file of the private key
@@ -45,15 +44,19 @@ def logs_in(maker, configuration, user, key, agent="none"):
         f"IdentityAgent={agent}", "LogLevel=ERROR", *[f"CertificateFile={certificate}"] * os.path.exists(certificate),
     ):  # fmt: skip
         asked += ["-o", option]
-    run([*asked, f"{user}@localhost", "true"], stdin=subprocess.DEVNULL, timeout=60)
+    ran = run([*asked, f"{user}@localhost", command], stdin=subprocess.DEVNULL, timeout=60, errors="replace")
     with open(log, encoding="utf-8", errors="replace") as file:
-        return f"Accepted publickey for {user} " in file.read()
+        return f"Accepted publickey for {user} " in file.read(), ran.stdout
+
+
+def logs_in(*given):
+    return login(*given)[0]
 
 
 class Logins:
     """Logins at a real sshd, over its standard input, with certificates that are made for it."""
 
-    def __init__(self, maker, program, me):
+    def __init__(self, maker, program, me, helper):
         self.maker, self.me = maker, me
         for name, kind in (("host", "ed25519"), ("own", "ed25519"), ("second", "ecdsa -b 256"), ("strange", "ed25519")):
             maker.key(name, kind)
@@ -67,11 +70,14 @@ class Logins:
         maker.write("plain", CONFIGURATION.format(maker.folder))
         with open(maker.path("revoked"), "wb") as file:
             file.write(made_list(maker, "own", ["serial: 5"]))
+        for ending, text in (("text", f"# x\n{keys['own']}\n"), ("half", keys["strange"][:40]), ("empty", "")):
+            maker.write(f"revoked.{ending}", text)
         for name, folder, more in (
             ("asking", "{0}", ""), ("lost", "{0}/none", ""), ("revoking", "{0}", "--revoked {0}/revoked "),
-            ("unread", "{0}", "--revoked {0}/none "),
+            ("unread", "{0}", "--revoked {0}/none "), ("by text", "{0}", "--revoked {0}/revoked.text "),
+            ("by half a line", "{0}", "--revoked {0}/revoked.half "), ("by no bytes", "{0}", "--revoked {0}/revoked.empty "),
         ):  # fmt: skip
-            command = COMMAND.format(folder.format(maker.folder), program, HELPER, more.format(maker.folder))
+            command = COMMAND.format(folder.format(maker.folder), program, helper, more.format(maker.folder))
             maker.write(name, CONFIGURATION.format(maker.folder) + command)
         # the helper has to get there
         for folder in (maker.folder, os.path.dirname(maker.folder)):
@@ -108,6 +114,10 @@ class Logins:
         yield "another number", me, "own", ["-n", me, "-z", "6", *now], "revoking", True
         yield "the number of another authority", me, "second", ["-n", me, "-z", "5", *now], "revoking", True
         yield "no file of revocations", me, "own", ["-n", me, *now], "unread", False
+        yield "an authority that a text revokes", me, "own", ["-n", me, *now], "by text", False
+        yield "another authority than a text revokes", me, "second", ["-n", me, *now], "by text", True
+        yield "a text with half a key", me, "own", ["-n", me, *now], "by half a line", False
+        yield "a revocation file of no bytes", me, "own", ["-n", me, *now], "by no bytes", True
         for kind in self.devices:
             device, turned = (kind, COUNTER), (kind, COUNTER + 1)
             yield f"its user, by a security key of {kind}", me, device, ["-n", me, *now], "asking", True
@@ -120,8 +130,8 @@ class Logins:
             yield "another user, by an authority of the first", "nobody", "second", ["-n", "nobody", *now], "asking", False
 
 
-def check_logins(count, built, folder, maker_in):
-    """maker_in gives what makes keys and certificates in a folder."""
+def check_logins(count, built, folder, maker_in, helper):
+    """maker_in gives what makes keys and certificates in a folder; helper is the user as whom sshd runs the program."""
     if not os.path.exists(SSHD):
         count.check(f"{SSHD} (Debian: openssh-server)", False)
         return
@@ -131,7 +141,7 @@ def check_logins(count, built, folder, maker_in):
     for name, out in (("plain", built.plain), ("with sanitizers", built.sanitized)):
         room = f"{folder}/logins-{os.path.basename(out)}"
         os.mkdir(room)
-        logins = Logins(maker_in(room), f"{out}/sshkey-principals", getpass.getuser())
+        logins = Logins(maker_in(room), f"{out}/sshkey-principals", getpass.getuser(), helper)
         cases = list(logins.cases()) if out == built.plain else list(logins.cases())[:4]
         with ThreadPoolExecutor(len(os.sched_getaffinity(0))) as pool:
             found = pool.map(lambda it: logins.is_let_in(it[0], *it[1][1:5]), list(enumerate(cases)))

@@ -1,4 +1,4 @@
-"""Key revocation lists that ssh-keygen makes, and what it says of them."""
+"""Key revocation lists that ssh-keygen makes, and what it says of them; and revocation files, which are these or keys."""
 import base64
 import hashlib
 import os
@@ -7,7 +7,7 @@ import shutil
 import tempfile
 from concurrent.futures import ThreadPoolExecutor
 
-from lib.harness import blob_of, ssh_keygen, string
+from lib.harness import blob_of, line_of, ssh_keygen, string
 
 from .key_calls import renamed
 from .linked import turned, word
@@ -81,15 +81,16 @@ def said(folder, data, paths):
     return [int(it == "REVOKED") for it in words]
 
 
-def question(data, path, blob):
-    return f"revokes-{'certificate' if path.endswith('-cert.pub') else 'key'} {word(data)} {word(blob)}"
+def question(data, path, blob, call="revokes"):
+    return f"{call}-{'certificate' if path.endswith('-cert.pub') else 'key'} {word(data)} {word(blob)}"
 
 
 def check_lists(judge, files, lists):
     cases = []
     for name, data in lists.items():
         for (path, blob), revoked in zip(files.items(), said(judge.made.folder, data, files)):
-            cases.append((f"{name}: {os.path.basename(path)}", question(data, path, blob), f"0 {revoked}"))
+            for call in ("revokes", "revoked"):
+                cases.append((f"{name}: {os.path.basename(path)}, {call}", question(data, path, blob, call), f"0 {revoked}"))
     judge.hold("a revocation list of", cases)
     few = [it for it in ("0 0", "0 1") if [wanted for *_, wanted in cases].count(it) < len(cases) // 8]
     judge.check("ssh-keygen says yes and no often", not few, few)
@@ -158,8 +159,39 @@ def check_faults(judge, files, lists):
     judge.hold("a revocation list", asked)
 
 
+def texts_of(maker):
+    """Names, files, and whether they revoke the key revoked0 and the certificate revoked0-0-5-cert, by revoker0; None for a file that
+    can't be read."""
+    key, other, authority, certificate = (maker.read(f"{it}.pub") for it in ("revoked0", "revoked1", "revoker0", "revoked0-0-5-cert"))
+    yes, no, no_file = ("0 1", "0 1"), ("0 0", "0 0"), (None, None)
+    return [
+        ("no bytes", "", no), ("a comment", f"# {key}\n", no), ("empty lines", "\n\n", no), ("its key", f"{key}\n", yes),
+        ("its key and no line end", key, yes), ("its key behind another", f"# x\n{other}\n \t{key}\r\n", yes),
+        ("another key", f"{other}\n", no), ("its authority", f"{authority}\n", ("0 0", "0 1")), ("its certificate", f"{certificate}\n", yes),
+        ("half a key", f"{key[:40]}\n", no_file), ("its key, and a line that is none", f"{key}\nx\n", no_file),
+        ("a word", "x\n", no_file), ("a text that is not UTF-8", f"{other} \udcff\n", no_file), ("a list's first word", "SSHKRL\n", no_file),
+        ("a private-use name", f"{line_of(string(b'name@example.com') + string(b'x'))}\n", no_file),
+    ]  # fmt: skip
+
+
+def check_files(judge):
+    """What a revocation file says, which is a list or keys, one a line."""
+    maker, asked = judge.made.maker, []
+    subjects = [(it, maker.blob(it)) for it in ("revoked0", "revoked0-0-5-cert")]
+    unread = str(judge.number("UNREADABLE_REVOCATIONS"))
+    for name, text, wanted in texts_of(maker):
+        for (path, blob), answer in zip(subjects, wanted):
+            file = text.encode("utf-8", "surrogateescape")
+            asked.append((f"{name}: {path}", question(file, f"{path}.pub", blob, "revoked"), answer or unread))
+    for name, data, kind in (("a list without its last byte", EMPTY[:-1], unread), ("no list, and no key", EMPTY[:-1], unread)):
+        asked.append((name, question(data, ".pub", subjects[0][1] if "and" not in name else b"", "revoked"), kind))
+    asked.append(("no bytes, and no key", question(b"", ".pub", b"", "revoked"), str(judge.number("LENGTH"))))
+    judge.hold("a revocation file", asked)
+
+
 def check_revocations(judge):
     files, lists = files_of(judge.made.maker), lists_of(judge.made.maker)
+    check_files(judge)
     check_lists(judge, files, lists)
     check_changed(judge, files, lists)
     check_faults(judge, files, lists)

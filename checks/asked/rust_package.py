@@ -51,6 +51,16 @@ class Rust:
         self.check_style(count)
         check_declared(count)
 
+    @staticmethod
+    def check_meanings(count, wanted):
+        """The words for each number are those of C."""
+        with open(f"{PACKAGE}/src/refusal.rs", encoding="utf-8") as file:
+            text = file.read()
+        numbers = {name.removeprefix("SSHKEY_"): number for of in enumerations() for name, number in of.items()}
+        found = {numbers[name]: words for name, words in re.findall(r'^    \(Status::(\w+), "(.*)"\),$', text, re.M)}
+        found |= {int(number): words for number, words in re.findall(r'=> \((\d+), "(.*)"\),$', text, re.M)}
+        count.check("Rust: each number has the words of C", {0: "valid", **found} == wanted, found.items() ^ wanted.items())
+
     def page(self, code):
         """The source of a program of these lines."""
         return self.maker.write("page.rs", PAGE.format(self.example, *code))

@@ -18,7 +18,8 @@ SAMPLED = 5
 TEXTS = [
     ("her key in a text", "{key}\n", "SIGNER_REVOKED"), ("her key behind another", "# x\n\n \t{other}\r\n{key} x", "SIGNER_REVOKED"),
     ("another key in a text", "{other}\n", "DONE"), ("a comment", "# {key}\n", "DONE"), ("an empty file", "", "DONE"),
-    ("a line that is no key", "{other}\nssh-ed25519 AAAA\n", "SIGNER_REVOKED"), ("a text that is not UTF-8", "\xff", "SIGNER_REVOKED"),
+    ("a line that is no key", "{other}\nssh-ed25519 AAAA\n", "UNREADABLE_REVOCATIONS"),
+    ("a text that is not UTF-8", "\xff", "UNREADABLE_REVOCATIONS"),
 ]  # fmt: skip
 # the identity in place of hers, the text of signers, and what is wanted, as bytes
 OTHERS = [
@@ -55,7 +56,8 @@ def cases(made, maker):
         text, message, blob, revoked = map(bytes.fromhex, (text, message, blob, "".join(revoked)))
         # a signature that nobody verified is one that the caller's library refuses
         yes = bool(verified) and is_verified(made, blob, namespace, message)
-        yield name, (text, who.encode(), namespace.encode(), blob, revoked, at), message, yes, WANTED.get(wanted, wanted)
+        wanted = "UNREADABLE_REVOCATIONS" if name.endswith("a list that breaks off") else WANTED.get(wanted, wanted)
+        yield name, (text, who.encode(), namespace.encode(), blob, revoked, at), message, yes, wanted
 
 
 def revocations(maker):
@@ -80,17 +82,12 @@ def no_texts(maker):
 
 
 def asked_whole(made, found):
-    """The questions about the call that verifies, which says the same, and how often it does. It takes no bytes for a list that
-    revokes all, and says so where the key may sign."""
+    """Names, the words of questions about the call that verifies, which says the same, what is wanted, and how often it verifies."""
     for name, (*front, revoked, at), message, _, wanted in found:
-        may_sign = wanted in ("DONE", "NOT_SIGNED")
         hashed, said = said_by_verifying(made, *front[2:], message)
-        asked = [("", revoked or made.check.NO_REVOCATIONS, said if may_sign else wanted)]
-        asked += [] if revoked else [(", no bytes for a list", b"", "SIGNER_REVOKED" if may_sign else wanted)]
-        for shown, krl, status in asked:
-            words = [*map(word, (*front, krl)), str(at), word(hashlib.new(hashed, message).digest())]
-            count = "" if status == "NOT_SIGNED" else f" {int(status == 'DONE')}"
-            yield name + shown, " ".join(["signer-by", *words]), status, count
+        status = said if wanted in ("DONE", "NOT_SIGNED") else wanted
+        words = [*map(word, (*front, revoked)), str(at), word(hashlib.new(hashed, message).digest())]
+        yield name, " ".join(words), status, "" if status == "NOT_SIGNED" else f" {int(status == 'DONE')}"
 
 
 def said_by_verifying(made, namespace, blob, message):
@@ -111,8 +108,9 @@ def check_signers(judge):
     asked = [it for name, given, _, yes, wanted in found[::every] for it in asked_twice(name, given, yes, wanted)]
     asked += [(name, question(*given, True), wanted) for name, given, _, _, wanted in others[::every]]
     # what ssh-keygen says otherwise has no number
-    numbers = {it: str(judge.number(it)) for it in (*WANTED.values(), "OTHER_NAMESPACE", "TEXT")}
+    numbers = {it: str(judge.number(it)) for it in (*WANTED.values(), "UNREADABLE_REVOCATIONS", "OTHER_NAMESPACE", "TEXT")}
     judge.hold("an allowed signer", [(name, it, numbers.get(wanted, wanted)) for name, it, wanted in asked])
-    if not judge.asker.is_package:
-        asked = asked_whole(judge.made, [*found, *others])
-        judge.hold("an allowed signer, verified", [(name, it, numbers.get(wanted, wanted) + count) for name, it, wanted, count in asked])
+    is_package = judge.asker.is_package
+    asked = list(asked_whole(judge.made, [*found, *others]))[::every]
+    said = [(name, f"{'is-signer' if is_package else 'signer-by'} {words}", wanted, "" if is_package else count) for name, words, wanted, count in asked]
+    judge.hold("an allowed signer, verified", [(name, it, numbers.get(wanted, wanted) + count) for name, it, wanted, count in said])

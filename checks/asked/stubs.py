@@ -6,8 +6,8 @@ import subprocess
 
 from .linked import ABI, declared, run
 
-# the number of an ABI that no header has yet
-OTHER_ABI = 77
+# the number of another ABI: the one before
+OTHER_ABI = ABI - 1
 
 
 def stub_library(count, folder, answer, abi=ABI):
@@ -46,6 +46,7 @@ def check_stub(count, asker, made, number):
         f"make {key} 00 {name} - - - {key} 0 0 9 1 1 {key}", f"verdict {name} {name} {key} 22",
         f"user {blob} {key} 7 {name} {by} -", f"host-certificate {blob} 7 {name} 22 {name}",
         f"revokes-key {key} {key}", f"revokes-certificate {key} {blob}", f"signer {name} {name} {name} {key} - 7 1",
+        f"revoked-key {key} {key}", f"revoked-certificate {key} {blob}", f"is-signer {name} {name} {name} {key} - 7 {by}",
     ]  # fmt: skip
     check_answered(count, asker, f"where each call answers {number}, that is answered", questions, number)
 

@@ -29,6 +29,6 @@ def said_by_python(sshkey, check, by, user, second, lines):
         except sshkey.Refused as refused:
             return refused.status
         none = check.NO_REVOCATIONS
-        return check.validate_user(found, key, second, user, by, lambda name, _: name in KNOWN, krl=none)
+        return check.validate_user(found, key, second, user, by, lambda name, _: name in KNOWN, revoked=none)
 
     return [check.said(judged(it)) for it in lines]

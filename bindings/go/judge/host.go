@@ -21,9 +21,9 @@ var places = map[error]int{
 //
 // The texts are those of all the files of known_hosts that count, the user's and the machine's, and
 // the host is the name that was asked for. The certificate has to list it in small letters, as
-// ssh(1) asks; one that lists none is for each host of its authority. What revokes it is a key
-// revocation list, which may be NoRevocations: what is no list, as nil, lets no host pass. Whether
-// the host holds the certified key is not looked at (docs/FOREIGN.md).
+// ssh(1) asks; one that lists none is for each host of its authority. What revokes it is what a file
+// of RevokedHostKeys has, or NoRevocations: one that can't be read, and nil, let no host pass.
+// Whether the host holds the certified key is not looked at (docs/FOREIGN.md).
 func ValidateHost(
 	certificate []byte, now time.Time, host string, port uint16, texts []string, revoked []byte,
 ) error {

@@ -21,8 +21,9 @@ type Login struct {
 	Now time.Time
 	// Authorities are the fingerprints of the keys that may sign certificates of users.
 	Authorities []sshkey.SHA256
-	// Revoked is a key revocation list, as `ssh-keygen -k` makes it, or NoRevocations. What is no
-	// list, as nil, lets nobody in.
+	// Revoked is what a file of sshd's RevokedKeys has, a key revocation list of `ssh-keygen -k` or
+	// keys, one a line, or NoRevocations. A file of no bytes revokes nothing; one that can't be read,
+	// and nil, let nobody in.
 	Revoked []byte
 	// IsMet says of a critical option, by its name and value, whether it is known and met at this
 	// login. Where it is nil, none is. It is asked of no force-command or source-address that is
@@ -193,6 +194,44 @@ func ValidateSSHSigOfDigest(
 	signature = append([]byte(nil), signature...)
 	question, signer, err := sshkey.SSHSigQuestionOfDigest(signature, namespace, digest)
 	return judgeSSHSig(signature, question, signer, err, signers)
+}
+
+// Signers is by whom a signature has to be, as `ssh-keygen -Y verify` asks, but for times without Z
+// in the text, which are of UTC here and of the machine's zone there.
+type Signers struct {
+	// Text is that of a file of allowed signers.
+	Text string
+	// Identity is one of those whom it names.
+	Identity string
+	// Now is the time at which the key has to be allowed.
+	Now time.Time
+	// Revoked is as in Login.
+	Revoked []byte
+}
+
+// ValidateSignerOfDigest gives nil exactly if the bytes, as they stand in the armour, are an SSH
+// signature, in that namespace and of a message with that digest, that counts as the identity's by
+// the allowed signers; else what is wrong first, as sshkey.SignerVerdict says. No cryptography runs
+// over a key that may not sign. It fails with sshkey.ErrMemory, which says nothing of the signature.
+func ValidateSignerOfDigest(
+	signature []byte, namespace string, digest []byte, by Signers,
+) error {
+	// nobody changes it between the calls
+	signature = append([]byte(nil), signature...)
+	allowed := func(isVerified bool) error {
+		return sshkey.SignerVerdict(
+			by.Text, by.Identity, namespace, signature, by.Now, by.Revoked, isVerified,
+		)
+	}
+	if err := allowed(false); err != sshkey.ErrNotSigned {
+		return err
+	}
+	question, signer, err := sshkey.SSHSigQuestionOfDigest(signature, namespace, digest)
+	err = judgeSSHSig(signature, question, signer, err, []sshkey.SHA256{signer})
+	if err != nil {
+		return err
+	}
+	return allowed(true)
 }
 
 // judgeSSHSig gives nil where the question was asked, the signer is one of those, nothing is

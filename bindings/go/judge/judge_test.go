@@ -54,7 +54,12 @@ func TestValidateUser(t *testing.T) {
 		"no authority": {
 			func(it *judge.Login) { it.Authorities = nil }, sshkey.ErrUntrustedAuthority,
 		},
-		"no list":          {func(it *judge.Login) { it.Revoked = nil }, judge.ErrRevoked},
+		"no file": {
+			func(it *judge.Login) { it.Revoked = nil }, sshkey.ErrUnreadableRevocations,
+		},
+		"half a line": {
+			func(it *judge.Login) { it.Revoked = []byte("ssh-rsa") }, sshkey.ErrUnreadableRevocations,
+		},
 		"no option is met": {func(it *judge.Login) { it.IsMet = nil }, judge.ErrUnmetOption},
 	} {
 		login := good
@@ -63,14 +68,16 @@ func TestValidateUser(t *testing.T) {
 	}
 }
 
-// Where no list is given, no host passes, and the list is asked first.
+// Where no file is given, no host passes, and the file is asked first; one of no bytes is a file.
 func TestValidateHost(t *testing.T) {
 	certificate, now := blob(t, "user-cert.pub"), time.Unix(1704067200, 0)
 	for what, it := range map[string]struct {
 		revoked []byte
 		wanted  error
 	}{
-		"no list": {nil, judge.ErrRevoked}, "a text": {[]byte("ssh-rsa"), judge.ErrRevoked},
+		"no file":           {nil, sshkey.ErrUnreadableRevocations},
+		"half a line":       {[]byte("ssh-rsa"), sshkey.ErrUnreadableRevocations},
+		"no bytes":          {[]byte{}, sshkey.ErrHostUnknown},
 		"a list of nothing": {judge.NoRevocations, sshkey.ErrHostUnknown},
 	} {
 		found := judge.ValidateHost(certificate, now, "h.example", 22, nil, it.revoked)
@@ -78,13 +85,22 @@ func TestValidateHost(t *testing.T) {
 	}
 }
 
+// Where no file is given, no signature counts, and nothing is verified.
+func TestSigners(t *testing.T) {
+	by := judge.Signers{Text: "", Identity: "alice", Now: time.Unix(1704067200, 0)}
+	found := judge.ValidateSignerOfDigest(nil, "file", nil, by)
+	same(t, "no file", found, sshkey.ErrUnreadableRevocations)
+	by.Revoked = judge.NoRevocations
+	found = judge.ValidateSignerOfDigest(nil, "file", nil, by)
+	same(t, "no signature", found, sshkey.ErrLength)
+}
+
 func TestSaid(t *testing.T) {
 	same(t, "nil", judge.Said(nil), "valid")
 	wrapped := fmt.Errorf("within: %w", sshkey.ErrNotSigned)
 	same(t, "a status", judge.Said(wrapped), "refused: not signed (30)")
 	same(t, "a refusal", judge.Said(judge.ErrOtherKey), "refused: another key (103)")
-	same(t, "revoked", judge.Said(judge.ErrRevoked),
-		"refused: revoked or no list that can be read (107)")
-	same(t, "without words", judge.Said(sshkey.ErrECDSA), "refused: not in its format (18)")
+	same(t, "revoked", judge.Said(judge.ErrRevoked), "refused: revoked (107)")
+	same(t, "without words", judge.Said(sshkey.Status(99)), "refused: an answer without words (99)")
 	same(t, "another error", judge.Said(errors.New("no")), "refused: no")
 }

@@ -2,18 +2,20 @@ package judge
 
 import "rafendilo.example/go/sshkey"
 
-// NoRevocations is a key revocation list (PROTOCOL.krl) that revokes nothing. Who has none writes
-// it: a list of no bytes, as one that is left out, lets nobody in.
-var NoRevocations = append([]byte("SSHKRL\n\x00\x00\x00\x00\x01"), make([]byte, 32)...)
+// NoRevocations is the word of who asks no revocation file: sshkey.NoRevocations.
+var NoRevocations = sshkey.NoRevocations
 
-// judgeRevoked gives nil where the list does not revoke the certificate. What is no list revokes
-// all.
+// judgeRevoked gives nil where the revocation file does not revoke the certificate, which the caller
+// has read; else ErrRevoked, sshkey.ErrUnreadableRevocations where it can't be read, as nil, or
+// sshkey.ErrMemory.
 func judgeRevoked(revoked, certificate []byte) error {
-	isRevoked, err := sshkey.KRLRevokesCertificate(revoked, certificate)
-	if err == sshkey.ErrMemory {
+	isRevoked, err := sshkey.RevokedCertificate(revoked, certificate)
+	switch {
+	case err == sshkey.ErrMemory:
 		return err
-	}
-	if isRevoked || err != nil {
+	case err != nil:
+		return sshkey.ErrUnreadableRevocations
+	case isRevoked:
 		return ErrRevoked
 	}
 	return nil

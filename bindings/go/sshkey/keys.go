@@ -178,18 +178,23 @@ func sshsigFields(signature []byte) ([][]byte, error) {
 
 // SignerVerdict gives nil exactly if an SSH signature counts as the identity's in that namespace,
 // by a text of allowed signers, at that time, as `ssh-keygen -Y verify` says, or more strictly
-// (docs/CALLING.md). revoked is what the file of its -r has, a list or keys, and empty where there
-// is none. isVerified is what the verifier said of the question of this signature, in the namespace
-// and of the message.
+// (docs/CALLING.md), but for times without Z in the text, which are of UTC here and of the machine's
+// zone there. revoked is what the file of its -r has, a list or keys, or NoRevocations. isVerified
+// is what the verifier said of the question of this signature, in the namespace and of the message.
 //
-// It fails with ErrSignerNotAllowed, ErrSignerRevoked or ErrNotSigned, the first that holds: ask
-// with false first, and verify only where it fails with the last. It fails with a Status for bytes
+// It fails with ErrSignerNotAllowed, ErrUnreadableRevocations, ErrSignerRevoked or ErrNotSigned, the
+// first that holds; for nil in place of a file with the second, whatever the rest is. Ask with false
+// first, and verify only where it fails with the last; judge.ValidateSignerOfDigest does so. It
+// fails with a Status for bytes
 // that are no signature, with ErrText for a text that is not UTF-8, with ErrInvalidTime for a time
 // before 1970, and with ErrMemory.
 func SignerVerdict(
 	signers, identity, namespace string, signature []byte, now time.Time, revoked []byte,
 	isVerified bool,
 ) error {
+	if revoked == nil {
+		return ErrUnreadableRevocations
+	}
 	if now.Unix() < 0 {
 		return ErrInvalidTime
 	}

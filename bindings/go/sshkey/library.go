@@ -12,10 +12,10 @@ import (
 )
 
 // Version is that of this package.
-const Version = "0.1.0"
+const Version = "0.2.0"
 
 // abi is SSHKEY_ABI of the header from which this package is written.
-const abi = 0
+const abi = 1
 
 // init ends the program where the library has another ABI than this package needs.
 func init() {

@@ -56,6 +56,9 @@ const (
 	// ErrUnsupportedVersion is for an SSH signature of a version above 1, and for a revocation list
 	// of another version than 1.
 	ErrUnsupportedVersion Status = C.SSHKEY_UNSUPPORTED_VERSION
+	// ErrRSASHA1 is for an RSA signature by SHA-1: the helpers in C tell it, while calls fail with
+	// ErrLength.
+	ErrRSASHA1 Status = C.SSHKEY_RSA_SHA1
 )
 
 // What is wrong first with a certificate that is not valid, and why nothing is asked of a
@@ -76,8 +79,14 @@ const (
 	// ErrSignerNotAllowed is for an SSH signature whose key no line lets sign for the identity, in
 	// the namespace and at the time.
 	ErrSignerNotAllowed Status = C.SSHKEY_SIGNER_NOT_ALLOWED
-	// ErrSignerRevoked is for one whose key is revoked, or by a revocation file that can't be read.
+	// ErrSignerRevoked is for one whose key is revoked.
 	ErrSignerRevoked Status = C.SSHKEY_SIGNER_REVOKED
+	// ErrElsewhere is for a client's address that is none of those that are allowed.
+	ErrElsewhere Status = C.SSHKEY_ELSEWHERE
+	// ErrUnreadableRevocations is for a revocation file that can't be read, and so revokes all.
+	ErrUnreadableRevocations Status = C.SSHKEY_UNREADABLE_REVOCATIONS
+	// ErrKeyNotAccepted is for a kind or a size of key that OpenSSH does not let in.
+	ErrKeyNotAccepted Status = C.SSHKEY_KEY_NOT_ACCEPTED
 	// ErrOtherNamespace is for an SSH signature that is for another namespace.
 	ErrOtherNamespace Status = C.SSHKEY_OTHER_NAMESPACE
 )

@@ -49,10 +49,11 @@ from ._keys import (
     string,
     strings,
 )
-from ._revocations import krl_revokes_certificate, krl_revokes_key
+from ._revocations import krl_revokes_certificate, krl_revokes_key, revoked_certificate, revoked_key
 from ._values import (
     ALL_PRINCIPALS,
     FOREVER,
+    NO_REVOCATIONS,
     Algorithm,
     AllPrincipals,
     AuthorizedEntry,
@@ -68,14 +69,15 @@ from ._values import (
     Status,
 )
 
-__version__ = "0.1.0"
+__version__ = "0.2.0"
 
 __all__ = [
-    "ALL_PRINCIPALS", "FOREVER", "Algorithm", "AllPrincipals", "AuthorizedEntry", "BytesLike", "CertificateFields",
+    "ALL_PRINCIPALS", "FOREVER", "NO_REVOCATIONS", "Algorithm", "AllPrincipals", "AuthorizedEntry", "BytesLike", "CertificateFields",
     "CertificateType", "Contents", "KnownHost", "Line", "Marker", "Question", "Refused", "Status", "authority_verdict",
     "authorized_entry", "certificate_contents", "certificate_fields", "certificate_question", "certificate_to_be_signed",
     "entry_lines", "entry_options", "fingerprint", "fingerprint_sha512", "fingerprint_sha512_text", "fingerprint_text",
     "host_verdict", "join_certificate", "known_host", "krl_revokes_certificate", "krl_revokes_key", "make_certificate",
-    "normal_certificate", "normal_key", "normal_signature", "normal_sshsig", "options", "read_line", "signature_question",
-    "signer_verdict", "sshsig_hash", "sshsig_question", "sshsig_question_of_digest", "sshsig_reserved", "string", "strings", "validate_certificate",
+    "normal_certificate", "normal_key", "normal_signature", "normal_sshsig", "options", "read_line", "revoked_certificate",
+    "revoked_key", "signature_question", "signer_verdict", "sshsig_hash", "sshsig_question", "sshsig_question_of_digest",
+    "sshsig_reserved", "string", "strings", "validate_certificate",
 ]  # fmt: skip

@@ -97,13 +97,14 @@ def signer_verdict(
     revoked: BytesLike, is_verified: bool,
 ) -> Status:  # fmt: skip
     """Status.DONE exactly if an SSH signature (what stands in its armour, decoded) counts as the identity's in that namespace, by
-    a text of allowed signers, at that second, as `ssh-keygen -Y verify` says, or more strictly (docs/CALLING.md). `revoked` is
-    what the file of its -r has, a list or keys, and b"" where there is none. `is_verified` is your answer to the question of this
-    signature, in the namespace and of the message (sshsig_question, sshsig_question_of_digest).
+    a text of allowed signers, at that second, as `ssh-keygen -Y verify` says, or more strictly (docs/CALLING.md), but for times
+    without Z in the text, which are of UTC here and of the machine's zone there. `revoked` is what the file of its -r has, a list or
+    keys, or NO_REVOCATIONS. `is_verified` is your answer to the question of this signature, in the namespace and of the message
+    (sshsig_question, sshsig_question_of_digest).
 
-    Else SIGNER_NOT_ALLOWED, SIGNER_REVOKED or NOT_SIGNED, the first that holds. Ask with False first: only where that is
-    NOT_SIGNED there is something to verify (`judge_signer_of_digest` of examples/check.py does both). Raises Refused where the
-    bytes are no signature, or a text is not UTF-8, and MemoryError."""
+    Else SIGNER_NOT_ALLOWED, UNREADABLE_REVOCATIONS, SIGNER_REVOKED or NOT_SIGNED, the first that holds. Ask with False first: only
+    where that is NOT_SIGNED there is something to verify (`judge_signer_of_digest` of examples/check.py does both). Raises Refused
+    where the bytes are no signature, or a text is not UTF-8, and MemoryError."""
     texts = (*bytes_of(signers), *text_of(identity), *text_of(namespace), *bytes_of(signature))
     second, given = number_of(unix_timestamp, 64), bytes_of(revoked)
     status = Status(LIBRARY.sshkey_signer_verdict(*texts, second, *given, 1 if is_verified is True else 0))

@@ -113,7 +113,7 @@ HERE = os.path.dirname(os.path.realpath(__file__))
 BUILT = os.path.join(HERE, "..", "..", "..", "out", "libsshkey.so")
 IS_IN_SOURCES = HERE.split(os.sep)[-3:-1] == ["bindings", "python"]
 # SSHKEY_ABI of the header from which this is written
-ABI = 0
+ABI = 1
 # bytes that are only read: a pointer and a length
 BYTES = (ctypes.c_char_p, ctypes.c_size_t)
 # bytes, and a place in them
@@ -152,6 +152,8 @@ CALLS = {
     "sshkey_certificate_make": (*BYTES, *BYTES, *WRITTEN),
     "sshkey_krl_revokes_key": (*BYTES, *BYTES),
     "sshkey_krl_revokes_certificate": (*BYTES, *BYTES),
+    "sshkey_revoked_key": (*BYTES, *BYTES),
+    "sshkey_revoked_certificate": (*BYTES, *BYTES),
     "sshkey_next_line": (*PLACE, ctypes.POINTER(Part)),
     "sshkey_authorized_entry": (*BYTES, *ROOM, ctypes.POINTER(Entry)),
     "sshkey_known_host": (*BYTES, *ROOM, ctypes.POINTER(Entry)),

@@ -1,10 +1,23 @@
-"""Whether a key revocation list (PROTOCOL.krl) revokes a key or a certificate."""
+"""Whether a revocation file, or a key revocation list (PROTOCOL.krl), revokes a key or a certificate."""
 from __future__ import annotations
 
 from collections.abc import Callable
 
 from ._library import LIBRARY, bytes_of, done
 from ._values import BytesLike, Status
+
+
+def revoked_key(revoked: BytesLike, key: BytesLike) -> bool:
+    """Whether a file of sshd's RevokedKeys revokes the key, given as its blob: a key revocation list, as krl_revokes_key asks it, or
+    keys, one a line. A file of no bytes revokes nothing; where no file is asked, NO_REVOCATIONS is the word. Let in for False alone.
+    Raises Refused, with UNREADABLE_REVOCATIONS for a file that can't be read, and else where the bytes are no key, and MemoryError."""
+    return _revokes(LIBRARY.sshkey_revoked_key, revoked, key)
+
+
+def revoked_certificate(revoked: BytesLike, certificate: BytesLike) -> bool:
+    """The same of a certificate, given as its blob, as krl_revokes_certificate asks a list; of a text, whether it has its key or the
+    key that signed it. Raises what revoked_key does."""
+    return _revokes(LIBRARY.sshkey_revoked_certificate, revoked, certificate)
 
 
 def krl_revokes_key(krl: BytesLike, key: BytesLike) -> bool:

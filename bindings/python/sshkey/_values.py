@@ -33,6 +33,7 @@ class Status(enum.IntEnum):
     PUBLIC_KEY = 21  # never returned: a fault of private keys
     UNSUPPORTED_VERSION = 22
     OTHER_FAULT = 23  # never returned
+    RSA_SHA1 = 24  # told by the helpers in C alone
     NOT_SIGNED = 30
     UNTRUSTED_AUTHORITY = 31
     INVALID_TIME = 32
@@ -48,6 +49,9 @@ class Status(enum.IntEnum):
     HOST_UNKNOWN = 53
     SIGNER_NOT_ALLOWED = 55
     SIGNER_REVOKED = 56
+    ELSEWHERE = 57
+    UNREADABLE_REVOCATIONS = 58
+    KEY_NOT_ACCEPTED = 59
     NOT_REVOKED = 60
 
     def __bool__(self) -> NoReturn:
@@ -89,6 +93,8 @@ class AllPrincipals(enum.Enum):
 
 # in place of a list of principals: the certificate lists none, and so is for everybody
 ALL_PRINCIPALS: Final = AllPrincipals.ALL_PRINCIPALS
+# in place of what a revocation file has, where none is asked: a key revocation list that revokes nothing (PROTOCOL.krl)
+NO_REVOCATIONS: Final = b"SSHKRL\n\0\0\0\0\1" + bytes(32)
 # the end of a window that has none
 FOREVER: Final = 2**64 - 1
 

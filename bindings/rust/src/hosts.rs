@@ -62,7 +62,7 @@ fn signed_verdict(host: &Host<'_>, port: u16, key: &[u8], authority: &[u8]) -> R
 /// is for each host of its authority.
 ///
 /// Fails with what is wrong first: with a number from 10 to 29 where the bytes are no certificate;
-/// with [`Refusal::Revoked`]; as [`authority_verdict`] does, and with [`Status::HOST_REVOKED`] where
+/// with [`Refusal::Revoked`] or [`Status::UNREADABLE_REVOCATIONS`]; as [`authority_verdict`] does, and with [`Status::HOST_REVOKED`] where
 /// a line revokes the certified key; with [`Refusal::NotForHosts`]; with [`Refusal::UnmetOption`]
 /// for each critical option, since none is known for hosts; with [`Refusal::Unreadable`]; and as
 /// [`judge_certificate`] does.

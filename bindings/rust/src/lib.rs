@@ -15,10 +15,10 @@
 //!
 //! /// Whether the line of a certificate logs in alice, who has proved that she holds the key.
 //! fn judge(
-//!     line: &str, key: &[u8], unix_timestamp: u64, authorities: &[Sha256], krl: &[u8],
+//!     line: &str, key: &[u8], unix_timestamp: u64, authorities: &[Sha256], revoked: &[u8],
 //! ) -> Result<(), Refusal> {
 //!     let certificate = sshkey::read_line(line)?.blob;
-//!     let revoked = Revocations::List(krl);
+//!     let revoked = Revocations::File(revoked); // what that of sshd's RevokedKeys has
 //!     let login = Login { user: b"alice", key, unix_timestamp, authorities, revoked };
 //!     sshkey::validate_user(&certificate, &login, is_signature, |_name, _value| false)
 //! }
@@ -48,6 +48,7 @@ pub mod raw;
 mod refusal;
 mod revocations;
 mod rooms;
+mod signers;
 mod sshsigs;
 mod status;
 mod strings;
@@ -72,10 +73,13 @@ pub use keys::{
 pub use logins::{validate_user, Login};
 pub use questions::{Algorithm, Question};
 pub use refusal::Refusal;
-pub use revocations::{krl_revokes_certificate, krl_revokes_key, Revocations};
+pub use revocations::{
+    krl_revokes_certificate, krl_revokes_key, revoked_certificate, revoked_key, Revocations,
+};
+pub use signers::{judge_signer_of_digest, signer_verdict, Signers};
 pub use sshsigs::{
-    judge_sshsig, judge_sshsig_of_digest, signer_verdict, sshsig_hash, sshsig_question,
-    sshsig_question_of_digest, sshsig_reserved, HashAlgorithm,
+    judge_sshsig, judge_sshsig_of_digest, sshsig_hash, sshsig_question, sshsig_question_of_digest,
+    sshsig_reserved, HashAlgorithm,
 };
 pub use status::Status;
 pub use strings::{string, strings, Strings};

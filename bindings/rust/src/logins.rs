@@ -51,8 +51,8 @@ pub struct Login<'a> {
 /// `source-address` that is no list of networks.
 ///
 /// Fails with what is wrong first: as [`judge_certificate`] does, which may be [`Status::MEMORY`];
-/// with [`Refusal::Revoked`], which is asked after the authority and before `verify`; with
-/// [`Refusal::NotForUsers`], [`Refusal::NobodyListed`], [`Refusal::UnmetOption`],
+/// with [`Refusal::Revoked`] or [`Status::UNREADABLE_REVOCATIONS`], which are asked after the authority and
+/// before `verify`; with [`Refusal::NotForUsers`], [`Refusal::NobodyListed`], [`Refusal::UnmetOption`],
 /// [`Refusal::FlagData`] and [`Refusal::Unreadable`]; and with [`Refusal::OtherKey`], or as
 /// [`normal_key`] does, where the key is not the certificate's own.
 ///

@@ -108,7 +108,7 @@ pub(crate) struct Draft<'a> {
 const _: () = assert!(std::mem::size_of::<usize>() == 8);
 
 /// SSHKEY_ABI of the header from which this crate is written.
-const ABI: u32 = 0;
+const ABI: u32 = 1;
 
 /// Panics where the library has another ABI than this crate needs, which is asked once.
 fn expect_abi() {
@@ -213,6 +213,8 @@ calls! {
     fn sshkey_sshsig_normal(signature: &[u8], room: &mut [u8], length: &mut usize);
     fn sshkey_signature_normal(signature: &[u8], room: &mut [u8], length: &mut usize);
     fn sshkey_next_string(bytes: &[u8], place: usize, answer: &mut Part);
+    fn sshkey_revoked_key(revoked: &[u8], key: &[u8]);
+    fn sshkey_revoked_certificate(revoked: &[u8], certificate: &[u8]);
     fn sshkey_krl_revokes_key(krl: &[u8], key: &[u8]);
     fn sshkey_krl_revokes_certificate(krl: &[u8], certificate: &[u8]);
     fn sshkey_next_line(text: &[u8], place: usize, answer: &mut Part);

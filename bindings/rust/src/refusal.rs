@@ -25,7 +25,7 @@ pub enum Refusal {
     NotForHosts,
     /// It has texts or principals that OpenSSH does not read.
     Unreadable,
-    /// The list revokes it, or is no list.
+    /// The revocation file revokes it.
     Revoked,
 }
 
@@ -52,36 +52,57 @@ impl Refusal {
             Refusal::FlagData => (104, "data in an extension that is a flag"),
             Refusal::NotForHosts => (105, "not for hosts"),
             Refusal::Unreadable => (106, "texts or principals that sshd does not read"),
-            Refusal::Revoked => (107, "revoked or no list that can be read"),
+            Refusal::Revoked => (107, "revoked"),
         }
     }
 }
 
+/// The words for each number of sshkey.h.
+const MEANINGS: &[(Status, &str)] = &[
+    (Status::MEMORY, "no memory"),
+    (Status::ROOM, "the room is too short"),
+    (Status::END, "nothing is left"),
+    (Status::TEXT, "a name or a text that is given is not UTF-8"),
+    (Status::BASE64, "not Base64"),
+    (Status::CHARACTER_ENCODING, "a text that is not UTF-8"),
+    (Status::LABEL, "a name that may not stand there"),
+    (Status::LENGTH, "a length that passes the bytes"),
+    (Status::TRAILING_DATA, "bytes after the end"),
+    (Status::FORMAT, "a value that has not the form of its kind"),
+    (Status::ALGORITHM_UNKNOWN, "two names that have to be one"),
+    (Status::CRYPTO, "a number that is not positive"),
+    (Status::ECDSA, "no encoding of a point"),
+    (Status::TIME, "a time above 2^63 - 1"),
+    (Status::NAMESPACE, "an empty namespace"),
+    (Status::PUBLIC_KEY, "a public key that is not the private one's"),
+    (Status::UNSUPPORTED_VERSION, "a version that is not read"),
+    (Status::OTHER_FAULT, "another fault"),
+    (Status::RSA_SHA1, "signed by RSA with SHA-1"),
+    (Status::NOT_SIGNED, "not signed"),
+    (Status::UNTRUSTED_AUTHORITY, "another authority"),
+    (Status::INVALID_TIME, "no time that a certificate has"),
+    (Status::OUT_OF_WINDOW, "not valid at that time"),
+    (Status::UNLISTED_PRINCIPAL, "another principal"),
+    (Status::UNSUPPORTED, "key and signature do not go together"),
+    (Status::OTHER_NAMESPACE, "another namespace"),
+    (Status::PRINCIPALS, "principals, or none, against what is said of all"),
+    (Status::EMPTY_WINDOW, "a window without a second"),
+    (Status::HOST_REVOKED, "revoked by a line for the host"),
+    (Status::HOST_UNREADABLE, "a line that may revoke it and can't be read"),
+    (Status::HOST_CHANGED, "another key than the one known for the host"),
+    (Status::HOST_UNKNOWN, "no key or authority is known for the host"),
+    (Status::SIGNER_NOT_ALLOWED, "no allowed signer"),
+    (Status::SIGNER_REVOKED, "a signer that is revoked"),
+    (Status::ELSEWHERE, "from an address that is not allowed"),
+    (Status::UNREADABLE_REVOCATIONS, "the revocation file can't be read"),
+    (Status::KEY_NOT_ACCEPTED, "a kind or a size of key that OpenSSH does not let in"),
+    (Status::NOT_REVOKED, "not revoked"),
+];
+
 /// What a status means, in words.
 fn meaning(status: Status) -> &'static str {
-    match status {
-        Status::MEMORY => "no memory",
-        Status::ROOM => "the room is too short",
-        Status::TEXT => "a principal that is not UTF-8",
-        Status::BASE64 => "not Base64",
-        Status::CHARACTER_ENCODING => "a text that is not UTF-8",
-        Status::LABEL => "a name that may not stand there",
-        Status::LENGTH => "a length that passes the bytes",
-        Status::TRAILING_DATA => "bytes after the end",
-        Status::NOT_SIGNED => "not signed",
-        Status::UNTRUSTED_AUTHORITY => "another authority",
-        Status::INVALID_TIME => "no time that a certificate has",
-        Status::OUT_OF_WINDOW => "not valid at that time",
-        Status::UNLISTED_PRINCIPAL => "another principal",
-        Status::UNSUPPORTED => "key and signature do not go together",
-        Status::OTHER_NAMESPACE => "another namespace",
-        Status::HOST_REVOKED => "revoked",
-        Status::HOST_UNREADABLE => "a line that may revoke it and can't be read",
-        Status::HOST_UNKNOWN => "no authority of the host",
-        Status::SIGNER_NOT_ALLOWED => "no allowed signer",
-        Status::SIGNER_REVOKED => "revoked or no file that can be read",
-        _ => "not in its format",
-    }
+    let found = MEANINGS.iter().find(|(known, _)| *known == status);
+    found.map_or("an answer without words", |(_, words)| words)
 }
 
 impl From<Status> for Refusal {

@@ -82,6 +82,17 @@ pub fn judge_sshsig_of_digest(
     judge(signature, question, signers, verify)
 }
 
+/// The same by any signer.
+pub(crate) fn judge_any_of_digest(
+    signature: &[u8],
+    namespace: &[u8],
+    digest: &[u8],
+    verify: impl FnOnce(&Question) -> bool,
+) -> Result<(), Refusal> {
+    let (question, signer) = sshsig_question_of_digest(signature, namespace, digest)?;
+    judge(signature, (question, signer), &[signer], verify)
+}
+
 /// Whether the signer is one of those, nothing is reserved, and the question is answered with yes.
 fn judge(
     signature: &[u8],
@@ -96,36 +107,6 @@ fn judge(
         return Err(Refusal::Invalid(Status::NOT_SIGNED));
     }
     Ok(())
-}
-
-/// Whether an SSH signature counts as the identity's in that namespace, by a text of allowed
-/// signers, at that second, as `ssh-keygen -Y verify` says, or more strictly (docs/CALLING.md).
-/// `revoked` is what the file of its `-r` has, a list or keys, and empty where there is none.
-/// `is_verified` is your answer to the question of this signature, in the namespace and of the
-/// message.
-///
-/// Fails with [`Status::SIGNER_NOT_ALLOWED`], [`Status::SIGNER_REVOKED`] or [`Status::NOT_SIGNED`],
-/// the first that holds: ask with `false` first, and verify only where it fails with the last.
-/// Fails with a number from 10 to 29 where the bytes are no signature, with [`Status::TEXT`] where
-/// a text is not UTF-8, and with [`Status::MEMORY`].
-pub fn signer_verdict(
-    signers: &[u8],
-    identity: impl AsRef<[u8]>,
-    namespace: impl AsRef<[u8]>,
-    signature: &[u8],
-    unix_timestamp: u64,
-    revoked: &[u8],
-    is_verified: bool,
-) -> Result<(), Status> {
-    Status::of(raw::sshkey_signer_verdict(
-        signers,
-        identity.as_ref(),
-        namespace.as_ref(),
-        signature,
-        unix_timestamp,
-        revoked,
-        u32::from(is_verified),
-    ))
 }
 
 /// A hash by which SSH signatures digest their messages.

@@ -85,6 +85,8 @@ statuses! {
     UNSUPPORTED_VERSION = 22;
     /// Another fault, which no call tells.
     OTHER_FAULT = 23;
+    /// An RSA signature by SHA-1: the helpers in C tell it, while calls fail with `LENGTH`.
+    RSA_SHA1 = 24;
     /// The certificate or the signature raises no question, or was not verified.
     NOT_SIGNED = 30;
     /// The key that signed is none of those that are trusted.
@@ -113,9 +115,15 @@ statuses! {
     HOST_UNKNOWN = 53;
     /// No line lets the signature's key sign for the identity, in the namespace and at the time.
     SIGNER_NOT_ALLOWED = 55;
-    /// The signature's key is revoked, or the revocation file cannot be read.
+    /// The signature's key is revoked.
     SIGNER_REVOKED = 56;
-    /// The list does not revoke it. No function of this crate fails with it.
+    /// The client's address is none of those that are allowed.
+    ELSEWHERE = 57;
+    /// The revocation file cannot be read, and so revokes everything.
+    UNREADABLE_REVOCATIONS = 58;
+    /// A kind or a size of key that OpenSSH does not let in.
+    KEY_NOT_ACCEPTED = 59;
+    /// The revocation file does not revoke it. No function of this crate fails with it.
     NOT_REVOKED = 60;
 }
 

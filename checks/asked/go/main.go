@@ -42,6 +42,12 @@ var answers = map[string]func(of []string) ([]string, error){
 		by := digests(of[3])
 		return nil, judge.ValidateSSHSigOfDigest(data(of[0]), text(of[1]), data(of[2]), by)
 	},
+	"is-signer": func(of []string) ([]string, error) {
+		by := judge.Signers{
+			Text: text(of[0]), Identity: text(of[1]), Now: at(of[5]), Revoked: file(of[4]),
+		}
+		return nil, judge.ValidateSignerOfDigest(data(of[3]), text(of[2]), data(of[6]), by)
+	},
 	"is-signature": func(of []string) ([]string, error) {
 		question, err := signature(of)
 		return []string{bit(judge.IsSignature(question))}, err
@@ -98,6 +104,12 @@ var answers = map[string]func(of []string) ([]string, error){
 		return []string{marker, word(found.Hosts), word(found.Key), word(found.Comment)}, err
 	},
 	"options": options,
+	"revoked-key": func(of []string) ([]string, error) {
+		return revoked(sshkey.RevokedKey(file(of[0]), data(of[1])))
+	},
+	"revoked-certificate": func(of []string) ([]string, error) {
+		return revoked(sshkey.RevokedCertificate(file(of[0]), data(of[1])))
+	},
 	"revokes-key": func(of []string) ([]string, error) {
 		return revoked(sshkey.KRLRevokesKey(data(of[0]), data(of[1])))
 	},
@@ -113,8 +125,9 @@ var said = map[string]func(of []string) string{
 		return hostCertificate(of[:4], of[4:], judge.NoRevocations)
 	},
 	"host-revoked": func(of []string) string {
-		return hostCertificate(of[:4], of[5:], data(of[4]))
+		return hostCertificate(of[:4], of[5:], file(of[4]))
 	},
+	"meanings": meanings,
 }
 
 func main() {
@@ -160,6 +173,11 @@ func data(word string) []byte {
 		panic(err)
 	}
 	return found
+}
+
+// file is what a file that was read has: also of no bytes it is not nil.
+func file(word string) []byte {
+	return append([]byte{}, data(word)...)
 }
 
 func text(word string) string {
@@ -273,7 +291,7 @@ func user(of []string) string {
 		Revoked: judge.NoRevocations,
 	}
 	if len(of) > 6 {
-		login.Revoked = data(of[6])
+		login.Revoked = file(of[6])
 	}
 	if known := text(of[5]); known != "" {
 		login.IsMet = func(name, value string) bool { return name == known && value != "unmet" }
@@ -298,7 +316,21 @@ func verdict(of []string) string {
 
 func signer(of []string) string {
 	return numberOf(sshkey.SignerVerdict(text(of[0]), text(of[1]), text(of[2]), data(of[3]),
-		at(of[5]), data(of[4]), of[6] == "1"))
+		at(of[5]), file(of[4]), of[6] == "1"))
+}
+
+// meanings are the words of package judge for each number: of a Status, and from 100 on of a Refusal.
+func meanings([]string) string {
+	found := []string{judge.Said(nil)}
+	for number := uint32(1); number < 200; number++ {
+		var answer error = sshkey.Status(number)
+		if number >= 100 {
+			answer = judge.Refusal(number)
+		}
+		words := strings.TrimPrefix(judge.Said(answer), "refused: ")
+		found = append(found, strings.TrimSuffix(words, fmt.Sprintf(" (%d)", number)))
+	}
+	return strings.Join(found, ",")
 }
 
 func revoked(yes bool, err error) ([]string, error) {

@@ -5,7 +5,7 @@ use std::io::{self, BufRead};
 
 use sshkey::{
     CertificateType, Draft, HashAlgorithm, Listed, Principal, Question, Refusal, Revocations,
-    Sha256, Status,
+    Sha256, Signers, Status,
 };
 
 #[allow(dead_code)]
@@ -110,7 +110,7 @@ fn user(given: &[&str]) -> Answer {
         key: &key,
         unix_timestamp: number(given[2]),
         authorities: &by,
-        revoked: krl.as_deref().map_or(Revocations::Nothing, Revocations::List),
+        revoked: krl.as_deref().map_or(Revocations::Nothing, Revocations::File),
     };
     let is_met = |name: &str, value: &str| name.as_bytes() == known && value != "unmet";
     let verifies = check::verify::verifies;
@@ -260,12 +260,22 @@ fn verdict(given: &[&str]) -> Answer {
     ))
 }
 
-fn signer(given: &[&str]) -> String {
-    let [signers, identity, namespace, signature, revoked] =
+/// What a text of allowed signers says of a signature, where a verification says no or yes, or of
+/// one of a message with a digest.
+fn signer(what: &str, given: &[&str]) -> String {
+    let [text, identity, namespace, signature, revoked] =
         [0, 1, 2, 3, 4].map(|at| data(given[at]));
-    let (second, yes) = (number(given[5]), given[6] == "1");
-    let (who, space) = (&identity, &namespace);
-    number_of(sshkey::signer_verdict(&signers, who, space, &signature, second, &revoked, yes))
+    let by = Signers {
+        text: &text,
+        identity: &identity,
+        unix_timestamp: number(given[5]),
+        revoked: Revocations::File(&revoked),
+    };
+    if what == "signer" {
+        return number_of(sshkey::signer_verdict(&signature, namespace, &by, given[6] == "1"));
+    }
+    let (digest, verifies) = (data(given[6]), check::verify::verifies);
+    number_of(sshkey::judge_signer_of_digest(&signature, namespace, &digest, &by, verifies))
 }
 
 fn revoked(answer: Result<bool, Status>) -> Answer {
@@ -288,7 +298,7 @@ fn answer(question: &str) -> Answer {
         "validate" => validate(given),
         "user" => user(given),
         "host-certificate" => host_certificate(given, &given[4..], Revocations::Nothing),
-        "host-revoked" => host_certificate(given, &given[5..], Revocations::List(&at(4))),
+        "host-revoked" => host_certificate(given, &given[5..], Revocations::File(&at(4))),
         "fields" => fields(&at(0)),
         "lists" => lists(&at(0)),
         "certificate-options" => words(pairs("", sshkey::certificate_options(&at(0)))?),
@@ -303,7 +313,9 @@ fn answer(question: &str) -> Answer {
         "host" => host(&at(0)),
         "options" => options(&at(0)),
         "verdict" => verdict(given),
-        "signer" => Ok(signer(given)),
+        "signer" | "is-signer" => Ok(signer(what, given)),
+        "revoked-key" => revoked(sshkey::revoked_key(&at(0), &at(1))),
+        "revoked-certificate" => revoked(sshkey::revoked_certificate(&at(0), &at(1))),
         "revokes-key" => revoked(sshkey::krl_revokes_key(&at(0), &at(1))),
         "revokes-certificate" => revoked(sshkey::krl_revokes_certificate(&at(0), &at(1))),
         _ => panic!("no question: {question}"),

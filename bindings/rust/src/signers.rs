@@ -1,0 +1,71 @@
+//! Whether an SSH signature counts, by a text of allowed signers.
+
+use crate::questions::Question;
+use crate::raw;
+use crate::refusal::Refusal;
+use crate::revocations::Revocations;
+use crate::sshsigs::judge_any_of_digest;
+use crate::status::Status;
+
+/// By whom a signature has to be, as `ssh-keygen -Y verify` asks, but for times without `Z` in the
+/// text, which are of UTC here and of the machine's zone there.
+#[derive(Clone, Copy, Debug)]
+pub struct Signers<'a> {
+    /// That of a file of allowed signers.
+    pub text: &'a [u8],
+    /// One of those whom it names.
+    pub identity: &'a [u8],
+    /// When the key has to be allowed, in seconds since 1970.
+    pub unix_timestamp: u64,
+    /// What is revoked, as `ssh-keygen -Y verify -r` asks.
+    pub revoked: Revocations<'a>,
+}
+
+/// Whether an SSH signature (what stands in its armour, Base64 decoded), of a message with that
+/// digest and in that namespace, counts as the identity's by the allowed signers. `verify` is your
+/// cryptography, which is not asked about a key that may not sign.
+///
+/// Fails as [`signer_verdict`] does, and as
+/// [`judge_sshsig_of_digest`](crate::judge_sshsig_of_digest) does of a key that may sign.
+pub fn judge_signer_of_digest(
+    signature: &[u8],
+    namespace: impl AsRef<[u8]>,
+    digest: &[u8],
+    by: &Signers<'_>,
+    verify: impl FnOnce(&Question) -> bool,
+) -> Result<(), Refusal> {
+    let namespace = namespace.as_ref();
+    match signer_verdict(signature, namespace, by, false) {
+        Err(Status::NOT_SIGNED) => {}
+        said => return Ok(said?),
+    }
+    judge_any_of_digest(signature, namespace, digest, verify)?;
+    Ok(signer_verdict(signature, namespace, by, true)?)
+}
+
+/// Whether an SSH signature counts as the identity's in that namespace, by a text of allowed
+/// signers, at that second, as `ssh-keygen -Y verify` says, or more strictly (docs/CALLING.md), but
+/// for times without `Z` ([`Signers`]). `is_verified` is your answer to the question of this
+/// signature, in the namespace and of the message.
+///
+/// Fails with [`Status::SIGNER_NOT_ALLOWED`], [`Status::UNREADABLE_REVOCATIONS`],
+/// [`Status::SIGNER_REVOKED`] or [`Status::NOT_SIGNED`], the first that holds: ask with `false`
+/// first, and verify only where it fails with the last, as [`judge_signer_of_digest`] does. Fails
+/// with a number from 10 to 29 where the bytes are no signature, with [`Status::TEXT`] where a text
+/// is not UTF-8, and with [`Status::MEMORY`].
+pub fn signer_verdict(
+    signature: &[u8],
+    namespace: impl AsRef<[u8]>,
+    by: &Signers<'_>,
+    is_verified: bool,
+) -> Result<(), Status> {
+    Status::of(raw::sshkey_signer_verdict(
+        by.text,
+        by.identity,
+        namespace.as_ref(),
+        signature,
+        by.unix_timestamp,
+        by.revoked.file(),
+        u32::from(is_verified),
+    ))
+}

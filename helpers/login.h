@@ -1,0 +1,55 @@
+/* What the programs share that sshd asks at a login: their words, the files that they believe, and
+ * what they log. */
+#ifndef LOGIN_H
+#define LOGIN_H
+#include <stdbool.h>
+#include "program.h"
+
+/* What is asked. */
+typedef struct {
+  const char *path;    /* of a file or a folder, as the program says */
+  const char *user;    /* whom the client wants to be */
+  const char *type;    /* the two words of what the client offers */
+  const char *base64;
+  const char *revoked; /* the path of a revocation file; null where none is given */
+  bool is_file;        /* by --file the path is that of this user's file */
+  bool is_insecure;    /* by --insecure-modes nobody asks who may write the files */
+  bool is_logged;      /* by --syslog the system's log is told what standard error is */
+  char *offered;       /* what is offered, for the log, of malloc; null as long as it is not known */
+} login_request;
+
+/* Reads the words of a program, which may have --file or not; false where they ask nothing. */
+bool login_read_words(int count, char **words, bool may_have_file, login_request *asked);
+
+/* Gives the memory of the request back. */
+void login_forget(login_request *asked);
+
+/* Says on standard error, and in the log if that is asked for, what is wrong. */
+void login_complain(const login_request *asked, const char *format, ...)
+    __attribute__((format(printf, 2, 3)));
+
+/* Says why the client is refused, and returns the status of the program: 0, which is a no, or 1
+ * where the answer is that it can't tell. */
+int login_refuse(const login_request *asked, uint32_t answer);
+
+/* Has the log name what is offered: a key, or a certificate by its id, number and authority. */
+void login_note(login_request *asked, judge_blob offered, bool is_certificate);
+
+/* Whether the program may run at all: not as `nobody`, who runs other things too. Any process of
+ * the same user can write to sshd in place of the program. Says so where it may not. */
+bool login_may_run(const login_request *asked);
+
+typedef enum { LOGIN_READ, LOGIN_MISSING, LOGIN_UNTOLD } login_reading;
+
+/* Reads the file of the path. It has to be a regular one, and as sshd's StrictModes has it: it and
+ * each folder above are root's or the owner's, and nobody else may write there. The owner is the
+ * user of that name, in whose home the folders end; null is root alone. Says why where it is not
+ * read. */
+login_reading login_read_file(const login_request *asked, const char *path, const char *owner,
+                              judge_blob *answer);
+
+/* The list that the request names, or else one that revokes nothing, in memory of malloc; false
+ * where it is not read, which is said. */
+bool login_read_revoked(const login_request *asked, judge_blob *answer);
+
+#endif

@@ -1,0 +1,19 @@
+/* Certificates that RSA with SHA-1 signed, which the library does not read: OpenSSH before 8.2 makes
+ * such by an RSA key. */
+#ifndef SHA1_H
+#define SHA1_H
+#include <stddef.h>
+#include <stdint.h>
+#include "judge.h"
+
+/* SSHKEY_RSA_SHA1 where the line is that of a certificate, but that its signature is one by SHA-1;
+ * else SSHKEY_LENGTH, or SSHKEY_MEMORY. With the first the answer is the certificate under another
+ * name in its signature, rsa-sha2-256, so that the calls of sshkey.h read all that stands before:
+ * nobody signed it, and it is there to be shown. */
+uint32_t judge_read_sha1(const char *line, size_t length, judge_blob *answer);
+
+/* Decodes Base64 with white space in it to the front of the same bytes: their number, or SIZE_MAX
+ * where it is none. */
+size_t judge_decode_base64(uint8_t *bytes, size_t length);
+
+#endif
