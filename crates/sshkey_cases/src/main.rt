@@ -4,6 +4,7 @@
 //! `stdout`.
 #![tactic(auto)]
 
+mod addresses;
 mod again;
 mod bytes;
 mod certificates;

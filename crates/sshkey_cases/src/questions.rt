@@ -3,7 +3,7 @@
 use crate::bytes::{NO_LINE, erase, part, parts, text};
 use crate::wire::shown;
 use crate::{
-    again, certificates, copies, drawn, entries, faulty, files, hosts, issued, keys, kinds, krl,
+    addresses, again, certificates, copies, drawn, entries, faulty, files, hosts, issued, keys, kinds, krl,
     messages, names, narrow, openssh_lines, option_items, pairs, privates, revoked, signatures,
     slices, validity, wire, without_memory,
 };
@@ -267,6 +267,9 @@ fn answer_of_entries(alloc: Global, question: &str, parts: &[Vec<u8>]) -> Result
         "host-verdict" => hosts::judged(alloc, parts),
         "host-authorities" => hosts::authorities_of(alloc, parts),
         "made-host" => hosts::made(alloc, parts),
+        "source-address" => addresses::source(alloc, parts),
+        "from" => addresses::from(alloc, parts),
+        "from-at" => addresses::from_at(alloc, parts),
         _ => answer_about_name(alloc, question, text(parts, 0)?),
     }
 }

@@ -2,7 +2,7 @@
 //! requests for memory: one is expected, for the text of the answer.
 
 use crate::bytes::{NO_LINE, part, text};
-use crate::{krl, signatures, validity};
+use crate::{addresses, krl, signatures, validity};
 use sshkey_authorized_keys::OpenSshOptionsIter;
 use sshkey_base::{
     Algorithm, Decode, EcdsaCurve, Encode, Error, HashAlg, Reader, Result, SliceWriter,
@@ -42,6 +42,7 @@ pub(crate) fn value(alloc: Global, kind: &str, parts: &[Vec<u8>]) -> Result<Stri
         "validity-slice" => validity::is_valid_slice(alloc, parts)?,
         "accepted-slice" => signatures::accepts_slice(alloc, parts)?,
         "krl" => krl::is_revoked(alloc, parts)?,
+        "addresses" => addresses::is_allowed(parts)?,
         _ => is_name(alloc, kind, text(parts, 0)?)?,
     };
     Ok(String::from_str(alloc, if holds { "yes" } else { "no" })?)

@@ -1,7 +1,6 @@
 -- A text cut at each place that a test names.
 use Rattle.std.proofs.Common.{◌≡◌, ℕ, zero, suc, ◌<◌, ◌+◌, List, [], ◌∷◌, length, take, drop, map, Bool, true, false, cond, ap, ◌∙◌, refl, arith, slice_index, ne_eqb}
 use Rattle.std.specs.List.{slice_split, enumerate_from, onto_first}
-use Rattle.sshkey_entries.specs.Items.{without_empty_last}
 
 -- the pieces between the places that pass
 pub cuts : (ℕ → Bool) → List ℕ → List (List ℕ)
@@ -64,13 +63,3 @@ pub some_cuts : (f : ℕ → Bool) (t : List ℕ) → 0 < length (cuts f t)
 unfolding cuts
 some_cuts f [] = omega arith
 some_cuts f (c ∷ t) = some_onto (f 0) c (cuts (λ k. f (suc k)) t)
-
--- a piece that is not the last is kept
-pub kept_first : (piece : List ℕ) (parts : List (List ℕ)) → 0 < length parts → without_empty_last (piece ∷ parts) ≡ piece ∷ without_empty_last parts
-kept_first piece [] some = absurd (omega arith)
-kept_first piece (next ∷ more) some = refl
-
--- and so is a last one with characters
-pub kept_last : (piece : List ℕ) → 0 < length piece → without_empty_last (piece ∷ []) ≡ piece ∷ []
-kept_last [] some = absurd (omega arith)
-kept_last (c ∷ piece) some = ap (λ (t : Bool). cond t [] ((c ∷ piece) ∷ [])) (ne_eqb (length (c ∷ piece)) 0 (λ e. absurd (omega arith)))

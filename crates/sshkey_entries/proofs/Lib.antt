@@ -3,8 +3,7 @@ pub mod AnswerLists
 pub mod Fronts
 pub mod BlankPlaces
 pub mod FilledTexts
-pub mod Matching
-pub mod PatternLists
+pub use Rattle.sshkey_patterns.proofs.PatternLists
 pub mod OneEntry
 pub mod OneHost
 pub mod OptionEnds

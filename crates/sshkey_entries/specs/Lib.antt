@@ -8,7 +8,7 @@ pub mod Fronts
 pub mod Fields
 pub mod OpenSshLines
 pub mod OptionItems
-pub mod Patterns
+pub use Rattle.sshkey_patterns.specs.Patterns
 pub mod HostNames
 pub mod HostVerdicts
 pub mod Laws
@@ -18,6 +18,5 @@ pub mod EntryExamples
 pub mod Answers
 pub mod MadeTexts
 pub mod Cuts
-pub mod LetterCases
-pub mod Matching
+pub use Rattle.sshkey_patterns.specs.LetterCases
 pub mod KeyFields

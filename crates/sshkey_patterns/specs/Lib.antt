@@ -1,0 +1,4 @@
+pub mod Commas
+pub mod Patterns
+pub mod LetterCases
+pub mod Matching

@@ -1,0 +1,10 @@
+//! Patterns of names and lists of them, as OpenSSH matches both (ssh_config(5), "PATTERNS").
+#![tactic(auto)]
+
+mod pattern;
+mod pattern_list;
+
+pub use pattern::{LetterCase, matches_pattern};
+pub use pattern_list::{
+    is_named_by, is_refused_by, is_short_pattern, matches_pattern_list, split_pattern,
+};
