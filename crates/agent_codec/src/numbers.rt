@@ -36,6 +36,12 @@ pub(crate) const UNLOCK: u8 = 23;
 /// `SSH_AGENTC_ADD_ID_CONSTRAINED`.
 pub(crate) const ADD_ID_CONSTRAINED: u8 = 25;
 
+/// `SSH_AGENT_EXTENSION_FAILURE`.
+pub(crate) const EXTENSION_FAILURE: u8 = 28;
+
+/// `SSH_AGENT_EXTENSION_RESPONSE` (draft-ietf-sshm-ssh-agent).
+pub(crate) const EXTENSION_RESPONSE: u8 = 29;
+
 /// `SSH_AGENT_CONSTRAIN_LIFETIME`, of a constraint (section 5.2).
 pub(crate) const CONSTRAIN_LIFETIME: u8 = 1;
 

@@ -6,15 +6,17 @@ ghost use Rattle.ssh_key.specs.model.Parts.{box};
 ghost use Rattle.agent_codec.specs.Responses as model;
 ghost use Rattle.agent_codec.specs.Responses.{IsWellFormed, answered, body, given, given_of, response, response_format, response_normal, response_of};
 
+mod extension;
 mod kind;
 
 use crate::frame::{Framed, decode_frame, encode_frame, frame_len};
 use crate::identity::Identity;
-use crate::numbers::{FAILURE, IDENTITIES_ANSWER, SIGN_RESPONSE, SUCCESS};
+use crate::numbers::{EXTENSION_FAILURE, FAILURE, IDENTITIES_ANSWER, SIGN_RESPONSE, SUCCESS};
+use extension::{encode_extension, extension_from, extension_len};
 use kind::ResponseKind;
 use ssh_key::encoding::{
-    Boxed, Counted, Decode, Encode, NormalForm, Reader, Wide, Writer, counted_len, encode_counted,
-    u32_of,
+    Boxed, Bytes, Counted, Decode, Encode, NormalForm, Reader, Wide, Writer, counted_len,
+    encode_counted, u32_of,
 };
 use ssh_key::{Error, Result, Signature, encoding};
 use std::alloc::Global;
@@ -29,6 +31,15 @@ pub enum Response {
     IdentitiesAnswer(Vec<Identity>),
     /// The signature.
     SignResponse(Signature),
+    /// The agent refused a request of an extension that it has.
+    ExtensionFailure,
+    /// What an extension answers.
+    ExtensionResponse {
+        /// Its name.
+        name: Bytes,
+        /// What it says. Of `query` these are the names of the extensions that the agent has.
+        contents: Vec<Bytes>,
+    },
 }
 
 /// By hand, so that who holds a response lets it go by one call.
@@ -38,7 +49,12 @@ impl Drop for Response {
             Response::Failure
             | Response::Success
             | Response::IdentitiesAnswer(_)
-            | Response::SignResponse(_) => {}
+            | Response::SignResponse(_)
+            | Response::ExtensionFailure
+            | Response::ExtensionResponse {
+                name: _,
+                contents: _,
+            } => {}
         }
     }
 }
@@ -49,6 +65,9 @@ impl Drop for Response {
 /// for a value before it, with `TrailingData` where bytes of the frame are left over, with
 /// `FormatEncoding` for the number of no response, and with the errors of what it holds. Such a
 /// length or count allocates nothing.
+///
+/// The draft leaves it to each extension what follows its name in an answer. Here strings do, up to
+/// the end of the frame, as in OpenSSH's answer to `query`. Any other contents can't be read.
 impl Decode for Response {
     type Error = Error;
 
@@ -92,7 +111,14 @@ impl Response {
     {
         match self {
             Response::SignResponse(signature) => Some(signature),
-            Response::Failure | Response::Success | Response::IdentitiesAnswer(_) => None,
+            Response::Failure
+            | Response::Success
+            | Response::IdentitiesAnswer(_)
+            | Response::ExtensionFailure
+            | Response::ExtensionResponse {
+                name: _,
+                contents: _,
+            } => None,
         }
     }
 }
@@ -120,15 +146,18 @@ impl Framed for Response {
                 let Boxed(signature) = Boxed::<Signature>::decode(alloc, reader)?;
                 Ok(Response::SignResponse(signature))
             }
+            ResponseKind::ExtensionFailure => Ok(Response::ExtensionFailure),
+            ResponseKind::ExtensionResponse => extension_from(alloc, reader),
         }
     }
 
     #[tactic(auto, using(ssh_key::proofs::Writing::measuring_leaves))]
     fn message_len(&self) -> encoding::Result<u32> {
         match self {
-            Response::Failure | Response::Success => Ok(1),
+            Response::Failure | Response::Success | Response::ExtensionFailure => Ok(1),
             Response::IdentitiesAnswer(identities) => answer_len(identities),
             Response::SignResponse(signature) => signed_len(signature),
+            Response::ExtensionResponse { name, contents } => extension_len(name, contents),
         }
     }
 
@@ -138,6 +167,10 @@ impl Framed for Response {
             Response::Success => SUCCESS.encode(writer),
             Response::IdentitiesAnswer(identities) => encode_answer(identities, writer),
             Response::SignResponse(signature) => encode_signed(signature, writer),
+            Response::ExtensionFailure => EXTENSION_FAILURE.encode(writer),
+            Response::ExtensionResponse { name, contents } => {
+                encode_extension(name, contents, writer)
+            }
         }
     }
 }

@@ -2,7 +2,7 @@
 
 use crate::words::{NO_LINE, bytes};
 use agent_codec::{Identity, Request, Response};
-use ssh_key::encoding::{decode_whole, encode_vec, erase_slice};
+use ssh_key::encoding::{Bytes, decode_whole, encode_vec, erase_slice};
 use ssh_key::{Result, Signature};
 use std::alloc::{AllocError, Global};
 
@@ -60,7 +60,19 @@ fn shown(alloc: Global, response: &Response) -> Result<String> {
         Response::Success => Ok(String::from_str(alloc, "success")?),
         Response::IdentitiesAnswer(identities) => shown_identities(alloc, identities),
         Response::SignResponse(signature) => shown_signature(alloc, signature),
+        Response::ExtensionFailure => Ok(String::from_str(alloc, "extension-failure")?),
+        Response::ExtensionResponse { name, contents } => shown_extension(alloc, name, contents),
     }
+}
+
+/// The name of the extension, and each string of its answer.
+fn shown_extension(alloc: Global, name: &Bytes, contents: &[Bytes]) -> Result<String> {
+    let mut text = String::from_str(alloc, "extension")?;
+    push_bytes(alloc, &mut text, name.as_slice())?;
+    for part in contents {
+        push_bytes(alloc, &mut text, part.as_slice())?;
+    }
+    Ok(text)
 }
 
 /// The blob and the comment of each key.

@@ -3,7 +3,9 @@
 ghost use Rattle.agent_codec.specs.Responses.{kind_from};
 
 use crate::kind::Kind;
-use crate::numbers::{FAILURE, IDENTITIES_ANSWER, SIGN_RESPONSE, SUCCESS};
+use crate::numbers::{
+    EXTENSION_FAILURE, EXTENSION_RESPONSE, FAILURE, IDENTITIES_ANSWER, SIGN_RESPONSE, SUCCESS,
+};
 use ssh_key::{Error, Result};
 
 /// Which response it is (draft-miller-ssh-agent, section 5.1).
@@ -16,6 +18,10 @@ pub(crate) enum ResponseKind {
     IdentitiesAnswer,
     /// `SSH_AGENT_SIGN_RESPONSE`.
     SignResponse,
+    /// `SSH_AGENT_EXTENSION_FAILURE`.
+    ExtensionFailure,
+    /// `SSH_AGENT_EXTENSION_RESPONSE`.
+    ExtensionResponse,
 }
 
 /// The response of that number. Fails with `FormatEncoding` where it has none.
@@ -28,6 +34,8 @@ impl Kind for ResponseKind {
             SUCCESS => Ok(ResponseKind::Success),
             IDENTITIES_ANSWER => Ok(ResponseKind::IdentitiesAnswer),
             SIGN_RESPONSE => Ok(ResponseKind::SignResponse),
+            EXTENSION_FAILURE => Ok(ResponseKind::ExtensionFailure),
+            EXTENSION_RESPONSE => Ok(ResponseKind::ExtensionResponse),
             _ => Err(Error::FormatEncoding),
         }
     }

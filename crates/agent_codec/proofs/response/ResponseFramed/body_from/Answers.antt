@@ -4,7 +4,7 @@ use Rattle.ssh_key.specs.format.Terms.{boxed}
 use Rattle.ssh_key.specs.keys.KeyFormats.{signature_format}
 use Rattle.ssh_key.proofs.Places.{later_none}
 use Rattle.agent_codec.specs.Records.{identity_format}
-use Rattle.agent_codec.specs.Responses.{Failure, Identities, Signed, Success, response_of}
+use Rattle.agent_codec.specs.Responses.{ExtensionFailure, Failure, Identities, Signed, Success, response_of}
 use Rattle.agent_codec.specs.declared.response.Response.TheVariants as responses
 use Rattle.agent_codec.proofs.Frames.{held_reads, held_refused, nothing_reads}
 use Rattle.agent_codec.proofs.response.ResponseFramed.body_from.Goals as goal
@@ -36,3 +36,9 @@ pub returns-in_ok-signature-in-SignResponse : goal.returns-in_ok-signature-in-Si
 returns-in_ok-signature-in-SignResponse g c =
     let e = c.in_ok-signature-in-SignResponse.ensures in
     rw c.in-SignResponse.is (record { gives = held_reads (boxed signature_format) Signed response_of _ _ _ _ _ e.gives refl; later = e.later; asks = tt; past = tt })
+
+pub returns-in-ExtensionFailure : goal.returns-in-ExtensionFailure
+returns-in-ExtensionFailure g c = rw c.in-ExtensionFailure.is (record { gives = nothing_reads response_of ExtensionFailure responses.ExtensionFailure _ refl; later = later_none _; asks = tt; past = tt })
+
+pub returns-in-ExtensionResponse : goal.returns-in-ExtensionResponse
+returns-in-ExtensionResponse g c = let e = c.extension_from.ensures in rw c.in-ExtensionResponse.is (record { gives = e.gives; later = e.later; asks = e.asks; past = e.past })
