@@ -1,11 +1,11 @@
 -- What is said of a host, by its name at the port or by its plain name, and what is answered.
-use Rattle.std.proofs.Common.{◌≡◌, ◌≢◌, ℕ, Bool, true, false, List, IfErr, IfOk, Result, Ok, Err, inl, inr, refl, subst, sym, ◌∙◌}
+use Rattle.std.proofs.Common.{◌≡◌, ◌≢◌, ◌<◌, length, ℕ, Bool, true, false, List, IfErr, IfOk, Result, Ok, Err, inl, inr, refl, subst, sym, ◌∙◌}
 use Rattle.ssh_key.specs.entries.HostNames.{known_name, standard_port}
 use Rattle.ssh_key.specs.types.Error.{Error}
 use Rattle.ssh_key.specs.types.Error.TheVariants.{Memory}
 use Rattle.ssh_key.specs.types.known_hosts.Verdict.{Verdict}
 use Rattle.ssh_key.specs.types.known_hosts.Verdict.TheVariants.{Revoked, Trusted, Unknown}
-use Rattle.host_keys.specs.Answers.{IsRefusalFor, IsWhy, OkExactly, answer_of}
+use Rattle.host_keys.specs.Answers.{AsksOf, IsRefusalFor, IsWhy, OkExactly, answer_of}
 use Rattle.host_keys.specs.Hosts.{IsSaid, IsSettled}
 use Rattle.host_keys.specs.declared.refusal.Refusal.{Refusal}
 use Rattle.host_keys.specs.declared.refusal.Refusal.TheVariants as refusal
@@ -50,6 +50,14 @@ module _ {E F : Type 0} (Said : Verdict → Type 0) (revoked : Bool) where
     why (Ok false) (Ok v) is said = (sym is, said)
     why (Ok false) (Err e) is said = tt
     why (Err e) says is said = tt
+
+-- memory was refused for the lines, or by who says what is revoked
+pub asks_of : {E F : Type 0} (none : Bool) (lines : List (List ℕ)) (asked : Result Bool E) (says : Result Verdict F) → IfErr asked (λ e. none ≡ false) → IfErr says (λ e. 0 < length lines) → AsksOf none lines (answer_of asked says)
+asks_of none lines (Ok true) says a s = λ m. cc m
+asks_of none lines (Ok false) (Ok Trusted) a s = tt
+asks_of none lines (Ok false) (Ok v) a s = λ m. cc m
+asks_of none lines (Ok false) (Err e) a s = λ m. inl s
+asks_of none lines (Err e) says a s = λ m. inr a
 
 -- for what is wrong with the certificate
 pub why_bad : (Said : Verdict → Type 0) (revoked : Bool) (Bad : Error → Type 0) (e : Error) (r : Refusal) → (revoked ≡ false) × Said Trusted → (e ≢ Memory → Bad e) → IsRefusalFor e r → IsWhy Said revoked Bad r

@@ -8,12 +8,12 @@
 //! `compared_*`, `equal_*` and `ordered_*` what `==` and `cmp` go by. `certificates` has those of
 //! what is valid. The others say what their docs say.
 
-ghost use Rattle.std.specs.Prelude.{ℕ};
+ghost use Rattle.std.specs.Prelude.{◌≡◌, ◌≤◌, List, length, ℕ};
 ghost use Rattle.std.specs.Int.{w64};
 ghost use Rattle.std.specs.List.{AllByRecursion};
 ghost use Rattle.ssh_key.specs.NormalForms.{AreNormalForms};
 ghost use Rattle.sshkey_model.specs.CertificateNames.{IsCertified, certificate_algorithm, certificate_algorithm_at};
-ghost use Rattle.sshkey_model.specs.Certificates.{AreSignedFields, IsCertificate, IsEnd, IsTime, certificate_at, certificate_type, end_at, normal_certificate, normal_to_be_signed, signed_fields_at, time_at, type_at};
+ghost use Rattle.sshkey_model.specs.Certificates.{AreSignedFields, Certificate, IsCertificate, IsEnd, IsTime, certificate_at, certificate_type, end_at, normal_certificate, normal_to_be_signed, signed_fields_at, time_at, type_at};
 ghost use Rattle.sshkey_model.specs.Grammar.{value_at};
 ghost use Rattle.sshkey_model.specs.KeyDerivation.{cipher, kdf, kdf_algorithm};
 ghost use Rattle.sshkey_model.specs.KeyPairs.{IsKeyPair, IsPairUnder, IsRsaPrivate, IsScalar, Plain, keypair_at, normal_keypair, pair, pair_at, rsa_private, rsa_private_at, scalar, scalar_at};
@@ -22,7 +22,7 @@ ghost use Rattle.sshkey_model.specs.Lines.{LinesAreApart, LinesDetermineValues, 
 ghost use Rattle.sshkey_model.specs.Mpints.{IsMpint, mpint_at};
 ghost use Rattle.sshkey_model.specs.Names.{Algorithm, IsAlgorithm, algorithm, algorithm_at, curve, curve_at, hash, hash_at};
 ghost use Rattle.sshkey_model.specs.Options.{AreOptions, normal_options, options_at};
-ghost use Rattle.sshkey_model.specs.Parts.{Any, number};
+ghost use Rattle.sshkey_model.specs.Parts.{Any, flat, number};
 ghost use Rattle.sshkey_model.specs.Points.{IsPointOf, point_at};
 ghost use Rattle.sshkey_model.specs.PrivateKeys.{IsPrivateKey, normal_private_key};
 ghost use Rattle.sshkey_model.specs.Signatures.{IsSignature, signature, signature_at};
@@ -231,4 +231,13 @@ pub fn lines()
     ensures keys { LinesDetermineValues key_name SpellsKey }
     ensures certificates { LinesDetermineValues name_of_certificate SpellsCertificate }
     ensures apart { LinesAreApart }
+{}
+
+/// No spelling of a certificate is shorter than its normal form, and no other is as short: what is
+/// as long as the normal form is the normal form.
+pub fn shortest_certificate()
+    ensures shortest { (c : Certificate) (blob : List ℕ) → SpellsCertificate c blob
+        → length (flat (normal_certificate c)) ≤ length blob }
+    ensures only { (c : Certificate) (blob : List ℕ) → SpellsCertificate c blob
+        → length blob ≡ length (flat (normal_certificate c)) → blob ≡ flat (normal_certificate c) }
 {}

@@ -4,7 +4,7 @@ use Rattle.ssh_key.specs.known_hosts.Verdicts.{IsVerdict}
 use Rattle.ssh_key.specs.krl.Revocations.{is_key_revoked}
 use Rattle.ssh_key.specs.types.known_hosts.Verdict.TheVariants.{Trusted}
 use Rattle.host_keys.specs.Hosts.{IsSaidOfKey, IsTrustedKey, lines_of}
-use Rattle.host_keys.proofs.Said.{as_much, exactly, one_said, why}
+use Rattle.host_keys.proofs.Said.{as_much, asks_of, exactly, one_said, why}
 use Rattle.host_keys.proofs.key.check_key.Goals as goal
 
 pub returns : goal.returns
@@ -17,6 +17,7 @@ returns g c =
     let one = one_said (λ (name : List ℕ). IsVerdict hmac name key lines) c.args.host.now c.args.port (λ name. c.one_verdict.ensures hmac name key lines) in
     rw c.answer.ensures (record {
       exactly = as_much {P = (is_key_revoked revokes_key key ≡ false) × Said Trusted} {Q = IsTrustedKey hmac revokes_key c.args.host.now c.args.port key lines} _
-          (λ both. record { listed = both.1; unrevoked = both.0 }) (λ is. (is.unrevoked, is.listed)) (exactly Said _ one _ _ c.is_key_revoked-revoked.ensures c.key_verdict.ensures.answer);
-      refused = why Said _ (λ e. ⊥) _ _ c.is_key_revoked-revoked.ensures c.key_verdict.ensures.answer;
+          (λ both. record { listed = both.1; unrevoked = both.0 }) (λ is. (is.unrevoked, is.listed)) (exactly Said _ one _ _ c.is_key_revoked-revoked.ensures.said c.key_verdict.ensures.answer);
+      refused = why Said _ (λ e. ⊥) _ _ c.is_key_revoked-revoked.ensures.said c.key_verdict.ensures.answer;
+      asks = asks_of _ lines _ _ c.is_key_revoked-revoked.ensures.asks c.key_verdict.ensures.asks;
     })
