@@ -6,7 +6,7 @@ ghost use Rattle.sshkey_kinds.specs.Kinds.{dsa_of, rsa_of};
 ghost use Rattle.openssh_limits.specs.Keys.{is_let_in, is_read_key, is_uncompressed, required};
 
 use crate::number::{is_read_number, read_bits};
-use crate::texts::is_read_text;
+use crate::texts::has_no_zero;
 use sshkey_keys::KeyData;
 use sshkey_kinds::{DsaPublicKey, RsaPublicKey};
 
@@ -36,9 +36,9 @@ pub fn is_read_key(key: &KeyData, least_rsa_bits: u32) -> bool
         KeyData::Ed25519(_) => true,
         KeyData::Rsa(key) => is_read_rsa(key, least_rsa_bits),
         KeyData::SkEcdsaSha2NistP256(key) => {
-            is_uncompressed(key.ec_point().as_bytes()) && is_read_text(key.application())
+            is_uncompressed(key.ec_point().as_bytes()) && has_no_zero(key.application())
         }
-        KeyData::SkEd25519(key) => is_read_text(key.application()),
+        KeyData::SkEd25519(key) => has_no_zero(key.application()),
         KeyData::Other(_) => false,
     }
 }
