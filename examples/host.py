@@ -1,11 +1,12 @@
 #!/usr/bin/env python3
 """Says what known_hosts files say of the keys of a host, before something is sent to it.
 
-    host.py HOST PORT KNOWN_HOSTS.. <id_ed25519.pub
+    host.py [--revoked FILE] HOST PORT KNOWN_HOSTS.. <id_ed25519.pub
 
 The input has a line for each key, as public key files have; `ssh-keyscan -p PORT HOST | cut -d' ' -f2-` shows those of a host. The
 answer to each is a word: revoked, unreadable, trusted, changed or unknown, and the first of these that one of the files gives.
-Where all say unknown of another port than 22, it is what they say of port 22, about which ssh(1) asks too.
+Where all say unknown of another port than 22, it is what they say of port 22, about which ssh(1) asks too. FILE is one of ssh's
+RevokedHostKeys, a key revocation list or keys, one a line, which is asked first; where it can't be read, no key has an answer.
 The status is 0 if all are trusted, 1 if not, and 2 where it can't tell: so also where there is no key.
 """
 from __future__ import annotations
@@ -62,14 +63,19 @@ def port_of(word: str) -> int:
     return int(word)
 
 
-def verdicts_on(host: str, port: int, paths: Collection[str]) -> list[Status]:
-    """The verdict on each key of the input, which it prints. Raises ValueError where a line has no key."""
-    texts, verdicts = [], []
-    for path in paths:
-        with open(path, "rb") as file:
-            texts.append(file.read())
+def content(path: str) -> bytes:
+    with open(path, "rb") as file:
+        return file.read()
+
+
+def verdicts_on(host: str, port: int, paths: Collection[str], revoked: bytes) -> list[Status]:
+    """The verdict on each key of the input, which it prints. Raises ValueError where a line has no key, or the revocation file
+    can't be read."""
+    texts, verdicts = [content(it) for it in paths], []
     for line in sys.stdin.buffer:
-        verdicts.append(judge(texts, host, port, sshkey.read_line(line).blob))
+        key = sshkey.read_line(line).blob
+        is_revoked = sshkey.revoked_key(revoked, key)
+        verdicts.append(Status.HOST_REVOKED if is_revoked else judge(texts, host, port, key))
         print(WORDS[verdicts[-1]], flush=True)
     if not verdicts:
         raise ValueError("no key was given")
@@ -77,14 +83,18 @@ def verdicts_on(host: str, port: int, paths: Collection[str]) -> list[Status]:
 
 
 def main() -> int:
-    if len(sys.argv) < 4:
+    words, path = sys.argv[1:], None
+    if words[:1] == ["--revoked"]:
+        path, *words = words[1:] or [None]
+    if len(words) < 3:
         print(__doc__, file=sys.stderr)
         return 2
-    host, port, *paths = sys.argv[1:]
+    host, port, *paths = words
     try:
+        revoked = sshkey.NO_REVOCATIONS if path is None else content(path)
         if sys.stdin is None or sys.stdout is None:
             raise OSError("standard input or output is closed")
-        verdicts = verdicts_on(host, port_of(port), paths)
+        verdicts = verdicts_on(host, port_of(port), paths, revoked)
     except (OSError, ValueError, MemoryError) as error:
         print(f"host.py: {error}", file=sys.stderr)
         sys.stdout = None  # or else Python writes what is left, and its status is that of this

@@ -4,7 +4,8 @@
 
     issue.py AUTHORITY KEY.pub KEY-ID SECONDS PRINCIPAL.. >KEY-cert.pub
 
-AUTHORITY is the file of an Ed25519 private key without a passphrase. What is issued is checked before it is printed. The status is
+AUTHORITY is the file of an Ed25519 private key without a passphrase, which is for a trial: keep a real authority's key in an agent or a
+device, and pass make_certificate a function that has it sign. What is issued is checked before it is printed. The status is
 0 if it is issued, 1 if these tell no certificate, and 2 where a file can't be read or has no such key, SECONDS is no number, or
 KEY-ID has a character that can't be printed.
 """

@@ -9,6 +9,10 @@
 #include <time.h>
 #include "sshkey.h"
 
+#ifdef __cplusplus
+extern "C" {
+#endif
+
 /* Bytes of malloc. */
 typedef struct {
   uint8_t *bytes;
@@ -108,4 +112,7 @@ uint32_t judge_validate_host(judge_blob certificate, const judge_host *asked);
 /* What an answer means, in words: each has its own. */
 const char *judge_meaning(uint32_t answer);
 
+#ifdef __cplusplus
+}
+#endif
 #endif

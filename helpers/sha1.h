@@ -6,6 +6,10 @@
 #include <stdint.h>
 #include "judge.h"
 
+#ifdef __cplusplus
+extern "C" {
+#endif
+
 /* SSHKEY_RSA_SHA1 where the line is that of a certificate, but that its signature is one by SHA-1;
  * else SSHKEY_LENGTH, or SSHKEY_MEMORY. With the first the answer is the certificate under another
  * name in its signature, rsa-sha2-256, so that the calls of sshkey.h read all that stands before:
@@ -16,4 +20,7 @@ uint32_t judge_read_sha1(const char *line, size_t length, judge_blob *answer);
  * where it is none. */
 size_t judge_decode_base64(uint8_t *bytes, size_t length);
 
+#ifdef __cplusplus
+}
+#endif
 #endif

@@ -5,6 +5,10 @@
 #include <stdint.h>
 #include "judge.h"
 
+#ifdef __cplusplus
+extern "C" {
+#endif
+
 /* The bytes of the signature in an armour: SSHKEY_DONE, SSHKEY_BASE64 where it is none, or
  * SSHKEY_MEMORY. What follows the armour is not looked at. */
 uint32_t judge_read_armour(judge_blob text, judge_blob *answer);
@@ -34,4 +38,7 @@ typedef struct {
 uint32_t judge_signer_of_digest(judge_blob signature, const char *name_space, judge_blob digest,
                                 const judge_signers *by);
 
+#ifdef __cplusplus
+}
+#endif
 #endif

@@ -5,6 +5,10 @@
 #include <stdio.h>
 #include "sshkey.h"
 
+#ifdef __cplusplus
+extern "C" {
+#endif
+
 /* Whether the signature is one of the message under the key. The room is the one that the question
  * was written to. False also where libcrypto fails, and for DSA. */
 bool judge_is_signature(const sshkey_question *question, const uint8_t *room);
@@ -13,4 +17,7 @@ bool judge_is_signature(const sshkey_question *question, const uint8_t *room);
  * bytes. False where it can't be read, or libcrypto fails. */
 bool judge_digest(FILE *file, uint8_t *digest, size_t length);
 
+#ifdef __cplusplus
+}
+#endif
 #endif

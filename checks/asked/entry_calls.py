@@ -239,6 +239,15 @@ def check_example(count, folder):
     one = run([sys.executable, script, "h.example", "22", path], input=f"{keys['ED25519']}\n")
     trusted = one.returncode == 0 and one.stdout == "trusted\n"
     count.check("and ends with 0 where all is trusted", trusted, one.stdout, one.stderr)
+    for name, data, wanted in (
+        ("its key", keys["ED25519"], (1, "revoked\n")), ("another key", keys["RSA"], (0, "trusted\n")), ("nothing", "", (0, "trusted\n")),
+        ("half a key", keys["RSA"][:40], (2, "")),
+    ):  # fmt: skip
+        with open(f"{folder}/revoked-hosts", "w", encoding="ascii") as file:
+            file.write(data)
+        one = run([sys.executable, script, "--revoked", file.name, "h.example", "22", path], input=f"{keys['ED25519']}\n")
+        same = (one.returncode, one.stdout) == wanted and bool(one.stderr) == (wanted[0] == 2)
+        count.check(f"host.py, and a file revokes {name}", same, one)
     none = run([sys.executable, script, "h.example", "22", path], input="")
     count.check("and with 2 where there is no key", none.returncode == 2 and none.stderr and not none.stdout, none.stdout, none.stderr)
 

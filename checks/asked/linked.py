@@ -15,6 +15,8 @@ PEDANTIC = ["-Wshadow", "-Wconversion"]
 C = ["cc", "-std=c11", "-D_POSIX_C_SOURCE=200809L", *WARNINGS, f"-I{ROOT}/include"]
 # under which a program that reads or writes where it may not, or gives no memory back, ends with 9
 VALGRIND = ["valgrind", "-q", "--leak-check=full", "--error-exitcode=9"]
+# the helpers' parts that are there to be copied
+COPIED = ("judge", "sha1", "sshsig", "verify")
 # what memory_calls.h and judge_calls.h wrap
 WRAPPED = "-Wl,--wrap=malloc,--wrap=realloc,--wrap=free,--wrap=judge_is_signature"
 # what the library may take of the C library
@@ -151,10 +153,23 @@ def check_layout(count, sshkey):
     count.check("the end of a window that has none is the same", sshkey.FOREVER == 2**64 - 1 and "SSHKEY_FOREVER UINT64_MAX" in header())
 
 
+def check_judge_in_cpp(count, built, folder):
+    """A program in C++ takes the functions of the helpers that are there to be copied."""
+    path = f"{folder}/judged"
+    with open(f"{path}.cc", "w", encoding="ascii") as file:
+        file.write("".join(f'#include "{it}.h"\n' for it in COPIED))
+        file.write("int main() { judge_blob none = {nullptr, 0}; return judge_digest_length(none) != 0 || !judge_meaning(0); }\n")
+    parts = [f"{built.plain}/{it}" for it in ("parts.a", "libsshkey.a")]
+    words = ["c++", "-std=c++17", *WARNINGS, f"-I{ROOT}/include", f"-I{HELPERS}", f"{path}.cc", *parts, "-lcrypto", "-o", path]
+    made = run(words)
+    ran = run([path]) if made.returncode == 0 else made
+    count.check("a program in C++ takes the functions of the helpers", ran.returncode == 0, made.stderr[-2000:], ran)
+
+
 def check_judge_names(count, built):
     """What programs copy of the helpers takes no name that they may have themselves."""
     names = set()
-    for part in ("judge", "sha1", "sshsig", "verify"):
+    for part in COPIED:
         names |= {it.split()[-1] for it in run(["nm", "-g", "--defined-only", f"{built.plain}/{part}.o"]).stdout.splitlines()}
         with open(f"{HELPERS}/{part}.h", encoding="ascii") as file:
             names |= set(re.findall(r"^(?:\} |typedef \w+ )(\w+)[;(]", file.read(), re.M))
@@ -260,3 +275,4 @@ def check_linked(count, built, sshkey, folder):
     check_flags(count, built, folder)
     check_names(count, built)
     check_judge_names(count, built)
+    check_judge_in_cpp(count, built, folder)

@@ -1,0 +1,109 @@
+"""The lines by which docs/FOREIGN.md says that a program of one's own is built, as they stand there: for C, Go and Rust each makes a
+program out of what README or the page shows, with nothing beside it but what the page names."""
+import os
+import re
+import shutil
+
+from lib.harness import ROOT
+
+from .linked import run
+from .login_calls import blocks
+
+# the ways in which the page tells them: PATH is the tree, and out/ what make builds
+C_LINE, GO_LINES = r"`(cc -IPATH.*?)`", r"`(require rafendilo\S* v\S+)` and `(replace rafendilo\S* => PATH\S*)`"
+RUST_LINE, BUILD = r"`(sshkey = \{ path = \"PATH.*?\" \})`", r"```rust\n(fn main\(\) \{.*?)^```"
+HEADERS = r"include `(\S+?\.h)`.*?README's lines also need (.*)"
+# what stands around the lines of README in C, of FOREIGN.md in Go, and around the verifier of examples/check.rs
+C_PROGRAM = """\
+{0}static void let_in(void) {{ puts("let in"); }}
+void log_in(const char *authority_line, size_t authority_length, const char *line, size_t length, judge_blob key) {{
+{1}}}
+int main(void) {{ return 0; }}
+"""
+GO_PROGRAM = """\
+package main
+
+import (
+	"fmt"
+	"time"
+
+	"rafendilo.example/go/judge"
+	"rafendilo.example/go/sshkey"
+)
+
+func letIn() {{}}
+
+func logIn(authority sshkey.SHA256, line string, key []byte) {{
+{0}}}
+
+func main() {{ logIn(sshkey.SHA256{{}}, "", nil) }}
+"""
+RUST_PROGRAM = """\
+use std::time::{{SystemTime, UNIX_EPOCH}};
+{0}
+fn let_in() {{}}
+fn log_in(authority_line: &str, line: &str, key: &[u8]) -> Result<(), Box<dyn std::error::Error>> {{
+    use verify::verifies;
+{1}
+    Ok(())
+}}
+fn main() {{
+    drop(log_in("", "", &[]));
+}}
+"""
+PACKAGE = '[package]\nname = "login"\nversion = "1.0.0"\nedition = "2021"\n\n[dependencies]\n{}\n'
+
+
+def page():
+    with open(f"{ROOT}/docs/FOREIGN.md", encoding="utf-8") as file:
+        return file.read().partition("\n## ")[0]
+
+
+def here(text, out):
+    """The words of the page for this tree, whose out/ may lie elsewhere."""
+    return text.replace("PATH/out", out).replace("PATH", ROOT)
+
+
+def write(folder, **files):
+    for name, text in files.items():
+        path = f"{folder}/{name.replace('__', '/').replace('_', '.')}"
+        os.makedirs(os.path.dirname(path), exist_ok=True)
+        with open(path, "w", encoding="utf-8") as file:
+            file.write(text)
+
+
+def built_c(folder, out):
+    command, (header, others) = re.search(C_LINE, page())[1], re.search(HEADERS, page()).groups()
+    includes = "".join(f"#include <{it}>\n" for it in re.findall(r"<(\S+?)>", others)) + f'#include "{header}"\n'
+    write(folder, login_c=C_PROGRAM.format(includes, blocks("c")[0]))
+    return run(here(command, out).split(), cwd=folder)
+
+
+def built_go(folder, out):
+    lines = re.search(GO_LINES, page()).groups()
+    write(folder, main_go=GO_PROGRAM.format(blocks("go")[0]), go_mod=here("\n\n".join(("module login", "go 1.19", *lines)), out) + "\n")
+    kept = {**os.environ, "GOFLAGS": "", "GOPROXY": "off", "GOTOOLCHAIN": "local", "GOWORK": "off", "CGO_LDFLAGS": f"-L{out}"}
+    return run(["go", "build", "-o", "login", "."], cwd=folder, env=kept)
+
+
+def built_rust(folder, out):
+    with open(f"{ROOT}/examples/check.rs", encoding="utf-8") as file:
+        module = re.search(r"^pub\(crate\) mod verify \{.*?^\}\n", file.read(), re.M | re.S)[0]
+    program = RUST_PROGRAM.format(module, blocks("rust")[0])
+    build = here(re.search(BUILD, page(), re.M | re.S)[1], out)
+    write(folder, Cargo_toml=PACKAGE.format(here(re.search(RUST_LINE, page())[1], out)), build_rs=build, src__main_rs=program)
+    kept = {**os.environ, "SSHKEY_LIB_DIR": out, "CARGO_TARGET_DIR": f"{folder}/target"}
+    return run(["cargo", "build", "--offline"], cwd=folder, env=kept)
+
+
+# by the command that each takes, which Debian has in the packages gcc, golang-go and cargo
+LANGUAGES = {"cc": built_c, "go": built_go, "cargo": built_rust}
+
+
+def check_pages(count, folder, out):
+    """The programs are built in the folder, over the libraries and parts.a in `out`, where the commands are."""
+    for command, built in LANGUAGES.items():
+        if shutil.which(command):
+            made = built(f"{folder}/page-{command}", out)
+            said = made.stdout[-1000:] + made.stderr[-3000:]
+            count.check(f"what docs/FOREIGN.md says of {command} builds a program", made.returncode == 0, said)
