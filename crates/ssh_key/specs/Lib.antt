@@ -15,6 +15,7 @@ pub mod pairs
 pub mod keypairs
 pub mod sshsig
 pub mod public
+pub mod addresses
 pub mod entries
 pub mod files
 pub mod fields

@@ -7,7 +7,7 @@ pub use Rattle.sshkey_entries.specs.OptionEnds
 pub use Rattle.sshkey_entries.specs.Fields
 pub use Rattle.sshkey_entries.specs.OpenSshLines
 pub use Rattle.sshkey_entries.specs.OptionItems
-pub use Rattle.sshkey_entries.specs.Patterns
+pub use Rattle.sshkey_patterns.specs.Patterns
 pub use Rattle.sshkey_entries.specs.HostNames
 pub use Rattle.sshkey_entries.specs.HostVerdicts
 pub use Rattle.sshkey_entries.specs.Laws

@@ -19,6 +19,7 @@ pub use Rattle.sshkey_private.specs.declared.private_key.PrivateKey
 pub use Rattle.sshkey_base64.specs.declared.base64_reader.Base64Reader
 pub use Rattle.sshkey_public.specs.declared.public_key.PublicKey
 pub use Rattle.sshkey_sshsig.specs.declared.sshsig.SshSig
+pub mod addresses
 pub mod authorized_keys
 pub mod certificate
 pub mod encoding

@@ -7,6 +7,7 @@
 //! read and write, as `ssh_key::proofs::Steps::steps`.
 #![tactic(auto)]
 
+pub mod addresses;
 pub mod authorized_keys;
 pub mod certificate;
 pub mod encoding;

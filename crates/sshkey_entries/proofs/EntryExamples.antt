@@ -21,7 +21,7 @@ use Rattle.sshkey_entries.specs.AuthorizedKeys.{IsNoKeyLine, IsAuthorizedKey, Ha
 use Rattle.sshkey_entries.specs.ConfigOptions.{is_option_character}
 use Rattle.sshkey_entries.specs.Entries.{IsNoEntry}
 use Rattle.sshkey_entries.specs.EntryExamples.{Options, Marked, HashedHosts, authorized, host, hash, salt}
-use Rattle.sshkey_entries.specs.Items.{patterns}
+use Rattle.sshkey_patterns.specs.Commas.{patterns}
 use Rattle.sshkey_entries.specs.KnownHosts.{Marker, CertAuthority, Revoked, Hosts, HashedName, Patterns, IsHosts, IsMarked, IsKnownHost, at_sign, bar}
 use Rattle.sshkey_entries.proofs.OneHost.{bar_not}
 

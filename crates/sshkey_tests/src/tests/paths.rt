@@ -47,6 +47,14 @@ pub mod known_hosts {
     };
 }
 
+/// Where a client may come from.
+pub mod addresses {
+    pub use ssh_key::addresses::{
+        FromFault, Malformed, from_allows, from_allows_at, is_source_list, may_come_from,
+        source_address_allows,
+    };
+}
+
 /// Texts against patterns.
 pub mod patterns {
     pub use ssh_key::patterns::{LetterCase, matches_pattern, matches_pattern_list};
