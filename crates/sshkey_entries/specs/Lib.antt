@@ -21,3 +21,4 @@ pub mod Cuts
 pub mod LetterCases
 pub mod Matching
 pub mod KeyFields
+pub mod OtherKeys

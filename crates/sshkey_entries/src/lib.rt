@@ -9,6 +9,7 @@ mod filled_lines;
 mod from_line;
 mod key_fields;
 pub mod laws;
+mod other_key;
 mod pattern;
 mod pattern_list;
 
@@ -17,6 +18,7 @@ pub use entry_lines::{EntryLines, EntryTexts};
 pub use filled_lines::FilledLines;
 pub use from_line::{FromLine, entries_of_file, entries_of_text};
 pub use key_fields::read_key_fields;
+pub use other_key::are_other_key_fields;
 pub use pattern::{LetterCase, matches_pattern};
 pub use pattern_list::{
     is_named_by, is_refused_by, is_short_pattern, matches_pattern_list, split_pattern,
