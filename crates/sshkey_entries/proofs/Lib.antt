@@ -13,3 +13,4 @@ pub mod Cuts
 pub mod EntryExamples
 pub mod OneOption
 pub mod FieldKeys
+pub mod OtherKeys

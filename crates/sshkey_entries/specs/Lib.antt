@@ -20,3 +20,4 @@ pub mod MadeTexts
 pub mod Cuts
 pub use Rattle.sshkey_patterns.specs.LetterCases
 pub mod KeyFields
+pub mod OtherKeys

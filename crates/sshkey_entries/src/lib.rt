@@ -9,12 +9,14 @@ mod filled_lines;
 mod from_line;
 mod key_fields;
 pub mod laws;
+mod other_key;
 
 pub use blanks::{skip_blanks, split_field};
 pub use entry_lines::{EntryLines, EntryTexts};
 pub use filled_lines::FilledLines;
 pub use from_line::{FromLine, entries_of_file, entries_of_text};
 pub use key_fields::read_key_fields;
+pub use other_key::are_other_key_fields;
 pub use sshkey_patterns::{
     LetterCase, is_named_by, is_refused_by, is_short_pattern, matches_pattern,
     matches_pattern_list, split_pattern,

@@ -1,0 +1,178 @@
+-- No key begins with the name of another kind; and how such a name is read in a word.
+use Rattle.std.proofs.Common.{◌≡◌, ◌≢◌, ◌+◌, ◌<◌, ◌≤◌, ◌%◌, ℕ, suc, List, [], ◌∷◌, ◌++◌, length, slice_index, Bool, true, false, ◌&&◌, ◌==◌, Some, None, is_none, eqb-true, inl, inr, refl, sym, ap, subst, ◌∙◌, append_assoc, append-nil, arith, tests}
+use Rattle.std.specs.Int.{w32, to_be_bytes}
+use Rattle.std.specs.Prelude.{nat_le, nat_lt}
+use Rattle.std.proofs.lemmas.Bool.{and_parts}
+use Rattle.base64.specs.Engines.{standard}
+use Rattle.base64.specs.GeneralPurpose.{encode_of}
+use Rattle.sshkey_base.specs.Source.{Source, Advances, IsSound, announced_len}
+use Rattle.sshkey_base64.specs.Words64.{IsSourceOf}
+use Rattle.sshkey_base64.proofs.GoodBytes.{length_word}
+use Rattle.sshkey_keys.specs.Keys.{SpellsKey}
+use Rattle.sshkey_model.specs.Keys.{Key, Head, Plain, Head256, Head512, headed, body, key_algorithm}
+use Rattle.sshkey_model.specs.Lines.{key_name}
+use Rattle.sshkey_model.specs.Names.{Nistp256, Nistp384, Nistp521, Sha256, Sha512, Algorithm, Dsa, Ecdsa, Ed25519, Rsa, SkEcdsa, SkEd25519, Other, IsAlgorithm, algorithm, algorithm_name, algorithms, named, are_ascii, cut, is_split, is_own_name, is_other_name}
+use Rattle.sshkey_model.specs.Parts.{are_bytes, bytes, flat, Fits}
+use Rattle.sshkey_model.specs.Texts.{string}
+use Rattle.sshkey_model.proofs.Base64Words.{one_blob}
+use Rattle.sshkey_model.proofs.Blobs.{key_blobs}
+use Rattle.sshkey_model.proofs.CombinedReaders.{are_bytes-append, bytes_fit, fits_box, fits_bytes, fits_first, prefix, string_reads}
+use Rattle.sshkey_entries.specs.Cuts.{CutsField}
+use Rattle.sshkey_entries.specs.Fields.{without_blanks, IsField, AreKeyFields}
+use Rattle.sshkey_entries.specs.KnownHosts.{at_sign}
+use Rattle.sshkey_entries.specs.OptionEnds.{is_blank}
+use Rattle.sshkey_entries.specs.OtherKeys.{is_name_character, HasNameCharacters, IsOtherName, SpellsName, AreOtherKeyFields}
+use Rattle.sshkey_entries.proofs.Fields.{same_field, blanks_are, base64_field}
+use Rattle.sshkey_entries.proofs.OneOpenSshLine.{same_front}
+
+-- ---- steps through a source
+
+pub begun : (s : Source) → Advances s [] s
+begun s = record { taken = refl; missing = refl; outer = refl; are = refl }
+
+pub then_on : (s t u : Source) (a b : List ℕ) → Advances s a t → Advances t b u → Advances s (a ++ b) u
+then_on s t u a b x y = record {
+  taken = x.taken ∙ ap (λ (l : List ℕ). a ++ l) y.taken ∙ sym (append_assoc a b u.left);
+  missing = y.missing ∙ x.missing;
+  outer = y.outer ∙ x.outer;
+  are = are_bytes-append a b x.are y.are;
+}
+
+-- none is left
+pub to_the_end : (s t : Source) (a : List ℕ) → Advances s a t → announced_len t ≡ 0 → (s.missing ≡ 0) × (are_bytes s.left ≡ true)
+to_the_end s t a x none =
+    let all : s.left ≡ a = x.taken ∙ ap (λ (l : List ℕ). a ++ l) (empty t.left (omega (arith, none))) ∙ append-nil a in
+    (omega (arith, none, x.missing), ap are_bytes all ∙ x.are)
+  where
+    empty : (l : List ℕ) → length l ≡ 0 → l ≡ []
+    empty [] e = refl
+    empty (c ∷ l) e = absurd (omega (arith, e))
+
+-- ---- a string
+
+module _ (s t : Source) (name : List ℕ) where
+  pub in_string : (u : Source) → Advances s (to_be_bytes w32 (length name)) t → Advances t name u → Advances s (flat (string name)) u
+  unfolding flat
+  in_string u x y = then_on s t u (to_be_bytes w32 (length name)) name x y
+
+  pub number_first : (rest : List ℕ) → s.left ≡ flat (string name) ++ rest → s.left ≡ to_be_bytes w32 (length name) ++ (name ++ rest)
+  unfolding flat
+  number_first rest is = is ∙ append_assoc (to_be_bytes w32 (length name)) name rest
+
+  pub then_name : (rest : List ℕ) → Advances s (to_be_bytes w32 (length name)) t → s.left ≡ flat (string name) ++ rest → t.left ≡ name ++ rest
+  then_name rest x is = (same_front (to_be_bytes w32 (length name)) (to_be_bytes w32 (length name)) t.left (name ++ rest) refl (sym x.taken ∙ number_first rest is)).1
+
+-- ---- a word
+
+pub no_groups : (name word : List ℕ) → length word % 4 ≢ 0 → SpellsName name word → ⊥
+no_groups name word other s = other (omega (arith, ap length s.is, length_word s.blob))
+
+module _ (name word : List ℕ) (s : Source) (is : IsSourceOf word s) where
+  pub named_word : (t : Source) → Advances s (flat (string name)) t → IsSound t → are_bytes t.left ≡ true → SpellsName name word
+  named_word t step sound are = record {
+    blob = s.left;
+    rest = t.left;
+    bytes = bytes_fit s.left (ap are_bytes step.taken ∙ are_bytes-append (flat (string name)) t.left step.are are);
+    begins = step.taken;
+    is = is.only (sym step.missing ∙ sound);
+  }
+
+  pub word_names : SpellsName name word → IsSound s × ((rest : List ℕ) × (s.left ≡ flat (string name) ++ rest))
+  word_names n = let e = is.every n.blob n.bytes n.is in (e.0, (n.rest, e.1 ∙ n.begins))
+
+-- ---- a name
+
+not_blank : (c : ℕ) (b : Bool) → is_blank c ≡ b → is_name_character c ≡ true → is_blank c ≡ false
+not_blank c false e is = e
+not_blank c true e is = absurd (elim (blanks_are c e) [
+  | inl s ↦ cc (sym is ∙ ap is_name_character s)
+  | inr t ↦ cc (sym is ∙ ap is_name_character t)
+])
+
+pub name_field : (name : List ℕ) → HasNameCharacters name → IsField name
+name_field name is i less = not_blank (slice_index name i) (is_blank (slice_index name i)) refl (is i less)
+
+behind : (c : ℕ) (name : List ℕ) → HasNameCharacters (c ∷ name) → HasNameCharacters name
+behind c name is i less = is (suc i) (omega (arith, less))
+
+small : (c : ℕ) → is_name_character c ≡ true → nat_lt c 256 ≡ true
+small c is = grind (arith, tests)
+
+name_bytes : (name : List ℕ) → HasNameCharacters name → are_bytes name ≡ true
+name_bytes [] is = refl
+name_bytes (c ∷ name) is = rw (small c (is 0 (omega arith)), name_bytes name (behind c name is)) refl
+
+no_at : (c : ℕ) (b : Bool) → (c == at_sign) ≡ b → is_name_character c ≡ true → (c == at_sign) ≡ false
+no_at c false e is = e
+no_at c true e is = absurd (cc (sym is ∙ ap is_name_character (eqb-true c at_sign e)))
+
+uncut : (name : List ℕ) → HasNameCharacters name → cut name ≡ None
+uncut [] is = refl
+uncut (c ∷ name) is = rw (no_at c (c == at_sign) refl (is 0 (omega arith)), uncut name (behind c name is)) refl
+
+no_own : (name : List ℕ) → HasNameCharacters name → is_other_name name ≡ true → ⊥
+unfolding is_other_name is_own_name
+no_own name is own =
+    let split = (and_parts (are_ascii name && nat_le (length name) 64) (is_split (cut name)) (and_parts (is_own_name name) (is_none (named algorithm_name algorithms name)) own).0).1 in
+    cc (sym split ∙ ap is_split (uncut name is))
+
+no_algorithm : (a : Algorithm) → IsAlgorithm a → IsOtherName (algorithm_name a) → ⊥
+unfolding named
+no_algorithm Dsa is o = cc o.not_fixed
+no_algorithm (Ecdsa Nistp256) is o = cc o.not_fixed
+no_algorithm (Ecdsa Nistp384) is o = cc o.not_fixed
+no_algorithm (Ecdsa Nistp521) is o = cc o.not_fixed
+no_algorithm Ed25519 is o = cc o.not_fixed
+no_algorithm (Rsa None) is o = cc o.not_fixed
+no_algorithm (Rsa (Some Sha256)) is o = cc o.not_fixed
+no_algorithm (Rsa (Some Sha512)) is o = cc o.not_fixed
+no_algorithm SkEcdsa is o = cc o.not_fixed
+no_algorithm SkEd25519 is o = cc o.not_fixed
+no_algorithm (Other n) is o = no_own n o.characters is
+
+-- ---- a key
+
+headed_is : (h : Head) (a : Algorithm) → IsAlgorithm a → IsAlgorithm (headed h a)
+headed_is Plain a is = is
+headed_is Head256 a is = tt
+headed_is Head512 a is = tt
+
+-- No key begins with such a name.
+pub no_key_begins : (k : Key) (name blob rest : List ℕ) → IsOtherName name → SpellsKey k blob → blob ≡ flat (string name) ++ rest → ⊥
+unfolding flat
+no_key_begins k name blob rest o s is =
+    let a = headed s.choices (key_algorithm k) in
+    let fits : Fits (string name) = fits_box (bytes name) (omega (arith, o.short)) (fits_bytes name (name_bytes name o.characters)) in
+    let same = prefix string_reads (algorithm_name a) name (flat (body k)) rest tt (fits_first (algorithm a) (body k) s.fits) tt fits (sym s.shape ∙ is) in
+    no_algorithm a (headed_is s.choices (key_algorithm k) s.is.0) (subst IsOtherName (sym same.0) o)
+
+-- ---- fields
+
+module _ (text name behind skipped word rest : List ℕ) (first : CutsField text name behind) (skips : skipped ≡ without_blanks behind) (second : CutsField skipped word rest) where
+  pub fields_read : IsOtherName name → SpellsName name word → AreOtherKeyFields text
+  fields_read other spelled = record {
+    name = name;
+    word = word;
+    behind_name = behind;
+    behind_word = rest;
+    is = first.is;
+    name_ends = first.ends;
+    of_other = other;
+    word_is = sym skips ∙ second.is;
+    spelled = spelled;
+    word_ends = second.ends;
+  }
+
+  pub fields_named : AreOtherKeyFields text → IsOtherName name × SpellsName name word
+  fields_named f =
+      let names = same_field name f.name behind f.behind_name first.one_word (name_field f.name f.of_other.characters) first.ends f.name_ends (sym first.is ∙ f.is) in
+      let words = same_field word f.word rest f.behind_word second.one_word (subst IsField (sym f.spelled.is) (base64_field f.spelled.blob)) second.ends f.word_ends (sym second.is ∙ skips ∙ ap without_blanks names.1 ∙ f.word_is) in
+      (subst IsOtherName (sym names.0) f.of_other, subst (λ (w : List ℕ). SpellsName name w) (sym words.0) (subst (λ (n : List ℕ). SpellsName n f.word) (sym names.0) f.spelled))
+
+-- No text is the fields of a key and of one of another kind.
+pub apart : (text : List ℕ) (k : Key) (comment : List ℕ) → AreOtherKeyFields text → AreKeyFields text k comment → ⊥
+apart text k comment f g =
+    let names = same_field f.name (key_name k) f.behind_name g.behind_name (name_field f.name f.of_other.characters) g.one_word f.name_ends g.name_ends (sym f.is ∙ g.is) in
+    let words = same_field f.word (encode_of standard g.blob) f.behind_word g.behind_key (subst IsField (sym f.spelled.is) (base64_field f.spelled.blob)) (base64_field g.blob) f.word_ends g.key_ends (sym f.word_is ∙ ap without_blanks names.1 ∙ g.word) in
+    let blob = one_blob f.spelled.blob g.blob f.spelled.bytes (bytes_fit g.blob (key_blobs.bytes k g.blob g.spelled)) (sym f.spelled.is ∙ words.0) in
+    no_key_begins k f.name g.blob f.spelled.rest f.of_other g.spelled (sym blob ∙ f.spelled.begins)
