@@ -1,9 +1,9 @@
 //! Whether a certificate stands in a line as it was signed.
 
-ghost use Rattle.std.specs.Prelude.{◌≡◌, ◌↔◌, IsTrue, List, length, ℕ};
+ghost use Rattle.std.specs.Prelude.{◌≡◌, ◌↔◌, ◌++◌, IsTrue, List, length, ℕ};
 ghost use Rattle.ssh_key.specs.cert.CertificateValues.{certificate_of};
 ghost use Rattle.ssh_key.specs.model.Certificates.{normal_certificate};
-ghost use Rattle.ssh_key.specs.model.Lines.{IsCertificateLine, IsLine};
+ghost use Rattle.ssh_key.specs.model.Lines.{IsCertificateLine, IsLine, IsWithout, after_space, space};
 ghost use Rattle.ssh_key.specs.model.Parts.{flat};
 
 use ssh_key::encoding::{Encode, Reader};
@@ -33,12 +33,19 @@ fn blob_len(line: &str) -> usize
     let Some((_, rest)) = line.trim_end().split_once(' ') else {
         return 0;
     };
-    let word = match rest.split_once(' ') {
-        Some((word, _)) => word,
-        None => rest,
-    };
-    match Base64Reader::new(word) {
+    match Base64Reader::new(first_word(rest)) {
         Ok(reader) => reader.remaining_len(),
         Err(_) => 0,
+    }
+}
+
+/// The text up to its first space.
+fn first_word(text: &str) -> &str
+    ensures { (word rest : List ℕ) → IsWithout space word
+        → text.now ≡ word ++ after_space rest → result.now ≡ word }
+{
+    match text.split_once(' ') {
+        Some((word, _)) => word,
+        None => text,
     }
 }
