@@ -57,7 +57,7 @@ void login_forget(login_request *asked) {
 
 /* ---- what is said */
 
-/* Writes the bytes for a log: what is no printable ASCII, and what quotes, by three octal digits. */
+/* Writes the bytes for a log: what is no printable ASCII, or quotes, by three octal digits. */
 static void write_escaped(FILE *to, const uint8_t *bytes, size_t length) {
   for (size_t at = 0; at < length && at < LOGGED; at++) {
     if (bytes[at] >= ' ' && bytes[at] < 0x7f && bytes[at] != '\\' && bytes[at] != '"')
@@ -101,12 +101,23 @@ void login_complain(const login_request *asked, const char *format, ...) {
   free(said);
 }
 
+/* Whether it says that the client is not let in, and not that it can't be told. */
+static bool is_no(uint32_t answer) {
+  switch (answer) {
+  case SSHKEY_NOT_SIGNED:
+  case SSHKEY_UNTRUSTED_AUTHORITY:
+  case SSHKEY_INVALID_TIME:
+  case SSHKEY_OUT_OF_WINDOW:
+  case SSHKEY_UNLISTED_PRINCIPAL:
+  case JUDGE_REVOKED: return true;
+  default: return false;
+  }
+}
+
 int login_refuse(const login_request *asked, uint32_t answer) {
-  bool is_told = answer != SSHKEY_MEMORY && answer != SSHKEY_ROOM &&
-                 answer != SSHKEY_UNREADABLE_REVOCATIONS;
-  login_complain(asked, "%s: %s (%" PRIu32 ")", is_told ? "refused" : "it can't tell",
+  login_complain(asked, "%s: %s (%" PRIu32 ")", is_no(answer) ? "refused" : "it can't tell",
                  judge_meaning(answer), answer);
-  return is_told ? 0 : program_untold;
+  return is_no(answer) ? 0 : program_untold;
 }
 
 /* Writes the fingerprint of a key; false where it has none. */

@@ -4,6 +4,7 @@ import os
 import random
 import re
 import time
+from concurrent.futures import ThreadPoolExecutor
 
 from lib.harness import ROOT, blob_of, line_of, ssh_keygen, string
 from lib.signatures import armoured, ssh_signature_over
@@ -146,6 +147,23 @@ def check_verified(count, programs, maker):
             count.check(f"sshkey-check, an armour: {case}", ran.returncode == wanted and ran.stderr.count("\n") == (wanted != VALID), ran)
 
 
+def check_key_files(count, programs, maker):
+    """What a comment in a file of keys holds is nothing to it, and each line that is no key is told."""
+    signature = maker.write("armour.sig", armoured(maker.signature("shown0", "a text", SPACE)))
+    certificate = maker.certificate("shower0", "shown0", "-n", "alice", "-V", "-5m:+60m")
+    for key, words in (("shown0", ["verify", "-n", SPACE, "-s", signature, "-k"]), ("shower0", ["--ca"])):
+        line = maker.read(f"{key}.pub").encode().split()
+        good = b"# keys\n\t" + b" \t".join(line[:2]) + b"\tZ\xfcrich\0\r\n"
+        wrong = good + b"ssh-ed25519 AAAA\n" + good + b"\xff\n"
+        for text, wanted, told in ((good, (VALID, "valid\n"), []), (wrong, (UNTOLD, ""), ["3", "6"])):
+            with open(maker.path("keys-of-any-bytes"), "wb") as file:
+                file.write(text)
+            for program in programs:
+                ran = run([program, *words, file.name], input=certificate if words == ["--ca"] else "a text")
+                lines = [it.split(":")[2] for it in ran.stderr.splitlines()]
+                count.check(f"sshkey-check {words[0]} by a file of keys, {told or 'whole'}", ((ran.returncode, ran.stdout), lines) == (wanted, told), ran)
+
+
 def check_signature(count, programs, maker, name, signature, words, text, wanted):
     """What is said of a text, from its file and from standard input, and by ssh-keygen."""
     keys, space = words
@@ -215,13 +233,13 @@ def check_hostile_words(count, built, made):
     offered = [it.split(" ")[:2] for it in lines if "\0" not in it]
     text = "".join(f"alice {it}\nalice,\t{it}\n{it}\n" for it in lines).encode()
     for name in ("sshkey-principals", "sshkey-authorized-keys"):
-        program, wrong = f"{built.sanitized}/{name}", []
+        program, wrong = [f"{built.sanitized}/{name}", "--insecure-modes", *["--file"] * (name == "sshkey-authorized-keys")], []
         files = [text, b"", b"\0", b"alice", b"alice ", b"alice\t\xff\n", *(draw.randbytes(it * it) for it in range(20))]
         asked = [(text, *it) for it in offered] + [(it, *made.kinds[0].line.split(" ")[:2]) for it in files]
         for of, *words in asked:
             with open(maker.path("any-bytes"), "wb") as file:
                 file.write(of)
-            ran = run([program, maker.path("any-bytes"), "alice", *words], text=False)
+            ran = run([*program, maker.path("any-bytes"), "alice", *words], text=False)
             is_sound = ran.returncode in (0, 1) and not re.search(rb"Sanitizer|runtime error", ran.stderr)
             wrong += [] if is_sound else [(words, ran)]
         count.check(f"{name} with sanitizers, {len(asked)} hostile keys and files", not wrong, *wrong[:2])
@@ -270,13 +288,44 @@ def check_words(count, programs, maker):
         count.check(f"sshkey-check can't tell of {words[-1]}", ran.returncode == UNTOLD and ran.stderr.count("\n") == 1, ran)
 
 
+def check_refused_memory(count, built, maker):
+    """Where one request for memory is refused, or all from there on, the programs can't tell: no answer is a refusal. The first ones are
+    each tried, which are the programs' own, and of libcrypto's some."""
+    refusing, me = maker.path("refusing.so"), "alice"
+    made = run(["cc", "-shared", "-fPIC", "-fno-builtin", "-o", refusing, f"{ROOT}/checks/asked/refusing.c"])
+    count.check("what refuses memory is built", made.returncode == 0, made)
+    ca, line = maker.path("shower0.pub"), maker.certificate("shower0", "shown0", "-n", me, "-V", "-5m:+60m")
+    authorities = maker.write("authorities", f"{me} {maker.read('shower0.pub')}\n")
+    signature = maker.write("armour.sig", armoured(maker.signature("shown0", "a text", SPACE)))
+    for name, words, said, untold in (
+        ("sshkey-check of a certificate", ["sshkey-check", "--ca", ca, "--user", me, maker.path("shown0-cert.pub")], "valid\n", UNTOLD),
+        ("sshkey-check of a signature", ["sshkey-check", "verify", "-k", maker.path("shown0.pub"), "-n", SPACE, "-s", signature, maker.path("signed")],
+         "valid\n", UNTOLD),
+        ("sshkey-principals", ["sshkey-principals", "--insecure-modes", authorities, me, *line.split()[:2]], f"{me}\n", 1),
+    ):  # fmt: skip
+        asked = [f"{it}{more}" for it in (*range(1, 70), *range(70, 1500, 71)) for more in ("", "+")]
+
+        def answered(number, words=words):
+            return run([f"{built.plain}/{words[0]}", *words[1:]], env={**os.environ, "LD_PRELOAD": refusing, "REFUSED": number})
+
+        with ThreadPoolExecutor(len(os.sched_getaffinity(0))) as pool:
+            found = [(it.returncode, it.stdout, it.stderr[-200:]) for it in pool.map(answered, ["0", *asked])]
+        count.check(f"{name}, and no memory is refused", found[0] == (VALID, said, ""), found[0])
+        # the C library itself may end a program by a signal
+        wrong = [it for it in zip(asked, found[1:]) if it[1][:2] not in ((VALID, said), (untold, "")) and it[1][0] >= 0]
+        untold_count = sum(it[:2] == (untold, "") for it in found)
+        count.check(f"{name} can't tell without memory, of {len(asked)} requests", not wrong and untold_count > 100, untold_count, *wrong[:3])
+
+
 def check_checker(count, built, made):
     maker = made.maker
     programs = [f"{it}/sshkey-check" for it in (built.plain, built.sanitized)]
     check_shown(count, programs, maker)
     check_sha1(count, programs, maker)
     check_verified(count, programs, maker)
+    check_key_files(count, programs, maker)
     check_allowed(count, programs, maker)
     check_hostile_signatures(count, programs, maker)
     check_hostile_words(count, built, made)
+    check_refused_memory(count, built, maker)
     check_words(count, programs, maker)

@@ -1,5 +1,6 @@
 """What is linked for other languages, for checks/foreign: how it is built, the header, and what the shared library exports."""
 import ctypes
+import glob
 import os
 import re
 import subprocess
@@ -176,6 +177,39 @@ def check_judge_names(count, built):
     count.check(f"{len(names)} names of judge.h, sha1.h, sshsig.h and verify.h begin with judge_", len(names) > 15 and not other, other)
 
 
+def check_writable(count, built):
+    """No object of helpers/ has bytes that it writes and that two threads would share: what stays may be read alone."""
+    objects = {os.path.basename(it)[:-2] for it in glob.glob(f"{HELPERS}/*.c")}
+    for name in sorted(objects):
+        rows = [it.split("|") for it in run(["nm", "-f", "sysv", f"{built.plain}/{name}.o"]).stdout.splitlines() if it.count("|") == 6]
+        # .data.rel.ro is written once, by the loader
+        found = [it[0].strip() for it in rows if re.match(r"\.(data(?!\.rel\.ro)|bss|tdata|tbss)|\*COM\*", it[6].strip())]
+        count.check(f"{name}.o writes nothing that stays", rows and not found, found, rows[:3])
+
+
+def check_crypto(count, built):
+    """libcrypto is linked into what verifies, and into nothing else: sshd starts one of the programs for each key that is offered."""
+    for name, wanted in (("sshkey-check", True), ("sshkey-principals", True), ("sshkey-authorized-keys", False), ("libsshkey.so", False)):
+        needed = run(["readelf", "-d", f"{built.plain}/{name}"]).stdout
+        count.check(f"{name} {'needs' if wanted else 'does without'} libcrypto", ("[libcrypto." in needed) == wanted and "[libc." in needed, needed)
+
+
+def check_flags(count, built, folder):
+    """The library is bound before it runs, as the programs are. A stack can't jump over its guard where the compiler sees to it, and
+    one that does not know the flag is not given it."""
+    told = [run(["readelf", "-W", it, f"{built.plain}/libsshkey.so"]).stdout for it in ("-d", "-l")]
+    count.check("the shared library is bound at once", "BIND_NOW" in told[0] and "GNU_RELRO" in told[1], told)
+    flag, old = "-fstack-clash-protection", f"{folder}/old-cc"
+    with open(old, "w", encoding="ascii") as file:
+        file.write(f"#!/bin/sh\nfor it in \"$@\"; do [ \"$it\" = {flag} ] && exit 1; done\nexec cc \"$@\"\n")
+    os.chmod(old, 0o755)
+    is_taken = run(["cc", "-Werror", flag, "-E", "-x", "c", "/dev/null"]).returncode == 0
+    for compiler, wanted in (("cc", is_taken), (old, False)):
+        made = run(["make", "-n", "-C", ROOT, f"OUT={folder}/flags", f"CC={compiler}", f"{folder}/flags/login.o", *built.given])
+        found = made.returncode == 0 and (f" {flag} " in made.stdout) == wanted and " -fstack-protector-strong " in made.stdout
+        count.check(f"{os.path.basename(compiler)} is {'' if wanted else 'not '}given {flag}", found, made)
+
+
 def is_found(folder, package, library):
     """Whether a program of one line finds header and library by pkg-config, and runs."""
     path = f"{folder}/linked"
@@ -209,7 +243,7 @@ def files_below(folder):
 
 def check_installed(count, built, folder):
     """What is installed lies below DESTDIR and PREFIX, which may be relative, and is taken away again."""
-    words = ["make", "-C", ROOT, f"OUT={built.plain}", *built.given]
+    words = ["make", "--no-print-directory", "-C", ROOT, f"OUT={built.plain}", *built.given]
     for name, prefix, staged in (
         ("a folder", f"{folder}/absolute", ""), ("a relative folder", os.path.relpath(f"{folder}/relative", ROOT), ""),
         ("a stage", "/usr/local", f"{folder}/staged"),
@@ -218,6 +252,9 @@ def check_installed(count, built, folder):
         made = run([*words, "install", f"PREFIX={prefix}", f"DESTDIR={staged}"])
         found = made.returncode == 0 and files_below(at) == INSTALLED
         count.check(f"what is installed in {name}", found, files_below(at), made.stderr[-2000:])
+        last = made.stdout.splitlines()[-3:]
+        said = "not as nobody" in last[1] and last[2] == "    useradd -r -M -s /usr/sbin/nologin sshkey" if len(last) == 3 else False
+        count.check("and its last words are as whom the helpers run", said, last)
         if not staged:
             count.check("pkg-config finds it there", is_found(folder, f"{at}/lib/pkgconfig", f"{at}/lib"))
         for helper in (it for it in sorted(INSTALLED) if it.startswith("bin/")):
@@ -233,6 +270,9 @@ def check_linked(count, built, sshkey, folder):
     check_layout(count, sshkey)
     count.check("pkg-config finds the library", is_found(folder, built.plain, built.plain))
     check_installed(count, built, folder)
+    check_writable(count, built)
+    check_crypto(count, built)
+    check_flags(count, built, folder)
     check_names(count, built)
     check_judge_names(count, built)
     check_judge_in_cpp(count, built, folder)

@@ -64,9 +64,12 @@ class Logins:
         self.devices = {kind: SecurityKey(kind, b"ssh:login") for kind in ("Ed25519", "ECDSA P-256")}
         devices = [it.line() for it in self.devices.values()]
         maker.write("trusted", "".join(f"{it}\n" for it in (*keys.values(), *devices)))
-        lines = [f"{me},nobody {keys['own']}", f"x{me},{me} {keys['second']} a comment", f"x{me} {keys['strange']}"]
+        # what a comment holds locks nobody out, nor do tabs
+        second = keys["second"].replace(" ", "\t ")
+        lines = [f"{me},nobody {keys['own']}", f"x{me},{me}\t{second} Z\xfcrich", f"x{me} {keys['strange']}"]
         lines += [f"{me} {it}" for it in devices]
-        maker.write("authorities", "# who may sign for whom\n" + "".join(f"{it}\n" for it in lines))
+        with open(maker.path("authorities"), "w", encoding="latin-1") as file:
+            file.write("# who may sign for whom\n" + "".join(f"{it}\n" for it in lines))
         maker.write("plain", CONFIGURATION.format(maker.folder))
         with open(maker.path("revoked"), "wb") as file:
             file.write(made_list(maker, "own", ["serial: 5"]))

@@ -1,0 +1,225 @@
+"""Which files the helpers of sshd believe, as whom they run and what they log, for checks/foreign. Of a user's file the judge is sshd
+with StrictModes (sshd_config(5)), where it reads the file itself. It takes root's rights to make such files."""
+import os
+import pwd
+import shutil
+import tempfile
+from concurrent.futures import ThreadPoolExecutor
+
+from .authorized_keys import CONFIGURATION
+from .linked import run
+from .principals import logs_in
+from .revocation_calls import made_list
+from .users import made_user
+
+STRICT = CONFIGURATION.replace("StrictModes no", "StrictModes yes")
+READING = "AuthorizedKeysFile {0}/%u\n"
+ASKING = "AuthorizedKeysFile none\nAuthorizedKeysCommand {1} {0} %u %t %k\nAuthorizedKeysCommandUser {2}\n"
+# where nobody but root writes, on the whole path
+SAFE = "/var/lib"
+# names, what a shell does in a new folder that has the file in the folder keys, and whether it is believed then
+FILES = [
+    ("as it is", "", True), ("of mode 600 and the user's", "chown $user $file && chmod 600 $file", True), ("of mode 666", "chmod 666 $file", False),
+    ("of mode 664", "chmod 664 $file", False), ("somebody else's", "chown 4711 $file", False), ("a folder", "rm $file && mkdir $file", False),
+    ("a FIFO", "rm $file && mkfifo $file", False), ("a device", "rm $file && ln -s /dev/zero $file", False),
+    ("in a folder of mode 777", "chmod 777 keys", False), ("in a folder of mode 775", "chmod 775 keys", False),
+    ("in the user's folder", "chown $user keys", True), ("in somebody else's folder", "chown 4711 keys", False),
+    ("below a folder of mode 777", "chmod 777 .", False), ("a link to a file that is believed", "mv $file it && ln -s ../it $file", True),
+    ("a link to a file of mode 666", "mv $file it && chmod 666 it && ln -s ../it $file", False),
+    ("a link into a folder of mode 777", "mkdir -m 777 open && mv $file open/it && ln -s ../open/it $file", False),
+    ("a link to nothing", "rm $file && ln -s none $file", False),
+]  # fmt: skip
+# those that StrictModes has no part in
+NO_FILES = ("a folder", "a FIFO", "a device", "a link to nothing")
+# files that have to be root's: of authorities, and of what is revoked
+OF_ROOT = [
+    ("as it is", "", True), ("of mode 666", "chmod 666 $file", False), ("of mode 664", "chmod 664 $file", False),
+    ("the user's", "chown $user $file", False), ("in the user's folder", "chown $user keys", False),
+    ("in a folder of mode 777", "chmod 777 keys", False), ("a FIFO", "rm $file && mkfifo $file", False),
+    ("not there", "rm $file", False), ("a link to one of mode 666", "mv $file it && chmod 666 it && ln -s ../it $file", False),
+]  # fmt: skip
+# in place of the C library's, which takes a running syslogd
+NOTING = r"""
+#include <stdarg.h>
+#include <stdio.h>
+#include <stdlib.h>
+static void note(const char *format, va_list words) {
+  FILE *to = fopen(getenv("NOTED"), "a");
+  if (!to) abort();
+  vfprintf(to, format, words);
+  fputc('\n', to);
+  fclose(to);
+}
+void openlog(const char *name, int option, int facility) { (void)name; (void)option; (void)facility; }
+void syslog(int priority, const char *format, ...) {
+  va_list words;
+  (void)priority;
+  va_start(words, format);
+  note(format, words);
+  va_end(words);
+}
+void __syslog_chk(int priority, int flag, const char *format, ...) {
+  va_list words;
+  (void)priority;
+  (void)flag;
+  va_start(words, format);
+  note(format, words);
+  va_end(words);
+}
+"""
+# an id of a certificate that would end a line and a quotation, and how it is logged
+KEY_ID, LOGGED_ID = 'jump "x\ny\\\x1b', r"jump \042x\012y\134\033"
+
+
+class Helpers:
+    """The two programs, and what they are asked about: a key and a certificate of it for the user."""
+
+    def __init__(self, maker, folder, user):
+        self.maker, self.user = maker, user
+        self.keys, self.principals = (f"{folder}/{it}" for it in ("sshkey-authorized-keys", "sshkey-principals"))
+        for name in ("host", "key", "authority", "other"):
+            maker.key(name, "ed25519")
+        self.key = maker.read("key.pub")
+        self.certificate = maker.certificate("authority", "key", "-n", user, "-z", "7", "-V", "-5m:+5m", "-I", KEY_ID)
+        os.remove(maker.path("key-cert.pub"))
+
+    def of_key(self, *words, **how):
+        """What the first says of the key."""
+        return run([self.keys, *words, self.user, *self.key.split()[:2]], timeout=20, **how)
+
+    def of_certificate(self, *words, **how):
+        """What the second says of the certificate."""
+        return run([self.principals, *words, self.user, *self.certificate.split()[:2]], timeout=20, **how)
+
+
+def placed(room, user, name, text, doing):
+    """A new folder with the text in that file of its folder keys, and what is done there."""
+    at = tempfile.mkdtemp(dir=room)
+    os.makedirs(f"{at}/keys")
+    with open(f"{at}/keys/{name}", "wb") as file:
+        file.write(text)
+    for path, mode in ((at, 0o755), (f"{at}/keys", 0o755), (f"{at}/keys/{name}", 0o644)):
+        os.chmod(path, mode)
+    run(["sh", "-ec", doing or ":"], cwd=at, env={**os.environ, "file": f"keys/{name}", "user": user}, check=True)
+    return at
+
+
+def check_keys(count, helpers, room, helper):
+    """A user's file is believed exactly where sshd does, and whoever may write it where StrictModes is not asked."""
+    maker, user, asked = helpers.maker, helpers.user, []
+    home = pwd.getpwnam(user).pw_dir
+    places = [(case, placed(room, user, user, f"{helpers.key}\n".encode(), doing), wanted) for case, doing, wanted in FILES]
+    for case, at, wanted in (("in the user's home, below a folder of mode 777", home, True), ("beside that home", os.path.dirname(home), False)):
+        os.makedirs(f"{at}/keys")
+        shutil.copy(f"{places[0][1]}/keys/{user}", f"{at}/keys/{user}")
+        places.append((case, at, wanted))
+    for number, (case, at, wanted) in enumerate(places):
+        ran = helpers.of_key(f"{at}/keys")
+        no_line = (0, "") if case == "a link to nothing" else (1, "")
+        found, said = (ran.returncode, ran.stdout), (0, f"{helpers.key}\n") if wanted else no_line
+        count.check(f"a user's file {case}: {'' if wanted else 'not '}believed", found == said and bool(ran.stderr) != wanted, ran)
+        ran = helpers.of_key("--insecure-modes", f"{at}/keys")
+        is_read = ran.stdout == f"{helpers.key}\n"
+        count.check(f"and whoever may write it: {'' if case not in NO_FILES else 'not '}believed", is_read == (case not in NO_FILES), ran)
+        for way, words in (("reading", READING), ("asking", ASKING)):
+            maker.write(f"{way}{number}", STRICT.format(maker.folder) + words.format(f"{at}/keys", f"{room}/sshkey-authorized-keys", helper))
+            asked.append((f"{way}{number}", case, wanted))
+    with ThreadPoolExecutor(len(os.sched_getaffinity(0))) as pool:
+        for (way, case, wanted), found in zip(asked, pool.map(lambda it: logs_in(maker, it[0], user, "key"), asked)):
+            # the program itself can't read what sshd reads as the user
+            wanted = wanted and not (way.startswith("asking") and "600" in case)
+            count.check(f"a user's file {case}, {way.rstrip('0123456789')}: {'' if wanted else 'not '}believed by sshd", found == wanted, found)
+
+
+def check_roots(count, helpers, room):
+    """A file of authorities and a list are believed only where they are root's."""
+    maker, user, own = helpers.maker, helpers.user, f"{helpers.user}\n"
+    line = f"{user} {maker.read('authority.pub')}\n".encode()
+    authorities = f"{placed(room, user, 'file', line, '')}/keys/file"
+    keys = f"{placed(room, user, user, f'{helpers.key}{chr(10)}'.encode(), '')}/keys"
+    for case, doing, wanted in OF_ROOT:
+        path = f"{placed(room, user, 'file', line, doing)}/keys/file"
+        ran = helpers.of_certificate(path)
+        found = (ran.returncode, ran.stdout) == ((0, own) if wanted else (1, ""))
+        count.check(f"authorities {case}: {'' if wanted else 'not '}believed", found and bool(ran.stderr) != wanted, ran)
+        path = f"{placed(room, user, 'file', made_list(maker, None, []), doing)}/keys/file"
+        for ran, said in ((helpers.of_certificate("--revoked", path, authorities), own), (helpers.of_key("--revoked", path, keys), f"{helpers.key}\n")):
+            found = (ran.returncode, ran.stdout) == ((0, said) if wanted else (1, ""))
+            count.check(f"a list {case}: {'' if wanted else 'not '}believed", found and bool(ran.stderr) != wanted, ran)
+    latin = line.rstrip().replace(b" ", b" \t") + b" caf\xe9\n# nothing\n"
+    ran = helpers.of_certificate(f"{placed(room, user, 'file', latin, '')}/keys/file")
+    count.check("an authority with tabs and a comment that is no text", (ran.returncode, ran.stdout, ran.stderr) == (0, own, ""), ran)
+    wrong = latin + f"{user} ssh-ed25519 AAAA\nx{user} ssh-ed25519 AAAA\n{user}\n".encode()
+    ran = helpers.of_certificate(f"{placed(room, user, 'file', wrong, '')}/keys/file")
+    told = [it.split(":")[2] for it in ran.stderr.splitlines()]
+    count.check("each line of the user's that has no key is told", (ran.returncode, ran.stdout, told) == (1, "", ["3", "5"]), ran)
+
+
+def check_nobody(count, helpers, room, helper):
+    """They run as a user of their own, and not as nobody."""
+    user, line = helpers.user, f"{helpers.user} {helpers.maker.read('authority.pub')}\n".encode()
+    authorities = f"{placed(room, user, 'file', line, '')}/keys/file"
+    keys = f"{placed(room, user, user, f'{helpers.key}{chr(10)}'.encode(), '')}/keys"
+    for name, ask, path, said in (("keys", helpers.of_key, keys, f"{helpers.key}\n"), ("principals", helpers.of_certificate, authorities, f"{user}\n")):
+        for who, words in ((helper, []), ("nobody", []), ("nobody", ["--insecure-modes"])):
+            ran = ask(*words, path, user=who, extra_groups=[])
+            wanted = (0, said, False) if who == helper else (1, "", True)
+            found = (ran.returncode, ran.stdout, "nobody" in ran.stderr)
+            count.check(f"sshkey-{name} as {'a user of its own' if who == helper else who} {words}", found == wanted, ran)
+
+
+def check_logged(count, helpers, room):
+    """By --syslog the log has user, what is offered and why it is refused; without it nothing, nor where nothing is refused."""
+    maker, user, noted = helpers.maker, helpers.user, helpers.maker.path("noted")
+    source, noting = maker.write("noting.c", NOTING), maker.path("noting.so")
+    made = run(["cc", "-shared", "-fPIC", "-o", noting, source])
+    count.check("what stands for syslog is built", made.returncode == 0, made)
+    authority, key = (run(["ssh-keygen", "-lf", maker.path(f"{it}.pub")]).stdout.split()[1] for it in ("authority", "key"))
+    files = {
+        "good": f"{user} {maker.read('authority.pub')}\n".encode(), "other": f"{user} {maker.read('other.pub')}\n".encode(),
+        "none": made_list(maker, None, []), "revoked": made_list(maker, "authority", ["serial: 7"]),
+        user: f"{helpers.key}\n".encode(), "x": f"{maker.read('other.pub')}\n".encode(),
+    }  # fmt: skip
+    path = {name: f"{placed(room, user, name, text, '')}/keys/{name}" for name, text in files.items()}
+    open_path = f"{placed(room, user, 'open', files['good'], 'chmod 666 $file')}/keys/open"
+    of_certificate = f'user "{user}", certificate "{LOGGED_ID}", serial 7, authority {authority}: '
+    of_key, folder = f'user "{user}", key {key}: ', os.path.dirname(path[user])
+    for case, ask, words, wanted in (
+        ("nothing is refused", helpers.of_certificate, [path["good"]], ""),
+        ("another authority", helpers.of_certificate, [path["other"]], f"{of_certificate}refused: another authority (31)"),
+        ("revoked", helpers.of_certificate, ["--revoked", path["revoked"], path["good"]], f"{of_certificate}refused: revoked"),
+        ("others may write", helpers.of_certificate, [open_path], f"{of_certificate}{open_path}: another's, or others may write it"),
+        ("a line is printed", helpers.of_key, [folder], ""),
+        ("no line", helpers.of_key, ["--file", path["x"]], f"{of_key}refused: no line is for it"),
+        ("no file", helpers.of_key, [f"{folder}/none"], f"{of_key}{folder}/none/{user}: No such file"),
+    ):  # fmt: skip
+        for more in ([], ["--syslog"]):
+            maker.write("noted", "")
+            ran = ask(*more, *words, env={**os.environ, "LD_PRELOAD": noting, "NOTED": noted})
+            said = maker.read("noted")
+            same = "\n" not in said and (said.startswith(wanted) and bool(said) == bool(wanted) if more else not said)
+            count.check(f"what is logged where {case}, {more}", same, said, ran)
+
+
+def check_files(count, built, folder, maker_in, helper):
+    """maker_in gives what makes keys and certificates in a folder; helper is the user as whom sshd runs the programs."""
+    if os.getuid() != 0:
+        print("left out, since only root can make them: files that others may write, and runs as other users")
+        return
+    room, made = tempfile.mkdtemp(dir=SAFE), f"{folder}/files"
+    os.mkdir(made)
+    for path in (room, made, folder):
+        os.chmod(path, 0o755 if path == room else 0o711)
+    try:
+        with made_user("-m", "-d", f"{room}/open/home", "-p", "*") as user:
+            for path, mode in ((f"{room}/open", 0o777), (f"{room}/open/home", 0o755)):
+                os.chmod(path, mode)
+            shutil.copy(f"{built.plain}/sshkey-authorized-keys", room)
+            helpers = Helpers(maker_in(made), built.plain, user)
+            check_keys(count, helpers, room, helper)
+            check_roots(count, helpers, room)
+            check_nobody(count, helpers, room, helper)
+            check_logged(count, helpers, room)
+            check_roots(count, Helpers(maker_in(made), built.sanitized, user), room)
+    finally:
+        shutil.rmtree(room)

@@ -1,0 +1,194 @@
+/* Calls each function of helpers/judge.h, sshsig.h and verify.h from threads at the same time, for
+ * checks/asked/threads.py: what a thread is answered has to be what the same call answers alone.
+ *
+ *     threads FOLDER..
+ *
+ * Each folder has the files that `asked` names; each is asked about by two threads. */
+#include <pthread.h>
+#include <stdio.h>
+#include <stdlib.h>
+#include <string.h>
+
+#include "judge.h"
+#include "sshkey.h"
+#include "sshsig.h"
+#include "verify.h"
+
+#define ANSWERS 24
+#define MOST 8
+#define ROUNDS 12
+
+/* What is asked about: a folder, and what was answered. */
+typedef struct {
+  const char *folder;
+  uint64_t answers[ANSWERS];
+  size_t count;
+} asked;
+
+static void note(asked *it, uint64_t answer) {
+  if (it->count == ANSWERS) abort();
+  it->answers[it->count++] = answer;
+}
+
+static void note_bytes(asked *it, const uint8_t *bytes, size_t length) {
+  uint64_t sum = 0xcbf29ce484222325;
+  for (size_t at = 0; at < length; at++) sum = (sum ^ bytes[at]) * 0x100000001b3;
+  note(it, sum);
+}
+
+static judge_blob file_of(const asked *it, const char *name) {
+  char path[4096];
+  judge_blob read = {NULL, 0};
+  snprintf(path, sizeof path, "%s/%s", it->folder, name);
+  if (!judge_read_file(path, &read)) abort();
+  return read;
+}
+
+static FILE *opened(const asked *it, const char *name) {
+  char path[4096];
+  snprintf(path, sizeof path, "%s/%s", it->folder, name);
+  FILE *file = fopen(path, "rb");
+  if (!file) abort();
+  return file;
+}
+
+/* The key or the certificate in the first line of a file. */
+static judge_blob line_of(asked *it, const char *name, uint32_t kind) {
+  judge_blob text = file_of(it, name), found = {NULL, 0};
+  size_t length = 0;
+  while (length < text.length && text.bytes[length] != '\n') length++;
+  note(it, judge_read_line((const char *)text.bytes, length, kind, &found));
+  free(text.bytes);
+  if (!found.bytes) abort();
+  return found;
+}
+
+/* A file as a text that ends with a zero byte. */
+static char *text_of(const asked *it, const char *name) {
+  judge_blob read = file_of(it, name);
+  char *text = calloc(1, read.length + 1);
+  if (!text) abort();
+  memcpy(text, read.bytes, read.length);
+  free(read.bytes);
+  return text;
+}
+
+static bool is_met(const uint8_t *name, size_t name_length, const uint8_t *value,
+                   size_t value_length, void *given) {
+  (void)name;
+  (void)name_length;
+  (void)value;
+  (void)value_length;
+  (void)given;
+  return true;
+}
+
+static void ask_user(asked *it, uint64_t now, judge_authorities by, judge_blob list) {
+  judge_blob certificate = line_of(it, "user-cert.pub", SSHKEY_LINE_CERTIFICATE);
+  judge_blob key = line_of(it, "user.pub", SSHKEY_LINE_KEY), again = {NULL, 0};
+  judge_login login = {"alice", key, now, by, is_met, NULL, list};
+  char *type = text_of(it, "user.pub"), *base64 = strchr(type, ' ');
+  *base64++ = 0;
+  base64[strcspn(base64, " \n")] = 0;
+  note(it, judge_read_words(type, base64, SSHKEY_LINE_KEY, &again));
+  note(it, judge_certificate(certificate, now, "alice", by, list));
+  note(it, judge_validate_user(certificate, &login));
+  note(it, judge_revoked(certificate, true, list));
+  note(it, judge_revoked(again, false, judge_no_revocations));
+  free(type);
+  free(again.bytes);
+  free(key.bytes);
+  free(certificate.bytes);
+}
+
+static void ask_host(asked *it, uint64_t now, judge_blob list) {
+  judge_blob certificate = line_of(it, "host-cert.pub", SSHKEY_LINE_CERTIFICATE);
+  judge_blob known = file_of(it, "known_hosts");
+  judge_host host = {"host.example.org", 22, now, &known, 1, list};
+  sshkey_question question;
+  size_t room_length = 2 * certificate.length + 256;
+  uint8_t *room = calloc(1, room_length);
+  if (!room) abort();
+  memset(&question, 0, sizeof question);
+  note(it, judge_validate_host(certificate, &host));
+  note(it, sshkey_certificate_question(certificate.bytes, certificate.length, room, room_length,
+                                       &question));
+  note(it, judge_is_signature(&question, room));
+  free(room);
+  free(known.bytes);
+  free(certificate.bytes);
+}
+
+static void ask_signature(asked *it, uint64_t now, judge_authorities by, judge_blob list) {
+  judge_blob armour = file_of(it, "message.sig"), signature = {NULL, 0};
+  judge_signers signers = {file_of(it, "signers"), "alice", now, list};
+  FILE *file = opened(it, "message");
+  uint8_t bytes[64];
+  note(it, judge_read_armour(armour, &signature));
+  judge_blob digest = {bytes, judge_digest_length(signature)}, again = {NULL, 0};
+  note(it, judge_digest(file, digest.bytes, digest.length));
+  note_bytes(it, digest.bytes, digest.length);
+  note(it, judge_sshsig_of_digest(signature, "file", digest, by));
+  note(it, judge_signer_of_digest(signature, "file", digest, &signers));
+  rewind(file);
+  note(it, judge_read_stream(file, &again));
+  note_bytes(it, again.bytes, again.length);
+  fclose(file);
+  free(again.bytes);
+  free(signature.bytes);
+  free(signers.text.bytes);
+  free(armour.bytes);
+}
+
+/* Asks all. */
+static void ask(asked *it) {
+  judge_authorities by = {NULL, 0};
+  char *line = text_of(it, "authority.pub"), *now = text_of(it, "now");
+  judge_blob list = file_of(it, "list");
+  it->count = 0;
+  line[strcspn(line, "\n")] = 0;
+  uint32_t added = judge_add_authority(&by, line, strlen(line));
+  note_bytes(it, (const uint8_t *)judge_meaning(added), strlen(judge_meaning(added)));
+  ask_user(it, strtoull(now, NULL, 10), by, list);
+  ask_host(it, strtoull(now, NULL, 10), list);
+  ask_signature(it, strtoull(now, NULL, 10), by, list);
+  free(by.keys);
+  free(list.bytes);
+  free(line);
+  free(now);
+}
+
+/* Asks again and again, and answers how often another answer came than alone. */
+static void *ask_often(void *given) {
+  const asked *alone = given;
+  asked it = {alone->folder, {0}, 0};
+  size_t wrong = 0;
+  for (int round = 0; round < ROUNDS; round++) {
+    ask(&it);
+    wrong += it.count != alone->count ||
+             memcmp(it.answers, alone->answers, it.count * sizeof *it.answers) != 0;
+  }
+  return wrong ? given : NULL;
+}
+
+int main(int count, char **words) {
+  asked all[MOST] = {{NULL, {0}, 0}};
+  pthread_t threads[2 * MOST];
+  int folders = count - 1, status = 0;
+  if (folders < 1 || folders > MOST) return 2;
+  for (int at = 0; at < folders; at++) {
+    all[at].folder = words[at + 1];
+    ask(&all[at]);
+    for (size_t answer = 0; answer < all[at].count; answer++)
+      printf("%llu ", (unsigned long long)all[at].answers[answer]);
+    putchar('\n');
+  }
+  for (int at = 0; at < 2 * folders; at++)
+    if (pthread_create(&threads[at], NULL, ask_often, &all[at / 2])) return 2;
+  for (int at = 0; at < 2 * folders; at++) {
+    void *wrong = NULL;
+    if (pthread_join(threads[at], &wrong)) return 2;
+    if (wrong) status = 1;
+  }
+  return status;
+}
