@@ -57,7 +57,7 @@ void login_forget(login_request *asked) {
 
 /* ---- what is said */
 
-/* Writes the bytes for a log: what is no printable ASCII, and what quotes, by three octal digits. */
+/* Writes the bytes for a log: what is no printable ASCII, or quotes, by three octal digits. */
 static void write_escaped(FILE *to, const uint8_t *bytes, size_t length) {
   for (size_t at = 0; at < length && at < LOGGED; at++) {
     if (bytes[at] >= ' ' && bytes[at] < 0x7f && bytes[at] != '\\' && bytes[at] != '"')

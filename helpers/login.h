@@ -13,9 +13,9 @@ typedef struct {
   const char *base64;
   const char *revoked; /* the path of a revocation file; null where none is given */
   bool is_file;        /* by --file the path is that of this user's file */
-  bool is_insecure;    /* by --insecure-modes nobody asks who may write the files */
-  bool is_logged;      /* by --syslog the system's log is told what standard error is */
-  char *offered;       /* what is offered, for the log, of malloc; null as long as it is not known */
+  bool is_insecure;    /* by --insecure-modes nobody asks who may write files */
+  bool is_logged;      /* by --syslog the system's log is told too what is wrong */
+  char *offered;       /* for the log what is offered, of malloc; null till it is known */
 } login_request;
 
 /* Reads the words of a program, which may have --file or not; false where they ask nothing. */

@@ -21,7 +21,7 @@ static const char help[] =
     "sshd_config: AuthorizedKeysCommand PATH/sshkey-authorized-keys /etc/ssh/keys %u %t %k\n"
     "             AuthorizedKeysCommandUser sshkey\n"
     "Prints the lines of the file FOLDER/USER, in the form of authorized_keys, that have the key\n"
-    "which the client offers, or may have it, and none if FILE, as sshd's RevokedKeys, revokes it.\n"
+    "which the client offers, or may have it; none if FILE, as sshd's RevokedKeys, revokes it.\n"
     "A PATH has to name the user, by %u or %h. It does not run as nobody.\n"
     "Status 0: all are printed, or there is none; 1: it can't tell, as standard error says.\n";
 

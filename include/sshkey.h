@@ -565,9 +565,13 @@ typedef struct {
  * line's length is enough. Which options there may be is yours to judge: sshkey_nth_option;
  * docs/CHECKLIST.md, "A login".
  *
+ * sshd takes the first line that lets a key in, and by that line the login is bound. So the first
+ * entry of the key decides. A line that is refused here, memory too, may be for the key as sshd
+ * reads it: it ends the search with a refusal, since a later line may bind the login less.
+ *
  * An option cert-authority says that the key is an authority's, which signs certificates: whoever
- * only has that key is not to be let in. And refuse a line with a zero byte: here it is a byte like
- * others, while sshd reads no further. */
+ * only has that key is not to be let in. And refuse the login by a line with a zero byte: here that
+ * is a byte like others, while sshd reads no further. */
 uint32_t sshkey_authorized_entry(const uint8_t *line, size_t line_length, uint8_t *room,
                                  size_t room_length, sshkey_entry *answer);
 
@@ -593,8 +597,9 @@ typedef struct {
  * on for ever: refuse an entry with an option that you do not know, one that names an option twice,
  * but for environment, permitlisten and permitopen, which may come more than once, one that has no
  * value where sshd wants one, as command alone, or has one where it wants none, and one that has
- * principals without cert-authority. The lists of from and of principals are read wrongly with
- * ease: docs/CALLING.md says how sshd reads them. */
+ * principals without cert-authority. If the entry has the key, that refuses the login: sshd may
+ * take the line, and a later one may bind the login less. The lists of from and of principals are
+ * read wrongly with ease: docs/CALLING.md says how sshd reads them. */
 uint32_t sshkey_nth_option(const uint8_t *options, size_t options_length, size_t number,
                            uint8_t *room, size_t room_length, sshkey_entry_option_parts *answer);
 

@@ -42,8 +42,10 @@ func entry(
 // Status where the line is none, and with ErrMemory.
 //
 // Which options there may be is the caller's to judge (EntryOptions). Let nobody in by an entry
-// with the option cert-authority who only has that key, and refuse a line with a zero byte, where
-// sshd ends it.
+// with the option cert-authority who only has that key, and refuse the login by a line with a zero
+// byte, where sshd ends it. sshd takes the first line that lets the key in: so the first entry of
+// the key decides, and a line that is refused here ends the search, since a later line may bind the
+// login less.
 func AuthorizedEntry(line string) (Entry, error) {
 	in := inputOf(line)
 	found, err := entry(in, func(to room, answer *C.sshkey_entry) C.uint32_t {
@@ -69,9 +71,9 @@ func KnownHost(line string) (HostEntry, error) {
 // Refuse an entry with an option that you do not know, one that comes twice, also with other
 // capitals (but for environment, permitlisten and permitopen), one without a value that needs one,
 // as command alone, one with a value that takes none, as no-pty="x", and principals without
-// cert-authority. The lists of from and of principals are read wrongly with ease: docs/CALLING.md
-// says how sshd reads them. Each option takes time for the whole text, so bound the length of lines
-// that others write.
+// cert-authority. If the entry has the key, that refuses the login, and no later line counts. The
+// lists of from and of principals are read wrongly with ease: docs/CALLING.md says how sshd reads
+// them. Each option takes time for the whole text, so bound the length of lines that others write.
 func EntryOptions(text string) ([]EntryOption, error) {
 	in, found := inputOf(text), []EntryOption{}
 	for {

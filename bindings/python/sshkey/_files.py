@@ -31,7 +31,8 @@ def authorized_entry(line: BytesLike) -> AuthorizedEntry:
     """The entry of a line of authorized_keys, as sshd reads it. Raises Refused where the line is none, and MemoryError.
 
     Which options there may be is yours to judge. Let nobody in by an entry with the option cert-authority who only has that key,
-    and refuse a line with a zero byte, where sshd ends it."""
+    and refuse the login by a line with a zero byte, where sshd ends it. sshd takes the first line that lets the key in: so the first
+    entry of the key decides, and a line that is refused here ends the search, since a later line may bind the login less."""
     return AuthorizedEntry(*_entry(LIBRARY.sshkey_authorized_entry, line)[1])
 
 
@@ -46,7 +47,7 @@ def entry_options(text: BytesLike) -> list[tuple[bytes, bytes | None]]:
     """The options of an entry of authorized_keys: of each its name, and its value or None. Compare names without case. Refuse
     an entry with an option that you do not know, one that comes twice (but for environment, permitlisten and permitopen), one
     without a value that needs one, as `command` alone, one with a value that takes none, as `no-pty="x"`, and one with
-    `principals` and without `cert-authority`. The lists of `from` and of `principals` are read wrongly with ease: docs/CALLING.md
+    `principals` and without `cert-authority`. If the entry has the key, that refuses the login, and no later line counts. The lists of `from` and of `principals` are read wrongly with ease: docs/CALLING.md
     says how sshd reads them. Each option takes time for the whole text, so bound the length of lines that others write.
 
     Raises Refused where the text is no list of options, and MemoryError."""

@@ -55,7 +55,10 @@ pub struct AuthorizedEntry {
 /// [`Status::MEMORY`].
 ///
 /// Which options there may be is yours to judge. Let nobody in by an entry with the option
-/// cert-authority who only has that key, and refuse a line with a zero byte, where sshd ends it.
+/// cert-authority who only has that key, and refuse the login by a line with a zero byte, where
+/// sshd ends it. sshd takes the first line that lets the key in: so the first entry of the key
+/// decides, and a line that is refused here ends the search, since a later line may bind the login
+/// less.
 pub fn authorized_entry(line: &[u8]) -> Result<AuthorizedEntry, Status> {
     let (room, found) =
         ask(line.len(), |room, answer| raw::sshkey_authorized_entry(line, room, answer))?;
@@ -130,9 +133,9 @@ pub struct EntryOptions<'a> {
 /// Refuse an entry with an option that you do not know, one that comes twice, also with other
 /// capitals (but for environment, permitlisten and permitopen), one without a value that needs one,
 /// as `command` alone, one with a value that takes none, as `no-pty="x"`, and `principals` without
-/// `cert-authority`. The lists of `from` and of `principals` are read wrongly with ease:
-/// docs/CALLING.md says how sshd reads them. Do not `flatten()` the items: that passes over what
-/// fails, and so over options.
+/// `cert-authority`. If the entry has the key, that refuses the login, and no later line counts.
+/// The lists of `from` and of `principals` are read wrongly with ease: docs/CALLING.md says how
+/// sshd reads them. Do not `flatten()` the items: that passes over what fails, and so over options.
 pub fn entry_options(text: &[u8]) -> EntryOptions<'_> {
     EntryOptions { text, number: Some(0) }
 }

@@ -263,8 +263,7 @@ fn verdict(given: &[&str]) -> Answer {
 /// What a text of allowed signers says of a signature, where a verification says no or yes, or of
 /// one of a message with a digest.
 fn signer(what: &str, given: &[&str]) -> String {
-    let [text, identity, namespace, signature, revoked] =
-        [0, 1, 2, 3, 4].map(|at| data(given[at]));
+    let [text, identity, namespace, signature, revoked] = [0, 1, 2, 3, 4].map(|at| data(given[at]));
     let by = Signers {
         text: &text,
         identity: &identity,
