@@ -1,5 +1,5 @@
 -- No key begins with the name of another kind; and how such a name is read in a word.
-use Rattle.std.proofs.Common.{◌≡◌, ◌≢◌, ◌+◌, ◌<◌, ◌≤◌, ◌%◌, ℕ, suc, List, [], ◌∷◌, ◌++◌, length, slice_index, Bool, true, false, ◌&&◌, ◌==◌, Some, None, is_none, eqb-true, inl, inr, refl, sym, ap, subst, ◌∙◌, append_assoc, append-nil, arith, tests}
+use Rattle.std.proofs.Common.{◌≡◌, ◌≢◌, ◌+◌, ◌<◌, ◌≤◌, ◌%◌, ℕ, suc, List, [], ◌∷◌, ◌++◌, length, slice_index, Bool, true, false, ◌&&◌, ◌==◌, Option, Some, None, is_none, eqb-true, inl, inr, refl, sym, ap, subst, ◌∙◌, append_assoc, append-nil, arith, tests}
 use Rattle.std.specs.Int.{w32, to_be_bytes}
 use Rattle.std.specs.Prelude.{nat_le, nat_lt}
 use Rattle.std.proofs.lemmas.Bool.{and_parts}
@@ -19,11 +19,14 @@ use Rattle.sshkey_model.proofs.Blobs.{key_blobs}
 use Rattle.sshkey_model.proofs.CombinedReaders.{are_bytes-append, bytes_fit, fits_box, fits_bytes, fits_first, prefix, string_reads}
 use Rattle.sshkey_entries.specs.Cuts.{CutsField}
 use Rattle.sshkey_entries.specs.Fields.{without_blanks, IsField, AreKeyFields}
-use Rattle.sshkey_entries.specs.KnownHosts.{at_sign}
+use Rattle.sshkey_entries.specs.Entries.{IsNoEntry}
+use Rattle.sshkey_entries.specs.KnownHosts.{Marker, Hosts, IsHosts, KnownHost, at_sign}
+use Rattle.sshkey_entries.specs.OpenSshLines.{IsHostLine, IsMarkedLine, IsOtherHostLine}
 use Rattle.sshkey_entries.specs.OptionEnds.{is_blank}
 use Rattle.sshkey_entries.specs.OtherKeys.{is_name_character, HasNameCharacters, IsOtherName, SpellsName, AreOtherKeyFields}
 use Rattle.sshkey_entries.proofs.Fields.{same_field, blanks_are, base64_field}
-use Rattle.sshkey_entries.proofs.OneOpenSshLine.{same_front}
+use Rattle.sshkey_entries.proofs.OneHost.{one_hosts}
+use Rattle.sshkey_entries.proofs.OneOpenSshLine.{one_marked, same_front}
 
 -- ---- steps through a source
 
@@ -176,3 +179,17 @@ apart text k comment f g =
     let words = same_field f.word (encode_of standard g.blob) f.behind_word g.behind_key (subst IsField (sym f.spelled.is) (base64_field f.spelled.blob)) (base64_field g.blob) f.word_ends g.key_ends (sym f.word_is ∙ ap without_blanks names.1 ∙ g.word) in
     let blob = one_blob f.spelled.blob g.blob f.spelled.bytes (bytes_fit g.blob (key_blobs.bytes k g.blob g.spelled)) (sym f.spelled.is ∙ words.0) in
     no_key_begins k f.name g.blob f.spelled.rest f.of_other g.spelled (sym blob ∙ f.spelled.begins)
+
+-- ---- a line of known_hosts
+
+pub other_line_none : (line : List ℕ) (m : Option Marker) (hosts : Hosts) → IsOtherHostLine line m hosts → IsNoEntry IsHostLine line
+other_line_none line m hosts f h r =
+    let marks = one_marked (without_blanks line) m h.marker (f.hosts_part ++ f.behind_hosts) (r.hosts_part ++ r.behind_hosts) f.marked r.marked in
+    let parts = same_field f.hosts_part r.hosts_part f.behind_hosts r.behind_hosts f.one_word r.one_word f.hosts_end r.hosts_end marks.1 in
+    apart (without_blanks r.behind_hosts) h.key h.comment (subst (λ (t : List ℕ). AreOtherKeyFields (without_blanks t)) parts.1 f.fields) r.fields
+
+pub one_other_line : (line : List ℕ) (m n : Option Marker) (g h : Hosts) → IsOtherHostLine line m g → IsOtherHostLine line n h → (m ≡ n) × (g ≡ h)
+one_other_line line m n g h a b =
+    let marks = one_marked (without_blanks line) m n (a.hosts_part ++ a.behind_hosts) (b.hosts_part ++ b.behind_hosts) a.marked b.marked in
+    let parts = same_field a.hosts_part b.hosts_part a.behind_hosts b.behind_hosts a.one_word b.one_word a.hosts_end b.hosts_end marks.1 in
+    (marks.0, one_hosts b.hosts_part g h (subst (λ (t : List ℕ). IsHosts t g) parts.0 a.are) b.are)

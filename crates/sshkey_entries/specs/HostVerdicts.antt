@@ -1,6 +1,6 @@
 -- What the lines of known_hosts say of a host's key (sshd(8), "SSH_KNOWN_HOSTS FILE FORMAT";
 -- ssh(1), "VERIFYING HOST KEYS").
-use Rattle.std.specs.Prelude.{◌≡◌, ℕ, List, [], ◌∷◌, ◌++◌, Option, Some, None}
+use Rattle.std.specs.Prelude.{◌≡◌, ◌⊎◌, ℕ, List, [], ◌∷◌, ◌++◌, Option, Some, None}
 use Rattle.std.specs.List.{Any}
 use Rattle.sshkey_model.specs.Keys.{Key}
 use Rattle.sshkey_model.specs.Lines.{IsWithout}
@@ -8,7 +8,7 @@ use Rattle.sshkey_entries.specs.Entries.{IsNoEntry}
 use Rattle.sshkey_entries.specs.Fields.{without_blanks, IsField, EndsField}
 use Rattle.sshkey_entries.specs.HostNames.{AreFor}
 use Rattle.sshkey_entries.specs.KnownHosts.{Marker, Revoked, CertAuthority, Hosts, IsHosts, KnownHost}
-use Rattle.sshkey_entries.specs.OpenSshLines.{IsMarkedLine, IsHostLine}
+use Rattle.sshkey_entries.specs.OpenSshLines.{IsMarkedLine, IsHostLine, IsOtherHostLine}
 
 -- The line is an entry with that marker or none, that key, and hosts that are for the name.
 pub record Lists (hmac : List ℕ → List ℕ → List ℕ) (name : List ℕ) (marker : Option Marker) (key : Key) (line : List ℕ) : Type 0 where
@@ -17,6 +17,17 @@ pub record Lists (hmac : List ℕ → List ℕ → List ℕ) (name : List ℕ) (
   pub marker_is : entry.marker ≡ marker
   pub key_is : entry.key ≡ key
   pub is_for : AreFor hmac name entry.hosts
+
+-- The line is an entry with that marker or none, a key whose kind is none here, and hosts that are
+-- for the name.
+pub record ListsOther (hmac : List ℕ → List ℕ → List ℕ) (name : List ℕ) (marker : Option Marker) (line : List ℕ) : Type 0 where
+  pub hosts : Hosts
+  pub read : IsOtherHostLine line marker hosts
+  pub is_for : AreFor hmac name hosts
+
+-- It has a key whose kind is none here, whatever its hosts and its marker are.
+abbrev pub HasOtherKey : List ℕ → Type 0
+HasOtherKey line = (marker : Option Marker) × (hosts : Hosts) × IsOtherHostLine line marker hosts
 
 -- Hosts stand in the line, after a marker or none, and they are not for the name. No byte is 0,
 -- where ssh takes the hosts to end.
@@ -32,9 +43,13 @@ pub record IsForOthers (hmac : List ℕ → List ℕ → List ℕ) (name line : 
   pub are : IsHosts hosts_part hosts
   pub not_for : AreFor hmac name hosts → ⊥
 
--- The line is no entry, and may have been one for the name.
+-- The line is no entry, and may have been one for the name, of a key that can be asked about.
 abbrev pub HidesEntry : (List ℕ → List ℕ → List ℕ) → List ℕ → List ℕ → Type 0
-HidesEntry hmac name line = IsNoEntry IsHostLine line × (IsForOthers hmac name line → ⊥)
+HidesEntry hmac name line = IsNoEntry IsHostLine line × ¬ IsForOthers hmac name line × ¬ HasOtherKey line
+
+-- The line is an entry for the name without a marker, of whatever kind its key is.
+abbrev pub IsKnownBy : (List ℕ → List ℕ → List ℕ) → List ℕ → List ℕ → Type 0
+IsKnownBy hmac name line = ((key : Key) × Lists hmac name None key line) ⊎ ListsOther hmac name None line
 
 -- ---- of all lines
 
@@ -48,7 +63,7 @@ IsListed hmac name key = Any (Lists hmac name None key)
 
 -- One of them has some key, without a marker.
 abbrev pub IsKnown : (List ℕ → List ℕ → List ℕ) → List ℕ → List (List ℕ) → Type 0
-IsKnown hmac name = Any (λ line. (key : Key) × Lists hmac name None key line)
+IsKnown hmac name = Any (IsKnownBy hmac name)
 
 -- One of them is no entry, and may have been one for the name.
 abbrev pub HidesSome : (List ℕ → List ℕ → List ℕ) → List ℕ → List (List ℕ) → Type 0

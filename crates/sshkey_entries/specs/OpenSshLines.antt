@@ -6,8 +6,9 @@ use Rattle.sshkey_model.specs.Lines.{space, IsWithout}
 use Rattle.sshkey_entries.specs.AuthorizedKeys.{AuthorizedKey}
 use Rattle.sshkey_entries.specs.Entries.{hash_sign}
 use Rattle.sshkey_entries.specs.Fields.{without_blanks, IsField, EndsField, AreKeyFields, AreNoKeyFields}
-use Rattle.sshkey_entries.specs.KnownHosts.{Marker, CertAuthority, Revoked, marker_text, at_sign, IsHosts, KnownHost}
+use Rattle.sshkey_entries.specs.KnownHosts.{Marker, CertAuthority, Revoked, marker_text, at_sign, Hosts, IsHosts, KnownHost}
 use Rattle.sshkey_entries.specs.OptionEnds.{EndsOptions}
+use Rattle.sshkey_entries.specs.OtherKeys.{AreOtherKeyFields}
 
 -- ---- authorized_keys
 
@@ -54,3 +55,15 @@ pub record IsHostLine (line : List ℕ) (h : KnownHost) : Type 0 where
   pub hosts_end : EndsField behind_hosts
   pub hosts : IsHosts hosts_part h.hosts
   pub fields : AreKeyFields (without_blanks behind_hosts) h.key h.comment
+
+-- The same with the fields of a key whose kind is none here.
+pub record IsOtherHostLine (line : List ℕ) (marker : Option Marker) (hosts : Hosts) : Type 0 where
+  pub no_zero : IsWithout 0 line
+  pub hosts_part : List ℕ
+  pub behind_hosts : List ℕ
+  pub no_comment : slice_index (without_blanks line) 0 ≢ hash_sign
+  pub marked : IsMarkedLine marker (without_blanks line) (hosts_part ++ behind_hosts)
+  pub one_word : IsField hosts_part
+  pub hosts_end : EndsField behind_hosts
+  pub are : IsHosts hosts_part hosts
+  pub fields : AreOtherKeyFields (without_blanks behind_hosts)

@@ -3,7 +3,7 @@
 ghost use Rattle.sshkey_entries.specs.AuthorizedKeys.{IsAuthorizedKey};
 ghost use Rattle.sshkey_entries.specs.KnownHosts.{IsHosts, IsKnownHost};
 ghost use Rattle.sshkey_entries.specs.OpenSshLines.{IsAuthorizedLine, IsHostLine};
-ghost use Rattle.sshkey_entries.specs.Laws.{EntriesDetermineValues, OneEnd, ReadingsAreApart, OneKeyOptions};
+ghost use Rattle.sshkey_entries.specs.Laws.{EntriesDetermineValues, OneEnd, OtherLinesAreNone, OtherNamesAreApart, ReadingsAreApart, OneKeyOptions};
 
 /// A line is one entry of authorized_keys at most.
 pub fn one_authorized_key()
@@ -44,4 +44,11 @@ pub fn one_host_line()
 /// A text is one list of options at most.
 pub fn one_key_options()
     ensures { OneKeyOptions }
+{}
+
+/// No key begins with the name of a kind that is none here, and a line of known_hosts with a key of
+/// such a kind is an entry of no key: it hides no revocation of one.
+pub fn other_keys_apart()
+    ensures names { OtherNamesAreApart }
+    ensures lines { OtherLinesAreNone }
 {}

@@ -6,6 +6,7 @@ pub mod HostLines
 pub mod SomeOf
 pub mod Verdicts
 pub mod OtherHosts
+pub mod OtherLines
 pub mod AuthorityKeys
 pub mod ContainedCharacters
 mod Wholes

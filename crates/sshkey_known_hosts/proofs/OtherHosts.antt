@@ -9,7 +9,7 @@ use Rattle.sshkey_model.specs.Lines.{IsWithout}
 use Rattle.sshkey_entries.specs.Cuts.{CutsField}
 use Rattle.sshkey_entries.specs.Fields.{without_blanks}
 use Rattle.sshkey_entries.specs.HostNames.{AreFor, AreForName}
-use Rattle.sshkey_entries.specs.HostVerdicts.{IsForOthers, Lists}
+use Rattle.sshkey_entries.specs.HostVerdicts.{IsForOthers, Lists, ListsOther}
 use Rattle.sshkey_entries.specs.Items.{patterns}
 use Rattle.sshkey_entries.specs.KnownHosts.{Marker, Hosts, HashedName, Patterns, IsHashedName, IsHosts, IsMarkedHashed, bar}
 use Rattle.sshkey_entries.specs.OpenSshLines.{IsMarkedLine}
@@ -29,6 +29,14 @@ lists_none hmac name line f m k l =
     let marks = one_marked (without_blanks line) f.marker h.marker (f.hosts_part ++ f.behind) (r.hosts_part ++ r.behind_hosts) f.marked r.marked in
     let parts = same_field f.hosts_part r.hosts_part f.behind r.behind_hosts f.one_word r.one_word f.ends r.hosts_end marks.1 in
     let same = one_hosts r.hosts_part f.hosts h.hosts (subst (λ (t : List ℕ). IsHosts t f.hosts) parts.0 f.are) r.hosts in
+    f.not_for (subst (AreFor hmac name) (sym same) l.is_for)
+
+pub lists_no_other : (hmac : List ℕ → List ℕ → List ℕ) (name line : List ℕ) → IsForOthers hmac name line → (m : Option Marker) → ListsOther hmac name m line → ⊥
+lists_no_other hmac name line f m l =
+    let r = l.read in
+    let marks = one_marked (without_blanks line) f.marker m (f.hosts_part ++ f.behind) (r.hosts_part ++ r.behind_hosts) f.marked r.marked in
+    let parts = same_field f.hosts_part r.hosts_part f.behind r.behind_hosts f.one_word r.one_word f.ends r.hosts_end marks.1 in
+    let same = one_hosts r.hosts_part f.hosts l.hosts (subst (λ (t : List ℕ). IsHosts t f.hosts) parts.0 f.are) r.are in
     f.not_for (subst (AreFor hmac name) (sym same) l.is_for)
 
 module _ (hmac : List ℕ → List ℕ → List ℕ) (name line text : List ℕ) (is : text ≡ without_blanks line) where

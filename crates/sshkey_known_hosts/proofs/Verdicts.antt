@@ -6,18 +6,19 @@ use Rattle.std.specs.List.{Any}
 use Rattle.sshkey_model.specs.Keys.{Key}
 use Rattle.sshkey_entries.specs.Entries.{IsNoEntry}
 use Rattle.sshkey_entries.specs.HostNames.{AreFor}
-use Rattle.sshkey_entries.specs.HostVerdicts.{Lists, HidesEntry, IsForOthers, IsRevoked, HidesSome, IsListed, IsKnown}
+use Rattle.sshkey_entries.specs.HostVerdicts.{Lists, ListsOther, HidesEntry, IsForOthers, IsRevoked, HidesSome, IsListed, IsKnown, IsKnownBy}
 use Rattle.sshkey_entries.specs.KnownHosts as known
-use Rattle.sshkey_entries.specs.KnownHosts.{KnownHost}
-use Rattle.sshkey_entries.specs.OpenSshLines.{IsHostLine}
+use Rattle.sshkey_entries.specs.KnownHosts.{Hosts, KnownHost}
+use Rattle.sshkey_entries.specs.OpenSshLines.{IsHostLine, IsOtherHostLine}
 use Rattle.sshkey_entries.proofs.OneOpenSshLine.{one_host_line}
+use Rattle.sshkey_entries.proofs.OtherKeys.{one_other_line, other_line_none}
 use Rattle.sshkey_known_hosts.specs.HostEntries.{marker_of}
 use Rattle.sshkey_known_hosts.specs.Verdicts.{IsVerdict, graver_of, marked_verdict_of}
 use Rattle.sshkey_known_hosts.specs.declared.marker.Marker.{Marker}
 use Rattle.sshkey_known_hosts.specs.declared.marker.Marker.TheVariants as marker
 use Rattle.sshkey_known_hosts.specs.declared.verdict.Verdict.{Verdict}
 use Rattle.sshkey_known_hosts.specs.declared.verdict.Verdict.TheVariants.{Revoked, Unreadable, Trusted, Changed, Unknown}
-use Rattle.sshkey_known_hosts.proofs.OtherHosts.{lists_none}
+use Rattle.sshkey_known_hosts.proofs.OtherHosts.{lists_no_other, lists_none}
 
 -- ---- of two lists
 
@@ -61,7 +62,7 @@ no_lines (line ∷ lines) none = absurd (none (omega arith))
 
 module _ (hmac : List ℕ → List ℕ → List ℕ) (name : List ℕ) (key : Key) where
   known_one : (lines : List (List ℕ)) → IsListed hmac name key lines → IsKnown hmac name lines
-  known_one lines s = (s.0, s.1, s.2, s.3, (key, s.4))
+  known_one lines s = (s.0, s.1, s.2, s.3, inl (key, s.4))
 
   pub one_verdict : (lines : List (List ℕ)) (v w : Verdict) → IsVerdict hmac name key lines v → IsVerdict hmac name key lines w → v ≡ w
   one_verdict lines Revoked Revoked a b = refl
@@ -94,7 +95,7 @@ module _ (hmac : List ℕ → List ℕ → List ℕ) (name : List ℕ) (key : Ke
     none_listed = neither (Lists hmac name None key) xs ys
 
     none_known : (IsKnown hmac name xs → ⊥) → (IsKnown hmac name ys → ⊥) → IsKnown hmac name (xs ++ ys) → ⊥
-    none_known = neither (λ line. (k : Key) × Lists hmac name None k line) xs ys
+    none_known = neither (IsKnownBy hmac name) xs ys
 
     pub both : (v w : Verdict) → IsVerdict hmac name key xs v → IsVerdict hmac name key ys w → IsVerdict hmac name key (xs ++ ys) (graver_of v w)
     both Revoked w a b = first (Lists hmac name (Some known.Revoked) key) xs ys a
@@ -103,9 +104,9 @@ module _ (hmac : List ℕ → List ℕ → List ℕ) (name : List ℕ) (key : Ke
     both v Unreadable a b = (no_revoked a.0 b.0, later (HidesEntry hmac name) xs ys b.1)
     both Trusted w a b = (no_revoked a.0 b.0, none_hidden a.1 b.1, first (Lists hmac name None key) xs ys a.2)
     both v Trusted a b = (no_revoked a.0 b.0, none_hidden a.1 b.1, later (Lists hmac name None key) xs ys b.2)
-    both Changed Changed a b = (no_revoked a.0 b.0, none_hidden a.1 b.1, none_listed a.2 b.2, first (λ line. (k : Key) × Lists hmac name None k line) xs ys a.3)
-    both Changed Unknown a b = (no_revoked a.0 b.0, none_hidden a.1 b.1, none_listed a.2 (λ s. b.2 (known_one ys s)), first (λ line. (k : Key) × Lists hmac name None k line) xs ys a.3)
-    both Unknown Changed a b = (no_revoked a.0 b.0, none_hidden a.1 b.1, none_listed (λ s. a.2 (known_one xs s)) b.2, later (λ line. (k : Key) × Lists hmac name None k line) xs ys b.3)
+    both Changed Changed a b = (no_revoked a.0 b.0, none_hidden a.1 b.1, none_listed a.2 b.2, first (IsKnownBy hmac name) xs ys a.3)
+    both Changed Unknown a b = (no_revoked a.0 b.0, none_hidden a.1 b.1, none_listed a.2 (λ s. b.2 (known_one ys s)), first (IsKnownBy hmac name) xs ys a.3)
+    both Unknown Changed a b = (no_revoked a.0 b.0, none_hidden a.1 b.1, none_listed (λ s. a.2 (known_one xs s)) b.2, later (IsKnownBy hmac name) xs ys b.3)
     both Unknown Unknown a b = (no_revoked a.0 b.0, none_hidden a.1 b.1, none_known a.2 b.2)
 
   -- ---- the verdict on an entry
@@ -129,9 +130,10 @@ module _ (hmac : List ℕ → List ℕ → List ℕ) (name : List ℕ) (key : Ke
     not_listed m k never s = let e = same_entry m k (only (Lists hmac name m k) line s) in never e.0 e.1 e.2
 
     not_known : ((h.marker ≡ None) → AreFor hmac name h.hosts → ⊥) → IsKnown hmac name (line ∷ []) → ⊥
-    not_known never s =
-        let one = only (λ (l : List ℕ). (k : Key) × Lists hmac name None k l) line s in
-        let e = same_entry None one.0 one.1 in never e.0 e.2
+    not_known never s = elim (only (IsKnownBy hmac name) line s) [
+      | inl one ↦ let e = same_entry None one.0 one.1 in never e.0 e.2
+      | inr other ↦ other_line_none line None other.hosts other.read h is
+    ]
 
     pub for_others : (AreFor hmac name h.hosts → ⊥) → IsVerdict hmac name key (line ∷ []) Unknown
     for_others never = (not_listed (Some known.Revoked) key (λ _ _. never), not_hidden, not_known (λ _. never))
@@ -153,7 +155,7 @@ module _ (hmac : List ℕ → List ℕ → List ℕ) (name : List ℕ) (key : Ke
       not_listed (Some known.Revoked) key (λ revoked _ _. cc (sym mark ∙ revoked)),
       not_hidden,
       not_listed None key (λ _ same _. other same),
-      this (λ (l : List ℕ). (k : Key) × Lists hmac name None k l) line (h.key, listed None h.key mark refl fits),
+      this (IsKnownBy hmac name) line (inl (h.key, listed None h.key mark refl fits)),
     )
 
     pub by_marker : (m : Option Marker) (same : Bool) → h.marker ≡ option_map marker_of m → IsTrue same ↔ (h.key ≡ key) → AreFor hmac name h.hosts → IsVerdict hmac name key (line ∷ []) (marked_verdict_of m same)
@@ -179,5 +181,41 @@ module _ (hmac : List ℕ → List ℕ → List ℕ) (name : List ℕ) (key : Ke
   passed_over line f = (
     λ s. lists_none hmac name line f (Some known.Revoked) key (only (Lists hmac name (Some known.Revoked) key) line s),
     λ s. (only (HidesEntry hmac name) line s).1 f,
-    λ s. let one = only (λ (l : List ℕ). (k : Key) × Lists hmac name None k l) line s in lists_none hmac name line f None one.0 one.1,
+    λ s. elim (only (IsKnownBy hmac name) line s) [
+      | inl one ↦ lists_none hmac name line f None one.0 one.1
+      | inr other ↦ lists_no_other hmac name line f None other
+    ],
   )
+
+  -- ---- and on one of a key whose kind is none here
+
+  module _ (line : List ℕ) (m : Option known.Marker) (hosts : Hosts) (is : IsOtherHostLine line m hosts) where
+    shown : HidesSome hmac name (line ∷ []) → ⊥
+    shown s = (only (HidesEntry hmac name) line s).2 (m, hosts, is)
+
+    lists_nothing : (n : Option known.Marker) (k : Key) → Any (Lists hmac name n k) (line ∷ []) → ⊥
+    lists_nothing = none_lists line (other_line_none line m hosts is)
+
+    not_other : ((m ≡ None) → AreFor hmac name hosts → ⊥) → IsKnown hmac name (line ∷ []) → ⊥
+    not_other never s = elim (only (IsKnownBy hmac name) line s) [
+      | inl one ↦ other_line_none line m hosts is one.1.entry one.1.read
+      | inr other ↦
+          let same = one_other_line line m None hosts other.hosts is other.read in
+          never same.0 (subst (AreFor hmac name) (sym same.1) other.is_for)
+    ]
+
+    pub other_for_others : (AreFor hmac name hosts → ⊥) → IsVerdict hmac name key (line ∷ []) Unknown
+    other_for_others never = (lists_nothing (Some known.Revoked) key, shown, not_other (λ _. never))
+
+    other_marked : (n : known.Marker) → m ≡ Some n → IsVerdict hmac name key (line ∷ []) Unknown
+    other_marked n mark = (lists_nothing (Some known.Revoked) key, shown, not_other (λ none _. cc (sym mark ∙ none)))
+
+    pub by_other_marker : (n : Option Marker) → m ≡ option_map marker_of n → AreFor hmac name hosts → IsVerdict hmac name key (line ∷ []) (marked_verdict_of n false)
+    by_other_marker (Some marker.Revoked) e fits = other_marked known.Revoked e
+    by_other_marker (Some marker.CertAuthority) e fits = other_marked known.CertAuthority e
+    by_other_marker None e fits = (
+      lists_nothing (Some known.Revoked) key,
+      shown,
+      lists_nothing None key,
+      this (IsKnownBy hmac name) line (inr (record { hosts = hosts; read = subst (λ (n : Option known.Marker). IsOtherHostLine line n hosts) e is; is_for = fits })),
+    )

@@ -13,6 +13,7 @@ mod made;
 mod marker;
 mod openssh;
 mod other_hosts;
+mod other_key;
 mod verdict;
 
 pub use authority::authorities;

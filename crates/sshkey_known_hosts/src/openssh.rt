@@ -21,7 +21,7 @@ use std::alloc::Global;
 use std::marker::Model;
 use std::str::FromStr;
 
-fn is_comment(text: &str) -> bool
+pub(crate) fn is_comment(text: &str) -> bool
     ensures { IsTrue result ↔ (slice_index text.now 0 ≡ hash_sign) }
 {
     text.starts_with('#')

@@ -1,21 +1,23 @@
 //! What a text of known_hosts says of a host's key.
 
-ghost use Rattle.std.specs.Prelude.{◌≡◌, ◌<◌, ◌↔◌, ◌∷◌, [], ℕ, List, IsTrue, IfOk, IfErr, length};
+ghost use Rattle.std.specs.Prelude.{◌≡◌, ◌<◌, ◌↔◌, ◌∷◌, [], ℕ, List, IsTrue, IfOk, IfErr, length, option_map};
 ghost use Rattle.sshkey_base.specs.declared.error.Error.TheVariants as wide;
 ghost use Rattle.sshkey_entries.specs.Fields.{filled_lines};
 ghost use Rattle.sshkey_entries.specs.HostNames.{known_name};
 ghost use Rattle.sshkey_entries.specs.HostVerdicts.{IsForOthers};
-ghost use Rattle.sshkey_entries.specs.OpenSshLines.{IsHostLine};
+ghost use Rattle.sshkey_entries.specs.OpenSshLines.{IsHostLine, IsOtherHostLine};
 ghost use Rattle.sshkey_keys.specs.Keys.{key_of};
-ghost use Rattle.sshkey_model.specs.Keys.{IsKey};
-ghost use Rattle.sshkey_known_hosts.specs.HostEntries.{known_host_of};
+ghost use Rattle.sshkey_model.specs.Keys.{IsKey, Key};
+ghost use Rattle.sshkey_known_hosts.specs.HostEntries.{hosts_of, known_host_of, marker_of};
 ghost use Rattle.sshkey_known_hosts.specs.Verdicts.{IsVerdict, ReadsOrNone, SayTogether, graver_of, marked_verdict_of};
 
 use crate::entry::Entry;
 use crate::hmac_sha1::HmacSha1;
 use crate::host_name::known_name;
+use crate::host_patterns::HostPatterns;
 use crate::marker::Marker;
 use crate::other_hosts::is_for_others;
+use crate::other_key::read_other_line;
 use sshkey_base::{Error, Result};
 use sshkey_entries::FilledLines;
 use sshkey_keys::KeyData;
@@ -109,6 +111,23 @@ fn entry_verdict<H: HmacSha1>(entry: &Entry, name: &str, key: &KeyData, hmac: &H
     marked_verdict(entry.marker(), same)
 }
 
+/// What an entry with a key whose kind is none here says of any key of that name.
+fn other_verdict<H: HmacSha1>(
+    marker: Option<Marker>,
+    hosts: &HostPatterns,
+    name: &str,
+    hmac: &H,
+) -> Verdict
+    ensures { (line : List ℕ) (key : Key) →
+        IsOtherHostLine line (option_map marker_of marker) (hosts_of hosts.now) →
+        IsVerdict (H.hmac hmac.now) name.now key (line ∷ []) result }
+{
+    if !hosts.are_for(name, hmac) {
+        return Verdict::Unknown;
+    }
+    marked_verdict(marker, false)
+}
+
 /// What a line says of a key of that name. Takes no memory for a line that is for others.
 fn line_verdict<H: HmacSha1>(
     alloc: Global,
@@ -125,10 +144,13 @@ fn line_verdict<H: HmacSha1>(
     if is_for_others(line, name, hmac) {
         return Ok(Verdict::Unknown);
     }
-    let Some(entry) = read_entry(alloc, line)? else {
-        return Ok(Verdict::Unreadable);
-    };
-    Ok(entry_verdict(&entry, name, key, hmac))
+    if let Some(entry) = read_entry(alloc, line)? {
+        return Ok(entry_verdict(&entry, name, key, hmac));
+    }
+    match read_other_line(alloc, line)? {
+        Some((marker, hosts)) => Ok(other_verdict(marker, &hosts, name, hmac)),
+        None => Ok(Verdict::Unreadable),
+    }
 }
 
 /// Whether the text has a line that is neither empty nor a comment.
@@ -145,7 +167,8 @@ pub(crate) fn has_lines(text: &str) -> bool
 /// host decides. Then a line that is no entry and could be for the host makes the answer
 /// `Unreadable`, since it could be a revocation: only where hosts stand in it that are not for this
 /// host it is passed over, and never where a zero byte stands in it, at which ssh takes the hosts
-/// to end. Then an entry for the host with this key makes it `Trusted`, or else one with another
+/// to end. An entry with a key of a kind that is none here, as the `ssh-mldsa44-ed25519` of later
+/// OpenSSH, is one of another key (`sshkey_entries::are_other_key_fields`). Then an entry for the host with this key makes it `Trusted`, or else one with another
 /// key `Changed`, and else it is `Unknown`. Of authorities nothing is said here.
 ///
 /// It judges this text alone, and another file may revoke the key: ask about every file that
