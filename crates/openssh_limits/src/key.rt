@@ -13,8 +13,8 @@ use crate::texts::has_no_zero;
 use sshkey_keys::KeyData;
 use sshkey_keys_ref::{DsaRef, KeyDataRef, KeyRef, RsaRef};
 
-/// How many bits an RSA key has at least by which sshd(8) lets somebody in.
-const LEAST_RSA_BITS: u32 = 1024;
+/// How many bits an RSA key has at least that OpenSSH reads.
+pub const LEAST_RSA_BITS: u32 = 1024;
 
 /// Returns whether OpenSSH lets somebody in by the key: it reads it (`is_read_key`), and it is none
 /// of DSA. An RSA key has to have `least_rsa_bits`, as sshd_config(5) has it in `RequiredRSASize`.

@@ -10,12 +10,9 @@ ghost use Rattle.sshkey_krl.specs.Renamed.{ssh_rsa};
 ghost use Rattle.sshkey_krl.specs.Sections.{is_read_signer};
 ghost use Rattle.sshkey_krl.specs.Written.{is_read_authority};
 
-use openssh_limits::{is_read_key, is_read_key_ref};
+use openssh_limits::{LEAST_RSA_BITS, is_read_key, is_read_key_ref};
 use sshkey_keys::KeyData;
 use sshkey_keys_ref::KeyDataRef;
-
-/// How many bits an RSA key of an authority has at least.
-const LEAST_RSA_BITS: u32 = 1024;
 
 /// The string `ssh-rsa`, before the body of an RSA key.
 const SSH_RSA: &[u8] = b"\0\0\0\x07ssh-rsa";

@@ -212,12 +212,22 @@ impl Krl {
 
 /// Revokes what the list does.
 impl Revocations for Krl {
+    ghost use Rattle.std.specs.Prelude.{false};
+    ghost use Rattle.sshkey_krl.specs.Wholeness.{list_whole};
     ghost use Rattle.sshkey_krl.specs.Owned.{krl_of};
     ghost use Rattle.sshkey_krl.specs.Revocation as list;
 
     ghost revokes = { λ krl key asked. list.revokes (krl_of krl) key asked };
 
     ghost revokes_key = { λ krl key. list.revokes_key (krl_of krl) key };
+
+    ghost whole = { λ krl. list_whole (krl_of krl) };
+
+    ghost revokes_none = { λ _. false };
+
+    fn revokes_none(&self) -> bool {
+        false
+    }
 
     fn revokes_key(&self, key: &[u8]) -> bool {
         self.as_ref().revokes_key(key)
