@@ -10,6 +10,10 @@
 # header, libraries, a sshkey.pc of their own, the helpers and their manual pages; `make uninstall`
 # removes them. docs/FOREIGN.md is the page to read.
 
+# make divides names at blanks
+ifneq ($(words $(MAKEFILE_LIST) $(CURDIR)),2)
+$(error this folder has a blank in its name, and make builds in no such folder)
+endif
 ROOT := $(abspath $(dir $(lastword $(MAKEFILE_LIST))))
 OUT := $(ROOT)/out
 PREFIX := /usr/local

@@ -5,7 +5,7 @@ import re
 import tempfile
 from concurrent.futures import ThreadPoolExecutor
 
-from lib.asking import of_table
+from lib.asking import of_table, share
 from lib.harness import blob_of, new_key, ssh_keygen, string
 
 # how many files are changed, and how often each answer has to come
@@ -56,7 +56,7 @@ def made(folder):
 
 def changed(draw, text):
     """The text with characters changed, left out, doubled or put in."""
-    for _ in range(CHANGED):
+    for _ in range(share(CHANGED)):
         first, last = sorted(draw.sample(range(len(text) + 1), 2))
         near = min(last, first + draw.randint(1, 8))
         more = draw.choice(" \t\n#=Axs-")
@@ -96,7 +96,7 @@ def rows_of(draw, folder):
     signatures = [signed(folder, it) for it in ("key", "key-cert.pub", "third")]
     with ThreadPoolExecutor() as pool:
         told = list(pool.map(lambda it: list(said(folder, *it, signatures)), enumerate(files)))
-    alone = [None] * len(BY_HAND) + list(OTHERWISE.values()) + [None] * CHANGED
+    alone = [None] * len(BY_HAND) + list(OTHERWISE.values()) + [None] * share(CHANGED)
     return [blob_of(lines[it]) for it in ("key", "signer", "third")], list(zip(files, told, alone))
 
 
@@ -127,7 +127,7 @@ def part(draw):
             answered = [answers.get(it, "no answer") for it in questions_of(data, keys)]
             count.note(f"the file {data!r}", is_same(answered, told, alone), answered, told)
         said = [it for _, told, _ in rows for it in told]
-        few = [it for it in (OK, REVOKED, REFUSED) if said.count(it) < LEAST]
+        few = [it for it in (OK, REVOKED, REFUSED) if said.count(it) < share(LEAST)]
         count.check(f"{len(said)} answers of ssh-keygen about files are compared", not few, *few)
 
     return of_table([question for data, *_ in rows for question in questions_of(data, keys)], judge)

@@ -13,6 +13,13 @@ from lib.harness import ROOT, Count
 TABLE, CALLERS = "sshkey_cases", "callers"
 # how long a program may take for what one check asks
 SECONDS = 600
+# Of how many lists, lines and texts that a check draws one is asked: of built programs all, of unproved builds a third.
+ONE_OF = 1
+
+
+def share(number):
+    """How many of so many are asked."""
+    return number // ONE_OF
 
 
 @dataclass

@@ -1,0 +1,149 @@
+"""The parts of ./test: which there are (checks/gate.txt), and how they are run and counted."""
+import contextlib
+import os
+import re
+import shutil
+import signal
+import subprocess
+import sys
+import tempfile
+import threading
+import time
+from concurrent.futures import ThreadPoolExecutor
+from dataclasses import dataclass
+
+from lib.harness import ROOT
+from lib.processes import adopt, end_below
+
+COUNTS = re.compile(r"(\d+) passed, (\d+) failed$")
+SIGNALS = signal.SIGHUP, signal.SIGINT, signal.SIGTERM
+
+
+@dataclass
+class Line:
+    """A line of checks/gate.txt."""
+
+    words: list
+    when: list
+
+    def command(self, programs=()):
+        return [os.path.normpath(f"checks/{self.words[0]}"), *self.words[1:], *programs]
+
+    def crate(self):
+        """The crate that has to be proved for it, if there is one."""
+        return next((it.partition("=")[2] for it in self.when if it.startswith("proved=")), None)
+
+    def crates(self):
+        """The crates whose programs it is given."""
+        return next((it.split(",") for it in self.when if it not in ("unproved", "sources", "once") and "=" not in it), [])
+
+
+def lines():
+    with open(f"{ROOT}/checks/gate.txt", encoding="utf-8") as file:
+        for line in file:
+            what, colon, when = line.partition("#")[0].partition(":")
+            if colon:
+                yield Line(what.split(), when.split())
+
+
+def say(*words):
+    print(*words, flush=True)
+
+
+class Gate:
+    """Runs parts, and counts what each of them counts last. Whatever ends it, none of their processes and folders is left."""
+
+    def __init__(self):
+        self.passed = self.failed = 0
+        self.left_out, self.lock, self.is_stopped = [], threading.Lock(), False
+        self.began, self.watcher = time.monotonic(), None
+        self.room = tempfile.mkdtemp(prefix="rafendilo-test-")
+        # for programs that sshd starts as another user
+        os.chmod(self.room, 0o711)
+        self.env = {**os.environ, "TMPDIR": self.room, "PYTHONDONTWRITEBYTECODE": "1"}
+        adopt()
+        for number in SIGNALS:
+            signal.signal(number, self.stop)
+
+    def part(self, words, show=say, pattern=None, of=0):
+        """Runs a part, shows what it prints as it comes, and adds what its last line counts. A part that counts nothing failed, and so
+        did one that was killed. Where it has a line of that pattern for each of so many crates, it says how far it is."""
+        began, done, last = time.monotonic(), 0, ""
+        how = {"stdin": subprocess.DEVNULL, "stdout": subprocess.PIPE, "stderr": subprocess.STDOUT, "errors": "replace"}
+        if self.is_stopped:
+            return
+        run = subprocess.Popen(words, cwd=ROOT, env=self.env, start_new_session=True, **how)
+        for line in run.stdout:
+            last = line.strip() or last
+            show(line.rstrip("\n"))
+            if pattern and re.match(pattern, line):
+                done += 1
+                show(f"-- crate {done} of {of}, {(time.monotonic() - began) / 60:.0f} minutes")
+        _, status, used = os.wait4(run.pid, 0)
+        run.returncode = os.waitstatus_to_exitcode(status)
+        told = COUNTS.match(last)
+        passed, failed = map(int, told.groups()) if told else (0, 0)
+        failed = failed or int(not passed or run.returncode != 0)
+        if self.is_stopped:
+            return
+        with self.lock:
+            self.passed, self.failed = self.passed + passed, self.failed + failed
+        took = f"{time.monotonic() - began:.0f} seconds, {used.ru_utime + used.ru_stime:.0f} of processors"
+        say(f"-- {self.minutes()} minutes; {' '.join(words)}: {passed} passed, {failed} failed ({took})")
+
+    def parts(self, commands):
+        for words in commands:
+            self.part(words)
+
+    def side_by_side(self, *lists):
+        """Runs lists side by side, and shows what a list printed when it has ended."""
+        say("Side by side, and each list is shown when it has ended:")
+        for number, commands in enumerate(lists, 1):
+            say(f"  {number}.", ", ".join(" ".join(it) for it in commands))
+
+        def run(commands):
+            shown = []
+            for words in commands:
+                self.part(words, shown.append)
+            say("\n".join(shown))
+
+        with ThreadPoolExecutor(len(lists)) as pool:
+            for each in [pool.submit(run, it) for it in lists]:
+                each.result()
+
+    def minutes(self):
+        return int((time.monotonic() - self.began) / 60)
+
+    def finish(self):
+        """Says what was left out and what passed, and returns the status."""
+        if self.watcher:
+            self.watcher.terminate()
+            self.watcher.wait()
+        # what its parent did not wait for counts too
+        with contextlib.suppress(ChildProcessError):
+            while os.waitpid(-1, os.WNOHANG)[0]:
+                pass
+        used = os.times()
+        say(f"{self.minutes()} minutes, {used.children_user + used.children_system:.0f} processor seconds")
+        say(f"left out: {'; '.join(self.left_out)}" if self.left_out else "nothing was left out")
+        say(f"{self.passed} passed, {self.failed} failed")
+        return 1 if self.failed or not self.passed else 0
+
+    def watch(self):
+        """Has the seconds of each crate counted, which are printed at the end."""
+        words = ["checks/lib/seconds", str(os.getpid())]
+        self.watcher = subprocess.Popen(words, cwd=ROOT, env=self.env, start_new_session=True)
+
+    def stop(self, number, _):
+        """Ends as that signal asks."""
+        for it in SIGNALS:
+            signal.signal(it, signal.SIG_IGN)
+        self.is_stopped = True
+        say("interrupted: what was proved is kept, and all else begins anew")
+        self.end()
+        sys.exit(128 + number)
+
+    def end(self):
+        """Ends what still runs, first as by Ctrl-C, so that each removes what it made, and removes the folder of all."""
+        end_below()
+        shutil.rmtree(self.room, ignore_errors=True)

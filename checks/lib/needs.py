@@ -1,0 +1,47 @@
+"""What a machine has to have, asked before anything takes long: packages, memory, and a folder that can be written."""
+import os
+import shutil
+import subprocess
+
+# packages of Debian, and what shows that they are there: a command, or words that succeed
+BY_SOURCES = {
+    "openssh-client": "ssh-keygen",
+    "openssh-server": "/usr/sbin/sshd",
+    "python3-cryptography": ["python3", "-c", "import cryptography"],
+}  # fmt: skip
+BY_PROOFS = {
+    "make": "make",
+    "gcc": ["sh", "-c", "cc -print-file-name=libasan.so | grep /"],
+    "g++": "c++",
+    "libc6-dev": ["sh", "-c", "echo '#include <stdio.h>' | cc -E -"],
+    "pkg-config": "pkg-config",
+    "libssl-dev": ["pkg-config", "--exists", "libcrypto"],
+    "binutils": "nm",
+    "valgrind": "valgrind",
+}  # fmt: skip
+BY_ALL = {"golang-go": "go", "cargo": "cargo", "rustc": "rustc"}
+# while the table is built, in kibibytes; and while other builds stand beside it
+MEMORY, MEMORY_SIDE_BY_SIDE = 4 << 20, 8 << 20
+
+
+def is_there(shown):
+    if isinstance(shown, str):
+        return shutil.which(shown) is not None
+    return not subprocess.run(shown, capture_output=True, check=False).returncode if shutil.which(shown[0]) else False
+
+
+def missing(packages):
+    return [name for name, shown in packages.items() if not is_there(shown)]
+
+
+def install(packages):
+    """Whether root's apt-get installs them."""
+    env = {**os.environ, "DEBIAN_FRONTEND": "noninteractive"}
+    words = ["apt-get", "install", "-y", "--no-install-recommends", *packages]
+    return all(subprocess.run(it, env=env, check=False).returncode == 0 for it in (["apt-get", "update"], words))
+
+
+def free_memory():
+    """The kibibytes that programs can have, by /proc/meminfo, or by the file that MEMINFO names."""
+    with open(os.environ.get("MEMINFO", "/proc/meminfo"), encoding="ascii") as file:
+        return next(int(line.split()[1]) for line in file if line.startswith("MemAvailable:"))
