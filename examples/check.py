@@ -65,7 +65,7 @@ MEANING = {
     Status.RSA_SHA1: "signed by RSA with SHA-1", Status.NOT_SIGNED: "not signed", Status.UNTRUSTED_AUTHORITY: "another authority",
     Status.INVALID_TIME: "no time that a certificate has", Status.OUT_OF_WINDOW: "not valid at that time",
     Status.UNLISTED_PRINCIPAL: "another principal", Status.UNSUPPORTED: "key and signature do not go together",
-    Status.OTHER_NAMESPACE: "another namespace", Status.PRINCIPALS: "principals, or none, against what is said of all",
+    Status.OTHER_NAMESPACE: "another namespace", Status.PRINCIPALS: "a list of principals against what is said of all",
     Status.EMPTY_WINDOW: "a window without a second", Status.HOST_REVOKED: "revoked by a line for the host",
     Status.HOST_UNREADABLE: "a line that may revoke it and can't be read",
     Status.HOST_CHANGED: "another key than the one known for the host",

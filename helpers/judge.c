@@ -420,7 +420,7 @@ static const struct {
     {SSHKEY_UNLISTED_PRINCIPAL, "another principal"},
     {SSHKEY_UNSUPPORTED, "key and signature do not go together"},
     {SSHKEY_OTHER_NAMESPACE, "another namespace"},
-    {SSHKEY_PRINCIPALS, "principals, or none, against what is said of all"},
+    {SSHKEY_PRINCIPALS, "a list of principals against what is said of all"},
     {SSHKEY_EMPTY_WINDOW, "a window without a second"},
     {SSHKEY_HOST_REVOKED, "revoked by a line for the host"},
     {SSHKEY_HOST_UNREADABLE, "a line that may revoke it and can't be read"},

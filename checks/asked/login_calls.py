@@ -265,7 +265,7 @@ def built_page(built, maker, name, text):
     """A program of the lines in C that docs/FOREIGN.md shows: its path, and how it was built."""
     path = f"{maker.folder}/{name}"
     maker.write(f"{name}.c", text)
-    parts = [f"{path}.c", *(f"{built.sanitized}/{it}" for it in ("judge.o", "verify.o", "libsshkey.a")), "-lcrypto", "-o", path]
+    parts = [f"{path}.c", *(f"{built.sanitized}/{it}" for it in ("judge.o", "sha1.o", "verify.o", "libsshkey.a")), "-lcrypto", "-o", path]
     return path, run([*C, *PEDANTIC, f"-I{HELPERS}", *SANITIZED.split(), *parts])
 
 

@@ -61,7 +61,7 @@ var meanings = map[error]string{
 	sshkey.ErrUnlistedPrincipal:     "another principal",
 	sshkey.ErrUnsupported:           "key and signature do not go together",
 	sshkey.ErrOtherNamespace:        "another namespace",
-	sshkey.ErrPrincipals:            "principals, or none, against what is said of all",
+	sshkey.ErrPrincipals:            "a list of principals against what is said of all",
 	sshkey.ErrEmptyWindow:           "a window without a second",
 	sshkey.ErrHostRevoked:           "revoked by a line for the host",
 	sshkey.ErrHostUnreadable:        "a line that may revoke it and can't be read",

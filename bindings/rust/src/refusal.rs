@@ -85,7 +85,7 @@ const MEANINGS: &[(Status, &str)] = &[
     (Status::UNLISTED_PRINCIPAL, "another principal"),
     (Status::UNSUPPORTED, "key and signature do not go together"),
     (Status::OTHER_NAMESPACE, "another namespace"),
-    (Status::PRINCIPALS, "principals, or none, against what is said of all"),
+    (Status::PRINCIPALS, "a list of principals against what is said of all"),
     (Status::EMPTY_WINDOW, "a window without a second"),
     (Status::HOST_REVOKED, "revoked by a line for the host"),
     (Status::HOST_UNREADABLE, "a line that may revoke it and can't be read"),
