@@ -128,6 +128,9 @@ enum {
   SSHKEY_SIGNER_NOT_ALLOWED = 55, /* no line lets its key sign for the identity, there and then */
   SSHKEY_SIGNER_REVOKED = 56,     /* its key is revoked, or the revocation file can't be read */
 
+  /* of a client's address */
+  SSHKEY_ELSEWHERE = 57, /* the list does not let it in */
+
   /* of a revocation list */
   SSHKEY_NOT_REVOKED = 60 /* it does not revoke the key or the certificate */
 };
@@ -149,6 +152,7 @@ static inline const char *sshkey_answer_name(uint32_t answer) {
     SSHKEY_NAMED(HOST_REVOKED); SSHKEY_NAMED(HOST_UNREADABLE);
     SSHKEY_NAMED(HOST_CHANGED); SSHKEY_NAMED(HOST_UNKNOWN);
     SSHKEY_NAMED(SIGNER_NOT_ALLOWED); SSHKEY_NAMED(SIGNER_REVOKED); SSHKEY_NAMED(NOT_REVOKED);
+    SSHKEY_NAMED(ELSEWHERE);
     default: return "no answer";
   }
 #undef SSHKEY_NAMED
@@ -561,8 +565,8 @@ typedef struct {
  * on for ever: refuse an entry with an option that you do not know, one that names an option twice,
  * but for environment, permitlisten and permitopen, which may come more than once, one that has no
  * value where sshd wants one, as command alone, or has one where it wants none, and one that has
- * principals without cert-authority. The lists of from and of principals are read wrongly with
- * ease: docs/CALLING.md says how sshd reads them. */
+ * principals without cert-authority. The list of from is for sshkey_from_allows; docs/CALLING.md
+ * says how sshd reads that of principals. */
 uint32_t sshkey_nth_option(const uint8_t *options, size_t options_length, size_t number,
                            uint8_t *room, size_t room_length, sshkey_entry_option_parts *answer);
 
@@ -593,6 +597,33 @@ uint32_t sshkey_host_verdict(const uint8_t *known_hosts, size_t known_hosts_leng
 uint32_t sshkey_authority_verdict(const uint8_t *known_hosts, size_t known_hosts_length,
                                   const uint8_t *host, size_t host_length, uint16_t port,
                                   const uint8_t *key, size_t key_length);
+
+/* ---- where a client may come from ------------------------------------------------------------ */
+
+/* Whether the list, the value of a certificate's critical option source-address, lets a client in
+ * from the address: 4 or 16 bytes, those of struct in_addr or in6_addr. An IPv4 address as an IPv6
+ * socket shows it (::ffff:10.1.2.3) is that IPv4 address, and one of fe80::/10 is in no network, as
+ * to sshd. Let in for SSHKEY_DONE alone.
+ *
+ * SSHKEY_DONE exactly if each item of the list is a network and one of them has the address. Else
+ * the first of these: SSHKEY_LENGTH for another number of bytes, SSHKEY_TEXT for a list that is not
+ * UTF-8, SSHKEY_FORMAT for a malformed one, which sshd refuses too, and SSHKEY_ELSEWHERE. Takes no
+ * memory. */
+uint32_t sshkey_source_address_allows(const uint8_t *list, size_t list_length,
+                                      const uint8_t *address, size_t address_length);
+
+/* Whether the list, the value of the option from of a line of authorized_keys, lets a client in
+ * from the address, as above. The host is the client's name in the DNS, if it was looked up and
+ * looked up back (UseDNS of sshd), and else of length 0.
+ *
+ * SSHKEY_DONE exactly if an item of the list is for the client and none with a `!` is
+ * (SSHKEY_MEMORY aside), and SSHKEY_ELSEWHERE if not: then go on to the next line. Else refuse the
+ * login, since sshd may let in by this line: SSHKEY_LENGTH; SSHKEY_TEXT where list or host are not
+ * UTF-8, where the address is of fe80::/10, or of ::/96 beyond :: and ::1, whose text may be
+ * another to sshd, or where the host's name is like an address; SSHKEY_FORMAT for a malformed list.
+ */
+uint32_t sshkey_from_allows(const uint8_t *list, size_t list_length, const uint8_t *host,
+                            size_t host_length, const uint8_t *address, size_t address_length);
 
 /* ---------------------------------------------------------------------------------------------- */
 

@@ -48,6 +48,7 @@ class Status(enum.IntEnum):
     HOST_UNKNOWN = 53
     SIGNER_NOT_ALLOWED = 55
     SIGNER_REVOKED = 56
+    ELSEWHERE = 57
     NOT_REVOKED = 60
 
     def __bool__(self) -> NoReturn:

@@ -115,6 +115,8 @@ statuses! {
     SIGNER_NOT_ALLOWED = 55;
     /// The signature's key is revoked, or the revocation file cannot be read.
     SIGNER_REVOKED = 56;
+    /// The list does not let the client's address in.
+    ELSEWHERE = 57;
     /// The list does not revoke it. No function of this crate fails with it.
     NOT_REVOKED = 60;
 }

@@ -2,6 +2,7 @@
 //! its example `check`: a line of the input a line of the answer, as checks/asked/answers.py says.
 
 use std::io::{self, BufRead};
+use std::net::IpAddr;
 
 use sshkey::{
     CertificateType, Draft, HashAlgorithm, Listed, Principal, Question, Refusal, Revocations,
@@ -260,6 +261,16 @@ fn verdict(given: &[&str]) -> Answer {
     ))
 }
 
+fn addresses(given: &[&str]) -> String {
+    let (list, bytes, host) = (data(given[0]), data(given[1]), data(given[2]));
+    let address = match <[u8; 4]>::try_from(bytes.as_slice()) {
+        Ok(octets) => IpAddr::from(octets),
+        Err(_) => IpAddr::from(<[u8; 16]>::try_from(bytes.as_slice()).expect("an address")),
+    };
+    let by_certificate = number_of(sshkey::source_address_allows(&list, address));
+    format!("{by_certificate} {}", number_of(sshkey::from_allows(&list, &host, address)))
+}
+
 fn signer(given: &[&str]) -> String {
     let [signers, identity, namespace, signature, revoked] =
         [0, 1, 2, 3, 4].map(|at| data(given[at]));
@@ -303,6 +314,7 @@ fn answer(question: &str) -> Answer {
         "host" => host(&at(0)),
         "options" => options(&at(0)),
         "verdict" => verdict(given),
+        "addresses" => Ok(addresses(given)),
         "signer" => Ok(signer(given)),
         "revokes-key" => revoked(sshkey::krl_revokes_key(&at(0), &at(1))),
         "revokes-certificate" => revoked(sshkey::krl_revokes_certificate(&at(0), &at(1))),
