@@ -157,6 +157,11 @@ static void ask_verdict(given_call *it, const char *name) {
   printf("%" PRIu32, ask(it, "authority_verdict", NULL));
 }
 
+static void ask_addresses(given_call *it, const char *name) {
+  printf("%" PRIu32 " ", ask(it, name, NULL));
+  printf("%" PRIu32, ask(it, "from_allows", NULL));
+}
+
 static void ask_number(given_call *it, const char *name) {
   printf("%" PRIu32, ask(it, name, NULL));
 }
@@ -303,6 +308,7 @@ static const struct {
     {"host", ask_entry, "known_host", 1},
     {"options", ask_options, "nth_option", 1},
     {"verdict", ask_verdict, "host_verdict", 3},
+    {"addresses", ask_addresses, "source_address_allows", 3},
     {"signer", ask_number, "signer_verdict", 5},
     {"revokes-key", ask_revoked, "krl_revokes_key", 2},
     {"revokes-certificate", ask_revoked, "krl_revokes_certificate", 2},

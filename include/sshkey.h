@@ -598,8 +598,8 @@ typedef struct {
  * but for environment, permitlisten and permitopen, which may come more than once, one that has no
  * value where sshd wants one, as command alone, or has one where it wants none, and one that has
  * principals without cert-authority. If the entry has the key, that refuses the login: sshd may
- * take the line, and a later one may bind the login less. The lists of from and of principals are
- * read wrongly with ease: docs/CALLING.md says how sshd reads them. */
+ * take the line, and a later one may bind the login less. The list of from is for
+ * sshkey_from_allows; docs/CALLING.md says how sshd reads that of principals. */
 uint32_t sshkey_nth_option(const uint8_t *options, size_t options_length, size_t number,
                            uint8_t *room, size_t room_length, sshkey_entry_option_parts *answer);
 
@@ -630,6 +630,33 @@ uint32_t sshkey_host_verdict(const uint8_t *known_hosts, size_t known_hosts_leng
 uint32_t sshkey_authority_verdict(const uint8_t *known_hosts, size_t known_hosts_length,
                                   const uint8_t *host, size_t host_length, uint16_t port,
                                   const uint8_t *key, size_t key_length);
+
+/* ---- where a client may come from ------------------------------------------------------------ */
+
+/* Whether the list, the value of a certificate's critical option source-address, lets a client in
+ * from the address: 4 or 16 bytes, those of struct in_addr or in6_addr. An IPv4 address as an IPv6
+ * socket shows it (::ffff:10.1.2.3) is that IPv4 address, and one of fe80::/10 is in no network, as
+ * to sshd. Let in for SSHKEY_DONE alone.
+ *
+ * SSHKEY_DONE exactly if each item of the list is a network and one of them has the address. Else
+ * the first of these: SSHKEY_LENGTH for another number of bytes, SSHKEY_TEXT for a list that is not
+ * UTF-8, SSHKEY_FORMAT for a malformed one, which sshd refuses too, and SSHKEY_ELSEWHERE. Takes no
+ * memory. */
+uint32_t sshkey_source_address_allows(const uint8_t *list, size_t list_length,
+                                      const uint8_t *address, size_t address_length);
+
+/* Whether the list, the value of the option from of a line of authorized_keys, lets a client in
+ * from the address, as above. The host is the client's name in the DNS, if it was looked up and
+ * looked up back (UseDNS of sshd), and else of length 0.
+ *
+ * SSHKEY_DONE exactly if an item of the list is for the client and none with a `!` is
+ * (SSHKEY_MEMORY aside), and SSHKEY_ELSEWHERE if not: then go on to the next line. Else refuse the
+ * login, since sshd may let in by this line: SSHKEY_LENGTH; SSHKEY_TEXT where list or host are not
+ * UTF-8, where the address is of fe80::/10, or of ::/96 beyond :: and ::1, whose text may be
+ * another to sshd, or where the host's name is like an address; SSHKEY_FORMAT for a malformed list.
+ */
+uint32_t sshkey_from_allows(const uint8_t *list, size_t list_length, const uint8_t *host,
+                            size_t host_length, const uint8_t *address, size_t address_length);
 
 /* ---------------------------------------------------------------------------------------------- */
 

@@ -35,6 +35,7 @@ asked/rust over the packages. Words are bytes in hexadecimal (- for none), numbe
     entry LINE | host LINE                                   0 MARKER FRONT KEY COMMENT
     options TEXT                                             0 NAME=VALUE, or NAME where there is none, ..
     verdict TEXT HOST KEY PORT                               NUMBER NUMBER: of the host's key, and of an authority's
+    addresses LIST ADDRESS HOST                              NUMBER NUMBER: of the list as source-address, and as from
 
 and a package also
 
@@ -52,6 +53,7 @@ and a package also
 An answer is the number of a refusal in place of 0 and what follows: 11 of options whose texts are not UTF-8, 15 of two with one
 name and of a principal with a zero byte.
 """
+import ipaddress
 from dataclasses import dataclass
 from unittest.mock import patch
 
@@ -273,6 +275,16 @@ class Answers:
                 return str(int(refused.status))
 
         return [said(self.sshkey.host_verdict), said(self.sshkey.authority_verdict)]
+
+    def addresses(self, items, address, host):
+        def said(call, *given):
+            try:
+                return str(int(self.sshkey.Status.DONE if call(*given) else self.sshkey.Status.ELSEWHERE))
+            except self.sshkey.Refused as refused:
+                return str(int(refused.status))
+
+        given = data_of(items), ipaddress.ip_address(data_of(address))
+        return [said(self.sshkey.source_address_allows, *given), said(self.sshkey.from_allows, *given, data_of(host))]
 
 
 # ---- how the answers are judged

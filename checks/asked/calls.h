@@ -68,7 +68,9 @@ typedef struct {
   CALL(known_host, BYTES(0), ROOM, &it->entry)                                                   \
   CALL(nth_option, BYTES(0), it->numbers[0], ROOM, &it->entry_option)                            \
   CALL(host_verdict, BYTES(0), BYTES(1), PORT, BYTES(2))                                         \
-  CALL(authority_verdict, BYTES(0), BYTES(1), PORT, BYTES(2))
+  CALL(authority_verdict, BYTES(0), BYTES(1), PORT, BYTES(2))                                    \
+  CALL(source_address_allows, BYTES(0), BYTES(1))                                                \
+  CALL(from_allows, BYTES(0), BYTES(2), BYTES(1))
 
 static uint32_t call_by_name(given_call *it, const sshkey_draft *draft) {
 #define CALL(call, ...) \

@@ -1,5 +1,6 @@
 """All that is asked of the library in each language: check_calls, for checks/foreign and checks/bindings."""
 from .answers import data_of
+from .address_calls import check_addresses
 from .certificate_calls import check_certificates
 from .digest_calls import check_digests
 from .entry_calls import check_entry_calls
@@ -108,3 +109,4 @@ def check_calls(judge):
     check_users(judge)
     check_hosts(judge)
     check_signers(judge)
+    check_addresses(judge)

@@ -103,6 +103,10 @@ def of_files(maker, key):
     yield "host_verdict", [hashed, b"\xff", key], [22], "TEXT"
     yield "authority_verdict", [b"@cert-authority * ssh-ed25519 " + word, b"host", key], [22], "DONE"
     yield "authority_verdict", [hashed, b"host", key], [22], "HOST_UNKNOWN"
+    for address, wanted in ((bytes([10, 1, 2, 3]), "DONE"), (bytes([11, 1, 2, 3]), "ELSEWHERE"), (bytes(5), "LENGTH")):
+        yield "source_address_allows", [b"10.0.0.0/8", address], [], wanted
+        yield "from_allows", [b"10.0.0.0/8", address, b""], [], wanted
+    yield "from_allows", [b"*,", bytes(16), b"host"], [], "FORMAT"
     yield "next_line", [hashed], [0], "DONE"
     yield "next_line", [hashed], [len(hashed)], "END"
     options = b'no-pty,command="say \\"hi\\""'

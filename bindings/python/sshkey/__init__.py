@@ -20,6 +20,7 @@ builds it), or else the system's. Whoever sets SSHKEY_LIBRARY has their code run
 user or group differ, and a helper that keeps its caller's environment in another way has to clear it. A library of another ABI, or
 without one of the calls, is refused: OSError, when this package is imported. Calls from several threads at once are fine.
 """
+from ._addresses import Address, from_allows, source_address_allows
 from ._certificates import (
     certificate_contents,
     certificate_fields,
@@ -72,12 +73,12 @@ from ._values import (
 __version__ = "0.2.0"
 
 __all__ = [
-    "ALL_PRINCIPALS", "FOREVER", "NO_REVOCATIONS", "Algorithm", "AllPrincipals", "AuthorizedEntry", "BytesLike", "CertificateFields",
+    "ALL_PRINCIPALS", "FOREVER", "NO_REVOCATIONS", "Address", "Algorithm", "AllPrincipals", "AuthorizedEntry", "BytesLike", "CertificateFields",
     "CertificateType", "Contents", "KnownHost", "Line", "Marker", "Question", "Refused", "Status", "authority_verdict",
     "authorized_entry", "certificate_contents", "certificate_fields", "certificate_question", "certificate_to_be_signed",
     "entry_lines", "entry_options", "fingerprint", "fingerprint_sha512", "fingerprint_sha512_text", "fingerprint_text",
-    "host_verdict", "join_certificate", "known_host", "krl_revokes_certificate", "krl_revokes_key", "make_certificate",
+    "from_allows", "host_verdict", "join_certificate", "known_host", "krl_revokes_certificate", "krl_revokes_key", "make_certificate",
     "normal_certificate", "normal_key", "normal_signature", "normal_sshsig", "options", "read_line", "revoked_certificate",
-    "revoked_key", "signature_question", "signer_verdict", "sshsig_hash", "sshsig_question", "sshsig_question_of_digest",
-    "sshsig_reserved", "string", "strings", "validate_certificate",
+    "revoked_key", "signature_question", "signer_verdict", "source_address_allows", "sshsig_hash", "sshsig_question",
+    "sshsig_question_of_digest", "sshsig_reserved", "string", "strings", "validate_certificate",
 ]  # fmt: skip

@@ -160,6 +160,8 @@ CALLS = {
     "sshkey_nth_option": (*PLACE, *ROOM, ctypes.POINTER(EntryOption)),
     "sshkey_host_verdict": (*BYTES, *BYTES, ctypes.c_uint16, *BYTES),
     "sshkey_authority_verdict": (*BYTES, *BYTES, ctypes.c_uint16, *BYTES),
+    "sshkey_source_address_allows": (*BYTES, *BYTES),
+    "sshkey_from_allows": (*BYTES, *BYTES, *BYTES),
 }
 
 

@@ -36,6 +36,7 @@
 //! [`entry_lines`]. So is the first call of a library that has another ABI.
 #![deny(missing_docs)]
 
+mod addresses;
 mod certificates;
 mod digests;
 mod drafts;
@@ -53,6 +54,7 @@ mod sshsigs;
 mod status;
 mod strings;
 
+pub use addresses::{from_allows, source_address_allows};
 pub use certificates::{
     certificate_contents, certificate_fields, certificate_key, certificate_options,
     certificate_question, judge_certificate, validate_certificate, CertificateContents,

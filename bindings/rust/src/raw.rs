@@ -225,4 +225,6 @@ calls! {
     );
     fn sshkey_host_verdict(known_hosts: &[u8], host: &[u8], port: u16, key: &[u8]);
     fn sshkey_authority_verdict(known_hosts: &[u8], host: &[u8], port: u16, key: &[u8]);
+    fn sshkey_source_address_allows(list: &[u8], address: &[u8]);
+    fn sshkey_from_allows(list: &[u8], host: &[u8], address: &[u8]);
 }

@@ -8,6 +8,7 @@ import (
 	"encoding/hex"
 	"errors"
 	"fmt"
+	"net/netip"
 	"os"
 	"sort"
 	"strconv"
@@ -120,7 +121,7 @@ var answers = map[string]func(of []string) ([]string, error){
 
 // said are whole answers, without a 0.
 var said = map[string]func(of []string) string{
-	"validate": validate, "user": user, "verdict": verdict, "signer": signer,
+	"validate": validate, "user": user, "verdict": verdict, "addresses": addresses, "signer": signer,
 	"host-certificate": func(of []string) string {
 		return hostCertificate(of[:4], of[4:], judge.NoRevocations)
 	},
@@ -312,6 +313,13 @@ func verdict(of []string) string {
 	known, host, key, port := text(of[0]), text(of[1]), data(of[2]), uint16(number(of[3]))
 	ofHost := sshkey.HostVerdict(known, host, port, key)
 	return numberOf(ofHost) + " " + numberOf(sshkey.AuthorityVerdict(known, host, port, key))
+}
+
+func addresses(of []string) string {
+	list, host := text(of[0]), text(of[2])
+	address, _ := netip.AddrFromSlice(data(of[1]))
+	return numberOf(sshkey.SourceAddressAllows(list, address)) + " " +
+		numberOf(sshkey.FromAllows(list, host, address))
 }
 
 func signer(of []string) string {

@@ -2,6 +2,7 @@
 //! its example `check`: a line of the input a line of the answer, as checks/asked/answers.py says.
 
 use std::io::{self, BufRead};
+use std::net::IpAddr;
 
 use sshkey::{
     CertificateType, Draft, HashAlgorithm, Listed, Principal, Question, Refusal, Revocations,
@@ -258,6 +259,16 @@ fn verdict(given: &[&str]) -> Answer {
         "{of_host} {}",
         number_of(sshkey::authority_verdict(&known_hosts, &host, port, &key))
     ))
+}
+
+fn addresses(given: &[&str]) -> String {
+    let (list, bytes, host) = (data(given[0]), data(given[1]), data(given[2]));
+    let address = match <[u8; 4]>::try_from(bytes.as_slice()) {
+        Ok(octets) => IpAddr::from(octets),
+        Err(_) => IpAddr::from(<[u8; 16]>::try_from(bytes.as_slice()).expect("an address")),
+    };
+    let by_certificate = number_of(sshkey::source_address_allows(&list, address));
+    format!("{by_certificate} {}", number_of(sshkey::from_allows(&list, &host, address)))
 }
 
 /// What a text of allowed signers says of a signature, where a verification says no or yes, or of

@@ -6,6 +6,7 @@
 //! an allocator is nothing.
 #![tactic(auto)]
 
+mod address;
 mod certificate;
 mod draft;
 mod entry;

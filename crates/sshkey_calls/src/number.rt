@@ -29,11 +29,11 @@ pub(crate) const CHARACTER_ENCODING: u32 = 11;
 /// A name is not allowed there.
 pub(crate) const LABEL: u32 = 12;
 /// A length passes the bytes, or is not the one wanted.
-pub(crate) const LENGTH: u32 = 13;
+pub const LENGTH: u32 = 13;
 /// Bytes follow the end.
 pub(crate) const TRAILING_DATA: u32 = 14;
 /// A value does not keep the form of its kind.
-pub(crate) const FORMAT: u32 = 15;
+pub const FORMAT: u32 = 15;
 /// Two names differ that have to be one.
 pub(crate) const ALGORITHM_UNKNOWN: u32 = 16;
 /// A number in a signature is not positive, or a curve is another.
@@ -80,6 +80,8 @@ pub const HOST_UNKNOWN: u32 = 53;
 pub const SIGNER_NOT_ALLOWED: u32 = 55;
 /// The signer's key is revoked.
 pub const SIGNER_REVOKED: u32 = 56;
+/// The client's address is none of those that the list lets in.
+pub const ELSEWHERE: u32 = 57;
 /// The list does not revoke it.
 pub(crate) const NOT_REVOKED: u32 = 60;
 

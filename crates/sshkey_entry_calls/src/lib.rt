@@ -1,11 +1,12 @@
 //! The calls of the library for C about authorized_keys, known_hosts and allowed signers, as an
-//! ordinary library: the lines of a text, the entry of a line, the options of an entry, and what a
-//! text says of a host's key or of a signature.
+//! ordinary library: the lines of a text, the entry of a line, the options of an entry, what a text
+//! says of a host's key or of a signature, and whether a list of addresses lets a client in.
 //!
 //! As those of `sshkey_calls`, each call answers with a number, and the bytes that it answers with
 //! are in the caller's room. HMAC-SHA1 is that of `sshkey_known_hosts`.
 #![tactic(auto)]
 
+mod addresses;
 mod authority;
 mod entries;
 mod hosts;
@@ -13,6 +14,7 @@ mod lines;
 mod options;
 mod signers;
 
+pub use addresses::{from_allows, source_address_allows};
 pub use entries::{EntryParts, authorized_entry, known_host};
 pub use hosts::{authority_verdict, host_verdict};
 pub use lines::next_line;

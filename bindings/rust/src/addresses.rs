@@ -1,0 +1,41 @@
+//! Where a client may come from: `source-address` of certificates and `from` of authorized_keys.
+
+use std::net::IpAddr;
+
+use crate::raw;
+use crate::status::Status;
+
+/// Whether the list, the value of a certificate's critical option `source-address`, lets a client
+/// in from the address of its socket. `::ffff:10.1.2.3` is 10.1.2.3, and an address of `fe80::/10`
+/// is in no network, as to sshd.
+///
+/// Fails with [`Status::ELSEWHERE`] if it does not, with [`Status::FORMAT`] for a malformed list,
+/// which sshd refuses too, and with [`Status::TEXT`] for one that is not UTF-8.
+pub fn source_address_allows(list: impl AsRef<[u8]>, address: IpAddr) -> Result<(), Status> {
+    with_bytes(address, |bytes| raw::sshkey_source_address_allows(list.as_ref(), bytes))
+}
+
+/// Whether the list, the value of the option `from` of a line of authorized_keys, lets a client in
+/// from the address of its socket. The host is its name in the DNS, if it was looked up and looked
+/// up back, and else empty.
+///
+/// Fails with [`Status::ELSEWHERE`] if it does not: then go on to the next line. After any other
+/// error refuse the login, since sshd may let in by this line: [`Status::FORMAT`] for a malformed
+/// list; [`Status::TEXT`] where the text of the address may be another to sshd (`fe80::/10`, and
+/// `::/96` beyond `::` and `::1`), the host's name is like an address or a text is not UTF-8; and
+/// [`Status::MEMORY`].
+pub fn from_allows(
+    list: impl AsRef<[u8]>,
+    host: impl AsRef<[u8]>,
+    address: IpAddr,
+) -> Result<(), Status> {
+    with_bytes(address, |bytes| raw::sshkey_from_allows(list.as_ref(), host.as_ref(), bytes))
+}
+
+/// What a call says of the bytes of the address.
+fn with_bytes(address: IpAddr, call: impl FnOnce(&[u8]) -> u32) -> Result<(), Status> {
+    Status::of(match address {
+        IpAddr::V4(it) => call(&it.octets()),
+        IpAddr::V6(it) => call(&it.octets()),
+    })
+}
