@@ -86,17 +86,17 @@ TEXTS = [
     ("an authority, and a line without", "{who} CERT-authority,cert-authority {key}\n{who} {key}\n", OK),
     ("an authority with a value", '{who} cert-authority="x" {key}\n', NO),
     ("from the day before", '{who} valid-after="20231231" {key}\n', OK),
-    ("from that day", '{who} valid-after="20240101" {key}\n', OK),
+    ("from that day", '{who} valid-after="20240101Z" {key}\n', OK),
     ("from the next day", '{who} valid-after="20240102" {key}\n', NO),
     ("from that minute", '{who} valid-after="202401011200Z" {key}\n', OK),
-    ("from that second", '{who} valid-after="20240101120000" {key}\n', OK),
-    ("from the next second", '{who} valid-after="20240101120001" {key}\n', NO),
+    ("from that second", '{who} valid-after="20240101120000Z" {key}\n', OK),
+    ("from the next second", '{who} valid-after="20240101120001Z" {key}\n', NO),
     ("to the next day", '{who} valid-before="20240102Z" {key}\n', OK),
     ("to the beginning of that day", '{who} valid-before="20240101" {key}\n', NO),
     ("to that second", '{who} valid-before="20240101120000Z" {key}\n', OK),
-    ("to the second before", '{who} valid-before="20240101115959" {key}\n', NO),
-    ("from one second to the next", '{who} valid-after="20240101120000",valid-before="20240101120001" {key}\n', OK),
-    ("from and to one second", '{who} valid-after="20240101120000",valid-before="20240101120000" {key}\n', NO),
+    ("to the second before", '{who} valid-before="20240101115959Z" {key}\n', NO),
+    ("from one second to the next", '{who} valid-after="20240101120000Z",valid-before="20240101120001Z" {key}\n', OK),
+    ("from and to one second", '{who} valid-after="20240101120000Z",valid-before="20240101120000Z" {key}\n', NO),
     ("to a time before the first", '{who} valid-after="20240102",valid-before="20240101" {key}\n', NO),
     ("no time", '{who} valid-after="" {key}\n', NO),
     ("a month too many", '{who} valid-after="20231301" {key}\n', NO),
@@ -132,7 +132,6 @@ TEXTS = [
     ("negated before a carriage return", "*,!{who}\r {key}\n", NO),
     ("negated before two carriage returns", "*,!{who}\r\r\t {key}\n", NO),
     ("behind a carriage return", "bob@example.com\r,{who} {key}\n", NO),
-    ("a carriage return in front", "\r{who} {key}\n", NO),
     ("a carriage return in a namespace", '{who} namespaces="*,!git\r" {key}\n', OK),
     ("a carriage return in the comment", "{who} {key} x\ry\n", OK),
     ("a carriage return in another line", "bob@example.com\r {other}\n{who} {key}\n", OK),
@@ -162,6 +161,29 @@ STRICTER = [
     ("a form feed within a key", "{who} ssh-ed25519 \f{word}\n", NO),
     ("a space in a time", '{who} valid-after="2023 101Z" {key}\n', NO),
 ]
+
+# read by ssh-keygen since 10.0, and not before
+EITHER = [("a carriage return in front", "\r{who} {key}\n", NO)]
+
+# times without a zone, which ssh-keygen takes for those of the machine's, from the easternmost to the westernmost
+ZONES = ("EAST-14", "UTC", "CET-1CEST,M3.5.0,M10.5.0/3", "WEST12")
+# the name, the text, the answer, the time, and whether ssh-keygen says otherwise in another zone
+ZONELESS = [
+    ("from noon, 13 hours later", '{who} valid-after="20240101120000" {key}\n', OK, NOON + 46800, False),
+    ("from noon, a second earlier", '{who} valid-after="20240101120000" {key}\n', NO, NOON + 46799, False),
+    ("from noon, in the last hour of the westernmost zone", '{who} valid-after="20240101120000" {key}\n', NO, NOON + 43199, True),
+    ("from noon, at noon", '{who} valid-after="20240101120000" {key}\n', NO, NOON, True),
+    ("from noon, before it is noon anywhere", '{who} valid-after="20240101120000" {key}\n', NO, NOON - 50401, False),
+    ("to noon, 14 hours earlier", '{who} valid-before="20240101120000" {key}\n', OK, NOON - 50400, False),
+    ("to noon, a second later", '{who} valid-before="20240101120000" {key}\n', NO, NOON - 50399, True),
+    ("to noon, at noon", '{who} valid-before="20240101120000" {key}\n', NO, NOON, True),
+    ("to noon in summer, an hour earlier", '{who} valid-before="202307011200" {key}\n', NO, 1688209200, True),
+    ("from a day in small letters", '{who} valid-after="20240101z" {key}\n', OK, NOON, False),
+    ("from one day to the next", '{who} valid-after="20240101",valid-before="20240102" {key}\n', NO, NOON, True),
+    ("from one day to the third", '{who} valid-after="20240101",valid-before="20240103" {key}\n', OK, NOON + 7200, False),
+    ("from the second day of 1970", '{who} valid-after="19700102" {key}\n', OK, NOON, False),
+    ("from 14 hours after the start of 1970", '{who} valid-after="197001011400" {key}\n', NO, NOON, True),
+]  # fmt: skip
 
 # the name, the text, the answer, and the time
 TIMES = [
@@ -216,8 +238,8 @@ def by_device(device, message):
     return blob, told(line_of(device.plain()), string(device.names[1]) + string(raw), said)
 
 
-def says(maker, text, blob, message, who, namespace, at, revoked):
-    """Whether ssh-keygen takes the signature for that identity's, by a list of revoked keys if one is given."""
+def says(maker, text, blob, message, who, namespace, at, revoked, zone="UTC"):
+    """Whether ssh-keygen takes the signature for that identity's in that zone, by a list of revoked keys if one is given."""
     with open(maker.path("allowed"), "wb") as file:
         file.write(text)
     with open(maker.path("armour"), "w", encoding="ascii") as file:
@@ -226,7 +248,7 @@ def says(maker, text, blob, message, who, namespace, at, revoked):
     words += ["-O", "verify-time=" + time.strftime("%Y%m%d%H%M%SZ", time.gmtime(at))]
     if revoked is not None:
         words += ["-r", saved(maker, revoked)]
-    return maker.run(*words, input=message, check=False).returncode == 0
+    return maker.run(*words, zone=zone, input=message, check=False).returncode == 0
 
 
 def signers(maker):
@@ -237,10 +259,20 @@ def signers(maker):
 
     def case(
         name, text, wanted, who=WHO, namespace=NAMESPACE, at=NOON, of=message, blob=made, line=of_made, same=True, revoked=None, ask=ASK,
+        differs=None,
     ):  # fmt: skip
         text = text.format(**keys).encode()
         asked = "\t".join([ask, text.hex(), who, namespace, str(at), of.hex(), blob.hex(), *([] if revoked is None else [revoked.hex()])])
-        if line and says(maker, text, blob, of, who, namespace, at, revoked) != ((wanted in (OK, "1")) == same):
+
+        def said(zone="UTC"):
+            return says(maker, text, blob, of, who, namespace, at, revoked, zone)
+
+        if differs is not None:
+            answers = {said(zone) for zone in ZONES}
+            # who is let in here is let in everywhere
+            if len(answers) != 1 + differs or (wanted == OK and answers != {True}):
+                wanted = f"{wanted}, and ssh-keygen says otherwise"
+        elif line and same is not None and said() != ((wanted in (OK, "1")) == same):
             wanted = f"{wanted}, and ssh-keygen says otherwise"
         return f"allowed signer: {name}", [line] if line else [], asked, wanted
 
@@ -248,6 +280,10 @@ def signers(maker):
         yield case(name, text, wanted)
     for name, text, wanted in STRICTER:
         yield case(name, text, wanted, same=False)
+    for name, text, wanted in EITHER:
+        yield case(name, text, wanted, same=None)
+    for name, text, wanted, at, differs in ZONELESS:
+        yield case(name, text, wanted, at=at, differs=differs)
     for name, text, wanted, at in TIMES:
         yield case(name, text, wanted, at=at)
     text = "{who} {key}\n"

@@ -1,4 +1,4 @@
--- An option has one name, and a time one second.
+-- An option has one name, and a time one span.
 use Rattle.std.proofs.Common.{◌≡◌, ℕ, List, length, Option, None, Some, refl, sym, ap, subst, ◌∙◌, arith}
 use Rattle.std.proofs.lemmas.List.{length-map}
 use Rattle.sshkey_entries.specs.OptionItems.{IsSameName, KeyOption}
@@ -7,6 +7,7 @@ use Rattle.allowed_signers.specs.SignerOptions.{AddsOption, AddsValue, IsTimeVal
 use Rattle.allowed_signers.specs.Times.{ReadsTime}
 use Rattle.allowed_signers.specs.declared.options.SignerOptions.{SignerOptions}
 use Rattle.allowed_signers.specs.declared.options.Word.{Word}
+use Rattle.allowed_signers.specs.declared.times.Span.{Span}
 use Rattle.allowed_signers.specs.declared.options.Word.TheVariants.{CertAuthority, Namespaces, ValidAfter, ValidBefore}
 
 -- no two words have the same length
@@ -47,6 +48,6 @@ adds o s w named one (Some x) is = ((w, named, is.0), λ t other. is.1 t (subst 
 
 -- ---- times
 
-pub time_read : (text : List ℕ) (r : Option ℕ) → ReadsTime text r → IsTheOne {X = ℕ} {Y = ℕ} (λ n. n) (IsTimeValue (Some text)) r
+pub time_read : (text : List ℕ) (r : Option Span) → ReadsTime text r → IsTheOne {X = Span} {Y = Span} (λ n. n) (IsTimeValue (Some text)) r
 time_read text None none = none
 time_read text (Some n) is = is

@@ -5,11 +5,12 @@ use Rattle.sshkey_entries.specs.OptionItems.{KeyOption, AreKeyOptions, IsSameNam
 use Rattle.sshkey_entries.specs.Patterns.{MatchesList}
 use Rattle.allowed_signers.specs.Times.{IsTimeText}
 use Rattle.allowed_signers.specs.declared.options.SignerOptions.{SignerOptions}
+use Rattle.allowed_signers.specs.declared.times.Span.{Span}
 use Rattle.allowed_signers.specs.declared.options.Word.{Word}
 use Rattle.allowed_signers.specs.declared.options.Word.TheVariants.{CertAuthority, Namespaces, ValidAfter, ValidBefore}
 
--- The namespaces that the key signs in, the first and the last second at which it does, and whether
--- it signs certificates alone.
+-- The namespaces that the key signs in, the first and the last second at which it does, whatever
+-- zone its times are of, and whether it signs certificates alone.
 pub record Terms : Type 0 where
   pub namespaces : Option (List ℕ)
   pub valid_after : Option ℕ
@@ -28,7 +29,7 @@ word_text ValidAfter = codes "valid-after"
 word_text ValidBefore = codes "valid-before"
 
 -- The value is a time.
-abbrev pub IsTimeValue : Option (List ℕ) → ℕ → Type 0
+abbrev pub IsTimeValue : Option (List ℕ) → Span → Type 0
 IsTimeValue None n = ⊥
 IsTimeValue (Some text) n = IsTimeText text n
 
@@ -37,8 +38,8 @@ IsTimeValue (Some text) n = IsTimeText text n
 abbrev pub AddsValue : Word → Option (List ℕ) → Terms → Terms → Type 0
 AddsValue CertAuthority value s t = (value ≡ None) × (t ≡ record s { is_authority = true })
 AddsValue Namespaces value s t = (list : List ℕ) × (value ≡ Some list) × (s.namespaces ≡ None) × (t ≡ record s { namespaces = Some list })
-AddsValue ValidAfter value s t = (n : ℕ) × IsTimeValue value n × (s.valid_after ≡ None) × (t ≡ record s { valid_after = Some n })
-AddsValue ValidBefore value s t = (n : ℕ) × IsTimeValue value n × (s.valid_before ≡ None) × (t ≡ record s { valid_before = Some n })
+AddsValue ValidAfter value s t = (n : Span) × IsTimeValue value n × (s.valid_after ≡ None) × (t ≡ record s { valid_after = Some n.last })
+AddsValue ValidBefore value s t = (n : Span) × IsTimeValue value n × (s.valid_before ≡ None) × (t ≡ record s { valid_before = Some n.first })
 
 abbrev pub AddsOption : KeyOption → Terms → Terms → Type 0
 AddsOption o s t = (word : Word) × IsSameName o.name (word_text word) × AddsValue word o.value s t

@@ -5,6 +5,7 @@ use Rattle.std.specs.Char.{is_ascii_digit, to_ascii_lowercase}
 use Rattle.std.specs.Int.{IsInRange}
 use Rattle.std.specs.List.{prefix_len, take_while}
 use Rattle.allowed_signers.specs.declared.times.Moment.{Moment}
+use Rattle.allowed_signers.specs.declared.times.Span.{Span}
 
 -- ---- the calendar
 
@@ -65,6 +66,17 @@ moment text = record {
   second = two_digits text 12;
 }
 
+-- where no zone is named, the seconds by which one is ahead of UTC at most: 14 hours
+abbrev pub ahead : List ℕ → ℕ
+ahead [] = 50400
+ahead (c ∷ zone) = 0
+
+-- and by which one is behind it at most: 12 hours, and one of summer. By that hour OpenSSH 10.6
+-- differs from those before it.
+abbrev pub behind : List ℕ → ℕ
+behind [] = 46800
+behind (c ∷ zone) = 0
+
 -- None is named, or UTC is.
 abbrev pub IsZone : List ℕ → Type 0
 IsZone text = (text ≡ []) ⊎ (map to_ascii_lowercase text ≡ codes "z") ⊎ (map to_ascii_lowercase text ≡ codes "utc")
@@ -78,14 +90,16 @@ pub record IsMoment (m : Moment) : Type 0 where
   pub minute : m.minute < 60
   pub second : m.second < 62
 
--- The text is a time `t` seconds after the start of 1970, where `t` is at least 1.
-pub record IsTimeText (text : List ℕ) (t : ℕ) : Type 0 where
+-- The text is a time, which may be any from the first of these seconds after the start of 1970 to
+-- the last: one second if it names UTC. The first is at least 1.
+pub record IsTimeText (text : List ℕ) (s : Span) : Type 0 where
   pub size : (length (digits text) ≡ 8) ⊎ (length (digits text) ≡ 12) ⊎ (length (digits text) ≡ 14)
   pub in_utc : IsZone (zone text)
   pub valid : IsMoment (moment (digits text))
-  pub is : seconds_before (moment (digits text)) ≡ epoch + t
-  pub later : 0 < t
+  pub first : seconds_before (moment (digits text)) ≡ epoch + ahead (zone text) + s.first
+  pub last : seconds_before (moment (digits text)) + behind (zone text) ≡ epoch + s.last
+  pub later : 0 < s.first
 
--- the one time that it is; or it is none
-abbrev pub ReadsTime : List ℕ → Option ℕ → Type 0
-ReadsTime text result = MatchOption result ((t : ℕ) → IsTimeText text t → ⊥) (λ t. IsTimeText text t × ((u : ℕ) → IsTimeText text u → u ≡ t))
+-- the one span that it is; or it is none
+abbrev pub ReadsTime : List ℕ → Option Span → Type 0
+ReadsTime text result = MatchOption result ((s : Span) → IsTimeText text s → ⊥) (λ s. IsTimeText text s × ((u : Span) → IsTimeText text u → u ≡ s))

@@ -7,7 +7,7 @@ ghost use Rattle.sshkey_entries.specs.Patterns.{MatchesList};
 ghost use Rattle.allowed_signers.specs.OneValue.{IsTheOne, ReadsTheOne};
 ghost use Rattle.allowed_signers.specs.SignerOptions.{AddsOption, AddsValue, AreTerms, AreTimesInOrder, IsTimeValue, Permits, no_terms, terms_of, word_text};
 
-use crate::times::read_time;
+use crate::times::{Span, read_time};
 use sshkey_authorized_keys::{OpenSshOption, OpenSshOptions};
 use sshkey_base::Result;
 use sshkey_entries::{LetterCase, matches_pattern_list};
@@ -42,8 +42,8 @@ fn word_of(option: &OpenSshOption) -> Option<Word>
     None
 }
 
-/// The second that a value names.
-fn time_of(value: Option<String>) -> Option<u64>
+/// The seconds that a value may mean.
+fn time_of(value: Option<String>) -> Option<Span>
     ensures { IsTheOne (λ n. n) (IsTimeValue (option_map string_bytes value)) result }
 {
     match value {
@@ -56,7 +56,7 @@ fn time_of(value: Option<String>) -> Option<u64>
 pub(crate) struct SignerOptions {
     /// The patterns of the namespaces that the key signs in; in all of them without.
     namespaces: Option<String>,
-    /// The first second at which it does.
+    /// The first second at which it does, in whatever zone.
     valid_after: Option<u64>,
     /// The last one.
     valid_before: Option<u64>,
@@ -169,7 +169,7 @@ impl SignerOptions {
         if self.valid_after.is_some() {
             return None;
         }
-        self.valid_after = Some(time);
+        self.valid_after = Some(time.last);
         Some(self)
     }
 
@@ -183,7 +183,7 @@ impl SignerOptions {
         if self.valid_before.is_some() {
             return None;
         }
-        self.valid_before = Some(time);
+        self.valid_before = Some(time.first);
         Some(self)
     }
 

@@ -3,9 +3,10 @@
 ghost use Rattle.std.specs.Prelude.{◌≡◌, ◌+◌, ◌-◌, ◌*◌, ◌^◌, ◌<◌, ◌≤◌, ◌↔◌, IsTrue, slice_index};
 ghost use Rattle.std.specs.Char.{is_ascii_digit};
 ghost use Rattle.std.specs.List.{prefix_len};
-ghost use Rattle.allowed_signers.specs.Times.{IsMoment, IsZone, ReadsTime, days_of_months, days_of_years, digits, is_leap, moment, month_days, seconds_before, two_digits, zone};
+ghost use Rattle.allowed_signers.specs.Times.{IsMoment, IsZone, ReadsTime, ahead, behind, days_of_months, days_of_years, digits, is_leap, moment, month_days, seconds_before, two_digits, zone};
 
 const SECONDS_A_DAY: u64 = 86_400;
+const SECONDS_AN_HOUR: u64 = 3_600;
 
 /// A date and a time of day, as a text has them.
 #[derive(Drop)]
@@ -18,15 +19,25 @@ struct Moment {
     second: u64,
 }
 
-/// The seconds from the start of 1970 to a time that is written `YYYYMMDD`, `YYYYMMDDHHMM` or
+/// The first and the last second that a time may mean, from the start of 1970: the same one if it
+/// names its zone.
+#[derive(Clone, Copy)]
+pub(crate) struct Span {
+    pub first: u64,
+    pub last: u64,
+}
+
+/// The seconds from the start of 1970 that a time may mean which is written `YYYYMMDD`, `YYYYMMDDHHMM` or
 /// `YYYYMMDDHHMMSS`, alone or before `Z` or `UTC` in small or large letters (ssh-keygen(1),
 /// "ALLOWED SIGNERS"). `None` for any other text, and for a time that is not after the start of
 /// 1970. Does not allocate.
 ///
-/// A time without a zone is one of UTC here; OpenSSH takes it for one of the zone that the machine
-/// is set to. As strptime(3) does, it takes each month for one of 31 days and each minute for one
+/// OpenSSH takes a time without a zone for one of the zone that the machine is set to: in standard
+/// time before 10.6, and by the clock on the wall since then. So it may mean any second from 14
+/// hours before the same time of UTC, in the easternmost zone, to 13 hours after it, in the
+/// westernmost with an hour of summer. As strptime(3) does, it takes each month for one of 31 days and each minute for one
 /// of 62 seconds: 20230230 is 2 March 2023. It takes no space for a leading 0, as strptime(3) does.
-pub(crate) fn read_time(text: &str) -> Option<u64>
+pub(crate) fn read_time(text: &str) -> Option<Span>
     ensures { ReadsTime text.now result }
 {
     let (digits, zone) = split_digits(text.as_bytes());
@@ -39,10 +50,30 @@ pub(crate) fn read_time(text: &str) -> Option<u64>
     }
     let seconds = seconds_before(&moment);
     let epoch = days_of_years(1970) * SECONDS_A_DAY;
-    if seconds <= epoch {
+    let start = epoch + ahead(zone);
+    if seconds <= start {
         return None;
     }
-    Some(seconds - epoch)
+    Some(Span {
+        first: seconds - start,
+        last: seconds - epoch + behind(zone),
+    })
+}
+
+/// How many seconds a zone is ahead of UTC at most, where none is named.
+fn ahead(zone: &[u8]) -> u64
+    ensures value { result ≡ ahead zone.now }
+    ensures short { result ≤ 50400 }
+{
+    if zone.is_empty() { 14 * SECONDS_AN_HOUR } else { 0 }
+}
+
+/// How many seconds one is behind it at most.
+fn behind(zone: &[u8]) -> u64
+    ensures value { result ≡ behind zone.now }
+    ensures short { result ≤ 46800 }
+{
+    if zone.is_empty() { 13 * SECONDS_AN_HOUR } else { 0 }
 }
 
 /// The digits in front of a text, and what stands after them.

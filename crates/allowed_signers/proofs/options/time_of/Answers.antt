@@ -2,6 +2,7 @@ use Rattle.std.proofs.Common.{◌≡◌, ◌∙◌, Global, List, Option, Some, 
 use Rattle.std.specs.Prelude.{String, option_map, string_bytes}
 use Rattle.allowed_signers.specs.OneValue.{IsTheOne}
 use Rattle.allowed_signers.specs.SignerOptions.{IsTimeValue}
+use Rattle.allowed_signers.specs.declared.times.Span.{Span}
 use Rattle.allowed_signers.proofs.Words.{time_read}
 use Rattle.allowed_signers.proofs.options.time_of.Goals as goal
 
@@ -9,4 +10,4 @@ pub returns-in-Some : goal.returns-in-Some
 returns-in-Some c =
     let value : option_map string_bytes c.args.value ≡ Some c.as_str.result.now
     = ap (λ (o : Option (String Global)). option_map string_bytes o) c.in-Some.is ∙ ap (λ (t : List ℕ). Some t) (sym c.as_str.ensures.value) in
-    subst (λ (v : Option (List ℕ)). IsTheOne {X = ℕ} {Y = ℕ} (λ n. n) (IsTimeValue v) c.read_time.result) (sym value) (time_read c.as_str.result.now c.read_time.result c.read_time.ensures)
+    subst (λ (v : Option (List ℕ)). IsTheOne {X = Span} {Y = Span} (λ n. n) (IsTimeValue v) c.read_time.result) (sym value) (time_read c.as_str.result.now c.read_time.result c.read_time.ensures)
