@@ -3,6 +3,7 @@ use Rattle.std.proofs.Common.{◌≡◌, ◌≢◌, ◌⊎◌, ◌==◌, ℕ, Li
 use Rattle.std.proofs.lemmas.Bool.Decides.{nat_tests}
 use Rattle.std.specs.List.{list_any}
 use Rattle.std.specs.Prelude.{Contains, String, string_bytes}
+use Rattle.ssh_key.specs.OpenLaws.{IsOfOneValue}
 use Rattle.ssh_key.specs.base.Causes.{NoMemory, cause}
 use Rattle.ssh_key.specs.cert.CertificateFormats.{certificate_format}
 use Rattle.ssh_key.specs.cert.CertificateReaders.{SpellsCertificate}
@@ -14,7 +15,7 @@ use Rattle.ssh_key.specs.model.Certificates.{Certificate, HasCertificatePlaces, 
 use Rattle.ssh_key.specs.model.Fingerprints.{Fingerprint, digest, same_fingerprint}
 use Rattle.ssh_key.specs.model.Keys.{Key, normal_key}
 use Rattle.ssh_key.specs.model.Laws.{NormalFits}
-use Rattle.ssh_key.specs.model.Lines.{name_of_certificate, IsCertificateLine, IsNoLine, LinesDetermineValues}
+use Rattle.ssh_key.specs.model.Lines.{name_of_certificate, IsCertificateLine, IsNoLine}
 use Rattle.ssh_key.specs.model.Names.{Sha256}
 use Rattle.ssh_key.specs.model.Parts.{BoxesFit, flat}
 use Rattle.ssh_key.specs.model.Principals.{Allows, IsValidFor}
@@ -121,14 +122,13 @@ field_not_memory user offered least c r (OtherKeyId users own accepted known pla
 field_not_memory user offered least c r (OtherPrincipals users own accepted known plain id other) = λ memory. cc
 
 -- the line is of one certificate only, and its word of one blob
-one_spelling : LinesDetermineValues name_of_certificate SpellsCertificate → (text m n : List ℕ) (c d : Certificate) (a : IsCertificateLine text c m) (b : IsCertificateLine text d n) → (c ≡ d) × (a.blob ≡ b.blob)
-unfolding LinesDetermineValues
+one_spelling : IsOfOneValue name_of_certificate SpellsCertificate → (text m n : List ℕ) (c d : Certificate) (a : IsCertificateLine text c m) (b : IsCertificateLine text d n) → (c ≡ d) × (a.blob ≡ b.blob)
 one_spelling one text m n c d a b =
     let words = one_cut text _ _ _ _ _ _ (line_cut text _ _ _ a.line) (line_cut text _ _ _ b.line) in
     ((one text m n c d a b).0, one_blob a.blob b.blob (bytes_fit a.blob (certificate_blobs.bytes c a.blob a.spelled)) (bytes_fit b.blob (certificate_blobs.bytes d b.blob b.spelled)) words.1)
 
 -- which decides
-pub refused : RefuseTheUnwanted → LinesDetermineValues name_of_certificate SpellsCertificate → (login : Login) (comment : List ℕ) (c : Certificate) (r : Refusal) (line : IsCertificateLine login.line c comment) → RefusesSpelling login c line.blob r → IsLogin login → ⊥
+pub refused : RefuseTheUnwanted → IsOfOneValue name_of_certificate SpellsCertificate → (login : Login) (comment : List ℕ) (c : Certificate) (r : Refusal) (line : IsCertificateLine login.line c comment) → RefusesSpelling login c line.blob r → IsLogin login → ⊥
 refused law one login comment c r line why is =
     let same = one_spelling one login.line comment is.comment c is.certificate line is.line in
     let lets = subst (LetsIn login) (sym same.0) is.lets_in in
