@@ -105,7 +105,8 @@ class Gate:
             shown = []
             for words in commands:
                 self.part(words, shown.append)
-            say("\n".join(shown))
+            if not self.is_stopped:
+                say("\n".join(shown))
 
         with ThreadPoolExecutor(len(lists)) as pool:
             for each in [pool.submit(run, it) for it in lists]:
