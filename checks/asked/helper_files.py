@@ -166,6 +166,11 @@ def check_nobody(count, helpers, room, helper):
             wanted = (0, said, False) if who == helper else (1, "", True)
             found = (ran.returncode, ran.stdout, "nobody" in ran.stderr)
             count.check(f"sshkey-{name} as {'a user of its own' if who == helper else who} {words}", found == wanted, ran)
+    for who in (helper, "nobody"):
+        words = ASKING.format(keys, f"{room}/sshkey-authorized-keys", who)
+        helpers.maker.write(f"as-{who}", STRICT.format(helpers.maker.folder) + words)
+        found = logs_in(helpers.maker, f"as-{who}", user, "key")
+        count.check(f"login where sshd runs it as {'a user of its own' if who == helper else who}", found == (who == helper), found)
 
 
 def check_logged(count, helpers, room):
