@@ -139,7 +139,9 @@ class Go:
         count.check("Go: each name is that of its number", len(pairs) > 30 and not wrong, len(pairs), wrong)
 
     def check_installed(self, count):
-        """With the tag sshkey_installed the package is linked with what pkg-config finds."""
+        """With the tag sshkey_installed the package is linked with what pkg-config finds; without cgo it says what it wants."""
+        said = self.run(self.module, "build", "./sshkey", CGO_ENABLED="0")
+        count.check("Go: without cgo the package says so", said.returncode and "wants_CGO_ENABLED_1" in said.stderr, said.stderr)
         environment = {"PKG_CONFIG_PATH": self.out, "CGO_LDFLAGS": "", "LD_LIBRARY_PATH": self.out}
         said = self.run(self.module, "test", "-count=1", "-tags", "sshkey_installed", "-run", "AtOnce|Copies", "./sshkey", **environment)
         count.check("Go: the installed library is linked", said.returncode == 0 and "no tests" not in said.stdout, said.stdout, said.stderr)

@@ -165,6 +165,24 @@ def check_unsupported(count, check):
     count.check("what is not supported is no signature", said is False, found)
 
 
+def check_no_file(count, sshkey, check, key, certificate):
+    """Where no revocation file was read, or nothing is said of one, no call answers."""
+    by = [sshkey.fingerprint(sshkey.certificate_contents(certificate).authority)]
+    given, signer = (certificate, key, 0, "alice", by), (b"", "file", b"", b"", "alice", 0)
+    for call, words in ((check.validate_user, given), (check.validate_host, (certificate, 0, "host", 22, [])), (check.judge_signer_of_digest, signer)):
+        for named in ({}, {"revoked": None}):
+            found = raised(call, *words, **named)
+            count.check(f"{call.__name__} with {named or 'no file'} raises TypeError", found is not None and found[0] == "TypeError", found)
+    for call, words in (
+        (sshkey.revoked_key, (None, key)), (sshkey.revoked_certificate, (None, certificate)),
+        (sshkey.signer_verdict, (b"", "alice", "file", b"", 0, None, False)),
+    ):  # fmt: skip
+        found = raised(call, *words)
+        count.check(f"{call.__name__} of None raises TypeError", found is not None and found[0] == "TypeError", found)
+    found = [sshkey.revoked_key(it, key) for it in (b"", sshkey.NO_REVOCATIONS)]
+    count.check("no bytes revoke nothing, nor does the word of who asks no file", found == [False, False], found)
+
+
 def check_python(count, modules, maker):
     """Over the keys and certificates of certificate_calls."""
     sshkey, check = modules
@@ -180,3 +198,4 @@ def check_python(count, modules, maker):
     check_unsupported(count, check)
     check_nonces(count, sshkey, key, authority)
     check_names(count, sshkey)
+    check_no_file(count, sshkey, check, key, certificate)
