@@ -3,3 +3,4 @@ pub mod Entries
 pub mod Options
 pub mod Verdicts
 pub mod Signers
+pub mod Revocations
