@@ -91,11 +91,6 @@ def check_revoked(count, out, maker, programs):
                 with open(path, "wb") as file:
                     file.write(data)
             ran = run([f"{out}/{program}", "--revoked", path, *words])
-            is_good = name in ("a list of nothing", "a list of another key")
-            # what is revoked is a no, and where no file is read the program can't tell
-            wanted = (0, plain.stdout) if is_good else (int(data is None), "")
->>>>>>>>> Temporary merge branch 2
-=======
             is_good, is_untold = name in good, data is None or name == "half a list"
             # what is revoked is a no, and where no file is read the program can't tell
             wanted = (0, plain.stdout) if is_good else (int(is_untold), "")

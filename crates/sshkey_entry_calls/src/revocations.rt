@@ -119,11 +119,7 @@ fn certificate_number(alloc: Global, file: &RevokedKeys<'_>, certificate: &[u8])
 
 /// Whether the file revokes the certificate. Fails with the fault of the certificate, and when out
 /// of memory.
-fn is_certificate_revoked(
-    alloc: Global,
-    file: &RevokedKeys<'_>,
-    certificate: &[u8],
-) -> Result<bool>
+fn is_certificate_revoked(alloc: Global, file: &RevokedKeys<'_>, certificate: &[u8]) -> Result<bool>
     ensures said { IfOk result (IsWhether SpellsCertificate
         (λ c. values.is_certificate_revoked (revokes file.now) c) certificate.now) }
     ensures fault { (met : Fault) → whole certificate_at certificate.now ≡ Err met

@@ -122,10 +122,7 @@ fn lacks_memory(read: &Result<RevokedKeys<'_>>) -> bool
 }
 
 /// The number of a verdict, by what was read of the revocation file.
-fn number_of(
-    verdict: std::result::Result<(), Refusal>,
-    read: &Result<RevokedKeys<'_>>,
-) -> u32
+fn number_of(verdict: std::result::Result<(), Refusal>, read: &Result<RevokedKeys<'_>>) -> u32
     ensures { result ≡ verdict_number (revoked_number read.now) verdict }
 {
     match verdict {

@@ -6,3 +6,4 @@ pub mod Verdicts
 pub mod OtherLines
 pub mod MadeEntries
 pub mod Hmac
+pub mod HmacExamples
