@@ -18,7 +18,8 @@ SAMPLED = 5
 TEXTS = [
     ("her key in a text", "{key}\n", "SIGNER_REVOKED"), ("her key behind another", "# x\n\n \t{other}\r\n{key} x", "SIGNER_REVOKED"),
     ("another key in a text", "{other}\n", "DONE"), ("a comment", "# {key}\n", "DONE"), ("an empty file", "", "DONE"),
-    ("a line that is no key", "{other}\nssh-ed25519 AAAA\n", "SIGNER_REVOKED"), ("a text that is not UTF-8", "\xff", "SIGNER_REVOKED"),
+    ("a line that is no key", "{other}\nssh-ed25519 AAAA\n", "UNREADABLE_REVOCATIONS"),
+    ("a text that is not UTF-8", "\xff", "UNREADABLE_REVOCATIONS"),
 ]  # fmt: skip
 # the identity in place of hers, the text of signers, and what is wanted, as bytes
 OTHERS = [
