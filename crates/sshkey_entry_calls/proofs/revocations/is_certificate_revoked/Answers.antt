@@ -4,7 +4,7 @@ use Rattle.sshkey_cert_ref.specs.CertificateRef.{certificate_of}
 use Rattle.sshkey_model.specs.Keys.{Key, normal_key}
 use Rattle.sshkey_model.specs.Parts.{flat}
 use Rattle.sshkey_revoked_keys.specs.RevokedKeys.{revokes}
-use Rattle.sshkey_entry_calls.proofs.Revocations.{certificate_said}
+use Rattle.sshkey_entry_calls.proofs.RevokedFiles.{certificate_said}
 use Rattle.sshkey_entry_calls.proofs.revocations.is_certificate_revoked.Goals as goal
 
 pub returns-in_err-read-clause-unsaid : goal.returns-in_err-read-clause-unsaid

@@ -1,5 +1,5 @@
 use Rattle.std.proofs.Common.{Ok, Err, inl, inr}
-use Rattle.sshkey_entry_calls.proofs.Revocations.{needs_file, read_of}
+use Rattle.sshkey_entry_calls.proofs.RevokedFiles.{needs_file, read_of}
 use Rattle.sshkey_entry_calls.proofs.revocations.revoked_certificate.Goals as goal
 
 pub returns-in-Ok-clause-answer : goal.returns-in-Ok-clause-answer
