@@ -68,7 +68,7 @@ uint32_t sshkey_abi(void);
 /* ---- what calls return ----------------------------------------------------------------------- */
 
 enum {
-  SSHKEY_DONE = 0,   /* done; of a validation: it is valid; of a revocation list: it revokes; of a
+  SSHKEY_DONE = 0,   /* done; of a validation: it is valid; of a revocation file: it revokes; of a
                         signer: the signature counts */
   SSHKEY_MEMORY = 1, /* malloc refused; nothing is said of the input, and nothing is kept: the call
                         may be made again */
@@ -124,15 +124,16 @@ enum {
   SSHKEY_HOST_CHANGED = 52,    /* a line for the host has another key, and none has this one */
   SSHKEY_HOST_UNKNOWN = 53,    /* no line without a marker is for the host */
 
-  /* 55, 56, and then 30: a signature does not count; the first of these that holds */
+  /* 55, 58, 56, and then 30: a signature does not count; the first of these that holds */
   SSHKEY_SIGNER_NOT_ALLOWED = 55, /* no line lets its key sign for the identity, there and then */
-  SSHKEY_SIGNER_REVOKED = 56,     /* its key is revoked, or the revocation file can't be read */
+  SSHKEY_SIGNER_REVOKED = 56,     /* its key is revoked */
 
   /* of a client's address */
   SSHKEY_ELSEWHERE = 57, /* the list does not let it in */
 
-  /* of a revocation list */
-  SSHKEY_NOT_REVOKED = 60 /* it does not revoke the key or the certificate */
+  /* of a revocation file */
+  SSHKEY_UNREADABLE_REVOCATIONS = 58, /* it can't be read, and so revokes everything */
+  SSHKEY_NOT_REVOKED = 60             /* it does not revoke the key or the certificate */
 };
 
 /* The name of an answer as it stands above, without SSHKEY_; for logs. */
@@ -151,8 +152,8 @@ static inline const char *sshkey_answer_name(uint32_t answer) {
     SSHKEY_NAMED(PRINCIPALS); SSHKEY_NAMED(EMPTY_WINDOW);
     SSHKEY_NAMED(HOST_REVOKED); SSHKEY_NAMED(HOST_UNREADABLE);
     SSHKEY_NAMED(HOST_CHANGED); SSHKEY_NAMED(HOST_UNKNOWN);
-    SSHKEY_NAMED(SIGNER_NOT_ALLOWED); SSHKEY_NAMED(SIGNER_REVOKED); SSHKEY_NAMED(NOT_REVOKED);
-    SSHKEY_NAMED(ELSEWHERE);
+    SSHKEY_NAMED(SIGNER_NOT_ALLOWED); SSHKEY_NAMED(SIGNER_REVOKED); SSHKEY_NAMED(ELSEWHERE);
+    SSHKEY_NAMED(UNREADABLE_REVOCATIONS); SSHKEY_NAMED(NOT_REVOKED);
     default: return "no answer";
   }
 #undef SSHKEY_NAMED
@@ -449,7 +450,7 @@ uint32_t sshkey_sshsig_question_of_digest(const uint8_t *signature, size_t signa
  *
  * SSHKEY_DONE exactly if the bytes are a signature in the namespace that raises a question,
  * without reserved bytes, `is_verified` is 1, a line lets its key sign for the identity in the
- * namespace at that time, and the key is not revoked (memory aside). Else 55, 56 or
+ * namespace at that time, and the key is not revoked (memory aside). Else 55, 58, 56 or
  * SSHKEY_NOT_SIGNED, 10 to 29 for bytes that are no signature, or SSHKEY_TEXT. SSHKEY_MEMORY only
  * where a part of the signature is whole. Also ask: docs/CHECKLIST.md, "A signature". */
 uint32_t sshkey_signer_verdict(const uint8_t *signers, size_t signers_length,
@@ -493,7 +494,25 @@ uint32_t sshkey_signature_normal(const uint8_t *signature, size_t signature_leng
  * SSHKEY_END at the end of the bytes, else SSHKEY_LENGTH. Takes no memory. */
 uint32_t sshkey_next_string(const uint8_t *bytes, size_t length, size_t place, sshkey_part *answer);
 
-/* ---- revocation lists (PROTOCOL.krl) --------------------------------------------------------- */
+/* ---- revocation files (sshd_config(5), "RevokedKeys") ---------------------------------------- */
+
+/* Whether a revocation file revokes the key of that blob: a list (PROTOCOL.krl), as `ssh-keygen -k`
+ * makes it, that has the key or its digest by SHA-1 or SHA-256; or a text with a key or a
+ * certificate a line, that has the key. A file of no bytes revokes nothing, as sshd's.
+ *
+ * Let in for SSHKEY_NOT_REVOKED alone: a caller that takes any other answer for "not revoked" is
+ * wrong (docs/CHECKLIST.md, "All of them"). SSHKEY_DONE exactly if the file revokes the key (memory
+ * aside); else SSHKEY_UNREADABLE_REVOCATIONS for a file that sshd does not read either, but for two
+ * rows of docs/CALLING.md; else 10 to 29 for bytes that are no key. Of a list SSHKEY_MEMORY only
+ * for a key that is not its normal form. */
+uint32_t sshkey_revoked_key(const uint8_t *revoked, size_t revoked_length, const uint8_t *key,
+                            size_t key_length);
+
+/* The same of a certificate: the file has its key or the key that signed it, or a list revokes its
+ * serial number or its key id among the certificates of that key or of every key. The serial number
+ * 0 revokes nothing. Of a list SSHKEY_MEMORY only where the bytes are a certificate. */
+uint32_t sshkey_revoked_certificate(const uint8_t *revoked, size_t revoked_length,
+                                    const uint8_t *certificate, size_t certificate_length);
 
 /* Whether a key revocation list, as `ssh-keygen -k` makes it, revokes the key of that blob: it has
  * the key, or its digest by SHA-1 or SHA-256.

@@ -23,7 +23,7 @@ use Rattle.authority.specs.declared.request.Request.{Request}
 
 -- a key under a name of the standards has a name of its own in certificates
 own_name : (kinds : KeyKinds) (key : Key) → IsTrue (is_among kinds key) → IsCertified (key_algorithm key)
-own_name kinds (Dsa k) is = tt
+own_name kinds (Dsa k) is = absurd cc
 own_name kinds (Ecdsa curve point) is = tt
 own_name kinds (Ed25519 k) is = tt
 own_name kinds (Rsa k) is = tt

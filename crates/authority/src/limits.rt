@@ -3,7 +3,7 @@
 ghost use Rattle.std.specs.List.{list_all};
 ghost use Rattle.std.specs.Prelude.{◌≡◌, ◌≢◌, ◌↔◌, ◌≤◌, ◌<◌, ◌+◌, ◌^◌, [], IfErr, IsTrue, All, length, map, string_bytes};
 ghost use Rattle.ssh_key.specs.base.Acceptance.{AcceptsExactly};
-ghost use Rattle.authority.specs.CertifiedKeys.{all_but_dsa};
+ghost use Rattle.authority.specs.CertifiedKeys.{all};
 ghost use Rattle.authority.specs.Requests.{IsAllowedName, IsWithinLimits, RefusesRequest, has_no_zero, is_allowed, is_listed};
 
 use crate::keys::KeyKinds;
@@ -30,23 +30,23 @@ pub struct Limits {
 
 impl Limits {
     /// Returns the limits with these users and extensions, windows of at most `longest` seconds,
-    /// and all kinds of key but DSA. Does not allocate.
+    /// and all kinds of key. Does not allocate.
     pub fn new(principals: Vec<String>, extensions: Vec<String>, longest: u64) -> Limits
         ensures principals { result.principals ≡ principals }
         ensures extensions { result.extensions ≡ extensions }
         ensures longest { result.longest ≡ longest }
-        ensures kinds { result.kinds ≡ all_but_dsa }
+        ensures kinds { result.kinds ≡ all }
     {
         Limits {
             principals,
             extensions,
             longest,
-            kinds: KeyKinds::all_but_dsa(),
+            kinds: KeyKinds::all(),
         }
     }
 
     /// Checks that the request is within the limits, at that time in seconds since 1970: its key is
-    /// of one of `kinds`, and one that sshd(8) reads. It is for 1 to 256 users, all listed, and
+    /// of one of `kinds`, and one that sshd(8) accepts. It is for 1 to 256 users, all listed, and
     /// each extension is listed. The key id, the users and the extensions have no zero byte. Its
     /// window has a second and no more than `longest`, is not over, and ends `longest` seconds from
     /// now or before. Does not allocate.
@@ -55,11 +55,10 @@ impl Limits {
     /// `ValidPrincipals` for the users, `Extensions` for the extensions and `ValidBefore` for the
     /// window, in that order.
     ///
-    /// sshd reads numbers that are positive and have at most 16,384 bits, points that begin with
-    /// 04, and applications without a zero byte, which it takes for another key's. An RSA key has
-    /// to have 2,048 bits; a point that is not on its curve, which sshd does not read either, is
-    /// the caller's to refuse. A key under a private-use name is never certified: in certificates
-    /// that name may be of another kind of key.
+    /// What sshd accepts `openssh_limits::is_let_in` says, where an RSA key has to have 2,048 bits. A
+    /// point that is not on its curve, which sshd does not read, is the caller's to refuse. A key
+    /// under a private-use name is never certified: in certificates that name may be of another
+    /// kind of key.
     ///
     /// A window may begin before now, as that of `ssh-keygen -V -5m:+1h` does for machines whose
     /// clock is slow, and then these seconds count too: this example has 3,900.

@@ -3,35 +3,41 @@
 use crate::hashes::Hashes;
 use crate::revoked::read_lists;
 use crate::verified::Told;
-use crate::words::{NO_LINE, number, texts};
-use host_keys::{Refusal, check_certificate, check_key};
-use ssh_key::{Certificate, PublicKey, Result};
+use crate::words::{NO_LINE, blob, number, texts};
+use host_keys::{HostLogin, Refusal, check_certificate, check_key};
+use ssh_key::{PublicKey, Result};
 use std::alloc::{AllocError, Global};
 
 /// Whether the key is the host's, by the texts of known_hosts in hexadecimal digits, and by the
 /// lists of what is revoked, which are the words after the key.
-pub(crate) fn key(alloc: Global, words: &[&str], hashes: &Hashes) -> Result<String> {
+pub(crate) fn key(
+    alloc: Global,
+    words: &[&str],
+    least_rsa_bits: u32,
+    hashes: &Hashes,
+) -> Result<String> {
     let [known_hosts, host, port, key, revoked @ ..] = words else {
         return Err(NO_LINE);
     };
     let texts = texts(alloc, known_hosts)?;
     let key = PublicKey::from_openssh(alloc, key)?;
-    let answer = check_key(
-        alloc,
-        &borrowed(alloc, &texts)?,
+    let texts = borrowed(alloc, &texts)?;
+    let login = HostLogin {
+        texts: &texts,
         host,
-        port_of(port)?,
-        key.key_data(),
-        hashes,
-        &read_lists(alloc, revoked)?.as_slice(),
-    );
-    shown(alloc, answer)
+        port: port_of(port)?,
+        unix_timestamp: 0,
+        least_rsa_bits,
+    };
+    let revoked = read_lists(alloc, revoked)?;
+    shown(alloc, check_key(alloc, &login, key.key_data(), hashes, &revoked.as_slice()))
 }
 
-/// The same for a certificate at the second that is the word after it.
+/// The same for a certificate, by the bytes of its line, at the second that is the word after it.
 pub(crate) fn certificate(
     alloc: Global,
     words: &[&str],
+    least_rsa_bits: u32,
     hashes: &Hashes,
     told: &Told,
 ) -> Result<String> {
@@ -39,19 +45,20 @@ pub(crate) fn certificate(
         return Err(NO_LINE);
     };
     let texts = texts(alloc, known_hosts)?;
-    let certificate = Certificate::from_openssh(alloc, certificate)?;
-    let answer = check_certificate(
-        alloc,
-        &borrowed(alloc, &texts)?,
+    let certificate = blob(alloc, certificate)?;
+    let texts = borrowed(alloc, &texts)?;
+    let login = HostLogin {
+        texts: &texts,
         host,
-        port_of(port)?,
-        &certificate,
-        number(seconds)?,
-        hashes,
-        &read_lists(alloc, revoked)?.as_slice(),
-        told,
-    );
-    shown(alloc, answer)
+        port: port_of(port)?,
+        unix_timestamp: number(seconds)?,
+        least_rsa_bits,
+    };
+    let revoked = read_lists(alloc, revoked)?;
+    shown(
+        alloc,
+        check_certificate(alloc, &login, &certificate, hashes, &revoked.as_slice(), told),
+    )
 }
 
 fn borrowed(alloc: Global, texts: &[String]) -> Result<Vec<&str>> {
@@ -76,6 +83,8 @@ fn shown(alloc: Global, answer: std::result::Result<(), Refusal>) -> Result<Stri
         Err(Refusal::Unreadable) => "unreadable",
         Err(Refusal::Changed) => "changed",
         Err(Refusal::Unknown) => "unknown",
+        Err(Refusal::UnacceptedKey) => "unaccepted key",
+        Err(Refusal::NotNormalForm) => "no normal form",
         Err(Refusal::Certificate(error)) => return Err(error),
         Err(Refusal::Memory) => return Err(ssh_key::Error::Memory),
     };

@@ -3,14 +3,19 @@
 use crate::revoked::read_lists;
 use crate::verified::Told;
 use crate::words::{NO_LINE, fingerprints, number};
-use login_policy::{Grant, Refusal, log_in};
+use login_policy::{Grant, Login, Refusal, log_in};
 use ssh_key::{Error, PublicKey, Result};
 use std::alloc::{AllocError, Global};
 
-/// Whether the user is let in. The words are the user, the second, the offered key, the
+/// Whether the user is let in, where an RSA key has so many bits at least. The words are the user, the second, the offered key, the
 /// certificate, the authorities' fingerprints in one word, and the lists of what is revoked in all
 /// others.
-pub(crate) fn answer(alloc: Global, words: &[&str], told: &Told) -> Result<String> {
+pub(crate) fn answer(
+    alloc: Global,
+    words: &[&str],
+    least_rsa_bits: u32,
+    told: &Told,
+) -> Result<String> {
     let [
         user,
         seconds,
@@ -23,19 +28,20 @@ pub(crate) fn answer(alloc: Global, words: &[&str], told: &Told) -> Result<Strin
         return Err(NO_LINE);
     };
     let offered = PublicKey::from_openssh(alloc, offered)?;
-    let answer = log_in(
-        alloc,
-        certificate,
+    let authorities = fingerprints(alloc, authorities)?;
+    let login = Login {
+        line: certificate,
         user,
-        offered.key_data(),
-        number(seconds)?,
-        &fingerprints(alloc, authorities)?,
-        &read_lists(alloc, revoked)?.as_slice(),
-        told,
-    );
-    match answer {
+        offered: offered.key_data(),
+        unix_timestamp: number(seconds)?,
+        authorities: &authorities,
+        least_rsa_bits,
+    };
+    match log_in(alloc, &login, &read_lists(alloc, revoked)?.as_slice(), told) {
         Ok(grant) => Ok(shown(alloc, &grant)?),
         Err(Refusal::Certificate(error)) => Err(error),
+        Err(Refusal::NotNormalForm) => Ok(String::from_str(alloc, "no normal form")?),
+        Err(Refusal::UnacceptedKey) => Ok(String::from_str(alloc, "unaccepted key")?),
         Err(Refusal::Revoked) => Ok(String::from_str(alloc, "revoked")?),
         Err(Refusal::Memory) => Err(Error::Memory),
     }

@@ -4,7 +4,8 @@
 //! Comments and empty lines are written as they are. A line `verified` tells of a signature that
 //! another program has verified: those, and no others, are accepted in the lines after it. A line
 //! `hashed` tells of an HMAC-SHA1 that another program has computed. A line `questions` before a
-//! question has the number of times written that the verifier is asked for its answer.
+//! question has the number of times written that the verifier is asked for its answer. A line `bits`
+//! before a question has how many bits an RSA key has at least.
 #![tactic(auto)]
 
 mod agent;
@@ -25,7 +26,7 @@ use ssh_key::{Error, Result};
 use std::alloc::Global;
 use std::io::{self, BufRead, BufReader, Write};
 use verified::{Told, read_verified};
-use words::NO_LINE;
+use words::{NO_LINE, least_bits};
 
 fn main(rt: HostRuntime) -> io::Result<()> {
     let alloc = rt.alloc();
@@ -60,7 +61,8 @@ fn answer(alloc: Global, line: &str, told: &mut Told, hashes: &mut Hashes) -> Re
                 Ok(String::from_str(alloc, "told")?)
             }
             "questions" => questions(alloc, words, told, hashes),
-            _ => reply(alloc, question, words, told, hashes),
+            "bits" => bits(alloc, words, told, hashes),
+            _ => reply(alloc, question, words, 0, told, hashes),
         },
         [] => Err(NO_LINE),
     }
@@ -72,17 +74,27 @@ fn questions(alloc: Global, words: &[&str], told: &Told, hashes: &Hashes) -> Res
         return Err(NO_LINE);
     };
     let before = told.asked();
-    if let Err(Error::Memory) = reply(alloc, question, words, told, hashes) {
+    if let Err(Error::Memory) = reply(alloc, question, words, 0, told, hashes) {
         return Err(Error::Memory);
     }
     Ok(format!(in alloc; "{}", told.asked().saturating_sub(before))?)
 }
 
-/// The answer to a question.
+/// The answer to the question in the words behind the first, which is how many bits an RSA key has
+/// at least.
+fn bits(alloc: Global, words: &[&str], told: &Told, hashes: &Hashes) -> Result<String> {
+    let [least, question, words @ ..] = words else {
+        return Err(NO_LINE);
+    };
+    reply(alloc, question, words, least_bits(least)?, told, hashes)
+}
+
+/// The answer to a question, where an RSA key has so many bits at least.
 fn reply(
     alloc: Global,
     question: &str,
     words: &[&str],
+    least_rsa_bits: u32,
     told: &Told,
     hashes: &Hashes,
 ) -> Result<String> {
@@ -92,10 +104,10 @@ fn reply(
         "agent-signature" => client::answer(alloc, words, told),
         "allowed-signer" => allowed::answer(alloc, words, told),
         "deploy" => deploy::answer(alloc, words, told),
-        "host-key" => host::key(alloc, words, hashes),
-        "host-certificate" => host::certificate(alloc, words, hashes, told),
+        "host-key" => host::key(alloc, words, least_rsa_bits, hashes),
+        "host-certificate" => host::certificate(alloc, words, least_rsa_bits, hashes, told),
         "issue" => issue::answer(alloc, words, told),
-        "login" => login::answer(alloc, words, told),
+        "login" => login::answer(alloc, words, least_rsa_bits, told),
         _ => Err(NO_LINE),
     }
 }

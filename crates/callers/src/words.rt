@@ -1,7 +1,8 @@
 //! How a line spells what a question is about.
 
 use hex::FromHexError;
-use ssh_key::{Error, Fingerprint, Result};
+use ssh_key::encoding::Reader;
+use ssh_key::{Base64Reader, Error, Fingerprint, Result};
 use std::alloc::Global;
 use std::io::ErrorKind;
 
@@ -15,6 +16,17 @@ pub(crate) fn bytes(alloc: Global, digits: &str) -> Result<Vec<u8>> {
         Err(FromHexError::OutOfMemory) => Err(Error::Memory),
         Err(_) => Err(NO_LINE),
     }
+}
+
+/// The bytes that the second word of a line spells in Base64.
+pub(crate) fn blob(alloc: Global, line: &str) -> Result<Vec<u8>> {
+    let Some(word) = line.split(' ').nth(1) else {
+        return Err(NO_LINE);
+    };
+    let mut reader = Base64Reader::new(word)?;
+    let mut bytes = vec![in alloc; 0; reader.remaining_len()]?;
+    reader.read(&mut bytes)?;
+    Ok(bytes)
 }
 
 /// The text that the digits spell.
@@ -38,6 +50,14 @@ pub(crate) fn texts(alloc: Global, words: &str) -> Result<Vec<String>> {
 pub(crate) fn number(digits: &str) -> Result<u64> {
     match digits.parse::<u64>() {
         Ok(number) => Ok(number),
+        Err(_) => Err(NO_LINE),
+    }
+}
+
+/// The number of bits that the digits spell.
+pub(crate) fn least_bits(digits: &str) -> Result<u32> {
+    match digits.parse::<u32>() {
+        Ok(bits) => Ok(bits),
         Err(_) => Err(NO_LINE),
     }
 }

@@ -1,6 +1,5 @@
 -- What the validation of a host's certificate decides.
 use Rattle.std.proofs.Common.{◌≡◌, ◌≢◌, ap, ℕ, List, [], ◌∷◌, Bool, Result, Ok, Err, IfErr, Some, option_map, refl, subst, sym}
-use Rattle.openssh_limits.specs.Read.{AreReadPrincipals}
 use Rattle.ssh_key.specs.base.Acceptance.{AcceptsExactly}
 use Rattle.ssh_key.specs.cert.Validity.{JudgesCertificateFor, fingerprint_of, fingerprints_of, refusal_error}
 use Rattle.ssh_key.specs.keys.Fingerprints.{IsFingerprint}
@@ -16,13 +15,13 @@ use Rattle.ssh_key.specs.model.Verification.{Question}
 use Rattle.ssh_key.specs.types.Error.{Error}
 use Rattle.ssh_key.specs.types.Error.TheVariants.{Memory}
 use Rattle.ssh_key.specs.types.Fingerprint.{Fingerprint}
-use Rattle.host_keys.specs.Hosts.{IsBadFor, IsGoodFor, NotValid, signers}
+use Rattle.host_keys.specs.Hosts.{AreForHosts, IsBadFor, IsGoodFor, NotValid, signers}
 
 -- the one fingerprint is the signer's
 pub own : (k : Key) (f : Fingerprint) → IsFingerprint Sha256 k f → fingerprint_of f ≡ fingerprint Sha256 k
 own k f is = let by = is.by in let digest = is.digest in rw (by, digest) refl
 
-module _ (accepts : Question → Bool) (t : ℕ) (host : List ℕ) (c : Certificate) (f : Fingerprint) (is : IsFingerprint Sha256 c.signed.signature_key f) (hosts : c.signed.certificate_type ≡ Host) (none : c.signed.critical_options ≡ []) (key_id : IsWithout 0 c.signed.key_id) (principals : AreReadPrincipals c.signed.valid_principals) where
+module _ (accepts : Question → Bool) (t : ℕ) (host : List ℕ) (c : Certificate) (f : Fingerprint) (is : IsFingerprint Sha256 c.signed.signature_key f) (hosts : c.signed.certificate_type ≡ Host) (none : c.signed.critical_options ≡ []) (key_id : IsWithout 0 c.signed.key_id) (principals : AreForHosts c.signed.valid_principals) where
   same : fingerprints_of (f ∷ []) ≡ signers c
   same = ap (λ (g : model.Fingerprint). g ∷ []) (own c.signed.signature_key f is)
 

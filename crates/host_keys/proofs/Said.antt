@@ -1,11 +1,11 @@
 -- What is said of a host, by its name at the port or by its plain name, and what is answered.
-use Rattle.std.proofs.Common.{◌≡◌, ◌≢◌, ℕ, Bool, true, false, List, IfErr, IfOk, Result, Ok, Err, inl, inr, refl, subst, sym, ◌∙◌}
+use Rattle.std.proofs.Common.{◌≡◌, ◌≢◌, ◌<◌, length, ℕ, Bool, true, false, IsTrue, List, IfErr, IfOk, Result, Ok, Err, inl, inr, refl, subst, sym, ◌∙◌}
 use Rattle.ssh_key.specs.entries.HostNames.{known_name, standard_port}
 use Rattle.ssh_key.specs.types.Error.{Error}
 use Rattle.ssh_key.specs.types.Error.TheVariants.{Memory}
 use Rattle.ssh_key.specs.types.known_hosts.Verdict.{Verdict}
 use Rattle.ssh_key.specs.types.known_hosts.Verdict.TheVariants.{Revoked, Trusted, Unknown}
-use Rattle.host_keys.specs.Answers.{IsRefusalFor, IsWhy, OkExactly, answer_of}
+use Rattle.host_keys.specs.Answers.{AsksOf, IsRefusalFor, IsWhy, OkExactly, answer_of}
 use Rattle.host_keys.specs.Hosts.{IsSaid, IsSettled}
 use Rattle.host_keys.specs.declared.refusal.Refusal.{Refusal}
 use Rattle.host_keys.specs.declared.refusal.Refusal.TheVariants as refusal
@@ -42,8 +42,8 @@ module _ {E F : Type 0} (Said : Verdict → Type 0) (revoked : Bool) where
   exactly one (Ok false) (Err e) is said = λ other. absurd (other refl)
   exactly one (Err e) says is said = λ other. absurd (other refl)
 
-  module _ (Bad : Error → Type 0) where
-    pub why : (asked : Result Bool E) (says : Result Verdict F) → IfOk asked (λ yes. yes ≡ revoked) → IfOk says Said → IfErr (answer_of asked says) (IsWhy Said revoked Bad)
+  module _ (accepted : Bool) (Bad : Error → Type 0) where
+    pub why : (asked : Result Bool E) (says : Result Verdict F) → IfOk asked (λ yes. yes ≡ revoked) → IfOk says Said → IfErr (answer_of asked says) (IsWhy Said revoked accepted Bad)
     why (Ok true) says is said = inl (sym is)
     why (Ok false) (Ok Trusted) is said = tt
     why (Ok false) (Ok Revoked) is said = inr said
@@ -51,7 +51,25 @@ module _ {E F : Type 0} (Said : Verdict → Type 0) (revoked : Bool) where
     why (Ok false) (Err e) is said = tt
     why (Err e) says is said = tt
 
+-- memory was refused for the lines, or by who says what is revoked
+pub asks_of : {E F : Type 0} (Reads : Type 0) (none : Bool) (lines : List (List ℕ)) (asked : Result Bool E) (says : Result Verdict F) → IfErr asked (λ e. none ≡ false) → IfErr says (λ e. 0 < length lines) → AsksOf Reads none lines (answer_of asked says)
+asks_of Reads none lines (Ok true) says a s = λ m. cc m
+asks_of Reads none lines (Ok false) (Ok Trusted) a s = tt
+asks_of Reads none lines (Ok false) (Ok v) a s = λ m. cc m
+asks_of Reads none lines (Ok false) (Err e) a s = λ m. inr (inl s)
+asks_of Reads none lines (Err e) says a s = λ m. inr (inr a)
+
 -- for what is wrong with the certificate
-pub why_bad : (Said : Verdict → Type 0) (revoked : Bool) (Bad : Error → Type 0) (e : Error) (r : Refusal) → (revoked ≡ false) × Said Trusted → (e ≢ Memory → Bad e) → IsRefusalFor e r → IsWhy Said revoked Bad r
-why_bad Said revoked Bad e r good bad (inl m) = subst (IsWhy Said revoked Bad) (sym m.1) tt
-why_bad Said revoked Bad e r good bad (inr n) = subst (IsWhy Said revoked Bad) (sym n.1) (good.0, good.1, bad n.0)
+pub why_bad : (Said : Verdict → Type 0) (revoked accepted : Bool) (Bad : Error → Type 0) (e : Error) (r : Refusal) → (revoked ≡ false) × Said Trusted → IsTrue accepted → (e ≢ Memory → Bad e) → IsRefusalFor e r → IsWhy Said revoked accepted Bad r
+why_bad Said revoked accepted Bad e r good let_in bad (inl m) = subst (IsWhy Said revoked accepted Bad) (sym m.1) tt
+why_bad Said revoked accepted Bad e r good let_in bad (inr n) = subst (IsWhy Said revoked accepted Bad) (sym n.1) (good.0, good.1, let_in, bad n.0)
+
+-- a refusal for something else than memory is for an error that is no lack of memory
+pub other_of : (e : Error) (r : Refusal) → IsRefusalFor e r → r ≢ refusal.Memory → e ≢ Memory
+other_of e r (inl ran_out) other = absurd (other ran_out.1)
+other_of e r (inr is) other = is.0
+
+-- what is judged was read
+pub asks_more : (Reads : Type 0) (none : Bool) (lines : List (List ℕ)) (r : Result (Unit {0}) Refusal) → AsksOf ⊥ none lines r → AsksOf Reads none lines r
+asks_more Reads none lines (Ok u) asks = tt
+asks_more Reads none lines (Err e) asks = λ memory. elim (asks memory) [ inl nothing ↦ absurd nothing | inr rest ↦ inr rest ]

@@ -1,14 +1,20 @@
 -- What the lines of several texts say, one text more at a time.
 use denote.Ref.{Bor}
-use Rattle.std.proofs.Common.{◌≡◌, ℕ, ◌+◌, ◌<◌, ◌≤◌, List, [], ◌++◌, get_or, length, take, drop, inl, inr, sym, ap, subst, ◌∙◌}
+use Rattle.std.proofs.Common.{◌≡◌, ℕ, ◌+◌, ◌<◌, ◌≤◌, List, [], ◌++◌, Result, Ok, Err, IfErr, get_or, length, take, drop, inl, inr, sym, ap, subst, ◌∙◌, arith}
 use Rattle.std.proofs.lemmas.Grind.{flat_map-append}
 use Rattle.std.proofs.lemmas.List.{flat_map_more, take-append-drop, take_all, take_more}
+use Rattle.std.proofs.lemmas.List.Folds.{length-flat_map-take}
 use Rattle.std.specs.List.{Any}
 use Rattle.ssh_key.specs.entries.Fields.{filled_lines}
 use Rattle.ssh_key.proofs.Verdicts.{first, later, either}
 use Rattle.host_keys.specs.Hosts.{lines_of}
 
 -- ---- one text more
+
+-- where this holds, it holds of each error
+pub of_error : {X E : Type 0} {Q : Type 0} (r : Result X E) → Q → IfErr r (λ e. Q)
+of_error (Ok x) q = tt
+of_error (Err e) q = q
 
 module _ (texts : List (Bor (List ℕ))) (i : ℕ) where
   pub all_lines : length texts ≤ i → lines_of (take i texts) ≡ lines_of texts
@@ -17,6 +23,9 @@ module _ (texts : List (Bor (List ℕ))) (i : ℕ) where
   module _ (d : Bor (List ℕ)) (l : i < length texts) where
     pub more_lines : lines_of (take (i + 1) texts) ≡ lines_of (take i texts) ++ filled_lines (get_or texts i d).now
     more_lines = ap lines_of (take_more texts i d l) ∙ sym (flat_map_more (λ (t : Bor (List ℕ)). filled_lines t.now) [] (take i texts) (get_or texts i d))
+
+    pub some_line : 0 < length (filled_lines (get_or texts i d).now) → 0 < length (lines_of texts)
+    some_line some = omega (arith, some, length-flat_map-take (λ (t : Bor (List ℕ)). filled_lines t.now) texts i d l)
 
     module _ (P : List ℕ → Type 0) where
       pub some_more : Any P (filled_lines (get_or texts i d).now) → Any P (lines_of texts)

@@ -74,5 +74,5 @@ module _ {E F : Type 0} (hmac : List ℕ → List ℕ → List ℕ) (host : List
       let one = one_said (λ (name : List ℕ). IsVerdictOfSigned hmac name c.signed.key c.signed.signature_key lines) host port (λ name. one_verdict hmac name lines c.signed.key c.signed.signature_key) in
       subst (OkExactly ((revoked ≡ false) × Said Trusted)) was (exactly Said revoked one asked says is said_of_both)
 
-  pub why_judged : (Bad : Error → Type 0) → IfErr r (IsWhy (IsSaidOfSigned hmac host port c.signed.key c.signed.signature_key lines) revoked Bad)
-  why_judged Bad = subst (λ (x : Result (Unit {0}) Refusal). IfErr x (IsWhy Said revoked Bad)) was (why Said revoked Bad asked says is said_of_both)
+  pub why_judged : (accepted : Bool) (Bad : Error → Type 0) → IfErr r (IsWhy (IsSaidOfSigned hmac host port c.signed.key c.signed.signature_key lines) revoked accepted Bad)
+  why_judged accepted Bad = subst (λ (x : Result (Unit {0}) Refusal). IfErr x (IsWhy Said revoked accepted Bad)) was (why Said revoked accepted Bad asked says is said_of_both)

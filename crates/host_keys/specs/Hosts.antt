@@ -2,9 +2,11 @@
 -- revoked (ssh(1), "VERIFYING HOST KEYS"; sshd(8), "SSH_KNOWN_HOSTS FILE FORMAT"; ssh_config(5),
 -- RevokedHostKeys; PROTOCOL.certkeys).
 use denote.Ref.{Bor}
+use Rattle.openssh_limits.specs.Keys.{is_let_in}
 use Rattle.openssh_limits.specs.Read.{AreReadPrincipals}
 use Rattle.std.specs.List.{flat_map}
-use Rattle.std.specs.Prelude.{◌≡◌, ◌≢◌, ◌⊎◌, ℕ, List, [], ◌∷◌, Bool, false, Some, option_map}
+use Rattle.std.specs.Prelude.{◌≡◌, ◌≢◌, ◌⊎◌, ℕ, List, [], ◌∷◌, Bool, false, IsTrue, Some, option_map}
+use Rattle.ssh_key.specs.cert.CertificateReaders.{SpellsCertificate}
 use Rattle.ssh_key.specs.cert.Validity.{refusal_error}
 use Rattle.ssh_key.specs.entries.Fields.{filled_lines}
 use Rattle.ssh_key.specs.entries.HostNames.{known_name, standard_port}
@@ -12,11 +14,12 @@ use Rattle.ssh_key.specs.entries.HostVerdicts.{HidesSome, IsAuthority, IsRevoked
 use Rattle.ssh_key.specs.known_hosts.Verdicts.{IsVerdict}
 use Rattle.ssh_key.specs.krl.Revocation.{Grant}
 use Rattle.ssh_key.specs.krl.Revocations.{is_certificate_revoked, is_key_revoked}
-use Rattle.ssh_key.specs.model.Certificates.{Certificate, Host}
+use Rattle.ssh_key.specs.model.Certificates.{Certificate, Host, normal_certificate}
 use Rattle.ssh_key.specs.model.Fingerprints.{Fingerprint, fingerprint}
 use Rattle.ssh_key.specs.model.Keys.{Key}
 use Rattle.ssh_key.specs.model.Lines.{IsWithout}
 use Rattle.ssh_key.specs.model.Names.{Sha256}
+use Rattle.ssh_key.specs.model.Parts.{flat}
 use Rattle.ssh_key.specs.model.Principals.{IsValidFor}
 use Rattle.ssh_key.specs.model.Refusals.{first_refusal_for}
 use Rattle.ssh_key.specs.model.Verification.{Question}
@@ -25,12 +28,27 @@ use Rattle.ssh_key.specs.types.Error.TheVariants.{CertificateFieldInvalid}
 use Rattle.ssh_key.specs.types.certificate.Field.TheVariants as field
 use Rattle.ssh_key.specs.types.known_hosts.Verdict.{Verdict}
 use Rattle.ssh_key.specs.types.known_hosts.Verdict.TheVariants.{Changed, Revoked, Trusted, Unknown, Unreadable}
+use Rattle.host_keys.specs.declared.login.HostLogin as code
 
 -- ---- the lines
 
 -- the lines of all the texts, in order, without empty lines and comments
 abbrev pub lines_of : List (Bor (List ℕ)) → List (List ℕ)
 lines_of texts = flat_map (λ text. filled_lines text.now) texts
+
+-- The host that a client connects to, and what is known of it: an HMAC-SHA1, the lines of
+-- known_hosts, the host's name and port, the time, and how many bits an RSA key has at least.
+pub record HostLogin : Type 0 where
+  pub hmac : List ℕ → List ℕ → List ℕ
+  pub lines : List (List ℕ)
+  pub host : List ℕ
+  pub port : ℕ
+  pub time : ℕ
+  pub least_rsa_bits : ℕ
+
+-- that of a call
+abbrev pub login_of : code.HostLogin → (List ℕ → List ℕ → List ℕ) → HostLogin
+login_of l hmac = record { hmac = hmac; lines = lines_of l.texts.now; host = l.host.now; port = l.port; time = l.unix_timestamp; least_rsa_bits = l.least_rsa_bits }
 
 -- ---- names
 
@@ -74,25 +92,40 @@ IsSaidOfSigned hmac host port key signer lines = IsSaid (λ name. IsVerdictOfSig
 abbrev pub signers : Certificate → List Fingerprint
 signers c = fingerprint Sha256 c.signed.signature_key ∷ []
 
+-- There are some principals, and ssh(1) reads them. (It takes none for nobody since 10.3.)
+pub record AreForHosts (names : List (List ℕ)) : Type 0 where
+  pub some : names ≢ []
+  pub read : AreReadPrincipals names
+
 -- For whoever trusts the key that signed, the certificate is good for the host at that time: it is
 -- for hosts, without critical options, valid for the host's name, and has texts that ssh(1) reads.
 pub record IsGoodFor (accepts : Question → Bool) (t : ℕ) (host : List ℕ) (c : Certificate) : Type 0 where
   pub for_hosts : c.signed.certificate_type ≡ Host
   pub no_options : c.signed.critical_options ≡ []
   pub key_id : IsWithout 0 c.signed.key_id
-  pub principals : AreReadPrincipals c.signed.valid_principals
+  pub principals : AreForHosts c.signed.valid_principals
   pub valid : IsValidFor accepts (signers c) t host c
 
--- The key is the host's.
-pub record IsTrustedKey (hmac : List ℕ → List ℕ → List ℕ) (revokes_key : List ℕ → Bool) (host : List ℕ) (port : ℕ) (key : Key) (lines : List (List ℕ)) : Type 0 where
-  pub listed : IsSaidOfKey hmac host port key lines Trusted
+-- The key is the host's, and ssh accepts it.
+pub record IsTrustedKey (login : HostLogin) (revokes_key : List ℕ → Bool) (key : Key) : Type 0 where
+  pub listed : IsSaidOfKey login.hmac login.host login.port key login.lines Trusted
   pub unrevoked : is_key_revoked revokes_key key ≡ false
+  pub accepted : IsTrue (is_let_in login.least_rsa_bits key)
 
--- The certificate is the host's: by an authority of the host, not revoked, and good for the host.
-pub record IsTrustedCertificate (hmac : List ℕ → List ℕ → List ℕ) (accepts : Question → Bool) (revokes : List ℕ → Grant → Bool) (t : ℕ) (host : List ℕ) (port : ℕ) (c : Certificate) (lines : List (List ℕ)) : Type 0 where
-  pub by_authority : IsSaidOfSigned hmac host port c.signed.key c.signed.signature_key lines Trusted
+-- The certificate is the host's: by an authority of the host, not revoked, of a key that ssh
+-- accepts, and good for the host.
+pub record IsTrustedCertificate (login : HostLogin) (accepts : Question → Bool) (revokes : List ℕ → Grant → Bool) (c : Certificate) : Type 0 where
+  pub by_authority : IsSaidOfSigned login.hmac login.host login.port c.signed.key c.signed.signature_key login.lines Trusted
   pub unrevoked : is_certificate_revoked revokes c ≡ false
-  pub good : IsGoodFor accepts t (plain_name host) c
+  pub accepted : IsTrue (is_let_in login.least_rsa_bits c.signed.key)
+  pub good : IsGoodFor accepts login.time (plain_name login.host) c
+
+-- The bytes are those of a certificate, in its normal form, that is the host's.
+pub record IsHostCertificate (login : HostLogin) (accepts : Question → Bool) (revokes : List ℕ → Grant → Bool) (blob : List ℕ) : Type 0 where
+  pub certificate : Certificate
+  pub spelled : SpellsCertificate certificate blob
+  pub normal : blob ≡ flat (normal_certificate certificate)
+  pub trusted : IsTrustedCertificate login accepts revokes certificate
 
 -- ---- what is wrong with a certificate first
 
@@ -100,5 +133,5 @@ pub data IsBadFor (accepts : Question → Bool) (t : ℕ) (host : List ℕ) (c :
   ForUsers : c.signed.certificate_type ≢ Host → IsBadFor accepts t host c (CertificateFieldInvalid field.CertType)
   SomeOption : c.signed.certificate_type ≡ Host → c.signed.critical_options ≢ [] → IsBadFor accepts t host c (CertificateFieldInvalid field.CriticalOptions)
   OtherKeyId : c.signed.certificate_type ≡ Host → c.signed.critical_options ≡ [] → (IsWithout 0 c.signed.key_id → ⊥) → IsBadFor accepts t host c (CertificateFieldInvalid field.KeyId)
-  OtherPrincipals : c.signed.certificate_type ≡ Host → c.signed.critical_options ≡ [] → IsWithout 0 c.signed.key_id → (AreReadPrincipals c.signed.valid_principals → ⊥) → IsBadFor accepts t host c (CertificateFieldInvalid field.ValidPrincipals)
-  NotValid : c.signed.certificate_type ≡ Host → c.signed.critical_options ≡ [] → IsWithout 0 c.signed.key_id → AreReadPrincipals c.signed.valid_principals → (e : Error) → option_map refusal_error (first_refusal_for accepts (signers c) t host c) ≡ Some e → IsBadFor accepts t host c e
+  OtherPrincipals : c.signed.certificate_type ≡ Host → c.signed.critical_options ≡ [] → IsWithout 0 c.signed.key_id → (AreForHosts c.signed.valid_principals → ⊥) → IsBadFor accepts t host c (CertificateFieldInvalid field.ValidPrincipals)
+  NotValid : c.signed.certificate_type ≡ Host → c.signed.critical_options ≡ [] → IsWithout 0 c.signed.key_id → AreForHosts c.signed.valid_principals → (e : Error) → option_map refusal_error (first_refusal_for accepts (signers c) t host c) ≡ Some e → IsBadFor accepts t host c e

@@ -1,42 +1,51 @@
 //! Whether a certificate is the host's.
 
-ghost use Rattle.std.specs.Prelude.{◌≢◌, IfErr};
+ghost use Rattle.std.specs.Prelude.{◌≡◌, ◌≢◌, ◌↔◌, IfErr, IsTrue, map, string_bytes};
 ghost use Rattle.ssh_key.specs.base.Acceptance.{AcceptsExactly};
+ghost use Rattle.ssh_key.specs.cert.CertificateFormats.{certificate_format};
+ghost use Rattle.ssh_key.specs.cert.CertificateReaders.{SpellsCertificate};
 ghost use Rattle.ssh_key.specs.cert.CertificateValues.{certificate_of};
-ghost use Rattle.ssh_key.specs.model.Certificates.{IsCertificate};
+ghost use Rattle.ssh_key.specs.model.Certificates.{IsCertificate, normal_certificate};
 ghost use Rattle.ssh_key.specs.model.Keys.{normal_key};
-ghost use Rattle.ssh_key.specs.model.Parts.{BoxesFit};
+ghost use Rattle.ssh_key.specs.model.Parts.{BoxesFit, flat};
 ghost use Rattle.ssh_key.specs.types.Error.TheVariants.{Memory};
-ghost use Rattle.host_keys.specs.Answers.{IsWhyNoCertificate, OkExactly};
-ghost use Rattle.host_keys.specs.Hosts.{IsBadFor, IsGoodFor, IsTrustedCertificate, lines_of, plain_name};
+ghost use Rattle.host_keys.specs.Answers.{AsksOf, IsWhyNoCertificate, OkExactly, RefusesHostCertificate};
+ghost use Rattle.host_keys.specs.Hosts.{AreForHosts, IsBadFor, IsGoodFor, IsHostCertificate, IsTrustedCertificate, lines_of, login_of, plain_name};
+ghost use Rattle.host_keys.specs.declared.refusal.Refusal.TheVariants as refusal;
 
+use crate::login::HostLogin;
 use crate::refusal::{Refusal, answer};
 use crate::verdict::signed_verdict;
-use openssh_limits::{are_read_principals, is_read_text};
+use openssh_limits::{are_read_principals, is_let_in, is_read_text};
 use ssh_key::certificate::Field;
+use ssh_key::encoding::Encode;
 use ssh_key::known_hosts::HmacSha1;
-use ssh_key::laws::key_fits;
+use ssh_key::laws::{certificate_fits, key_fits, one_certificate, shortest_certificate};
 use ssh_key::revocation::Revocations;
 use ssh_key::{Certificate, Error, HashAlg, RawVerifier};
 use std::alloc::Global;
 
-/// Accepts the certificate that a host shows if all of these hold:
+/// Accepts the certificate that a host shows, in its bytes, if all of these hold:
+/// - they are its normal form, and so those that were signed;
 /// - a line `@cert-authority` of the texts of known_hosts, as OpenSSH reads them, has the key that
 ///   signed it for the host at that port, and no line for it revokes one of the two keys;
 /// - `revocations`, such as the list of `RevokedHostKeys` (ssh_config(5)), does not revoke it;
+/// - ssh(1) accepts the kind and the size of its key (`openssh_limits::is_let_in`);
 /// - it is one for hosts, without critical options, with texts that ssh(1) reads: at most 256
 ///   principals, and no zero byte in one or in the key id;
-/// - it is valid at that time for the host's name in small letters, for which ssh asks it too.
+/// - it lists a principal, and is valid at that time for the host's name in small letters, for which
+///   ssh asks it too.
 ///
-/// So one that lists the name with capitals alone is not the host's, and one that lists nobody is
-/// for each host of its authority (PROTOCOL.certkeys).
-///
-/// The texts are those of all the files that count, as for `check_key`, and are given at once.
+/// So one that lists the name with capitals alone is not the host's. One that lists nobody is no
+/// host's, as ssh(1) has it since 10.3; before, it was each host's of its authority.
 ///
 /// Unless memory runs out, it fails with the first of these that fits:
+/// - `Certificate` with an error of `Certificate::from_bytes`;
+/// - `NotNormalForm`;
 /// - `Revoked`: `revocations` revokes the certificate, or a line one of the keys;
 /// - `Unreadable`: a line that can't be read could be one for the host;
 /// - `Unknown`: the key that signed is no authority of the host;
+/// - `UnacceptedKey`;
 /// - `Certificate`: `CertificateFieldInvalid` with `CertType`, `CriticalOptions`, `KeyId` or
 ///   `ValidPrincipals`, or a refusal of `Certificate::validate_principal_at`.
 ///
@@ -45,33 +54,78 @@ use std::alloc::Global;
 /// If it would refuse a host at another port than 22 with `Unknown`, it asks, as ssh(1) does, all
 /// the texts about the host's plain name. Whether the certified key is one that the host is known
 /// by is `check_key`'s question, and not asked here.
+///
+/// `Memory` means what it means for `Certificate::from_bytes`, or that a text has a line or
+/// `revocations` had to be asked (`Revocations::revokes_none`).
 pub fn check_certificate<H: HmacSha1, R: Revocations, V: RawVerifier>(
     alloc: Global,
-    texts: &[&str],
-    host: &str,
-    port: u16,
+    login: &HostLogin,
+    certificate: &[u8],
+    hmac: &H,
+    revocations: &R,
+    verifier: &V,
+) -> Result<(), Refusal>
+    ensures exactly { OkExactly (IsHostCertificate (login_of login.now (H.hmac hmac.now))
+        (V.accepts verifier.now) (R.revokes revocations.now) certificate.now) result }
+    ensures refused { IfErr result (λ r. r ≢ refusal.Memory → RefusesHostCertificate
+        (login_of login.now (H.hmac hmac.now)) (V.accepts verifier.now) (R.revokes revocations.now)
+        certificate.now r) }
+    ensures asks { AsksOf (certificate_format.needs certificate.now 0)
+        (R.revokes_none revocations.now) (lines_of login.now.texts.now) result }
+{
+    one_certificate();
+    let read = match Certificate::from_bytes(alloc, certificate) {
+        Ok(read) => read,
+        Err(error) => return Err(Refusal::of_certificate(error)),
+    };
+    if !is_normal_form(&read, certificate) {
+        return Err(Refusal::NotNormalForm);
+    }
+    judge(alloc, login, &read, hmac, revocations, verifier)
+}
+
+/// Whether the bytes, which spell the certificate, are its normal form. Every other spelling is
+/// longer, so that no byte has to be compared. Does not allocate.
+fn is_normal_form(certificate: &Certificate, blob: &[u8]) -> bool
+    requires { SpellsCertificate (certificate_of certificate.now) blob.now }
+    ensures { IsTrue result
+        ↔ (blob.now ≡ flat (normal_certificate (certificate_of certificate.now))) }
+{
+    certificate_fits();
+    shortest_certificate();
+    match certificate.encoded_len() {
+        Ok(len) => len == blob.len(),
+        Err(_) => false,
+    }
+}
+
+/// Accepts the certificate if it is the host's.
+fn judge<H: HmacSha1, R: Revocations, V: RawVerifier>(
+    alloc: Global,
+    login: &HostLogin,
     certificate: &Certificate,
-    unix_timestamp: u64,
     hmac: &H,
     revocations: &R,
     verifier: &V,
 ) -> Result<(), Refusal>
     requires { IsCertificate (certificate_of certificate.now) }
-    ensures exactly { OkExactly (IsTrustedCertificate (H.hmac hmac.now)
-        (V.accepts verifier.now) (R.revokes revocations.now) unix_timestamp host.now port
-        (certificate_of certificate.now) (lines_of texts.now)) result }
-    ensures refused { IfErr result (IsWhyNoCertificate (H.hmac hmac.now)
-        (V.accepts verifier.now) (R.revokes revocations.now) unix_timestamp host.now port
-        (certificate_of certificate.now) (lines_of texts.now)) }
+    ensures exactly { OkExactly (IsTrustedCertificate (login_of login.now (H.hmac hmac.now))
+        (V.accepts verifier.now) (R.revokes revocations.now) (certificate_of certificate.now))
+        result }
+    ensures refused { IfErr result (IsWhyNoCertificate (login_of login.now (H.hmac hmac.now))
+        (V.accepts verifier.now) (R.revokes revocations.now) (certificate_of certificate.now)) }
+    ensures asks { AsksOf ⊥ (R.revokes_none revocations.now) (lines_of login.now.texts.now)
+        result }
 {
     key_fits();
     let (key, signer) = (certificate.public_key(), certificate.signature_key());
     let revoked = revocations.is_certificate_revoked(alloc, certificate);
-    answer(
-        revoked,
-        signed_verdict(alloc, texts, host, port, key, signer, hmac),
-    )?;
-    match validate(alloc, certificate, host, unix_timestamp, verifier) {
+    let said = signed_verdict(alloc, login.texts, login.host, login.port, key, signer, hmac);
+    answer(revoked, said)?;
+    if !is_let_in(key, login.least_rsa_bits) {
+        return Err(Refusal::UnacceptedKey);
+    }
+    match validate(alloc, certificate, login.host, login.unix_timestamp, verifier) {
         Ok(()) => Ok(()),
         Err(error) => Err(Refusal::of_certificate(error)),
     }
@@ -100,7 +154,7 @@ fn validate<V: RawVerifier>(
     if !is_read_text(certificate.key_id()) {
         return Err(Error::CertificateFieldInvalid(Field::KeyId));
     }
-    if !are_read_principals(certificate.valid_principals()) {
+    if !are_for_hosts(certificate.valid_principals()) {
         return Err(Error::CertificateFieldInvalid(Field::ValidPrincipals));
     }
     let signer = certificate
@@ -108,4 +162,11 @@ fn validate<V: RawVerifier>(
         .fingerprint(alloc, HashAlg::Sha256)?;
     let name = host.to_ascii_lowercase(alloc)?;
     certificate.validate_principal_at(alloc, unix_timestamp, name.as_str(), &[signer], verifier)
+}
+
+/// Whether there are principals, and ssh(1) reads them.
+fn are_for_hosts(names: &[String]) -> bool
+    ensures { IsTrue result ↔ AreForHosts (map string_bytes names.now) }
+{
+    !names.is_empty() && are_read_principals(names)
 }

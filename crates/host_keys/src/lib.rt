@@ -5,10 +5,12 @@
 
 mod certificate;
 mod key;
+mod login;
 mod refusal;
 mod texts;
 mod verdict;
 
 pub use certificate::check_certificate;
 pub use key::check_key;
+pub use login::HostLogin;
 pub use refusal::Refusal;

@@ -20,8 +20,13 @@ pub enum Refusal {
     Changed,
     /// Nothing is known of the host, or the key that signed the certificate is no authority of it.
     Unknown,
-    /// The certificate is by an authority of the host, but not good for it now.
+    /// ssh(1) accepts no such key, by its kind or its size (`openssh_limits::is_let_in`).
+    UnacceptedKey,
+    /// The bytes spell no certificate; or it is by an authority of the host, but not good for it
+    /// now.
     Certificate(Error),
+    /// The bytes are not the certificate's normal form, and so not those that were signed.
+    NotNormalForm,
     /// Memory ran out.
     Memory,
 }

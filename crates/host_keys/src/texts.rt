@@ -1,7 +1,7 @@
 //! What the lines of several texts of known_hosts say, as if they stood in one.
 
 ghost use Rattle.std.specs.List.{Any};
-ghost use Rattle.std.specs.Prelude.{◌≡◌, ◌↔◌, IfErr, IfOk, IsTrue};
+ghost use Rattle.std.specs.Prelude.{◌≡◌, ◌↔◌, ◌<◌, length, IfErr, IfOk, IsTrue};
 ghost use Rattle.ssh_key.specs.entries.HostNames.{known_name};
 ghost use Rattle.ssh_key.specs.entries.HostVerdicts.{IsAuthority};
 ghost use Rattle.ssh_key.specs.keys.Keys.{key_of};
@@ -29,6 +29,7 @@ pub(crate) fn judge_all<H: HmacSha1>(
     ensures answer { IfOk result (IsVerdict (H.hmac hmac.now) (known_name host.now port)
         (key_of key.now) (lines_of texts.now)) }
     ensures memory { IfErr result (λ e. e ≡ Memory) }
+    ensures asks { IfErr result (λ _. 0 < length (lines_of texts.now)) }
 {
     let mut found = Verdict::Unknown;
     for text in texts {
@@ -51,6 +52,7 @@ pub(crate) fn has_authority<H: HmacSha1>(
     ensures answer { IfOk result (λ yes. IsTrue yes ↔ IsAuthority (H.hmac hmac.now)
         (known_name host.now port) (key_of key.now) (lines_of texts.now)) }
     ensures memory { IfErr result (λ e. e ≡ Memory) }
+    ensures asks { IfErr result (λ _. 0 < length (lines_of texts.now)) }
 {
     for text in texts {
         let keys = authorities(alloc, text, host, port, hmac)?;

@@ -1,6 +1,6 @@
 //! What known_hosts says of what a host shows.
 
-ghost use Rattle.std.specs.Prelude.{◌≡◌, ◌↔◌, IfErr, IfOk, IsTrue};
+ghost use Rattle.std.specs.Prelude.{◌≡◌, ◌↔◌, ◌<◌, length, IfErr, IfOk, IsTrue};
 ghost use Rattle.ssh_key.specs.entries.HostNames.{known_name};
 ghost use Rattle.ssh_key.specs.keys.Keys.{key_of};
 ghost use Rattle.ssh_key.specs.model.Keys.{IsKey};
@@ -29,6 +29,7 @@ pub(crate) fn key_verdict<H: HmacSha1>(
     ensures answer { IfOk result (IsSaidOfKey (H.hmac hmac.now) host.now port (key_of key.now)
         (lines_of texts.now)) }
     ensures memory { IfErr result (λ e. e ≡ Memory) }
+    ensures asks { IfErr result (λ _. 0 < length (lines_of texts.now)) }
 {
     let verdict = judge_all(alloc, texts, host, port, key, hmac)?;
     if is_settled(verdict, port) {
@@ -52,6 +53,7 @@ pub(crate) fn signed_verdict<H: HmacSha1>(
     ensures answer { IfOk result (IsSaidOfSigned (H.hmac hmac.now) host.now port
         (key_of key.now) (key_of signer.now) (lines_of texts.now)) }
     ensures memory { IfErr result (λ e. e ≡ Memory) }
+    ensures asks { IfErr result (λ _. 0 < length (lines_of texts.now)) }
 {
     let verdict = judge_signed(alloc, texts, host, port, key, signer, hmac)?;
     if is_settled(verdict, port) {
@@ -81,6 +83,7 @@ fn judge_signed<H: HmacSha1>(
     ensures answer { IfOk result (IsVerdictOfSigned (H.hmac hmac.now) (known_name host.now port)
         (key_of key.now) (key_of signer.now) (lines_of texts.now)) }
     ensures memory { IfErr result (λ e. e ≡ Memory) }
+    ensures asks { IfErr result (λ _. 0 < length (lines_of texts.now)) }
 {
     let of_key = judge_all(alloc, texts, host, port, key, hmac)?;
     let of_signer = judge_all(alloc, texts, host, port, signer, hmac)?;

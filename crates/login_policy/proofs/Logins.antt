@@ -3,19 +3,19 @@ use Rattle.std.proofs.Common.{◌≡◌, ◌≢◌, ◌⊎◌, ◌==◌, ℕ, Li
 use Rattle.std.proofs.lemmas.Bool.Decides.{nat_tests}
 use Rattle.std.specs.List.{list_any}
 use Rattle.std.specs.Prelude.{Contains, String, string_bytes}
+use Rattle.ssh_key.specs.OpenLaws.{IsOfOneValue}
 use Rattle.ssh_key.specs.base.Causes.{NoMemory, cause}
 use Rattle.ssh_key.specs.cert.CertificateFormats.{certificate_format}
 use Rattle.ssh_key.specs.cert.CertificateReaders.{SpellsCertificate}
 use Rattle.ssh_key.specs.cert.Validity.{fingerprints_of, refusal_error}
 use Rattle.ssh_key.specs.fingerprints.Fingerprints.{digest_of}
 use Rattle.ssh_key.specs.keys.Fingerprints.{GivesFingerprint, IsFingerprint, IsShort}
-use Rattle.ssh_key.specs.krl.Revocation as krl
 use Rattle.ssh_key.specs.krl.Revocations.{is_certificate_revoked}
 use Rattle.ssh_key.specs.model.Certificates.{Certificate, HasCertificatePlaces, IsCertificate, certificate, normal_certificate}
 use Rattle.ssh_key.specs.model.Fingerprints.{Fingerprint, digest, same_fingerprint}
 use Rattle.ssh_key.specs.model.Keys.{Key, normal_key}
 use Rattle.ssh_key.specs.model.Laws.{NormalFits}
-use Rattle.ssh_key.specs.model.Lines.{name_of_certificate, IsCertificateLine, IsNoLine, LinesDetermineValues}
+use Rattle.ssh_key.specs.model.Lines.{name_of_certificate, IsCertificateLine, IsNoLine}
 use Rattle.ssh_key.specs.model.Names.{Sha256}
 use Rattle.ssh_key.specs.model.Parts.{BoxesFit, flat}
 use Rattle.ssh_key.specs.model.Principals.{Allows, IsValidFor}
@@ -25,10 +25,12 @@ use Rattle.ssh_key.specs.public.LineNeeds.{HasComment, NeedsValue}
 use Rattle.ssh_key.specs.types.Error.{Error}
 use Rattle.ssh_key.specs.types.Error.TheVariants as error
 use Rattle.ssh_key.specs.types.Fingerprint as code
+use Rattle.ssh_key.proofs.CombinedReaders.{bytes_fit}
+use Rattle.ssh_key.proofs.LineCuts.{certificate_blobs, line_cut, one_blob, one_cut}
 use Rattle.ssh_key.proofs.Validation.{fingerprint_memory, signer_fits}
-use Rattle.login_policy.specs.Logins.{GrantsExactly, HasRightFields, IsGrantOf, IsLogin, LetsIn}
+use Rattle.login_policy.specs.Logins.{GrantsExactly, HasRightFields, IsGrantOf, IsLogin, LetsIn, Login}
 use Rattle.login_policy.specs.Principals.{AreForUser}
-use Rattle.login_policy.specs.Refusals.{ForHosts, HasWrongField, IsRefusalFor, IsRevoked, IsUntrusted, NeedsMemory, NotValid, OtherAuthority, OtherExtension, OtherKey, OtherKeyId, OtherPrincipals, RefusesCertificate, UnknownOption}
+use Rattle.login_policy.specs.Refusals.{ForHosts, HasWrongField, IsRefusalFor, IsRevoked, IsUntrusted, NeedsMemory, NotValid, OtherAuthority, OtherExtension, OtherKey, OtherKeyId, OtherPrincipals, RefusesSpelling, Unaccepted, UnknownOption}
 use Rattle.login_policy.specs.declared.grant.Grant.{Grant}
 use Rattle.login_policy.specs.declared.refusal.Refusal.{Refusal}
 use Rattle.login_policy.specs.declared.refusal.Refusal.TheVariants.{Certificate as of_certificate, Memory}
@@ -74,14 +76,14 @@ pub long_key : (c : Certificate) (k : Key) (e : Error) → k ≡ c.signed.signat
 long_key c k e key fits gives long = (fingerprint_memory Sha256 k (Err e) (subst (λ (j : Key). BoxesFit (normal_key j)) (sym key) fits) gives, subst (λ (j : Key). IsShort j → ⊥) key long)
 
 module _ (law : RefuseTheUnwanted) (accepts : Question → Bool) (authorities : List Fingerprint) (t : ℕ) (user : List ℕ) (c : Certificate) where
-  by_another : has_trusted_authority authorities c ≡ false → option_map refusal_error (first_refusal_for accepts authorities t user c) ≡ Some error.CertificateValidation
+  pub by_another : has_trusted_authority authorities c ≡ false → option_map refusal_error (first_refusal_for accepts authorities t user c) ≡ Some error.CertificateValidation
   by_another other = by_test (is_signed accepts c) refl
     where
       by_test : (signed : Bool) → is_signed accepts c ≡ signed → option_map refusal_error (first_refusal_for accepts authorities t user c) ≡ Some error.CertificateValidation
       by_test true is = rw (is, other) refl
       by_test false is = rw is refl
 
-  invalid : (e : Error) → option_map refusal_error (first_refusal_for accepts authorities t user c) ≡ Some e → IsValidFor accepts authorities t user c → ⊥
+  pub invalid : (e : Error) → option_map refusal_error (first_refusal_for accepts authorities t user c) ≡ Some e → IsValidFor accepts authorities t user c → ⊥
   invalid e refused valid =
       let none : first_refusal_for accepts authorities t user c ≡ None = (law accepts authorities t user c).1 valid in
       let some = rw none at refused in
@@ -94,47 +96,58 @@ module _ (law : RefuseTheUnwanted) (accepts : Question → Bool) (authorities : 
       by_test true is = is
       by_test false is = absurd (invalid error.CertificateValidation (by_another is) valid)
 
-  -- ---- what is refused lets nobody in
+-- ---- what is refused lets nobody in
 
-  untrusted : (revokes : List ℕ → krl.Grant → Bool) (offered : Key) (r : Refusal) → IsUntrusted accepts revokes authorities t user c r → LetsIn accepts revokes authorities t user offered c → ⊥
-  untrusted revokes offered r (OtherAuthority other) lets = invalid error.CertificateValidation (by_another other) (record { valid = lets.valid; allowed = inr lets.listed })
-  untrusted revokes offered r (IsRevoked by revoked) lets = let unrevoked = lets.unrevoked in cc
-  untrusted revokes offered r (NotValid by unrevoked e refused) lets = invalid e refused (record { valid = lets.valid; allowed = inr lets.listed })
+untrusted : RefuseTheUnwanted → (login : Login) (c : Certificate) (r : Refusal) → IsUntrusted login c r → LetsIn login c → ⊥
+untrusted law login c r (OtherAuthority other) lets = invalid law login.accepts login.authorities login.time login.user c error.CertificateValidation (by_another law login.accepts login.authorities login.time login.user c other) (record { valid = lets.valid; allowed = inr lets.listed })
+untrusted law login c r (IsRevoked by revoked) lets = let unrevoked = lets.unrevoked in cc
+untrusted law login c r (NotValid by unrevoked e refused) lets = invalid law login.accepts login.authorities login.time login.user c e refused (record { valid = lets.valid; allowed = inr lets.listed })
 
-wrong_field : (user : List ℕ) (offered : Key) (c : Certificate) (r : Refusal) → HasWrongField user offered c r → HasRightFields user offered c → ⊥
-wrong_field user offered c r (ForHosts other) right = other right.for_users
-wrong_field user offered c r (OtherKey users other) right = other right.own_key
-wrong_field user offered c r (UnknownOption users own other) right = other right.known
-wrong_field user offered c r (OtherExtension users own known other) right = other right.plain
-wrong_field user offered c r (OtherKeyId users own known plain other) right = other right.key_id
-wrong_field user offered c r (OtherPrincipals users own known plain id other) right = other right.principals
+wrong_field : (user : List ℕ) (offered : Key) (least : ℕ) (c : Certificate) (r : Refusal) → HasWrongField user offered least c r → HasRightFields user offered least c → ⊥
+wrong_field user offered least c r (ForHosts other) right = other right.for_users
+wrong_field user offered least c r (OtherKey users other) right = other right.own_key
+wrong_field user offered least c r (Unaccepted users own other) right = let accepted = right.accepted in cc
+wrong_field user offered least c r (UnknownOption users own accepted other) right = other right.known
+wrong_field user offered least c r (OtherExtension users own accepted known other) right = other right.plain
+wrong_field user offered least c r (OtherKeyId users own accepted known plain other) right = other right.key_id
+wrong_field user offered least c r (OtherPrincipals users own accepted known plain id other) right = other right.principals
 
-pub field_not_memory : (user : List ℕ) (offered : Key) (c : Certificate) (r : Refusal) → HasWrongField user offered c r → r ≢ Memory
-field_not_memory user offered c r (ForHosts other) = λ memory. cc
-field_not_memory user offered c r (OtherKey users other) = λ memory. cc
-field_not_memory user offered c r (UnknownOption users own other) = λ memory. cc
-field_not_memory user offered c r (OtherExtension users own known other) = λ memory. cc
-field_not_memory user offered c r (OtherKeyId users own known plain other) = λ memory. cc
-field_not_memory user offered c r (OtherPrincipals users own known plain id other) = λ memory. cc
+pub field_not_memory : (user : List ℕ) (offered : Key) (least : ℕ) (c : Certificate) (r : Refusal) → HasWrongField user offered least c r → r ≢ Memory
+field_not_memory user offered least c r (ForHosts other) = λ memory. cc
+field_not_memory user offered least c r (OtherKey users other) = λ memory. cc
+field_not_memory user offered least c r (Unaccepted users own other) = λ memory. cc
+field_not_memory user offered least c r (UnknownOption users own accepted other) = λ memory. cc
+field_not_memory user offered least c r (OtherExtension users own accepted known other) = λ memory. cc
+field_not_memory user offered least c r (OtherKeyId users own accepted known plain other) = λ memory. cc
+field_not_memory user offered least c r (OtherPrincipals users own accepted known plain id other) = λ memory. cc
 
--- the line is of one certificate only, which decides
-pub refused : RefuseTheUnwanted → LinesDetermineValues name_of_certificate SpellsCertificate → (accepts : Question → Bool) (revokes : List ℕ → krl.Grant → Bool) (authorities : List Fingerprint) (t : ℕ) (user text comment : List ℕ) (offered : Key) (c : Certificate) (r : Refusal) → IsCertificateLine text c comment → RefusesCertificate accepts revokes authorities t user offered c r → IsLogin accepts revokes authorities t user offered text → ⊥
-unfolding LinesDetermineValues
-refused law one accepts revokes authorities t user text comment offered c r line why login =
-    let lets = subst (λ (d : Certificate). LetsIn accepts revokes authorities t user offered d) (one text login.comment comment login.certificate c login.line line).0 login.lets_in in
+-- the line is of one certificate only, and its word of one blob
+one_spelling : IsOfOneValue name_of_certificate SpellsCertificate → (text m n : List ℕ) (c d : Certificate) (a : IsCertificateLine text c m) (b : IsCertificateLine text d n) → (c ≡ d) × (a.blob ≡ b.blob)
+one_spelling one text m n c d a b =
+    let words = one_cut text _ _ _ _ _ _ (line_cut text _ _ _ a.line) (line_cut text _ _ _ b.line) in
+    ((one text m n c d a b).0, one_blob a.blob b.blob (bytes_fit a.blob (certificate_blobs.bytes c a.blob a.spelled)) (bytes_fit b.blob (certificate_blobs.bytes d b.blob b.spelled)) words.1)
+
+-- which decides
+pub refused : RefuseTheUnwanted → IsOfOneValue name_of_certificate SpellsCertificate → (login : Login) (comment : List ℕ) (c : Certificate) (r : Refusal) (line : IsCertificateLine login.line c comment) → RefusesSpelling login c line.blob r → IsLogin login → ⊥
+refused law one login comment c r line why is =
+    let same = one_spelling one login.line comment is.comment c is.certificate line is.line in
+    let lets = subst (LetsIn login) (sym same.0) is.lets_in in
     elim why [
-      | inl wrong ↦ wrong_field user offered c r wrong lets.fields
-      | inr rest ↦ untrusted law accepts authorities t user c revokes offered r rest.1 lets
+      | inl other ↦ other.0 (same.1 ∙ is.normal ∙ ap (λ (d : Certificate). flat (normal_certificate d)) (sym same.0))
+      | inr rest ↦ elim rest.1 [
+        | inl wrong ↦ wrong_field login.user login.offered login.least_rsa_bits c r wrong lets.fields
+        | inr other ↦ untrusted law login c r other.1 lets
+      ]
     ]
 
 -- a line of no certificate lets nobody in
-pub no_login : (accepts : Question → Bool) (revokes : List ℕ → krl.Grant → Bool) (authorities : List Fingerprint) (t : ℕ) (user text : List ℕ) (offered : Key) → IsNoLine name_of_certificate SpellsCertificate text → IsLogin accepts revokes authorities t user offered text → ⊥
-no_login accepts revokes authorities t user text offered none login = none login.certificate login.comment login.line
+pub no_login : (login : Login) → IsNoLine name_of_certificate SpellsCertificate login.line → IsLogin login → ⊥
+no_login login none is = none is.certificate is.comment is.line
 
 -- ---- what is granted
 
-pub granted : (accepts : Question → Bool) (revokes : List ℕ → krl.Grant → Bool) (authorities : List Fingerprint) (t : ℕ) (user text comment : List ℕ) (offered : Key) (c : Certificate) (g : Grant) → IsCertificateLine text c comment → HasRightFields user offered c → is_certificate_revoked revokes c ≡ false → IsValidFor accepts authorities t user c → IsGrantOf c g → GrantsExactly accepts revokes authorities t user offered text (Ok g)
-granted accepts revokes authorities t user text comment offered c g line right unrevoked valid is = (record { certificate = c; comment = comment; line = line; lets_in = record { fields = right; listed = listed c user right.principals valid.allowed; unrevoked = unrevoked; valid = valid.valid } }, is)
+pub granted : (login : Login) (comment : List ℕ) (c : Certificate) (g : Grant) (line : IsCertificateLine login.line c comment) → line.blob ≡ flat (normal_certificate c) → HasRightFields login.user login.offered login.least_rsa_bits c → is_certificate_revoked login.revokes c ≡ false → IsValidFor login.accepts login.authorities login.time login.user c → IsGrantOf c g → GrantsExactly login (Ok g)
+granted login comment c g line normal right unrevoked valid is = (record { certificate = c; comment = comment; line = line; normal = normal; lets_in = record { fields = right; listed = listed c login.user right.principals valid.allowed; unrevoked = unrevoked; valid = valid.valid } }, is)
 
 -- ---- where memory is asked for
 

@@ -1,36 +1,52 @@
 -- Who may log in with a certificate, and what the login is bound to (PROTOCOL.certkeys;
 -- sshd_config(5), TrustedUserCAKeys and RevokedKeys).
-use Rattle.std.specs.Prelude.{◌≡◌, ◌≢◌, ℕ, List, Bool, not, All, Contains, Result, Ok, Err, None, false, is_some, option_map, string_bytes}
+use Rattle.std.specs.Prelude.{◌≡◌, ◌≢◌, ℕ, List, Bool, not, All, Contains, IsTrue, Result, Ok, Err, None, false, is_some, option_map, string_bytes}
+use Rattle.ssh_key.specs.cert.Validity.{fingerprints_of}
 use Rattle.ssh_key.specs.keys.Fingerprints.{IsFingerprint}
+use Rattle.ssh_key.specs.keys.Keys.{key_of}
 use Rattle.ssh_key.specs.krl.Revocation as krl
 use Rattle.ssh_key.specs.krl.Revocations.{is_certificate_revoked}
-use Rattle.ssh_key.specs.model.Certificates.{Certificate, User}
+use Rattle.ssh_key.specs.model.Certificates.{Certificate, User, normal_certificate}
 use Rattle.ssh_key.specs.model.Fingerprints.{Fingerprint}
 use Rattle.ssh_key.specs.model.Keys.{Key}
 use Rattle.ssh_key.specs.model.Lines.{IsCertificateLine, IsWithout}
 use Rattle.ssh_key.specs.model.Names.{Sha256}
 use Rattle.ssh_key.specs.model.OptionMaps.{value_of}
+use Rattle.ssh_key.specs.model.Parts.{flat}
 use Rattle.ssh_key.specs.model.Validity.{IsValid}
 use Rattle.ssh_key.specs.model.Verification.{Question}
 use Rattle.ssh_key.specs.options.OptionMaps.{options_of}
-use Rattle.openssh_limits.specs.Read.{HasReadApplication}
+use Rattle.openssh_limits.specs.Keys.{is_let_in}
 use Rattle.login_policy.specs.KnownOptions.{IsKnownOption, IsPlainExtension}
 use Rattle.login_policy.specs.KnownOptions as options
 use Rattle.login_policy.specs.Principals.{AreForUser}
 use Rattle.login_policy.specs.declared.grant.Grant.{Grant}
+use Rattle.login_policy.specs.declared.login.Login as code
 use Rattle.login_policy.specs.declared.refusal.Refusal.{Refusal}
 use Rattle.login_policy.specs.declared.refusal.Refusal.TheVariants.{Memory}
 
--- The offered key is the certified one, and sshd reads its application.
-pub record IsOwn (offered : Key) (c : Certificate) : Type 0 where
-  pub same : c.signed.key ≡ offered
-  pub application : HasReadApplication offered
+-- A login that is asked for, and what decides it: whom the verifier accepts, what is revoked, and
+-- which authorities are trusted. An RSA key has to have so many bits.
+pub record Login : Type 0 where
+  pub accepts : Question → Bool
+  pub revokes : List ℕ → krl.Grant → Bool
+  pub authorities : List Fingerprint
+  pub time : ℕ
+  pub user : List ℕ
+  pub offered : Key
+  pub line : List ℕ
+  pub least_rsa_bits : ℕ
 
--- The fields are those of a certificate for users, of the offered key, with only critical options
--- that are known, nothing in a flag, and texts and principals that sshd reads.
-pub record HasRightFields (user : List ℕ) (offered : Key) (c : Certificate) : Type 0 where
+-- the login of a call, of its verifier and of who says what is revoked
+abbrev pub login_of : code.Login → (Question → Bool) → (List ℕ → krl.Grant → Bool) → Login
+login_of l accepts revokes = record { accepts = accepts; revokes = revokes; authorities = fingerprints_of l.authorities.now; time = l.unix_timestamp; user = l.user.now; offered = key_of l.offered.now; line = l.line.now; least_rsa_bits = l.least_rsa_bits }
+
+-- The fields are those of a certificate for users, of the offered key, which is let in, with only
+-- critical options that are known, nothing in a flag, and texts and principals that sshd reads.
+pub record HasRightFields (user : List ℕ) (offered : Key) (least_rsa_bits : ℕ) (c : Certificate) : Type 0 where
   pub for_users : c.signed.certificate_type ≡ User
-  pub own_key : IsOwn offered c
+  pub own_key : c.signed.key ≡ offered
+  pub accepted : IsTrue (is_let_in least_rsa_bits offered)
   pub known : All IsKnownOption c.signed.critical_options
   pub plain : All IsPlainExtension c.signed.extensions
   pub key_id : IsWithout 0 c.signed.key_id
@@ -38,11 +54,11 @@ pub record HasRightFields (user : List ℕ) (offered : Key) (c : Certificate) : 
 
 -- The certificate lets the user in who holds the offered key: it has the right fields, lists the
 -- user, is not revoked, and is valid at that time by one of the authorities.
-pub record LetsIn (accepts : Question → Bool) (revokes : List ℕ → krl.Grant → Bool) (authorities : List Fingerprint) (t : ℕ) (user : List ℕ) (offered : Key) (c : Certificate) : Type 0 where
-  pub fields : HasRightFields user offered c
-  pub listed : Contains c.signed.valid_principals user
-  pub unrevoked : is_certificate_revoked revokes c ≡ false
-  pub valid : IsValid accepts authorities t c
+pub record LetsIn (login : Login) (c : Certificate) : Type 0 where
+  pub fields : HasRightFields login.user login.offered login.least_rsa_bits c
+  pub listed : Contains c.signed.valid_principals login.user
+  pub unrevoked : is_certificate_revoked login.revokes c ≡ false
+  pub valid : IsValid login.accepts login.authorities login.time c
 
 -- The grant says what the certificate's options do, and which certificate it is.
 pub record IsGrantOf (c : Certificate) (g : Grant) : Type 0 where
@@ -61,14 +77,15 @@ pub record IsUnbound (g : Grant) : Type 0 where
   pub any_address : g.source_address ≡ None
   pub unverified : g.verify_required ≡ false
 
--- The text is the line of a certificate that lets the user in.
-pub record IsLogin (accepts : Question → Bool) (revokes : List ℕ → krl.Grant → Bool) (authorities : List Fingerprint) (t : ℕ) (user : List ℕ) (offered : Key) (text : List ℕ) : Type 0 where
+-- The line is that of a certificate, in its normal form, that lets the user in.
+pub record IsLogin (login : Login) : Type 0 where
   pub certificate : Certificate
   pub comment : List ℕ
-  pub line : IsCertificateLine text certificate comment
-  pub lets_in : LetsIn accepts revokes authorities t user offered certificate
+  pub line : IsCertificateLine login.line certificate comment
+  pub normal : line.blob ≡ flat (normal_certificate certificate)
+  pub lets_in : LetsIn login certificate
 
 -- Out of memory aside, Ok exactly if it is, and then with that certificate's grant.
-abbrev pub GrantsExactly : (Question → Bool) → (List ℕ → krl.Grant → Bool) → List Fingerprint → ℕ → List ℕ → Key → List ℕ → Result Grant Refusal → Type 0
-GrantsExactly accepts revokes authorities t user offered text (Ok g) = (login : IsLogin accepts revokes authorities t user offered text) × IsGrantOf login.certificate g
-GrantsExactly accepts revokes authorities t user offered text (Err r) = r ≢ Memory → IsLogin accepts revokes authorities t user offered text → ⊥
+abbrev pub GrantsExactly : Login → Result Grant Refusal → Type 0
+GrantsExactly login (Ok g) = (is : IsLogin login) × IsGrantOf is.certificate g
+GrantsExactly login (Err r) = r ≢ Memory → IsLogin login → ⊥

@@ -1,25 +1,25 @@
 -- Why a login is refused, and where memory is needed.
-use Rattle.std.specs.Prelude.{◌≡◌, ◌≢◌, ◌⊎◌, ℕ, List, Bool, All, Some, false, IsTrue, option_map}
+use Rattle.std.specs.Prelude.{◌≡◌, ◌≢◌, ◌⊎◌, ℕ, List, All, Some, false, IsTrue, option_map}
 use Rattle.ssh_key.specs.cert.CertificateFormats.{certificate_format}
 use Rattle.ssh_key.specs.cert.CertificateReaders.{SpellsCertificate}
 use Rattle.ssh_key.specs.cert.Validity.{refusal_error}
 use Rattle.ssh_key.specs.keys.Fingerprints.{IsShort}
-use Rattle.ssh_key.specs.krl.Revocation as krl
 use Rattle.ssh_key.specs.krl.Revocations.{is_certificate_revoked}
-use Rattle.ssh_key.specs.model.Certificates.{Certificate, User}
+use Rattle.ssh_key.specs.model.Certificates.{Certificate, User, normal_certificate}
 use Rattle.ssh_key.specs.model.Fingerprints.{Fingerprint}
 use Rattle.ssh_key.specs.model.Keys.{Key}
 use Rattle.ssh_key.specs.model.Lines.{IsCertificateLine, IsNoLine, IsWithout, name_of_certificate}
+use Rattle.ssh_key.specs.model.Parts.{flat}
 use Rattle.ssh_key.specs.model.Refusals.{first_refusal_for, has_trusted_authority}
-use Rattle.ssh_key.specs.model.Verification.{Question}
 use Rattle.ssh_key.specs.public.LineFaults.{HasFaultOfLine}
 use Rattle.ssh_key.specs.public.LineNeeds.{HasComment, NeedsValue}
 use Rattle.ssh_key.specs.types.Error.{Error}
 use Rattle.ssh_key.specs.types.Error.TheVariants as error
 use Rattle.ssh_key.specs.types.certificate.Field.{Field}
 use Rattle.ssh_key.specs.types.certificate.Field.TheVariants as field
+use Rattle.openssh_limits.specs.Keys.{is_let_in}
 use Rattle.login_policy.specs.KnownOptions.{IsKnownOption, IsPlainExtension}
-use Rattle.login_policy.specs.Logins.{HasRightFields, IsOwn}
+use Rattle.login_policy.specs.Logins.{HasRightFields, Login}
 use Rattle.login_policy.specs.Principals.{AreForUser}
 use Rattle.login_policy.specs.declared.refusal.Refusal.{Refusal}
 use Rattle.login_policy.specs.declared.refusal.Refusal.TheVariants as refusal
@@ -31,29 +31,34 @@ IsRefusalFor e r = ((e ≡ error.Memory) × (r ≡ refusal.Memory)) ⊎ ((e ≢ 
 abbrev pub invalid : Field → Refusal
 invalid f = refusal.Certificate (error.CertificateFieldInvalid f)
 
--- The refusal names the first field that is wrong.
-pub data HasWrongField (user : List ℕ) (offered : Key) (c : Certificate) : Refusal → Type 0 where
-  ForHosts : c.signed.certificate_type ≢ User → HasWrongField user offered c (invalid field.CertType)
-  OtherKey : c.signed.certificate_type ≡ User → ¬ IsOwn offered c → HasWrongField user offered c (invalid field.PublicKey)
-  UnknownOption : c.signed.certificate_type ≡ User → IsOwn offered c → ¬ All IsKnownOption c.signed.critical_options → HasWrongField user offered c (invalid field.CriticalOptions)
-  OtherExtension : c.signed.certificate_type ≡ User → IsOwn offered c → All IsKnownOption c.signed.critical_options → ¬ All IsPlainExtension c.signed.extensions → HasWrongField user offered c (invalid field.Extensions)
-  OtherKeyId : c.signed.certificate_type ≡ User → IsOwn offered c → All IsKnownOption c.signed.critical_options → All IsPlainExtension c.signed.extensions → ¬ IsWithout 0 c.signed.key_id → HasWrongField user offered c (invalid field.KeyId)
-  OtherPrincipals : c.signed.certificate_type ≡ User → IsOwn offered c → All IsKnownOption c.signed.critical_options → All IsPlainExtension c.signed.extensions → IsWithout 0 c.signed.key_id → ¬ AreForUser user c.signed.valid_principals → HasWrongField user offered c (invalid field.ValidPrincipals)
+-- The refusal names the first field that is wrong, or says that the key is not accepted.
+pub data HasWrongField (user : List ℕ) (offered : Key) (least_rsa_bits : ℕ) (c : Certificate) : Refusal → Type 0 where
+  ForHosts : c.signed.certificate_type ≢ User → HasWrongField user offered least_rsa_bits c (invalid field.CertType)
+  OtherKey : c.signed.certificate_type ≡ User → c.signed.key ≢ offered → HasWrongField user offered least_rsa_bits c (invalid field.PublicKey)
+  Unaccepted : c.signed.certificate_type ≡ User → c.signed.key ≡ offered → is_let_in least_rsa_bits offered ≡ false → HasWrongField user offered least_rsa_bits c refusal.UnacceptedKey
+  UnknownOption : c.signed.certificate_type ≡ User → c.signed.key ≡ offered → IsTrue (is_let_in least_rsa_bits offered) → ¬ All IsKnownOption c.signed.critical_options → HasWrongField user offered least_rsa_bits c (invalid field.CriticalOptions)
+  OtherExtension : c.signed.certificate_type ≡ User → c.signed.key ≡ offered → IsTrue (is_let_in least_rsa_bits offered) → All IsKnownOption c.signed.critical_options → ¬ All IsPlainExtension c.signed.extensions → HasWrongField user offered least_rsa_bits c (invalid field.Extensions)
+  OtherKeyId : c.signed.certificate_type ≡ User → c.signed.key ≡ offered → IsTrue (is_let_in least_rsa_bits offered) → All IsKnownOption c.signed.critical_options → All IsPlainExtension c.signed.extensions → ¬ IsWithout 0 c.signed.key_id → HasWrongField user offered least_rsa_bits c (invalid field.KeyId)
+  OtherPrincipals : c.signed.certificate_type ≡ User → c.signed.key ≡ offered → IsTrue (is_let_in least_rsa_bits offered) → All IsKnownOption c.signed.critical_options → All IsPlainExtension c.signed.extensions → IsWithout 0 c.signed.key_id → ¬ AreForUser user c.signed.valid_principals → HasWrongField user offered least_rsa_bits c (invalid field.ValidPrincipals)
 
 -- The refusal says what is wrong first once the fields are right: the authority, then revocation,
 -- and only then the signature, the time or the user's name.
-pub data IsUntrusted (accepts : Question → Bool) (revokes : List ℕ → krl.Grant → Bool) (authorities : List Fingerprint) (t : ℕ) (user : List ℕ) (c : Certificate) : Refusal → Type 0 where
-  OtherAuthority : has_trusted_authority authorities c ≡ false → IsUntrusted accepts revokes authorities t user c (refusal.Certificate error.CertificateValidation)
-  IsRevoked : IsTrue (has_trusted_authority authorities c) → IsTrue (is_certificate_revoked revokes c) → IsUntrusted accepts revokes authorities t user c refusal.Revoked
-  NotValid : IsTrue (has_trusted_authority authorities c) → is_certificate_revoked revokes c ≡ false → (e : Error) → option_map refusal_error (first_refusal_for accepts authorities t user c) ≡ Some e → IsUntrusted accepts revokes authorities t user c (refusal.Certificate e)
+pub data IsUntrusted (login : Login) (c : Certificate) : Refusal → Type 0 where
+  OtherAuthority : has_trusted_authority login.authorities c ≡ false → IsUntrusted login c (refusal.Certificate error.CertificateValidation)
+  IsRevoked : IsTrue (has_trusted_authority login.authorities c) → IsTrue (is_certificate_revoked login.revokes c) → IsUntrusted login c refusal.Revoked
+  NotValid : IsTrue (has_trusted_authority login.authorities c) → is_certificate_revoked login.revokes c ≡ false → (e : Error) → option_map refusal_error (first_refusal_for login.accepts login.authorities login.time login.user c) ≡ Some e → IsUntrusted login c (refusal.Certificate e)
 
--- The refusal says what is wrong with the certificate first.
-abbrev pub RefusesCertificate : (Question → Bool) → (List ℕ → krl.Grant → Bool) → List Fingerprint → ℕ → List ℕ → Key → Certificate → Refusal → Type 0
-RefusesCertificate accepts revokes authorities t user offered c r = HasWrongField user offered c r ⊎ (HasRightFields user offered c × IsUntrusted accepts revokes authorities t user c r)
+-- The refusal says what is wrong first with a certificate in its normal form.
+abbrev pub RefusesCertificate : Login → Certificate → Refusal → Type 0
+RefusesCertificate login c r = HasWrongField login.user login.offered login.least_rsa_bits c r ⊎ (HasRightFields login.user login.offered login.least_rsa_bits c × IsUntrusted login c r)
 
--- The text is the line of no certificate, and has that fault; or of one that is refused for that.
-abbrev pub RefusesCertificateLine : (Question → Bool) → (List ℕ → krl.Grant → Bool) → List Fingerprint → ℕ → List ℕ → Key → List ℕ → Refusal → Type 0
-RefusesCertificateLine accepts revokes authorities t user offered text r = (IsNoLine name_of_certificate SpellsCertificate text × ((e : Error) × HasFaultOfLine certificate_format name_of_certificate SpellsCertificate text e × IsRefusalFor e r)) ⊎ ((c : Certificate) × (comment : List ℕ) × IsCertificateLine text c comment × RefusesCertificate accepts revokes authorities t user offered c r)
+-- The bytes spell the certificate: they are not its normal form; or they are, and it is refused.
+abbrev pub RefusesSpelling : Login → Certificate → List ℕ → Refusal → Type 0
+RefusesSpelling login c blob r = ((blob ≢ flat (normal_certificate c)) × (r ≡ refusal.NotNormalForm)) ⊎ ((blob ≡ flat (normal_certificate c)) × RefusesCertificate login c r)
+
+-- The line is of no certificate, and has that fault; or of one that is refused for that.
+abbrev pub RefusesCertificateLine : Login → Refusal → Type 0
+RefusesCertificateLine login r = (IsNoLine name_of_certificate SpellsCertificate login.line × ((e : Error) × HasFaultOfLine certificate_format name_of_certificate SpellsCertificate login.line e × IsRefusalFor e r)) ⊎ ((c : Certificate) × (comment : List ℕ) × (is : IsCertificateLine login.line c comment) × RefusesSpelling login c is.blob r)
 
 -- ---- where memory is needed
 

@@ -9,9 +9,11 @@ ghost use Rattle.ssh_key.specs.model.Keys.{normal_key};
 ghost use Rattle.ssh_key.specs.model.Names.{Sha256};
 ghost use Rattle.ssh_key.specs.model.Parts.{BoxesFit};
 ghost use Rattle.ssh_key.specs.model.Principals.{IsValidFor};
+ghost use Rattle.login_policy.specs.Logins.{login_of};
 ghost use Rattle.login_policy.specs.Refusals.{IsUntrusted, NeedsJudging};
 ghost use Rattle.login_policy.specs.declared.refusal.Refusal.TheVariants.{Memory};
 
+use crate::login::Login;
 use crate::refusal::Refusal;
 use ssh_key::certificate::contains_digest;
 use ssh_key::revocation::Revocations;
@@ -25,30 +27,28 @@ use std::alloc::Global;
 pub(crate) fn validate<R: Revocations, V: RawVerifier>(
     alloc: Global,
     certificate: &Certificate,
-    user: &str,
-    unix_timestamp: u64,
-    authorities: &[Fingerprint],
+    login: &Login,
     revocations: &R,
     verifier: &V,
 ) -> Result<Fingerprint, Refusal>
     requires { BoxesFit (normal_key (certificate_of certificate.now).signed.signature_key) }
     ensures valid { OnOk result (IsValidFor (V.accepts verifier.now)
-        (fingerprints_of authorities.now) unix_timestamp user.now
+        (fingerprints_of login.now.authorities.now) login.now.unix_timestamp login.now.user.now
         (certificate_of certificate.now)) }
     ensures unrevoked { OnOk result (is_certificate_revoked (R.revokes revocations.now)
         (certificate_of certificate.now) ≡ false) }
     ensures authority { IfOk result
         (IsFingerprint Sha256 (certificate_of certificate.now).signed.signature_key) }
-    ensures refused { IfErr result (λ r. r ≢ Memory → IsUntrusted (V.accepts verifier.now)
-        (R.revokes revocations.now) (fingerprints_of authorities.now) unix_timestamp user.now
+    ensures refused { IfErr result (λ r. r ≢ Memory → IsUntrusted
+        (login_of login.now (V.accepts verifier.now) (R.revokes revocations.now))
         (certificate_of certificate.now) r) }
-    ensures memory { IfErr result (λ r. r ≡ Memory → NeedsJudging (fingerprints_of authorities.now)
-        (certificate_of certificate.now)) }
+    ensures memory { IfErr result (λ r. r ≡ Memory → NeedsJudging
+        (fingerprints_of login.now.authorities.now) (certificate_of certificate.now)) }
 {
     let authority = certificate
         .signature_key()
         .fingerprint(alloc, HashAlg::Sha256)?;
-    if !contains_digest(authorities, authority.as_bytes()) {
+    if !contains_digest(login.authorities, authority.as_bytes()) {
         return Err(Refusal::Certificate(Error::CertificateValidation));
     }
     let Ok(is_revoked) = revocations.is_certificate_revoked(alloc, certificate) else {
@@ -57,6 +57,12 @@ pub(crate) fn validate<R: Revocations, V: RawVerifier>(
     if is_revoked {
         return Err(Refusal::Revoked);
     }
-    certificate.validate_principal_at(alloc, unix_timestamp, user, authorities, verifier)?;
+    certificate.validate_principal_at(
+        alloc,
+        login.unix_timestamp,
+        login.user,
+        login.authorities,
+        verifier,
+    )?;
     Ok(authority)
 }

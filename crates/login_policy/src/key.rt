@@ -5,20 +5,18 @@ ghost use Rattle.ssh_key.specs.cert.CertificateValues.{certificate_of};
 ghost use Rattle.ssh_key.specs.keys.Keys.{key_of};
 ghost use Rattle.ssh_key.specs.model.Certificates.{IsCertificate};
 ghost use Rattle.ssh_key.specs.model.Keys.{IsKey};
-ghost use Rattle.login_policy.specs.Logins.{IsOwn};
 
-use openssh_limits::has_read_application;
 use ssh_key::Certificate;
 use ssh_key::laws::compared_keys;
 use ssh_key::public::KeyData;
 
-/// Whether the offered key is the one that is certified, and sshd(8) reads its application.
+/// Whether the offered key is the one that is certified.
 pub(crate) fn is_key_of(certificate: &Certificate, offered: &KeyData) -> bool
     requires certificate { IsCertificate (certificate_of certificate.now) }
     requires offered { IsKey (key_of offered.now) }
-    ensures { IsTrue result ↔ IsOwn (key_of offered.now) (certificate_of certificate.now) }
+    ensures { IsTrue result ↔ ((certificate_of certificate.now).signed.key ≡ key_of offered.now) }
 {
-    is_same(certificate.public_key(), offered) && has_read_application(offered)
+    is_same(certificate.public_key(), offered)
 }
 
 /// Whether both are the same key.

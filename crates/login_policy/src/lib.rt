@@ -4,6 +4,7 @@
 #![tactic(auto)]
 
 mod authority;
+mod form;
 mod grant;
 mod key;
 mod login;
@@ -12,5 +13,5 @@ mod principals;
 mod refusal;
 
 pub use grant::Grant;
-pub use login::log_in;
+pub use login::{Login, log_in};
 pub use refusal::Refusal;

@@ -6,17 +6,18 @@ ghost use Rattle.ssh_key.specs.cert.Validity.{fingerprints_of};
 ghost use Rattle.ssh_key.specs.keys.Keys.{key_of};
 ghost use Rattle.ssh_key.specs.model.Certificates.{IsCertificate};
 ghost use Rattle.ssh_key.specs.model.Keys.{IsKey};
-ghost use Rattle.login_policy.specs.Logins.{GrantsExactly, HasRightFields};
+ghost use Rattle.login_policy.specs.Logins.{GrantsExactly, HasRightFields, login_of};
 ghost use Rattle.login_policy.specs.Refusals.{HasWrongField, NeedsMemory, RefusesCertificateLine, invalid};
 ghost use Rattle.login_policy.specs.declared.refusal.Refusal.TheVariants.{Memory};
 
 use crate::authority::validate;
+use crate::form::is_normal_form;
 use crate::grant::{Grant, grant_of};
 use crate::key::is_key_of;
 use crate::options::{are_known, are_plain};
 use crate::principals::are_for;
 use crate::refusal::Refusal;
-use openssh_limits::is_read_text;
+use openssh_limits::{is_let_in, is_read_text};
 use ssh_key::certificate::Field;
 use ssh_key::laws::certificates::refused_or_wanted;
 use ssh_key::laws::{certificate_fits, lines};
@@ -25,27 +26,56 @@ use ssh_key::revocation::Revocations;
 use ssh_key::{Certificate, Error, Fingerprint, RawVerifier};
 use std::alloc::Global;
 
+/// A login that is asked for, and whom the server trusts.
+#[derive(Debug, Clone, Copy)]
+pub struct Login<'a> {
+    /// The line of the certificate, as the client sent it: its bytes in Base64 behind their name.
+    /// Do not write it anew from a `Certificate`, whose line is always in normal form.
+    pub line: &'a str,
+    /// The name of the user who is to be let in.
+    pub user: &'a str,
+    /// The key under which the client has signed.
+    pub offered: &'a KeyData,
+    /// The time, in seconds since 1970.
+    pub unix_timestamp: u64,
+    /// The SHA-256 fingerprints of the keys that may sign logins. Others count for nothing.
+    pub authorities: &'a [Fingerprint],
+    /// How many bits an RSA key has at least, as `RequiredRSASize` in sshd_config(5). Below 1,024,
+    /// as 0, it is 1,024, which is sshd's own.
+    pub least_rsa_bits: u32,
+}
+
 /// Lets a user in who holds the offered key, if the line has a certificate for users of just that
-/// key, which lists the user's name. It must be valid at that time, in seconds since 1970, by one
-/// of the authorities with these SHA-256 fingerprints (others count for nothing). It must not be
-/// revoked, and must have texts and options that sshd(8) reads (PROTOCOL.certkeys):
+/// key, which lists the user's name. It must be valid at that time, by one of the authorities, and
+/// not revoked. It must be as it was signed, in its normal form. The key, texts and options must be
+/// such as sshd(8) accepts (PROTOCOL.certkeys):
 ///
-/// - no zero byte in the application of a security key, in the key id, a principal, or the name of
-///   an extension, and at most 256 principals;
+/// - no DSA key, none under a private-use name, and no RSA key of fewer bits than the login says or
+///   of more than 16,384; a point that begins with 04; no zero byte in an application
+///   (`openssh_limits::is_let_in`);
+/// - no zero byte in the key id, a principal, or the name of an extension, and at most 256
+///   principals;
 /// - critical options `force-command` and `source-address`, neither empty nor with a zero byte, and
 ///   `verify-required`, which is empty, and no others;
 /// - extensions that are flags, as `permit-pty`, which are empty, and any others.
 ///
-/// Out of memory aside, it refuses all others with the first of these, where each but `Revoked`
-/// stands in a `Certificate`: the errors of `Certificate::from_openssh`; `CertificateFieldInvalid`
-/// with a field; `CertificateValidation` for another authority; `Revoked`; the errors of
-/// `Certificate::validate_principal_at`. The fields, in this order: `CertType` for a certificate
-/// for hosts; `PublicKey` for one of another key or for a zero byte in the application;
-/// `CriticalOptions` if an option is not known or sshd reads no such value; `Extensions` if data
-/// stand in a flag or a name has a zero byte; `KeyId` if the key id has one; `ValidPrincipals` if
-/// it lists no principal (such a certificate lets nobody in: sshd_config(5), `TrustedUserCAKeys`),
-/// more than 256, or one with a zero byte, and if the user's name is empty, which a certificate may
-/// list. For a line that is no certificate's, `Memory` means what it means for
+/// Out of memory aside, it refuses all others with the first of these:
+///
+/// - `Certificate` with an error of `Certificate::from_openssh`;
+/// - `NotNormalForm`;
+/// - `Certificate` with `CertificateFieldInvalid`: `CertType` for a certificate for hosts, and then
+///   `PublicKey` for one of another key;
+/// - `UnacceptedKey`;
+/// - `Certificate` with `CertificateFieldInvalid`: `CriticalOptions` if an option is not known or
+///   sshd reads no such value; `Extensions` if data stand in a flag or a name has a zero byte;
+///   `KeyId` if the key id has one; `ValidPrincipals` if it lists no principal (such a certificate
+///   lets nobody in: sshd_config(5), `TrustedUserCAKeys`), more than 256, or one with a zero byte,
+///   and if the user's name is empty, which a certificate may list;
+/// - `Certificate` with `CertificateValidation` for another authority;
+/// - `Revoked`;
+/// - `Certificate` with an error of `Certificate::validate_principal_at`.
+///
+/// For a line that is no certificate's, `Memory` means what it means for
 /// `Certificate::from_openssh`. Another authority, a bad signature and a time outside the window
 /// are all `CertificateValidation`: for a log `Certificate::first_refusal_for` tells which, but it
 /// asks the verifier first, also about a stranger's key.
@@ -56,9 +86,8 @@ use std::alloc::Global;
 /// Who knows of no revocation writes `NoRevocations`. Pass on what reading a list gave: an `Err`
 /// revokes every certificate.
 ///
-/// It does not ask which kinds and sizes the certified key and the authority's have, nor whether a
-/// point lies on its curve. But sshd(8) refuses DSA, RSA of fewer than 1,024 bits or more than
-/// 16,384, and points that are compressed or off their curve.
+/// It does not ask which kind and size the authority's key has, nor whether a point lies on its
+/// curve: sshd(8) reads no point that does not.
 ///
 /// Whoever calls it has asked the client for a signature under the offered key, and does what the
 /// grant says, the flags in a security key's signature included. The options of a line
@@ -66,49 +95,42 @@ use std::alloc::Global;
 /// login: for an authority that stands there, the caller must judge them.
 pub fn log_in<R: Revocations, V: RawVerifier>(
     alloc: Global,
-    line: &str,
-    user: &str,
-    offered: &KeyData,
-    unix_timestamp: u64,
-    authorities: &[Fingerprint],
+    login: &Login,
     revocations: &R,
     verifier: &V,
 ) -> Result<Grant, Refusal>
-    requires { IsKey (key_of offered.now) }
-    ensures exactly { GrantsExactly (V.accepts verifier.now) (R.revokes revocations.now)
-        (fingerprints_of authorities.now) unix_timestamp user.now (key_of offered.now) line.now
-        result }
-    ensures refused { IfErr result
-        (λ r. r ≢ Memory → RefusesCertificateLine (V.accepts verifier.now)
-        (R.revokes revocations.now) (fingerprints_of authorities.now) unix_timestamp user.now
-        (key_of offered.now) line.now r) }
+    requires { IsKey (key_of login.now.offered.now) }
+    ensures exactly { GrantsExactly
+        (login_of login.now (V.accepts verifier.now) (R.revokes revocations.now)) result }
+    ensures refused { IfErr result (λ r. r ≢ Memory → RefusesCertificateLine
+        (login_of login.now (V.accepts verifier.now) (R.revokes revocations.now)) r) }
     ensures memory { IfErr result (λ r. r ≡ Memory
-        → NeedsMemory (fingerprints_of authorities.now) line.now) }
+        → NeedsMemory (fingerprints_of login.now.authorities.now) login.now.line.now) }
 {
     lines();
     certificate_fits();
     refused_or_wanted();
-    let certificate = Certificate::from_openssh(alloc, line)?;
-    check_fields(&certificate, user, offered)?;
-    let authority = validate(
-        alloc,
-        &certificate,
-        user,
-        unix_timestamp,
-        authorities,
-        revocations,
-        verifier,
-    )?;
+    let certificate = Certificate::from_openssh(alloc, login.line)?;
+    if !is_normal_form(&certificate, login.line) {
+        return Err(Refusal::NotNormalForm);
+    }
+    check_fields(&certificate, login.user, login.offered, login.least_rsa_bits)?;
+    let authority = validate(alloc, &certificate, login, revocations, verifier)?;
     Ok(grant_of(alloc, &certificate, authority)?)
 }
 
 /// Whether the fields are those of a certificate that lets the user in. Does not allocate.
-fn check_fields(certificate: &Certificate, user: &str, offered: &KeyData) -> Result<(), Refusal>
+fn check_fields(
+    certificate: &Certificate,
+    user: &str,
+    offered: &KeyData,
+    least_rsa_bits: u32,
+) -> Result<(), Refusal>
     requires certificate { IsCertificate (certificate_of certificate.now) }
     requires offered { IsKey (key_of offered.now) }
-    ensures right { OnOk result (HasRightFields user.now (key_of offered.now)
+    ensures right { OnOk result (HasRightFields user.now (key_of offered.now) least_rsa_bits
         (certificate_of certificate.now)) }
-    ensures wrong { IfErr result (HasWrongField user.now (key_of offered.now)
+    ensures wrong { IfErr result (HasWrongField user.now (key_of offered.now) least_rsa_bits
         (certificate_of certificate.now)) }
 {
     if !certificate.cert_type().is_user() {
@@ -116,6 +138,9 @@ fn check_fields(certificate: &Certificate, user: &str, offered: &KeyData) -> Res
     }
     if !is_key_of(certificate, offered) {
         return Err(invalid(Field::PublicKey));
+    }
+    if !is_let_in(offered, least_rsa_bits) {
+        return Err(Refusal::UnacceptedKey);
     }
     if !are_known(certificate.critical_options()) {
         return Err(invalid(Field::CriticalOptions));

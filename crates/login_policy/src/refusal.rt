@@ -11,6 +11,14 @@ pub enum Refusal {
     /// is never `Error::Memory`.
     #[error("{0}")]
     Certificate(Error),
+    /// The bytes in the line are not the certificate's normal form, and so not those that were
+    /// signed: an RSA authority has a name with a hash there, or an option without a value the
+    /// empty value as a string.
+    #[error("certificate is not in its normal form")]
+    NotNormalForm,
+    /// sshd(8) accepts no such key, by its kind or its size (`openssh_limits::is_let_in`).
+    #[error("key is of a kind or size that is not accepted")]
+    UnacceptedKey,
     /// The certificate is revoked: its number, its key id, the certified key or the authority's.
     #[error("certificate is revoked")]
     Revoked,

@@ -1,15 +1,31 @@
 -- Texts without a byte 0, one after the other.
-use Rattle.std.proofs.Common.{◌≡◌, ℕ, ◌<◌, ◌≤◌, ◌+◌, ◌↔◌, List, [], ◌∷◌, Bool, true, false, not, map, IsTrue, get_or, length, refl, sym, subst, ◌∙◌, arith, inl, inr}
-use Rattle.std.proofs.lemmas.Bool.{cases_lt}
+use Rattle.std.proofs.Common.{◌≡◌, ◌≢◌, ℕ, zero, suc, ◌<◌, ◌≤◌, ◌+◌, ◌↔◌, List, [], ◌∷◌, Bool, true, false, map, IsTrue, get_or, length, refl, sym, subst, ◌∙◌, arith, inl, inr}
+use Rattle.std.proofs.lemmas.Bool.{cases_lt, eqb-true}
+use Rattle.std.proofs.lemmas.Bool.Decides.{nat_tests}
 use Rattle.std.proofs.lemmas.List.{get_or_default, length-map}
 use Rattle.std.proofs.lemmas.List.Elements.{All-cons, All-head, All-map, All-nil, All-tail}
-use Rattle.std.specs.Prelude.{All, String, string_bytes}
+use Rattle.std.specs.Prelude.{◌==◌, All, String, string_bytes}
 use Rattle.sshkey_model.specs.Lines.{IsWithout}
+use Rattle.openssh_limits.specs.Keys.{is_read_text}
 use Rattle.openssh_limits.specs.Read.{AreReadPrincipals}
 
-pub without : (text : List ℕ) (found : Bool) → (found ≡ true → (k : ℕ) × (k < length text) × (get_or text k 0 ≡ 0)) × ((k : ℕ) → k < length text → get_or text k 0 ≡ 0 → found ≡ true) → IsTrue (not found) ↔ IsWithout 0 text
-without text true zeros = (λ yes. absurd cc, λ is. let here = zeros.0 refl in absurd (is here.0 here.1 here.2))
-without text false zeros = (λ yes i l e. cc (zeros.1 i l e), λ is. refl)
+-- ---- a text
+
+here : (c : ℕ) (text : List ℕ) → c ≢ 0 → IsWithout 0 text → IsWithout 0 (c ∷ text)
+here c text some rest zero l = some
+here c text some rest (suc i) l = rest i (omega (arith, l))
+
+one_byte : (c : ℕ) (text : List ℕ) (test : Bool) → (c == 0) ≡ test → (IsTrue (is_read_text text) ↔ IsWithout 0 text) → IsTrue (is_read_text (c ∷ text)) ↔ IsWithout 0 (c ∷ text)
+one_byte c text true e rest = rw e (λ yes. absurd cc, λ is. absurd (is 0 (omega arith) (eqb-true c 0 e)))
+one_byte c text false e rest =
+    let some : 0 < c = grind (arith, nat_tests) in
+    rw e (λ yes. here c text (λ none. absurd (omega (arith, some, none))) (rest.0 yes), λ is. rest.1 (λ i l. is (suc i) (omega (arith, l))))
+
+pub without : (text : List ℕ) → IsTrue (is_read_text text) ↔ IsWithout 0 text
+without [] = (λ yes i l. absurd (omega (arith, l)), λ is. refl)
+without (c ∷ text) = one_byte c text (c == 0) refl (without text)
+
+-- ---- texts
 
 -- one element more that has the property
 pub one_more : {X : Type 0} (P : X → Type 0) (xs : List X) (i : ℕ) (x : X) → i < length xs → get_or xs i x ≡ x → P x → ((k : ℕ) (d : X) → k < i → P (get_or xs k d)) → (k : ℕ) (d : X) → k < i + 1 → P (get_or xs k d)

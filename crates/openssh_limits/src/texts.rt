@@ -1,7 +1,8 @@
 //! The texts that OpenSSH reads.
 
-ghost use Rattle.std.specs.Prelude.{◌↔◌, IsTrue, All, map, string_bytes};
+ghost use Rattle.std.specs.Prelude.{◌≡◌, ◌↔◌, IsTrue, All, map, string_bytes};
 ghost use Rattle.sshkey_model.specs.Lines.{IsWithout};
+ghost use Rattle.openssh_limits.specs.Keys.{is_read_text};
 ghost use Rattle.openssh_limits.specs.Read.{AreReadPrincipals};
 
 /// How many principals OpenSSH reads of a certificate.
@@ -35,5 +36,12 @@ fn are_read_texts(texts: &[String]) -> bool
 pub fn is_read_text(text: &str) -> bool
     ensures { IsTrue result ↔ IsWithout 0 text.now }
 {
-    !text.contains('\0')
+    has_no_zero(text)
+}
+
+/// Whether no byte of the text is 0.
+pub(crate) fn has_no_zero(text: &str) -> bool
+    ensures { result ≡ is_read_text text.now }
+{
+    !text.as_bytes().contains(&0)
 }

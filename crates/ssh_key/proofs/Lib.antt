@@ -6,6 +6,7 @@ pub mod CombinedReaders
 pub mod Entries
 pub mod Grammars
 pub mod Judging
+pub mod LineCuts
 pub mod Mapped
 pub mod Places
 pub mod ReadLists
@@ -15,3 +16,4 @@ pub mod Validation
 pub mod Verdicts
 pub mod Writing
 mod NormalForms
+mod Shortest

@@ -32,3 +32,4 @@ pub mod revoked_keys
 pub mod builder
 pub mod types
 pub mod NormalForms
+pub mod OpenLaws

@@ -3,34 +3,38 @@
 //!
 //! `readers::exact_*` say that a plain reader takes exactly the spellings of its kind; `prefix_*`
 //! that no spelling begins another, and `one_*` that bytes or a text are of one value; `normal_*`
-//! that normal forms determine values, and `normal_forms` so of every kind; `read_back_*` that what
-//! is written is read back; `*_fits` that what fits in one spelling fits in the normal one;
+//! that normal forms determine values; `read_back_*` that what is written is read back;
+//! `prefixes`, `normal_forms` and `lines` say these three of every kind, in words that are open to a
+//! caller's proof; `*_fits` that what fits in one spelling fits in the normal one;
 //! `compared_*`, `equal_*` and `ordered_*` what `==` and `cmp` go by. `certificates` has those of
 //! what is valid. The others say what their docs say.
 
-ghost use Rattle.std.specs.Prelude.{ℕ};
+ghost use Rattle.std.specs.Prelude.{◌≡◌, ◌↔◌, ◌≤◌, List, length, ℕ};
 ghost use Rattle.std.specs.Int.{w64};
 ghost use Rattle.std.specs.List.{AllByRecursion};
 ghost use Rattle.ssh_key.specs.NormalForms.{AreNormalForms};
+ghost use Rattle.ssh_key.specs.OpenLaws.{IsOfOneValue, IsReadBack, NoneBegins};
 ghost use Rattle.sshkey_model.specs.CertificateNames.{IsCertified, certificate_algorithm, certificate_algorithm_at};
-ghost use Rattle.sshkey_model.specs.Certificates.{AreSignedFields, IsCertificate, IsEnd, IsTime, certificate_at, certificate_type, end_at, normal_certificate, normal_to_be_signed, signed_fields_at, time_at, type_at};
-ghost use Rattle.sshkey_model.specs.Grammar.{value_at};
+ghost use Rattle.sshkey_model.specs.Certificates.{AreSignedFields, Certificate, CertificateChoices, HasCertificatePlaces, IsCertificate, IsEnd, IsTime, SignedFields, certificate, certificate_at, certificate_type, end_at, normal_certificate, normal_to_be_signed, signed_fields_at, time_at, to_be_signed, type_at};
+ghost use Rattle.sshkey_model.specs.Grammar.{IsSpelled, spelled, value_at};
 ghost use Rattle.sshkey_model.specs.KeyDerivation.{cipher, kdf, kdf_algorithm};
-ghost use Rattle.sshkey_model.specs.KeyPairs.{IsKeyPair, IsPairUnder, IsRsaPrivate, IsScalar, Plain, keypair_at, normal_keypair, pair, pair_at, rsa_private, rsa_private_at, scalar, scalar_at};
-ghost use Rattle.sshkey_model.specs.Keys.{IsBodyUnder, IsKey, body, body_at, key_at, normal_key};
-ghost use Rattle.sshkey_model.specs.Lines.{LinesAreApart, LinesDetermineValues, key_name, name_of_certificate};
+ghost use Rattle.sshkey_model.specs.KeyPairs.{HasKeyPairPlaces, HasPairPlaces, HasScalarPlaces, IsEcdsaPair, IsKeyPair, IsPairUnder, IsRsaPrivate, IsScalar, Plain, keypair, keypair_at, normal_keypair, pair, pair_at, rsa_private, rsa_private_at, scalar, scalar_at};
+ghost use Rattle.sshkey_model.specs.Keys.{HasKeyPlaces, IsBodyUnder, IsKey, Key, body, body_at, key, key_at, normal_key};
+ghost use Rattle.sshkey_model.specs.Lines.{IsCertificateLine, IsKeyLine, key_name, name_of_certificate};
 ghost use Rattle.sshkey_model.specs.Mpints.{IsMpint, mpint_at};
-ghost use Rattle.sshkey_model.specs.Names.{Algorithm, IsAlgorithm, algorithm, algorithm_at, curve, curve_at, hash, hash_at};
-ghost use Rattle.sshkey_model.specs.Options.{AreOptions, normal_options, options_at};
-ghost use Rattle.sshkey_model.specs.Parts.{Any, number};
-ghost use Rattle.sshkey_model.specs.Points.{IsPointOf, point_at};
-ghost use Rattle.sshkey_model.specs.PrivateKeys.{IsPrivateKey, normal_private_key};
+ghost use Rattle.sshkey_model.specs.Names.{Algorithm, Curve, Hash, IsAlgorithm, algorithm, algorithm_at, curve, curve_at, hash, hash_at};
+ghost use Rattle.sshkey_model.specs.Options.{AreOptions, HasOptionPlaces, normal_options, options, options_at};
+ghost use Rattle.sshkey_model.specs.Parts.{Any, flat, number};
+ghost use Rattle.sshkey_model.specs.Points.{IsPoint, IsPointOf, point_at};
+ghost use Rattle.sshkey_model.specs.PrivateKeys.{HasPrivateKeyPlaces, IsPrivateKey, normal_private_key, private_key};
 ghost use Rattle.sshkey_model.specs.Signatures.{IsSignature, signature, signature_at};
-ghost use Rattle.sshkey_model.specs.SshSignatures.{IsSshSignature, normal_ssh_signature};
+ghost use Rattle.sshkey_model.specs.SshSignatures.{HasSshSignaturePlaces, IsSshSignature, normal_ssh_signature, signed_data, ssh_signature};
 ghost use Rattle.sshkey_model.specs.Texts.{IsText, string, text_at, texts, texts_at};
 ghost use Rattle.sshkey_keys.specs.Keys.{SpellsKey};
+ghost use Rattle.sshkey_cert.specs.CertificateFormats.{certificate_format};
 ghost use Rattle.sshkey_cert.specs.CertificateReaders.{SpellsCertificate};
 ghost use Rattle.sshkey_ciphers.specs.KdfFormats.{cipher_at, kdf_algorithm_at, kdf_at};
+ghost use Rattle.sshkey_private.specs.PaddedKeys.{HasPaddedPlaces, padded_private_key};
 ghost use Rattle.sshkey_private.specs.PrivateKeyGrammars.{private_value_at};
 ghost use Rattle.sshkey_sshsig.specs.SshSignatureReaders.{ssh_signature_value_at};
 
@@ -98,7 +102,6 @@ pub use sshkey_known_hosts::laws::one_verdict;
 pub use sshkey_krl::laws::grown_krls;
 pub use sshkey_krl::laws::joined_krls;
 pub use sshkey_krl::laws::one_krl;
-pub use sshkey_model::laws::apart;
 pub use sshkey_model::laws::certificate_fields;
 pub use sshkey_model::laws::certificate_fits;
 pub use sshkey_model::laws::certificates;
@@ -189,7 +192,7 @@ pub use sshkey_sshsig::laws::spelled_ssh_signature;
 /// Of every kind of value: two have equal normal forms exactly if they agree in every field, of
 /// private keys also in checkint and tag, and what reads a normal form gives the value that it is
 /// of, so that normalising twice is normalising once.
-#[tactic(auto, using(sshkey_model::proofs::Lawful::laws, sshkey_ciphers::proofs::Lawful::laws, sshkey_private::proofs::Lawful::laws))]
+#[tactic(auto, using(sshkey_model::proofs::Lawful::laws, sshkey_ciphers::proofs::Lawful::laws, sshkey_private::proofs::Lawful::laws, crate::proofs::NormalForms::opened))]
 pub fn normal_forms()
     ensures mpints { AreNormalForms IsMpint string mpint_at }
     ensures texts { AreNormalForms IsText string text_at }
@@ -225,10 +228,89 @@ pub fn normal_forms()
     ensures private_keys { AreNormalForms IsPrivateKey normal_private_key private_value_at }
 {}
 
-/// A text is the line of one key or of one certificate at most, and with one comment.
-#[tactic(auto, using(sshkey_model::proofs::Lawful::laws))]
+/// Of every kind of value: no spelling begins another.
+#[tactic(auto, using(sshkey_model::proofs::Lawful::laws, sshkey_ciphers::proofs::Lawful::laws), unfolding(sshkey_model::specs::Parts::IsPrefixFree))]
+pub fn prefixes()
+    ensures mpints { NoneBegins IsMpint string }
+    ensures texts { NoneBegins IsText string }
+    ensures text_lists { NoneBegins (AllByRecursion IsText) texts }
+    ensures points { (c : Curve) → NoneBegins (IsPoint c) string }
+    ensures curves { NoneBegins Any curve }
+    ensures hashes { NoneBegins Any hash }
+    ensures names { NoneBegins IsAlgorithm algorithm }
+    ensures certificate_names { NoneBegins IsCertified certificate_algorithm }
+    ensures bodies { (a : Algorithm) → NoneBegins (IsBodyUnder a) body }
+    ensures keys { NoneBegins (IsSpelled IsKey HasKeyPlaces) (spelled key) }
+    ensures signatures { NoneBegins IsSignature signature }
+    ensures ssh_signatures { NoneBegins (IsSpelled IsSshSignature HasSshSignaturePlaces)
+        (spelled ssh_signature) }
+    ensures options { NoneBegins (IsSpelled AreOptions HasOptionPlaces) (spelled options) }
+    ensures certificates { NoneBegins (IsSpelled IsCertificate HasCertificatePlaces)
+        (spelled certificate) }
+    ensures ciphers { NoneBegins Any cipher }
+    ensures kdf_names { NoneBegins Any kdf_algorithm }
+    ensures kdfs { NoneBegins Any kdf }
+    ensures scalars { (size : ℕ) → NoneBegins (IsSpelled (IsScalar size) HasScalarPlaces)
+        (spelled scalar) }
+    ensures rsa_private_halves { NoneBegins IsRsaPrivate rsa_private }
+    ensures pairs { (a : Algorithm) → NoneBegins (IsSpelled (IsPairUnder a) HasPairPlaces)
+        (spelled pair) }
+    ensures ecdsa_pairs { NoneBegins (IsSpelled IsEcdsaPair HasPairPlaces) (spelled pair) }
+    ensures keypairs { NoneBegins (IsSpelled IsKeyPair HasKeyPairPlaces) (spelled keypair) }
+    ensures private_keys { NoneBegins (IsSpelled IsPrivateKey HasPrivateKeyPlaces)
+        (spelled private_key) }
+    ensures padded_private_keys { NoneBegins (IsSpelled IsPrivateKey HasPaddedPlaces)
+        (spelled padded_private_key) }
+{
+    prefix_body();
+    prefix_certificate();
+    prefix_scalar();
+    prefix_pair();
+    prefix_ecdsa_pair();
+    prefix_ssh_signature();
+    prefix_private_key();
+    prefix_padded_private_key();
+}
+
+/// A text is the line of one key or of one certificate at most, and with one comment. What is read
+/// of it is written as a line that is read back.
 pub fn lines()
-    ensures keys { LinesDetermineValues key_name SpellsKey }
-    ensures certificates { LinesDetermineValues name_of_certificate SpellsCertificate }
-    ensures apart { LinesAreApart }
+    ensures keys { IsOfOneValue key_name SpellsKey }
+    ensures certificates { IsOfOneValue name_of_certificate SpellsCertificate }
+    ensures apart { (text m n : List ℕ) (k : Key) (c : Certificate) → IsKeyLine text k m
+        → IsCertificateLine text c n → ⊥ }
+    ensures written_keys { IsReadBack key_name SpellsKey normal_key }
+    ensures written_certificates { IsReadBack name_of_certificate SpellsCertificate
+        normal_certificate }
+{
+    one_key_line();
+    one_certificate_line();
+    lines_apart();
+    read_back_key_line();
+    read_back_certificate_line();
+}
+
+/// No certificate's signed bytes, in any spelling, are what an SSH signature is over.
+pub fn apart()
+    ensures { (c : SignedFields) (s : CertificateChoices) (namespace reserved : List ℕ) (h : Hash)
+        (digest : List ℕ) → AreSignedFields c
+        → flat (to_be_signed c s) ≡ flat (signed_data namespace reserved h digest) → ⊥ }
+{
+    sshkey_model::laws::apart();
+}
+
+/// The term of certificates spells exactly what PROTOCOL.certkeys lays out, with each way to spell
+/// an empty value and the authority's name.
+pub fn spelled_certificate()
+    ensures { (c : Certificate) (blob : List ℕ) → certificate_format.Spells c blob
+        ↔ SpellsCertificate c blob }
+{}
+
+/// No spelling of a certificate is shorter than its normal form, and no other is as short: what is
+/// as long as the normal form is the normal form.
+pub fn shortest_certificate()
+    ensures shortest { (c : Certificate) (blob : List ℕ) → SpellsCertificate c blob
+        → length (flat (normal_certificate c)) ≤ length blob }
+    ensures only { (c : Certificate) (blob : List ℕ) → SpellsCertificate c blob
+        → length blob ≡ length (flat (normal_certificate c)) → blob ≡ flat (normal_certificate c) }
 {}

@@ -1,12 +1,10 @@
 -- The kind of a key that bytes spell, and what it is made of.
-use Rattle.std.proofs.Common.{◌≡◌, ℕ, List, [], true, inl, inr, Result, Ok, Err, refl, sym, ap, ◌∙◌}
+use Rattle.std.proofs.Common.{◌≡◌, ℕ, List, [], inl, inr, Result, Ok, Err, sym, ap, ◌∙◌}
 use Rattle.sshkey_model.specs.Reading.{Fault, AlgorithmUnknown, whole}
 use Rattle.sshkey_model.specs.Names.{Curve, Algorithm, algorithm_from}
-use Rattle.sshkey_model.specs.Keys.{Key, Dsa, key_algorithm, unhashed, body_at, any_ecdsa_at, ecdsa_at, has_curve, wanted_curve}
+use Rattle.sshkey_model.specs.Keys.{Key, body_at, any_ecdsa_at, ecdsa_at, has_curve, wanted_curve}
 use Rattle.sshkey_model.proofs.CombinedReaders.{bind_ok, ok_is, chosen}
-use Rattle.sshkey_model.proofs.KeyReaders.{body_reads}
 use Rattle.sshkey_base.specs.Labels.{label_at}
-use Rattle.sshkey_keys.specs.KeyKinds.{is_dsa}
 use Rattle.sshkey_keys.specs.Keys.{key_data_at}
 use Rattle.sshkey_keys_ref.proofs.PlainHeads.{broken, whole_is}
 
@@ -16,14 +14,6 @@ same_value {Y} r x y p q e d = ap (λ (z : Y × List ℕ). z.0) (ok_is (y, q) (x
 
 pub never : {Y X : Type 0} (r : Result Y Fault) (f : Fault) (y : Y) → r ≡ Err f → r ≡ Ok y → X
 never r f y e d = absurd (cc (e, d))
-
-pub of_dsa : (k : Key) → key_algorithm k ≡ Algorithm.Dsa → is_dsa k ≡ true
-of_dsa (Dsa k) e = refl
-of_dsa _ e = absurd cc
-
--- a body is one of its algorithm
-pub body_algorithm : (a : Algorithm) (b rest : List ℕ) (k : Key) → body_at a b ≡ Ok (k, rest) → key_algorithm k ≡ unhashed a
-body_algorithm a b rest k e = ((body_reads a).takes b k rest e).0.0
 
 -- the same key, whatever curve is wanted
 pub ecdsa_found : (c : Curve) (b p q : List ℕ) (x k : Key) → any_ecdsa_at b ≡ Ok (x, p) → ecdsa_at c b ≡ Ok (k, q) → k ≡ x

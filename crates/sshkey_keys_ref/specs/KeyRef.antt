@@ -5,18 +5,18 @@ use Rattle.sshkey_model.specs.Names.{Algorithm}
 use Rattle.sshkey_model.specs.Reading.{whole}
 use Rattle.sshkey_kinds.specs.EcdsaPublicKey.{ecdsa_key_of}
 use Rattle.sshkey_kinds.specs.Kinds.{ed25519_of}
-use Rattle.sshkey_keys.specs.KeyKinds.{is_dsa, is_rsa, is_opaque}
+use Rattle.sshkey_keys.specs.KeyKinds.{is_opaque}
 use Rattle.sshkey_keys.specs.Keys.{key_data_at}
-use Rattle.sshkey_keys_ref.specs.Kinds.{sk_ecdsa_of, sk_ed25519_of}
+use Rattle.sshkey_keys_ref.specs.Kinds.{dsa_of, rsa_of, sk_ecdsa_of, sk_ed25519_of}
 use Rattle.sshkey_keys_ref.specs.declared.key_ref.KeyRef.{KeyRef}
 use Rattle.sshkey_keys_ref.specs.declared.key_ref.KeyRef.TheVariants as kinds
 
--- It is that key, or for those that take memory a key of that kind.
+-- It is that key, or some key under a private-use name.
 abbrev pub Means : KeyRef → Key → Type 0
-Means kinds.Dsa k = is_dsa k ≡ true
+Means (kinds.Dsa r) k = k ≡ dsa_of r
 Means (kinds.Ecdsa r) k = k ≡ ecdsa_key_of r
 Means (kinds.Ed25519 r) k = k ≡ ed25519_of r
-Means kinds.Rsa k = is_rsa k ≡ true
+Means (kinds.Rsa r) k = k ≡ rsa_of r
 Means (kinds.SkEcdsa r) k = k ≡ sk_ecdsa_of r
 Means (kinds.SkEd25519 r) k = k ≡ sk_ed25519_of r
 Means kinds.Other k = is_opaque k ≡ true

@@ -98,10 +98,10 @@ impl KeyDataRef<'_> {
             (algorithm_of algorithm.now) blob.now result }
     {
         match key_in(self.as_bytes()) {
-            KeyRef::Dsa => self.ask_dsa(alloc, message, algorithm, blob, verifier),
+            KeyRef::Dsa(_) => self.ask_dsa(alloc, message, algorithm, blob, verifier),
             KeyRef::Ecdsa(key) => ask_ecdsa(key, message, algorithm, blob, verifier),
             KeyRef::Ed25519(key) => ask_ed25519(key, message, algorithm, blob, verifier),
-            KeyRef::Rsa => self.ask_rsa(alloc, message, algorithm, blob, verifier),
+            KeyRef::Rsa(_) => self.ask_rsa(alloc, message, algorithm, blob, verifier),
             KeyRef::SkEcdsa(key) => ask_sk_ecdsa(&key, message, algorithm, blob, verifier),
             KeyRef::SkEd25519(key) => ask_sk_ed25519(&key, message, algorithm, blob, verifier),
             KeyRef::Other => Ok(false),

@@ -14,6 +14,7 @@ ghost use Rattle.sshkey_keys_ref.specs.Taking.{Skips};
 ghost use Rattle.sshkey_terms.specs.Slices.{AcceptsSome, is_taken};
 
 use crate::body::behind_named;
+use crate::key_ref::{KeyRef, key_in};
 use crate::name_ref::{NameRef, take_name};
 use sshkey_base::{Algorithm, Error, HashAlg, Result, decode_whole, encoding};
 use sshkey_fingerprints::Fingerprint;
@@ -37,6 +38,7 @@ impl<'a> KeyDataRef<'a> {
     ghost use Rattle.sshkey_keys.specs.KeyKinds.{is_ecdsa, is_ed25519};
     ghost use Rattle.sshkey_keys.specs.Keys.{key_of};
     ghost use Rattle.sshkey_keys_ref.specs.KeyDataRef.{key_bytes};
+    ghost use Rattle.sshkey_keys_ref.specs.KeyRef.{Means};
     ghost use Rattle.sshkey_terms.specs.Slices.{Keeps};
 
     /// The key that all the bytes together spell, read once from left to right. Does not allocate.
@@ -74,6 +76,13 @@ impl<'a> KeyDataRef<'a> {
             return None;
         }
         Some(self.bytes)
+    }
+
+    /// The parts of the key, by its kind. Does not allocate.
+    pub fn parts(&self) -> KeyRef<'a>
+        ensures { (k : Key) → SpellsKey k (key_bytes self.now) → Means result k }
+    {
+        key_in(self.bytes)
     }
 
     /// The key in memory of its own, which is the one that the bytes spell, and so well-formed.

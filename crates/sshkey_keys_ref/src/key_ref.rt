@@ -1,35 +1,69 @@
 //! Public keys as slices of their parts.
 
-ghost use Rattle.std.specs.Prelude.{Ok};
+ghost use Rattle.std.specs.Prelude.{Option};
 ghost use Rattle.sshkey_base.specs.Names.{algorithm_of};
+ghost use Rattle.sshkey_keys.specs.Keys.{key_of};
 ghost use Rattle.sshkey_model.specs.Names as model;
-ghost use Rattle.sshkey_keys_ref.specs.KeyRef.{HoldsBody, HoldsKey};
+ghost use Rattle.sshkey_keys_ref.specs.KeyRef.{HoldsBody, HoldsKey, Means};
 ghost use Rattle.sshkey_keys_ref.specs.NameRef.{named_of};
 ghost use Rattle.sshkey_keys_ref.specs.Taking.{Finds};
 
-use crate::kinds::{EcdsaRef, Ed25519Ref, SkEcdsaRef, SkEd25519Ref};
+use crate::kinds::{DsaRef, EcdsaRef, Ed25519Ref, RsaRef, SkEcdsaRef, SkEd25519Ref};
+use crate::leaves::MpintRef;
 use crate::name_ref::{NameRef, take_name};
 use sshkey_base::Algorithm;
+use sshkey_keys::KeyData;
 use sshkey_kinds::{EcdsaPublicKey, Ed25519PublicKey};
 use sshkey_terms::ReadFrom;
 
-/// A public key by its kind, with what does not allocate.
+/// A public key by its kind, as slices of its parts. It does not allocate.
 #[derive(Clone, Copy)]
-pub(crate) enum KeyRef<'a> {
+pub enum KeyRef<'a> {
     /// A DSA key.
-    Dsa,
+    Dsa(DsaRef<'a>),
     /// An ECDSA key.
     Ecdsa(EcdsaPublicKey),
     /// An Ed25519 key.
     Ed25519(Ed25519PublicKey),
     /// An RSA key.
-    Rsa,
+    Rsa(RsaRef<'a>),
     /// A P-256 key that a security key holds.
     SkEcdsa(SkEcdsaRef<'a>),
     /// An Ed25519 key that a security key holds.
     SkEd25519(SkEd25519Ref<'a>),
     /// A key under a private-use name.
     Other,
+}
+
+/// The parts of the key. Does not allocate.
+impl<'a> From<&'a KeyData> for KeyRef<'a> {
+    ghost from_gives = { λ key parts. Means parts (key_of key.now) };
+
+    fn from(key: &'a KeyData) -> KeyRef<'a> {
+        match key {
+            KeyData::Dsa(key) => KeyRef::Dsa(DsaRef {
+                p: MpintRef(key.p.as_bytes()),
+                q: MpintRef(key.q.as_bytes()),
+                g: MpintRef(key.g.as_bytes()),
+                y: MpintRef(key.y.as_bytes()),
+            }),
+            KeyData::Ecdsa(key) => KeyRef::Ecdsa(*key),
+            KeyData::Ed25519(key) => KeyRef::Ed25519(*key),
+            KeyData::Rsa(key) => KeyRef::Rsa(RsaRef {
+                e: MpintRef(key.e.as_bytes()),
+                n: MpintRef(key.n.as_bytes()),
+            }),
+            KeyData::SkEcdsaSha2NistP256(key) => KeyRef::SkEcdsa(SkEcdsaRef {
+                key: *key.ec_point(),
+                application: key.application(),
+            }),
+            KeyData::SkEd25519(key) => KeyRef::SkEd25519(SkEd25519Ref {
+                key: key.public_key().0,
+                application: key.application(),
+            }),
+            KeyData::Other(_) => KeyRef::Other,
+        }
+    }
 }
 
 /// The key that the bytes spell. Of other bytes nothing is said.
@@ -58,13 +92,33 @@ fn kind_in<'a>(algorithm: &Algorithm, bytes: &'a [u8]) -> KeyRef<'a>
     ensures { HoldsBody (algorithm_of algorithm.now) bytes.now result }
 {
     match algorithm {
-        Algorithm::Dsa => KeyRef::Dsa,
+        Algorithm::Dsa => dsa_in(bytes),
         Algorithm::Ecdsa { curve: _ } => ecdsa_in(bytes),
         Algorithm::Ed25519 => ed25519_in(bytes),
-        Algorithm::Rsa { hash: _ } => KeyRef::Rsa,
+        Algorithm::Rsa { hash: _ } => rsa_in(bytes),
         Algorithm::SkEcdsaSha2NistP256 => sk_ecdsa_in(bytes),
         Algorithm::SkEd25519 => sk_ed25519_in(bytes),
         Algorithm::Other(_) => KeyRef::Other,
+    }
+}
+
+/// The DSA key whose body it is.
+fn dsa_in<'a>(bytes: &'a [u8]) -> KeyRef<'a>
+    ensures { HoldsBody model.Dsa bytes.now result }
+{
+    match first::<DsaRef<'a>>(bytes) {
+        Some(key) => KeyRef::Dsa(key),
+        None => KeyRef::Other,
+    }
+}
+
+/// The RSA key whose body it is, whatever hash its name has.
+fn rsa_in<'a>(bytes: &'a [u8]) -> KeyRef<'a>
+    ensures { (hash : Option model.Hash) → HoldsBody (model.Rsa hash) bytes.now result }
+{
+    match first::<RsaRef<'a>>(bytes) {
+        Some(key) => KeyRef::Rsa(key),
+        None => KeyRef::Other,
     }
 }
 

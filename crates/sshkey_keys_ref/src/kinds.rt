@@ -27,7 +27,7 @@ use std::str;
 
 /// An RSA key.
 #[derive(Clone, Copy)]
-pub(crate) struct RsaRef<'a> {
+pub struct RsaRef<'a> {
     pub e: MpintRef<'a>,
     pub n: MpintRef<'a>,
 }
@@ -53,7 +53,7 @@ impl<'a> ReadFrom<&'a [u8]> for RsaRef<'a> {
 
 /// A DSA key.
 #[derive(Clone, Copy)]
-pub(crate) struct DsaRef<'a> {
+pub struct DsaRef<'a> {
     pub p: MpintRef<'a>,
     pub q: MpintRef<'a>,
     pub g: MpintRef<'a>,
@@ -171,7 +171,7 @@ fn point_of(string: &[u8]) -> Result<EcdsaPublicKey>
 
 /// A P-256 key that a security key holds.
 #[derive(Clone, Copy)]
-pub(crate) struct SkEcdsaRef<'a> {
+pub struct SkEcdsaRef<'a> {
     pub key: EcdsaNistP256PublicKey,
     pub application: &'a str,
 }
@@ -222,7 +222,7 @@ fn p256_point_of(string: &[u8]) -> Result<EcdsaNistP256PublicKey>
 
 /// An Ed25519 key that a security key holds.
 #[derive(Clone, Copy)]
-pub(crate) struct SkEd25519Ref<'a> {
+pub struct SkEd25519Ref<'a> {
     pub key: [u8; 32],
     pub application: &'a str,
 }

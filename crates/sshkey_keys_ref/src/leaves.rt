@@ -8,7 +8,7 @@ use sshkey_terms::ReadFrom;
 
 /// The bytes of a number of any size, in two's complement (RFC 4251, section 5).
 #[derive(Clone, Copy)]
-pub(crate) struct MpintRef<'a>(pub &'a [u8]);
+pub struct MpintRef<'a>(pub &'a [u8]);
 
 /// A string of the bytes of a number.
 #[tactic(auto, using(sshkey_terms::proofs::Walking::walking), unfolding(sshkey_model::specs::Mpints::mpint_at))]

@@ -13,4 +13,7 @@ mod walk;
 
 pub use body::{skip_body, take_body};
 pub use key_data_ref::KeyDataRef;
+pub use key_ref::KeyRef;
+pub use kinds::{DsaRef, RsaRef, SkEcdsaRef, SkEd25519Ref};
+pub use leaves::MpintRef;
 pub use signature_ref::SignatureRef;

@@ -34,9 +34,9 @@ use Rattle.sshkey_krl.specs.Owned.{Adds}
 use Rattle.sshkey_krl.specs.Parts as parts
 use Rattle.sshkey_krl.specs.Parts.{key_id_format, numbered, part_format, part_shows, serial_format, text_from}
 use Rattle.sshkey_krl.specs.Revocation.{Authority, Certificates, Everybody, KeyIds, Keys, Krl, Numbers, Part, Section, Sha1s, Sha256s, Signer, begun, with_section, without_zero}
-use Rattle.sshkey_krl.specs.Sections.{authority_from, body, kind_from, section_format}
+use Rattle.sshkey_krl.specs.Sections.{authority_from, body, is_read_signer, kind_from, section_format}
 use Rattle.sshkey_krl.specs.Serials.{Listed, Range, range_from}
-use Rattle.sshkey_krl.specs.Written.{Appends, IsWellFormedAuthority, RefusesToWrite, authority_string, certificates_section, framed, has_zero, header, key_id_part, key_section, range_part, serials_part, sha1_section, sha256_section}
+use Rattle.sshkey_krl.specs.Written.{Appends, IsWellFormedAuthority, RefusesToWrite, authority_string, certificates_section, framed, has_zero, header, is_read_authority, key_id_part, key_section, range_part, serials_part, sha1_section, sha256_section}
 use Rattle.sshkey_krl.specs.declared.part.PartKind.TheVariants as kinds
 use Rattle.sshkey_krl.specs.declared.section.SectionKind.TheVariants as sections
 use Rattle.sshkey_krl.proofs.Krls.{spelled}
@@ -145,32 +145,32 @@ sha256_spelled d is fits = framed_spelled kind_from body 5 sections.Sha256 (Sha2
 
 -- ---- a section of a part about certificates
 
-signer_from : (k : Key) → IsKey k → Fits (normal_key k) → authority_from (flat (normal_key k)) ≡ Ok (Signer k)
-signer_from k is fits = go (flat (normal_key k)) some (spelled_whole key_grammar (flat (normal_key k)) k (key_normal k is fits))
+signer_from : (k : Key) → IsKey k → is_read_signer k ≡ true → Fits (normal_key k) → authority_from (flat (normal_key k)) ≡ Ok (Signer k)
+signer_from k is read fits = go (flat (normal_key k)) some (spelled_whole key_grammar (flat (normal_key k)) k (key_normal k is fits))
   where
     some : 0 < length (flat (normal_key k))
     some = omega (arith, length_both (algorithm (key_algorithm k)) (key_body k), box_shows (bytes (algorithm_name (key_algorithm k))))
 
     go : (b : List ℕ) → 0 < length b → whole key_data_at b ≡ Ok k → authority_from b ≡ Ok (Signer k)
     go [] some e = absurd (omega arith)
-    go (c ∷ b) some e = rw e refl
+    go (c ∷ b) some e = rw (e, read) refl
 
 abbrev authority_format : Format Authority
 authority_format = tested authority_from string_format
 
-authority_spelled : (a : Authority) → IsWellFormedAuthority a → Fits (authority_string a) → authority_format.Spells a (flat (authority_string a))
-authority_spelled Everybody is fits = record { inner = []; spelled = normal_is_spelling [] tt fits; makes = refl }
-authority_spelled (Signer k) is fits = record { inner = flat (normal_key k); spelled = string_spelled (normal_key k) fits; makes = signer_from k is (fits_inside (normal_key k) fits) }
+authority_spelled : (a : Authority) → IsWellFormedAuthority a → is_read_authority a ≡ true → Fits (authority_string a) → authority_format.Spells a (flat (authority_string a))
+authority_spelled Everybody is read fits = record { inner = []; spelled = normal_is_spelling [] tt fits; makes = refl }
+authority_spelled (Signer k) is read fits = record { inner = flat (normal_key k); spelled = string_spelled (normal_key k) fits; makes = signer_from k is read (fits_inside (normal_key k) fits) }
 
 part_ends : AllEnd part_format.grammar
 part_ends = called_ends (tested parts.kind_from byte_format) (λ k. boxed (parts.body k)) (λ b. refl) (λ k b. refl)
 
-pub certificates_spelled : (a : Authority) (x : Part) (q : Parts) → IsWellFormedAuthority a → (Fits q → part_format.Spells x (flat q)) → Fits (certificates_section a q) → section_format.Spells (Certificates a (x ∷ [])) (flat (certificates_section a q))
+pub certificates_spelled : (a : Authority) (x : Part) (q : Parts) → IsWellFormedAuthority a → is_read_authority a ≡ true → (Fits q → part_format.Spells x (flat q)) → Fits (certificates_section a q) → section_format.Spells (Certificates a (x ∷ [])) (flat (certificates_section a q))
 unfolding flat
-certificates_spelled a x q is part fits =
+certificates_spelled a x q is read part fits =
     let both = framed_inside 1 (authority_string a & string [] & q) fits in
     let later = fits_second (authority_string a) (string [] & q) both in
-    let first = authority_spelled a is (fits_first (authority_string a) (string [] & q) both) in
+    let first = authority_spelled a is read (fits_first (authority_string a) (string [] & q) both) in
     let second = normal_is_spelling [] tt (fits_first (string []) q later) in
     framed_spelled kind_from body 1 sections.Certificates (Certificates a (x ∷ [])) (authority_string a & string [] & q) refl fits (record {
       inner = (a, ([], x ∷ []));

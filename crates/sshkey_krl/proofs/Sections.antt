@@ -1,14 +1,14 @@
 -- What a section says, by its kind.
-use Rattle.std.proofs.Common.{◌≡◌, ◌<◌, ℕ, Bool, ◌&&◌, Option, Some, None, List, [], ◌∷◌, length, Result, Ok, Err, refl, sym, subst, ◌∙◌, arith}
-use Rattle.std.specs.Prelude.{is_some}
+use Rattle.std.proofs.Common.{◌≡◌, ◌<◌, ℕ, Bool, true, false, ◌&&◌, Option, Some, None, List, [], ◌∷◌, length, Result, Ok, Err, refl, sym, subst, ◌∙◌, arith}
+use Rattle.std.specs.Prelude.{is_some, if◌then◌else◌}
 use Rattle.sshkey_base.proofs.Judging.{answers_first, answers_later}
 use Rattle.sshkey_base.proofs.Accepted.{whole_spelled}
 use Rattle.sshkey_base.specs.Answers.{AnswersAlways}
-use Rattle.sshkey_base.specs.Causes.{Cause}
+use Rattle.sshkey_base.specs.Causes.{Cause, Faulty}
 use Rattle.sshkey_base.specs.Formats.{array_format, string_format}
 use Rattle.sshkey_model.specs.Keys.{Key, normal_key}
 use Rattle.sshkey_model.specs.Parts.{flat}
-use Rattle.sshkey_model.specs.Reading.{Fault, ◌>>=◌, checked_whole, list_whole, string_at, whole, behind_at}
+use Rattle.sshkey_model.specs.Reading.{Fault, FormatEncoding, ◌>>=◌, checked_whole, list_whole, string_at, whole, behind_at}
 use denote.Ref.{Bor}
 use Rattle.sshkey_keys.specs.KeyReaders.{key_grammar}
 use Rattle.sshkey_keys.specs.Keys.{SpellsKey, key_data_at}
@@ -18,7 +18,7 @@ use Rattle.sshkey_terms.specs.Slices.{Keeps}
 use Rattle.sshkey_krl.specs.Asked.{Asked, authority_says, key_says, part_says, says, sha1_says, sha256_says, signer_says}
 use Rattle.sshkey_krl.specs.Parts.{part_format, part_shows}
 use Rattle.sshkey_krl.specs.Revocation.{Authority, Everybody, Part, Section, Signer}
-use Rattle.sshkey_krl.specs.Sections.{array_shows, authority_from, body, string_shows}
+use Rattle.sshkey_krl.specs.Sections.{array_shows, authority_from, body, is_read_signer, string_shows}
 use Rattle.sshkey_krl.specs.declared.section.SectionKind.TheVariants as kinds
 use Rattle.sshkey_krl.proofs.Asking.{asked}
 
@@ -143,24 +143,40 @@ module _ (a : Asked) where
     about_all [] y none said = said ∙ everybody a.certificate a.key a.signer
     about_all (c ∷ b) y none said = absurd (cc none)
 
-    key_about : (b : List ℕ) → 0 < length b → about b ≡ (whole key_data_at b >>= λ k. Ok (authority_says a (Signer k)))
+    abbrev judged : Key → Result Bool Fault
+    judged k = if is_read_signer k then Ok (authority_says a (Signer k)) else Err FormatEncoding
+
+    by_test : (k : Key) (test : Bool) → ((if test then Ok (Signer k) else Err FormatEncoding) >>= λ w. Ok (authority_says a w)) ≡ (if test then Ok (authority_says a (Signer k)) else Err FormatEncoding)
+    by_test k true = refl
+    by_test k false = refl
+
+    key_about : (b : List ℕ) → 0 < length b → about b ≡ (whole key_data_at b >>= judged)
     key_about [] some = absurd (omega arith)
     key_about (c ∷ b) some = go (whole key_data_at (c ∷ b)) refl
       where
-        go : (found : Result Key Fault) → whole key_data_at (c ∷ b) ≡ found → about (c ∷ b) ≡ (whole key_data_at (c ∷ b) >>= λ k. Ok (authority_says a (Signer k)))
-        go (Ok k) e = rw e refl
+        go : (found : Result Key Fault) → whole key_data_at (c ∷ b) ≡ found → about (c ∷ b) ≡ (whole key_data_at (c ∷ b) >>= judged)
+        go (Ok k) e = rw e (by_test k (is_read_signer k))
         go (Err d) e = rw e refl
 
     pub about_none : (b : List ℕ) (e f : E) → 0 < length b → Keeps {X = KeyDataRef} key_bytes cause (whole key_data_at b) b (Err e) → cause f ≡ cause e → AboutSays b (Err f)
     about_none b e f some h same = rw (key_about b some) (go (whole key_data_at b) h)
       where
-        go : (found : Result Key Fault) → Keeps {X = KeyDataRef} key_bytes cause found b (Err e) → AnswersAlways (λ y. y) cause (found >>= λ k. Ok (authority_says a (Signer k))) (Err f)
+        go : (found : Result Key Fault) → Keeps {X = KeyDataRef} key_bytes cause found b (Err e) → AnswersAlways (λ y. y) cause (found >>= judged) (Err f)
         go (Ok k) h = absurd h
         go (Err d) h = same ∙ h
 
-    pub about_signer : (b : List ℕ) (key : KeyDataRef) (y : Bool) → 0 < length b → Keeps {E = E} key_bytes cause (whole key_data_at b) b (Ok key) → ((k : Key) → SpellsKey k (key_bytes key) → y ≡ signer_says a (flat (normal_key k))) → AboutSays b (Ok y)
-    about_signer b key y some h said = rw (key_about b some) (go (whole key_data_at b) refl h)
+    -- the test of a key that was read
+    tested_key : (b : List ℕ) (key : KeyDataRef) (test : Bool) (r : Result Bool E) → 0 < length b → Keeps {E = E} key_bytes cause (whole key_data_at b) b (Ok key) → ((k : Key) → SpellsKey k (key_bytes key) → test ≡ is_read_signer k) → ((k : Key) → SpellsKey k (key_bytes key) → AnswersAlways {E = E} (λ y. y) cause (if test then Ok (authority_says a (Signer k)) else Err FormatEncoding) r) → AboutSays b r
+    tested_key b key test r some h is said = rw (key_about b some) (go (whole key_data_at b) refl h)
       where
-        go : (found : Result Key Fault) → whole key_data_at b ≡ found → Keeps {E = E} key_bytes cause found b (Ok key) → AnswersAlways {E = E} (λ y. y) cause (found >>= λ k. Ok (authority_says a (Signer k))) (Ok y)
-        go (Ok k) e is = said k (subst (λ (z : List ℕ). SpellsKey k z) (sym is) (whole_spelled key_grammar b k e)) ∙ signed a.certificate a.key a.signer k
-        go (Err d) e is = absurd is
+        go : (found : Result Key Fault) → whole key_data_at b ≡ found → Keeps {E = E} key_bytes cause found b (Ok key) → AnswersAlways {E = E} (λ y. y) cause (found >>= judged) r
+        go (Ok k) e same =
+            let spelled = subst (λ (z : List ℕ). SpellsKey k z) (sym same) (whole_spelled key_grammar b k e) in
+            rw (sym (is k spelled)) (said k spelled)
+        go (Err d) e same = absurd same
+
+    pub about_unread : (b : List ℕ) (key : KeyDataRef) (f : E) → 0 < length b → Keeps {E = E} key_bytes cause (whole key_data_at b) b (Ok key) → ((k : Key) → SpellsKey k (key_bytes key) → false ≡ is_read_signer k) → cause f ≡ Faulty FormatEncoding → AboutSays b (Err f)
+    about_unread b key f some h is same = tested_key b key false (Err f) some h is (λ k spelled. same)
+
+    pub about_signer : (b : List ℕ) (key : KeyDataRef) (y : Bool) → 0 < length b → Keeps {E = E} key_bytes cause (whole key_data_at b) b (Ok key) → ((k : Key) → SpellsKey k (key_bytes key) → true ≡ is_read_signer k) → ((k : Key) → SpellsKey k (key_bytes key) → y ≡ signer_says a (flat (normal_key k))) → AboutSays b (Ok y)
+    about_signer b key y some h is said = tested_key b key true (Ok y) some h is (λ k spelled. said k spelled ∙ signed a.certificate a.key a.signer k)

@@ -9,3 +9,5 @@ pub mod KrlRef
 pub mod Written
 pub mod Owned
 pub mod Revocations
+pub mod KrlExamples
+pub mod Wholeness

@@ -1,5 +1,5 @@
 -- The name of RSA before the body of a key (RFC 4253, section 6.6).
-use Rattle.std.specs.Prelude.{ℕ, List, [], ◌++◌, ◌∷◌, codes}
+use Rattle.std.specs.Prelude.{ℕ, List, ◌∷◌, codes}
 
 -- the string `ssh-rsa`
 abbrev pub ssh_rsa : List ℕ

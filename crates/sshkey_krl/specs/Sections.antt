@@ -1,6 +1,7 @@
 -- How the sections of a key revocation list are spelled (PROTOCOL.krl).
 use Rattle.std.proofs.Common.{ℕ, List, [], ◌∷◌, length, Result, Ok, Err, ap, arith}
-use Rattle.std.specs.Prelude.{◌==◌, if◌then◌else◌}
+use Rattle.std.specs.Prelude.{◌==◌, Bool, if◌then◌else◌}
+use Rattle.openssh_limits.specs.Keys.{is_read_key}
 use Rattle.sshkey_base.specs.Formats.{Format, array_format, string_format}
 use Rattle.sshkey_model.proofs.TextReaders.{box_shows}
 use Rattle.sshkey_model.specs.Parts.{bytes}
@@ -14,10 +15,14 @@ use Rattle.sshkey_krl.specs.Revocation.{Authority, Certificates, Everybody, Keys
 use Rattle.sshkey_krl.specs.declared.section.SectionKind.{SectionKind}
 use Rattle.sshkey_krl.specs.declared.section.SectionKind.TheVariants as kinds
 
--- ---- the authority: a key, or no bytes
+-- ---- the authority: a key that OpenSSH reads, or no bytes
+
+-- OpenSSH reads RSA from 1,024 bits on.
+abbrev pub is_read_signer : Key → Bool
+is_read_signer = is_read_key 1024
 
 abbrev signer : Key → Result Authority Fault
-signer k = Ok (Signer k)
+signer k = if is_read_signer k then Ok (Signer k) else Err FormatEncoding
 
 abbrev pub authority_from : List ℕ → Result Authority Fault
 authority_from [] = Ok Everybody

@@ -1,5 +1,5 @@
 -- How what is revoked is written: each time one section more, of one part (PROTOCOL.krl).
-use Rattle.std.specs.Prelude.{◌≡◌, ◌⊎◌, ◌==◌, ℕ, Bool, List, [], ◌++◌, Result, Ok, Err}
+use Rattle.std.specs.Prelude.{◌≡◌, ◌⊎◌, ◌==◌, ℕ, Bool, true, List, [], ◌++◌, Result, Ok, Err}
 use Rattle.std.specs.List.{list_any}
 use Rattle.std.specs.Int.{w8, w32, w64}
 use Rattle.sshkey_base.specs.declared.encoding.Error.TheVariants as encoding
@@ -9,6 +9,7 @@ use Rattle.sshkey_model.specs.Keys.{IsKey, normal_key}
 use Rattle.sshkey_model.specs.Parts.{Parts, BoxesFit, Fits, number, box, each, flat, ◌&◌}
 use Rattle.sshkey_model.specs.Texts.{string}
 use Rattle.sshkey_krl.specs.Revocation.{Authority, Everybody, Signer}
+use Rattle.sshkey_krl.specs.Sections.{is_read_signer}
 
 -- A number or a byte of them is 0, which no list may have there.
 abbrev pub has_zero : List ℕ → Bool
@@ -18,6 +19,11 @@ has_zero xs = list_any (λ x. x == 0) xs
 abbrev pub IsWellFormedAuthority : Authority → Type 0
 IsWellFormedAuthority Everybody = Unit {0}
 IsWellFormedAuthority (Signer key) = IsKey key
+
+-- OpenSSH reads the key, where one is given. No list may name another.
+abbrev pub is_read_authority : Authority → Bool
+is_read_authority Everybody = true
+is_read_authority (Signer key) = is_read_signer key
 
 -- what stands before the sections, where nothing is flagged or reserved; the magic is a number here
 abbrev pub header : ℕ → ℕ → List ℕ → Parts

@@ -5,12 +5,34 @@ ghost use Rattle.sshkey_model.specs.Keys.{Key, normal_key};
 ghost use Rattle.sshkey_model.specs.Parts.{flat};
 ghost use Rattle.sshkey_keys.specs.Keys.{SpellsKey};
 ghost use Rattle.sshkey_keys_ref.specs.KeyDataRef.{key_bytes};
+ghost use Rattle.sshkey_krl.specs.Owned.{authority_of};
 ghost use Rattle.sshkey_krl.specs.Renamed.{ssh_rsa};
+ghost use Rattle.sshkey_krl.specs.Sections.{is_read_signer};
+ghost use Rattle.sshkey_krl.specs.Written.{is_read_authority};
 
+use openssh_limits::{LEAST_RSA_BITS, is_read_key, is_read_key_ref};
+use sshkey_keys::KeyData;
 use sshkey_keys_ref::KeyDataRef;
 
 /// The string `ssh-rsa`, before the body of an RSA key.
 const SSH_RSA: &[u8] = b"\0\0\0\x07ssh-rsa";
+
+/// Whether OpenSSH reads the key, and so a list that names it as an authority's.
+pub(crate) fn is_read_signer(key: &KeyDataRef<'_>) -> bool
+    ensures { (k : Key) → SpellsKey k (key_bytes key.now) → result ≡ is_read_signer k }
+{
+    is_read_key_ref(key, LEAST_RSA_BITS)
+}
+
+/// Whether OpenSSH reads the key, where one is given.
+pub(crate) fn is_read_authority(authority: Option<&KeyData>) -> bool
+    ensures { result ≡ is_read_authority (authority_of authority.entry) }
+{
+    match authority {
+        Some(key) => is_read_key(key, LEAST_RSA_BITS),
+        None => true,
+    }
+}
 
 /// Whether the bytes are the normal form of the key.
 pub(crate) fn is_normal_form(bytes: &[u8], key: &KeyDataRef<'_>) -> bool

@@ -5,6 +5,7 @@ ghost use Rattle.sshkey_model.specs.Reading.{whole};
 ghost use Rattle.sshkey_terms.specs.Slices.{is_taken};
 ghost use Rattle.sshkey_krl.specs.Krls.{krl_format};
 
+use crate::authority::is_read_authority;
 use crate::encode::{Framed, Header, KeyString, Range, Serials, append, append_part};
 use crate::krl_ref::KrlRef;
 use crate::revocations::Revocations;
@@ -16,7 +17,8 @@ use std::alloc::Global;
 /// A key revocation list that owns its bytes (PROTOCOL.krl). What is to be revoked is added to it,
 /// each time in a section of its own. If a call fails, the list is as it was.
 ///
-/// An authority is the key that signed the certificates, or `None` for those of everybody.
+/// An authority is the key that signed the certificates, or `None` for those of everybody. Calls
+/// fail with `FormatEncoding` for one that OpenSSH does not read (`KrlRef::from_bytes`).
 #[derive(Debug, Drop)]
 pub struct Krl {
     bytes: Vec<u8>,
@@ -37,7 +39,7 @@ impl Krl {
     ghost use Rattle.sshkey_krl.specs.Revocation.{KeyIds, Keys, Numbers, Sha1s, Sha256s};
     ghost use Rattle.sshkey_krl.specs.Serials.{Listed};
     ghost use Rattle.sshkey_krl.specs.Serials as serials;
-    ghost use Rattle.sshkey_krl.specs.Written.{IsWellFormedAuthority, has_zero, key_id_part, key_section, range_part, serials_part, sha1_section, sha256_section};
+    ghost use Rattle.sshkey_krl.specs.Written.{IsWellFormedAuthority, has_zero, is_read_authority, key_id_part, key_section, range_part, serials_part, sha1_section, sha256_section};
 
     /// A list with that number, date and comment that revokes nothing. The date is in seconds since
     /// 1970.
@@ -145,11 +147,17 @@ impl Krl {
     pub fn revoke_serials(&mut self, authority: Option<&KeyData>, serials: &[u64]) -> Result<()>
         requires { IsWellFormedAuthority (authority_of authority) }
         ensures added { has_zero serials.now ≡ false →
+            is_read_authority (authority_of authority.entry) ≡ true →
             AddsPart authority.entry (Numbers (Listed serials.now)) (serials_part serials.now)
             (krl_bytes self.old) result (krl_bytes self.new) }
+        ensures unread { is_read_authority (authority_of authority.entry) ≡ false →
+            Rejects (krl_bytes self.old) result (krl_bytes self.new) }
         ensures zero { has_zero serials.now ≡ true → Rejects (krl_bytes self.old) result
             (krl_bytes self.new) }
     {
+        if !is_read_authority(authority) {
+            return Err(Error::FormatEncoding);
+        }
         if serials.contains(&0) {
             return Err(Error::FormatEncoding);
         }
@@ -163,11 +171,17 @@ impl Krl {
     pub fn revoke_range(&mut self, authority: Option<&KeyData>, first: u64, last: u64) -> Result<()>
         requires { IsWellFormedAuthority (authority_of authority) }
         ensures added { 0 < first → first ≤ last →
+            is_read_authority (authority_of authority.entry) ≡ true →
             AddsPart authority.entry (Numbers (serials.Range first last)) (range_part first last)
             (krl_bytes self.old) result (krl_bytes self.new) }
+        ensures unread { is_read_authority (authority_of authority.entry) ≡ false →
+            Rejects (krl_bytes self.old) result (krl_bytes self.new) }
         ensures none { (first ≡ 0) ⊎ (last < first) → Rejects (krl_bytes self.old) result
             (krl_bytes self.new) }
     {
+        if !is_read_authority(authority) {
+            return Err(Error::FormatEncoding);
+        }
         check_range(first, last)?;
         append_part(&mut self.bytes, authority, 0x21, Range { first, last })
     }
@@ -178,11 +192,17 @@ impl Krl {
     pub fn revoke_key_id(&mut self, authority: Option<&KeyData>, key_id: &str) -> Result<()>
         requires { IsWellFormedAuthority (authority_of authority) }
         ensures added { has_zero key_id.now ≡ false →
+            is_read_authority (authority_of authority.entry) ≡ true →
             AddsPart authority.entry (KeyIds (key_id.now ∷ [])) (key_id_part key_id.now)
             (krl_bytes self.old) result (krl_bytes self.new) }
+        ensures unread { is_read_authority (authority_of authority.entry) ≡ false →
+            Rejects (krl_bytes self.old) result (krl_bytes self.new) }
         ensures zero { has_zero key_id.now ≡ true → Rejects (krl_bytes self.old) result
             (krl_bytes self.new) }
     {
+        if !is_read_authority(authority) {
+            return Err(Error::FormatEncoding);
+        }
         if key_id.as_bytes().contains(&0) {
             return Err(Error::FormatEncoding);
         }
@@ -192,12 +212,22 @@ impl Krl {
 
 /// Revokes what the list does.
 impl Revocations for Krl {
+    ghost use Rattle.std.specs.Prelude.{false};
+    ghost use Rattle.sshkey_krl.specs.Wholeness.{list_whole};
     ghost use Rattle.sshkey_krl.specs.Owned.{krl_of};
     ghost use Rattle.sshkey_krl.specs.Revocation as list;
 
     ghost revokes = { λ krl key asked. list.revokes (krl_of krl) key asked };
 
     ghost revokes_key = { λ krl key. list.revokes_key (krl_of krl) key };
+
+    ghost whole = { λ krl. list_whole (krl_of krl) };
+
+    ghost revokes_none = { λ _. false };
+
+    fn revokes_none(&self) -> bool {
+        false
+    }
 
     fn revokes_key(&self, key: &[u8]) -> bool {
         self.as_ref().revokes_key(key)

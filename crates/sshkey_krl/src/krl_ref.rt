@@ -40,12 +40,11 @@ impl<'a> KrlRef<'a> {
     /// for 0 or for a number above 2^64 - 1; and a zero byte before the end of a text.
     ///
     /// An authority is empty, for every key, or a key, and else the list fails as
-    /// `KeyDataRef::from_bytes` does. An RSA key under the name `rsa-sha2-256` or `rsa-sha2-512`
-    /// counts as the one under `ssh-rsa`. ssh-keygen(1) rejects a list for the key of an authority
-    /// that it does not read: a private-use name, an RSA key below 1,024 or above 16,384 bits, a
-    /// negative number, a point that is compressed or off its curve, or a zero byte inside an
-    /// application. Here such an authority names itself alone. A zero byte at the end of an
-    /// application counts here, and not there.
+    /// `KeyDataRef::from_bytes` does. It fails with `FormatEncoding` for a key that OpenSSH does not
+    /// read: under a private-use name, RSA below 1,024 or above 16,384 bits, with a number that is
+    /// not positive, with a point that is compressed, or with a zero byte in an application. Whether
+    /// a point is on its curve is not asked: OpenSSH refuses a list with one that is not. An RSA key
+    /// under the name `rsa-sha2-256` or `rsa-sha2-512` counts as the one under `ssh-rsa`.
     pub fn from_bytes(bytes: &'a [u8]) -> Result<KrlRef<'a>>
         ensures keeps { Keeps krl_bytes cause (whole krl_format.read bytes.now) bytes.now result }
         ensures accepts { AcceptsAll krl_of SpellsKrl bytes.now result }

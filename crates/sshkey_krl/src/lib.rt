@@ -7,6 +7,7 @@
 mod asked_key;
 mod authority;
 mod encode;
+pub mod examples;
 mod header;
 mod item;
 mod krl;

@@ -1,14 +1,15 @@
 //! Who says what is revoked.
 
 ghost use Rattle.std.specs.List.{list_any};
-ghost use Rattle.std.specs.Prelude.{◌≡◌, ℕ, Bool, false, IfOk, List};
+ghost use Rattle.std.specs.Prelude.{◌≡◌, ℕ, Bool, false, true, IfErr, IfOk, List};
 ghost use Rattle.sshkey_cert.specs.CertificateValues.{certificate_of};
 ghost use Rattle.sshkey_keys.specs.Keys.{key_of};
 ghost use Rattle.sshkey_krl.specs.KrlRef.{krl_of};
 ghost use Rattle.sshkey_krl.specs.Revocation as list;
 ghost use Rattle.sshkey_krl.specs.Revocation.{Grant, grant};
 ghost use Rattle.sshkey_krl.specs.Revocations as values;
-ghost use Rattle.sshkey_krl.specs.Revocations.{unless_read};
+ghost use Rattle.sshkey_krl.specs.Revocations.{only_if_read, unless_read};
+ghost use Rattle.sshkey_krl.specs.Wholeness.{any_whole, list_whole, none_whole, read_whole};
 ghost use Rattle.sshkey_model.specs.Keys.{normal_key};
 ghost use Rattle.sshkey_model.specs.Parts.{flat};
 
@@ -29,6 +30,22 @@ pub trait Revocations {
 
     /// Whether the key with those bytes is revoked.
     ghost revokes_key: { Self → List ℕ → Bool };
+
+    /// Whoever revokes a key revokes each certificate of it.
+    ghost whole: { (s : Self) (key : List ℕ) (asked : Grant) → revokes_key s key ≡ true →
+        revokes s key asked ≡ true };
+
+    /// Holds only if nothing is revoked, so that nobody has to be asked.
+    ghost revokes_none: { Self → Bool };
+
+    /// Returns whether nothing is revoked, whatever is asked. `false` is always right. Does not
+    /// allocate.
+    fn revokes_none(&self) -> bool
+        ensures said { result ≡ revokes_none self.now }
+        ensures key { revokes_none self.now ≡ true → (key : List ℕ) →
+            revokes_key self.now key ≡ false }
+        ensures certificate { revokes_none self.now ≡ true → (key : List ℕ) → (asked : Grant) →
+            revokes self.now key asked ≡ false };
 
     /// Returns whether the key is revoked. The bytes are its normal form. Does not allocate.
     fn revokes_key(&self, key: &[u8]) -> bool
@@ -51,9 +68,13 @@ pub trait Revocations {
     final fn is_key_revoked(&self, alloc: Global, key: &KeyData) -> Result<bool, AllocError>
     where
         Self: Sized,
-        ensures { IfOk result
+        ensures said { IfOk result
             (λ yes. yes ≡ values.is_key_revoked (revokes_key self.now) (key_of key.now)) }
+        ensures asks { IfErr result (λ _. revokes_none self.now ≡ false) }
     {
+        if self.revokes_none() {
+            return Ok(false);
+        }
         let key = normal_form(alloc, key)?;
         Ok(self.revokes_key(key.as_slice()))
     }
@@ -67,9 +88,13 @@ pub trait Revocations {
     ) -> Result<bool, AllocError>
     where
         Self: Sized,
-        ensures { IfOk result (λ yes. yes
+        ensures said { IfOk result (λ yes. yes
             ≡ values.is_certificate_revoked (revokes self.now) (certificate_of certificate.now)) }
+        ensures asks { IfErr result (λ _. revokes_none self.now ≡ false) }
     {
+        if self.revokes_none() {
+            return Ok(false);
+        }
         let key = normal_form(alloc, certificate.public_key())?;
         let signature_key = normal_form(alloc, certificate.signature_key())?;
         Ok(self.revokes_certificate(
@@ -100,6 +125,14 @@ impl Revocations for NoRevocations {
 
     ghost revokes_key = { λ _ _. false };
 
+    ghost whole = { none_whole };
+
+    ghost revokes_none = { λ _. true };
+
+    fn revokes_none(&self) -> bool {
+        true
+    }
+
     fn revokes_key(&self, _key: &[u8]) -> bool {
         false
     }
@@ -121,6 +154,14 @@ impl Revocations for KrlRef<'_> {
 
     ghost revokes_key = { λ krl key. list.revokes_key (krl_of krl) key };
 
+    ghost whole = { λ krl. list_whole (krl_of krl) };
+
+    ghost revokes_none = { λ _. false };
+
+    fn revokes_none(&self) -> bool {
+        false
+    }
+
     fn revokes_key(&self, key: &[u8]) -> bool {
         KrlRef::revokes_key(self, key)
     }
@@ -141,6 +182,18 @@ impl<R: Revocations, E> Revocations for Result<R, E> {
     ghost revokes = { λ read key asked. unless_read (λ it. R.revokes it key asked) read };
 
     ghost revokes_key = { λ read key. unless_read (λ it. R.revokes_key it key) read };
+
+    ghost whole = { λ read key asked. read_whole (λ it. R.revokes_key it key)
+        (λ it. R.revokes it key asked) (λ it. R.whole it key asked) read };
+
+    ghost revokes_none = { λ read. only_if_read R.revokes_none read };
+
+    fn revokes_none(&self) -> bool {
+        match self {
+            Ok(revocations) => revocations.revokes_none(),
+            Err(_) => false,
+        }
+    }
 
     fn revokes_key(&self, key: &[u8]) -> bool {
         match self {
@@ -169,6 +222,15 @@ impl<R: Revocations> Revocations for &[R] {
     ghost revokes = { λ all key asked. list_any (λ it. R.revokes it key asked) all.now };
 
     ghost revokes_key = { λ all key. list_any (λ it. R.revokes_key it key) all.now };
+
+    ghost whole = { λ all key asked. any_whole (λ it. R.revokes_key it key)
+        (λ it. R.revokes it key asked) (λ it. R.whole it key asked) all.now };
+
+    ghost revokes_none = { λ _. false };
+
+    fn revokes_none(&self) -> bool {
+        false
+    }
 
     fn revokes_key(&self, key: &[u8]) -> bool {
         self.iter().any(|it| it.revokes_key(key))

@@ -10,6 +10,7 @@ ghost use Rattle.sshkey_krl.specs.Revocation as model;
 ghost use Rattle.sshkey_krl.specs.Sections.{array_shows, authority_from, body, kind_from, section_format, section_shows, string_shows};
 ghost use Rattle.sshkey_krl.specs.declared.section.SectionKind.TheVariants as kinds;
 
+use crate::authority::is_read_signer;
 use crate::item::{Item, any_of};
 use crate::numbered::{Numbered, ask_numbered};
 use crate::part::Part;
@@ -89,7 +90,8 @@ fn ask_certificates(query: &Query<'_>, bytes: &[u8]) -> Result<bool>
 }
 
 /// Whether a certificate is asked about that the authority has signed: any, if no bytes name it.
-/// Fails as `KeyDataRef::from_bytes` does for bytes that spell no key.
+/// Fails as `KeyDataRef::from_bytes` does for bytes that spell no key, and with `FormatEncoding`
+/// for a key that OpenSSH does not read.
 fn is_about(query: &Query<'_>, authority: &[u8]) -> Result<bool>
     ensures { AnswersAlways (λ y. y) cause
         (checked_whole (λ w. Ok (authority_says (asked_of query.now) w)) authority_from
@@ -99,6 +101,9 @@ fn is_about(query: &Query<'_>, authority: &[u8]) -> Result<bool>
         return Ok(query.has_certificate());
     }
     let key = KeyDataRef::from_bytes(authority)?;
+    if !is_read_signer(&key) {
+        return Err(Error::FormatEncoding);
+    }
     Ok(query.is_signer(&key))
 }
 

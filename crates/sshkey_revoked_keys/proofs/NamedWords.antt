@@ -1,11 +1,12 @@
 -- A word is that of one value, whose key is copied.
-use Rattle.std.proofs.Common.{◌≡◌, ℕ, List, [], length, Bool, true, false, Result, Ok, Err, Vec, inl, sym, ap, subst, ◌∙◌, arith}
+use Rattle.std.proofs.Common.{refl, ◌≡◌, ℕ, List, [], length, Bool, true, false, Result, Ok, Err, Vec, inl, sym, ap, subst, ◌∙◌, arith}
 use Rattle.std.specs.Prelude.{IfErr, IfOk, is_ok}
 use Rattle.sshkey_base.specs.Answers.{Judges}
 use Rattle.sshkey_base.specs.Causes.{cause}
 use Rattle.sshkey_base.specs.declared.error.Error.{Error}
-use Rattle.sshkey_base.specs.declared.error.Error.TheVariants.{Memory}
+use Rattle.sshkey_base.specs.declared.error.Error.TheVariants.{FormatEncoding, Memory}
 use Rattle.sshkey_cert.specs.Lines.{certificates_stand}
+use Rattle.sshkey_base.specs.Formats.{Format}
 use Rattle.sshkey_entries.specs.Answers.{AsksEntry, ReadsEntry, RefusesFor}
 use Rattle.sshkey_model.proofs.Base64Words.{one_blob, some_word}
 use Rattle.sshkey_model.proofs.Blobs.{key_blobs}
@@ -17,7 +18,7 @@ use Rattle.sshkey_model.specs.Parts.{flat}
 use Rattle.sshkey_model.specs.Names.{Algorithm}
 use Rattle.sshkey_model.specs.Reading.{Fault}
 use Rattle.sshkey_public.specs.Lines.{IsWordOf}
-use Rattle.sshkey_revoked_keys.specs.NamedWords.{HasNamedFault, NeedsKey, SaysKey}
+use Rattle.sshkey_revoked_keys.specs.NamedWords.{HasNamedFault, HasNameFault, HasReadFault, IsNamedWord, IsReadWord, NeedsKey, SaysKey}
 
 pub one_value : {V : Type 0} (Spells : V → List ℕ → Type 0) → IsBlob Spells → (word : List ℕ) (v w : V) → IsWordOf Spells word v → IsWordOf Spells word w → v ≡ w
 one_value Spells blobs word v w a b =
@@ -49,9 +50,28 @@ no_word : {V : Type 0} (Spells : V → List ℕ → Type 0) → IsBlob Spells �
 no_word Spells blobs v w = omega (arith, ap length w.is, some_word w.blob (blobs.some v w.blob w.spelled))
 
 pub no_key : (certified : Bool) (first key : List ℕ) → SaysKey certified first [] key → ⊥
-no_key true first key says = no_word _ certificates_stand.blobs says.0 says.1.spelled
-no_key false first key says = no_word _ key_blobs says.0 says.1.spelled
+no_key true first key says = no_word _ certificates_stand.blobs says.0 says.1.named.spelled
+no_key false first key says = no_word _ key_blobs says.0 says.1.named.spelled
 
 pub one_said : (certified : Bool) (first word a b : List ℕ) → SaysKey certified first word a → SaysKey certified first word b → a ≡ b
-one_said true first word a b x y = x.2 ∙ ap (λ (c : Certificate). flat (normal_key c.signed.key)) (one_value _ certificates_stand.blobs word x.0 y.0 x.1.spelled y.1.spelled) ∙ sym y.2
-one_said false first word a b x y = x.2 ∙ ap (λ (k : Key). flat (normal_key k)) (one_value _ key_blobs word x.0 y.0 x.1.spelled y.1.spelled) ∙ sym y.2
+one_said true first word a b x y = x.2 ∙ ap (λ (c : Certificate). flat (normal_key c.signed.key)) (one_value _ certificates_stand.blobs word x.0 y.0 x.1.named.spelled y.1.named.spelled) ∙ sym y.2
+one_said false first word a b x y = x.2 ∙ ap (λ (k : Key). flat (normal_key k)) (one_value _ key_blobs word x.0 y.0 x.1.named.spelled y.1.named.spelled) ∙ sym y.2
+
+-- ---- a value that was read, of that name
+
+module _ {V Y : Type 0} (f : Format Y) (name : V → List ℕ) (Spells : V → List ℕ → Type 0) (blobs : IsBlob Spells) (IsRead : V → Type 0) (first word : List ℕ) where
+  -- no value of that name
+  pub unnamed : (e : Error) → ((value : V) → IsNamedWord name Spells first word value → ⊥) → HasNameFault f name Spells first word e → HasReadFault f name Spells IsRead first word e
+  unnamed e none fault = record { unread = λ value is not_read. absurd (none value is); unnamed = λ _. fault }
+
+  module _ (value : V) (is : IsNamedWord name Spells first word value) where
+    same : (other : V) → IsNamedWord name Spells first word other → value ≡ other
+    same other named = one_value Spells blobs word value other is.spelled named.spelled
+
+    module _ (not_read : IsRead value → ⊥) where
+      -- OpenSSH does not read the one value of that name
+      pub unread : (other : V) → IsReadWord name Spells IsRead first word other → ⊥
+      unread other said = not_read (subst IsRead (sym (same other said.named)) said.read)
+
+      pub unread_fault : HasReadFault f name Spells IsRead first word FormatEncoding
+      unread_fault = record { unread = λ other named none. refl; unnamed = λ none. absurd (none value is) }

@@ -1,3 +1,4 @@
 pub mod NamedWords
 pub mod RevokedLines
 pub mod RevokedKeys
+pub mod LineExamples

@@ -1,15 +1,18 @@
 -- What a word of Base64 says under a name.
-use Rattle.std.specs.Prelude.{◌≡◌, ◌≢◌, ◌⊎◌, ℕ, List, Bool, true, false}
+use Rattle.std.specs.Prelude.{◌≡◌, ◌≢◌, ◌⊎◌, ℕ, List, Bool, true, false, IsTrue}
+use Rattle.openssh_limits.specs.Keys.{is_read_key}
+use Rattle.openssh_limits.specs.Read.{AreReadPrincipals}
 use Rattle.sshkey_base.specs.Formats.{Format}
 use Rattle.sshkey_base.specs.declared.error.Error.{Error}
-use Rattle.sshkey_base.specs.declared.error.Error.TheVariants.{AlgorithmUnknown}
+use Rattle.sshkey_base.specs.declared.error.Error.TheVariants.{AlgorithmUnknown, FormatEncoding}
 use Rattle.sshkey_cert.specs.CertificateFormats.{certificate_format}
 use Rattle.sshkey_cert.specs.CertificateReaders.{SpellsCertificate}
 use Rattle.sshkey_keys.specs.KeyFormats.{key_format}
 use Rattle.sshkey_keys.specs.Keys.{SpellsKey}
+use Rattle.sshkey_krl.specs.Sections.{is_read_signer}
 use Rattle.sshkey_model.specs.Certificates.{Certificate}
 use Rattle.sshkey_model.specs.Keys.{Key, normal_key}
-use Rattle.sshkey_model.specs.Lines.{key_name, name_of_certificate}
+use Rattle.sshkey_model.specs.Lines.{IsWithout, key_name, name_of_certificate}
 use Rattle.sshkey_model.specs.Parts.{flat}
 use Rattle.sshkey_public.specs.LineFaults.{HasFaultOfWord}
 use Rattle.sshkey_public.specs.LineNeeds.{NeedsWord}
@@ -20,20 +23,43 @@ pub record IsNamedWord {V : Type 0} (name : V → List ℕ) (Spells : V → List
   pub named : first ≡ name value
   pub spelled : IsWordOf Spells word value
 
+-- And OpenSSH reads the value.
+pub record IsReadWord {V : Type 0} (name : V → List ℕ) (Spells : V → List ℕ → Type 0) (IsRead : V → Type 0) (first word : List ℕ) (value : V) : Type 0 where
+  pub named : IsNamedWord name Spells first word value
+  pub read : IsRead value
+
 -- the fault of a word that spells no value, and `AlgorithmUnknown` of a value with another name
 pub record HasNameFault {V Y : Type 0} (f : Format Y) (name : V → List ℕ) (Spells : V → List ℕ → Type 0) (first word : List ℕ) (e : Error) : Type 0 where
   pub bad_word : IsNoWord Spells word → HasFaultOfWord f word e
   pub other_name : (value : V) → IsWordOf Spells word value → first ≢ name value → e ≡ AlgorithmUnknown
 
+-- and `FormatEncoding` of a value that OpenSSH does not read
+pub record HasReadFault {V Y : Type 0} (f : Format Y) (name : V → List ℕ) (Spells : V → List ℕ → Type 0) (IsRead : V → Type 0) (first word : List ℕ) (e : Error) : Type 0 where
+  pub unread : (value : V) → IsNamedWord name Spells first word value → (IsRead value → ⊥) → e ≡ FormatEncoding
+  pub unnamed : ((value : V) → IsNamedWord name Spells first word value → ⊥) → HasNameFault f name Spells first word e
+
+-- ---- what OpenSSH reads
+
+-- a key of any size: a line with one that is too short for it is passed over, and nobody logs in by it
+abbrev pub IsReadKey : Key → Type 0
+IsReadKey k = IsTrue (is_read_key 0 k)
+
+-- a certificate: its key, the key that signed it, its key id and its principals
+pub record IsReadCertificate (c : Certificate) : Type 0 where
+  pub key : IsReadKey c.signed.key
+  pub signer : IsTrue (is_read_signer c.signed.signature_key)
+  pub key_id : IsWithout 0 c.signed.key_id
+  pub principals : AreReadPrincipals c.signed.valid_principals
+
 -- ---- a key, as the bytes of its normal form: under a certificate's name that of a certificate
 
 abbrev pub SaysKey : Bool → List ℕ → List ℕ → List ℕ → Type 0
-SaysKey true first word key = (c : Certificate) × IsNamedWord name_of_certificate SpellsCertificate first word c × (key ≡ flat (normal_key c.signed.key))
-SaysKey false first word key = (k : Key) × IsNamedWord key_name SpellsKey first word k × (key ≡ flat (normal_key k))
+SaysKey true first word key = (c : Certificate) × IsReadWord name_of_certificate SpellsCertificate IsReadCertificate first word c × (key ≡ flat (normal_key c.signed.key))
+SaysKey false first word key = (k : Key) × IsReadWord key_name SpellsKey IsReadKey first word k × (key ≡ flat (normal_key k))
 
 abbrev pub HasNamedFault : Bool → List ℕ → List ℕ → Error → Type 0
-HasNamedFault true = HasNameFault certificate_format name_of_certificate SpellsCertificate
-HasNamedFault false = HasNameFault key_format key_name SpellsKey
+HasNamedFault true = HasReadFault certificate_format name_of_certificate SpellsCertificate IsReadCertificate
+HasNamedFault false = HasReadFault key_format key_name SpellsKey IsReadKey
 
 -- Its bytes need memory, or it is a key.
 abbrev pub NeedsNamedBytes : Bool → List ℕ → Type 0

@@ -2,6 +2,7 @@
 //! with a key or a certificate a line (sshd_config(5), RevokedKeys).
 #![tactic(auto)]
 
+pub mod examples;
 pub mod laws;
 mod line;
 mod named_word;

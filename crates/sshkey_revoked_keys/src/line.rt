@@ -1,17 +1,19 @@
 //! Lines of a revocation file that is a text.
 
-ghost use Rattle.std.specs.Prelude.{◌≡◌, ◌<◌, length, true, false, IfErr, IfOk, if◌then◌else◌, ◌∷◌};
+ghost use Rattle.std.specs.Prelude.{◌≡◌, ◌↔◌, ◌<◌, IsTrue, length, true, false, IfErr, IfOk, if◌then◌else◌, ◌∷◌};
 ghost use Rattle.std.specs.Str.Lines.{strip_carriage_return};
 ghost use Rattle.sshkey_base.specs.declared.error.Error.TheVariants.{Memory};
+ghost use Rattle.sshkey_cert.specs.CertificateValues.{certificate_of};
 ghost use Rattle.sshkey_entries.specs.Answers.{AsksEntries, AsksEntry, ReadsEntries, ReadsEntry, RefusesFor};
 ghost use Rattle.sshkey_entries.specs.Fields.{is_filled};
 ghost use Rattle.sshkey_keys.specs.Keys.{key_of};
 ghost use Rattle.sshkey_model.specs.Keys.{normal_key};
 ghost use Rattle.sshkey_model.specs.Parts.{flat};
-ghost use Rattle.sshkey_revoked_keys.specs.NamedWords.{HasNamedFault, NeedsKey, SaysKey};
+ghost use Rattle.sshkey_revoked_keys.specs.NamedWords.{HasNamedFault, IsReadCertificate, IsReadKey, NeedsKey, SaysKey};
 ghost use Rattle.sshkey_revoked_keys.specs.RevokedLines.{HasLineFault, NeedsEntry, NeedsLine, RevokesKey, is_certified_name, revoked_lines};
 
 use crate::named_word::read_named;
+use openssh_limits::{LEAST_RSA_BITS, are_read_principals, is_read_key, is_read_text};
 use sshkey_base::{Algorithm, Error, Result, encode_vec, encoding};
 use sshkey_cert::Certificate;
 use sshkey_entries::{skip_blanks, split_field};
@@ -100,6 +102,9 @@ fn read_certified_key(alloc: Global, name: &str, word: &str) -> Result<Vec<u8>>
     ensures asks { AsksEntry (NeedsKey true name.now) word.now result }
 {
     let certificate = read_named::<Certificate>(alloc, name, word)?;
+    if !is_read_certificate(&certificate) {
+        return Err(Error::FormatEncoding);
+    }
     normal_form(alloc, certificate.public_key())
 }
 
@@ -110,7 +115,27 @@ fn read_key(alloc: Global, name: &str, word: &str) -> Result<Vec<u8>>
     ensures asks { AsksEntry (NeedsKey false name.now) word.now result }
 {
     let key = read_named::<KeyData>(alloc, name, word)?;
+    if !is_read_line_key(&key) {
+        return Err(Error::FormatEncoding);
+    }
     normal_form(alloc, &key)
+}
+
+/// Whether OpenSSH reads the certificate, but for its signature.
+fn is_read_certificate(certificate: &Certificate) -> bool
+    ensures { IsTrue result ↔ IsReadCertificate (certificate_of certificate.now) }
+{
+    is_read_line_key(certificate.public_key())
+        && is_read_key(certificate.signature_key(), LEAST_RSA_BITS)
+        && is_read_text(certificate.key_id())
+        && are_read_principals(certificate.valid_principals())
+}
+
+/// Whether OpenSSH reads the key, or passes it over since it is too short.
+fn is_read_line_key(key: &KeyData) -> bool
+    ensures { IsTrue result ↔ IsReadKey (key_of key.now) }
+{
+    is_read_key(key, 0)
 }
 
 /// The bytes of the normal form of a key, whose parts were read. Fails only when out of memory.

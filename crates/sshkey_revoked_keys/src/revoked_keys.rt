@@ -7,7 +7,7 @@ ghost use Rattle.sshkey_base.specs.declared.error.Error.TheVariants.{Encoding};
 ghost use Rattle.sshkey_krl.specs.Krls.{krl_format};
 ghost use Rattle.sshkey_model.specs.Reading.{whole};
 ghost use Rattle.sshkey_revoked_keys.specs.RevokedKeys as file;
-ghost use Rattle.sshkey_revoked_keys.specs.RevokedKeys.{AsksText, ReadsKrl, ReadsRevokedKeys, begins_krl, has_key};
+ghost use Rattle.sshkey_revoked_keys.specs.RevokedKeys.{AsksText, file_whole, ReadsKrl, ReadsRevokedKeys, begins_krl, has_key};
 
 use crate::line::read_lines;
 use sshkey_base::{Error, Result, encoding};
@@ -81,6 +81,14 @@ impl Revocations for RevokedKeys<'_> {
     ghost revokes = { λ it key asked. file.revokes it key asked };
 
     ghost revokes_key = { λ it key. file.revokes_key it key };
+
+    ghost whole = { file_whole };
+
+    ghost revokes_none = { λ _. false };
+
+    fn revokes_none(&self) -> bool {
+        false
+    }
 
     fn revokes_key(&self, key: &[u8]) -> bool {
         match self {

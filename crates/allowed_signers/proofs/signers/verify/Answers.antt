@@ -25,7 +25,7 @@ pub returns-then-revoked-clause-exactly : goal.returns-then-revoked-clause-exact
 returns-then-revoked-clause-exactly g c = λ other has.
     let same = (c.one_ssh_signature.ensures has.0 (ssh_signature_of c.in_ok-signature.signature) c.args.signature.now c.args.signature.now [] [] has.1 c.in_ok-signature.ensures refl).0 in
     let unrevoked = subst (λ (k : Key). is_key_revoked (g.R.Revocations.revokes_key c.args.revocations.now) k ≡ false) (ap (λ (f : SshSignature). f.key) same ∙ sym (ap key_of c.public_key-key.ensures)) has.2.unrevoked in
-    true≢false (sym c.if-revoked.true ∙ c.in-Ok-is_key_revoked.ensures ∙ unrevoked)
+    true≢false (sym c.if-revoked.true ∙ c.in-Ok-is_key_revoked.ensures.said ∙ unrevoked)
 
 pub returns-then-not-signed-clause-exactly : goal.returns-then-not-signed-clause-exactly
 returns-then-not-signed-clause-exactly g c = λ other has.

@@ -22,7 +22,7 @@ returns-in_err-signature-clause-memory g c =
 
 pub returns-then-branch-clause-names : goal.returns-then-branch-clause-names
 returns-then-branch-clause-names g c =
-    let asked = rw c.public_key.ensures at c.in_ok-is_key_revoked.ensures in
+    let asked = rw c.public_key.ensures at c.in_ok-is_key_revoked.ensures.said in
     (_, c.in_ok-signature.ensures.accepts.spelled, none_left (g.V.RawVerifier.accepts c.args.verifier.now) (g.R.Revocations.revokes_key c.args.revocations.now) c.args.namespace.now c.args.content.now _ (sym asked ∙ c.if-branch.true) (filled_lines c.args.keys.now))
 
 pub find_among-requires : goal.find_among-requires
@@ -30,7 +30,7 @@ find_among-requires g c = (_, c.in_ok-signature.ensures.accepts.spelled)
 
 pub returns-clause-names : goal.returns-clause-names
 returns-clause-names g c =
-    let asked = rw c.public_key.ensures at c.in_ok-is_key_revoked.ensures in
+    let asked = rw c.public_key.ensures at c.in_ok-is_key_revoked.ensures.said in
     named (g.V.RawVerifier.accepts c.args.verifier.now) (g.R.Revocations.revokes_key c.args.revocations.now) c.args.namespace.now c.args.content.now _ (sym asked ∙ c.if-branch.false) c.args.keys.now c.args.signature.now c.in_ok-signature.ensures.accepts.spelled c.find_among.result c.find_among.ensures
 
 pub returns-clause-fault : goal.returns-clause-fault

@@ -1,40 +1,41 @@
-use Rattle.std.proofs.Common.{sym, ◌∙◌}
-use Rattle.std.proofs.lemmas.Result.{err_from_is_err_and}
+use Rattle.std.proofs.Common.{◌≡◌, [], true, ap, inl, inr, refl, subst, sym, ◌∙◌}
+use Rattle.ssh_key.specs.cert.CertificateFormats.{certificate_format}
 use Rattle.ssh_key.specs.cert.CertificateValues.{certificate_of}
-use Rattle.ssh_key.specs.krl.Revocations.{is_certificate_revoked}
-use Rattle.host_keys.specs.Hosts.{IsBadFor, IsSaidOfSigned, IsTrustedCertificate, lines_of, plain_name}
-use Rattle.host_keys.proofs.Said.{why_bad}
-use Rattle.host_keys.proofs.Signed.{judged, why_judged}
+use Rattle.ssh_key.specs.model.Certificates.{Certificate, normal_certificate}
+use Rattle.ssh_key.specs.model.Parts.{flat}
+use Rattle.ssh_key.proofs.Acceptance.{other_cause}
+use Rattle.host_keys.specs.Hosts.{IsHostCertificate, IsTrustedCertificate, lines_of, login_of}
+use Rattle.host_keys.proofs.Said.{as_much, asks_more, other_of}
 use Rattle.host_keys.proofs.certificate.check_certificate.Goals as goal
 
-pub returns-in_err-answer : goal.returns-in_err-answer
-returns-in_err-answer g c =
-    let hmac = g.H.HmacSha1.hmac c.args.hmac.now in
-    let certificate = certificate_of c.args.certificate.now in
-    let lines = lines_of c.args.texts.now in
-    let revoked = is_certificate_revoked (g.R.Revocations.revokes c.args.revocations.now) certificate in
-    let Bad = IsBadFor (g.V.RawVerifier.accepts c.args.verifier.now) c.args.unix_timestamp (plain_name c.args.host.now) certificate in
-    let p = err_from_is_err_and c.from_residual.result c.from_residual.ensures.1 in
-    rw (p.1, p.2) (record {
-      exactly = λ other (is : IsTrustedCertificate hmac (g.V.RawVerifier.accepts c.args.verifier.now) (g.R.Revocations.revokes c.args.revocations.now) c.args.unix_timestamp c.args.host.now c.args.port certificate lines).
-          judged hmac c.args.host.now c.args.port certificate lines revoked _ _ _ _ c.public_key-key.ensures.value c.signature_key-signer.ensures.value c.is_certificate_revoked-revoked.ensures c.signed_verdict.ensures.answer _ (sym c.answer.ensures ∙ c.in_err-answer.was) other (is.unrevoked, is.by_authority);
-      refused = why_judged hmac c.args.host.now c.args.port certificate lines revoked _ _ _ _ c.public_key-key.ensures.value c.signature_key-signer.ensures.value c.is_certificate_revoked-revoked.ensures c.signed_verdict.ensures.answer _ (sym c.answer.ensures ∙ c.in_err-answer.was) Bad;
-    })
-
-pub returns-in-Ok-clause-exactly : goal.returns-in-Ok-clause-exactly
-returns-in-Ok-clause-exactly g c =
-    let hmac = g.H.HmacSha1.hmac c.args.hmac.now in
-    let certificate = certificate_of c.args.certificate.now in
-    let lines = lines_of c.args.texts.now in
-    let revoked = is_certificate_revoked (g.R.Revocations.revokes c.args.revocations.now) certificate in
-    let trusted = judged hmac c.args.host.now c.args.port certificate lines revoked _ _ _ _ c.public_key-key.ensures.value c.signature_key-signer.ensures.value c.is_certificate_revoked-revoked.ensures c.signed_verdict.ensures.answer _ (sym c.answer.ensures ∙ c.in_ok-answer.was) in
-    record { by_authority = trusted.1; unrevoked = trusted.0; good = c.in-Ok.ensures.exactly }
+pub returns-in-Err-clause-exactly : goal.returns-in-Err-clause-exactly
+returns-in-Err-clause-exactly g c = λ other is. c.in-Err.ensures.accepts (other_cause _ (other_of _ _ c.of_certificate.ensures other)) refl is.certificate is.spelled
 
 pub returns-in-Err-clause-refused : goal.returns-in-Err-clause-refused
-returns-in-Err-clause-refused g c =
-    let hmac = g.H.HmacSha1.hmac c.args.hmac.now in
-    let certificate = certificate_of c.args.certificate.now in
-    let lines = lines_of c.args.texts.now in
-    let revoked = is_certificate_revoked (g.R.Revocations.revokes c.args.revocations.now) certificate in
-    let trusted = judged hmac c.args.host.now c.args.port certificate lines revoked _ _ _ _ c.public_key-key.ensures.value c.signature_key-signer.ensures.value c.is_certificate_revoked-revoked.ensures c.signed_verdict.ensures.answer _ (sym c.answer.ensures ∙ c.in_ok-answer.was) in
-    why_bad (IsSaidOfSigned hmac c.args.host.now c.args.port certificate.signed.key certificate.signed.signature_key lines) revoked _ c.in-Err.error c.of_certificate.result trusted c.in-Err.ensures.refused c.of_certificate.ensures
+returns-in-Err-clause-refused g c = λ other.
+    let cause = other_cause _ (other_of _ _ c.of_certificate.ensures other) in
+    inl (c.in-Err.ensures.accepts cause refl, (_, c.in-Err.ensures.gives.fault cause refl, c.of_certificate.ensures))
+
+pub returns-then-not-is_normal_form-clause-exactly : goal.returns-then-not-is_normal_form-clause-exactly
+returns-then-not-is_normal_form-clause-exactly g c = λ other is.
+    let same = (c.one_certificate.ensures (certificate_of c.in-Ok.read) is.certificate c.args.certificate.now c.args.certificate.now [] [] c.in-Ok.ensures.accepts.spelled is.spelled refl).0 in
+    let yes : c.is_normal_form.result ≡ true = c.is_normal_form.ensures.1 (is.normal ∙ ap (λ (d : Certificate). flat (normal_certificate d)) (sym same)) in
+    absurd cc
+
+pub returns-then-not-is_normal_form-clause-refused : goal.returns-then-not-is_normal_form-clause-refused
+returns-then-not-is_normal_form-clause-refused g c = λ other. inr (certificate_of c.in-Ok.read, c.in-Ok.ensures.accepts.spelled, inl ((λ same. let yes : c.is_normal_form.result ≡ true = c.is_normal_form.ensures.1 same in absurd cc), refl))
+
+pub returns-clause-exactly : goal.returns-clause-exactly
+returns-clause-exactly g c =
+    let login = login_of c.args.login.now (g.H.HmacSha1.hmac c.args.hmac.now) in
+    let accepts = g.V.RawVerifier.accepts c.args.verifier.now in
+    let revokes = g.R.Revocations.revokes c.args.revocations.now in
+    as_much {P = IsTrustedCertificate login accepts revokes (certificate_of c.in-Ok.read)} {Q = IsHostCertificate login accepts revokes c.args.certificate.now} _
+    (λ trusted. record { certificate = certificate_of c.in-Ok.read; spelled = c.in-Ok.ensures.accepts.spelled; normal = c.is_normal_form.ensures.0 c.if-not-is_normal_form.false; trusted = trusted })
+    (λ is.
+    let same = (c.one_certificate.ensures (certificate_of c.in-Ok.read) is.certificate c.args.certificate.now c.args.certificate.now [] [] c.in-Ok.ensures.accepts.spelled is.spelled refl).0 in
+    subst (IsTrustedCertificate login accepts revokes) (sym same) is.trusted)
+    c.judge.ensures.exactly
+
+pub returns-clause-asks : goal.returns-clause-asks
+returns-clause-asks g c = asks_more (certificate_format.needs c.args.certificate.now 0) (g.R.Revocations.revokes_none c.args.revocations.now) (lines_of c.args.login.now.texts.now) c.judge.result c.judge.ensures.asks

@@ -6,8 +6,11 @@ use Rattle.ssh_key.specs.entries.KnownHosts.{CertAuthority}
 use Rattle.ssh_key.specs.keys.Keys.{key_of}
 use Rattle.ssh_key.specs.public.PublicKeys.{public_of}
 use Rattle.ssh_key.specs.types.PublicKey.{PublicKey}
-use Rattle.host_keys.proofs.SeveralTexts.{all_lines, none_more, some_more}
+use Rattle.host_keys.proofs.SeveralTexts.{all_lines, none_more, of_error, some_line, some_more}
 use Rattle.host_keys.proofs.texts.has_authority.Goals as goal
+
+pub returns-in_err-keys-clause-asks : goal.returns-in_err-keys-clause-asks
+returns-in_err-keys-clause-asks g c = of_error c.from_residual.result (some_line c.args.texts.now c.loop-text.text-index _ c.loop-text-test.true c.in_err-keys.ensures.asks)
 
 pub returns-then-has_key-clause-answer : goal.returns-then-has_key-clause-answer
 returns-then-has_key-clause-answer g c =

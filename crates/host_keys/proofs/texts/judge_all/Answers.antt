@@ -2,8 +2,11 @@ use Rattle.std.proofs.Common.{ℕ, List, sym, subst}
 use Rattle.ssh_key.specs.entries.HostNames.{known_name}
 use Rattle.ssh_key.specs.keys.Keys.{key_of}
 use Rattle.ssh_key.specs.known_hosts.Verdicts.{IsVerdict}
-use Rattle.host_keys.proofs.SeveralTexts.{all_lines, more_lines}
+use Rattle.host_keys.proofs.SeveralTexts.{all_lines, more_lines, of_error, some_line}
 use Rattle.host_keys.proofs.texts.judge_all.Goals as goal
+
+pub returns-in_err-judge_key-clause-asks : goal.returns-in_err-judge_key-clause-asks
+returns-in_err-judge_key-clause-asks g c = of_error c.from_residual.result (some_line c.args.texts.now c.loop-text.text-index _ c.loop-text-test.true c.in_err-judge_key.ensures.asks)
 
 pub loop-text-preserved : goal.loop-text-preserved
 loop-text-preserved g c =

@@ -12,15 +12,15 @@ returns-in_err-authority-clause-refused g c =
     rw p.1 (λ other. absurd (other (ran_out _ p.0 p.2 long.0)))
 
 pub returns-then-not-contains_digest-clause-refused : goal.returns-then-not-contains_digest-clause-refused
-returns-then-not-contains_digest-clause-refused g c = λ other. OtherAuthority (sym (own_authority c.args.authorities.now (certificate_of c.args.certificate.now) _ c.in_ok-authority.authority _ _ c.signature_key.ensures.value c.in_ok-authority.ensures.gives c.as_bytes.ensures c.contains_digest.ensures) ∙ c.if-not-contains_digest.true)
+returns-then-not-contains_digest-clause-refused g c = λ other. OtherAuthority (sym (own_authority c.args.login.now.authorities.now (certificate_of c.args.certificate.now) _ c.in_ok-authority.authority _ _ c.signature_key.ensures.value c.in_ok-authority.ensures.gives c.as_bytes.ensures c.contains_digest.ensures) ∙ c.if-not-contains_digest.true)
 
 pub returns-then-is_revoked-clause-refused : goal.returns-then-is_revoked-clause-refused
-returns-then-is_revoked-clause-refused g c = λ other. IsRevoked (sym (own_authority c.args.authorities.now (certificate_of c.args.certificate.now) _ c.in_ok-authority.authority _ _ c.signature_key.ensures.value c.in_ok-authority.ensures.gives c.as_bytes.ensures c.contains_digest.ensures) ∙ c.if-not-contains_digest.false) (sym c.in-Ok.ensures ∙ c.if-is_revoked.true)
+returns-then-is_revoked-clause-refused g c = λ other. IsRevoked (sym (own_authority c.args.login.now.authorities.now (certificate_of c.args.certificate.now) _ c.in_ok-authority.authority _ _ c.signature_key.ensures.value c.in_ok-authority.ensures.gives c.as_bytes.ensures c.contains_digest.ensures) ∙ c.if-not-contains_digest.false) (sym c.in-Ok.ensures.said ∙ c.if-is_revoked.true)
 
 pub returns-in_err-validate_principal_at-clause-refused : goal.returns-in_err-validate_principal_at-clause-refused
 returns-in_err-validate_principal_at-clause-refused g c =
     let p = err_from_is_err_and c.from_residual-in_err-validate_principal_at.result c.from_residual-in_err-validate_principal_at.ensures.1 in
-    let trusted = sym (own_authority c.args.authorities.now (certificate_of c.args.certificate.now) _ c.in_ok-authority.authority _ _ c.signature_key.ensures.value c.in_ok-authority.ensures.gives c.as_bytes.ensures c.contains_digest.ensures) ∙ c.if-not-contains_digest.false in
+    let trusted = sym (own_authority c.args.login.now.authorities.now (certificate_of c.args.certificate.now) _ c.in_ok-authority.authority _ _ c.signature_key.ensures.value c.in_ok-authority.ensures.gives c.as_bytes.ensures c.contains_digest.ensures) ∙ c.if-not-contains_digest.false in
     rw p.1 (λ other.
     let is = other_of _ p.0 p.2 other in
-    rw is.1 (NotValid trusted (sym c.in-Ok.ensures ∙ c.if-is_revoked.false) _ (c.in_err-validate_principal_at.ensures is.0).1))
+    rw is.1 (NotValid trusted (sym c.in-Ok.ensures.said ∙ c.if-is_revoked.false) _ (c.in_err-validate_principal_at.ensures is.0).1))

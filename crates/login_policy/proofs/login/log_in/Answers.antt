@@ -1,4 +1,4 @@
-use Rattle.std.proofs.Common.{inl, inr}
+use Rattle.std.proofs.Common.{◌≡◌, inl, inr, refl, true}
 use Rattle.std.proofs.lemmas.Result.{err_from_is_err_and}
 use Rattle.ssh_key.specs.cert.CertificateValues.{certificate_of}
 use Rattle.ssh_key.specs.cert.Validity.{fingerprints_of}
@@ -9,7 +9,7 @@ use Rattle.login_policy.proofs.login.log_in.Goals as goal
 pub returns-in_err-certificate-clause-exactly : goal.returns-in_err-certificate-clause-exactly
 returns-in_err-certificate-clause-exactly g c =
     let p = err_from_is_err_and c.from_residual.result c.from_residual.ensures.1 in
-    rw p.1 (λ other. no_login _ _ _ _ _ _ _ (c.in_err-certificate.ensures.reads (other_cause _ (other_of _ p.0 p.2 other).0)))
+    rw p.1 (λ other. no_login _ (c.in_err-certificate.ensures.reads (other_cause _ (other_of _ p.0 p.2 other).0)))
 
 pub returns-in_err-certificate-clause-refused : goal.returns-in_err-certificate-clause-refused
 returns-in_err-certificate-clause-refused g c =
@@ -21,22 +21,28 @@ returns-in_err-certificate-clause-refused g c =
 pub returns-in_err-certificate-clause-memory : goal.returns-in_err-certificate-clause-memory
 returns-in_err-certificate-clause-memory g c =
     let p = err_from_is_err_and c.from_residual.result c.from_residual.ensures.1 in
-    rw p.1 (λ memory. needed (fingerprints_of c.args.authorities.now) _ _ c.in_err-certificate.ensures.asks (memory_of _ p.0 p.2 memory))
+    rw p.1 (λ memory. needed (fingerprints_of c.args.login.now.authorities.now) _ _ c.in_err-certificate.ensures.asks (memory_of _ p.0 p.2 memory))
+
+pub returns-then-not-is_normal_form-clause-exactly : goal.returns-then-not-is_normal_form-clause-exactly
+returns-then-not-is_normal_form-clause-exactly g c = λ other. refused c.refused_or_wanted.ensures c.lines.ensures.certificates _ _ _ _ c.in_ok-certificate.ensures.reads (inl ((λ same. let yes : c.is_normal_form.result ≡ true = (c.is_normal_form.ensures _ c.in_ok-certificate.ensures.reads).1 same in absurd cc), refl))
+
+pub returns-then-not-is_normal_form-clause-refused : goal.returns-then-not-is_normal_form-clause-refused
+returns-then-not-is_normal_form-clause-refused g c = λ other. inr (_, _, c.in_ok-certificate.ensures.reads, inl ((λ same. let yes : c.is_normal_form.result ≡ true = (c.is_normal_form.ensures _ c.in_ok-certificate.ensures.reads).1 same in absurd cc), refl))
 
 pub returns-in_err-check_fields-clause-exactly : goal.returns-in_err-check_fields-clause-exactly
 returns-in_err-check_fields-clause-exactly g c =
     let p = err_from_is_err_and c.from_residual-in_err-check_fields.result c.from_residual-in_err-check_fields.ensures.1 in
-    rw (p.1, p.2) (λ other. refused c.refused_or_wanted.ensures c.lines.ensures.certificates _ _ _ _ _ _ _ _ _ _ c.in_ok-certificate.ensures.reads (inl c.in_err-check_fields.ensures.wrong))
+    rw (p.1, p.2) (λ other. refused c.refused_or_wanted.ensures c.lines.ensures.certificates _ _ _ _ c.in_ok-certificate.ensures.reads (inr (((c.is_normal_form.ensures _ c.in_ok-certificate.ensures.reads).0 c.if-not-is_normal_form.false), inl c.in_err-check_fields.ensures.wrong)))
 
 pub returns-in_err-check_fields-clause-refused : goal.returns-in_err-check_fields-clause-refused
 returns-in_err-check_fields-clause-refused g c =
     let p = err_from_is_err_and c.from_residual-in_err-check_fields.result c.from_residual-in_err-check_fields.ensures.1 in
-    rw (p.1, p.2) (λ other. inr (_, _, c.in_ok-certificate.ensures.reads, inl c.in_err-check_fields.ensures.wrong))
+    rw (p.1, p.2) (λ other. inr (_, _, c.in_ok-certificate.ensures.reads, inr (((c.is_normal_form.ensures _ c.in_ok-certificate.ensures.reads).0 c.if-not-is_normal_form.false), inl c.in_err-check_fields.ensures.wrong)))
 
 pub returns-in_err-check_fields-clause-memory : goal.returns-in_err-check_fields-clause-memory
 returns-in_err-check_fields-clause-memory g c =
     let p = err_from_is_err_and c.from_residual-in_err-check_fields.result c.from_residual-in_err-check_fields.ensures.1 in
-    rw (p.1, p.2) (λ memory. absurd (field_not_memory _ _ _ _ c.in_err-check_fields.ensures.wrong memory))
+    rw (p.1, p.2) (λ memory. absurd (field_not_memory _ _ _ _ _ c.in_err-check_fields.ensures.wrong memory))
 
 pub validate-requires : goal.validate-requires
 validate-requires g c = fits c.certificate_fits.ensures _ _ (certificate_of c.in_ok-certificate.certificate) c.in_ok-certificate.ensures.reads
@@ -44,12 +50,12 @@ validate-requires g c = fits c.certificate_fits.ensures _ _ (certificate_of c.in
 pub returns-in_err-authority-clause-exactly : goal.returns-in_err-authority-clause-exactly
 returns-in_err-authority-clause-exactly g c =
     let p = err_from_is_err_and c.from_residual-in_err-authority.result c.from_residual-in_err-authority.ensures.1 in
-    rw (p.1, p.2) (λ other. refused c.refused_or_wanted.ensures c.lines.ensures.certificates _ _ _ _ _ _ _ _ _ _ c.in_ok-certificate.ensures.reads (inr (c.in_ok-check_fields.ensures.right, c.in_err-authority.ensures.refused other)))
+    rw (p.1, p.2) (λ other. refused c.refused_or_wanted.ensures c.lines.ensures.certificates _ _ _ _ c.in_ok-certificate.ensures.reads (inr (((c.is_normal_form.ensures _ c.in_ok-certificate.ensures.reads).0 c.if-not-is_normal_form.false), inr (c.in_ok-check_fields.ensures.right, c.in_err-authority.ensures.refused other))))
 
 pub returns-in_err-authority-clause-refused : goal.returns-in_err-authority-clause-refused
 returns-in_err-authority-clause-refused g c =
     let p = err_from_is_err_and c.from_residual-in_err-authority.result c.from_residual-in_err-authority.ensures.1 in
-    rw (p.1, p.2) (λ other. inr (_, _, c.in_ok-certificate.ensures.reads, inr (c.in_ok-check_fields.ensures.right, c.in_err-authority.ensures.refused other)))
+    rw (p.1, p.2) (λ other. inr (_, _, c.in_ok-certificate.ensures.reads, inr (((c.is_normal_form.ensures _ c.in_ok-certificate.ensures.reads).0 c.if-not-is_normal_form.false), inr (c.in_ok-check_fields.ensures.right, c.in_err-authority.ensures.refused other))))
 
 pub returns-in_err-authority-clause-memory : goal.returns-in_err-authority-clause-memory
 returns-in_err-authority-clause-memory g c =
@@ -62,4 +68,4 @@ returns-in_err-grant_of-clause-memory g c =
     rw p.1 (λ memory. inr (inr (_, _, c.in_ok-certificate.ensures.reads, inr (trusted c.refused_or_wanted.ensures _ _ _ _ _ c.in_ok-authority.ensures.valid))))
 
 pub returns-clause-exactly : goal.returns-clause-exactly
-returns-clause-exactly g c = granted _ _ _ _ _ _ _ _ _ _ c.in_ok-certificate.ensures.reads c.in_ok-check_fields.ensures.right c.in_ok-authority.ensures.unrevoked c.in_ok-authority.ensures.valid c.in_ok-grant_of.ensures.value
+returns-clause-exactly g c = granted _ _ _ _ c.in_ok-certificate.ensures.reads (((c.is_normal_form.ensures _ c.in_ok-certificate.ensures.reads).0 c.if-not-is_normal_form.false)) c.in_ok-check_fields.ensures.right c.in_ok-authority.ensures.unrevoked c.in_ok-authority.ensures.valid c.in_ok-grant_of.ensures.value

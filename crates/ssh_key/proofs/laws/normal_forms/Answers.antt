@@ -11,8 +11,9 @@ use Rattle.sshkey_model.proofs.OptionReaders.{options_reads}
 use Rattle.sshkey_model.proofs.Trees.{determined, read_back}
 use Rattle.sshkey_base.specs.Labels.{label_at}
 use Rattle.sshkey_ciphers.specs.Ciphers.{cipher_checks, kdf_algorithm_checks}
+use Rattle.sshkey_ciphers.specs.KdfFormats.{kdf_grammar, kdf_normal}
 use Rattle.sshkey_sshsig.specs.SshSignatureReaders.{ssh_signature_grammar, ssh_signature_normal}
-use Rattle.ssh_key.proofs.NormalForms.{normal_forms, plain_forms}
+use Rattle.ssh_key.proofs.NormalForms.{normal_forms, opened, plain_forms}
 use Rattle.ssh_key.proofs.laws.normal_forms.Goals as goal
 
 pub returns-clause-bodies : goal.returns-clause-bodies
@@ -22,7 +23,7 @@ pub returns-clause-keys : goal.returns-clause-keys
 returns-clause-keys c = plain_forms key key_reads (λ _. Head.Plain) (λ _ _. tt)
 
 pub returns-clause-ssh_signatures : goal.returns-clause-ssh_signatures
-returns-clause-ssh_signatures c = record { determine = determined ssh_signature_grammar ssh_signature_normal; again = read_back ssh_signature_grammar ssh_signature_normal }
+returns-clause-ssh_signatures c = opened (determined ssh_signature_grammar ssh_signature_normal) (read_back ssh_signature_grammar ssh_signature_normal)
 
 pub returns-clause-options : goal.returns-clause-options
 returns-clause-options c = plain_forms options options_reads plain_nestings (λ os _. plain_options_have os)
@@ -49,3 +50,6 @@ returns-clause-pairs c = λ a. plain_forms pair (pair_reads a) (λ _. LeadingZer
 
 pub returns-clause-keypairs : goal.returns-clause-keypairs
 returns-clause-keypairs c = plain_forms keypair keypair_reads (λ _. plain_pair) (λ k _. plain_keypair_has k)
+
+pub returns-clause-kdfs : goal.returns-clause-kdfs
+returns-clause-kdfs c = opened (determined kdf_grammar kdf_normal) (read_back kdf_grammar kdf_normal)

@@ -1,4 +1,6 @@
+use Rattle.std.proofs.Common.{◌≡◌, true, refl}
 use Rattle.sshkey_base.specs.Names.{algorithm_of}
+use Rattle.sshkey_keys.specs.KeyKinds.{is_dsa, is_rsa}
 use Rattle.sshkey_keys_ref.proofs.Dispatching.{dsa_made, made_asks, never_asked, rsa_made}
 use Rattle.sshkey_keys_ref.proofs.key_data_ref.KeyDataRef.ask.Goals as goal
 
@@ -7,10 +9,10 @@ returns-in-Other-clause-answer g c = λ k e well. never_asked (g.V.RawVerifier.a
 
 pub returns-in-Dsa-clause-asks : goal.returns-in-Dsa-clause-asks
 returns-in-Dsa-clause-asks g c = λ k e well.
-    let is = (rw c.as_bytes.ensures.bytes at c.in-Dsa.ensures) k e in
+    let is : is_dsa k ≡ true = rw ((rw c.as_bytes.ensures.bytes at c.in-Dsa.ensures) k e) refl in
     made_asks (g.V.RawVerifier.accepts c.args.verifier.now) (g.V.RawVerifier.runs_out c.args.verifier.now) k c.args.message.now _ c.ask_dsa.result (dsa_made k is) (c.ask_dsa.ensures k e is)
 
 pub returns-in-Rsa-clause-asks : goal.returns-in-Rsa-clause-asks
 returns-in-Rsa-clause-asks g c = λ k e well.
-    let is = (rw c.as_bytes.ensures.bytes at c.in-Rsa.ensures) k e in
+    let is : is_rsa k ≡ true = rw ((rw c.as_bytes.ensures.bytes at c.in-Rsa.ensures) k e) refl in
     made_asks (g.V.RawVerifier.accepts c.args.verifier.now) (g.V.RawVerifier.runs_out c.args.verifier.now) k c.args.message.now _ c.ask_rsa.result (rsa_made k is) (c.ask_rsa.ensures k e is)

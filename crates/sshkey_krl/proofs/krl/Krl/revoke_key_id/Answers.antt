@@ -12,7 +12,7 @@ invariant_of-self c =
     let part = KeyIds (c.args.key_id.now ∷ []) in
     let parts = key_id_part c.args.key_id.now in
     let some = rw c.as_bytes.ensures.value at (sym c.contains.ensures.value ∙ c.if-contains.false) in
-    let section = certificates_spelled authority part parts c.requires (key_id_spelled c.args.key_id.now some) in
+    let section = certificates_spelled authority part parts c.requires (sym c.is_read_authority.ensures ∙ c.if-not-is_read_authority.false) (key_id_spelled c.args.key_id.now some) in
     record { form = still_list (Certificates authority (part ∷ [])) (certificates_section authority parts) c.args.self.now.bytes.items c.append_part.new.bytes.items c.append_part.result section c.args.self.now.form c.append_part.ensures }
 
 pub returns-clause-added : goal.returns-clause-added
@@ -21,5 +21,5 @@ returns-clause-added c =
     let part = KeyIds (c.args.key_id.now ∷ []) in
     let parts = key_id_part c.args.key_id.now in
     let some = rw c.as_bytes.ensures.value at (sym c.contains.ensures.value ∙ c.if-contains.false) in
-    let section = certificates_spelled authority part parts c.requires (key_id_spelled c.args.key_id.now some) in
-    λ _. adds (Certificates authority (part ∷ [])) (certificates_section authority parts) c.args.self.now.bytes.items c.append_part.new.bytes.items c.append_part.result section c.args.self.now.form c.append_part.ensures
+    let section = certificates_spelled authority part parts c.requires (sym c.is_read_authority.ensures ∙ c.if-not-is_read_authority.false) (key_id_spelled c.args.key_id.now some) in
+    λ _ _. adds (Certificates authority (part ∷ [])) (certificates_section authority parts) c.args.self.now.bytes.items c.append_part.new.bytes.items c.append_part.result section c.args.self.now.form c.append_part.ensures

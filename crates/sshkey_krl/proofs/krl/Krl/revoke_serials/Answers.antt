@@ -13,7 +13,7 @@ invariant_of-self c =
     let part = Numbers (Listed c.args.serials.now) in
     let parts = serials_part c.args.serials.now in
     let some = sym c.contains.ensures.value ∙ c.if-contains.false in
-    let section = certificates_spelled authority part parts c.requires (serials_spelled c.args.serials.now some) in
+    let section = certificates_spelled authority part parts c.requires (sym c.is_read_authority.ensures ∙ c.if-not-is_read_authority.false) (serials_spelled c.args.serials.now some) in
     record { form = still_list (Certificates authority (part ∷ [])) (certificates_section authority parts) c.args.self.now.bytes.items c.append_part.new.bytes.items c.append_part.result section c.args.self.now.form c.append_part.ensures }
 
 pub returns-clause-added : goal.returns-clause-added
@@ -22,5 +22,5 @@ returns-clause-added c =
     let part = Numbers (Listed c.args.serials.now) in
     let parts = serials_part c.args.serials.now in
     let some = sym c.contains.ensures.value ∙ c.if-contains.false in
-    let section = certificates_spelled authority part parts c.requires (serials_spelled c.args.serials.now some) in
-    λ _. adds (Certificates authority (part ∷ [])) (certificates_section authority parts) c.args.self.now.bytes.items c.append_part.new.bytes.items c.append_part.result section c.args.self.now.form c.append_part.ensures
+    let section = certificates_spelled authority part parts c.requires (sym c.is_read_authority.ensures ∙ c.if-not-is_read_authority.false) (serials_spelled c.args.serials.now some) in
+    λ _ _. adds (Certificates authority (part ∷ [])) (certificates_section authority parts) c.args.self.now.bytes.items c.append_part.new.bytes.items c.append_part.result section c.args.self.now.form c.append_part.ensures

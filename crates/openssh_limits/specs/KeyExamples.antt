@@ -1,0 +1,80 @@
+-- Worked examples: keys on both sides of each edge.
+use Rattle.std.specs.Prelude.{◌≡◌, ℕ, List, [], ◌∷◌, true, false, codes, replicate}
+use Rattle.sshkey_model.specs.Keys.{Key, Dsa, Ecdsa, Ed25519, Rsa, SkEcdsa, SkEd25519, Opaque}
+use Rattle.sshkey_model.specs.Names.{Nistp256}
+use Rattle.openssh_limits.specs.Keys.{is_let_in, is_read_key, is_read_number, read_bits}
+
+-- the powers of two of that many bits, as RFC 4251 writes them
+abbrev of_1023_bits : List ℕ
+of_1023_bits = 0x40 ∷ replicate 127 0
+
+abbrev of_1024_bits : List ℕ
+of_1024_bits = 0 ∷ 0x80 ∷ replicate 127 0
+
+abbrev of_16384_bits : List ℕ
+of_16384_bits = 0 ∷ 0x80 ∷ replicate 2047 0
+
+abbrev of_16385_bits : List ℕ
+of_16385_bits = 1 ∷ replicate 2048 0
+
+-- RFC 4251's own examples: 0, 9a378f9b2e332a7, 80, -1234 and -deadbeef; and the edges of the size
+abbrev pub Numbers : Type 0
+Numbers = (read_bits [] ≡ 0)
+    × (read_bits (0x09 ∷ 0xa3 ∷ 0x78 ∷ 0xf9 ∷ 0xb2 ∷ 0xe3 ∷ 0x32 ∷ 0xa7 ∷ []) ≡ 60)
+    × (read_bits (0 ∷ 0x80 ∷ []) ≡ 8)
+    × (read_bits (0xed ∷ 0xcc ∷ []) ≡ 0)
+    × (read_bits (0xff ∷ 0x21 ∷ 0x52 ∷ 0x41 ∷ 0x11 ∷ []) ≡ 0)
+    × (read_bits (0x7f ∷ []) ≡ 7)
+    × (read_bits (1 ∷ []) ≡ 1)
+    × (read_bits of_1023_bits ≡ 1023)
+    × (read_bits of_1024_bits ≡ 1024)
+    × (is_read_number of_16384_bits ≡ true)
+    × (is_read_number of_16385_bits ≡ false)
+
+abbrev rsa : List ℕ → List ℕ → Key
+rsa e n = Rsa (record { e = e; n = n })
+
+abbrev f4 : List ℕ
+f4 = 1 ∷ 0 ∷ 1 ∷ []
+
+-- sshd's least is 1,024 bits, and a greater one may be asked for; a revocation file has its own.
+abbrev pub RsaKeys : Type 0
+RsaKeys = (is_let_in 0 (rsa f4 of_1023_bits) ≡ false)
+    × (is_let_in 0 (rsa f4 of_1024_bits) ≡ true)
+    × (is_let_in 512 (rsa f4 of_1023_bits) ≡ false)
+    × (is_let_in 1024 (rsa f4 of_1024_bits) ≡ true)
+    × (is_let_in 1025 (rsa f4 of_1024_bits) ≡ false)
+    × (is_let_in 0 (rsa (0xed ∷ 0xcc ∷ []) of_1024_bits) ≡ false)
+    × (is_let_in 0 (rsa [] of_1024_bits) ≡ false)
+    × (is_read_key 0 (rsa f4 of_1023_bits) ≡ true)
+    × (is_read_key 0 (rsa f4 (0xed ∷ 0xcc ∷ [])) ≡ false)
+    × (is_read_key 1024 (rsa f4 of_1023_bits) ≡ false)
+
+abbrev dsa : List ℕ → Key
+dsa y = Dsa (record { p = 7 ∷ []; q = 3 ∷ []; g = 2 ∷ []; y = y })
+
+abbrev on_p256 : ℕ → Key
+on_p256 tag = Ecdsa Nistp256 (tag ∷ replicate 64 1)
+
+abbrev held_p256 : ℕ → List ℕ → Key
+held_p256 tag application = SkEcdsa (record { key = tag ∷ replicate 64 1; application = application })
+
+abbrev held_ed25519 : List ℕ → Key
+held_ed25519 application = SkEd25519 (record { key = replicate 32 1; application = application })
+
+-- Keys of the other kinds: DSA is read and lets nobody in, a compressed point begins with 02 or 03.
+abbrev pub OtherKeys : Type 0
+OtherKeys = (is_read_key 0 (dsa (4 ∷ [])) ≡ true)
+    × (is_read_key 0 (dsa (0xed ∷ 0xcc ∷ [])) ≡ false)
+    × (is_let_in 0 (dsa (4 ∷ [])) ≡ false)
+    × (is_let_in 0 (Ed25519 (replicate 32 1)) ≡ true)
+    × (is_let_in 0 (on_p256 4) ≡ true)
+    × (is_let_in 0 (on_p256 2) ≡ false)
+    × (is_let_in 0 (on_p256 3) ≡ false)
+    × (is_let_in 0 (held_p256 4 (codes "ssh:")) ≡ true)
+    × (is_let_in 0 (held_p256 2 (codes "ssh:")) ≡ false)
+    × (is_let_in 0 (held_p256 4 (codes "ssh:\0")) ≡ false)
+    × (is_let_in 0 (held_ed25519 (codes "ssh:")) ≡ true)
+    × (is_let_in 0 (held_ed25519 (codes "\0ssh:")) ≡ false)
+    × (is_let_in 0 (Opaque (codes "key@example.org") []) ≡ false)
+    × (is_read_key 0 (Opaque (codes "key@example.org") []) ≡ false)

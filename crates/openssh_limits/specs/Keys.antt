@@ -1,0 +1,55 @@
+-- Which public keys OpenSSH reads and lets in, by their kind and their size.
+use Rattle.std.specs.Prelude.{ℕ, ◌+◌, ◌*◌, ◌-◌, List, [], ◌∷◌, length, Bool, true, false, not, ◌&&◌, ◌==◌, Option, None, Some, nat_le, nat_lt, if◌then◌else◌}
+use Rattle.std.specs.Int.{w8, leading_zeros}
+use Rattle.std.specs.List.{list_any}
+use Rattle.sshkey_model.specs.Keys.{Key, Dsa, Ecdsa, Ed25519, Rsa, SkEcdsa, SkEd25519, Opaque}
+use Rattle.sshkey_model.specs.Mpints.{positive_part}
+use Rattle.sshkey_keys.specs.KeyKinds.{is_dsa}
+
+-- ---- numbers (RFC 4251, section 5)
+
+-- how many bits the number of those bytes has, if the first is not zero
+abbrev pub bit_len : List ℕ → ℕ
+bit_len [] = 0
+bit_len (byte ∷ bytes) = 8 * length bytes + (8 - leading_zeros w8 byte)
+
+-- The same of a positive number of at most 2,048 bytes, which are 16,384 bits; 0 of any other.
+abbrev pub bits_in : Option (List ℕ) → ℕ
+bits_in None = 0
+bits_in (Some bytes) = if nat_le (length bytes) 2048 then bit_len bytes else 0
+
+abbrev pub read_bits : List ℕ → ℕ
+read_bits number = bits_in (positive_part number)
+
+-- The number is positive and has at most 16,384 bits.
+abbrev pub is_read_number : List ℕ → Bool
+is_read_number number = nat_lt 0 (read_bits number)
+
+-- ---- keys
+
+-- The point begins with 04, so that both coordinates stand there (SEC 1, section 2.3.3).
+abbrev pub is_uncompressed : List ℕ → Bool
+is_uncompressed [] = false
+is_uncompressed (tag ∷ rest) = tag == 4
+
+-- No byte of the text is 0.
+abbrev pub is_read_text : List ℕ → Bool
+is_read_text text = not (list_any (λ c. c == 0) text)
+
+-- OpenSSH reads the key, if its point is on the curve, and an RSA key has at least so many bits.
+abbrev pub is_read_key : ℕ → Key → Bool
+is_read_key least (Dsa k) = is_read_number k.p && is_read_number k.q && is_read_number k.g && is_read_number k.y
+is_read_key least (Ecdsa c point) = is_uncompressed point
+is_read_key least (Ed25519 k) = true
+is_read_key least (Rsa k) = is_read_number k.e && is_read_number k.n && nat_le least (read_bits k.n)
+is_read_key least (SkEcdsa k) = is_uncompressed k.key && is_read_text k.application
+is_read_key least (SkEd25519 k) = is_read_text k.application
+is_read_key least (Opaque name k) = false
+
+-- sshd's own least size of an RSA key (sshd_config(5), "RequiredRSASize"), where a smaller one is asked for
+abbrev pub required : ℕ → ℕ
+required least = if nat_lt least 1024 then 1024 else least
+
+-- It lets somebody in by the key: it reads it, and it is none of DSA.
+abbrev pub is_let_in : ℕ → Key → Bool
+is_let_in least key = not (is_dsa key) && is_read_key (required least) key

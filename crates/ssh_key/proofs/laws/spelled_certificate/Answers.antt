@@ -1,0 +1,5 @@
+use Rattle.sshkey_cert.specs.CertificateReaders.{certificate_spelled}
+use Rattle.ssh_key.proofs.laws.spelled_certificate.Goals as goal
+
+pub returns : goal.returns
+returns c = certificate_spelled

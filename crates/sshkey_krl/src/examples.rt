@@ -1,0 +1,38 @@
+//! Worked examples of key revocation lists, on both sides of each edge.
+
+ghost use Rattle.sshkey_krl.specs.KrlExamples.{Authorities, BitmapEdges, BitmapSizes, Kinds, NumberEdges, SerialEdges, TextEdges};
+
+/// Both ends of ranges and bitmaps.
+pub fn serial_edges()
+    ensures { SerialEdges }
+{}
+
+/// The number 0, and ranges that fall.
+pub fn number_edges()
+    ensures { NumberEdges }
+{}
+
+/// The first and the last bit of a bitmap, and its sign.
+pub fn bitmap_edges()
+    ensures { BitmapEdges }
+{}
+
+/// How long a bitmap may be.
+pub fn bitmap_sizes()
+    ensures { BitmapSizes }
+{}
+
+/// Zero bytes in texts.
+pub fn text_edges()
+    ensures { TextEdges }
+{}
+
+/// Numbers of versions, sections and parts.
+pub fn kinds()
+    ensures { Kinds }
+{}
+
+/// Keys of authorities.
+pub fn authorities()
+    ensures { Authorities }
+{}

@@ -1,0 +1,18 @@
+//! Worked examples of revocation files, on both sides of each edge.
+
+ghost use Rattle.sshkey_revoked_keys.specs.LineExamples.{Beginnings, Lines, Returns};
+
+/// Lines of a text.
+pub fn lines()
+    ensures { Lines }
+{}
+
+/// Carriage returns.
+pub fn returns()
+    ensures { Returns }
+{}
+
+/// What a list and a certificate begin with.
+pub fn beginnings()
+    ensures { Beginnings }
+{}
