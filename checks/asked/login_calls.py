@@ -211,6 +211,7 @@ def check_verifications(judge, asked):
 
 PAGE = """\
 #include <inttypes.h>
+#include <netinet/in.h>
 #include <stdio.h>
 #include <stdlib.h>
 #include <string.h>
@@ -218,7 +219,6 @@ PAGE = """\
 #include <utmp.h>
 #include "judge.h"
 #include "verify.h"
-bool is_in_networks(void *client, const uint8_t *value, size_t length);
 uint32_t two_calls(const uint8_t *certificate, size_t length, const sshkey_sha256 *authorities, size_t authority_count);
 judge_is_met *met(void);
 static bool is_signature(const sshkey_question *question, const uint8_t *room) {{ return judge_is_signature(question, room); }}
@@ -228,7 +228,6 @@ size_t authority_length = strlen(authority_line), length = strlen(line);
 {0}}}
 {1}
 judge_is_met *met(void) {{ return is_met; }}
-bool is_in_networks(void *client, const uint8_t *value, size_t length) {{ return client && value && length; }}
 uint32_t two_calls(const uint8_t *certificate, size_t length, const sshkey_sha256 *authorities, size_t authority_count) {{
 {2}return answer; }}
 int main(int count, char **words) {{

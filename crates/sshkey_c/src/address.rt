@@ -17,12 +17,7 @@ pub extern "C" fn sshkey_source_address_allows(list: &[u8], address: &[u8]) -> u
 /// Whether the option `from` of a line lets a client in from the address:
 /// `sshkey_entry_calls::from_allows`.
 #[unsafe(no_mangle)]
-pub extern "C" fn sshkey_from_allows(
-    alloc: Global,
-    list: &[u8],
-    host: &[u8],
-    address: &[u8],
-) -> u32
+pub extern "C" fn sshkey_from_allows(alloc: Global, list: &[u8], host: &[u8], address: &[u8]) -> u32
     ensures { TellsFrom list.now host.now address.now result }
 {
     from_allows(alloc, list, host, address)

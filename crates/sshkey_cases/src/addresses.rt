@@ -53,10 +53,7 @@ pub(crate) fn from_at(alloc: Global, parts: &[Vec<u8>]) -> Result<String> {
     shown_from(alloc, answer)
 }
 
-fn shown_from(
-    alloc: Global,
-    answer: std::result::Result<bool, FromFault>,
-) -> Result<String> {
+fn shown_from(alloc: Global, answer: std::result::Result<bool, FromFault>) -> Result<String> {
     let said = match answer {
         Ok(allows) => shown(allows),
         Err(FromFault::Address) => "address",
@@ -70,8 +67,10 @@ fn shown_from(
 /// Whether a list of a certificate and one of a line let an address in.
 pub(crate) fn is_allowed(parts: &[Vec<u8>]) -> Result<bool> {
     let (list, address) = (text(parts, 0)?, address_of(parts)?);
-    Ok(source_address_allows(list, address) == Ok(true)
-        && may_come_from(Some(list), address)
-        && is_source_list(list)
-        && from_allows(list, host_of(parts)?, text(parts, 1)?) == Ok(true))
+    Ok(
+        source_address_allows(list, address) == Ok(true)
+            && may_come_from(Some(list), address)
+            && is_source_list(list)
+            && from_allows(list, host_of(parts)?, text(parts, 1)?) == Ok(true),
+    )
 }

@@ -3,9 +3,9 @@
 use crate::bytes::{NO_LINE, erase, part, parts, text};
 use crate::wire::shown;
 use crate::{
-    addresses, again, certificates, copies, drawn, entries, faulty, files, hosts, issued, keys, kinds, krl,
-    messages, names, narrow, openssh_lines, option_items, pairs, privates, revoked, signatures,
-    slices, validity, wire, without_memory,
+    addresses, again, certificates, copies, drawn, entries, faulty, files, hosts, issued, keys,
+    kinds, krl, messages, names, narrow, openssh_lines, option_items, pairs, privates, revoked,
+    signatures, slices, validity, wire, without_memory,
 };
 use sshkey_base::{Algorithm, AlgorithmName, EcdsaCurve, Error, HashAlg, Mpint, Result};
 use sshkey_cert::Certificate;

@@ -4,8 +4,8 @@ ghost use Rattle.std.specs.Prelude.{◌≡◌, MatchOption};
 ghost use Rattle.std.specs.declared.net.ip_addr.IpAddr.{IpAddr};
 ghost use Rattle.sshkey_entry_calls.specs.Addresses.{IsAddressOf, IsNameIn, TellsFrom, TellsFromAt, TellsSource, from_number, source_number};
 
-use sshkey_calls::number::{DONE, ELSEWHERE, FORMAT, LENGTH, MEMORY, TEXT};
 use sshkey_addresses::{FromFault, Malformed, from_allows_at};
+use sshkey_calls::number::{DONE, ELSEWHERE, FORMAT, LENGTH, MEMORY, TEXT};
 use std::alloc::Global;
 use std::net::IpAddr;
 use std::str;
