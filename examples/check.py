@@ -277,7 +277,7 @@ def judge_signer_of_digest(
     signature: bytes, namespace: str | bytes, digest: bytes, text: bytes, identity: str | bytes, now: int, *, revoked: bytes
 ) -> Status | Refusal:  # fmt: skip
     """Whether the signature, of a message with that digest, is the identity's by the text of a file of allowed signers at that
-    second, as `ssh-keygen -Y verify -r` says, but for times without Z, which are of UTC here: Status.DONE, or what is wrong first.
+    second, as `ssh-keygen -Y verify -r` says, or more strictly (docs/CALLING.md): Status.DONE, or what is wrong first.
     `revoked` is what a revocation file has, as for `validate_user`."""
 
     def allowed(is_verified: bool) -> Status:

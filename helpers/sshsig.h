@@ -24,8 +24,8 @@ size_t judge_digest_length(judge_blob signature);
 uint32_t judge_sshsig_of_digest(judge_blob signature, const char *name_space, judge_blob digest,
                                 judge_authorities keys);
 
-/* By whom a signature has to be, as `ssh-keygen -Y verify` asks, but for times without Z in the
- * text, which are of UTC here and of the machine's zone there. */
+/* By whom a signature has to be, as `ssh-keygen -Y verify` asks, or more strictly: a time without Z
+ * in the text, which is of the machine's zone there, has to hold in every zone here. */
 typedef struct {
   judge_blob text;         /* that of a file of allowed signers */
   const char *identity;    /* one of those whom it names; null is nobody */

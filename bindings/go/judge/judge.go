@@ -196,8 +196,8 @@ func ValidateSSHSigOfDigest(
 	return judgeSSHSig(signature, question, signer, err, signers)
 }
 
-// Signers is by whom a signature has to be, as `ssh-keygen -Y verify` asks, but for times without Z
-// in the text, which are of UTC here and of the machine's zone there.
+// Signers is by whom a signature has to be, as `ssh-keygen -Y verify` asks, or more strictly: a time
+// without Z in the text, which is of the machine's zone there, has to hold in every zone here.
 type Signers struct {
 	// Text is that of a file of allowed signers.
 	Text string

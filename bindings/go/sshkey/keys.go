@@ -178,8 +178,8 @@ func sshsigFields(signature []byte) ([][]byte, error) {
 
 // SignerVerdict gives nil exactly if an SSH signature counts as the identity's in that namespace,
 // by a text of allowed signers, at that time, as `ssh-keygen -Y verify` says, or more strictly
-// (docs/CALLING.md), but for times without Z in the text, which are of UTC here and of the machine's
-// zone there. revoked is what the file of its -r has, a list or keys, or NoRevocations. isVerified
+// (docs/CALLING.md): a time without Z in the text, which is of the machine's zone there, has to hold
+// in every zone here. revoked is what the file of its -r has, a list or keys, or NoRevocations. isVerified
 // is what the verifier said of the question of this signature, in the namespace and of the message.
 //
 // It fails with ErrSignerNotAllowed, ErrUnreadableRevocations, ErrSignerRevoked or ErrNotSigned, the

@@ -99,9 +99,9 @@ def signer_verdict(
     revoked: BytesLike, is_verified: bool,
 ) -> Status:  # fmt: skip
     """Status.DONE exactly if an SSH signature (what stands in its armour, decoded) counts as the identity's in that namespace, by
-    a text of allowed signers, at that second, as `ssh-keygen -Y verify` says, or more strictly (docs/CALLING.md), but for times
-    without Z in the text, which are of UTC here and of the machine's zone there. `revoked` is what the file of its -r has, a list or
-    keys, or NO_REVOCATIONS. `is_verified` is your answer to the question of this signature, in the namespace and of the message
+    a text of allowed signers, at that second, as `ssh-keygen -Y verify` says, or more strictly (docs/CALLING.md): a time without
+    Z in the text, which is of the machine's zone there, has to hold in every zone here. `revoked` is what the file of its -r has, a
+    list or keys, or NO_REVOCATIONS. `is_verified` is your answer to the question of this signature, in the namespace and of the message
     (sshsig_question, sshsig_question_of_digest).
 
     Else SIGNER_NOT_ALLOWED, UNREADABLE_REVOCATIONS, SIGNER_REVOKED or NOT_SIGNED, the first that holds. Ask with False first: only

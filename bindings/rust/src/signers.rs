@@ -7,8 +7,8 @@ use crate::revocations::Revocations;
 use crate::sshsigs::judge_any_of_digest;
 use crate::status::Status;
 
-/// By whom a signature has to be, as `ssh-keygen -Y verify` asks, but for times without `Z` in the
-/// text, which are of UTC here and of the machine's zone there.
+/// By whom a signature has to be, as `ssh-keygen -Y verify` asks, or more strictly: a time without
+/// `Z` in the text, which is of the machine's zone there, has to hold in every zone here.
 #[derive(Clone, Copy, Debug)]
 pub struct Signers<'a> {
     /// That of a file of allowed signers.
