@@ -47,8 +47,9 @@ def entry_options(text: BytesLike) -> list[tuple[bytes, bytes | None]]:
     """The options of an entry of authorized_keys: of each its name, and its value or None. Compare names without case. Refuse
     an entry with an option that you do not know, one that comes twice (but for environment, permitlisten and permitopen), one
     without a value that needs one, as `command` alone, one with a value that takes none, as `no-pty="x"`, and one with
-    `principals` and without `cert-authority`. If the entry has the key, that refuses the login, and no later line counts. The lists of `from` and of `principals` are read wrongly with ease: docs/CALLING.md
-    says how sshd reads them. Each option takes time for the whole text, so bound the length of lines that others write.
+    `principals` and without `cert-authority`. If the entry has the key, that refuses the login, and no later line counts. The lists
+    of `from` and of `principals` are read wrongly with ease: docs/CALLING.md says how sshd reads them. Each option takes time for the
+    whole text, so bound the length of lines that others write.
 
     Raises Refused where the text is no list of options, and MemoryError."""
     found: list[tuple[bytes, bytes | None]] = []
