@@ -10,7 +10,8 @@ from ._values import BytesLike, Status
 def revoked_key(revoked: BytesLike, key: BytesLike) -> bool:
     """Whether a file of sshd's RevokedKeys revokes the key, given as its blob: a key revocation list, as krl_revokes_key asks it, or
     keys, one a line. A file of no bytes revokes nothing; where no file is asked, NO_REVOCATIONS is the word. Let in for False alone.
-    Raises Refused, with UNREADABLE_REVOCATIONS for a file that can't be read, and else where the bytes are no key, and MemoryError."""
+    Raises Refused, with UNREADABLE_REVOCATIONS for a file that can't be read and else where the bytes are no key; and MemoryError.
+    """
     return _revokes(LIBRARY.sshkey_revoked_key, revoked, key)
 
 
