@@ -4,7 +4,9 @@ import time
 
 from lib.harness import blob_of, string
 
-from .hosts import AROUND_NOW, AUTHORITY, BROKEN, CERTIFICATES, CERTIFICATES_OF_FILES, HOST, INVALID, NAMED, TEXTS, field, in_one_file, written
+from .hosts import (
+    AROUND_NOW, AUTHORITY, BROKEN, CERTIFICATES, CERTIFICATES_OF_FILES, HOST, INVALID, NAMED, NOBODY, TEXTS, field, in_one_file, written,
+)  # fmt: skip
 from .linked import run, word
 from .login_calls import blocks, built_page, said_by_python
 from .login_options import APPLICATIONS, certificate
@@ -22,7 +24,8 @@ def cases(maker):
     """Names, certificates, hosts, ports, texts, and what is wanted."""
     keys = {"key": maker.key("host-key", "ed25519"), "other": maker.key("another-host", "ed25519"), "broken": BROKEN}
     keys["authority"] = maker.key("host-authority", "ed25519")
-    for name, files, port, words, wanted in [*in_one_file(CERTIFICATES), *CERTIFICATES_OF_FILES]:
+    nobody = ("of all hosts", [[AUTHORITY]], 22, NOBODY, "ok")
+    for name, files, port, words, wanted in [*in_one_file(CERTIFICATES), nobody, *CERTIFICATES_OF_FILES]:
         blob = blob_of(maker.certificate("host-authority", "host-key", *words))
         yield name, blob, HOST, port, [written(maker, lines, keys) for lines in files], WANTED[wanted]
     good, texts = blob_of(maker.certificate("host-authority", "host-key", *NAMED)), [written(maker, [AUTHORITY], keys)]

@@ -7,16 +7,19 @@ import subprocess
 import time
 
 from lib.harness import string, take
-from lib.signatures import signed
+from lib.signatures import mpint, signed
 
+from .issued_keys import issued_keys, of_bits
+from .issued_keys import line as key_line
 from .security_key_agent import Agent
 from .security_key_calls import TOUCHED, VERIFIED, SecurityKey
 
-CRITICAL, EXTENSIONS, KEY_ID, PRINCIPALS, PUBLIC_KEY = (
+CRITICAL, EXTENSIONS, KEY_ID, PRINCIPALS = (
     "refused: certificate field invalid: " + it
-    for it in ("critical options", "extensions", "key id", "valid principals", "public key")
+    for it in ("critical options", "extensions", "key id", "valid principals")
 )
 INVALID = "refused: certificate validation failed"
+UNACCEPTED, NO_NORMAL_FORM = "unaccepted key", "no normal form"
 FLAGS = [
     "no-touch-required", "permit-X11-forwarding", "permit-agent-forwarding", "permit-port-forwarding", "permit-pty", "permit-user-rc",
 ]  # fmt: skip
@@ -24,6 +27,10 @@ DATA, ADDRESSES, UNREAD = "corrupt (extra data)", "source-address contents inval
 NO_OPTIONS = "parse certificate options"
 # how many principals OpenSSH reads
 MOST = 256
+# an RSA authority, and the names with a hash (RFC 8332)
+RSA, HASHED = "authority4", ("rsa-sha2-256", "rsa-sha2-512")
+# the status of `ssh-keygen -L` for a certificate that is not signed
+REFUSED = 255
 # what sshd says where it lets the user in
 LET_IN = "Accepted publickey"
 # names, the critical options and the extensions with their data, what the program answers, and what sshd says
@@ -33,16 +40,16 @@ CASES = [
     ("a zero byte in a command", {"force-command": string(b"a\0b")}, {}, CRITICAL, UNREAD.format("force-command")),
     ("a zero byte in addresses", {"source-address": string(b"a\0b")}, {}, CRITICAL, UNREAD.format("source-address")),
     ("data in verify-required", {"verify-required": string(b"1")}, {}, CRITICAL, DATA),
-    ("an empty string in verify-required", {"verify-required": string(b"")}, {}, INVALID, DATA),
+    ("an empty string in verify-required", {"verify-required": string(b"")}, {}, NO_NORMAL_FORM, DATA),
     *((f"data in {it}", {}, {it: string(b"1")}, EXTENSIONS, DATA) for it in FLAGS),
-    ("an empty string in a flag", {}, {"permit-pty": string(b"")}, INVALID, DATA),
+    ("an empty string in a flag", {}, {"permit-pty": string(b"")}, NO_NORMAL_FORM, DATA),
     ("a flag", {}, {"permit-pty": b""}, "ok touch-required permit-pty=", LET_IN),
     ("data in an extension that is not known", {}, {"x@example.com": string(b"1")}, "ok touch-required x@example.com=1", LET_IN),
     ("a zero byte in the name of an extension", {}, {"x\0y": b""}, EXTENSIONS, NO_OPTIONS),
     ("data behind the name of a flag and a zero byte", {}, {"permit-pty\0": string(b"1")}, EXTENSIONS, DATA),
     # stricter here: a zero byte that ends a text is refused, and an empty value in either spelling
     ("a zero byte behind the name of a flag", {}, {"permit-pty\0": b""}, EXTENSIONS, LET_IN),
-    ("an empty string as a command", {"force-command": string(b"")}, {}, CRITICAL, LET_IN),
+    ("an empty string as a command", {"force-command": string(b"")}, {}, NO_NORMAL_FORM, LET_IN),
     ("a zero byte behind a command", {"force-command": string(b"true\0")}, {}, CRITICAL, LET_IN),
     ("addresses that are none", {"source-address": string(b"nowhere")}, {}, CRITICAL, ADDRESSES),
     ("addresses, one of them none", {"source-address": string(b"0.0.0.0/0,x")}, {}, CRITICAL, ADDRESSES),
@@ -63,9 +70,9 @@ TEXTS = [
 # of a security key: names, the application, what the program answers, and the status of `ssh-keygen -L`
 APPLICATIONS = [
     ("another application", b"ssh:x", "ok touch-required", 0),
-    ("a zero byte in the application", b"a\0b", PUBLIC_KEY, 1),
+    ("a zero byte in the application", b"a\0b", UNACCEPTED, 1),
     # stricter here
-    ("a zero byte behind the application", b"ssh:\0", PUBLIC_KEY, 0),
+    ("a zero byte behind the application", b"ssh:\0", UNACCEPTED, 0),
 ]
 # by a security key: names, ssh-keygen's words, the flags that the key signs with, and what the program answers
 BY_DEVICE = [
@@ -99,6 +106,29 @@ def certificate(maker, authority, key, users, critical, extensions, key_id=b"id"
     message = b"".join([*fields, string(base64.b64decode(signer.split()[1]))])
     blob = message + string(signed(maker.path(authority), signer, message))
     return f"{certified_name(name).decode()} {base64.b64encode(blob).decode()}"
+
+
+def judged_keys(maker):
+    """Names, lines of keys, whether OpenSSH accepts them, and the status of `ssh-keygen -L` for their certificates."""
+    for name, line, is_issued, status in issued_keys():
+        # 2,047 bits are fewer than an authority certifies
+        yield name, line, is_issued or "2047" in name, status
+    yield "an RSA key of 1024 bits", key_line(b"ssh-rsa", mpint(3), of_bits(1024)), True, 0
+    body = take(base64.b64decode(maker.read("user.pub").split()[1]))[1]
+    for name in (b"ssh-ed25519@openssh.com", b"key@example.com"):
+        yield f"a key under the name {name.decode()}", key_line(name, body), False, 1
+
+
+def respelled(maker, line, authority, options):
+    """Names, and lines of the certificate with other bytes than those that were signed: its RSA authority under a name with a hash,
+    and options without a value that have the empty value as a string."""
+    name, word = line.split()[:2]
+    blob, signer = base64.b64decode(word), base64.b64decode(maker.read(f"{authority}.pub").split()[1])
+    others = {f"the authority under the name {it}": (string(signer), string(string(it.encode()) + take(signer)[1])) for it in HASHED}
+    others["an empty string for an empty value"] = pairs(options), pairs({it: string(b"") for it in options})
+    for case, (old, new) in others.items():
+        assert blob.count(old) == 1
+        yield case, f"{name} {base64.b64encode(blob.replace(old, new)).decode()}"
 
 
 def said(maker, sshd, user, key, line, agent="none"):
@@ -155,6 +185,19 @@ def login_options(maker, sshd, user, authority, told_of_certificate):
             held = SecurityKey(kind, application).line()
             line = certificate(maker, authority, held, string(user.encode()), {}, {})
             yield question(f"{name} ({kind})", held, line, read_as(maker, line, status, wanted))
+    for name, held, is_accepted, status in judged_keys(maker):
+        line = certificate(maker, authority, held, string(user.encode()), {}, {})
+        yield question(name, held, line, read_as(maker, line, status, "ok touch-required" if is_accepted else UNACCEPTED))
+    for bits, wanted in ((0, "ok touch-required"), (2047, "ok touch-required"), (2048, UNACCEPTED), (2**32 - 1, UNACCEPTED)):
+        held = key_line(b"ssh-rsa", mpint(3), of_bits(2047))
+        name, told, asked, answer = question("", held, certificate(maker, authority, held, string(user.encode()), {}, {}), wanted)
+        yield f"login by an RSA key of 2047 bits, of {bits} at least", told, f"bits\t{bits}\t{asked}", answer
+    flag = {"permit-pty": b""}
+    signed_line, trusted = certificate(maker, RSA, key, string(user.encode()), {}, flag), maker.fingerprint(RSA)
+    for name, line in respelled(maker, signed_line, RSA, flag):
+        asked = ["login", user, str(int(time.time())), key, line, trusted]
+        answer = read_as(maker, line, REFUSED, NO_NORMAL_FORM)
+        yield f"login by a certificate with {name}", [told_of_certificate(signed_line)], "\t".join(asked), answer
     # sshd knows no such user, whom a certificate may list
     line = certificate(maker, authority, key, string(b""), {}, {})
     asked = "\t".join(["login", "", str(int(time.time())), key, line, trusted])

@@ -6,7 +6,7 @@ import tempfile
 from concurrent.futures import ThreadPoolExecutor
 
 from lib.asking import of_table
-from lib.harness import blob_of, new_key, ssh_keygen, string
+from lib.harness import blob_of, new_key, ssh_keygen, string, take
 
 # how many files are changed, and how often each answer has to come
 CHANGED, LEAST = 160, 60
@@ -20,12 +20,15 @@ BY_HAND = [
     "{name} {word},x\n", "ssh-rsa {word}\n", "SSH-ED25519 {word}\n", "ssh-ed25519-cert-v01@openssh.com {word}\n", "no-pty {key}\n",
     "* {key}\n", "@revoked * {key}\n", 'command="x" {key}\n', "{other}\n{key}\n", "{key}\nx\n", "x\n{key}\n", "{other}\nx\n", "{other}\n",
     "{certificate}\n", "{certificate} x\n", "{signer}\n", "{host}\n", "{name} {cert_word}\n", "{small}\n", "{small}\n{key}\n",
-    "{p256}\n", "{rsa}\n{key}\n", "SSHKRL\n", "SSHKRL", "{key}\n#", "{key}\n #\n", "{key}\n\f\n", "{key}\n\v{other}\n", "\ufeff{key}\n",
+    "{private}\n", "{large}\n", "{greatest}\n", "{greatest}\n{key}\n", "{negative}\n", "{negative_exponent}\n", "{dsa}\n", "{negative_dsa}\n",
+    "{compressed}\n", "{held_compressed}\n", "{held}\n", "{zero_byte}\n", "{held_zero_byte}\n", "{by_private}\n", "{by_small}\n",
+    "{by_point}\n", "{zero_in_id}\n", "{zero_in_name}\n", "{many_principals}\n", "{p256}\n", "{rsa}\n{key}\n", "SSHKRL\n", "SSHKRL", "{key}\n#", "{key}\n #\n", "{key}\n\f\n", "{key}\n\v{other}\n", "\ufeff{key}\n",
 ]  # fmt: skip
 # files that one of both refuses alone: what is otherwise, and whether it is read here (docs/FORMATS.md)
 OTHERWISE = {
     "\0x\n": False, "{other}\n \0\n": False, "{other}\0\n": False, "# \udcff\n": False, "{other} \udcff\n": False,
-    "{name} {split}\n": False, "rsa-sha2-256 {rsa_word}\n": False, "name@example.com {private}\n": True, "{unsigned}\n": True,
+    "{name} {split}\n": False, "rsa-sha2-256 {rsa_word}\n": False, "{off_curve}\n": True, "{unsigned}\n": True, "{ended}\n": False,
+    "{no_exponent}\n": False,
 }  # fmt: skip
 BASE = "# x\n\n \t{other}\n{name}\t{word} x\r\n{other} y\n"
 
@@ -44,14 +47,56 @@ def made(folder):
     lines |= {"certificate": certificate("signer", "key"), "host": certificate("key", "other", "-h")}
     blob = blob_of(lines["certificate"])
     small = base64.b64encode(string(b"ssh-rsa") + string(b"\1\0\1") + string(SMALL)).decode()
-    private = base64.b64encode(string(b"name@example.com") + string(b"x")).decode()
     name, word = lines["key"].split()
     unsigned = f"{lines['certificate'].split()[0]} {base64.b64encode(blob[:-1] + bytes([blob[-1] ^ 1])).decode()}"
-    return lines | {
+    return lines | strange_lines(blob_of(lines["p256"]), blob_of(lines["certificate"])) | {
         "name": name, "word": word, "short": word[:-4], "cert_word": lines["certificate"].split()[1], "small": f"ssh-rsa {small}",
-        "private": private, "unsigned": unsigned, "rsa_word": lines["rsa"].split()[1],
+        "unsigned": unsigned, "rsa_word": lines["rsa"].split()[1],
         "split": f"{lines['other'].split()[1][:20]}\r{lines['other'].split()[1][20:]}",
     }  # fmt: skip
+
+
+def with_parts(certificate, key_id=None, principals=None, signer=None):
+    """The certificate of an Ed25519 key with other parts; its signature fits no more."""
+    (name, rest), made = take(certificate), b""
+    for _ in range(2):
+        held, rest = take(rest)
+        made += string(held)
+    numbers, rest = rest[:12], rest[12:]
+    (own_id, rest), (own_names, rest) = take(rest), take(rest)
+    made += numbers + string(key_id or own_id) + string(principals or own_names) + rest[:16]
+    rest = rest[16:]
+    for _ in range(3):
+        held, rest = take(rest)
+        made += string(held)
+    own_signer, rest = take(rest)
+    return string(name) + made + string(signer or own_signer) + rest
+
+
+def strange_lines(p256, certificate):
+    """Lines of keys and certificates that ssh-keygen refuses, of each kind that needs no arithmetic, and of some that it reads."""
+    exponent, point, held = b"\1\0\1", p256[-65:], b"\1" * 32
+    compressed, small = bytes([2 + point[64] % 2]) + point[1:33], b"\x40" + bytes(127)
+
+    def key(name, *parts):
+        return b"".join(map(string, (name.encode(), *parts)))
+
+    sk_ed25519, sk_ecdsa = "sk-ssh-ed25519@openssh.com", "sk-ecdsa-sha2-nistp256@openssh.com"
+    private, by_point = key("name@example.com", b"x"), key("ecdsa-sha2-nistp256", b"nistp256", compressed)
+    blobs = {
+        "private": private, "compressed": by_point, "held_compressed": key(sk_ecdsa, b"nistp256", compressed, b"ssh:"),
+        "off_curve": key("ecdsa-sha2-nistp256", b"nistp256", point[:-1] + bytes([point[-1] ^ 1])),
+        "large": key("ssh-rsa", exponent, b"\1" + bytes(2048)), "greatest": key("ssh-rsa", exponent, b"\0\x80" + bytes(2047)),
+        "negative": key("ssh-rsa", exponent, b"\xff" * 128), "negative_exponent": key("ssh-rsa", b"\xff" + exponent, b"\0\x80" + bytes(127)),
+        "no_exponent": key("ssh-rsa", b"", b"\0\x80" + bytes(127)), "dsa": key("ssh-dss", b"\7", b"\3", b"\2", b"\4"),
+        "negative_dsa": key("ssh-dss", b"\7", b"\3", b"\2", b"\xff\4"), "held": key(sk_ed25519, held, b"ssh:"),
+        "zero_byte": key(sk_ed25519, held, b"a\0b"), "held_zero_byte": key(sk_ecdsa, b"nistp256", point, b"\0ssh:"),
+        "ended": key(sk_ed25519, held, b"ssh:\0"), "by_private": with_parts(certificate, signer=private),
+        "by_small": with_parts(certificate, signer=key("ssh-rsa", exponent, small)), "by_point": with_parts(certificate, signer=by_point),
+        "zero_in_id": with_parts(certificate, key_id=b"i\0d"), "many_principals": with_parts(certificate, principals=string(b"me") * 257),
+        "zero_in_name": with_parts(certificate, principals=string(b"m\0e")),
+    }  # fmt: skip
+    return {name: f"{take(blob)[0].decode()} {base64.b64encode(blob).decode()}" for name, blob in blobs.items()}
 
 
 def changed(draw, text):

@@ -5,10 +5,12 @@ use Rattle.std.specs.Prelude.{◌==◌, bytes_eq}
 use Rattle.std.specs.List.{list_any}
 use Rattle.ssh_key.specs.krl.Revocation.{Certificates, Krl, Numbers, Section, Signer, begun, with_section}
 use Rattle.ssh_key.specs.krl.Serials.{Listed}
+use Rattle.ssh_key.specs.krl.Sections.{is_read_signer}
 use Rattle.ssh_key.specs.krl.Written.{RefusesToWrite, certificates_section, has_zero, header, serials_part}
 use Rattle.ssh_key.specs.model.Keys.{Key, normal_key}
 use Rattle.ssh_key.specs.model.Parts.{BoxesFit, flat}
 use Rattle.ssh_key.specs.types.Error.{Error}
+use Rattle.ssh_key.specs.types.Error.TheVariants.{FormatEncoding}
 use Rattle.authority.specs.Revoked.{IsStated, RefusesToList, TakesBack}
 
 or_none : (b : Bool) → ((b || false) || false) ≡ b
@@ -46,8 +48,17 @@ header_fits n d = ((tt, tt), ((tt, tt), (tt, ((omega arith, tt), (omega arith, t
 
 pub none_begun : (n d : ℕ) (authority : Key) (serials : List ℕ) (e : Error) → RefusesToWrite (header n d []) e → RefusesToList authority serials e
 none_begun n d authority serials e (inl long) = absurd (long.0 (header_fits n d))
-none_begun n d authority serials e (inr memory) = inr memory.1
+none_begun n d authority serials e (inr memory) = inr (inr memory.1)
 
-pub none_added : (authority : Key) (serials : List ℕ) (e : Error) → RefusesToWrite (certificates_section (Signer authority) (serials_part serials)) e → RefusesToList authority serials e
-none_added authority serials e (inl long) = inl long
-none_added authority serials e (inr memory) = inr memory.1
+none_added : (authority : Key) (serials : List ℕ) (e : Error) → RefusesToWrite (certificates_section (Signer authority) (serials_part serials)) e → RefusesToList authority serials e
+none_added authority serials e (inl long) = inr (inl long)
+none_added authority serials e (inr memory) = inr (inr memory.1)
+
+pub not_added : (authority : Key) (serials : List ℕ) (e : Error) (read : Bool) → is_read_signer authority ≡ read → (read ≡ false → e ≡ FormatEncoding) → (read ≡ true → RefusesToWrite (certificates_section (Signer authority) (serials_part serials)) e) → RefusesToList authority serials e
+not_added authority serials e true is unread added = none_added authority serials e (added refl)
+not_added authority serials e false is unread added = inl (is, unread refl)
+
+-- what is not so otherwise is so
+pub by_other : {P : Type 0} (b : Bool) → (b ≡ false → P) → (P → ⊥) → b ≡ true
+by_other true other none = refl
+by_other false other none = absurd (none (other refl))

@@ -2,11 +2,12 @@
 use Rattle.std.specs.Prelude.{◌≡◌, ◌⊎◌, ◌&&◌, ◌==◌, ℕ, List, Bool, false, bytes_eq}
 use Rattle.std.specs.List.{list_any}
 use Rattle.ssh_key.specs.krl.Revocation.{Grant, Krl, Signer, revokes, revokes_key}
+use Rattle.ssh_key.specs.krl.Sections.{is_read_signer}
 use Rattle.ssh_key.specs.krl.Written.{certificates_section, serials_part}
 use Rattle.ssh_key.specs.model.Keys.{Key, normal_key}
 use Rattle.ssh_key.specs.model.Parts.{BoxesFit, flat}
 use Rattle.ssh_key.specs.types.Error.{Error}
-use Rattle.ssh_key.specs.types.Error.TheVariants.{Encoding, Memory}
+use Rattle.ssh_key.specs.types.Error.TheVariants.{Encoding, FormatEncoding, Memory}
 use Rattle.ssh_key.specs.types.encoding.Error.TheVariants as encoding
 
 -- The list has that number and date.
@@ -22,6 +23,7 @@ pub record TakesBack (authority : Key) (serials : List ℕ) (k : Krl) : Type 0 w
   pub keys : (key : List ℕ) → revokes_key k key ≡ false
   pub certificates : (key : List ℕ) (grant : Grant) → revokes k key grant ≡ is_taken_back authority serials grant
 
--- The key or the numbers are too long for a list, or memory ran out.
+-- OpenSSH does not read the key; or the key or the numbers are too long for a list, or memory ran
+-- out.
 abbrev pub RefusesToList : Key → List ℕ → Error → Type 0
-RefusesToList authority serials e = ((BoxesFit (certificates_section (Signer authority) (serials_part serials)) → ⊥) × (e ≡ Encoding encoding.Length)) ⊎ (e ≡ Memory)
+RefusesToList authority serials e = ((is_read_signer authority ≡ false) × (e ≡ FormatEncoding)) ⊎ ((BoxesFit (certificates_section (Signer authority) (serials_part serials)) → ⊥) × (e ≡ Encoding encoding.Length)) ⊎ (e ≡ Memory)

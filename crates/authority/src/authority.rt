@@ -122,8 +122,8 @@ impl Authority {
     /// ssh(1): it revokes the certificates that were taken back, of those that this key signed, and
     /// nothing else. Give each list a higher number than the one before.
     ///
-    /// Fails with `Length` if the serial numbers or the key have 2^32 bytes or more, and otherwise
-    /// only when out of memory.
+    /// Fails with `FormatEncoding` for a key that OpenSSH does not read, with `Length` if the serial
+    /// numbers or the key have 2^32 bytes or more, and otherwise only when out of memory.
     pub fn krl(&self, alloc: Global, number: u64, date: u64, public_key: &KeyData) -> Result<Krl>
         requires { IsKey (key_of public_key.now) }
         ensures stated { IfOk result (λ k. IsStated number date (krl_of k)) }

@@ -82,8 +82,10 @@ pub const SIGNER_NOT_ALLOWED: u32 = 55;
 pub const SIGNER_REVOKED: u32 = 56;
 /// The client's address is none of those that the list lets in.
 pub const ELSEWHERE: u32 = 57;
-/// The list does not revoke it.
-pub(crate) const NOT_REVOKED: u32 = 60;
+/// The revocation file cannot be read, and so revokes everything.
+pub const UNREADABLE_REVOCATIONS: u32 = 58;
+/// The list or the file does not revoke it.
+pub const NOT_REVOKED: u32 = 60;
 
 /// A question is asked by DSA.
 const ASK_DSA: u32 = 1;

@@ -3,3 +3,4 @@ pub mod Found
 pub mod Counted
 pub mod Told
 mod SignerVerdicts
+mod Revocations

@@ -1,5 +1,5 @@
 -- The verdict on an SSH signature, given what the caller's verification said.
-use Rattle.std.proofs.Common.{◌≡◌, ◌≢◌, ◌↔◌, ◌∙◌, ℕ, List, [], Bool, false, IsTrue, IsErrAnd, subst, Option, Some, None, Result, Ok, Err, IfErr, refl, sym}
+use Rattle.std.proofs.Common.{◌≡◌, ◌≢◌, ◌<◌, ◌↔◌, arith, ◌∙◌, ℕ, List, [], Bool, false, IsTrue, IsErrAnd, subst, Option, Some, None, Result, Ok, Err, IfErr, refl, sym}
 use Rattle.std.proofs.lemmas.Bool.{true≢false}
 use Rattle.allowed_signers.specs.AllowedSigners.{Counts, HasSignature, HasSigned, IsWhy, OkExactly}
 use Rattle.allowed_signers.specs.declared.signers.Refusal.{Refusal}
@@ -14,27 +14,27 @@ use Rattle.sshkey_model.specs.Verification.{Question, question}
 use Rattle.sshkey_model.specs.Verification as model
 use Rattle.sshkey_revoked_keys.specs.declared.revoked_keys.RevokedKeys.{RevokedKeys}
 use Rattle.sshkey_sshsig.specs.SshSignatureReaders.{SpellsSshSignature}
-use Rattle.sshkey_entry_calls.specs.Signers.{IsJudged, IsReadOf, SaysOf, TellsSigner, revokes_of, verdict_number}
+use Rattle.sshkey_entry_calls.specs.Signers.{IsJudged, IsReadOf, SaysOf, TellsSigner, revoked_number, revokes_of, verdict_number}
 
 -- ---- from a verdict to its number
 
-module _ (accepts : Question → Bool) (revokes : List ℕ → Bool) (signers identity namespace message : List ℕ) (time : ℕ) (bytes : List ℕ) where
-  refused : (r : Refusal) → verdict_number (Err r) ≢ 0 → (verdict_number (Err r) ≢ 1 → HasSignature bytes (Counts accepts revokes signers identity namespace message time) → ⊥) → IsWhy accepts revokes signers identity namespace message time bytes r → IsJudged accepts revokes signers identity namespace message time bytes (verdict_number (Err r))
+module _ (accepts : Question → Bool) (revokes : List ℕ → Bool) (of_revoked : ℕ) (signers identity namespace message : List ℕ) (time : ℕ) (bytes : List ℕ) where
+  refused : (r : Refusal) → verdict_number of_revoked (Err r) ≢ 0 → (verdict_number of_revoked (Err r) ≢ 1 → HasSignature bytes (Counts accepts revokes signers identity namespace message time) → ⊥) → IsWhy accepts revokes signers identity namespace message time bytes r → IsJudged accepts revokes of_revoked signers identity namespace message time bytes (verdict_number of_revoked (Err r))
   refused r some none why = record {
     counts = record { yes_ = λ zero_. absurd (some zero_); no_ = λ _. none };
     first = λ _ _. (r, why, refl);
   }
 
-  pub judged : (verdict : Result (Unit {0}) Refusal) → OkExactly (HasSignature bytes (Counts accepts revokes signers identity namespace message time)) verdict → IfErr verdict (IsWhy accepts revokes signers identity namespace message time bytes) → IsJudged accepts revokes signers identity namespace message time bytes (verdict_number verdict)
-  judged (Ok x) holds why = record {
+  pub judged : 1 < of_revoked → (verdict : Result (Unit {0}) Refusal) → OkExactly (HasSignature bytes (Counts accepts revokes signers identity namespace message time)) verdict → IfErr verdict (IsWhy accepts revokes signers identity namespace message time bytes) → IsJudged accepts revokes of_revoked signers identity namespace message time bytes (verdict_number of_revoked verdict)
+  judged high (Ok x) holds why = record {
     counts = record { yes_ = λ _. holds; no_ = λ some. absurd (some refl) };
     first = λ some. absurd (some refl);
   }
-  judged (Err NoSignature) none why = refused NoSignature (λ e. cc e) (λ _. none (λ e. cc e)) why
-  judged (Err NotAllowed) none why = refused NotAllowed (λ e. cc e) (λ _. none (λ e. cc e)) why
-  judged (Err Revoked) none why = refused Revoked (λ e. cc e) (λ _. none (λ e. cc e)) why
-  judged (Err NotVerified) none why = refused NotVerified (λ e. cc e) (λ _. none (λ e. cc e)) why
-  judged (Err Memory) none why = refused Memory (λ e. cc e) (λ other. absurd (other refl)) why
+  judged high (Err NoSignature) none why = refused NoSignature (λ e. cc e) (λ _. none (λ e. cc e)) why
+  judged high (Err NotAllowed) none why = refused NotAllowed (λ e. cc e) (λ _. none (λ e. cc e)) why
+  judged high (Err Revoked) none why = refused Revoked (λ e. absurd (omega (arith, high, e))) (λ _. none (λ e. cc e)) why
+  judged high (Err NotVerified) none why = refused NotVerified (λ e. cc e) (λ _. none (λ e. cc e)) why
+  judged high (Err Memory) none why = refused Memory (λ e. cc e) (λ other. absurd (other refl)) why
 
 -- ---- the verifier that says to every question what was said to the one
 
@@ -53,7 +53,7 @@ module _ (accepts : Question → Bool) (bytes message : List ℕ) (is_verified :
     back : HasSigned accepts namespace message f → HasSigned (λ _. is_yes_number is_verified) namespace [] f
     back has = record { verified = record { same_key = refl; same_namespace = has.verified.same_namespace; accepted = same f spelled ∙ has.verified.accepted }; nothing_reserved = has.nothing_reserved }
 
-  module _ (revokes : List ℕ → Bool) (signers identity namespace : List ℕ) (time : ℕ) where
+  module _ (revokes : List ℕ → Bool) (of_revoked : ℕ) (signers identity namespace : List ℕ) (time : ℕ) where
     why_there : (r : Refusal) → IsWhy (λ _. is_yes_number is_verified) revokes signers identity namespace [] time bytes r → IsWhy accepts revokes signers identity namespace message time bytes r
     why_there NoSignature why = why
     why_there NotAllowed why = why
@@ -61,7 +61,7 @@ module _ (accepts : Question → Bool) (bytes message : List ℕ) (is_verified :
     why_there NotVerified why = (why.0, why.1, (why.2.0, why.2.1, λ has. why.2.2 (back namespace why.0 why.1 has)))
     why_there Memory why = why
 
-    pub judged_there : (n : ℕ) → IsJudged (λ _. is_yes_number is_verified) revokes signers identity namespace [] time bytes n → IsJudged accepts revokes signers identity namespace message time bytes n
+    pub judged_there : (n : ℕ) → IsJudged (λ _. is_yes_number is_verified) revokes of_revoked signers identity namespace [] time bytes n → IsJudged accepts revokes of_revoked signers identity namespace message time bytes n
     judged_there n is = record {
       counts = record {
         yes_ = λ zero_.
@@ -74,13 +74,18 @@ module _ (accepts : Question → Bool) (bytes message : List ℕ) (is_verified :
           (w.0, why_there w.0 w.1, w.2);
     }
 
-pub told : (signers identity namespace : List ℕ) (time : ℕ) (revoked : List ℕ) (is_verified : ℕ) (bytes : List ℕ) (n : ℕ) (b : Bool) → b ≡ is_yes_number is_verified → (n ≢ 1 → (read : Result RevokedKeys Error) × IsReadOf revoked read × IsJudged (λ _. b) (revokes_of read) signers identity namespace [] time bytes n) → TellsSigner signers identity namespace time revoked is_verified bytes n
+pub told : (signers identity namespace : List ℕ) (time : ℕ) (revoked : List ℕ) (is_verified : ℕ) (bytes : List ℕ) (n : ℕ) (b : Bool) → b ≡ is_yes_number is_verified → (n ≢ 1 → (read : Result RevokedKeys Error) × IsReadOf revoked read × IsJudged (λ _. b) (revokes_of read) (revoked_number read) signers identity namespace [] time bytes n) → TellsSigner signers identity namespace time revoked is_verified bytes n
 told signers identity namespace time revoked is_verified bytes n b same judged spelled not_memory =
     let j = judged not_memory in
-    (j.0, j.1, λ accepts message says. judged_there accepts bytes message is_verified says (revokes_of j.0) signers identity namespace time n (subst (λ (y : Bool). IsJudged (λ _. y) (revokes_of j.0) signers identity namespace [] time bytes n) same j.2))
+    (j.0, j.1, λ accepts message says. judged_there accepts bytes message is_verified says (revokes_of j.0) (revoked_number j.0) signers identity namespace time n (subst (λ (y : Bool). IsJudged (λ _. y) (revokes_of j.0) (revoked_number j.0) signers identity namespace [] time bytes n) same j.2))
 
 -- ---- memory
 
 pub some_memory : (read : Result RevokedKeys Error) (lacks : Bool) → IsTrue lacks ↔ IsErrAnd read (λ e. cause e ≡ NoMemory) → lacks ≡ false → IfErr read (λ e. cause e ≢ NoMemory)
 some_memory (Ok file) lacks is none = tt
 some_memory (Err e) lacks is none = λ memory. true≢false (sym (is.1 memory) ∙ none)
+
+-- the number of a revoked key is none of those that say something else
+pub high_number : (read : Result RevokedKeys Error) → 1 < revoked_number read
+high_number (Ok file) = omega arith
+high_number (Err e) = omega arith

@@ -4,3 +4,4 @@ pub mod Options
 pub mod Verdicts
 pub mod Signers
 pub mod Addresses
+pub mod Revocations

@@ -21,13 +21,19 @@ use Rattle.sshkey_revoked_keys.specs.RevokedKeys.{ReadsKrl, ReadsRevokedKeys, be
 use Rattle.sshkey_revoked_keys.specs.declared.revoked_keys.RevokedKeys.{RevokedKeys}
 use Rattle.sshkey_sshsig.specs.SshSignatureReaders.{SpellsSshSignature}
 
-abbrev pub verdict_number : Result (Unit {0}) Refusal → ℕ
-verdict_number (Ok x) = 0
-verdict_number (Err Memory) = 1
-verdict_number (Err NoSignature) = 30
-verdict_number (Err NotVerified) = 30
-verdict_number (Err NotAllowed) = 55
-verdict_number (Err Revoked) = 56
+-- the number of a key that is revoked: as each is by a file that cannot be read, it is another one
+abbrev pub revoked_number : Result RevokedKeys Error → ℕ
+revoked_number (Ok file) = 56
+revoked_number (Err e) = 58
+
+-- the number of a verdict, where that one is told of a key that is revoked
+abbrev pub verdict_number : ℕ → Result (Unit {0}) Refusal → ℕ
+verdict_number of_revoked (Ok x) = 0
+verdict_number of_revoked (Err Memory) = 1
+verdict_number of_revoked (Err NoSignature) = 30
+verdict_number of_revoked (Err NotVerified) = 30
+verdict_number of_revoked (Err NotAllowed) = 55
+verdict_number of_revoked (Err Revoked) = of_revoked
 
 -- ---- the revocation file
 
@@ -50,11 +56,11 @@ abbrev pub SaysOf : (Question → Bool) → List ℕ → List ℕ → ℕ → Ty
 SaysOf accepts bytes message is_verified = (f : SshSignature) → SpellsSshSignature f bytes → (q : Question) → question f.key (signed_by f message) f.signature ≡ Some q → accepts q ≡ is_yes_number is_verified
 
 -- 0 says exactly that the signature counts, and another number what is wrong first; 1 is memory.
-pub record IsJudged (accepts : Question → Bool) (revokes : List ℕ → Bool) (signers identity namespace message : List ℕ) (time : ℕ) (bytes : List ℕ) (n : ℕ) : Type 0 where
+pub record IsJudged (accepts : Question → Bool) (revokes : List ℕ → Bool) (of_revoked : ℕ) (signers identity namespace message : List ℕ) (time : ℕ) (bytes : List ℕ) (n : ℕ) : Type 0 where
   pub counts : SaysWhether (HasSignature bytes (Counts accepts revokes signers identity namespace message time)) n
-  pub first : n ≢ 0 → n ≢ 1 → (r : Refusal) × IsWhy accepts revokes signers identity namespace message time bytes r × (n ≡ verdict_number (Err r))
+  pub first : n ≢ 0 → n ≢ 1 → (r : Refusal) × IsWhy accepts revokes signers identity namespace message time bytes r × (n ≡ verdict_number of_revoked (Err r))
 
 -- For bytes that spell a signature the number says this, memory aside, about each message about
 -- which the verification said so.
 abbrev pub TellsSigner : List ℕ → List ℕ → List ℕ → ℕ → List ℕ → ℕ → List ℕ → ℕ → Type 0
-TellsSigner signers identity namespace time revoked is_verified bytes n = SpellsSome SpellsSshSignature bytes → n ≢ 1 → (read : Result RevokedKeys Error) × IsReadOf revoked read × ((accepts : Question → Bool) (message : List ℕ) → SaysOf accepts bytes message is_verified → IsJudged accepts (revokes_of read) signers identity namespace message time bytes n)
+TellsSigner signers identity namespace time revoked is_verified bytes n = SpellsSome SpellsSshSignature bytes → n ≢ 1 → (read : Result RevokedKeys Error) × IsReadOf revoked read × ((accepts : Question → Bool) (message : List ℕ) → SaysOf accepts bytes message is_verified → IsJudged accepts (revokes_of read) (revoked_number read) signers identity namespace message time bytes n)

@@ -1,6 +1,7 @@
-//! The calls of the library for C about authorized_keys, known_hosts and allowed signers, as an
-//! ordinary library: the lines of a text, the entry of a line, the options of an entry, what a text
-//! says of a host's key or of a signature, and whether a list of addresses lets a client in.
+//! The calls of the library for C about authorized_keys, known_hosts, allowed signers and revocation
+//! files, as an ordinary library: the lines of a text, the entry of a line, the options of an entry,
+//! and what a text says of a host's key or of a signature, or a file of a key or a certificate,
+//! and whether a list of addresses lets a client in.
 //!
 //! As those of `sshkey_calls`, each call answers with a number, and the bytes that it answers with
 //! are in the caller's room. HMAC-SHA1 is that of `sshkey_known_hosts`.
@@ -12,6 +13,7 @@ mod entries;
 mod hosts;
 mod lines;
 mod options;
+mod revocations;
 mod signers;
 
 pub use addresses::{from_allows, source_address_allows};
@@ -19,4 +21,5 @@ pub use entries::{EntryParts, authorized_entry, known_host};
 pub use hosts::{authority_verdict, host_verdict};
 pub use lines::next_line;
 pub use options::{OptionParts, nth_option};
+pub use revocations::{revoked_certificate, revoked_key};
 pub use signers::signer_verdict;

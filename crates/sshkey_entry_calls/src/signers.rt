@@ -9,13 +9,14 @@ ghost use Rattle.sshkey_model.specs.Reading.{Fault, whole};
 ghost use Rattle.sshkey_revoked_keys.specs.declared.revoked_keys.RevokedKeys.{RevokedKeys};
 ghost use Rattle.sshkey_sshsig.specs.SshSignatureReaders.{ssh_signature_value_at};
 ghost use Rattle.sshkey_calls.specs.Numbers.{fault_number};
-ghost use Rattle.sshkey_entry_calls.specs.Signers.{IsJudged, IsReadOf, TellsSigner, revokes_of, verdict_number};
+ghost use Rattle.sshkey_entry_calls.specs.Signers.{IsJudged, IsReadOf, TellsSigner, revoked_number, revokes_of, verdict_number};
 
 use allowed_signers::{Refusal, verify};
 use sshkey_base::Result;
 use sshkey_calls::Verification;
 use sshkey_calls::number::{
-    DONE, MEMORY, NOT_SIGNED, SIGNER_NOT_ALLOWED, SIGNER_REVOKED, TEXT, error_number,
+    DONE, MEMORY, NOT_SIGNED, SIGNER_NOT_ALLOWED, SIGNER_REVOKED, TEXT, UNREADABLE_REVOCATIONS,
+    error_number,
 };
 use sshkey_revoked_keys::RevokedKeys;
 use sshkey_sshsig::SshSig;
@@ -30,10 +31,10 @@ use std::str;
 ///
 /// Returns 0 if it does, 1 if memory ran out, 4 where the text, the identity or the namespace is
 /// not UTF-8, from 10 to 29 the fault of bytes that are no SSH signature, and else what is wrong
-/// first: 55 where no line lets its key sign, 56 for a key that is revoked, as each is by a file
-/// that cannot be read, and 30 where it was not verified, is in another namespace or has reserved
-/// bytes. So 30, before anything is verified, says that its key may sign. Memory is taken only for
-/// a part of the signature that is whole.
+/// first: 55 where no line lets its key sign, 58 where the revocation file cannot be read, which
+/// revokes each key, 56 for a key that is revoked, and 30 where it was not verified, is in another
+/// namespace or has reserved bytes. So 30, before anything is verified, says that its key may sign.
+/// Memory is taken only for a part of the signature that is whole.
 pub fn signer_verdict(
     alloc: Global,
     signers: &[u8],
@@ -89,14 +90,14 @@ fn judge(
     said: &Verification,
 ) -> u32
     ensures { result ≢ 1 → (read : Result RevokedKeys Error) × IsReadOf revoked.now read
-        × IsJudged (λ _. said.now.is_yes) (revokes_of read) signers.now identity.now namespace.now
-        [] unix_timestamp signature.now result }
+        × IsJudged (λ _. said.now.is_yes) (revokes_of read) (revoked_number read) signers.now
+        identity.now namespace.now [] unix_timestamp signature.now result }
 {
     let read = RevokedKeys::from_bytes(alloc, revoked);
     if lacks_memory(&read) {
         return MEMORY;
     }
-    number_of(verify(
+    let verdict = verify(
         alloc,
         signers,
         identity,
@@ -106,7 +107,8 @@ fn judge(
         unix_timestamp,
         &read,
         said,
-    ))
+    );
+    number_of(verdict, &read)
 }
 
 /// Whether memory ran out.
@@ -119,15 +121,25 @@ fn lacks_memory(read: &Result<RevokedKeys<'_>>) -> bool
     }
 }
 
-/// The number of a verdict.
-fn number_of(verdict: std::result::Result<(), Refusal>) -> u32
-    ensures { result ≡ verdict_number verdict }
+/// The number of a verdict, by what was read of the revocation file.
+fn number_of(verdict: std::result::Result<(), Refusal>, read: &Result<RevokedKeys<'_>>) -> u32
+    ensures { result ≡ verdict_number (revoked_number read.now) verdict }
 {
     match verdict {
         Ok(()) => DONE,
         Err(Refusal::NotAllowed) => SIGNER_NOT_ALLOWED,
-        Err(Refusal::Revoked) => SIGNER_REVOKED,
+        Err(Refusal::Revoked) => revoked_number(read),
         Err(Refusal::NoSignature | Refusal::NotVerified) => NOT_SIGNED,
         Err(Refusal::Memory) => MEMORY,
+    }
+}
+
+/// The number of a key that is revoked.
+fn revoked_number(read: &Result<RevokedKeys<'_>>) -> u32
+    ensures { result ≡ revoked_number read.now }
+{
+    match read {
+        Ok(_) => SIGNER_REVOKED,
+        Err(_) => UNREADABLE_REVOCATIONS,
     }
 }

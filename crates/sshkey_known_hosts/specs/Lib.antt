@@ -5,3 +5,4 @@ pub mod OtherHosts
 pub mod Verdicts
 pub mod MadeEntries
 pub mod Hmac
+pub mod HmacExamples

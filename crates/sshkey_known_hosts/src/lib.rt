@@ -3,6 +3,7 @@
 
 mod authority;
 mod entry;
+pub mod examples;
 mod hmac;
 mod hmac_sha1;
 mod host_name;

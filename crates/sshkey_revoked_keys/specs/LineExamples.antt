@@ -1,9 +1,9 @@
 -- Worked examples: the lines of a text.
-use Rattle.std.specs.Prelude.{◌≡◌, ℕ, List, [], ◌∷◌, ◌++◌, Bool, true, false, codes}
+use Rattle.std.specs.Prelude.{◌≡◌, [], ◌∷◌, true, false, codes}
 use Rattle.std.specs.Str.Lines.{strip_carriage_return}
 use Rattle.sshkey_model.specs.HexText.{hex}
 use Rattle.sshkey_revoked_keys.specs.RevokedKeys.{begins_krl}
-use Rattle.sshkey_revoked_keys.specs.RevokedLines.{is_certified_name, revoked_lines}
+use Rattle.sshkey_revoked_keys.specs.RevokedLines.{revoked_lines}
 
 -- Blanks in front, empty lines and comments are passed over; a last line needs no end, and a carriage
 -- return stays with its line.
@@ -16,7 +16,6 @@ Lines = (revoked_lines [] ≡ [])
 abbrev pub Returns : Type 0
 Returns = (strip_carriage_return (codes "AAAA\r") ≡ codes "AAAA") × (strip_carriage_return (codes "AAAA\r\r") ≡ codes "AAAA\r") × (strip_carriage_return (codes "AA\rAA") ≡ codes "AA\rAA")
 
--- A list begins with the eight bytes of PROTOCOL.krl; names of certificates are those of keys with a suffix.
+-- A list begins with the eight bytes of PROTOCOL.krl.
 abbrev pub Beginnings : Type 0
 Beginnings = (begins_krl (hex "5353484b524c0a00") ≡ true) × (begins_krl (hex "5353484b524c0a") ≡ false) × (begins_krl (hex "5353484b524c0a01") ≡ false) × (begins_krl [] ≡ false)
-    × (is_certified_name (codes "ssh-ed25519-cert-v01@openssh.com") ≡ true) × (is_certified_name (codes "ssh-ed25519") ≡ false)

@@ -12,7 +12,7 @@ pub fn returns()
     ensures { Returns }
 {}
 
-/// What a list and a certificate begin with.
+/// What a list begins with.
 pub fn beginnings()
     ensures { Beginnings }
 {}

@@ -5,4 +5,4 @@ use Rattle.sshkey_revoked_keys.proofs.examples.beginnings.Goals as goal
 
 pub returns : goal.returns
 unfolding revoked_lines without_front
-returns c = (refl, refl, refl, refl, refl, refl)
+returns c = (refl, refl, refl, refl)

@@ -1,0 +1,41 @@
+-- What a revocation file says, and where memory is asked for.
+use Rattle.std.proofs.Common.{◌≡◌, ◌≢◌, ℕ, List, Bool, true, false, Result, Ok, Err, refl, sym, ◌∙◌}
+use Rattle.std.specs.Prelude.{IfErr, IsErrAnd}
+use Rattle.std.specs.Str.{is_utf8}
+use Rattle.sshkey_base.specs.Causes.{Faulty, NoMemory, cause}
+use Rattle.sshkey_base.specs.declared.encoding.Error.TheVariants.{CharacterEncoding}
+use Rattle.sshkey_base.specs.declared.error.Error.{Error}
+use Rattle.sshkey_base.specs.declared.error.Error.TheVariants.{Encoding}
+use Rattle.sshkey_krl.specs.Krls.{krl_format}
+use Rattle.sshkey_krl.specs.Revocation.{Grant, Krl, grant, grant_of}
+use Rattle.sshkey_krl.specs.Revocations.{is_certificate_revoked}
+use Rattle.sshkey_model.specs.Certificates.{Certificate}
+use Rattle.sshkey_model.specs.Keys.{normal_key}
+use Rattle.sshkey_model.specs.Parts.{flat}
+use Rattle.sshkey_model.specs.Reading.{Fault, whole}
+use Rattle.sshkey_revoked_keys.specs.RevokedKeys.{AsksText, ReadsKrl, ReadsRevokedKeys, begins_krl}
+use Rattle.sshkey_revoked_keys.specs.declared.revoked_keys.RevokedKeys.{RevokedKeys}
+use Rattle.sshkey_entry_calls.specs.Revocations.{NeedsFile}
+use Rattle.sshkey_entry_calls.specs.Signers.{IsReadOf}
+
+-- a list is refused for its fault alone
+no_list : (found : Result Krl Fault) (file : List ℕ) (e : Error) → ReadsKrl found file (Err e) → cause e ≢ NoMemory
+no_list (Ok k) file e reads memory = absurd reads
+no_list (Err fault) file e reads memory = let both : Faulty fault ≡ NoMemory = sym reads ∙ memory in cc both
+
+module _ (file : List ℕ) where
+  -- memory is asked for where a text needs it
+  pub needs_file : (e : Error) → (begins_krl file ≡ true → ReadsKrl (whole krl_format.read file) file (Err e)) → (begins_krl file ≡ false → AsksText file (Err e)) → cause e ≡ NoMemory → NeedsFile file
+  needs_file e list text memory = go (begins_krl file) refl
+    where
+      go : (b : Bool) → begins_krl file ≡ b → NeedsFile file
+      go true is = absurd (no_list (whole krl_format.read file) file e (list is) memory)
+      go false is = (is, text is memory)
+
+  -- what was read, if memory was enough
+  pub read_of : (found : Result RevokedKeys Error) → (begins_krl file ≡ true → ReadsKrl (whole krl_format.read file) file found) → (begins_krl file ≡ false → is_utf8 file ≡ false → IsErrAnd found (λ e. e ≡ Encoding CharacterEncoding)) → (begins_krl file ≡ false → is_utf8 file ≡ true → ReadsRevokedKeys file found) → IfErr found (λ e. cause e ≢ NoMemory) → IsReadOf file found
+  read_of found list no_text text some = record { list = list; no_text = no_text; text = text; some_memory = some }
+
+-- the file is asked about the certificate
+pub certificate_said : (says : List ℕ → Grant → Bool) (c : Certificate) (key signer key_id : List ℕ) (serial : ℕ) → key ≡ flat (normal_key c.signed.key) → signer ≡ flat (normal_key c.signed.signature_key) → serial ≡ c.signed.serial → key_id ≡ c.signed.key_id → says key (grant signer serial key_id) ≡ is_certificate_revoked says c
+certificate_said says c key signer key_id serial k s n i = rw (k, s, n, i) refl
