@@ -68,14 +68,12 @@ moment text = record {
 
 -- where no zone is named, the seconds by which one is ahead of UTC at most: 14 hours
 abbrev pub ahead : List ℕ → ℕ
-ahead [] = 50400
-ahead (c ∷ zone) = 0
+ahead zone = if length zone == 0 then 50400 else 0
 
 -- and by which one is behind it at most: 12 hours, and one of summer. By that hour OpenSSH 10.6
 -- differs from those before it.
 abbrev pub behind : List ℕ → ℕ
-behind [] = 46800
-behind (c ∷ zone) = 0
+behind zone = if length zone == 0 then 46800 else 0
 
 -- None is named, or UTC is.
 abbrev pub IsZone : List ℕ → Type 0

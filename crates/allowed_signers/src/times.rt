@@ -6,6 +6,7 @@ ghost use Rattle.std.specs.List.{prefix_len};
 ghost use Rattle.allowed_signers.specs.Times.{IsMoment, IsZone, ReadsTime, ahead, behind, days_of_months, days_of_years, digits, is_leap, moment, month_days, seconds_before, two_digits, zone};
 
 const SECONDS_A_DAY: u64 = 86_400;
+
 const SECONDS_AN_HOUR: u64 = 3_600;
 
 /// A date and a time of day, as a text has them.
@@ -65,7 +66,11 @@ fn ahead(zone: &[u8]) -> u64
     ensures value { result ≡ ahead zone.now }
     ensures short { result ≤ 50400 }
 {
-    if zone.is_empty() { 14 * SECONDS_AN_HOUR } else { 0 }
+    if zone.is_empty() {
+        14 * SECONDS_AN_HOUR
+    } else {
+        0
+    }
 }
 
 /// How many seconds one is behind it at most.
@@ -73,7 +78,11 @@ fn behind(zone: &[u8]) -> u64
     ensures value { result ≡ behind zone.now }
     ensures short { result ≤ 46800 }
 {
-    if zone.is_empty() { 13 * SECONDS_AN_HOUR } else { 0 }
+    if zone.is_empty() {
+        13 * SECONDS_AN_HOUR
+    } else {
+        0
+    }
 }
 
 /// The digits in front of a text, and what stands after them.
@@ -150,7 +159,8 @@ fn is_moment(moment: &Moment) -> bool
 fn seconds_before(moment: &Moment) -> u64
     requires year { moment.now.year < 2 ^ 20 }
     requires form { IsMoment moment.now }
-    ensures { result ≡ seconds_before moment.now }
+    ensures value { result ≡ seconds_before moment.now }
+    ensures short { result < 2 ^ 60 }
 {
     let days = days_of_years(moment.year)
         + days_of_months(moment.year, moment.month - 1)

@@ -31,7 +31,7 @@ returns-in_err-name-clause-past g c =
 pub returns-in_err-contents-clause-gives : goal.returns-in_err-contents-clause-gives
 returns-in_err-contents-clause-gives g c =
     let p = err_from_is_err_and c.from_residual-in_err-contents.result c.from_residual-in_err-contents.ensures.1 in
-    rw (p.1, p.2, same_cause c.in_err-contents.field-0.0) (mapped_refused _ _ _ _ _ _ extension_read (both_refused_later string_format.read strings.read (λ s. s) _ _ _ _ c.in_ok-name.ensures.gives c.in_err-contents.ensures.gives))
+    rw (p.1, p.2, same_cause c.in_err-contents.field-0.0) (mapped_refused _ _ _ _ _ _ extension_read (both_refused_later string_format.read strings.read _ _ _ _ _ c.in_ok-name.ensures.gives c.in_err-contents.ensures.gives))
 
 pub returns-in_err-contents-clause-later : goal.returns-in_err-contents-clause-later
 returns-in_err-contents-clause-later g c = later_then _ _ _ c.in_ok-name.ensures.later c.in_err-contents.ensures.later
@@ -39,12 +39,12 @@ returns-in_err-contents-clause-later g c = later_then _ _ _ c.in_ok-name.ensures
 pub returns-in_err-contents-clause-asks : goal.returns-in_err-contents-clause-asks
 returns-in_err-contents-clause-asks g c =
     let p = err_from_is_err_and c.from_residual-in_err-contents.result c.from_residual-in_err-contents.ensures.1 in
-    rw (p.1, p.2, same_cause c.in_err-contents.field-0.0) (asks_later (λ s. s) string_format.needs (λ _. strings.needs) string_format.read _ _ _ _ c.in_ok-name.ensures.gives c.in_err-contents.ensures.asks)
+    rw (p.1, p.2, same_cause c.in_err-contents.field-0.0) (asks_later _ string_format.needs (λ _. strings.needs) string_format.read _ _ _ _ c.in_ok-name.ensures.gives c.in_err-contents.ensures.asks)
 
 pub returns-in_err-contents-clause-past : goal.returns-in_err-contents-clause-past
 returns-in_err-contents-clause-past g c =
     let p = err_from_is_err_and c.from_residual-in_err-contents.result c.from_residual-in_err-contents.ensures.1 in
-    rw (p.1, p.2, same_cause c.in_err-contents.field-0.0) (mapped_stopped _ _ _ _ _ _ _ extension_ends (stopped_later string_format.needs string_format.overruns string_format.grammar.delimited_at string_format.read (λ _. strings.needs) (λ _. strings.overruns) (λ _. strings.grammar.delimited_at) (λ s. s) _ _ _ _ string_format.grammar.same string_format.lengths c.in_ok-name.ensures.gives c.in_err-contents.ensures.past))
+    rw (p.1, p.2, same_cause c.in_err-contents.field-0.0) (mapped_stopped _ _ _ _ _ _ _ extension_ends (stopped_later string_format.needs string_format.overruns string_format.grammar.delimited_at string_format.read (λ _. strings.needs) (λ _. strings.overruns) (λ _. strings.grammar.delimited_at) _ _ _ _ _ string_format.grammar.same string_format.lengths c.in_ok-name.ensures.gives c.in_err-contents.ensures.past))
 
 pub decode_each-requires : goal.decode_each-requires
 decode_each-requires g c = string_shows
@@ -54,4 +54,4 @@ returns-clause-later g c = later_then _ _ _ c.in_ok-name.ensures.later c.in_ok-c
 
 pub returns-clause-gives : goal.returns-clause-gives
 returns-clause-gives g c =
-    mapped_reads _ _ _ _ _ _ _ response_of _ (both_reads string_format.read strings.read (λ s. s) (λ (v : _). map (λ s. s) v.items) _ _ _ _ _ c.in_ok-name.ensures.gives c.in_ok-contents.ensures.gives) extension_read (ap (λ ss. Ok (Extension _ ss)) (map-id _))
+    mapped_reads _ _ _ _ _ _ _ response_of _ (both_reads string_format.read strings.read _ (λ (v : _). map (λ s. s) v.items) _ _ _ _ _ c.in_ok-name.ensures.gives c.in_ok-contents.ensures.gives) extension_read (ap (λ ss. Ok (Extension c.in_ok-name.field-0.0 ss)) (map-id c.in_ok-contents.contents.items))
