@@ -29,8 +29,6 @@ NO_OPTIONS = "parse certificate options"
 MOST = 256
 # an RSA authority, and the names with a hash (RFC 8332)
 RSA, HASHED = "authority4", ("rsa-sha2-256", "rsa-sha2-512")
-# the status of `ssh-keygen -L` for a certificate that is not signed
-REFUSED = 255
 # what sshd says where it lets the user in
 LET_IN = "Accepted publickey"
 # names, the critical options and the extensions with their data, what the program answers, and what sshd says
@@ -92,7 +90,8 @@ def pairs(options):
 
 def certified_name(name):
     """The name of a key's algorithm in certificates (PROTOCOL.certkeys)."""
-    return name.removesuffix(b"@openssh.com") + b"-cert-v01@openssh.com"
+    base, _, domain = name.partition(b"@")
+    return base + b"-cert-v01@" + (domain or b"openssh.com")
 
 
 def certificate(maker, authority, key, users, critical, extensions, key_id=b"id", kind=1):
@@ -115,8 +114,7 @@ def judged_keys(maker):
         yield name, line, is_issued or "2047" in name, status
     yield "an RSA key of 1024 bits", key_line(b"ssh-rsa", mpint(3), of_bits(1024)), True, 0
     body = take(base64.b64decode(maker.read("user.pub").split()[1]))[1]
-    for name in (b"ssh-ed25519@openssh.com", b"key@example.com"):
-        yield f"a key under the name {name.decode()}", key_line(name, body), False, 1
+    yield "a key under a private-use name", key_line(b"key@example.com", body), False, 1
 
 
 def respelled(maker, line, authority, options):
@@ -162,6 +160,26 @@ def read_as(maker, line, status, wanted):
     return compared(wanted, shown, shown.returncode == status)
 
 
+def judged(maker, user, authority, told_of_certificate):
+    """The same by keys of each kind and size, and by certificates that do not stand as they were signed."""
+
+    def case(name, key, line, answer, by=authority, signed_line=None, before=""):
+        asked = ["login", user, str(int(time.time())), key, line, maker.fingerprint(by)]
+        return f"login by {name}", [told_of_certificate(signed_line or line)], before + "\t".join(asked), answer
+
+    for name, held, is_accepted, status in judged_keys(maker):
+        line = certificate(maker, authority, held, string(user.encode()), {}, {})
+        yield case(name, held, line, read_as(maker, line, status, "ok touch-required" if is_accepted else UNACCEPTED))
+    for bits, wanted in ((0, "ok touch-required"), (2047, "ok touch-required"), (2048, UNACCEPTED), (2**32 - 1, UNACCEPTED)):
+        held = key_line(b"ssh-rsa", mpint(3), of_bits(2047))
+        line = certificate(maker, authority, held, string(user.encode()), {}, {})
+        yield case(f"an RSA key of 2047 bits, of {bits} at least", held, line, wanted, before=f"bits\t{bits}\t")
+    key, flag = maker.read("user.pub"), {"permit-pty": b""}
+    signed_line = certificate(maker, RSA, key, string(user.encode()), {}, flag)
+    for name, line in respelled(maker, signed_line, RSA, flag):
+        yield case(f"a certificate with {name}", key, line, read_as(maker, line, 1, NO_NORMAL_FORM), RSA, signed_line)
+
+
 def login_options(maker, sshd, user, authority, told_of_certificate):
     """Names, lines and answers: the configuration that trusts the authority stands in the folder."""
     trusted = maker.fingerprint(authority)
@@ -185,19 +203,7 @@ def login_options(maker, sshd, user, authority, told_of_certificate):
             held = SecurityKey(kind, application).line()
             line = certificate(maker, authority, held, string(user.encode()), {}, {})
             yield question(f"{name} ({kind})", held, line, read_as(maker, line, status, wanted))
-    for name, held, is_accepted, status in judged_keys(maker):
-        line = certificate(maker, authority, held, string(user.encode()), {}, {})
-        yield question(name, held, line, read_as(maker, line, status, "ok touch-required" if is_accepted else UNACCEPTED))
-    for bits, wanted in ((0, "ok touch-required"), (2047, "ok touch-required"), (2048, UNACCEPTED), (2**32 - 1, UNACCEPTED)):
-        held = key_line(b"ssh-rsa", mpint(3), of_bits(2047))
-        name, told, asked, answer = question("", held, certificate(maker, authority, held, string(user.encode()), {}, {}), wanted)
-        yield f"login by an RSA key of 2047 bits, of {bits} at least", told, f"bits\t{bits}\t{asked}", answer
-    flag = {"permit-pty": b""}
-    signed_line, trusted = certificate(maker, RSA, key, string(user.encode()), {}, flag), maker.fingerprint(RSA)
-    for name, line in respelled(maker, signed_line, RSA, flag):
-        asked = ["login", user, str(int(time.time())), key, line, trusted]
-        answer = read_as(maker, line, REFUSED, NO_NORMAL_FORM)
-        yield f"login by a certificate with {name}", [told_of_certificate(signed_line)], "\t".join(asked), answer
+    yield from judged(maker, user, authority, told_of_certificate)
     # sshd knows no such user, whom a certificate may list
     line = certificate(maker, authority, key, string(b""), {}, {})
     asked = "\t".join(["login", "", str(int(time.time())), key, line, trusted])

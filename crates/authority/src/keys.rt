@@ -8,7 +8,7 @@ use openssh_limits::is_let_in;
 use ssh_key::public::KeyData;
 
 /// How many bits an RSA key has to have.
-const LEAST_RSA_BITS: u32 = 2048;
+const LEAST_CERTIFIED_BITS: u32 = 2048;
 
 /// The kinds of key that may be certified. DSA is none of them: OpenSSH lets nobody in by it.
 #[derive(Debug, Drop)]
@@ -43,7 +43,7 @@ impl KeyKinds {
     pub(crate) fn allow(&self, key: &KeyData) -> bool
         ensures { IsTrue result ↔ IsCertifiable self.now (key_of key.now) }
     {
-        self.are_of(key) && is_let_in(key, LEAST_RSA_BITS)
+        self.are_of(key) && is_let_in(key, LEAST_CERTIFIED_BITS)
     }
 
     /// Whether the key is of one of the kinds.
