@@ -116,8 +116,9 @@ pub fn log_in<R: Revocations, V: RawVerifier>(
     lines();
     certificate_fits();
     refused_or_wanted();
-    let certificate = Certificate::from_openssh(alloc, login.line)?;
-    if !is_normal_form(&certificate, login.line) {
+    let line = login.line;
+    let certificate = Certificate::from_openssh(alloc, line)?;
+    if !is_normal_form(&certificate, line) {
         return Err(Refusal::NotNormalForm);
     }
     check_fields(
