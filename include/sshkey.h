@@ -510,15 +510,15 @@ uint32_t sshkey_next_string(const uint8_t *bytes, size_t length, size_t place, s
  *
  * Let in for SSHKEY_NOT_REVOKED alone: a caller that takes any other answer for "not revoked" is
  * wrong (docs/CHECKLIST.md, "All of them"). SSHKEY_DONE exactly if the file revokes the key (memory
- * aside); else SSHKEY_UNREADABLE_REVOCATIONS for a file that sshd does not read either, but for two
- * rows of docs/CALLING.md; else 10 to 29 for bytes that are no key. Of a list SSHKEY_MEMORY only
- * for a key that is not its normal form. */
+ * aside); SSHKEY_UNREADABLE_REVOCATIONS for a file that can't be read, by which sshd lets nobody in
+ * either (docs/CALLING.md says what sshd refuses beyond that); else 10 to 29 for bytes that are no
+ * key. A text takes memory for its lines, a list only for a key that is not its normal form. */
 uint32_t sshkey_revoked_key(const uint8_t *revoked, size_t revoked_length, const uint8_t *key,
                             size_t key_length);
 
 /* The same of a certificate: the file has its key or the key that signed it, or a list revokes its
  * serial number or its key id among the certificates of that key or of every key. The serial number
- * 0 revokes nothing. Of a list SSHKEY_MEMORY only where the bytes are a certificate. */
+ * 0 revokes nothing. A list takes memory only where the bytes are a certificate. */
 uint32_t sshkey_revoked_certificate(const uint8_t *revoked, size_t revoked_length,
                                     const uint8_t *certificate, size_t certificate_length);
 

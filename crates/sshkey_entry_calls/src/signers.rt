@@ -97,18 +97,20 @@ fn judge(
     if lacks_memory(&read) {
         return MEMORY;
     }
-    let verdict = verify(
-        alloc,
-        signers,
-        identity,
-        namespace,
-        &[],
-        signature,
-        unix_timestamp,
+    number_of(
+        verify(
+            alloc,
+            signers,
+            identity,
+            namespace,
+            &[],
+            signature,
+            unix_timestamp,
+            &read,
+            said,
+        ),
         &read,
-        said,
-    );
-    number_of(verdict, &read)
+    )
 }
 
 /// Whether memory ran out.
