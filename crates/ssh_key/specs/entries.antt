@@ -10,4 +10,5 @@ pub use Rattle.sshkey_entries.specs.OptionItems
 pub use Rattle.sshkey_patterns.specs.Patterns
 pub use Rattle.sshkey_entries.specs.HostNames
 pub use Rattle.sshkey_entries.specs.HostVerdicts
+pub use Rattle.sshkey_entries.specs.OtherKeys
 pub use Rattle.sshkey_entries.specs.Laws
