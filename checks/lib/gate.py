@@ -60,7 +60,7 @@ class Gate:
         self.passed = self.failed = 0
         self.left_out, self.lock, self.is_stopped = [], threading.Lock(), False
         self.began, self.watcher = time.monotonic(), None
-        self.room = tempfile.mkdtemp(prefix="rafendilo-test-")
+        self.room = tempfile.mkdtemp(prefix="rafendilo-")
         # for programs that sshd starts as another user
         os.chmod(self.room, 0o711)
         self.env = {**os.environ, "TMPDIR": self.room, "PYTHONDONTWRITEBYTECODE": "1"}
