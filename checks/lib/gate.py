@@ -29,6 +29,9 @@ class Line:
     def command(self, programs=()):
         return [os.path.normpath(f"checks/{self.words[0]}"), *self.words[1:], *programs]
 
+    def name(self):
+        return " ".join(self.command())
+
     def crate(self):
         """The crate that has to be proved for it, if there is one."""
         return next((it.partition("=")[2] for it in self.when if it.startswith("proved=")), None)
@@ -57,7 +60,7 @@ class Gate:
         self.passed = self.failed = 0
         self.left_out, self.lock, self.is_stopped = [], threading.Lock(), False
         self.began, self.watcher = time.monotonic(), None
-        self.room = tempfile.mkdtemp(prefix="rafendilo-test-")
+        self.room = tempfile.mkdtemp(prefix="rafendilo-")
         # for programs that sshd starts as another user
         os.chmod(self.room, 0o711)
         self.env = {**os.environ, "TMPDIR": self.room, "PYTHONDONTWRITEBYTECODE": "1"}
@@ -103,8 +106,13 @@ class Gate:
 
         def run(commands):
             shown = []
+
+            def show(line):
+                # what it is at is told at once
+                (say if line.startswith("unproved: ") else shown.append)(line)
+
             for words in commands:
-                self.part(words, shown.append)
+                self.part(words, show)
             if not self.is_stopped:
                 say("\n".join(shown))
 
