@@ -57,6 +57,12 @@ static uint32_t read_offered(const login_request *asked, offered *answer) {
   return sshkey_fingerprint(answer->blob.bytes + key.start, key.length, &answer->digest);
 }
 
+/* Whether sshd reads the key as another one: the application of a security key, the last of its
+ * strings, without a zero byte at its end. */
+static bool is_read_shorter(const uint8_t *key, size_t length) {
+  return length > 7 && !memcmp(key + 4, "sk-", 3) && !key[length - 1];
+}
+
 /* SSHKEY_END where the line is surely not one for what is offered: it is an entry of another key,
  * as sshd reads it too. Any other is sshd's to judge, also one that is no entry here: sshd takes
  * the first line that lets a key in, so one that is left out may hand the login to a later line,
@@ -72,9 +78,8 @@ static uint32_t judge_line(const uint8_t *line, size_t length, const offered *wa
   uint32_t answer = sshkey_authorized_entry(line, length, room, length, &entry);
   if (answer == SSHKEY_DONE)
     answer = sshkey_fingerprint(room + entry.key.start, entry.key.length, &digest);
-  /* the zero byte at the end of a security key's application is none to sshd */
   bool is_other = answer == SSHKEY_DONE && memcmp(&digest, &wanted->digest, sizeof digest) &&
-                  room[entry.key.start + entry.key.length - 1];
+                  !is_read_shorter(room + entry.key.start, entry.key.length);
   free(room);
   if (answer == SSHKEY_MEMORY) return answer;
   return is_other ? SSHKEY_END : SSHKEY_DONE;

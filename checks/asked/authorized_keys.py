@@ -66,7 +66,9 @@ class Files:
         self.lines = {name: line.format(self.fields(name)).split("\n") for name, line in LINES.items()}
         # sshd reads no further than to a zero byte
         self.lines["zero"] = [f"{self.fields('zero')} a\0b"]
-        maker.write(f"keys/{me}", "\r\n".join(["# keys", "", *(it for lines in self.lines.values() for it in lines)]) + "\n")
+        # nobody's, and no security key's, whose last byte is the end of a text
+        ends_in_zero = line_of(string(b"ssh-ed25519") + string(b"\1" * 31 + b"\0"))
+        maker.write(f"keys/{me}", "\r\n".join(["# keys", "", ends_in_zero, *(it for lines in self.lines.values() for it in lines)]) + "\n")
         maker.write("keys/nobody", f"{self.fields('nobody')}\n")
         self.configure("", maker.folder)
 
@@ -173,6 +175,8 @@ def check_first_lines(count, files):
     short = string(b"ED25519") + string(take(take(blob_of(key.decode()))[1])[0])
     bound = b'restrict,command="echo BOUND" '
     free = b"\n" + key + b"\n"
+    device = files.agents["device"]
+    zero_ended = device.key.line(device.key.application + b"\0").encode()
     texts = {
         "nothing odd": bound + key + free, "more than 64 options": b"no-pty," * 65 + bound + key + free,
         "a zero byte in its comment": bound + key + b" x\0y" + free, "a Latin-1 comment": bound + key + b" caf\xe9" + free,
@@ -183,14 +187,17 @@ def check_first_lines(count, files):
         "a short name in its key": bound + b"ssh-ed25519 " + base64.b64encode(short) + free,
         "restrict twice": b"restrict," + bound + key + free,
         "other keys and a comment before": others[1] + b"\n" + others[2] + b" caf\xe9\n# x\n" + bound + key + free,
-        "junk before": b'hello world\nssh-rsa AAAA\n"open\n' + bound + key + free, "not listed": others[0] + b"\n",
+        "junk before": b'hello world\nssh-rsa AAAA\n"open\n' + bound + key + free,
+        "a zero byte at the end of its application": bound + zero_ended + b"\n" + device.key.line().encode() + b"\n",
+        "not listed": others[0] + b"\n",
     }  # fmt: skip
     for at, text in enumerate(texts.values()):
         os.makedirs(maker.path(f"first{at}/keys"))
         with open(maker.path(f"first{at}/keys/{me}"), "wb") as file:
             file.write(text)
         files.configure(f"-first{at}", maker.path(f"first{at}"))
-    asked = [(f"{way}-first{at}", me, "alone", "none", "echo FREE") for at in range(len(texts)) for way in ("reading", "asking")]
+    offered = [("device", device.path) if "application" in it else ("alone", "none") for it in texts]
+    asked = [(f"{way}-first{at}", me, *it, "echo FREE") for at, it in enumerate(offered) for way in ("reading", "asking")]
     with ThreadPoolExecutor(len(os.sched_getaffinity(0))) as pool:
         found = list(pool.map(lambda it: login(maker, *it), asked))
     for case, reads, asks in zip(texts, found[::2], found[1::2]):
