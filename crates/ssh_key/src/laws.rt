@@ -75,6 +75,7 @@ pub use sshkey_entries::laws::one_host_line;
 pub use sshkey_entries::laws::one_hosts;
 pub use sshkey_entries::laws::one_key_options;
 pub use sshkey_entries::laws::one_known_host;
+pub use sshkey_entries::laws::other_keys_apart;
 pub use sshkey_entries::laws::readings_apart;
 pub use sshkey_fingerprints::laws::compared_fingerprints;
 pub use sshkey_fingerprints::laws::fingerprint_texts;
