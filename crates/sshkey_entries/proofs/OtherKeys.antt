@@ -1,5 +1,5 @@
 -- No key begins with the name of another kind; and how such a name is read in a word.
-use Rattle.std.proofs.Common.{◌≡◌, ◌≢◌, ◌+◌, ◌<◌, ◌≤◌, ◌%◌, ℕ, suc, List, [], ◌∷◌, ◌++◌, length, slice_index, Bool, true, false, ◌&&◌, ◌==◌, Option, Some, None, is_none, eqb-true, inl, inr, refl, sym, ap, subst, ◌∙◌, append_assoc, append-nil, arith, tests}
+use Rattle.std.proofs.Common.{◌≡◌, ◌≢◌, ◌%◌, ℕ, suc, List, [], ◌∷◌, ◌++◌, length, slice_index, Bool, true, false, ◌&&◌, ◌==◌, Option, Some, None, is_none, eqb-true, inl, inr, refl, sym, ap, subst, ◌∙◌, append_assoc, append-nil, arith, tests}
 use Rattle.std.specs.Int.{w32, to_be_bytes}
 use Rattle.std.specs.Prelude.{nat_le, nat_lt}
 use Rattle.std.proofs.lemmas.Bool.{and_parts}
@@ -20,8 +20,8 @@ use Rattle.sshkey_model.proofs.CombinedReaders.{are_bytes-append, bytes_fit, fit
 use Rattle.sshkey_entries.specs.Cuts.{CutsField}
 use Rattle.sshkey_entries.specs.Fields.{without_blanks, IsField, AreKeyFields}
 use Rattle.sshkey_entries.specs.Entries.{IsNoEntry}
-use Rattle.sshkey_entries.specs.KnownHosts.{Marker, Hosts, IsHosts, KnownHost, at_sign}
-use Rattle.sshkey_entries.specs.OpenSshLines.{IsHostLine, IsMarkedLine, IsOtherHostLine}
+use Rattle.sshkey_entries.specs.KnownHosts.{Marker, Hosts, IsHosts, at_sign}
+use Rattle.sshkey_entries.specs.OpenSshLines.{IsHostLine, IsOtherHostLine}
 use Rattle.sshkey_entries.specs.OptionEnds.{is_blank}
 use Rattle.sshkey_entries.specs.OtherKeys.{is_name_character, HasNameCharacters, IsOtherName, SpellsName, AreOtherKeyFields}
 use Rattle.sshkey_entries.proofs.Fields.{same_field, blanks_are, base64_field}

@@ -1,6 +1,6 @@
 -- What the lines of known_hosts say of a host's key (sshd(8), "SSH_KNOWN_HOSTS FILE FORMAT";
 -- ssh(1), "VERIFYING HOST KEYS").
-use Rattle.std.specs.Prelude.{◌≡◌, ◌⊎◌, ℕ, List, [], ◌∷◌, ◌++◌, Option, Some, None}
+use Rattle.std.specs.Prelude.{◌≡◌, ◌⊎◌, ℕ, List, ◌++◌, Option, Some, None}
 use Rattle.std.specs.List.{Any}
 use Rattle.sshkey_model.specs.Keys.{Key}
 use Rattle.sshkey_model.specs.Lines.{IsWithout}

@@ -10,7 +10,6 @@ use Rattle.sshkey_keys.specs.KeyFormats.{key_format}
 use Rattle.sshkey_keys.specs.Keys.{SpellsKey}
 use Rattle.sshkey_model.specs.Keys.{Key}
 use Rattle.sshkey_model.specs.Lines.{space, key_name, IsKeyLine, IsWithout}
-use Rattle.sshkey_model.specs.Reading.{whole}
 use Rattle.sshkey_public.specs.LineFaults.{HasFaultOfLine}
 use Rattle.sshkey_entries.proofs.OneHost.{one_marker}
 use Rattle.sshkey_entries.specs.AuthorizedKeys.{IsNoKeyLine}

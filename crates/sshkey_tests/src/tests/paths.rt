@@ -184,6 +184,7 @@ pub mod laws {
     pub use ssh_key::laws::one_key_line;
     pub use ssh_key::laws::one_key_options;
     pub use ssh_key::laws::one_known_host;
+    pub use ssh_key::laws::other_keys_apart;
     pub use ssh_key::laws::one_krl;
     pub use ssh_key::laws::one_options;
     pub use ssh_key::laws::one_revoked_key;

@@ -1,4 +1,4 @@
-use Rattle.std.proofs.Common.{◌≡◌, sym, ap, subst, ◌∙◌}
+use Rattle.std.proofs.Common.{sym, ◌∙◌}
 use Rattle.sshkey_entries.proofs.OtherKeys.{no_groups, named_word, word_names}
 use Rattle.sshkey_entries.proofs.other_key.spells_name.Goals as goal
 

@@ -1,4 +1,4 @@
-use Rattle.std.proofs.Common.{List, Ok, inl, map, map-id, ap}
+use Rattle.std.proofs.Common.{Ok, inl, map, map-id, ap}
 use Rattle.std.proofs.lemmas.Result.{err_from_is_err_and}
 use Rattle.ssh_key.specs.base.Causes.{same_cause}
 use Rattle.ssh_key.specs.base.Formats.{string_format}

@@ -1,4 +1,4 @@
-use Rattle.std.proofs.Common.{ℕ, ◌++◌, sym, subst}
+use Rattle.std.proofs.Common.{◌++◌, sym, subst}
 use Rattle.sshkey_known_hosts.specs.Verdicts.{IsVerdict}
 use Rattle.sshkey_known_hosts.specs.declared.verdict.Verdict.{Verdict}
 use Rattle.sshkey_known_hosts.proofs.Verdicts.{both}
