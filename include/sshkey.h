@@ -453,8 +453,8 @@ uint32_t sshkey_sshsig_question_of_digest(const uint8_t *signature, size_t signa
  * file of no bytes revokes nothing. Who asks no file passes a list of nothing (judge_no_revocations
  * in helpers/judge.h), and never what is left where a file was not read. `is_verified` is 1 if the
  * answer to the question of this signature, in the namespace and of the message, is yes; any other
- * number is no. Ask with 0 first: SSHKEY_NOT_SIGNED says that its key may sign, and with any other answer there is nothing
- * to verify.
+ * number is no. Ask with 0 first: SSHKEY_NOT_SIGNED says that its key may sign, and with any other
+ * answer there is nothing to verify.
  *
  * SSHKEY_DONE exactly if the bytes are a signature in the namespace that raises a question,
  * without reserved bytes, `is_verified` is 1, a line lets its key sign for the identity in the
