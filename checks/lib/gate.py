@@ -13,7 +13,7 @@ from concurrent.futures import ThreadPoolExecutor
 from dataclasses import dataclass
 
 from lib.harness import ROOT
-from lib.processes import adopt, end_below
+from lib.processes import adopt, end_below, ended_children
 
 COUNTS = re.compile(r"(\d+) passed, (\d+) failed$")
 SIGNALS = signal.SIGHUP, signal.SIGINT, signal.SIGTERM
@@ -65,6 +65,8 @@ class Gate:
         os.chmod(self.room, 0o711)
         self.env = {**os.environ, "TMPDIR": self.room, "PYTHONDONTWRITEBYTECODE": "1"}
         adopt()
+        # the processes whose status is waited for here, and who takes the others, once there are parts
+        self.waited_for, self.taker = set(), None
         for number in SIGNALS:
             signal.signal(number, self.stop)
 
@@ -75,7 +77,12 @@ class Gate:
         how = {"stdin": subprocess.DEVNULL, "stdout": subprocess.PIPE, "stderr": subprocess.STDOUT, "errors": "replace"}
         if self.is_stopped:
             return
-        run = subprocess.Popen(words, cwd=ROOT, env=self.env, start_new_session=True, **how)
+        with self.lock:
+            if not self.taker:
+                self.taker = threading.Thread(target=self.take_others, daemon=True)
+                self.taker.start()
+            run = subprocess.Popen(words, cwd=ROOT, env=self.env, start_new_session=True, **how)
+            self.waited_for.add(run.pid)
         for line in run.stdout:
             last = line.strip() or last
             show(line.rstrip("\n"))
@@ -90,6 +97,7 @@ class Gate:
         if self.is_stopped:
             return
         with self.lock:
+            self.waited_for.discard(run.pid)
             self.passed, self.failed = self.passed + passed, self.failed + failed
         took = f"{time.monotonic() - began:.0f} seconds, {used.ru_utime + used.ru_stime:.0f} of processors"
         say(f"-- {self.minutes()} minutes; {' '.join(words)}: {passed} passed, {failed} failed ({took})")
@@ -128,10 +136,6 @@ class Gate:
         if self.watcher:
             self.watcher.terminate()
             self.watcher.wait()
-        # what its parent did not wait for counts too
-        with contextlib.suppress(ChildProcessError):
-            while os.waitpid(-1, os.WNOHANG)[0]:
-                pass
         used = os.times()
         say(f"{self.minutes()} minutes, {used.children_user + used.children_system:.0f} processor seconds")
         say(f"left out: {'; '.join(self.left_out)}" if self.left_out else "nothing was left out")
@@ -141,7 +145,18 @@ class Gate:
     def watch(self):
         """Has the seconds of each crate counted, which are printed at the end."""
         words = ["checks/lib/seconds", str(os.getpid())]
-        self.watcher = subprocess.Popen(words, cwd=ROOT, env=self.env, start_new_session=True)
+        with self.lock:
+            self.watcher = subprocess.Popen(words, cwd=ROOT, env=self.env, start_new_session=True)
+            self.waited_for.add(self.watcher.pid)
+
+    def take_others(self):
+        """Takes processes that have ended and whose parents have, as those of hundreds of logins."""
+        while True:
+            time.sleep(1)
+            with self.lock:
+                for pid in ended_children() - self.waited_for:
+                    with contextlib.suppress(ChildProcessError):
+                        os.waitpid(pid, os.WNOHANG)
 
     def stop(self, number, _):
         """Ends as that signal asks."""
