@@ -437,11 +437,11 @@ uint32_t sshkey_sshsig_question_of_digest(const uint8_t *signature, size_t signa
 
 /* Whether an SSH signature counts as the identity's in that namespace, by a text of allowed
  * signers (ssh-keygen(1)), at that second (since 1970), as `ssh-keygen -Y verify` says, or more
- * strictly (docs/CALLING.md): a time without Z may be of any zone. `revoked` is what the file of its `-r` has: a list, or keys, one a
- * line; no bytes where there is none. `is_verified` is 1 if the answer to the question of this
- * signature, in the namespace and of the message, is yes; any other number is no. Ask with 0
- * first: SSHKEY_NOT_SIGNED says that its key may sign, and with any other answer there is nothing
- * to verify.
+ * strictly (docs/CALLING.md): a time without Z may be of any zone. `revoked` is what the file of
+ * its `-r` has: a list, or keys, one a line; no bytes where there is none. `is_verified` is 1 if
+ * the answer to the question of this signature, in the namespace and of the message, is yes; any
+ * other number is no. Ask with 0 first: SSHKEY_NOT_SIGNED says that its key may sign, and with any
+ * other answer there is nothing to verify.
  *
  * SSHKEY_DONE exactly if the bytes are a signature in the namespace that raises a question,
  * without reserved bytes, `is_verified` is 1, a line lets its key sign for the identity in the
