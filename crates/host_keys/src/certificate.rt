@@ -120,12 +120,26 @@ fn judge<H: HmacSha1, R: Revocations, V: RawVerifier>(
     key_fits();
     let (key, signer) = (certificate.public_key(), certificate.signature_key());
     let revoked = revocations.is_certificate_revoked(alloc, certificate);
-    let said = signed_verdict(alloc, login.texts, login.host, login.port, key, signer, hmac);
+    let said = signed_verdict(
+        alloc,
+        login.texts,
+        login.host,
+        login.port,
+        key,
+        signer,
+        hmac,
+    );
     answer(revoked, said)?;
     if !is_let_in(key, login.least_rsa_bits) {
         return Err(Refusal::UnacceptedKey);
     }
-    match validate(alloc, certificate, login.host, login.unix_timestamp, verifier) {
+    match validate(
+        alloc,
+        certificate,
+        login.host,
+        login.unix_timestamp,
+        verifier,
+    ) {
         Ok(()) => Ok(()),
         Err(error) => Err(Refusal::of_certificate(error)),
     }

@@ -21,11 +21,13 @@ both : (p q r s : Parts) → Shortens p r → Shortens q s → Shortens (p & q) 
 unfolding flat
 both p q r s first second =
     let left = length-append (flat p) (flat q) in
-    let right = length-append (flat r) (flat s) in
-    (omega (arith, first.0, second.0, left, right), λ e.
-    let front : length (flat p) ≡ length (flat r) = omega (arith, first.0, second.0, left, right, e) in
-    let rest : length (flat q) ≡ length (flat s) = omega (arith, first.0, second.0, left, right, e) in
-    rw (first.1 front, second.1 rest) refl)
+    let right = length-append (flat r) (flat s) in (
+      omega (arith, first.0, second.0, left, right),
+      λ e.
+          let front : length (flat p) ≡ length (flat r) = omega (arith, first.0, second.0, left, right, e) in
+          let rest : length (flat q) ≡ length (flat s) = omega (arith, first.0, second.0, left, right, e) in
+          rw (first.1 front, second.1 rest) refl,
+    )
 
 boxed : (p q : Parts) → Shortens p q → Shortens (box p) (box q)
 unfolding flat

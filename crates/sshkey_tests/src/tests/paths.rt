@@ -219,6 +219,7 @@ pub mod laws {
     pub use ssh_key::laws::prefix_ssh_signature;
     pub use ssh_key::laws::prefix_text;
     pub use ssh_key::laws::prefix_texts;
+    pub use ssh_key::laws::prefixes;
     pub use ssh_key::laws::read_back;
     pub use ssh_key::laws::read_back_certificate;
     pub use ssh_key::laws::read_back_certificate_line;
@@ -232,9 +233,11 @@ pub mod laws {
     pub use ssh_key::laws::read_back_ssh_signature;
     pub use ssh_key::laws::readers;
     pub use ssh_key::laws::readings_apart;
+    pub use ssh_key::laws::shortest_certificate;
     pub use ssh_key::laws::signed_fields;
     pub use ssh_key::laws::signed_fields_fit;
     pub use ssh_key::laws::signed_parts_fit;
+    pub use ssh_key::laws::spelled_certificate;
     pub use ssh_key::laws::spelled_kdf;
     pub use ssh_key::laws::spelled_padded_private_key;
     pub use ssh_key::laws::spelled_private_key;
