@@ -1,0 +1,5 @@
+pub mod Calling
+pub mod RequestTrees
+pub mod Lawful
+pub mod Measured
+pub mod Judging

@@ -1,0 +1,6 @@
+pub mod Requests
+pub mod RequestFormats
+pub mod Values
+pub mod Judgements
+pub mod Questions
+pub mod Examples

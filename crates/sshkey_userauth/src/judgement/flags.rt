@@ -1,0 +1,47 @@
+//! The flags in the signatures of security keys (PROTOCOL.u2f).
+
+ghost use Rattle.std.specs.Prelude.{◌≡◌};
+ghost use Rattle.sshkey_keys.specs.Signatures.{signature_of};
+ghost use Rattle.sshkey_userauth.specs.Judgements.{flags_of, lacking};
+
+use super::Requirements;
+use crate::refusal::Refusal;
+use sshkey_keys::{Signature, has_trailer, split_trailer};
+
+/// Somebody touched the security key (`SSH_SK_USER_PRESENCE_REQD`).
+const USER_PRESENT: u8 = 0x01;
+
+/// The security key verified its user (`SSH_SK_USER_VERIFICATION_REQD`).
+const USER_VERIFIED: u8 = 0x04;
+
+/// Whether the flags of a security key are those that are required.
+pub(super) fn check_flags(signature: &Signature, requirements: Requirements) -> Result<(), Refusal>
+    ensures { result ≡ lacking requirements (flags_of (signature_of signature.now)) }
+{
+    match flags_of(signature) {
+        Some(flags) => {
+            if requirements.touch_required && flags & USER_PRESENT == 0 {
+                return Err(Refusal::Touch);
+            }
+            if requirements.verify_required && flags & USER_VERIFIED == 0 {
+                return Err(Refusal::Verification);
+            }
+            Ok(())
+        }
+        None => Ok(()),
+    }
+}
+
+/// The flags in the signature of a security key.
+fn flags_of(signature: &Signature) -> Option<u8>
+    ensures { result ≡ flags_of (signature_of signature.now) }
+{
+    if !has_trailer(signature.algorithm()) {
+        return None;
+    }
+    let (_, trailer) = split_trailer(signature.as_bytes());
+    match trailer {
+        [flags, ..] => Some(*flags),
+        [] => None,
+    }
+}

@@ -1,0 +1,12 @@
+//! What a client signs for a login by public key, and what is asked about its signature.
+#![tactic(auto)]
+
+pub mod examples;
+mod judgement;
+pub mod laws;
+mod refusal;
+mod request;
+
+pub use judgement::{Requirements, UserauthQuestion};
+pub use refusal::Refusal;
+pub use request::UserauthRequest;
