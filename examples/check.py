@@ -222,7 +222,7 @@ def validate_host(
     Refusal.
 
     `texts` are those of all the known_hosts files that count, the user's and the machine's, and `host` is the name that was asked
-    for. The certificate has to list it in small letters, as ssh(1) asks; one that lists none is for each host of its authority.
+    for. The certificate has to list it in small letters, as ssh(1) asks.
     `revoked` is that of RevokedHostKeys, as for `validate_user`. That the host holds the certified key is not looked at
     (docs/FOREIGN.md)."""
     try:
@@ -241,6 +241,8 @@ def validate_host(
         return Refusal.UNMET_OPTION
     if not is_readable(contents):
         return Refusal.UNREADABLE
+    if not fields.lists_principals:  # it would be for each host of its authority
+        return Refusal.NOBODY_LISTED
     # of bytes these are the ASCII letters
     name = host.lower() if isinstance(host, bytes) else host.translate(SMALL)
     return judge(certificate, now, name, {sshkey.fingerprint(contents.authority)}, revoked)

@@ -381,6 +381,7 @@ uint32_t judge_validate_host(judge_blob certificate, const judge_host *asked) {
   if (fields.certificate_type != SSHKEY_HOST) return JUDGE_NOT_FOR_HOSTS;
   if (fields.has_critical_options) return JUDGE_UNMET_OPTION;
   answer = judge_texts(certificate, &parts);
+  if (answer == SSHKEY_DONE && !fields.lists_principals) answer = JUDGE_NOBODY_LISTED;
   if (answer == SSHKEY_DONE)
     answer = sshkey_fingerprint(authority.bytes, authority.length, &signer);
   if (answer != SSHKEY_DONE) return answer;

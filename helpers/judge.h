@@ -79,7 +79,7 @@ typedef struct {
  * beside the answers of sshkey.h. */
 enum {
   JUDGE_NOT_FOR_USERS = 100,  /* it is one for hosts */
-  JUDGE_NOBODY_LISTED = 101,  /* it lists no principals, and would be for everybody */
+  JUDGE_NOBODY_LISTED = 101,  /* it lists no principals, and would be for all */
   JUDGE_UNMET_OPTION = 102,   /* a critical option is not known, or not met */
   JUDGE_OTHER_KEY = 103,      /* it is one of another key than the client holds */
   JUDGE_FLAG_DATA = 104,      /* data stand in an extension that is a flag */

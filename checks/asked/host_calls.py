@@ -17,6 +17,7 @@ from .security_key_calls import SecurityKey
 WANTED = {
     "ok": "DONE", "revoked": "HOST_REVOKED", "unreadable": "HOST_UNREADABLE", "unknown": "HOST_UNKNOWN", INVALID: "OUT_OF_WINDOW",
     field("valid principals"): "UNLISTED_PRINCIPAL", field("type"): "NOT_FOR_HOSTS", field("critical options"): "UNMET_OPTION",
+    "nobody": "NOBODY_LISTED",
 }  # fmt: skip
 
 
@@ -24,7 +25,7 @@ def cases(maker):
     """Names, certificates, hosts, ports, texts, and what is wanted."""
     keys = {"key": maker.key("host-key", "ed25519"), "other": maker.key("another-host", "ed25519"), "broken": BROKEN}
     keys["authority"] = maker.key("host-authority", "ed25519")
-    nobody = ("of all hosts", [[AUTHORITY]], 22, NOBODY, "ok")
+    nobody = ("that lists nobody", [[AUTHORITY]], 22, NOBODY, "nobody")
     for name, files, port, words, wanted in [*in_one_file(CERTIFICATES), nobody, *CERTIFICATES_OF_FILES]:
         blob = blob_of(maker.certificate("host-authority", "host-key", *words))
         yield name, blob, HOST, port, [written(maker, lines, keys) for lines in files], WANTED[wanted]

@@ -21,8 +21,8 @@ var places = map[error]int{
 //
 // The texts are those of all the files of known_hosts that count, the user's and the machine's, and
 // the host is the name that was asked for. The certificate has to list it in small letters, as
-// ssh(1) asks; one that lists none is for each host of its authority. What revokes it is what a file
-// of RevokedHostKeys has, or NoRevocations: one that can't be read, and nil, let no host pass.
+// ssh(1) asks. What revokes it is what a file of RevokedHostKeys has, or NoRevocations: one that
+// can't be read, and nil, let no host pass.
 // Whether the host holds the certified key is not looked at (docs/FOREIGN.md).
 func ValidateHost(
 	certificate []byte, now time.Time, host string, port uint16, texts []string, revoked []byte,
@@ -56,6 +56,9 @@ func ValidateHost(
 	}
 	if !isReadable(contents) {
 		return ErrUnreadable
+	}
+	if !fields.ListsPrincipals { // it would be for each host of its authority
+		return ErrNobodyListed
 	}
 	authority, err := sshkey.Fingerprint(contents.Authority)
 	if err != nil {

@@ -58,14 +58,14 @@ fn signed_verdict(host: &Host<'_>, port: u16, key: &[u8], authority: &[u8]) -> R
 }
 
 /// Whether the certificate, given as its blob, is that of the host, by an authority that the texts
-/// of known_hosts name as the host's. `verify` is your cryptography. One that lists no principals
-/// is for each host of its authority.
+/// of known_hosts name as the host's. `verify` is your cryptography.
 ///
 /// Fails with what is wrong first: with a number from 10 to 29 where the bytes are no certificate;
-/// with [`Refusal::Revoked`] or [`Status::UNREADABLE_REVOCATIONS`]; as [`authority_verdict`] does, and with [`Status::HOST_REVOKED`] where
-/// a line revokes the certified key; with [`Refusal::NotForHosts`]; with [`Refusal::UnmetOption`]
-/// for each critical option, since none is known for hosts; with [`Refusal::Unreadable`]; and as
-/// [`judge_certificate`] does.
+/// with [`Refusal::Revoked`] or [`Status::UNREADABLE_REVOCATIONS`]; as [`authority_verdict`] does,
+/// and with [`Status::HOST_REVOKED`] where a line revokes the certified key; with
+/// [`Refusal::NotForHosts`]; with [`Refusal::UnmetOption`] for each critical option, since none is
+/// known for hosts; with [`Refusal::Unreadable`]; with [`Refusal::NobodyListed`] for one that lists
+/// no name; and as [`judge_certificate`] does.
 ///
 /// Whether the host holds the certified key is not looked at (docs/FOREIGN.md).
 pub fn validate_host(
@@ -91,6 +91,10 @@ pub fn validate_host(
     }
     if !is_readable(&contents, &key)? {
         return Err(Refusal::Unreadable);
+    }
+    if !fields.lists_principals {
+        // it would be for each host of its authority
+        return Err(Refusal::NobodyListed);
     }
     let (second, name) = (host.unix_timestamp, host.name.to_ascii_lowercase());
     let signer = fingerprint(authority)?;
