@@ -184,7 +184,6 @@ pub mod laws {
     pub use ssh_key::laws::one_key_line;
     pub use ssh_key::laws::one_key_options;
     pub use ssh_key::laws::one_known_host;
-    pub use ssh_key::laws::other_keys_apart;
     pub use ssh_key::laws::one_krl;
     pub use ssh_key::laws::one_options;
     pub use ssh_key::laws::one_revoked_key;
@@ -194,6 +193,7 @@ pub mod laws {
     pub use ssh_key::laws::options_fit;
     pub use ssh_key::laws::ordered_sk_ecdsa_pairs;
     pub use ssh_key::laws::ordered_sk_ed25519_pairs;
+    pub use ssh_key::laws::other_keys_apart;
     pub use ssh_key::laws::plain_padded_private_key;
     pub use ssh_key::laws::prefix_body;
     pub use ssh_key::laws::prefix_certificate;
