@@ -57,20 +57,14 @@ def made(folder):
 
 
 def with_parts(certificate, key_id=None, principals=None, signer=None):
-    """The certificate of an Ed25519 key with other parts; its signature fits no more."""
-    (name, rest), made = take(certificate), b""
-    for _ in range(2):
-        held, rest = take(rest)
-        made += string(held)
-    numbers, rest = rest[:12], rest[12:]
-    (own_id, rest), (own_names, rest) = take(rest), take(rest)
-    made += numbers + string(key_id or own_id) + string(principals or own_names) + rest[:16]
-    rest = rest[16:]
-    for _ in range(3):
-        held, rest = take(rest)
-        made += string(held)
-    own_signer, rest = take(rest)
-    return string(name) + made + string(signer or own_signer) + rest
+    """The certificate of an Ed25519 key with other parts (PROTOCOL.certkeys); its signature fits no more."""
+    # how many bytes each field has that is no string
+    sizes, others = [0, 0, 0, 8, 4, 0, 0, 8, 8, 0, 0, 0, 0, 0], {5: key_id, 6: principals, 12: signer}
+    rest, made = certificate, b""
+    for at, size in enumerate(sizes):
+        held, rest = (rest[:size], rest[size:]) if size else take(rest)
+        made += held if size else string(others.get(at) or held)
+    return made
 
 
 def strange_lines(p256, certificate):
