@@ -58,10 +58,10 @@ command o r is judged = (
 
 pub addresses : (o : CertificateOption) (r : Bool) → o.name ≡ source_address → (IsTrue r ↔ IsNetworks o.value) → IsTrue r ↔ IsKnownOption o
 addresses o r is judged = (
-  λ yes. Addresses is (judged.0 yes),
+  λ yes. Addresses is (record { networks = judged.0 yes }),
   λ known. judged.1 (elim known [
     | Command same given ↦ absurd (no_list (sym same ∙ is))
-    | Addresses same given ↦ given
+    | Addresses same given ↦ given.networks
     | Verification same nothing ↦ absurd (no_addresses (sym is ∙ same))
   ]),
 )

@@ -22,10 +22,14 @@ pub record IsArgument (value : List ℕ) : Type 0 where
   pub some : value ≢ []
   pub no_zero : IsWithout 0 value
 
--- a command, networks, or the flag, in which nothing stands
+-- a list of addresses
+pub record AreNetworks (value : List ℕ) : Type 0 where
+  pub networks : IsNetworks value
+
+-- a command, a list of addresses, or the flag, in which nothing stands
 pub data IsKnownOption (o : CertificateOption) : Type 0 where
   Command : o.name ≡ force_command → IsArgument o.value → IsKnownOption o
-  Addresses : o.name ≡ source_address → IsNetworks o.value → IsKnownOption o
+  Addresses : o.name ≡ source_address → AreNetworks o.value → IsKnownOption o
   Verification : o.name ≡ verify_required → o.value ≡ [] → IsKnownOption o
 
 -- The extensions that are flags.
