@@ -6,7 +6,6 @@ use Rattle.std.specs.List.{list_any}
 use Rattle.std.proofs.lemmas.List.Elements.{All-cons, All-head, All-tail}
 use Rattle.std.proofs.lemmas.Map.Views.{Contains-from_any}
 use Rattle.std.proofs.lemmas.Slice.Eq.{bytes_eq-Decides}
-use Rattle.ssh_key.specs.addresses.SourceAddresses.{IsNetworks}
 use Rattle.ssh_key.specs.model.Options.{CertificateOption}
 use Rattle.login_policy.specs.KnownOptions.{Addresses, Command, IsArgument, IsEmptyIfFlag, IsKnownOption, Verification, flags, force_command, source_address, verify_required}
 
@@ -40,9 +39,6 @@ differ a b unequal same = other (sym unequal ∙ (bytes_eq-Decides a b).1 same)
 no_command : force_command ≡ verify_required → ⊥
 no_command = differ force_command verify_required refl
 
-no_list : force_command ≡ source_address → ⊥
-no_list = differ force_command source_address refl
-
 no_addresses : source_address ≡ verify_required → ⊥
 no_addresses = differ source_address verify_required refl
 
@@ -51,16 +47,16 @@ command o r is judged = (
   λ yes. Command is (judged.0 yes),
   λ known. judged.1 (elim known [
     | Command same given ↦ given
-    | Addresses same given ↦ absurd (no_list (sym is ∙ same))
+    | Addresses same given ↦ given
     | Verification same nothing ↦ absurd (no_command (sym is ∙ same))
   ]),
 )
 
-pub addresses : (o : CertificateOption) (r : Bool) → o.name ≡ source_address → (IsTrue r ↔ IsNetworks o.value) → IsTrue r ↔ IsKnownOption o
+pub addresses : (o : CertificateOption) (r : Bool) → o.name ≡ source_address → (IsTrue r ↔ IsArgument o.value) → IsTrue r ↔ IsKnownOption o
 addresses o r is judged = (
   λ yes. Addresses is (judged.0 yes),
   λ known. judged.1 (elim known [
-    | Command same given ↦ absurd (no_list (sym same ∙ is))
+    | Command same given ↦ given
     | Addresses same given ↦ given
     | Verification same nothing ↦ absurd (no_addresses (sym is ∙ same))
   ]),
