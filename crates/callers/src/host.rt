@@ -30,7 +30,10 @@ pub(crate) fn key(
         least_rsa_bits,
     };
     let revoked = read_lists(alloc, revoked)?;
-    shown(alloc, check_key(alloc, &login, key.key_data(), hashes, &revoked.as_slice()))
+    shown(
+        alloc,
+        check_key(alloc, &login, key.key_data(), hashes, &revoked.as_slice()),
+    )
 }
 
 /// The same for a certificate, by the bytes of its line, at the second that is the word after it.
@@ -57,7 +60,14 @@ pub(crate) fn certificate(
     let revoked = read_lists(alloc, revoked)?;
     shown(
         alloc,
-        check_certificate(alloc, &login, &certificate, hashes, &revoked.as_slice(), told),
+        check_certificate(
+            alloc,
+            &login,
+            &certificate,
+            hashes,
+            &revoked.as_slice(),
+            told,
+        ),
     )
 }
 

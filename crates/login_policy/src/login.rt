@@ -115,7 +115,12 @@ pub fn log_in<R: Revocations, V: RawVerifier>(
     if !is_normal_form(&certificate, line) {
         return Err(Refusal::NotNormalForm);
     }
-    check_fields(&certificate, login.user, login.offered, login.least_rsa_bits)?;
+    check_fields(
+        &certificate,
+        login.user,
+        login.offered,
+        login.least_rsa_bits,
+    )?;
     let authority = validate(alloc, &certificate, login, revocations, verifier)?;
     Ok(grant_of(alloc, &certificate, authority)?)
 }
