@@ -49,9 +49,9 @@ CASES = [
     ("a zero byte behind the name of a flag", {}, {"permit-pty\0": b""}, EXTENSIONS, LET_IN),
     ("an empty string as a command", {"force-command": string(b"")}, {}, NO_NORMAL_FORM, LET_IN),
     ("a zero byte behind a command", {"force-command": string(b"true\0")}, {}, CRITICAL, LET_IN),
-    # the caller's to refuse
-    ("addresses that are none", {"source-address": string(b"nowhere")}, {}, "ok source-address=nowhere touch-required", ADDRESSES),
-    ("addresses, one of them none", {"source-address": string(b"0.0.0.0/0,x")}, {}, "ok source-address=0.0.0.0/0,x touch-required", ADDRESSES),
+    ("addresses that are none", {"source-address": string(b"nowhere")}, {}, CRITICAL, ADDRESSES),
+    ("addresses, one of them none", {"source-address": string(b"0.0.0.0/0,x")}, {}, CRITICAL, ADDRESSES),
+    ("addresses with bits beyond those that count", {"source-address": string(b"10.0.0.1/8")}, {}, CRITICAL, ADDRESSES),
 ]  # fmt: skip
 # names, the key id, what stands before the user in the list, what the program answers, and the status of `ssh-keygen -L`
 TEXTS = [

@@ -6,14 +6,30 @@ use crate::words::{NO_LINE, fingerprints, number};
 use login_policy::{Grant, Login, Refusal, log_in};
 use ssh_key::{Error, PublicKey, Result};
 use std::alloc::{AllocError, Global};
+use std::net::IpAddr;
 
-/// Whether the user is let in, where an RSA key has so many bits at least. The words are the user, the second, the offered key, the
-/// certificate, the authorities' fingerprints in one word, and the lists of what is revoked in all
-/// others.
+/// Whether the user is let in from the address in the first word.
+pub(crate) fn answer_from(
+    alloc: Global,
+    words: &[&str],
+    least_rsa_bits: u32,
+    told: &Told,
+) -> Result<String> {
+    let [client, words @ ..] = words else {
+        return Err(NO_LINE);
+    };
+    let client = client.parse::<IpAddr>().map_err(|_| NO_LINE)?;
+    answer(alloc, words, least_rsa_bits, Some(client), told)
+}
+
+/// Whether the user is let in from there, where an RSA key has so many bits at least. The words are
+/// the user, the second, the offered key, the certificate, the authorities' fingerprints in one
+/// word, and the lists of what is revoked in all others.
 pub(crate) fn answer(
     alloc: Global,
     words: &[&str],
     least_rsa_bits: u32,
+    client: Option<IpAddr>,
     told: &Told,
 ) -> Result<String> {
     let [
@@ -36,12 +52,14 @@ pub(crate) fn answer(
         unix_timestamp: number(seconds)?,
         authorities: &authorities,
         least_rsa_bits,
+        client,
     };
     match log_in(alloc, &login, &read_lists(alloc, revoked)?.as_slice(), told) {
         Ok(grant) => Ok(shown(alloc, &grant)?),
         Err(Refusal::Certificate(error)) => Err(error),
         Err(Refusal::NotNormalForm) => Ok(String::from_str(alloc, "no normal form")?),
         Err(Refusal::UnacceptedKey) => Ok(String::from_str(alloc, "unaccepted key")?),
+        Err(Refusal::Elsewhere) => Ok(String::from_str(alloc, "elsewhere")?),
         Err(Refusal::Revoked) => Ok(String::from_str(alloc, "revoked")?),
         Err(Refusal::Memory) => Err(Error::Memory),
     }
@@ -53,10 +71,6 @@ fn shown(alloc: Global, grant: &Grant) -> std::result::Result<String, AllocError
     if let Some(command) = &grant.force_command {
         text.push_str(" force-command=")?;
         text.push_str(command)?;
-    }
-    if let Some(addresses) = &grant.source_address {
-        text.push_str(" source-address=")?;
-        text.push_str(addresses)?;
     }
     if grant.verify_required {
         text.push_str(" verify-required")?;

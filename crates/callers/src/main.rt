@@ -107,7 +107,8 @@ fn reply(
         "host-key" => host::key(alloc, words, least_rsa_bits, hashes),
         "host-certificate" => host::certificate(alloc, words, least_rsa_bits, hashes, told),
         "issue" => issue::answer(alloc, words, told),
-        "login" => login::answer(alloc, words, least_rsa_bits, told),
+        "login" => login::answer(alloc, words, least_rsa_bits, None, told),
+        "login-from" => login::answer_from(alloc, words, least_rsa_bits, told),
         _ => Err(NO_LINE),
     }
 }

@@ -6,6 +6,7 @@ use Rattle.std.specs.List.{list_any}
 use Rattle.std.proofs.lemmas.List.Elements.{All-cons, All-head, All-tail}
 use Rattle.std.proofs.lemmas.Map.Views.{Contains-from_any}
 use Rattle.std.proofs.lemmas.Slice.Eq.{bytes_eq-Decides}
+use Rattle.ssh_key.specs.addresses.SourceAddresses.{IsNetworks}
 use Rattle.ssh_key.specs.model.Options.{CertificateOption}
 use Rattle.login_policy.specs.KnownOptions.{Addresses, Command, IsArgument, IsEmptyIfFlag, IsKnownOption, Verification, flags, force_command, source_address, verify_required}
 
@@ -39,6 +40,9 @@ differ a b unequal same = other (sym unequal ∙ (bytes_eq-Decides a b).1 same)
 no_command : force_command ≡ verify_required → ⊥
 no_command = differ force_command verify_required refl
 
+no_list : force_command ≡ source_address → ⊥
+no_list = differ force_command source_address refl
+
 no_addresses : source_address ≡ verify_required → ⊥
 no_addresses = differ source_address verify_required refl
 
@@ -47,17 +51,17 @@ command o r is judged = (
   λ yes. Command is (judged.0 yes),
   λ known. judged.1 (elim known [
     | Command same given ↦ given
-    | Addresses same given ↦ given
+    | Addresses same given ↦ absurd (no_list (sym is ∙ same))
     | Verification same nothing ↦ absurd (no_command (sym is ∙ same))
   ]),
 )
 
-pub addresses : (o : CertificateOption) (r : Bool) → o.name ≡ source_address → (IsTrue r ↔ IsArgument o.value) → IsTrue r ↔ IsKnownOption o
+pub addresses : (o : CertificateOption) (r : Bool) → o.name ≡ source_address → (IsTrue r ↔ IsNetworks o.value) → IsTrue r ↔ IsKnownOption o
 addresses o r is judged = (
-  λ yes. Addresses is (judged.0 yes),
+  λ yes. Addresses is (record { networks = judged.0 yes }),
   λ known. judged.1 (elim known [
-    | Command same given ↦ given
-    | Addresses same given ↦ given
+    | Command same given ↦ absurd (no_list (sym same ∙ is))
+    | Addresses same given ↦ given.networks
     | Verification same nothing ↦ absurd (no_addresses (sym is ∙ same))
   ]),
 )

@@ -1,8 +1,10 @@
 -- What the validation of a certificate decides.
-use Rattle.std.proofs.Common.{◌≡◌, ◌≢◌, ◌⊎◌, ◌==◌, ℕ, List, [], ◌∷◌, length, map, Bool, true, false, IsTrue, None, Some, option_map, Ok, Err, ap, arith, inl, inr, refl, subst, sym, ◌∙◌}
+use Rattle.std.proofs.Common.{◌≡◌, ◌≢◌, ◌⊎◌, ◌↔◌, ◌==◌, ℕ, List, [], ◌∷◌, length, map, Bool, true, false, IsTrue, None, Option, Some, option_map, Bor, Ok, Err, ap, arith, inl, inr, refl, subst, sym, ◌∙◌}
 use Rattle.std.proofs.lemmas.Bool.Decides.{nat_tests}
 use Rattle.std.specs.List.{list_any}
-use Rattle.std.specs.Prelude.{Contains, String, string_bytes}
+use Rattle.std.specs.Prelude.{Contains, String, is_some, not, string_bytes}
+use Rattle.std.specs.declared.net.ip_addr.IpAddr.{IpAddr}
+use Rattle.ssh_key.specs.addresses.SourceAddresses.{MayComeFrom}
 use Rattle.ssh_key.specs.OpenLaws.{IsOfOneValue}
 use Rattle.ssh_key.specs.base.Causes.{NoMemory, cause}
 use Rattle.ssh_key.specs.cert.CertificateFormats.{certificate_format}
@@ -28,9 +30,11 @@ use Rattle.ssh_key.specs.types.Fingerprint as code
 use Rattle.ssh_key.proofs.CombinedReaders.{bytes_fit}
 use Rattle.ssh_key.proofs.LineCuts.{certificate_blobs, line_cut, one_blob, one_cut}
 use Rattle.ssh_key.proofs.Validation.{fingerprint_memory, signer_fits}
-use Rattle.login_policy.specs.Logins.{GrantsExactly, HasRightFields, IsGrantOf, IsLogin, LetsIn, Login}
+use Rattle.ssh_key.specs.model.OptionMaps.{value_of}
+use Rattle.login_policy.specs.KnownOptions.{source_address}
+use Rattle.login_policy.specs.Logins.{GrantsExactly, HasRightFields, IsAllowedFrom, IsGrantOf, IsLogin, LetsIn, Login}
 use Rattle.login_policy.specs.Principals.{AreForUser}
-use Rattle.login_policy.specs.Refusals.{ForHosts, HasWrongField, IsRefusalFor, IsRevoked, IsUntrusted, NeedsMemory, NotValid, OtherAuthority, OtherExtension, OtherKey, OtherKeyId, OtherPrincipals, RefusesSpelling, Unaccepted, UnknownOption}
+use Rattle.login_policy.specs.Refusals.{ForHosts, HasWrongField, FromElsewhere, IsRefusalFor, IsRevoked, IsUntrusted, NeedsMemory, NotValid, OtherAuthority, OtherExtension, OtherKey, OtherKeyId, OtherPrincipals, RefusesSpelling, Unaccepted, UnknownOption}
 use Rattle.login_policy.specs.declared.grant.Grant.{Grant}
 use Rattle.login_policy.specs.declared.refusal.Refusal.{Refusal}
 use Rattle.login_policy.specs.declared.refusal.Refusal.TheVariants.{Certificate as of_certificate, Memory}
@@ -96,11 +100,24 @@ module _ (law : RefuseTheUnwanted) (accepts : Question → Bool) (authorities : 
       by_test true is = is
       by_test false is = absurd (invalid error.CertificateValidation (by_another is) valid)
 
+-- ---- where the client is
+
+pub allowed : (list : Option (Bor (List ℕ))) (value : Option (List ℕ)) (a : IpAddr) (r : Bool) → option_map (λ v. v.now) list ≡ value → (IsTrue r ↔ MayComeFrom list a) → IsTrue r ↔ IsAllowedFrom value (Some a)
+allowed None value a r is judged = subst (λ (v : Option (List ℕ)). IsTrue r ↔ IsAllowedFrom v (Some a)) is judged
+allowed (Some list) value a r is judged = subst (λ (v : Option (List ℕ)). IsTrue r ↔ IsAllowedFrom v (Some a)) is judged
+
+pub nowhere : (list : Option (Bor (List ℕ))) (value : Option (List ℕ)) (r : Bool) → option_map (λ v. v.now) list ≡ value → is_some list ≡ not r → IsTrue r ↔ IsAllowedFrom value None
+nowhere None value true is none = subst (λ (v : Option (List ℕ)). IsTrue true ↔ IsAllowedFrom v None) is (λ yes. tt, λ any. refl)
+nowhere None value false is none = absurd cc
+nowhere (Some list) value true is none = absurd cc
+nowhere (Some list) value false is none = subst (λ (v : Option (List ℕ)). IsTrue false ↔ IsAllowedFrom v None) is (λ yes. absurd cc, λ never. absurd never)
+
 -- ---- what is refused lets nobody in
 
 untrusted : RefuseTheUnwanted → (login : Login) (c : Certificate) (r : Refusal) → IsUntrusted login c r → LetsIn login c → ⊥
 untrusted law login c r (OtherAuthority other) lets = invalid law login.accepts login.authorities login.time login.user c error.CertificateValidation (by_another law login.accepts login.authorities login.time login.user c other) (record { valid = lets.valid; allowed = inr lets.listed })
 untrusted law login c r (IsRevoked by revoked) lets = let unrevoked = lets.unrevoked in cc
+untrusted law login c r (FromElsewhere unrevoked valid elsewhere) lets = elsewhere lets.from
 untrusted law login c r (NotValid by unrevoked e refused) lets = invalid law login.accepts login.authorities login.time login.user c e refused (record { valid = lets.valid; allowed = inr lets.listed })
 
 wrong_field : (user : List ℕ) (offered : Key) (least : ℕ) (c : Certificate) (r : Refusal) → HasWrongField user offered least c r → HasRightFields user offered least c → ⊥
@@ -146,8 +163,8 @@ no_login login none is = none is.certificate is.comment is.line
 
 -- ---- what is granted
 
-pub granted : (login : Login) (comment : List ℕ) (c : Certificate) (g : Grant) (line : IsCertificateLine login.line c comment) → line.blob ≡ flat (normal_certificate c) → HasRightFields login.user login.offered login.least_rsa_bits c → is_certificate_revoked login.revokes c ≡ false → IsValidFor login.accepts login.authorities login.time login.user c → IsGrantOf c g → GrantsExactly login (Ok g)
-granted login comment c g line normal right unrevoked valid is = (record { certificate = c; comment = comment; line = line; normal = normal; lets_in = record { fields = right; listed = listed c login.user right.principals valid.allowed; unrevoked = unrevoked; valid = valid.valid } }, is)
+pub granted : (login : Login) (comment : List ℕ) (c : Certificate) (g : Grant) (line : IsCertificateLine login.line c comment) → line.blob ≡ flat (normal_certificate c) → HasRightFields login.user login.offered login.least_rsa_bits c → is_certificate_revoked login.revokes c ≡ false → IsValidFor login.accepts login.authorities login.time login.user c → IsAllowedFrom (value_of source_address c.signed.critical_options) login.client → IsGrantOf c g → GrantsExactly login (Ok g)
+granted login comment c g line normal right unrevoked valid from is = (record { certificate = c; comment = comment; line = line; normal = normal; lets_in = record { fields = right; listed = listed c login.user right.principals valid.allowed; unrevoked = unrevoked; valid = valid.valid; from = from } }, is)
 
 -- ---- where memory is asked for
 

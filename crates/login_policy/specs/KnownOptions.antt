@@ -1,6 +1,7 @@
 -- The options of user certificates that the policy knows, and the values that sshd(8) reads of them
 -- (PROTOCOL.certkeys).
 use Rattle.std.specs.Prelude.{◌≡◌, ◌≢◌, ℕ, List, [], ◌∷◌, Contains, codes}
+use Rattle.ssh_key.specs.addresses.SourceAddresses.{IsNetworks}
 use Rattle.ssh_key.specs.model.Lines.{IsWithout}
 use Rattle.ssh_key.specs.model.Options.{CertificateOption}
 
@@ -16,15 +17,19 @@ verify_required = codes "verify-required"
 abbrev pub no_touch_required : List ℕ
 no_touch_required = codes "no-touch-required"
 
--- a command or a list of addresses
+-- a command
 pub record IsArgument (value : List ℕ) : Type 0 where
   pub some : value ≢ []
   pub no_zero : IsWithout 0 value
 
--- one of two with an argument, or the flag, in which nothing stands
+-- a list of addresses
+pub record AreNetworks (value : List ℕ) : Type 0 where
+  pub networks : IsNetworks value
+
+-- a command, a list of addresses, or the flag, in which nothing stands
 pub data IsKnownOption (o : CertificateOption) : Type 0 where
   Command : o.name ≡ force_command → IsArgument o.value → IsKnownOption o
-  Addresses : o.name ≡ source_address → IsArgument o.value → IsKnownOption o
+  Addresses : o.name ≡ source_address → AreNetworks o.value → IsKnownOption o
   Verification : o.name ≡ verify_required → o.value ≡ [] → IsKnownOption o
 
 -- The extensions that are flags.

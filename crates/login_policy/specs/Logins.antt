@@ -1,6 +1,8 @@
 -- Who may log in with a certificate, and what the login is bound to (PROTOCOL.certkeys;
 -- sshd_config(5), TrustedUserCAKeys and RevokedKeys).
-use Rattle.std.specs.Prelude.{◌≡◌, ◌≢◌, ℕ, List, Bool, not, All, Contains, IsTrue, Result, Ok, Err, None, false, is_some, option_map, string_bytes}
+use Rattle.std.specs.Prelude.{◌≡◌, ◌≢◌, ℕ, List, Bool, not, All, Contains, IsTrue, Result, Ok, Err, Option, Some, None, false, is_some, option_map, string_bytes}
+use Rattle.std.specs.declared.net.ip_addr.IpAddr.{IpAddr}
+use Rattle.ssh_key.specs.addresses.SourceAddresses.{ComesFrom, IsNetworks}
 use Rattle.ssh_key.specs.cert.Validity.{fingerprints_of}
 use Rattle.ssh_key.specs.keys.Fingerprints.{IsFingerprint}
 use Rattle.ssh_key.specs.keys.Keys.{key_of}
@@ -25,8 +27,9 @@ use Rattle.login_policy.specs.declared.login.Login as code
 use Rattle.login_policy.specs.declared.refusal.Refusal.{Refusal}
 use Rattle.login_policy.specs.declared.refusal.Refusal.TheVariants.{Memory}
 
--- A login that is asked for, and what decides it: whom the verifier accepts, what is revoked, and
--- which authorities are trusted. An RSA key has to have so many bits.
+-- A login that is asked for, and what decides it: whom the verifier accepts, what is revoked, which
+-- authorities are trusted, and where the client is, if it is at an address. An RSA key has to have
+-- so many bits.
 pub record Login : Type 0 where
   pub accepts : Question → Bool
   pub revokes : List ℕ → krl.Grant → Bool
@@ -36,10 +39,11 @@ pub record Login : Type 0 where
   pub offered : Key
   pub line : List ℕ
   pub least_rsa_bits : ℕ
+  pub client : Option IpAddr
 
 -- the login of a call, of its verifier and of who says what is revoked
 abbrev pub login_of : code.Login → (Question → Bool) → (List ℕ → krl.Grant → Bool) → Login
-login_of l accepts revokes = record { accepts = accepts; revokes = revokes; authorities = fingerprints_of l.authorities.now; time = l.unix_timestamp; user = l.user.now; offered = key_of l.offered.now; line = l.line.now; least_rsa_bits = l.least_rsa_bits }
+login_of l accepts revokes = record { accepts = accepts; revokes = revokes; authorities = fingerprints_of l.authorities.now; time = l.unix_timestamp; user = l.user.now; offered = key_of l.offered.now; line = l.line.now; least_rsa_bits = l.least_rsa_bits; client = l.client }
 
 -- The fields are those of a certificate for users, of the offered key, which is let in, with only
 -- critical options that are known, nothing in a flag, and texts and principals that sshd reads.
@@ -52,18 +56,26 @@ pub record HasRightFields (user : List ℕ) (offered : Key) (least_rsa_bits : �
   pub key_id : IsWithout 0 c.signed.key_id
   pub principals : AreForUser user c.signed.valid_principals
 
+-- A certificate without a list lets in from anywhere; and one with a list from where it says, at an
+-- address that is known.
+abbrev pub IsAllowedFrom : Option (List ℕ) → Option IpAddr → Type 0
+IsAllowedFrom None client = Unit {0}
+IsAllowedFrom (Some list) None = ⊥
+IsAllowedFrom (Some list) (Some address) = IsNetworks list × ComesFrom list address
+
 -- The certificate lets the user in who holds the offered key: it has the right fields, lists the
--- user, is not revoked, and is valid at that time by one of the authorities.
+-- user, is not revoked, is valid at that time by one of the authorities, and lets the client in from
+-- where it is.
 pub record LetsIn (login : Login) (c : Certificate) : Type 0 where
   pub fields : HasRightFields login.user login.offered login.least_rsa_bits c
   pub listed : Contains c.signed.valid_principals login.user
   pub unrevoked : is_certificate_revoked login.revokes c ≡ false
   pub valid : IsValid login.accepts login.authorities login.time c
+  pub from : IsAllowedFrom (value_of options.source_address c.signed.critical_options) login.client
 
 -- The grant says what the certificate's options do, and which certificate it is.
 pub record IsGrantOf (c : Certificate) (g : Grant) : Type 0 where
   pub force_command : option_map string_bytes g.force_command ≡ value_of options.force_command c.signed.critical_options
-  pub source_address : option_map string_bytes g.source_address ≡ value_of options.source_address c.signed.critical_options
   pub verify_required : g.verify_required ≡ is_some (value_of options.verify_required c.signed.critical_options)
   pub touch_required : g.touch_required ≡ not (is_some (value_of options.no_touch_required c.signed.extensions))
   pub extensions : options_of g.extensions ≡ c.signed.extensions
@@ -71,10 +83,9 @@ pub record IsGrantOf (c : Certificate) (g : Grant) : Type 0 where
   pub key_id : string_bytes g.key_id ≡ c.signed.key_id
   pub authority : IsFingerprint Sha256 c.signed.signature_key g.authority
 
--- The login is bound to no command, to no addresses and to no verification of the user.
+-- The login is bound to no command and to no verification of the user.
 pub record IsUnbound (g : Grant) : Type 0 where
   pub any_command : g.force_command ≡ None
-  pub any_address : g.source_address ≡ None
   pub unverified : g.verify_required ≡ false
 
 -- The line is that of a certificate, in its normal form, that lets the user in.

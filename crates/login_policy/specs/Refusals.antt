@@ -9,7 +9,9 @@ use Rattle.ssh_key.specs.model.Certificates.{Certificate, User, normal_certifica
 use Rattle.ssh_key.specs.model.Fingerprints.{Fingerprint}
 use Rattle.ssh_key.specs.model.Keys.{Key}
 use Rattle.ssh_key.specs.model.Lines.{IsCertificateLine, IsNoLine, IsWithout, name_of_certificate}
+use Rattle.ssh_key.specs.model.OptionMaps.{value_of}
 use Rattle.ssh_key.specs.model.Parts.{flat}
+use Rattle.ssh_key.specs.model.Principals.{IsValidFor}
 use Rattle.ssh_key.specs.model.Refusals.{first_refusal_for, has_trusted_authority}
 use Rattle.ssh_key.specs.public.LineFaults.{HasFaultOfLine}
 use Rattle.ssh_key.specs.public.LineNeeds.{HasComment, NeedsValue}
@@ -18,8 +20,8 @@ use Rattle.ssh_key.specs.types.Error.TheVariants as error
 use Rattle.ssh_key.specs.types.certificate.Field.{Field}
 use Rattle.ssh_key.specs.types.certificate.Field.TheVariants as field
 use Rattle.openssh_limits.specs.Keys.{is_let_in}
-use Rattle.login_policy.specs.KnownOptions.{IsKnownOption, IsPlainExtension}
-use Rattle.login_policy.specs.Logins.{HasRightFields, Login}
+use Rattle.login_policy.specs.KnownOptions.{IsKnownOption, IsPlainExtension, source_address}
+use Rattle.login_policy.specs.Logins.{HasRightFields, IsAllowedFrom, Login}
 use Rattle.login_policy.specs.Principals.{AreForUser}
 use Rattle.login_policy.specs.declared.refusal.Refusal.{Refusal}
 use Rattle.login_policy.specs.declared.refusal.Refusal.TheVariants as refusal
@@ -42,11 +44,12 @@ pub data HasWrongField (user : List ℕ) (offered : Key) (least_rsa_bits : ℕ) 
   OtherPrincipals : c.signed.certificate_type ≡ User → c.signed.key ≡ offered → IsTrue (is_let_in least_rsa_bits offered) → All IsKnownOption c.signed.critical_options → All IsPlainExtension c.signed.extensions → IsWithout 0 c.signed.key_id → ¬ AreForUser user c.signed.valid_principals → HasWrongField user offered least_rsa_bits c (invalid field.ValidPrincipals)
 
 -- The refusal says what is wrong first once the fields are right: the authority, then revocation,
--- and only then the signature, the time or the user's name.
+-- then the signature, the time or the user's name, and only then where the client is.
 pub data IsUntrusted (login : Login) (c : Certificate) : Refusal → Type 0 where
   OtherAuthority : has_trusted_authority login.authorities c ≡ false → IsUntrusted login c (refusal.Certificate error.CertificateValidation)
   IsRevoked : IsTrue (has_trusted_authority login.authorities c) → IsTrue (is_certificate_revoked login.revokes c) → IsUntrusted login c refusal.Revoked
   NotValid : IsTrue (has_trusted_authority login.authorities c) → is_certificate_revoked login.revokes c ≡ false → (e : Error) → option_map refusal_error (first_refusal_for login.accepts login.authorities login.time login.user c) ≡ Some e → IsUntrusted login c (refusal.Certificate e)
+  FromElsewhere : is_certificate_revoked login.revokes c ≡ false → IsValidFor login.accepts login.authorities login.time login.user c → (IsAllowedFrom (value_of source_address c.signed.critical_options) login.client → ⊥) → IsUntrusted login c refusal.Elsewhere
 
 -- The refusal says what is wrong first with a certificate in its normal form.
 abbrev pub RefusesCertificate : Login → Certificate → Refusal → Type 0

@@ -7,7 +7,7 @@ ghost use Rattle.ssh_key.specs.model.Names.{Sha256};
 ghost use Rattle.ssh_key.specs.types.Error.TheVariants.{Memory};
 ghost use Rattle.login_policy.specs.Logins.{IsGrantOf, IsUnbound};
 
-use crate::options::{FORCE_COMMAND, NO_TOUCH_REQUIRED, SOURCE_ADDRESS, VERIFY_REQUIRED};
+use crate::options::{FORCE_COMMAND, NO_TOUCH_REQUIRED, VERIFY_REQUIRED};
 use ssh_key::certificate::OptionsMap;
 use ssh_key::{Certificate, Fingerprint, Result};
 use std::alloc::Global;
@@ -17,11 +17,6 @@ use std::alloc::Global;
 pub struct Grant {
     /// The one command that may run, whatever the client asks for. It is never empty.
     pub force_command: Option<String>,
-    /// The addresses that the login may come from, never empty: addresses and networks in CIDR
-    /// notation, with commas between. Refuse the login for a list that is malformed, even if an
-    /// address in it matches, as sshd(8) does. Compare the IPv4 address of a client that a socket
-    /// for IPv6 shows as `::ffff:10.1.2.3`, for whom `::/0` is not.
-    pub source_address: Option<String>,
     /// Whether a security key has to have verified its user: the bit 0x04 in the flags of its
     /// signature, where those of `touch_required` are. Refuse a signature without it.
     pub verify_required: bool,
@@ -45,13 +40,13 @@ pub struct Grant {
 }
 
 impl Grant {
-    /// Returns whether the login is bound to nothing that its caller has to know of: no command, no
-    /// addresses, and no verification of the user. Whether somebody touched a security key does not
-    /// count: that is asked of each such key.
+    /// Returns whether the login is bound to nothing that its caller has to know of: no command and
+    /// no verification of the user. Whether somebody touched a security key does not count: that is
+    /// asked of each such key.
     pub fn is_unbound(&self) -> bool
         ensures { IsTrue result ↔ IsUnbound self.now }
     {
-        self.force_command.is_none() && self.source_address.is_none() && !self.verify_required
+        self.force_command.is_none() && !self.verify_required
     }
 }
 
@@ -69,10 +64,8 @@ pub(crate) fn grant_of(
 {
     let options = certificate.critical_options();
     let force_command = copy_text(alloc, options.get(FORCE_COMMAND))?;
-    let source_address = copy_text(alloc, options.get(SOURCE_ADDRESS))?;
     Ok(Grant {
         force_command,
-        source_address,
         verify_required: options.contains_key(VERIFY_REQUIRED),
         touch_required: !certificate.extensions().contains_key(NO_TOUCH_REQUIRED),
         extensions: certificate.extensions().try_clone(alloc)?,

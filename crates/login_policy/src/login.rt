@@ -14,7 +14,7 @@ use crate::authority::validate;
 use crate::form::is_normal_form;
 use crate::grant::{Grant, grant_of};
 use crate::key::is_key_of;
-use crate::options::{are_known, are_plain};
+use crate::options::{are_known, are_plain, is_allowed_from};
 use crate::principals::are_for;
 use crate::refusal::Refusal;
 use openssh_limits::{is_let_in, is_read_text};
@@ -25,6 +25,7 @@ use ssh_key::public::KeyData;
 use ssh_key::revocation::Revocations;
 use ssh_key::{Certificate, Error, Fingerprint, RawVerifier};
 use std::alloc::Global;
+use std::net::IpAddr;
 
 /// A login that is asked for, and whom the server trusts.
 #[derive(Debug, Clone, Copy)]
@@ -43,11 +44,14 @@ pub struct Login<'a> {
     /// How many bits an RSA key has at least, as `RequiredRSASize` in sshd_config(5). Below 1,024,
     /// as 0, it is 1,024, which is sshd's own.
     pub least_rsa_bits: u32,
+    /// The address of the client's socket, and no header of a proxy's. `None` if it has none: then a
+    /// certificate with `source-address` lets nobody in.
+    pub client: Option<IpAddr>,
 }
 
 /// Lets a user in who holds the offered key, if the line has a certificate for users of just that
 /// key, which lists the user's name. It must be valid at that time, by one of the authorities, and
-/// not revoked. It must be as it was signed, in its normal form. The key, texts and options must be
+/// not revoked, and let the client in from its address. It must be as it was signed, in its normal form. The key, texts and options must be
 /// such as sshd(8) accepts (PROTOCOL.certkeys):
 ///
 /// - no DSA key, none under a private-use name, and no RSA key of fewer bits than the login says or
@@ -55,8 +59,9 @@ pub struct Login<'a> {
 ///   (`openssh_limits::is_let_in`);
 /// - no zero byte in the key id, a principal, or the name of an extension, and at most 256
 ///   principals;
-/// - critical options `force-command` and `source-address`, neither empty nor with a zero byte, and
-///   `verify-required`, which is empty, and no others;
+/// - critical options `force-command`, neither empty nor with a zero byte, `source-address`, a list
+///   of networks (`ssh_key::addresses::is_source_list`), and `verify-required`, which is empty, and
+///   no others;
 /// - extensions that are flags, as `permit-pty`, which are empty, and any others.
 ///
 /// Out of memory aside, it refuses all others with the first of these:
@@ -73,7 +78,8 @@ pub struct Login<'a> {
 ///   and if the user's name is empty, which a certificate may list;
 /// - `Certificate` with `CertificateValidation` for another authority;
 /// - `Revoked`;
-/// - `Certificate` with an error of `Certificate::validate_principal_at`.
+/// - `Certificate` with an error of `Certificate::validate_principal_at`;
+/// - `Elsewhere`.
 ///
 /// For a line that is no certificate's, `Memory` means what it means for
 /// `Certificate::from_openssh`. Another authority, a bad signature and a time outside the window
@@ -122,6 +128,9 @@ pub fn log_in<R: Revocations, V: RawVerifier>(
         login.least_rsa_bits,
     )?;
     let authority = validate(alloc, &certificate, login, revocations, verifier)?;
+    if !is_allowed_from(certificate.critical_options(), login.client) {
+        return Err(Refusal::Elsewhere);
+    }
     Ok(grant_of(alloc, &certificate, authority)?)
 }
 

@@ -2,17 +2,21 @@
 
 ghost use Rattle.std.specs.Prelude.{◌≡◌, ◌↔◌, IsTrue, All, bytes_eq, map};
 ghost use Rattle.std.specs.List.{list_any};
+ghost use Rattle.ssh_key.specs.model.OptionMaps.{value_of};
 ghost use Rattle.ssh_key.specs.options.OptionMaps.{options_of};
-ghost use Rattle.login_policy.specs.KnownOptions.{IsArgument, IsEmptyIfFlag, IsKnownOption, IsPlainExtension, flags};
+ghost use Rattle.login_policy.specs.KnownOptions.{IsArgument, IsEmptyIfFlag, IsKnownOption, IsPlainExtension, flags, source_address};
+ghost use Rattle.login_policy.specs.Logins.{IsAllowedFrom};
 
 use openssh_limits::is_read_text;
+use ssh_key::addresses::{is_source_list, may_come_from};
 use ssh_key::certificate::OptionsMap;
+use std::net::IpAddr;
 
 /// The one command that may run, whatever the client asks for.
 pub(crate) const FORCE_COMMAND: &str = "force-command";
 
-/// The addresses that a login may come from.
-pub(crate) const SOURCE_ADDRESS: &str = "source-address";
+/// The networks that a login may come from.
+const SOURCE_ADDRESS: &str = "source-address";
 
 /// That a security key has to have verified its user.
 pub(crate) const VERIFY_REQUIRED: &str = "verify-required";
@@ -31,6 +35,19 @@ pub(crate) fn are_known(options: &OptionsMap) -> bool
         }
     }
     true
+}
+
+/// Whether the critical options let a client in from there: from anywhere if they list no
+/// addresses, and else from one that is known and in the list. Does not allocate.
+pub(crate) fn is_allowed_from(options: &OptionsMap, client: Option<IpAddr>) -> bool
+    ensures { IsTrue result
+        ↔ IsAllowedFrom (value_of source_address (options_of options.now)) client }
+{
+    let list = options.get(SOURCE_ADDRESS);
+    match client {
+        Some(address) => may_come_from(list, address),
+        None => list.is_none(),
+    }
 }
 
 /// Whether no name of an extension has a byte 0, and nothing stands in those that are flags. Does
@@ -54,7 +71,7 @@ fn is_known(name: &str, value: &str) -> bool
         return is_argument(value);
     }
     if is_same(name, SOURCE_ADDRESS) {
-        return is_argument(value);
+        return is_source_list(value);
     }
     if is_same(name, VERIFY_REQUIRED) {
         return value.is_empty();
@@ -62,7 +79,7 @@ fn is_known(name: &str, value: &str) -> bool
     false
 }
 
-/// Whether it can be a command or a list of addresses: neither is empty, and sshd reads no byte 0.
+/// Whether it can be a command: it is not empty, and sshd reads no byte 0.
 fn is_argument(value: &str) -> bool
     ensures { IsTrue result ↔ IsArgument value.now }
 {

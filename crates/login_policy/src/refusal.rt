@@ -22,6 +22,10 @@ pub enum Refusal {
     /// The certificate is revoked: its number, its key id, the certified key or the authority's.
     #[error("certificate is revoked")]
     Revoked,
+    /// The certificate lets its user in from other addresses alone, or the client's is not known. It
+    /// is valid otherwise.
+    #[error("certificate is for other addresses")]
+    Elsewhere,
     /// Memory ran out.
     #[error("out of memory")]
     Memory,

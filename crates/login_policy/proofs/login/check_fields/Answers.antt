@@ -43,3 +43,14 @@ returns-then-not-are_for-clause-wrong c =
     rw c.invalid-then-not-are_for.ensures (OtherPrincipals (sym c.cert_type.ensures ∙ c.is_user.ensures.0 c.if-not-is_user.false) (c.is_key_of.ensures.0 c.if-not-is_key_of.false) (sym c.is_let_in.ensures ∙ c.if-not-is_let_in.false) known plain id (λ names.
     let yes : c.are_for.result ≡ true = c.are_for.ensures.1 (rw c.valid_principals.ensures names) in
     absurd cc))
+
+pub returns-clause-right : goal.returns-clause-right
+returns-clause-right c = record {
+  for_users = sym c.cert_type.ensures ∙ c.is_user.ensures.0 c.if-not-is_user.false;
+  own_key = c.is_key_of.ensures.0 c.if-not-is_key_of.false;
+  accepted = sym c.is_let_in.ensures ∙ c.if-not-is_let_in.false;
+  known = rw c.critical_options.ensures at (c.are_known.ensures.0 c.if-not-are_known.false);
+  plain = rw c.extensions.ensures at (c.are_plain.ensures.0 c.if-not-are_plain.false);
+  key_id = rw c.key_id.ensures at (c.is_read_text.ensures.0 c.if-not-is_read_text.false);
+  principals = rw c.valid_principals.ensures at (c.are_for.ensures.0 c.if-not-are_for.false);
+}

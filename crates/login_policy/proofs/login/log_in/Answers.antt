@@ -3,6 +3,7 @@ use Rattle.std.proofs.lemmas.Result.{err_from_is_err_and}
 use Rattle.ssh_key.specs.cert.CertificateValues.{certificate_of}
 use Rattle.ssh_key.specs.cert.Validity.{fingerprints_of}
 use Rattle.ssh_key.proofs.Acceptance.{other_cause}
+use Rattle.login_policy.specs.Refusals.{FromElsewhere}
 use Rattle.login_policy.proofs.Logins.{field_not_memory, fits, granted, memory_of, needed, no_login, other_of, refused, trusted}
 use Rattle.login_policy.proofs.login.log_in.Goals as goal
 
@@ -67,5 +68,32 @@ returns-in_err-grant_of-clause-memory g c =
     let p = err_from_is_err_and c.from_residual-in_err-grant_of.result c.from_residual-in_err-grant_of.ensures.1 in
     rw p.1 (λ memory. inr (inr (_, _, c.in_ok-certificate.ensures.reads, inr (trusted c.refused_or_wanted.ensures _ _ _ _ _ c.in_ok-authority.ensures.valid))))
 
+pub returns-then-not-is_allowed_from-clause-exactly : goal.returns-then-not-is_allowed_from-clause-exactly
+returns-then-not-is_allowed_from-clause-exactly g c = λ other. refused c.refused_or_wanted.ensures c.lines.ensures.certificates _ _ _ _ c.in_ok-certificate.ensures.reads (inr (
+  ((c.is_normal_form.ensures _ c.in_ok-certificate.ensures.reads).0 c.if-not-is_normal_form.false),
+  inr (
+    c.in_ok-check_fields.ensures.right,
+    FromElsewhere c.in_ok-authority.ensures.unrevoked c.in_ok-authority.ensures.valid (λ allowed.
+        let yes : c.is_allowed_from.result ≡ true = c.is_allowed_from.ensures.1 (rw c.critical_options.ensures allowed) in
+        absurd cc),
+  ),
+))
+
+pub returns-then-not-is_allowed_from-clause-refused : goal.returns-then-not-is_allowed_from-clause-refused
+returns-then-not-is_allowed_from-clause-refused g c = λ other. inr (
+  _,
+  _,
+  c.in_ok-certificate.ensures.reads,
+  inr (
+    ((c.is_normal_form.ensures _ c.in_ok-certificate.ensures.reads).0 c.if-not-is_normal_form.false),
+    inr (
+      c.in_ok-check_fields.ensures.right,
+      FromElsewhere c.in_ok-authority.ensures.unrevoked c.in_ok-authority.ensures.valid (λ allowed.
+          let yes : c.is_allowed_from.result ≡ true = c.is_allowed_from.ensures.1 (rw c.critical_options.ensures allowed) in
+          absurd cc),
+    ),
+  ),
+)
+
 pub returns-clause-exactly : goal.returns-clause-exactly
-returns-clause-exactly g c = granted _ _ _ _ c.in_ok-certificate.ensures.reads (((c.is_normal_form.ensures _ c.in_ok-certificate.ensures.reads).0 c.if-not-is_normal_form.false)) c.in_ok-check_fields.ensures.right c.in_ok-authority.ensures.unrevoked c.in_ok-authority.ensures.valid c.in_ok-grant_of.ensures.value
+returns-clause-exactly g c = granted _ _ _ _ c.in_ok-certificate.ensures.reads (((c.is_normal_form.ensures _ c.in_ok-certificate.ensures.reads).0 c.if-not-is_normal_form.false)) c.in_ok-check_fields.ensures.right c.in_ok-authority.ensures.unrevoked c.in_ok-authority.ensures.valid (rw c.critical_options.ensures at (c.is_allowed_from.ensures.0 c.if-not-is_allowed_from.false)) c.in_ok-grant_of.ensures.value

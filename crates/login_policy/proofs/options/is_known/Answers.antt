@@ -6,7 +6,7 @@ pub returns-then-is_same : goal.returns-then-is_same
 returns-then-is_same c = command (record { name = c.args.name.now; value = c.args.value.now }) c.is_argument.result (c.is_same.ensures.0 c.if-is_same.true) c.is_argument.ensures
 
 pub returns-then-is_same-2 : goal.returns-then-is_same-2
-returns-then-is_same-2 c = addresses (record { name = c.args.name.now; value = c.args.value.now }) c.is_argument-then-is_same-2.result (c.is_same-2.ensures.0 c.if-is_same-2.true) c.is_argument-then-is_same-2.ensures
+returns-then-is_same-2 c = addresses (record { name = c.args.name.now; value = c.args.value.now }) c.is_source_list.result (c.is_same-2.ensures.0 c.if-is_same-2.true) c.is_source_list.ensures
 
 pub returns-then-is_same-3 : goal.returns-then-is_same-3
 returns-then-is_same-3 c = verification (record { name = c.args.name.now; value = c.args.value.now }) c.is_empty.result (c.is_same-3.ensures.0 c.if-is_same-3.true) (nothing c.args.value.now c.is_empty.result c.is_empty.ensures)
