@@ -44,13 +44,14 @@ pub enum Refusal {
 /// A line is a list of patterns, options or none, and a key, as in authorized_keys. It lets the key
 /// sign if one of the patterns matches the identity and none that begins with a `!` does, and if
 /// each option is one of these and stands there once: `namespaces="..."`, a list of patterns for
-/// the namespace, and `valid-after="..."` and `valid-before="..."`, the first and the last second,
-/// in UTC. A line with `cert-authority` lets certificates sign, which are not read in a signature:
-/// it is passed over. So is each line in which something else stands, as ssh-keygen does, a line in
-/// which a byte is 0, and one whose list of patterns has a carriage return, or a double quote that
-/// does not enclose the list: ssh-keygen ends the line at a zero byte, and an unquoted list at the
-/// others. And so is the line of a security key whose application has a zero byte: ssh-keygen takes
-/// it for another key's, or rejects it, and no verifier sees it.
+/// the namespace, and `valid-after="..."` and `valid-before="..."`, the first and the last second.
+/// A time that no `Z` ends has to hold in every zone. A line with `cert-authority` lets certificates
+/// sign, which are not read in a signature: it is passed over. So is each line in which something
+/// else stands, as ssh-keygen does, a line in which a byte is 0, and one whose list of patterns has
+/// a carriage return, or a double quote that does not enclose the list: ssh-keygen ends the line at
+/// a zero byte, and an unquoted list at the others. And so is the line of a security key whose
+/// application has a zero byte: ssh-keygen takes it for another key's, or rejects it, and no
+/// verifier sees it.
 ///
 /// `signature` is what stands in the armour of `ssh-keygen -Y sign`, decoded. `revocations` is
 /// asked about its key: a list, `NoRevocations`, or what reading a list gave, whose `Err` revokes
