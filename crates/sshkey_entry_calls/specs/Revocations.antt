@@ -16,16 +16,16 @@ use Rattle.sshkey_entry_calls.specs.Signers.{IsReadOf}
 
 -- The bytes spell a value, and this is what is said of it.
 abbrev pub IsWhether : {V : Type 0} → (V → List ℕ → Type 0) → (V → Bool) → List ℕ → Bool → Type 0
-IsWhether {V} Spells says bytes yes = (v : V) × Spells v bytes × (yes ≡ says v)
+IsWhether {V} Spells says bytes answer = (v : V) × Spells v bytes × (answer ≡ says v)
 
 -- By a file that was read 0 says that the value is revoked, and 60 that it is not; other bytes have their
 -- fault. 58 says that it can't be read.
-abbrev pub SaysByFile : {V : Type 0} → (V → List ℕ → Type 0) → (List ℕ → Result V Fault) → (RevokedKeys → V → Bool) → Result RevokedKeys Error → List ℕ → ℕ → Type 0
+abbrev pub SaysByFile : {V W : Type 0} → (V → List ℕ → Type 0) → (List ℕ → Result W Fault) → (RevokedKeys → V → Bool) → Result RevokedKeys Error → List ℕ → ℕ → Type 0
 SaysByFile Spells read revokes (Ok file) bytes n = TellsRevoked (IsWhether Spells (revokes file) bytes) n × ((met : Fault) → read bytes ≡ Err met → n ≡ fault_number met)
 SaysByFile Spells read revokes (Err e) bytes n = n ≡ 58
 
 -- Memory aside, it says this by what reading the file gives.
-abbrev pub TellsByFile : {V : Type 0} → (V → List ℕ → Type 0) → (List ℕ → Result V Fault) → (RevokedKeys → V → Bool) → List ℕ → List ℕ → ℕ → Type 0
+abbrev pub TellsByFile : {V W : Type 0} → (V → List ℕ → Type 0) → (List ℕ → Result W Fault) → (RevokedKeys → V → Bool) → List ℕ → List ℕ → ℕ → Type 0
 TellsByFile Spells read revokes file bytes n = n ≢ 1 → (found : Result RevokedKeys Error) × IsReadOf file found × SaysByFile Spells read revokes found bytes n
 
 abbrev pub TellsRevokedKey : List ℕ → List ℕ → ℕ → Type 0
