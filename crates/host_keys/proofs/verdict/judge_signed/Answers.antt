@@ -2,8 +2,16 @@ use Rattle.std.proofs.Common.{◌≡◌, true, sym, ◌∙◌}
 use Rattle.ssh_key.specs.entries.HostNames.{known_name}
 use Rattle.ssh_key.specs.keys.Keys.{key_of}
 use Rattle.host_keys.specs.Hosts.{lines_of}
-use Rattle.host_keys.proofs.Signed.{trusted, unknown}
+use Rattle.host_keys.proofs.Signed.{trusted, unknown, unreadable}
 use Rattle.host_keys.proofs.verdict.judge_signed.Goals as goal
+
+pub returns-then-is_unreadable-clause-answer : goal.returns-then-is_unreadable-clause-answer
+returns-then-is_unreadable-clause-answer g c =
+    unreadable (g.H.HmacSha1.hmac c.args.hmac.now) (known_name c.args.host.now c.args.port) (lines_of c.args.texts.now) (key_of c.args.key.now) (key_of c.args.signer.now) c.in_ok-of_key.of_key c.in_ok-of_signer.of_signer
+    (λ e. let yes : c.is_revoked.result ≡ true = c.is_revoked.ensures.1 e in absurd cc)
+    (λ e. let yes : c.is_revoked-else-is_revoked.result ≡ true = c.is_revoked-else-is_revoked.ensures.1 e in absurd cc)
+    c.in_ok-of_key.ensures.answer c.in_ok-of_signer.ensures.answer
+    (c.is_unreadable.ensures.0 c.if-is_unreadable.true)
 
 pub returns-then-branch-clause-answer : goal.returns-then-branch-clause-answer
 returns-then-branch-clause-answer g c =
