@@ -46,6 +46,8 @@ pub some_given : (r : code.Response) (g : code_signature.Signature) (b : List �
 some_given variants.Failure g b s is = absurd cc
 some_given variants.Success g b s is = absurd cc
 some_given (variants.IdentitiesAnswer keys) g b s is = absurd cc
+some_given variants.ExtensionFailure g b s is = absurd cc
+some_given (variants.ExtensionResponse name contents) g b s is = absurd cc
 some_given (variants.SignResponse h) g b s is =
     let same : h ≡ g = cc in
     subst (λ (k : code_signature.Signature). SpellsAnswer (signature_of k) b) same s
@@ -54,6 +56,8 @@ pub none_given : (r : code.Response) (b : List ℕ) → response_format.Spells (
 none_given variants.Failure b s is g t = let same = one_value s t in cc
 none_given variants.Success b s is g t = let same = one_value s t in cc
 none_given (variants.IdentitiesAnswer keys) b s is g t = let same = one_value s t in cc
+none_given variants.ExtensionFailure b s is g t = let same = one_value s t in cc
+none_given (variants.ExtensionResponse name contents) b s is g t = let same = one_value s t in cc
 none_given (variants.SignResponse h) b s is g t = cc
 
 -- ---- why there is none
