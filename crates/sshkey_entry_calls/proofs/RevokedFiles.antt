@@ -7,7 +7,7 @@ use Rattle.sshkey_base.specs.declared.encoding.Error.TheVariants.{CharacterEncod
 use Rattle.sshkey_base.specs.declared.error.Error.{Error}
 use Rattle.sshkey_base.specs.declared.error.Error.TheVariants.{Encoding}
 use Rattle.sshkey_krl.specs.Krls.{krl_format}
-use Rattle.sshkey_krl.specs.Revocation.{Grant, Krl, grant, grant_of}
+use Rattle.sshkey_krl.specs.Revocation.{Grant, Krl, grant}
 use Rattle.sshkey_krl.specs.Revocations.{is_certificate_revoked}
 use Rattle.sshkey_model.specs.Certificates.{Certificate}
 use Rattle.sshkey_model.specs.Keys.{normal_key}

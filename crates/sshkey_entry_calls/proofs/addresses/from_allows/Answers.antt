@@ -1,4 +1,4 @@
-use Rattle.std.proofs.Common.{◌≡◌, ℕ, List, inl, inr, refl, subst}
+use Rattle.std.proofs.Common.{ℕ, List, inl, inr, refl, subst}
 use Rattle.sshkey_entry_calls.specs.Addresses.{TellsFromAt}
 use Rattle.sshkey_entry_calls.proofs.addresses.from_allows.Goals as goal
 
