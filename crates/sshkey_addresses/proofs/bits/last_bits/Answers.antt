@@ -1,4 +1,4 @@
-use Rattle.std.proofs.Common.{◌≡◌, ◌<◌, ◌≤◌, ◌^◌, arith, rules, sym}
+use Rattle.std.proofs.Common.{◌<◌, ◌≤◌, ◌^◌, arith, rules, sym}
 use Rattle.std.proofs.Math.Pow.{pow_mono}
 use Rattle.std.proofs.Math.Nat.{mod-eq_of_lt}
 use Rattle.sshkey_addresses.proofs.bits.last_bits.Goals as goal
