@@ -35,6 +35,7 @@ mod slices;
 mod ssh_signatures;
 mod support;
 mod times;
+mod userauth;
 mod values;
 mod verification;
 mod writers;
