@@ -8,7 +8,7 @@ from unittest.mock import patch
 from lib.harness import ROOT, blob_of, string
 
 from .linked import HELPERS, PEDANTIC, SANITIZED, C, run, word
-from .login_options import APPLICATIONS, CASES, CRITICAL, FLAGS, MOST, TEXTS, certificate
+from .login_options import ADDRESSES, APPLICATIONS, CASES, CRITICAL, FLAGS, MOST, TEXTS, certificate
 from .made import MIDDLE, WINDOW
 from .revocation_calls import EMPTY, made_list
 from .security_key_calls import SecurityKey
@@ -127,7 +127,8 @@ def values(maker):
     own, other = (blob_of(maker.read(f"user{it}.pub")) for it in (0, 1))
     by = hashlib.sha256(blob_of(maker.read("authority0.pub"))).digest()
     for name, critical, held, wanted in (
-        *((name, it, own, wanted) for name, it, _, wanted, _ in CASES if it),
+        # whether a list of addresses is well-formed is the caller's question, by sshkey_source_address_allows
+        *((name, it, own, "ok" if said == ADDRESSES else wanted) for name, it, _, wanted, said in CASES if it),
         ("a zero byte behind addresses", {"source-address": string(b"::/0\0")}, own, CRITICAL),
         *((f"a zero byte in {it}", {it: string(b"\0")}, own, CRITICAL) for it in ("force-command", "source-address", "verify-required")),
         ("an empty command, and another key", {"force-command": b""}, other, CRITICAL),
