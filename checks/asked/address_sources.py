@@ -4,9 +4,9 @@ import os
 import shutil
 import subprocess
 
+from lib import apt
 from lib.harness import ROOT
 
-MIRROR = "deb-src [signed-by=/usr/share/keyrings/debian-archive-keyring.gpg] PLACE bookworm main\n"
 FILES = ["addr.c", "addr.h", "addrmatch.c", "match.c", "match.h", "openbsd-compat/strlcpy.c", "openbsd-compat/strlcat.c"]
 # what these files include of the rest of OpenSSH
 INCLUDED = {
@@ -27,7 +27,7 @@ def sources(folder):
     for name in ("state", "lists/partial", "cache/archives/partial"):
         os.makedirs(f"{folder}/{name}")
     with open(f"{folder}/sources.list", "w", encoding="ascii") as file:
-        file.write(MIRROR)
+        file.write(apt.line("deb-src"))
     words = [it for name, place in places.items() for it in ("-o", f"{name}={folder}/{place}")]
     words += ["-o", "Dir::Etc::sourceparts=-", "-o", "APT::Sandbox::User="]
     for command in (["update"], ["source", "openssh"]):
