@@ -99,9 +99,6 @@ const (
 	ErrEmptyWindow Status = C.SSHKEY_EMPTY_WINDOW
 )
 
-// ErrElsewhere is for a client's address that a list does not let in.
-const ErrElsewhere Status = C.SSHKEY_ELSEWHERE
-
 // A host's key is not trusted: the first of these that holds.
 const (
 	// ErrHostRevoked is for a key that a line for the host revokes.
