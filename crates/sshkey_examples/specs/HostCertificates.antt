@@ -13,10 +13,12 @@ use Rattle.ssh_key.specs.types.Error.{Error}
 use Rattle.ssh_key.specs.types.Error.TheVariants.{CertificateFieldInvalid}
 use Rattle.ssh_key.specs.types.certificate.Field.TheVariants as field
 
--- The certificate is for hosts, without critical options.
+-- The certificate is for hosts, without critical options, and lists a principal. (ssh(1) takes none
+-- for nobody since 10.3.)
 pub record IsPlainForHosts (c : Certificate) : Type 0 where
   pub for_hosts : c.signed.certificate_type ≡ Host
   pub no_options : c.signed.critical_options ≡ []
+  pub some_principal : c.signed.valid_principals ≢ []
 
 -- It is that, and valid at that time for the host.
 pub record CertifiesHost (accepts : Question → Bool) (authorities : List Fingerprint) (t : ℕ) (host : List ℕ) (c : Certificate) : Type 0 where
@@ -31,11 +33,12 @@ pub record IsCertifiedHost (accepts : Question → Bool) (authorities : List Fin
 
 -- ---- why it is refused
 
--- What is wrong with the certificate first: it is for users, it has critical options, or it is not
--- valid at that time for the host.
+-- What is wrong with the certificate first: it is for users, it has critical options, it lists no
+-- principals, or it is not valid at that time for the host.
 pub data IsBadFor (accepts : Question → Bool) (authorities : List Fingerprint) (t : ℕ) (host : List ℕ) (c : Certificate) : Error → Type 0 where
   ForUsers : c.signed.certificate_type ≢ Host → IsBadFor accepts authorities t host c (CertificateFieldInvalid field.CertType)
   SomeOption : c.signed.certificate_type ≡ Host → c.signed.critical_options ≢ [] → IsBadFor accepts authorities t host c (CertificateFieldInvalid field.CriticalOptions)
+  NoPrincipal : c.signed.certificate_type ≡ Host → c.signed.critical_options ≡ [] → c.signed.valid_principals ≡ [] → IsBadFor accepts authorities t host c (CertificateFieldInvalid field.ValidPrincipals)
   NotValid : IsPlainForHosts c → (e : Error) → option_map refusal_error (first_refusal_for accepts authorities t host c) ≡ Some e → IsBadFor accepts authorities t host c e
 
 -- The bytes spell no certificate, and have that fault first, from the left; or they spell one that

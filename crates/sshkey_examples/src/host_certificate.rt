@@ -18,14 +18,12 @@ use std::alloc::Global;
 /// It asks no revocation list, asks the verifier before it looks at the authority, and compares the
 /// name as it is given: `host_keys::check_certificate` does all three as ssh(1) does.
 ///
-/// A certificate that lists no principals is for each host (PROTOCOL.certkeys). Whoever wants a
-/// name to be listed asks that `valid_principals` is not empty.
-///
 /// Unless memory runs out, it rejects all others with the first of these: the errors of
 /// `CertificateRef::from_bytes`; `CertificateFieldInvalid` with `CertType` for a certificate for
-/// users, and with `CriticalOptions` for one that has some, since this caller knows none; the
-/// errors of `CertificateRef::validate_principal_at`. `Memory` is answered only of a certificate
-/// that this last call judges.
+/// users, with `CriticalOptions` for one that has some, since this caller knows none, and with
+/// `ValidPrincipals` for one that lists none, as ssh(1) does since 10.3; the errors of
+/// `CertificateRef::validate_principal_at`. `Memory` is answered only of a certificate that this
+/// last call judges.
 pub fn check_host<V: RawVerifier>(
     alloc: Global,
     shown: &[u8],
@@ -75,6 +73,9 @@ fn check_certificate<V: RawVerifier>(
     }
     if !certificate.critical_options().is_empty() {
         return Err(Error::CertificateFieldInvalid(Field::CriticalOptions));
+    }
+    if certificate.valid_principals().is_empty() {
+        return Err(Error::CertificateFieldInvalid(Field::ValidPrincipals));
     }
     certificate.validate_principal_at(alloc, unix_timestamp, host, authorities, verifier)
 }
