@@ -9,7 +9,9 @@ from .address_questions import CERTIFICATE, LINE, is_for_sshd
 from .login_options import certificate
 from .option_lists import SSHD, Logins, has_ipv6
 
+# a shell that another one has started reads no file of the user's, which may take long
 CONFIGURATION = """\
+SetEnv SHLVL=2
 HostKey {0}/host
 AuthorizedKeysFile {0}/keys
 StrictModes no

@@ -12,7 +12,9 @@ from .principals import SSHD, login, logs_in
 from .security_key_agent import Agent
 from .security_key_calls import COUNTER, TOUCHED, SecurityKey, certified
 
+# a shell that another one has started reads no file of the user's, which may take long
 CONFIGURATION = """\
+SetEnv SHLVL=2
 HostKey {0}/host
 StrictModes no
 PidFile none

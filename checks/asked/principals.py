@@ -13,7 +13,9 @@ from .revocation_calls import made_list
 from .security_key_calls import COUNTER, SecurityKey, certified
 
 SSHD = "/usr/sbin/sshd"
+# a shell that another one has started reads no file of the user's, which may take long
 CONFIGURATION = """\
+SetEnv SHLVL=2
 HostKey {0}/host
 TrustedUserCAKeys {0}/trusted
 AuthorizedKeysFile none
