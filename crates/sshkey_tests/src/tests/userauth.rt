@@ -89,7 +89,7 @@ fn is_asked(alloc: Global, signed: &[u8], signature: &[u8], required: Requiremen
 }
 
 /// The signature of a login for that user is none of these bytes.
-fn is_of_another(alloc: Global, user: &[u8], session_id: &[u8]) -> bool {
+fn is_of_another<'a>(alloc: Global, user: &'a [u8], session_id: &'a [u8]) -> bool {
     let Ok(signature) = Signature::from_bytes(alloc, SIGNATURE) else {
         return false;
     };
