@@ -323,6 +323,7 @@ fn answer(question: &str) -> Answer {
         "host" => host(&at(0)),
         "options" => options(&at(0)),
         "verdict" => verdict(given),
+        "addresses" => Ok(addresses(given)),
         "signer" | "is-signer" => Ok(signer(what, given)),
         "revoked-key" => revoked(sshkey::revoked_key(&at(0), &at(1))),
         "revoked-certificate" => revoked(sshkey::revoked_certificate(&at(0), &at(1))),
