@@ -135,7 +135,8 @@ enum {
   /* of a revocation file */
   SSHKEY_UNREADABLE_REVOCATIONS = 58, /* it can't be read, and so revokes everything */
 
-  SSHKEY_KEY_NOT_ACCEPTED = 59, /* a kind or a size of key that OpenSSH does not let in */
+  SSHKEY_KEY_NOT_ACCEPTED = 59, /* a kind or a size of key that OpenSSH does not let in; no
+                                   call answers it yet */
 
   SSHKEY_NOT_REVOKED = 60 /* a revocation file does not revoke the key or the certificate */
 };

@@ -51,7 +51,7 @@ class Status(enum.IntEnum):
     SIGNER_REVOKED = 56
     ELSEWHERE = 57
     UNREADABLE_REVOCATIONS = 58
-    KEY_NOT_ACCEPTED = 59
+    KEY_NOT_ACCEPTED = 59  # never returned yet
     NOT_REVOKED = 60
 
     def __bool__(self) -> NoReturn:
