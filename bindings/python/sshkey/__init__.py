@@ -32,6 +32,7 @@ from ._certificates import (
     validate_certificate,
 )
 from ._files import authority_verdict, authorized_entry, entry_lines, entry_options, host_verdict, known_host, signer_verdict
+from ._header import FOREVER, Algorithm, CertificateType, Marker, Status
 from ._keys import (
     fingerprint,
     fingerprint_sha512,
@@ -53,21 +54,16 @@ from ._keys import (
 from ._revocations import krl_revokes_certificate, krl_revokes_key, revoked_certificate, revoked_key
 from ._values import (
     ALL_PRINCIPALS,
-    FOREVER,
     NO_REVOCATIONS,
-    Algorithm,
     AllPrincipals,
     AuthorizedEntry,
     BytesLike,
     CertificateFields,
-    CertificateType,
     Contents,
     KnownHost,
     Line,
-    Marker,
     Question,
     Refused,
-    Status,
 )
 
 __version__ = "0.2.0"

@@ -2,11 +2,13 @@
 from __future__ import annotations
 
 import ipaddress
+from typing import Union
 
+from ._header import Status
 from ._library import LIBRARY, bytes_of, done, text_of
-from ._values import BytesLike, Status
+from ._values import BytesLike
 
-Address = str | ipaddress.IPv4Address | ipaddress.IPv6Address
+Address = Union[str, ipaddress.IPv4Address, ipaddress.IPv6Address]
 
 
 def source_address_allows(source_address: str | BytesLike, address: Address) -> bool:
@@ -27,7 +29,7 @@ def from_allows(listed: str | BytesLike, address: Address, host: str | BytesLike
     return _allowed(LIBRARY.sshkey_from_allows(*text_of(listed), *text_of(host), *_packed(address)))
 
 
-def _packed(address: Address) -> tuple:
+def _packed(address: Address) -> tuple[bytes, int]:
     return bytes_of(ipaddress.ip_address(address).packed)
 
 

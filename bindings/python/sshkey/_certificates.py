@@ -6,11 +6,10 @@ import os
 from collections.abc import Callable, Iterable, Mapping
 from types import MappingProxyType
 
+from ._header import FOREVER, CertificateOptionParts, CertificateType, Draft, Fields, Parts, Span, Status
 from ._keys import question_of, string, strings
-from ._library import LIBRARY, CertificateOption, Draft, Fields, Parts, Span
-from ._library import bytes_of, digests_of, done, number_of, parts_of, text_of, written
-from ._values import ALL_PRINCIPALS, FOREVER, AllPrincipals, BytesLike, CertificateFields, CertificateType, Contents
-from ._values import Question, Status
+from ._library import LIBRARY, bytes_of, digests_of, done, number_of, parts_of, text_of, written
+from ._values import ALL_PRINCIPALS, AllPrincipals, BytesLike, CertificateFields, Contents, Question
 
 
 def certificate_question(certificate: BytesLike) -> Question:
@@ -58,7 +57,7 @@ def options(blob: BytesLike) -> dict[str, str]:
     UnicodeDecodeError, which is a ValueError, where one is not UTF-8, and ValueError where two have one name: in a certificate all
     are UTF-8, and each has a name of its own."""
     found: dict[str, str] = {}
-    place, option = 0, CertificateOption()
+    place, option = 0, CertificateOptionParts()
     data, length = bytes_of(blob)
     while (status := LIBRARY.sshkey_next_option(data, length, place, ctypes.byref(option))) != Status.END:
         done(status)

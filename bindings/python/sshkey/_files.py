@@ -4,8 +4,9 @@ from __future__ import annotations
 import ctypes
 from collections.abc import Callable
 
-from ._library import LIBRARY, Entry, EntryOption, Part, ask, bytes_of, done, number_of, parts_of, text_of
-from ._values import AuthorizedEntry, BytesLike, KnownHost, Marker, Refused, Status
+from ._header import Entry, EntryOptionParts, Marker, Part, Status
+from ._library import LIBRARY, ask, bytes_of, done, number_of, parts_of, text_of
+from ._values import AuthorizedEntry, BytesLike, KnownHost, Refused
 
 
 def entry_lines(text: BytesLike) -> list[bytes]:
@@ -53,7 +54,7 @@ def entry_options(text: BytesLike) -> list[tuple[bytes, bytes | None]]:
 
     Raises Refused where the text is no list of options, and MemoryError."""
     found: list[tuple[bytes, bytes | None]] = []
-    given, answer = bytes_of(text), EntryOption()
+    given, answer = bytes_of(text), EntryOptionParts()
     while True:
         try:
             room = ask(lambda *room: LIBRARY.sshkey_nth_option(*given, len(found), *room), answer, given[1])

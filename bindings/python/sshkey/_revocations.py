@@ -3,8 +3,9 @@ from __future__ import annotations
 
 from collections.abc import Callable
 
+from ._header import Status
 from ._library import LIBRARY, bytes_of, done
-from ._values import BytesLike, Status
+from ._values import BytesLike
 
 
 def revoked_key(revoked: BytesLike, key: BytesLike) -> bool:
