@@ -7,6 +7,7 @@ from lib.harness import blob_of, ssh_keygen, string, take
 
 from .linked import EXAMPLES, run, turned, word
 from .made import END, FIRST, WINDOW, is_verified
+from .verdicts import status_of
 
 OPTIONS = [
     "clear", "force-command=echo \"a b\"", "source-address=10.0.0.0/8,::1/128", "verify-required", "critical:z@example.org=value",
@@ -285,7 +286,7 @@ def check_issued(judge, library):
     allowed = "alice cert-authority " + maker.read("issuer.pub")
     count.check("and ssh-keygen takes it", is_verified(maker.folder, "issued", signature, "text", "alice", second, allowed))
     none = run([*words, "holder's key", "0", "alice"], env=environment)
-    count.check("issue.py issues none for no second", none.returncode == 1 and "empty window" in none.stderr, none.stderr)
+    count.check("issue.py issues none for no second", none.returncode == 1 and "a window without a second" in none.stderr, none.stderr)
 
 
 def check_certificates(judge):

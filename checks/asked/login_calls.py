@@ -306,7 +306,7 @@ def blocks(language, heading="The lines that matter"):
 def said_by_python(made, code, **names):
     """What the lines in Python say, which call one of these where all is good."""
     said = []
-    names.update({"sshkey": made.sshkey, "check": made.check, "time": time, "print": lambda *words: said.append(" ".join(words))})
+    names.update({"sshkey": made.sshkey, "time": time, "print": lambda *words: said.append(" ".join(words))})
     names.update({"let_in": lambda: said.append("let in"), "go_on": lambda: said.append("go on")})
     exec(code, names)
     return said
