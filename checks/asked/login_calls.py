@@ -306,8 +306,8 @@ def blocks(language, heading="The lines that matter"):
 def said_by_python(made, code, **names):
     """What the lines in Python say, which call one of these where all is good."""
     said = []
-    names.update({"sshkey": made.sshkey, "time": time, "print": lambda *words: said.append(" ".join(words))})
-    names.update({"let_in": lambda: said.append("let in"), "go_on": lambda: said.append("go on")})
+    names.update({"sshkey": made.sshkey, "time": time, "print": lambda *words: said.append(" ".join(map(str, words)))})
+    names.update({"let_in": lambda grant: said.append("let in"), "go_on": lambda: said.append("go on")})
     exec(code, names)
     return said
 
@@ -334,6 +334,7 @@ def check_page(count, built, made):
     ):  # fmt: skip
         ran = run([path, *words]) if page.returncode == 0 else page
         by_c = [*ran.stdout.splitlines(), *ran.stderr.splitlines()]
-        by_python = said_by_python(made, blocks("python")[0], authority_line=words[0], line=words[1], key=blob_of(words[2]))
-        same = by_c == [wanted] and len(by_python) == 1 and (by_python == ["let in"]) == (wanted == "let in")
+        given = {"authority_line": words[0], "line": words[1], "key": blob_of(words[2]), "address": "192.0.2.1"}
+        by_python = said_by_python(made, blocks("python")[0], **given)
+        same = by_c == by_python == [wanted]
         count.check(f"the lines of docs/FOREIGN.md: {name}", same, by_c, by_python)
