@@ -211,9 +211,8 @@ enum {
 /* What has to be verified: that `signature` is one of `message` under `key`, made as `algorithm`
  * says. A security key's question is already the one about the plain key within and about what the
  * device signed (PROTOCOL.u2f): 32 bytes of digest, a byte of flags, four of the counter, and 32 of
- * digest. Whether somebody touched it (bit 0x01 of message[32]) or was verified (bit 0x04) is yours
- * to judge, of the client's signature and only where the key that was given has a name sk-..: in
- * the message of another key that byte is the client's data. */
+ * digest. Whether somebody touched it or was verified, sshkey_userauth_question and
+ * sshkey_grant_flags say of a client's signature. */
 typedef struct {
   sshkey_part key;
   sshkey_part message;
@@ -422,6 +421,49 @@ uint32_t sshkey_signature_question(const uint8_t *key, size_t key_length, const 
                                    size_t message_length, const uint8_t *signature,
                                    size_t signature_length, uint8_t *room, size_t room_length,
                                    sshkey_question *answer);
+
+/* ---- what a client signs (RFC 4252, section 7; OpenSSH's PROTOCOL) --------------------------- */
+
+/* A client's signature for a login by public key, and the request that it has to be of. */
+typedef struct {
+  sshkey_span session_id; /* the server's own, and nothing that the client sent */
+  sshkey_span user;
+  sshkey_span algorithm;  /* the name of the public key algorithm in the request */
+  sshkey_span public_key; /* the blob of the key or the certificate that the grant came from */
+  sshkey_span host_key;   /* the blob of the server's host key, if has_host_key is not 0 */
+  sshkey_span signature;  /* the blob of the client's signature (RFC 4253, section 6.6) */
+  uint32_t has_host_key;  /* 0: the method is publickey; else publickey-hostbound-v00@openssh.com */
+  uint32_t permits;       /* the grant's: SSHKEY_PERMIT_NO_TOUCH, .._NO_VERIFICATION */
+} sshkey_userauth;
+
+/* What has to be verified of a client's signature for a login. The bytes that it signs are made
+ * here, for the service ssh-connection. The names of algorithms are compared as by sshd: that of a
+ * certificate stands for its plain one, and rsa-sha2-256 is not rsa-sha2-512.
+ *
+ * SSHKEY_DONE exactly if the signature is by the algorithm that the request names, public_key is a
+ * key of it, or a certificate where the name is one's, and the flags of a security key are what the
+ * grant wants (memory and room aside): then the signature is the client's exactly if your
+ * verification says yes. Else 10 to 29 for bytes that are no signature; SSHKEY_LENGTH for a part
+ * that no string can hold; 81 to 83; 10 to 29 for a public_key that is none; SSHKEY_UNSUPPORTED. A
+ * room of twice the length of all the parts, and 256 bytes, is enough. */
+uint32_t sshkey_userauth_question(const sshkey_userauth *request, uint8_t *room,
+                                  size_t room_length, sshkey_question *answer);
+
+/* The same where the server has the bytes that the client signed. Where they are not those of the
+ * request, SSHKEY_OTHER_REQUEST, in place of SSHKEY_LENGTH. */
+uint32_t sshkey_userauth_question_of(const sshkey_userauth *request, const uint8_t *signed_bytes,
+                                     size_t signed_length, uint8_t *room, size_t room_length,
+                                     sshkey_question *answer);
+
+/* Whether the flags in a client's signature are what a grant that permits this wants: for a server
+ * whose SSH library has verified the signature, under the key of that blob (no certificate).
+ *
+ * SSHKEY_DONE exactly if key and signature go together, and the key is no security key or its flags
+ * are what is wanted (memory aside); else SSHKEY_UNSUPPORTED, SSHKEY_UNTOUCHED,
+ * SSHKEY_UNVERIFIED, or 10 to 29 for bytes that are no key, or else no signature. SSHKEY_MEMORY
+ * only where they are both. */
+uint32_t sshkey_grant_flags(uint32_t permits, const uint8_t *key, size_t key_length,
+                            const uint8_t *signature, size_t signature_length);
 
 /* ---- SSH signatures (PROTOCOL.sshsig) -------------------------------------------------------- */
 
@@ -723,6 +765,15 @@ SSHKEY_IS(offsetof(sshkey_draft, valid_before) == 128);
 SSHKEY_IS(offsetof(sshkey_draft, certificate_type) == 136);
 SSHKEY_IS(offsetof(sshkey_draft, all_principals) == 140);
 SSHKEY_IS(sizeof(sshkey_draft) == 144);
+SSHKEY_IS(offsetof(sshkey_userauth, session_id) == 0);
+SSHKEY_IS(offsetof(sshkey_userauth, user) == 16);
+SSHKEY_IS(offsetof(sshkey_userauth, algorithm) == 32);
+SSHKEY_IS(offsetof(sshkey_userauth, public_key) == 48);
+SSHKEY_IS(offsetof(sshkey_userauth, host_key) == 64);
+SSHKEY_IS(offsetof(sshkey_userauth, signature) == 80);
+SSHKEY_IS(offsetof(sshkey_userauth, has_host_key) == 96);
+SSHKEY_IS(offsetof(sshkey_userauth, permits) == 100);
+SSHKEY_IS(sizeof(sshkey_userauth) == 104);
 SSHKEY_IS(offsetof(sshkey_entry, front) == 0);
 SSHKEY_IS(offsetof(sshkey_entry, key) == 16);
 SSHKEY_IS(offsetof(sshkey_entry, comment) == 32);

@@ -61,7 +61,7 @@ pub(crate) const OUT_OF_WINDOW: u32 = 33;
 /// The certificate lists principals, and not this one.
 pub(crate) const UNLISTED_PRINCIPAL: u32 = 34;
 /// Key and signature do not go together, so nothing is asked.
-pub(crate) const UNSUPPORTED: u32 = 40;
+pub const UNSUPPORTED: u32 = 40;
 /// The SSH signature is in another namespace.
 pub(crate) const OTHER_NAMESPACE: u32 = 41;
 /// A draft lists no principals without saying that all are allowed, or says so and lists some.
@@ -86,6 +86,14 @@ pub const ELSEWHERE: u32 = 57;
 pub const UNREADABLE_REVOCATIONS: u32 = 58;
 /// The list or the file does not revoke it.
 pub const NOT_REVOKED: u32 = 60;
+/// The signed bytes are not those of the request, or its service is not `ssh-connection`.
+pub const OTHER_REQUEST: u32 = 80;
+/// The algorithm that the request names is not the signature's.
+pub const OTHER_ALGORITHM: u32 = 81;
+/// Nobody touched the security key, and the grant wants it.
+pub const UNTOUCHED: u32 = 82;
+/// The security key did not verify its user, and the grant wants it.
+pub const UNVERIFIED: u32 = 83;
 
 /// A question is asked by DSA.
 const ASK_DSA: u32 = 1;
