@@ -68,7 +68,7 @@ var meanings = map[error]string{
 	sshkey.ErrHostChanged:           "another key than the one known for the host",
 	sshkey.ErrHostUnknown:           "no key or authority is known for the host",
 	sshkey.ErrSignerNotAllowed:      "no allowed signer",
-	sshkey.ErrSignerRevoked:         "a signer that is revoked",
+	sshkey.ErrRevoked:               "a signer that is revoked",
 	sshkey.ErrElsewhere:             "from an address that is not allowed",
 	sshkey.ErrUnreadableRevocations: "the revocation file can't be read",
 	sshkey.ErrKeyNotAccepted:        "a kind or a size of key that OpenSSH does not let in",

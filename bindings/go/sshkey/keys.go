@@ -182,7 +182,7 @@ func sshsigFields(signature []byte) ([][]byte, error) {
 // in every zone here. revoked is what the file of its -r has, a list or keys, or NoRevocations. isVerified
 // is what the verifier said of the question of this signature, in the namespace and of the message.
 //
-// It fails with ErrSignerNotAllowed, ErrUnreadableRevocations, ErrSignerRevoked or ErrNotSigned, the
+// It fails with ErrSignerNotAllowed, ErrUnreadableRevocations, ErrRevoked or ErrNotSigned, the
 // first that holds; for nil in place of a file with the second, whatever the rest is. Ask with false
 // first, and verify only where it fails with the last; judge.ValidateSignerOfDigest does so. It
 // fails with a Status for bytes

@@ -79,8 +79,8 @@ const (
 	// ErrSignerNotAllowed is for an SSH signature whose key no line lets sign for the identity, in
 	// the namespace and at the time.
 	ErrSignerNotAllowed Status = C.SSHKEY_SIGNER_NOT_ALLOWED
-	// ErrSignerRevoked is for one whose key is revoked.
-	ErrSignerRevoked Status = C.SSHKEY_SIGNER_REVOKED
+	// ErrRevoked is for one whose key is revoked.
+	ErrRevoked Status = C.SSHKEY_REVOKED
 	// ErrElsewhere is for a client's address that is none of those that are allowed.
 	ErrElsewhere Status = C.SSHKEY_ELSEWHERE
 	// ErrUnreadableRevocations is for a revocation file that can't be read, and so revokes all.
