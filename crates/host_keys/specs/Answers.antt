@@ -50,20 +50,21 @@ answer_of (Ok false) (Err e) = Err refusal.Memory
 answer_of (Err e) said = Err refusal.Memory
 
 -- It is revoked, or that is said. Or it is not revoked, and that is said; or the host is trusted so
--- far, and the key is not accepted; or it is, and the certificate is bad for that error; or memory
+-- far, and the key is not accepted; or it is, and the certificate is bad for that reason; or memory
 -- ran out.
-abbrev pub IsWhy : (Verdict → Type 0) → Bool → Bool → (Error → Type 0) → Refusal → Type 0
+abbrev pub IsWhy : (Verdict → Type 0) → Bool → Bool → (Refusal → Type 0) → Refusal → Type 0
 IsWhy Said revoked accepted Bad refusal.Revoked = (revoked ≡ true) ⊎ Said Revoked
 IsWhy Said revoked accepted Bad refusal.Unreadable = (revoked ≡ false) × Said Unreadable
 IsWhy Said revoked accepted Bad refusal.Changed = (revoked ≡ false) × Said Changed
 IsWhy Said revoked accepted Bad refusal.Unknown = (revoked ≡ false) × Said Unknown
 IsWhy Said revoked accepted Bad refusal.UnacceptedKey = (revoked ≡ false) × Said Trusted × (accepted ≡ false)
-IsWhy Said revoked accepted Bad (refusal.Certificate e) = (revoked ≡ false) × Said Trusted × IsTrue accepted × Bad e
+IsWhy Said revoked accepted Bad (refusal.Certificate e) = (revoked ≡ false) × Said Trusted × IsTrue accepted × Bad (refusal.Certificate e)
+IsWhy Said revoked accepted Bad (refusal.Invalid first) = (revoked ≡ false) × Said Trusted × IsTrue accepted × Bad (refusal.Invalid first)
 IsWhy Said revoked accepted Bad refusal.NotNormalForm = ⊥
 IsWhy Said revoked accepted Bad refusal.Memory = Unit {0}
 
 abbrev pub IsWhyNoKey : HostLogin → (List ℕ → Bool) → Key → Refusal → Type 0
-IsWhyNoKey login revokes_key key = IsWhy (IsSaidOfKey login.hmac login.host login.port key login.lines) (is_key_revoked revokes_key key) (is_let_in login.least_rsa_bits key) (λ e. ⊥)
+IsWhyNoKey login revokes_key key = IsWhy (IsSaidOfKey login.hmac login.host login.port key login.lines) (is_key_revoked revokes_key key) (is_let_in login.least_rsa_bits key) (λ r. ⊥)
 
 abbrev pub IsWhyNoCertificate : HostLogin → (Question → Bool) → (List ℕ → Grant → Bool) → Certificate → Refusal → Type 0
 IsWhyNoCertificate login accepts revokes c = IsWhy (IsSaidOfSigned login.hmac login.host login.port c.signed.key c.signed.signature_key login.lines) (is_certificate_revoked revokes c) (is_let_in login.least_rsa_bits c.signed.key) (IsBadFor accepts login.time (plain_name login.host) c)
