@@ -1,9 +1,9 @@
-use Rattle.std.proofs.Common.{◌≡◌, true, sym, ◌∙◌}
+use Rattle.std.proofs.Common.{◌≡◌, refl, true, sym, ◌∙◌}
 use Rattle.host_keys.specs.Hosts.{ForUsers, OtherKeyId, OtherPrincipals, SomeOption}
 use Rattle.host_keys.proofs.certificate.check_fields.Goals as goal
 
 pub returns-then-not-is_host-clause-exactly : goal.returns-then-not-is_host-clause-exactly
-returns-then-not-is_host-clause-exactly c = (λ never. absurd never, λ is.
+returns-then-not-is_host-clause-exactly c = (λ never. cc never, λ is.
     let yes : c.is_host.result ≡ true = c.is_host.ensures.1 (c.cert_type.ensures ∙ is.for_hosts) in
     absurd cc)
 
@@ -13,7 +13,7 @@ returns-then-not-is_host-clause-refused c = ForUsers (λ hosts.
     absurd cc)
 
 pub returns-then-not-is_empty-clause-exactly : goal.returns-then-not-is_empty-clause-exactly
-returns-then-not-is_empty-clause-exactly c = (λ never. absurd never, λ is.
+returns-then-not-is_empty-clause-exactly c = (λ never. cc never, λ is.
     let yes : c.is_empty.result ≡ true = c.is_empty.ensures.1 (c.critical_options.ensures ∙ is.no_options) in
     absurd cc)
 
@@ -23,7 +23,7 @@ returns-then-not-is_empty-clause-refused c = SomeOption (sym c.cert_type.ensures
     absurd cc)
 
 pub returns-then-not-is_read_text-clause-exactly : goal.returns-then-not-is_read_text-clause-exactly
-returns-then-not-is_read_text-clause-exactly c = (λ never. absurd never, λ is.
+returns-then-not-is_read_text-clause-exactly c = (λ never. cc never, λ is.
     let yes : c.is_read_text.result ≡ true = c.is_read_text.ensures.1 (rw c.key_id.ensures is.key_id) in
     absurd cc)
 
@@ -33,7 +33,7 @@ returns-then-not-is_read_text-clause-refused c = OtherKeyId (sym c.cert_type.ens
     absurd cc)
 
 pub returns-then-not-are_for_hosts-clause-exactly : goal.returns-then-not-are_for_hosts-clause-exactly
-returns-then-not-are_for_hosts-clause-exactly c = (λ never. absurd never, λ is.
+returns-then-not-are_for_hosts-clause-exactly c = (λ never. cc never, λ is.
     let yes : c.are_for_hosts.result ≡ true = c.are_for_hosts.ensures.1 (rw c.valid_principals.ensures is.principals) in
     absurd cc)
 
@@ -50,5 +50,5 @@ returns-clause-exactly c = (
     key_id = rw c.key_id.ensures at (c.is_read_text.ensures.0 c.if-not-is_read_text.false);
     principals = rw c.valid_principals.ensures at (c.are_for_hosts.ensures.0 c.if-not-are_for_hosts.false);
   },
-  λ _. tt,
+  λ _. refl,
 )
