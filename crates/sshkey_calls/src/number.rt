@@ -78,8 +78,8 @@ pub const HOST_CHANGED: u32 = 52;
 pub const HOST_UNKNOWN: u32 = 53;
 /// No allowed signer is the key, or not for that identity, there and then.
 pub const SIGNER_NOT_ALLOWED: u32 = 55;
-/// The signer's key is revoked.
-pub const SIGNER_REVOKED: u32 = 56;
+/// A revocation file revokes the signer's key, or the certificate.
+pub const REVOKED: u32 = 56;
 /// The client's address is none of those that the list lets in.
 pub const ELSEWHERE: u32 = 57;
 /// The revocation file cannot be read, and so revokes everything.
