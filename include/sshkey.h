@@ -707,8 +707,7 @@ uint32_t sshkey_authorized_entry(const uint8_t *line, size_t line_length, uint8_
                                  size_t room_length, sshkey_entry *answer);
 
 /* The same of a line of known_hosts, as ssh reads it; one with a zero byte is refused. A line that
- * is refused may be a revocation: to judge a host's key, ask sshkey_host_verdict about the whole
- * text. */
+ * is refused may be a revocation: to judge a host's key, ask sshkey_host_key_verdict. */
 uint32_t sshkey_known_host(const uint8_t *line, size_t line_length, uint8_t *room,
                            size_t room_length, sshkey_entry *answer);
 
@@ -734,33 +733,46 @@ typedef struct {
 uint32_t sshkey_nth_option(const uint8_t *options, size_t options_length, size_t number,
                            uint8_t *room, size_t room_length, sshkey_entry_option_parts *answer);
 
-/* What a text of known_hosts says of the key, given as its blob, that a host shows at a port. The
- * host is the name or address that was asked for, without brackets. HMAC-SHA1, under which names
- * are hashed there, is computed here.
- *
- * SSHKEY_DONE exactly if the key is trusted: an entry for the host has it, none revokes it, and no
- * line that is no entry could be one for the host (SSHKEY_MEMORY aside), as each with a zero byte
- * could. Else 50 to 53, 10 to 29 for bytes that are no key, or SSHKEY_TEXT where the text or the
- * host is not UTF-8. Ask it of each file: the first of these counts that one of them says, revoked,
- * unreadable, trusted, changed. Where all say SSHKEY_HOST_UNKNOWN of a port other than 22, and only
- * there, ssh(1) asks about port 22 too. Of authorities nothing is said. Also ask:
- * docs/CHECKLIST.md, "A host". */
-uint32_t sshkey_host_verdict(const uint8_t *known_hosts, size_t known_hosts_length,
-                             const uint8_t *host, size_t host_length, uint16_t port,
-                             const uint8_t *key, size_t key_length);
+/* ---- whether a host is the known one (ssh(1)) ------------------------------------------------ */
 
-/* The same of the key of an authority that signed a certificate of the host: SSHKEY_DONE exactly if
- * an entry @cert-authority for the host has the key, none revokes it, and no line that is no entry
- * could be one for the host (SSHKEY_MEMORY aside). SSHKEY_HOST_CHANGED is never answered, and
- * SSHKEY_HOST_UNKNOWN where no such entry has the key.
+/* The host that a client connects to, and what is known of it. */
+typedef struct {
+  sshkey_spans known_hosts; /* the texts of all the files that count: one file alone may list a key
+                               that another one revokes */
+  sshkey_span host;         /* the name or address that was asked for, without brackets; UTF-8 */
+  sshkey_spans revoked;     /* revocation files (RevokedHostKeys), each a list or keys as text: any
+                               of them revokes. Who asks none says so: SSHKEY_NO_REVOCATIONS */
+  uint64_t unix_timestamp;  /* asked of certificates alone */
+  uint32_t least_rsa_bits;  /* as RequiredRSASize; below 1,024, as 0, it is 1,024 */
+  uint16_t port;
+} sshkey_host_login;
+
+/* Whether the key of that blob is the host's, as ssh(1) says with StrictHostKeyChecking. Hashed
+ * names are compared here, by HMAC-SHA1. Where no line is for the host at a port other than 22, the
+ * host's plain name is asked too.
  *
- * A host's certificate has to meet more: sshkey_host_verdict of the certified key may not be
- * SSHKEY_HOST_REVOKED, in any file, certificate_type has to be SSHKEY_HOST, has_critical_options 0,
- * and sshkey_certificate_validate_for, with the host's name in small letters and this key's
- * fingerprint alone, SSHKEY_DONE (docs/FOREIGN.md, "A host's certificate"). */
-uint32_t sshkey_authority_verdict(const uint8_t *known_hosts, size_t known_hosts_length,
-                                  const uint8_t *host, size_t host_length, uint16_t port,
-                                  const uint8_t *key, size_t key_length);
+ * SSHKEY_DONE exactly if a line for the host has the key, no line for it and no revocation file
+ * revokes the key, no line that is no entry could be one for the host, as each with a zero byte
+ * could, and OpenSSH accepts its kind and size (memory aside). Else the first of these:
+ * SSHKEY_TEXT, 10 to 29 for bytes that are no key, SSHKEY_UNREADABLE_REVOCATIONS, 50 to 53,
+ * SSHKEY_KEY_NOT_ACCEPTED. SSHKEY_MEMORY only where the bytes are a key. */
+uint32_t sshkey_host_key_verdict(const sshkey_host_login *login, const uint8_t *key,
+                                 size_t key_length);
+
+/* Whether a certificate is the host's. `is_verified` is 1 if the answer to the question of this
+ * certificate is yes (sshkey_certificate_question); any other number is no. Ask with 0 first:
+ * SSHKEY_NOT_SIGNED says "now verify", and with any other answer there is nothing to verify.
+ *
+ * SSHKEY_DONE exactly if its bytes are its normal form; a line @cert-authority for the host has the
+ * key that signed it; no line for the host revokes one of its two keys, and no revocation file the
+ * certificate; no line that is no entry could be one for the host; OpenSSH accepts its key; it is
+ * for hosts, without critical options, of texts that ssh reads, and valid then for the host's name
+ * in small letters, which it lists; and `is_verified` is 1 (memory aside). Else the first of these:
+ * SSHKEY_TEXT, 10 to 29, SSHKEY_NOT_NORMAL_FORM, SSHKEY_UNREADABLE_REVOCATIONS, 50, 51, 53, 59, 71,
+ * 73, 75, 76, 30, 32 to 34. */
+uint32_t sshkey_host_certificate_verdict(const sshkey_host_login *login,
+                                         const uint8_t *certificate, size_t certificate_length,
+                                         uint32_t is_verified);
 
 /* ---- where a client may come from ------------------------------------------------------------ */
 
@@ -885,6 +897,13 @@ SSHKEY_IS(offsetof(sshkey_userauth, signature) == 80);
 SSHKEY_IS(offsetof(sshkey_userauth, has_host_key) == 96);
 SSHKEY_IS(offsetof(sshkey_userauth, permits) == 100);
 SSHKEY_IS(sizeof(sshkey_userauth) == 104);
+SSHKEY_IS(offsetof(sshkey_host_login, known_hosts) == 0);
+SSHKEY_IS(offsetof(sshkey_host_login, host) == 16);
+SSHKEY_IS(offsetof(sshkey_host_login, revoked) == 32);
+SSHKEY_IS(offsetof(sshkey_host_login, unix_timestamp) == 48);
+SSHKEY_IS(offsetof(sshkey_host_login, least_rsa_bits) == 56);
+SSHKEY_IS(offsetof(sshkey_host_login, port) == 60);
+SSHKEY_IS(sizeof(sshkey_host_login) == 64);
 SSHKEY_IS(offsetof(sshkey_entry, front) == 0);
 SSHKEY_IS(offsetof(sshkey_entry, key) == 16);
 SSHKEY_IS(offsetof(sshkey_entry, comment) == 32);

@@ -1,7 +1,6 @@
 pub mod Lines
 pub mod Entries
 pub mod Options
-pub mod Verdicts
 pub mod RevocationFiles
 pub mod Signers
 pub mod Addresses
