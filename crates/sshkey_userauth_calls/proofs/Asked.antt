@@ -14,7 +14,8 @@ use Rattle.sshkey_calls.specs.Numbers.{fault_number}
 use Rattle.sshkey_calls.specs.Questions.{TellsQuestion}
 use Rattle.sshkey_calls.specs.declared.question.Question.{Question}
 use Rattle.sshkey_calls.proofs.Rooms.{no_memory, none_given, told_as}
-use Rattle.sshkey_userauth.specs.Judgements.{HasNoKey, IsAsked, IsRefused, ReadsKey, judged, key_from}
+use Rattle.sshkey_userauth.specs.Judgements.{HasNoKey, IsAsked, IsRefused, judged, key_from}
+use Rattle.sshkey_userauth.specs.RequestFormats.{SpellsUserauthRequest}
 use Rattle.sshkey_userauth.specs.Requests.{UserauthRequest, userauth_request}
 use Rattle.sshkey_userauth.specs.declared.judgement.Requirements.{Requirements}
 use Rattle.sshkey_userauth.specs.declared.judgement.name.KeyForm.{KeyForm}
@@ -95,3 +96,24 @@ module _ (r : UserauthRequest) (required : Requirements) (g : Signature) where
       pub refused_told : (e : Refusal) → n ≡ refusal_number e → ((x : Error) (fault : Fault) → e ≡ refusals.Key x → cause x ≡ Faulty fault → n ≡ fault_number fault) → IsRefused r required g e → TellsAsked r required g n was answer before after
       refused_told e number key (inl wrong) = misjudged_told e number wrong
       refused_told e number key (inr has) = no_key_told e number key has
+
+-- ---- where it is told
+
+module _ (r : UserauthRequest) (required : Requirements) (g : Signature) (was answer : Question) (before after : List ℕ) where
+  pub memory_where : (Holds : Type 0) (otherwise n : ℕ) → n ≡ 1 → TellsAskedWhere Holds otherwise r required g n was was before before
+  memory_where Holds otherwise n one = record {
+    asked = λ _. memory_told r required g n was was before before (refl, refl) one;
+    other = λ _ other. absurd (other one);
+    stays = λ _. (refl, refl);
+  }
+
+  pub told_where : (Holds : Type 0) (otherwise n : ℕ) → ((Holds → ⊥) → ⊥) → (Holds → TellsAsked r required g n was answer before after) → TellsAskedWhere Holds otherwise r required g n was answer before after
+  told_where Holds otherwise n holds told = record {
+    asked = told;
+    other = λ no. absurd (holds no);
+    stays = λ no. absurd (holds no);
+  }
+
+-- The same of what is equal.
+pub same_where : (bytes : List ℕ) (r r2 : UserauthRequest) (required required2 : Requirements) (g g2 : Signature) (otherwise n : ℕ) (was answer : Question) (before after : List ℕ) → r ≡ r2 → required ≡ required2 → g ≡ g2 → TellsAskedWhere (SpellsUserauthRequest r bytes) otherwise r required g n was answer before after → TellsAskedWhere (SpellsUserauthRequest r2 bytes) otherwise r2 required2 g2 n was answer before after
+same_where bytes r r2 required required2 g g2 otherwise n was answer before after p q s = subst (λ (x : UserauthRequest × (Requirements × Signature)). TellsAskedWhere (SpellsUserauthRequest x.0 bytes) otherwise x.0 x.1.0 x.1.1 n was answer before after) (λ i. (p i, (q i, s i)))
