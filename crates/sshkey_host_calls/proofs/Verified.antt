@@ -1,5 +1,5 @@
 -- The verifier that says to every question what was said to the one.
-use Rattle.std.proofs.Common.{◌≡◌, ℕ, List, Bool, Option, Some, None, inl, inr, sym, ◌∙◌}
+use Rattle.std.proofs.Common.{◌≡◌, ℕ, List, Bool, Option, Some, None, inl, inr, subst, sym, ◌∙◌}
 use Rattle.host_keys.specs.Answers.{IsWhyNoCertificate, RefusesHostCertificate}
 use Rattle.host_keys.specs.Hosts.{HostLogin, IsGoodFor, IsHostCertificate, IsTrustedCertificate, plain_name, signers}
 use Rattle.host_keys.specs.declared.refusal.Refusal.{Refusal}
@@ -12,6 +12,9 @@ use Rattle.sshkey_model.specs.Certificates.{Certificate}
 use Rattle.sshkey_model.specs.Refusals.{first_refusal_for}
 use Rattle.sshkey_model.specs.Verification.{Question}
 use Rattle.sshkey_model.proofs.Refusals.{none_where_wanted}
+use Rattle.sshkey_entry_calls.specs.RevocationFiles.{one_revokes}
+use Rattle.sshkey_host_calls.specs.Hosts.{JudgesCertificate, TellsCertificate, login_of}
+use Rattle.sshkey_host_calls.specs.declared.login.HostLogin as code
 
 -- ---- where both find the same
 
@@ -55,3 +58,18 @@ module _ (login : HostLogin) (accepts : Question → Bool) (revokes : List ℕ �
   refuses_there r (inl unread) = inl unread
   refuses_there r (inr (c, spelled, inl other)) = inr (c, spelled, inl other)
   refuses_there r (inr (c, spelled, inr why)) = inr (c, spelled, inr (why.0, why_there login said accepts revokes c (same c spelled) r why.1))
+
+-- ---- from what was said to each such verifier
+
+pub told : (l : code.HostLogin) (bytes : List ℕ) (is_verified n : ℕ) (b : Bool) → b ≡ is_yes_number is_verified → JudgesCertificate l (λ _. b) bytes n → TellsCertificate l bytes is_verified n
+told l bytes is_verified n b same judges not_memory =
+    let j = subst (λ (y : Bool). JudgesCertificate l (λ _. y) bytes n) same judges not_memory in
+    (j.0, j.1, λ accepts v. record {
+      says = record {
+        yes_ = λ zero_. holds_there (login_of l) accepts (one_revokes j.0) bytes is_verified v (j.2.says.yes_ zero_);
+        no_ = λ some other holds. j.2.says.no_ some other (holds_back (login_of l) accepts (one_revokes j.0) bytes is_verified v holds);
+      };
+      first = λ some other.
+          let w = j.2.first some other in
+          (w.0, refuses_there (login_of l) accepts (one_revokes j.0) bytes is_verified v w.0 w.1, w.2);
+    })

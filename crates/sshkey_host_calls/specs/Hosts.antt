@@ -12,10 +12,12 @@ use Rattle.sshkey_base.specs.declared.error.Error.{Error}
 use Rattle.sshkey_calls.specs.Numbers.{certificate_error_number, refusal_number}
 use Rattle.sshkey_calls.specs.Outcomes.{TellsOf}
 use Rattle.sshkey_calls.specs.Validations.{SaysWhether, Verified}
+use Rattle.sshkey_cert.specs.CertificateReaders.{SpellsCertificate}
 use Rattle.sshkey_cert.specs.Validity.{refusal_of}
 use Rattle.sshkey_entry_calls.specs.RevocationFiles.{AreReadOf, are_read, one_revokes, one_revokes_key}
 use Rattle.sshkey_keys.specs.Keys.{SpellsKey, key_data_at}
 use Rattle.sshkey_known_hosts.specs.Hmac.{hmac_sha1}
+use Rattle.sshkey_model.specs.Certificates.{certificate_at}
 use Rattle.sshkey_model.specs.Keys.{Key}
 use Rattle.sshkey_model.specs.Verification.{Question}
 use Rattle.sshkey_revoked_keys.specs.declared.revoked_keys.RevokedKeys.{RevokedKeys}
@@ -80,5 +82,9 @@ abbrev pub JudgesCertificate : HostLogin → (Question → Bool) → List ℕ �
 JudgesCertificate l accepts bytes n = n ≢ 1 → (reads : List (Result RevokedKeys Error)) × AreReadOf l.revoked.now reads × IsJudgedCertificate l accepts reads bytes n
 
 -- The same for each verifier that says so of this certificate's question.
+abbrev pub TellsCertificate : HostLogin → List ℕ → ℕ → ℕ → Type 0
+TellsCertificate l bytes is_verified n = n ≢ 1 → (reads : List (Result RevokedKeys Error)) × AreReadOf l.revoked.now reads × ((accepts : Question → Bool) → Verified accepts bytes is_verified → IsJudgedCertificate l accepts reads bytes n)
+
+-- It is told of the certificate that the bytes spell.
 abbrev pub TellsHostCertificate : HostLogin → List ℕ → ℕ → ℕ → Type 0
-TellsHostCertificate l bytes is_verified n = n ≢ 1 → (reads : List (Result RevokedKeys Error)) × AreReadOf l.revoked.now reads × ((accepts : Question → Bool) → Verified accepts bytes is_verified → IsJudgedCertificate l accepts reads bytes n)
+TellsHostCertificate l bytes is_verified n = TellsOf SpellsCertificate certificate_at bytes (λ c. TellsCertificate l bytes is_verified n) n (Unit {0})

@@ -7,7 +7,8 @@ use crate::answer::answer_number;
 use crate::login::HostLogin;
 use host_keys::check_certificate;
 use sshkey_calls::Verification;
-use sshkey_calls::number::{MEMORY, TEXT};
+use sshkey_calls::number::{MEMORY, TEXT, error_number};
+use sshkey_cert_ref::CertificateRef;
 use sshkey_entry_calls::RevocationFiles;
 use sshkey_known_hosts::Hmac;
 use std::alloc::Global;
@@ -27,7 +28,8 @@ use std::alloc::Global;
 /// for a time above 2^63 - 1, 33 for a time out of its window and 34 where it is not for the host's
 /// name. So 30, before anything is verified, says that the host would be trusted if it is signed.
 ///
-/// Whether the certified key is one that the host is known by is not asked.
+/// Whether the certified key is one that the host is known by is not asked. Memory is taken only for
+/// bytes that are a certificate.
 pub fn host_certificate_verdict(
     alloc: Global,
     login: &HostLogin<'_>,
@@ -41,10 +43,13 @@ pub fn host_certificate_verdict(
     if !login.are_texts() {
         return TEXT;
     }
-    judge(alloc, login, certificate, &Verification::of(is_verified))
+    match CertificateRef::from_bytes(certificate) {
+        Ok(_) => judge(alloc, login, certificate, &Verification::of(is_verified)),
+        Err(error) => error_number(error),
+    }
 }
 
-/// The same of texts.
+/// The same of texts and a certificate.
 fn judge(
     alloc: Global,
     login: &HostLogin<'_>,
