@@ -190,6 +190,30 @@ static inline const char *sshkey_answer_name(uint32_t answer) {
 #undef SSHKEY_NAMED
 }
 
+/* ---- what is read ---------------------------------------------------------------------------- */
+
+/* Bytes that a call reads; no null pointer, also where the length is 0 (sshkey_bytes). */
+typedef struct {
+  const uint8_t *bytes;
+  size_t length;
+} sshkey_span;
+
+/* Byte strings that a call reads: `count` of them, at no null pointer. */
+typedef struct {
+  const sshkey_span *items;
+  size_t count;
+} sshkey_spans;
+
+/* The revocation files of who asks about no revocation: one file, the list of nothing (PROTOCOL.krl).
+ * No file at all would revoke everything, as one does that could not be read. */
+static inline sshkey_spans sshkey_no_revocations(void) {
+  static const uint8_t list[44] = "SSHKRL\n\0\0\0\0\1";
+  static const sshkey_span file = {list, sizeof list};
+  sshkey_spans files = {&file, 1};
+  return files;
+}
+#define SSHKEY_NO_REVOCATIONS sshkey_no_revocations()
+
 /* ---- what is written ------------------------------------------------------------------------- */
 
 /* A part of a room, or of other bytes: where it begins, and how many bytes it has. */
@@ -208,21 +232,7 @@ typedef struct {
   uint8_t bytes[64];
 } sshkey_sha512;
 
-/* ---- what is read ---------------------------------------------------------------------------- */
-
-/* Bytes that a call reads; no null pointer, also where the length is 0 (sshkey_bytes). */
-typedef struct {
-  const uint8_t *bytes;
-  size_t length;
-} sshkey_span;
-
-/* `count` byte strings that a call reads; no null pointer, also where the count is 0. */
-typedef struct {
-  const sshkey_span *items;
-  size_t count;
-} sshkey_spans;
-
-/* `count` fingerprints of keys; no null pointer, also where the count is 0. */
+/* SHA-256 fingerprints of keys that a call reads: `count` of them, at no null pointer. */
 typedef struct {
   const sshkey_sha256 *items;
   size_t count;
@@ -529,12 +539,11 @@ uint32_t sshkey_sshsig_question_of_digest(const uint8_t *signature, size_t signa
 /* Whether an SSH signature counts as the identity's in that namespace, by a text of allowed
  * signers (ssh-keygen(1)), at that second (since 1970), as `ssh-keygen -Y verify` says, or more
  * strictly (docs/CALLING.md): a time without Z, which is of the machine's zone there, has to hold
- * in every zone here. `revoked` is what the file of its `-r` has: a list, or keys, one a line; a
- * file of no bytes revokes nothing. Who asks no file passes a list of nothing (judge_no_revocations
- * in helpers/judge.h), and never what is left where a file was not read. `is_verified` is 1 if the
- * answer to the question of this signature, in the namespace and of the message, is yes; any other
- * number is no. Ask with 0 first: SSHKEY_NOT_SIGNED says that its key may sign, and with any other
- * answer there is nothing to verify.
+ * in every zone here. `revoked` are revocation files, as sshkey_revoked_key takes them; who asks
+ * none passes SSHKEY_NO_REVOCATIONS, and never what is left where a file was not read.
+ * `is_verified` is 1 if the answer to the question of this signature, in the namespace and of the
+ * message, is yes; any other number is no. Ask with 0 first: SSHKEY_NOT_SIGNED says that its key
+ * may sign, and with any other answer there is nothing to verify.
  *
  * SSHKEY_DONE exactly if the bytes are a signature in the namespace that raises a question,
  * without reserved bytes, `is_verified` is 1, a line lets its key sign for the identity in the
@@ -545,8 +554,8 @@ uint32_t sshkey_signer_verdict(const uint8_t *signers, size_t signers_length,
                                const uint8_t *identity, size_t identity_length,
                                const uint8_t *name_space, size_t name_space_length,
                                const uint8_t *signature, size_t signature_length,
-                               uint64_t unix_timestamp, const uint8_t *revoked,
-                               size_t revoked_length, uint32_t is_verified);
+                               uint64_t unix_timestamp, const sshkey_span *revoked,
+                               size_t revoked_count, uint32_t is_verified);
 
 /* ---- normal forms ---------------------------------------------------------------------------- */
 
@@ -584,22 +593,23 @@ uint32_t sshkey_next_string(const uint8_t *bytes, size_t length, size_t place, s
 
 /* ---- revocation files (sshd_config(5), "RevokedKeys") ---------------------------------------- */
 
-/* Whether a revocation file revokes the key of that blob: a list (PROTOCOL.krl), as `ssh-keygen -k`
- * makes it, that has the key or its digest by SHA-1 or SHA-256; or a text with a key or a
- * certificate a line, that has the key. A file of no bytes revokes nothing, as sshd's.
+/* Whether one of these files revokes the key of that blob: a list (PROTOCOL.krl), as
+ * `ssh-keygen -k` makes it, that has the key or its digest by SHA-1 or SHA-256; or a text with a key
+ * or a certificate a line, that has the key. A file of no bytes revokes nothing, as sshd's.
  *
  * Let in for SSHKEY_NOT_REVOKED alone: a caller that takes any other answer for "not revoked" is
- * wrong (docs/CHECKLIST.md, "All of them"). SSHKEY_DONE exactly if the file revokes the key (memory
- * aside); SSHKEY_UNREADABLE_REVOCATIONS for a file that can't be read, by which sshd lets nobody in
- * either (docs/CALLING.md says what sshd refuses beyond that); else 10 to 29 for bytes that are no
- * key. A text takes memory for its lines, a list only for a key that is not its normal form. */
-uint32_t sshkey_revoked_key(const uint8_t *revoked, size_t revoked_length, const uint8_t *key,
+ * wrong (docs/CHECKLIST.md, "All of them"). SSHKEY_DONE exactly if all files can be read, and one
+ * revokes the key (memory aside); SSHKEY_UNREADABLE_REVOCATIONS without a file, or for one that
+ * can't be read, by which sshd lets nobody in either (docs/CALLING.md says what sshd refuses beyond
+ * that); else 10 to 29 for bytes that are no key. A text takes memory for its lines, several files
+ * do, and one list only for a key that is not its normal form. */
+uint32_t sshkey_revoked_key(const sshkey_span *revoked, size_t revoked_count, const uint8_t *key,
                             size_t key_length);
 
-/* The same of a certificate: the file has its key or the key that signed it, or a list revokes its
+/* The same of a certificate: a file has its key or the key that signed it, or a list revokes its
  * serial number or its key id among the certificates of that key or of every key. The serial number
- * 0 revokes nothing. A list takes memory only where the bytes are a certificate. */
-uint32_t sshkey_revoked_certificate(const uint8_t *revoked, size_t revoked_length,
+ * 0 revokes nothing. One list takes memory only where the bytes are a certificate. */
+uint32_t sshkey_revoked_certificate(const sshkey_span *revoked, size_t revoked_count,
                                     const uint8_t *certificate, size_t certificate_length);
 
 /* Whether a key revocation list, as `ssh-keygen -k` makes it, revokes the key of that blob: it has

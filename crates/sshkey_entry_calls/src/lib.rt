@@ -13,6 +13,7 @@ mod entries;
 mod hosts;
 mod lines;
 mod options;
+mod revocation_files;
 mod revocations;
 mod signers;
 
@@ -21,5 +22,6 @@ pub use entries::{EntryParts, authorized_entry, known_host};
 pub use hosts::{authority_verdict, host_verdict};
 pub use lines::next_line;
 pub use options::{OptionParts, nth_option};
+pub use revocation_files::RevocationFiles;
 pub use revocations::{revoked_certificate, revoked_key};
 pub use signers::signer_verdict;
