@@ -1,15 +1,14 @@
 -- What is answered about a host, and why it is refused.
-use Rattle.std.specs.Prelude.{◌≡◌, ◌≢◌, ◌⊎◌, ◌<◌, length, ℕ, List, Bool, true, false, IsErrAnd, IsTrue, Result, Ok, Err}
+use Rattle.std.specs.Prelude.{◌≡◌, ◌≢◌, ◌⊎◌, ◌<◌, length, ℕ, List, Bool, true, false, IsTrue, Result, Ok, Err}
 use Rattle.openssh_limits.specs.Keys.{is_let_in}
-use Rattle.sshkey_base.specs.Causes.{Faulty, cause}
 use Rattle.sshkey_base.specs.Reading.{NoSpelling}
-use Rattle.sshkey_cert.specs.CertificateReaders.{SpellsCertificate, certificate_value_at}
+use Rattle.sshkey_cert.specs.CertificateReaders.{SpellsCertificate}
+use Rattle.sshkey_cert_form.specs.Faults.{IsFaultOf}
 use Rattle.sshkey_krl.specs.Revocation.{Grant}
 use Rattle.sshkey_krl.specs.Revocations.{is_certificate_revoked, is_key_revoked}
 use Rattle.sshkey_model.specs.Certificates.{Certificate, normal_certificate}
 use Rattle.sshkey_model.specs.Keys.{Key}
 use Rattle.sshkey_model.specs.Parts.{flat}
-use Rattle.sshkey_model.specs.Reading.{whole}
 use Rattle.sshkey_model.specs.Verification.{Question}
 use Rattle.sshkey_base.specs.declared.error.Error.{Error}
 use Rattle.sshkey_base.specs.declared.error.Error.TheVariants.{Memory}
@@ -68,10 +67,6 @@ IsWhyNoKey login revokes_key key = IsWhy (IsSaidOfKey login.hmac login.host logi
 
 abbrev pub IsWhyNoCertificate : HostLogin → (Question → Bool) → (List ℕ → Grant → Bool) → Certificate → Refusal → Type 0
 IsWhyNoCertificate login accepts revokes c = IsWhy (IsSaidOfSigned login.hmac login.host login.port c.signed.key c.signed.signature_key login.lines) (is_certificate_revoked revokes c) (is_let_in login.least_rsa_bits c.signed.key) (IsBadFor accepts login.time (plain_name login.host) c)
-
--- the plain reader refuses the bytes for that error
-abbrev pub IsFaultOf : List ℕ → Error → Type 0
-IsFaultOf blob e = IsErrAnd (whole certificate_value_at blob) (λ fault. cause e ≡ Faulty fault)
 
 -- The bytes spell no certificate, and have that fault. Or they spell one: they are not its normal
 -- form; or they are, and it is refused.
