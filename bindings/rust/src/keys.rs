@@ -23,10 +23,15 @@ pub fn read_line(line: impl AsRef<[u8]>) -> Result<Line, Status> {
     let line = line.as_ref();
     let (room, found) = ask(line.len(), |room, answer| raw::sshkey_read_line(line, room, answer))?;
     let comment = String::from_utf8(found.comment.of(&room).to_vec());
+    let is_certificate = match found.kind {
+        raw::LINE_KEY => false,
+        raw::LINE_CERTIFICATE => true,
+        _ => return Err(Status::OTHER_FAULT),
+    };
     Ok(Line {
         blob: found.blob.of(&room).to_vec(),
         comment: comment.map_err(|_| Status::CHARACTER_ENCODING)?,
-        is_certificate: found.kind == raw::LINE_CERTIFICATE,
+        is_certificate,
     })
 }
 

@@ -64,6 +64,30 @@ pub const MARKER_CERT_AUTHORITY: u32 = 1;
 /// `SSHKEY_MARKER_REVOKED`.
 pub const MARKER_REVOKED: u32 = 2;
 
+/// `SSHKEY_PERMIT_PTY`.
+pub const PERMIT_PTY: u32 = 1;
+
+/// `SSHKEY_PERMIT_PORT_FORWARDING`.
+pub const PERMIT_PORT_FORWARDING: u32 = 2;
+
+/// `SSHKEY_PERMIT_AGENT_FORWARDING`.
+pub const PERMIT_AGENT_FORWARDING: u32 = 4;
+
+/// `SSHKEY_PERMIT_X11_FORWARDING`.
+pub const PERMIT_X11_FORWARDING: u32 = 8;
+
+/// `SSHKEY_PERMIT_USER_RC`.
+pub const PERMIT_USER_RC: u32 = 16;
+
+/// `SSHKEY_PERMIT_ANY_COMMAND`. No force-command: what the client asks for, or a shell.
+pub const PERMIT_ANY_COMMAND: u32 = 32;
+
+/// `SSHKEY_PERMIT_NO_TOUCH`. A security key that nobody touched.
+pub const PERMIT_NO_TOUCH: u32 = 64;
+
+/// `SSHKEY_PERMIT_NO_VERIFICATION`. A security key that did not verify its user.
+pub const PERMIT_NO_VERIFICATION: u32 = 128;
+
 statuses! {
     /// Malloc refused; nothing is said of the input, and nothing is kept: the call may be made
     /// again.
@@ -128,7 +152,7 @@ statuses! {
     /// Its window has no second.
     EMPTY_WINDOW = 46, "a window without a second";
     /// A line for the host revokes the key.
-    HOST_REVOKED = 50, "revoked by a line for the host";
+    HOST_REVOKED = 50, "revoked for the host";
     /// A line is no entry, and may be one for the host.
     HOST_UNREADABLE = 51, "a line that may revoke it and can't be read";
     /// A line for the host has another key, and none has this one.
@@ -137,8 +161,8 @@ statuses! {
     HOST_UNKNOWN = 53, "no key or authority is known for the host";
     /// No line lets its key sign for the identity, there and then.
     SIGNER_NOT_ALLOWED = 55, "no allowed signer";
-    /// Its key is revoked.
-    SIGNER_REVOKED = 56, "a signer that is revoked";
+    /// A revocation file revokes the signer's key, or the certificate.
+    REVOKED = 56, "revoked";
     /// The client's address is none of those that are allowed.
     ELSEWHERE = 57, "from an address that is not allowed";
     /// It can't be read, and so revokes everything.
@@ -147,28 +171,48 @@ statuses! {
     KEY_NOT_ACCEPTED = 59, "a kind or a size of key that OpenSSH does not let in";
     /// A revocation file does not revoke the key or the certificate.
     NOT_REVOKED = 60, "not revoked";
+    /// Its bytes are not its normal form, and so not those that were signed.
+    NOT_NORMAL_FORM = 70, "not in its normal form";
+    /// It is for hosts where a user shows it, or for users where a host does.
+    OTHER_TYPE = 71, "for hosts in place of users, or for users in place of hosts";
+    /// It certifies another key than the client's.
+    OTHER_KEY = 72, "another key";
+    /// A critical option that is not known, or whose value sshd does not read.
+    CRITICAL_OPTIONS = 73, "a critical option that is not known, or not read";
+    /// Data stand in an extension that is a flag, or a name has a zero byte.
+    EXTENSIONS = 74, "an extension that is not read";
+    /// A zero byte in the key id.
+    KEY_ID = 75, "a zero byte in the key id";
+    /// It lists no principal, more than 256 or one with a zero byte; or the user's name is empty.
+    VALID_PRINCIPALS = 76, "no principals, or some that are not read";
+    /// The signed bytes are not those of this request, or its service is not ssh-connection.
+    OTHER_REQUEST = 80, "signed for another request";
+    /// The algorithm that the request names is not the signature's.
+    OTHER_ALGORITHM = 81, "another algorithm than the request's";
+    /// Nobody touched the security key, and the grant wants it.
+    UNTOUCHED = 82, "a security key that nobody touched";
+    /// The security key did not verify its user, and the grant wants it.
+    UNVERIFIED = 83, "a security key that did not verify its user";
 }
 
 /// A part of a room, or of other bytes: where it begins, and how many bytes it has.
 #[repr(C)]
 #[derive(Clone, Copy, Debug, Default)]
 pub struct Part {
-    /// The place of its first byte.
     pub start: usize,
-    /// The number of its bytes.
     pub length: usize,
 }
+
+/// Bytes that a call reads; no null pointer, also where the length is 0 (sshkey_bytes).
+pub(crate) type Span<'a> = Slice<'a, u8>;
 
 /// What has to be verified: that `signature` is one of `message` under `key`, made as `algorithm`
 /// says.
 #[repr(C)]
 #[derive(Clone, Copy, Debug, Default)]
 pub struct Question {
-    /// Its blob.
     pub key: Part,
-    /// What is signed.
     pub message: Part,
-    /// As the algorithm has it.
     pub signature: Part,
     /// How many bytes of the room these take.
     pub length: usize,
@@ -233,9 +277,6 @@ pub(crate) struct CertificateOptionParts {
     pub next: usize,
 }
 
-/// Bytes that a call reads; no null pointer, also where the length is 0 (sshkey_bytes).
-pub(crate) type Span<'a> = Slice<'a, u8>;
-
 /// What a certificate is to say.
 #[repr(C)]
 #[derive(Clone, Copy, Debug, Default)]
@@ -297,6 +338,84 @@ pub(crate) struct EntryOptionParts {
     pub has_value: u32,
 }
 
+/// Byte strings that a call reads: `count` of them.
+pub(crate) type Spans<'a> = Slice<'a, Span<'a>>;
+
+/// SHA-256 fingerprints of keys.
+pub(crate) type Digests<'a> = Slice<'a, Sha256>;
+
+/// ---- who is let in: a login by a certificate ----.
+#[repr(C)]
+#[derive(Clone, Copy, Debug, Default)]
+pub(crate) struct Login<'a> {
+    /// Its blob, as the client sent it.
+    pub certificate: Span<'a>,
+    /// UTF-8.
+    pub user: Span<'a>,
+    /// The blob of the key that the client has signed under.
+    pub key: Span<'a>,
+    /// The address of its socket, 4 or 16 bytes; with any other number of bytes it has none.
+    pub client: Span<'a>,
+    /// The keys that may sign logins.
+    pub authorities: Digests<'a>,
+    /// Revocation files, each a list or keys as text: any of them revokes.
+    pub revoked: Spans<'a>,
+    pub unix_timestamp: u64,
+    /// RequiredRSASize; below 1,024, as 0, it is 1,024.
+    pub least_rsa_bits: u32,
+}
+
+/// `sshkey_grant`.
+#[repr(C)]
+#[derive(Clone, Copy, Debug, Default)]
+pub(crate) struct Grant {
+    /// In the room: the one command that may run; of no bytes with SSHKEY_PERMIT_ANY_COMMAND.
+    pub force_command: Part,
+    /// In the room, after it.
+    pub key_id: Part,
+    /// How many bytes of the room these take.
+    pub length: usize,
+    pub serial: u64,
+    pub authority: Sha256,
+    /// SSHKEY_PERMIT_*.
+    pub permits: u32,
+}
+
+/// ---- a host ----.
+#[repr(C)]
+#[derive(Clone, Copy, Debug, Default)]
+pub(crate) struct HostLogin<'a> {
+    /// The texts of all the files that count.
+    pub known_hosts: Spans<'a>,
+    pub host: Span<'a>,
+    /// As above (RevokedHostKeys).
+    pub revoked: Spans<'a>,
+    /// Asked of certificates alone.
+    pub unix_timestamp: u64,
+    pub least_rsa_bits: u32,
+    pub port: u16,
+}
+
+/// ---- what a client signs ----.
+#[repr(C)]
+#[derive(Clone, Copy, Debug, Default)]
+pub(crate) struct Userauth<'a> {
+    pub session_id: Span<'a>,
+    pub user: Span<'a>,
+    /// The name of the public key algorithm in the request.
+    pub algorithm: Span<'a>,
+    /// The blob of the key or the certificate in the request.
+    pub public_key: Span<'a>,
+    /// The server's host key, if has_host_key is 1 (publickey-hostbound-v00@openssh.com).
+    pub host_key: Span<'a>,
+    /// The blob of the client's signature.
+    pub signature: Span<'a>,
+    /// 0: the method is publickey; else hostbound.
+    pub has_host_key: u32,
+    /// Of the grant.
+    pub permits: u32,
+}
+
 // the layout that the library was built for
 const _: () = assert!(size_of::<usize>() == 8);
 const _: () = assert!(size_of::<Part>() == 16);
@@ -354,15 +473,15 @@ calls! {
     );
     fn sshkey_signer_verdict(
         signers: &[u8], identity: &[u8], name_space: &[u8], signature: &[u8], unix_timestamp: u64,
-        revoked: &[u8], is_verified: u32
+        revoked: &[Span<'_>], is_verified: u32
     );
     fn sshkey_key_normal(key: &[u8], room: &mut [u8], length: &mut usize);
     fn sshkey_certificate_normal(certificate: &[u8], room: &mut [u8], length: &mut usize);
     fn sshkey_sshsig_normal(signature: &[u8], room: &mut [u8], length: &mut usize);
     fn sshkey_signature_normal(signature: &[u8], room: &mut [u8], length: &mut usize);
     fn sshkey_next_string(bytes: &[u8], place: usize, answer: &mut Part);
-    fn sshkey_revoked_key(revoked: &[u8], key: &[u8]);
-    fn sshkey_revoked_certificate(revoked: &[u8], certificate: &[u8]);
+    fn sshkey_revoked_key(revoked: &[Span<'_>], key: &[u8]);
+    fn sshkey_revoked_certificate(revoked: &[Span<'_>], certificate: &[u8]);
     fn sshkey_krl_revokes_key(krl: &[u8], key: &[u8]);
     fn sshkey_krl_revokes_certificate(krl: &[u8], certificate: &[u8]);
     fn sshkey_next_line(text: &[u8], place: usize, answer: &mut Part);
@@ -371,8 +490,18 @@ calls! {
     fn sshkey_nth_option(
         options: &[u8], number: usize, room: &mut [u8], answer: &mut EntryOptionParts
     );
-    fn sshkey_host_verdict(known_hosts: &[u8], host: &[u8], port: u16, key: &[u8]);
-    fn sshkey_authority_verdict(known_hosts: &[u8], host: &[u8], port: u16, key: &[u8]);
     fn sshkey_source_address_allows(list: &[u8], address: &[u8]);
     fn sshkey_from_allows(list: &[u8], host: &[u8], address: &[u8]);
+    fn sshkey_login_verdict(
+        login: &Login<'_>, is_verified: u32, room: &mut [u8], answer: &mut Grant
+    );
+    fn sshkey_host_key_verdict(login: &HostLogin<'_>, key: &[u8]);
+    fn sshkey_host_certificate_verdict(login: &HostLogin<'_>, certificate: &[u8], is_verified: u32);
+    fn sshkey_unreadable_host_line(known_hosts: &[u8], host: &[u8], port: u16, number: &mut usize);
+    fn sshkey_userauth_question(request: &Userauth<'_>, room: &mut [u8], answer: &mut Question);
+    fn sshkey_userauth_question_of(
+        request: &Userauth<'_>, signed_bytes: &[u8], room: &mut [u8], answer: &mut Question
+    );
+    fn sshkey_grant_flags(permits: u32, key: &[u8], signature: &[u8]);
+    fn sshkey_is_other_key_line(line: &[u8]);
 }
