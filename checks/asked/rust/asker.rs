@@ -145,7 +145,7 @@ fn host_verdict(what: &str, given: &[&str]) -> String {
         host: &host,
         port: given[4].parse().expect("a port"),
         revoked: &lent(&revoked),
-        unix_timestamp: number(given[6]),
+        unix_timestamp: given.get(6).map_or(0, |it| number(it)),
         least_rsa_bits: number(given[5]).try_into().expect("a number of bits"),
     };
     number_of(if what == "host-key" {
