@@ -96,12 +96,13 @@ fn is_ecdsa(question: &Question, curve: &[u8], digest: DigestCall) -> bool {
 }
 
 fn is_rsa(question: &Question, digest: DigestCall) -> bool {
-    match parts(question.key())[..] {
-        [_, exponent, modulus] if bits(modulus) >= LEAST_RSA_BITS => integers(&[modulus, exponent])
-            .map_or(false, |key| {
-                verifies(question, Some(digest), &public_key(RSA, &key), question.signature())
-            }),
-        _ => false,
+    let key = match parts(question.key())[..] {
+        [_, exponent, modulus] if bits(modulus) >= LEAST_RSA_BITS => integers(&[modulus, exponent]),
+        _ => None,
+    };
+    match key {
+        Some(key) => verifies(question, Some(digest), &public_key(RSA, &key), question.signature()),
+        None => false,
     }
 }
 
