@@ -9,7 +9,8 @@ from types import MappingProxyType
 from ._header import FOREVER, CertificateOptionParts, CertificateType, Draft, Fields, Parts, Span, Status
 from ._keys import question_of, string, strings
 from ._library import LIBRARY, bytes_of, digests_of, done, number_of, parts_of, text_of, written
-from ._values import ALL_PRINCIPALS, AllPrincipals, BytesLike, CertificateFields, Contents, Question
+from ._values import ALL_PRINCIPALS, AllPrincipals, BytesLike, CertificateFields, Contents, Question, Refused
+from ._verify import Verifier, is_signature
 
 
 def certificate_question(certificate: BytesLike) -> Question:
@@ -17,6 +18,15 @@ def certificate_question(certificate: BytesLike) -> Question:
     signature do not go together, and MemoryError."""
     given = bytes_of(certificate)
     return question_of(lambda *room: LIBRARY.sshkey_certificate_question(*given, *room), 2 * given[1] + 256)
+
+
+def is_certified(certificate: bytes, verifier: Verifier) -> bool:
+    """Whether the certificate raises a question to which the verifier says yes."""
+    try:
+        question = certificate_question(certificate)
+    except Refused:
+        return False
+    return verifier(question) is True
 
 
 def validate_certificate(
@@ -37,6 +47,21 @@ def validate_certificate(
     if status == Status.MEMORY:
         raise MemoryError
     return status
+
+
+def judge_certificate(
+    certificate: BytesLike, unix_timestamp: int, authorities: Iterable[BytesLike], principal: str | BytesLike | None = None,
+    verifier: Verifier = is_signature,
+) -> None:  # fmt: skip
+    """Returns exactly if the certificate is valid, as validate_certificate takes it, and raises what that raises; else Refused, which
+    says what is wrong first, and first UNTRUSTED_AUTHORITY, so that no cryptography runs over a key that somebody made up.
+
+    That is no login: whose key it certifies, its type, its options and revocations are not looked at. log_in does that, and
+    check_host_certificate."""
+    given, by = bytes_of(certificate)[0], list(authorities)
+    if validate_certificate(given, unix_timestamp, by, True, principal) == Status.UNTRUSTED_AUTHORITY:
+        raise Refused(Status.UNTRUSTED_AUTHORITY)
+    done(validate_certificate(given, unix_timestamp, by, is_certified(given, verifier), principal))
 
 
 # ---- what a certificate says

@@ -83,7 +83,7 @@ class Status(Answer):
     PRINCIPALS = 45
     # Its window has no second.
     EMPTY_WINDOW = 46
-    # A line for the host revokes the key.
+    # A line for the host, or a revocation file, revokes it.
     HOST_REVOKED = 50
     # A line is no entry, and may be one for the host.
     HOST_UNREADABLE = 51
@@ -93,16 +93,38 @@ class Status(Answer):
     HOST_UNKNOWN = 53
     # No line lets its key sign for the identity, there and then.
     SIGNER_NOT_ALLOWED = 55
-    # Its key is revoked.
-    SIGNER_REVOKED = 56
+    # A revocation file revokes the signer's key, or the certificate.
+    REVOKED = 56
     # The client's address is none of those that are allowed.
     ELSEWHERE = 57
-    # It can't be read, and so revokes everything.
+    # One can't be read, or there is none: so everything is revoked.
     UNREADABLE_REVOCATIONS = 58
-    # A kind or a size of key that OpenSSH does not let in; no call answers it yet.
+    # A kind or a size of key that OpenSSH does not let in.
     KEY_NOT_ACCEPTED = 59
-    # A revocation file does not revoke the key or the certificate.
+    # No revocation file revokes the key or the certificate.
     NOT_REVOKED = 60
+    # Its bytes are not its normal form: not those that were signed.
+    NOT_NORMAL_FORM = 70
+    # A user shows one for hosts, or a host one for users.
+    OTHER_TYPE = 71
+    # It certifies another key than the client's.
+    OTHER_KEY = 72
+    # A critical option that is not known, or whose value sshd does not read.
+    CRITICAL_OPTIONS = 73
+    # Data in an extension that is a flag, or a zero byte in a name.
+    EXTENSIONS = 74
+    # A zero byte in the key id.
+    KEY_ID = 75
+    # It lists no principal, more than 256 or one with a zero byte; or the user's name is empty.
+    VALID_PRINCIPALS = 76
+    # The signed bytes are not those of this request, or its service is not ssh-connection.
+    OTHER_REQUEST = 80
+    # The algorithm that the request names is not the signature's.
+    OTHER_ALGORITHM = 81
+    # Nobody touched the security key, and the grant wants it.
+    UNTOUCHED = 82
+    # The security key did not verify its user, and the grant wants it.
+    UNVERIFIED = 83
 
 
 class Algorithm(IntEnum):
@@ -134,6 +156,22 @@ class CertificateType(IntEnum):
 
     USER = 1
     HOST = 2
+
+
+class Permits(IntFlag):
+    """What a grant permits."""
+
+    PTY = 1
+    PORT_FORWARDING = 2
+    AGENT_FORWARDING = 4
+    X11_FORWARDING = 8
+    USER_RC = 16
+    # No force-command: what the client asks for, or a shell.
+    ANY_COMMAND = 32
+    # A security key that nobody touched.
+    NO_TOUCH = 64
+    # A security key that did not verify its user.
+    NO_VERIFICATION = 128
 
 
 class Marker(IntEnum):
@@ -175,17 +213,46 @@ WORDS = {
     Status.OTHER_NAMESPACE: "another namespace",
     Status.PRINCIPALS: "a list of principals against what is said of all",
     Status.EMPTY_WINDOW: "a window without a second",
-    Status.HOST_REVOKED: "revoked by a line for the host",
+    Status.HOST_REVOKED: "revoked for the host",
     Status.HOST_UNREADABLE: "a line that may revoke it and can't be read",
     Status.HOST_CHANGED: "another key than the one known for the host",
     Status.HOST_UNKNOWN: "no key or authority is known for the host",
     Status.SIGNER_NOT_ALLOWED: "no allowed signer",
-    Status.SIGNER_REVOKED: "a signer that is revoked",
+    Status.REVOKED: "revoked",
     Status.ELSEWHERE: "from an address that is not allowed",
     Status.UNREADABLE_REVOCATIONS: "the revocation file can't be read",
     Status.KEY_NOT_ACCEPTED: "a kind or a size of key that OpenSSH does not let in",
     Status.NOT_REVOKED: "not revoked",
+    Status.NOT_NORMAL_FORM: "not in its normal form",
+    Status.OTHER_TYPE: "for hosts in place of users, or for users in place of hosts",
+    Status.OTHER_KEY: "another key",
+    Status.CRITICAL_OPTIONS: "a critical option that is not known, or not read",
+    Status.EXTENSIONS: "an extension that is not read",
+    Status.KEY_ID: "a zero byte in the key id",
+    Status.VALID_PRINCIPALS: "no principals, or some that are not read",
+    Status.OTHER_REQUEST: "signed for another request",
+    Status.OTHER_ALGORITHM: "another algorithm than the request's",
+    Status.UNTOUCHED: "a security key that nobody touched",
+    Status.UNVERIFIED: "a security key that did not verify its user",
 }
+
+
+class Span(Structure):
+    """sshkey_span"""
+
+    _fields_ = [
+        ("bytes", c_char_p),
+        ("length", c_size_t),
+    ]
+
+
+class Spans(Structure):
+    """sshkey_spans"""
+
+    _fields_ = [
+        ("items", POINTER(Span)),
+        ("count", c_size_t),
+    ]
 
 
 class Part(Structure):
@@ -210,6 +277,15 @@ class Sha512(Structure):
 
     _fields_ = [
         ("bytes", c_uint8 * 64),
+    ]
+
+
+class Digests(Structure):
+    """sshkey_digests"""
+
+    _fields_ = [
+        ("items", POINTER(Sha256)),
+        ("count", c_size_t),
     ]
 
 
@@ -271,15 +347,6 @@ class CertificateOptionParts(Structure):
     ]
 
 
-class Span(Structure):
-    """sshkey_span"""
-
-    _fields_ = [
-        ("bytes", c_char_p),
-        ("length", c_size_t),
-    ]
-
-
 class Draft(Structure):
     """sshkey_draft"""
 
@@ -296,6 +363,49 @@ class Draft(Structure):
         ("valid_before", c_uint64),
         ("certificate_type", c_uint32),
         ("all_principals", c_uint32),
+    ]
+
+
+class Login(Structure):
+    """sshkey_login"""
+
+    _fields_ = [
+        ("certificate", Span),
+        ("user", Span),
+        ("key", Span),
+        ("client", Span),
+        ("authorities", Digests),
+        ("revoked", Spans),
+        ("unix_timestamp", c_uint64),
+        ("least_rsa_bits", c_uint32),
+    ]
+
+
+class Grant(Structure):
+    """sshkey_grant"""
+
+    _fields_ = [
+        ("force_command", Part),
+        ("key_id", Part),
+        ("length", c_size_t),
+        ("serial", c_uint64),
+        ("authority", Sha256),
+        ("permits", c_uint32),
+    ]
+
+
+class Userauth(Structure):
+    """sshkey_userauth"""
+
+    _fields_ = [
+        ("session_id", Span),
+        ("user", Span),
+        ("algorithm", Span),
+        ("public_key", Span),
+        ("host_key", Span),
+        ("signature", Span),
+        ("has_host_key", c_uint32),
+        ("permits", c_uint32),
     ]
 
 
@@ -322,6 +432,19 @@ class EntryOptionParts(Structure):
     ]
 
 
+class HostLogin(Structure):
+    """sshkey_host_login"""
+
+    _fields_ = [
+        ("known_hosts", Spans),
+        ("host", Span),
+        ("revoked", Spans),
+        ("unix_timestamp", c_uint64),
+        ("least_rsa_bits", c_uint32),
+        ("port", c_uint16),
+    ]
+
+
 # what each call takes
 CALLS: dict[str, tuple[Any, ...]] = {
     "sshkey_version": (),
@@ -343,6 +466,10 @@ CALLS: dict[str, tuple[Any, ...]] = {
     "sshkey_signature_question": (
         c_char_p, c_size_t, c_char_p, c_size_t, c_char_p, c_size_t, POINTER(c_uint8), c_size_t, POINTER(Question)
     ),
+    "sshkey_login_verdict": (POINTER(Login), c_uint32, POINTER(c_uint8), c_size_t, POINTER(Grant)),
+    "sshkey_userauth_question": (POINTER(Userauth), POINTER(c_uint8), c_size_t, POINTER(Question)),
+    "sshkey_userauth_question_of": (POINTER(Userauth), c_char_p, c_size_t, POINTER(c_uint8), c_size_t, POINTER(Question)),
+    "sshkey_grant_flags": (c_uint32, c_char_p, c_size_t, c_char_p, c_size_t),
     "sshkey_sshsig_question": (
         c_char_p, c_size_t, c_char_p, c_size_t, c_char_p, c_size_t, POINTER(c_uint8), c_size_t, POINTER(Question), POINTER(Sha256)
     ),
@@ -350,23 +477,26 @@ CALLS: dict[str, tuple[Any, ...]] = {
         c_char_p, c_size_t, c_char_p, c_size_t, c_char_p, c_size_t, POINTER(c_uint8), c_size_t, POINTER(Question), POINTER(Sha256)
     ),
     "sshkey_signer_verdict": (
-        c_char_p, c_size_t, c_char_p, c_size_t, c_char_p, c_size_t, c_char_p, c_size_t, c_uint64, c_char_p, c_size_t, c_uint32
+        c_char_p, c_size_t, c_char_p, c_size_t, c_char_p, c_size_t, c_char_p, c_size_t, c_uint64, POINTER(Span), c_size_t,
+        c_uint32
     ),
     "sshkey_key_normal": (c_char_p, c_size_t, POINTER(c_uint8), c_size_t, POINTER(c_size_t)),
     "sshkey_certificate_normal": (c_char_p, c_size_t, POINTER(c_uint8), c_size_t, POINTER(c_size_t)),
     "sshkey_sshsig_normal": (c_char_p, c_size_t, POINTER(c_uint8), c_size_t, POINTER(c_size_t)),
     "sshkey_signature_normal": (c_char_p, c_size_t, POINTER(c_uint8), c_size_t, POINTER(c_size_t)),
     "sshkey_next_string": (c_char_p, c_size_t, c_size_t, POINTER(Part)),
-    "sshkey_revoked_key": (c_char_p, c_size_t, c_char_p, c_size_t),
-    "sshkey_revoked_certificate": (c_char_p, c_size_t, c_char_p, c_size_t),
+    "sshkey_revoked_key": (POINTER(Span), c_size_t, c_char_p, c_size_t),
+    "sshkey_revoked_certificate": (POINTER(Span), c_size_t, c_char_p, c_size_t),
     "sshkey_krl_revokes_key": (c_char_p, c_size_t, c_char_p, c_size_t),
     "sshkey_krl_revokes_certificate": (c_char_p, c_size_t, c_char_p, c_size_t),
     "sshkey_next_line": (c_char_p, c_size_t, c_size_t, POINTER(Part)),
     "sshkey_authorized_entry": (c_char_p, c_size_t, POINTER(c_uint8), c_size_t, POINTER(Entry)),
     "sshkey_known_host": (c_char_p, c_size_t, POINTER(c_uint8), c_size_t, POINTER(Entry)),
     "sshkey_nth_option": (c_char_p, c_size_t, c_size_t, POINTER(c_uint8), c_size_t, POINTER(EntryOptionParts)),
-    "sshkey_host_verdict": (c_char_p, c_size_t, c_char_p, c_size_t, c_uint16, c_char_p, c_size_t),
-    "sshkey_authority_verdict": (c_char_p, c_size_t, c_char_p, c_size_t, c_uint16, c_char_p, c_size_t),
+    "sshkey_host_key_verdict": (POINTER(HostLogin), c_char_p, c_size_t),
+    "sshkey_host_certificate_verdict": (POINTER(HostLogin), c_char_p, c_size_t, c_uint32),
+    "sshkey_unreadable_host_line": (c_char_p, c_size_t, c_char_p, c_size_t, c_uint16, POINTER(c_size_t)),
+    "sshkey_is_other_key_line": (c_char_p, c_size_t),
     "sshkey_source_address_allows": (c_char_p, c_size_t, c_char_p, c_size_t),
     "sshkey_from_allows": (c_char_p, c_size_t, c_char_p, c_size_t, c_char_p, c_size_t),
 }

@@ -8,7 +8,7 @@ from collections.abc import Callable, Iterable
 from ctypes.util import find_library
 from typing import Any
 
-from ._header import ABI, CALLS, Part, Sha256, Status
+from ._header import ABI, CALLS, Part, Sha256, Span, Spans, Status
 from ._values import BytesLike, Refused
 
 HERE = os.path.dirname(os.path.realpath(__file__))
@@ -62,6 +62,19 @@ def bytes_of(value: BytesLike) -> tuple[bytes, int]:
 def text_of(value: str | BytesLike) -> tuple[bytes, int]:
     """The same of a text, which may be given as its bytes."""
     return bytes_of(value.encode() if isinstance(value, str) else value)
+
+
+def span_of(value: BytesLike) -> Span:
+    """A copy of the bytes, as a struct has them."""
+    return Span(*bytes_of(value))
+
+
+def spans_of(values: Iterable[BytesLike]) -> Spans:
+    """The same of several. Raises TypeError where one is None, as a file that was not read, and for bytes in place of a list."""
+    if isinstance(values, (str, bytes, bytearray, memoryview)):
+        raise TypeError("a list of files is wanted, and not what one has")
+    spans = [span_of(it) for it in values]
+    return Spans((Span * max(len(spans), 1))(*spans), len(spans))
 
 
 def number_of(value: int, bits: int) -> int:

@@ -4,9 +4,9 @@ from __future__ import annotations
 import enum
 from collections.abc import Mapping
 from dataclasses import dataclass
-from typing import Final, Union
+from typing import Any, Final, Union
 
-from ._header import Algorithm, CertificateType, Marker, Status
+from ._header import WORDS, Algorithm, CertificateType, Marker, Status
 
 # what a call takes for bytes
 BytesLike = Union[bytes, bytearray, memoryview]
@@ -20,18 +20,18 @@ class AllPrincipals(enum.Enum):
 
 # in place of a list of principals: the certificate lists none, and so is for everybody
 ALL_PRINCIPALS: Final = AllPrincipals.ALL_PRINCIPALS
-# in place of what a revocation file has, where none is asked: a key revocation list that revokes nothing (PROTOCOL.krl)
-NO_REVOCATIONS: Final = b"SSHKRL\n\0\0\0\0\1" + bytes(32)
+# in place of what revocation files have, where none is asked: one file, a key revocation list that revokes nothing (PROTOCOL.krl)
+NO_REVOCATIONS: Final = (b"SSHKRL\n\0\0\0\0\1" + bytes(32),)
 
 
 class Refused(ValueError):
-    """The bytes are not what they have to be, or raise no question: `status` says why."""
+    """What was given is not what it has to be: `status` says what is wrong first, and the text is its words and its number."""
 
     def __init__(self, status: int) -> None:
         self.status = Status(status)
-        super().__init__(self.status.name.lower().replace("_", " "))
+        super().__init__(f"{WORDS[self.status]} ({self.status:d})")
 
-    def __reduce__(self) -> tuple[type[Refused], tuple[Status]]:
+    def __reduce__(self) -> tuple[Any, ...]:
         return type(self), (self.status,)
 
 
