@@ -70,7 +70,7 @@ MEANING = {
     Status.HOST_UNREADABLE: "a line that may revoke it and can't be read",
     Status.HOST_CHANGED: "another key than the one known for the host",
     Status.HOST_UNKNOWN: "no key or authority is known for the host", Status.SIGNER_NOT_ALLOWED: "no allowed signer",
-    Status.SIGNER_REVOKED: "a signer that is revoked", Status.ELSEWHERE: "from an address that is not allowed",
+    Status.REVOKED: "a signer that is revoked", Status.ELSEWHERE: "from an address that is not allowed",
     Status.UNREADABLE_REVOCATIONS: "the revocation file can't be read",
     Status.KEY_NOT_ACCEPTED: "a kind or a size of key that OpenSSH does not let in", Status.NOT_REVOKED: "not revoked",
     Refusal.NOT_FOR_USERS: "not for users", Refusal.NOBODY_LISTED: "no principals",

@@ -428,7 +428,7 @@ static const struct {
     {SSHKEY_HOST_CHANGED, "another key than the one known for the host"},
     {SSHKEY_HOST_UNKNOWN, "no key or authority is known for the host"},
     {SSHKEY_SIGNER_NOT_ALLOWED, "no allowed signer"},
-    {SSHKEY_SIGNER_REVOKED, "a signer that is revoked"},
+    {SSHKEY_REVOKED, "a signer that is revoked"},
     {SSHKEY_ELSEWHERE, "from an address that is not allowed"},
     {SSHKEY_UNREADABLE_REVOCATIONS, "the revocation file can't be read"},
     {SSHKEY_KEY_NOT_ACCEPTED, "a kind or a size of key that OpenSSH does not let in"},

@@ -104,7 +104,7 @@ def signer_verdict(
     list or keys, or NO_REVOCATIONS. `is_verified` is your answer to the question of this signature, in the namespace and of the message
     (sshsig_question, sshsig_question_of_digest).
 
-    Else SIGNER_NOT_ALLOWED, UNREADABLE_REVOCATIONS, SIGNER_REVOKED or NOT_SIGNED, the first that holds. Ask with False first: only
+    Else SIGNER_NOT_ALLOWED, UNREADABLE_REVOCATIONS, REVOKED or NOT_SIGNED, the first that holds. Ask with False first: only
     where that is NOT_SIGNED there is something to verify (`judge_signer_of_digest` of examples/check.py does both). Raises Refused
     where the bytes are no signature, or a text is not UTF-8, and MemoryError."""
     texts = (*bytes_of(signers), *text_of(identity), *text_of(namespace), *bytes_of(signature))

@@ -48,7 +48,7 @@ class Status(enum.IntEnum):
     HOST_CHANGED = 52
     HOST_UNKNOWN = 53
     SIGNER_NOT_ALLOWED = 55
-    SIGNER_REVOKED = 56
+    REVOKED = 56
     ELSEWHERE = 57
     UNREADABLE_REVOCATIONS = 58
     KEY_NOT_ACCEPTED = 59  # never returned yet

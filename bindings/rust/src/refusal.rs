@@ -92,7 +92,7 @@ const MEANINGS: &[(Status, &str)] = &[
     (Status::HOST_CHANGED, "another key than the one known for the host"),
     (Status::HOST_UNKNOWN, "no key or authority is known for the host"),
     (Status::SIGNER_NOT_ALLOWED, "no allowed signer"),
-    (Status::SIGNER_REVOKED, "a signer that is revoked"),
+    (Status::REVOKED, "a signer that is revoked"),
     (Status::ELSEWHERE, "from an address that is not allowed"),
     (Status::UNREADABLE_REVOCATIONS, "the revocation file can't be read"),
     (Status::KEY_NOT_ACCEPTED, "a kind or a size of key that OpenSSH does not let in"),

@@ -116,7 +116,7 @@ statuses! {
     /// No line lets the signature's key sign for the identity, in the namespace and at the time.
     SIGNER_NOT_ALLOWED = 55;
     /// The signature's key is revoked.
-    SIGNER_REVOKED = 56;
+    REVOKED = 56;
     /// The client's address is none of those that are allowed.
     ELSEWHERE = 57;
     /// The revocation file cannot be read, and so revokes everything.
