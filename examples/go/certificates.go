@@ -26,7 +26,8 @@ func fingerprints(path string) ([]sshkey.SHA256, error) {
 		return nil, fmt.Errorf("%s: %w", path, err)
 	}
 	for _, line := range otherLines {
-		fmt.Fprintf(os.Stderr, "check: %s: line %d: a later kind of key, which is passed over\n", path, line)
+		why := "a later kind of key, which is passed over"
+		fmt.Fprintf(os.Stderr, "check: %s: line %d: %s\n", path, line, why)
 	}
 	return keys, nil
 }

@@ -48,8 +48,8 @@ func fingerprintOf(line string) (SHA256, error) {
 
 // IsOtherKeyLine tells whether a line of a text of authorities is that of a key of a kind that is
 // not read here, as ssh-mldsa44-ed25519 of OpenSSH 10.6: an authority that signs nothing that is
-// read. It is false for the line of a key that is, and for what is no key. It fails with ErrText for
-// a line that is not UTF-8.
+// read. It is false for the line of a key that is, and for what is no key. It fails with ErrText
+// for a line that is not UTF-8.
 func IsOtherKeyLine(line string) (bool, error) {
 	in := inputOf(line)
 	status := C.sshkey_is_other_key_line(in.pointer(), in.length())

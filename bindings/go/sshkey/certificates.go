@@ -64,10 +64,24 @@ func verified(in input, authorities digests, verify Verifier) (C.uint32_t, error
 	if err := judgeAuthority(in, authorities); err != nil {
 		return 0, err
 	}
-	return verify.answers(questionOf(in))
+	return verify.answer(questionOf(in))
 }
 
-// judgeAuthority gives nil where one of the authorities signed the certificate, or says that it did.
+// answer is 1 exactly if there is a question to which the verifier says yes. It fails with
+// ErrMemory, where nothing is known of that.
+func (verify Verifier) answer(asked Question, err error) (C.uint32_t, error) {
+	switch err := verify.check(asked, err); err {
+	case nil:
+		return 1, nil
+	case ErrMemory:
+		return 0, err
+	default:
+		return 0, nil
+	}
+}
+
+// judgeAuthority gives nil where one of the authorities signed the certificate, or says that it
+// did.
 func judgeAuthority(in input, authorities digests) error {
 	var parts C.sshkey_parts
 	if err := errorOf(C.sshkey_certificate_parts(in.pointer(), in.length(), &parts)); err != nil {

@@ -27,8 +27,8 @@ type HostLogin struct {
 }
 
 // CheckHostKey gives nil exactly if the key, given as its blob, is trusted as that of the host, as
-// ssh does or more strictly (docs/FORMATS.md); else a Status that says what is wrong first. It fails
-// with ErrText where a text or the host is not UTF-8, and with ErrMemory.
+// ssh does or more strictly (docs/FORMATS.md); else a Status that says what is wrong first. It
+// fails with ErrText where a text or the host is not UTF-8, and with ErrMemory.
 //
 // Whether the host holds the key is not looked at.
 func CheckHostKey(login HostLogin, key []byte) error {

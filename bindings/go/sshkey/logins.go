@@ -126,37 +126,17 @@ func grantOf(asked *C.sshkey_login, isVerified C.uint32_t) (Grant, error) {
 	return grant, nil
 }
 
-// decided is a verdict about a certificate, once the verifier has answered its question. It is asked
-// none where the verdict is another one already.
+// decided is a verdict about a certificate, once the verifier has answered its question. It is
+// asked none where the verdict is another one already.
 func decided(
 	verify Verifier, certificate input, verdict func(isVerified C.uint32_t) error,
 ) error {
 	if err := verdict(0); err != ErrNotSigned {
 		return err
 	}
-	isVerified, err := verify.answers(questionOf(certificate))
+	isVerified, err := verify.answer(questionOf(certificate))
 	if err != nil {
 		return err
 	}
 	return verdict(isVerified)
-}
-
-// answers is 1 exactly if there is a question to which the verifier says yes. It fails with
-// ErrMemory, where nothing is known of that.
-func (verify Verifier) answers(asked Question, err error) (C.uint32_t, error) {
-	if err == ErrMemory {
-		return 0, err
-	}
-	if err == nil && verify.says(asked) {
-		return 1, nil
-	}
-	return 0, nil
-}
-
-// says is what the verifier says.
-func (verify Verifier) says(asked Question) bool {
-	if verify == nil {
-		verify = IsSignature
-	}
-	return verify(asked)
 }

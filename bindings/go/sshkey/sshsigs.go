@@ -11,9 +11,9 @@ import (
 
 // SSHSigQuestion gives what has to be verified of an SSH signature (what stands in the armour,
 // Base64 decoded) of the message in that namespace, and the fingerprint of the key that signed:
-// whether that key may sign is the caller's to judge, as ValidateSSHSig does. It fails with a Status
-// for bytes that are none, with ErrOtherNamespace, with ErrUnsupported where key and signature do
-// not go together, and with ErrMemory.
+// whether that key may sign is the caller's to judge, as ValidateSSHSig does. It fails with a
+// Status for bytes that are none, with ErrOtherNamespace, with ErrUnsupported where key and
+// signature do not go together, and with ErrMemory.
 func SSHSigQuestion(signature []byte, namespace string, message []byte) (Question, SHA256, error) {
 	var signer SHA256
 	in, space, of := inputOf(signature), inputOf(namespace), inputOf(message)
@@ -80,10 +80,10 @@ func judgeSSHSig(
 	if err != nil {
 		return err
 	}
-	if len(reserved) > 0 || !verify.says(asked) {
+	if len(reserved) > 0 {
 		return ErrNotSigned
 	}
-	return nil
+	return verify.check(asked, nil)
 }
 
 func isOneOf(signer SHA256, keys []SHA256) bool {

@@ -22,8 +22,8 @@ const (
 	ErrText Status = C.SSHKEY_TEXT
 )
 
-// The bytes are no certificate, key, signature or revocation list, or the line is none: a fault that
-// they have. For logs: lines with one fault may fail with different ones.
+// The bytes are no certificate, key, signature or revocation list, or the line is none: a fault
+// that they have. For logs: lines with one fault may fail with different ones.
 const (
 	// ErrBase64 is for a word of a line that is no Base64, or not the one of its bytes.
 	ErrBase64 Status = C.SSHKEY_BASE64
@@ -106,15 +106,15 @@ const (
 	ErrExtensions Status = C.SSHKEY_EXTENSIONS
 	// ErrKeyID is for one with a zero byte in its key id.
 	ErrKeyID Status = C.SSHKEY_KEY_ID
-	// ErrValidPrincipals is for one that lists no principal, more than 256 or one with a zero byte, and
-	// for a user without a name.
+	// ErrValidPrincipals is for one that lists no principal, more than 256 or one with a zero byte,
+	// and for a user without a name.
 	ErrValidPrincipals Status = C.SSHKEY_VALID_PRINCIPALS
 )
 
 // A client's signature does not count: the first of these.
 const (
-	// ErrOtherRequest is for signed bytes that are not those of the request, or are for another service
-	// than ssh-connection.
+	// ErrOtherRequest is for signed bytes that are not those of the request, or are for another
+	// service than ssh-connection.
 	ErrOtherRequest Status = C.SSHKEY_OTHER_REQUEST
 	// ErrOtherAlgorithm is for a request that names another algorithm than the signature's.
 	ErrOtherAlgorithm Status = C.SSHKEY_OTHER_ALGORITHM

@@ -31,14 +31,7 @@ type Userauth struct {
 // security key was touched and verified its user where the grant wants it; else a Status that says
 // what is wrong first: as UserauthQuestion does, and last ErrNotSigned.
 func CheckUserauth(request Userauth) error {
-	asked, err := UserauthQuestion(request)
-	if err != nil {
-		return err
-	}
-	if !request.Verify.says(asked) {
-		return ErrNotSigned
-	}
-	return nil
+	return request.Verify.check(UserauthQuestion(request))
 }
 
 // UserauthQuestion gives what has to be verified of the signature. It fails with a Status for bytes

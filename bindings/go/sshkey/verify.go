@@ -25,12 +25,12 @@ var curves = map[Algorithm]struct {
 	P521: {elliptic.P521(), crypto.SHA512},
 }
 
-// IsSignature says whether the question's signature is one, by Go's standard library: the Verifier of
-// who names none. It says no to what
-// is too weak to count: DSA, and RSA keys of fewer than 2,048 bits; to a number of a key that is
-// zero or negative, and to a point that does not begin with 04, which OpenSSH does not read; and to
-// what crypto/rsa does not take: an exponent above 2^31 - 1, which no tool makes, and a signature
-// shorter than the modulus, which OpenSSH reads as if zeros stood before it.
+// IsSignature says whether the question's signature is one, by Go's standard library: the Verifier
+// of who names none. It says no to what is too weak to count: DSA, and RSA keys of fewer than 2,048
+// bits; to a number of a key that is zero or negative, and to a point that does not begin with 04,
+// which OpenSSH does not read; and to what crypto/rsa does not take: an exponent above 2^31 - 1,
+// which no tool makes, and a signature shorter than the modulus, which OpenSSH reads as if zeros
+// stood before it.
 func IsSignature(question Question) bool {
 	parts, err := Strings(question.Key)
 	if err != nil {
@@ -101,4 +101,19 @@ func isRSA(exponent, modulus []byte, hash crypto.Hash, question Question) bool {
 	key := rsa.PublicKey{N: n, E: int(e.Int64())}
 	digest := digestOf(hash, question.Message)
 	return rsa.VerifyPKCS1v15(&key, hash, digest, question.Signature) == nil
+}
+
+// check fails with why there is no question, or else with ErrNotSigned where the verifier does not
+// say yes.
+func (verify Verifier) check(asked Question, err error) error {
+	if err != nil {
+		return err
+	}
+	if verify == nil {
+		verify = IsSignature
+	}
+	if !verify(asked) {
+		return ErrNotSigned
+	}
+	return nil
 }
