@@ -67,6 +67,7 @@ uint32_t sshkey_abi(void);
 
 /* ---- what calls return ----------------------------------------------------------------------- */
 
+/* What a call returns. */
 enum {
   SSHKEY_DONE = 0,   /* done; of a validation: it is valid; of a revocation file: it revokes; of a
                         signer: the signature counts */
@@ -194,8 +195,8 @@ static inline const char *sshkey_answer_name(uint32_t answer) {
 
 /* A part of a room, or of other bytes: where it begins, and how many bytes it has. */
 typedef struct {
-  size_t start;
-  size_t length;
+  size_t start;  /* the place of its first byte */
+  size_t length; /* the number of its bytes */
 } sshkey_part;
 
 /* A SHA-256 digest. */
@@ -261,11 +262,11 @@ enum {
  * to judge, of the client's signature and only where the key that was given has a name sk-..: in
  * the message of another key that byte is the client's data. */
 typedef struct {
-  sshkey_part key;
-  sshkey_part message;
-  sshkey_part signature;
-  size_t length;      /* how many bytes of the room these take */
-  uint32_t algorithm; /* SSHKEY_ASK_* */
+  sshkey_part key;       /* its blob */
+  sshkey_part message;   /* what is signed */
+  sshkey_part signature; /* as the algorithm has it */
+  size_t length;         /* how many bytes of the room these take */
+  uint32_t algorithm;    /* SSHKEY_ASK_* */
 } sshkey_question;
 
 /* What stands in a line of a key file or of a certificate file: a blob, as the calls below take it,
@@ -277,6 +278,7 @@ typedef struct {
   uint32_t kind; /* SSHKEY_LINE_* */
 } sshkey_line;
 
+/* What the blob of a line is. */
 enum { SSHKEY_LINE_KEY = 1, SSHKEY_LINE_CERTIFICATE = 2 };
 
 /* ---- lines ----------------------------------------------------------------------------------- */

@@ -11,16 +11,14 @@ use crate::raw;
 use crate::status::Status;
 use crate::strings::{strings, Strings};
 
-/// The end of a window that has none.
-pub const FOREVER: u64 = u64::MAX;
-
 /// Whom a certificate is for.
 #[derive(Clone, Copy, Debug, PartialEq, Eq, Hash)]
+#[repr(u32)]
 pub enum CertificateType {
     /// For users.
-    User = 1,
+    User = raw::USER,
     /// For hosts.
-    Host = 2,
+    Host = raw::HOST,
 }
 
 impl TryFrom<u32> for CertificateType {
@@ -29,8 +27,8 @@ impl TryFrom<u32> for CertificateType {
     /// The type of that number. Fails with [`Status::FORMAT`] where it is none.
     fn try_from(number: u32) -> Result<CertificateType, Status> {
         match number {
-            1 => Ok(CertificateType::User),
-            2 => Ok(CertificateType::Host),
+            raw::USER => Ok(CertificateType::User),
+            raw::HOST => Ok(CertificateType::Host),
             _ => Err(Status::FORMAT),
         }
     }
@@ -128,7 +126,7 @@ pub struct CertificateFields {
     pub serial: u64,
     /// The first second of its window.
     pub valid_after: u64,
-    /// The first second after its window, or [`FOREVER`].
+    /// The first second after its window, or [`raw::FOREVER`].
     pub valid_before: u64,
     /// Whom it is for.
     pub certificate_type: CertificateType,

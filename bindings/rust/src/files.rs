@@ -71,13 +71,14 @@ pub fn authorized_entry(line: &[u8]) -> Result<AuthorizedEntry, Status> {
 
 /// What stands before an entry of known_hosts.
 #[derive(Clone, Copy, Debug, PartialEq, Eq, Hash)]
+#[repr(u32)]
 pub enum Marker {
     /// Nothing.
-    None = 0,
+    None = raw::MARKER_NONE,
     /// `@cert-authority`
-    CertAuthority = 1,
+    CertAuthority = raw::MARKER_CERT_AUTHORITY,
     /// `@revoked`
-    Revoked = 2,
+    Revoked = raw::MARKER_REVOKED,
 }
 
 /// An entry of known_hosts.

@@ -5,9 +5,6 @@ use crate::raw;
 use crate::rooms::{ask, written};
 use crate::status::Status;
 
-/// `SSHKEY_LINE_CERTIFICATE`; that of a key is 1.
-const CERTIFICATE: u32 = 2;
-
 /// What stands in a line of a file of public keys or of certificates.
 #[derive(Clone, Debug, PartialEq, Eq)]
 pub struct Line {
@@ -29,7 +26,7 @@ pub fn read_line(line: impl AsRef<[u8]>) -> Result<Line, Status> {
     Ok(Line {
         blob: found.blob.of(&room).to_vec(),
         comment: comment.map_err(|_| Status::CHARACTER_ENCODING)?,
-        is_certificate: found.kind == CERTIFICATE,
+        is_certificate: found.kind == raw::LINE_CERTIFICATE,
     })
 }
 

@@ -37,6 +37,7 @@
 #![deny(missing_docs)]
 
 mod addresses;
+mod calling;
 mod certificates;
 mod digests;
 mod drafts;
@@ -59,7 +60,7 @@ pub use certificates::{
     certificate_contents, certificate_fields, certificate_key, certificate_options,
     certificate_question, judge_certificate, validate_certificate, CertificateContents,
     CertificateFields, CertificateOption, CertificateOptions, CertificateType, Principal,
-    Principals, FOREVER,
+    Principals,
 };
 pub use digests::{fingerprint, fingerprint_sha512, Sha256, Sha512};
 pub use drafts::{certificate_to_be_signed, join_certificate, make_certificate, Draft, Listed};
@@ -74,6 +75,7 @@ pub use keys::{
 };
 pub use logins::{validate_user, Login};
 pub use questions::{Algorithm, Question};
+pub use raw::FOREVER;
 pub use refusal::Refusal;
 pub use revocations::{
     krl_revokes_certificate, krl_revokes_key, revoked_certificate, revoked_key, Revocations,

@@ -10,22 +10,23 @@ use crate::status::Status;
 /// of fewer than 2,048 bits) have to be refused.
 #[derive(Clone, Copy, Debug, PartialEq, Eq, Hash)]
 #[non_exhaustive]
+#[repr(u32)]
 pub enum Algorithm {
     /// With SHA-1. Behind the name p, q, g, y; signature: r and s, unsigned, 20 bytes each.
-    Dsa = 1,
+    Dsa = raw::ASK_DSA,
     /// ECDSA with SHA-256. Behind the name the curve's name, and the point as in SEC 1; signature:
     /// two strings, r and s.
-    P256 = 2,
+    P256 = raw::ASK_P256,
     /// The same with SHA-384.
-    P384 = 3,
+    P384 = raw::ASK_P384,
     /// The same with SHA-512.
-    P521 = 4,
+    P521 = raw::ASK_P521,
     /// Behind the name the key, 32 bytes; signature: 64 bytes.
-    Ed25519 = 5,
+    Ed25519 = raw::ASK_ED25519,
     /// PKCS#1 v1.5 with SHA-256. Behind the name e and n; signature: an unsigned number.
-    RsaSha256 = 6,
+    RsaSha256 = raw::ASK_RSA_SHA256,
     /// The same with SHA-512.
-    RsaSha512 = 7,
+    RsaSha512 = raw::ASK_RSA_SHA512,
 }
 
 impl Algorithm {

@@ -44,7 +44,7 @@ impl Refusal {
 
     fn parts(self) -> (u32, &'static str) {
         match self {
-            Refusal::Invalid(status) => (status.number(), meaning(status)),
+            Refusal::Invalid(status) => (status.number(), status.meaning()),
             Refusal::NotForUsers => (100, "not for users"),
             Refusal::NobodyListed => (101, "no principals"),
             Refusal::UnmetOption => (102, "a critical option that is not known or not met"),
@@ -55,54 +55,6 @@ impl Refusal {
             Refusal::Revoked => (107, "revoked"),
         }
     }
-}
-
-/// The words for each number of sshkey.h.
-const MEANINGS: &[(Status, &str)] = &[
-    (Status::MEMORY, "no memory"),
-    (Status::ROOM, "the room is too short"),
-    (Status::END, "nothing is left"),
-    (Status::TEXT, "a name or a text that is given is not UTF-8"),
-    (Status::BASE64, "not Base64"),
-    (Status::CHARACTER_ENCODING, "a text that is not UTF-8"),
-    (Status::LABEL, "a name that may not stand there"),
-    (Status::LENGTH, "a length that passes the bytes"),
-    (Status::TRAILING_DATA, "bytes after the end"),
-    (Status::FORMAT, "a value that has not the form of its kind"),
-    (Status::ALGORITHM_UNKNOWN, "two names that have to be one"),
-    (Status::CRYPTO, "a number that is not positive"),
-    (Status::ECDSA, "no encoding of a point"),
-    (Status::TIME, "a time above 2^63 - 1"),
-    (Status::NAMESPACE, "an empty namespace"),
-    (Status::PUBLIC_KEY, "a public key that is not the private one's"),
-    (Status::UNSUPPORTED_VERSION, "a version that is not read"),
-    (Status::OTHER_FAULT, "another fault"),
-    (Status::RSA_SHA1, "signed by RSA with SHA-1"),
-    (Status::NOT_SIGNED, "not signed"),
-    (Status::UNTRUSTED_AUTHORITY, "another authority"),
-    (Status::INVALID_TIME, "no time that a certificate has"),
-    (Status::OUT_OF_WINDOW, "not valid at that time"),
-    (Status::UNLISTED_PRINCIPAL, "another principal"),
-    (Status::UNSUPPORTED, "key and signature do not go together"),
-    (Status::OTHER_NAMESPACE, "another namespace"),
-    (Status::PRINCIPALS, "a list of principals against what is said of all"),
-    (Status::EMPTY_WINDOW, "a window without a second"),
-    (Status::HOST_REVOKED, "revoked by a line for the host"),
-    (Status::HOST_UNREADABLE, "a line that may revoke it and can't be read"),
-    (Status::HOST_CHANGED, "another key than the one known for the host"),
-    (Status::HOST_UNKNOWN, "no key or authority is known for the host"),
-    (Status::SIGNER_NOT_ALLOWED, "no allowed signer"),
-    (Status::REVOKED, "a signer that is revoked"),
-    (Status::ELSEWHERE, "from an address that is not allowed"),
-    (Status::UNREADABLE_REVOCATIONS, "the revocation file can't be read"),
-    (Status::KEY_NOT_ACCEPTED, "a kind or a size of key that OpenSSH does not let in"),
-    (Status::NOT_REVOKED, "not revoked"),
-];
-
-/// What a status means, in words.
-fn meaning(status: Status) -> &'static str {
-    let found = MEANINGS.iter().find(|(known, _)| *known == status);
-    found.map_or("an answer without words", |(_, words)| words)
 }
 
 impl From<Status> for Refusal {
