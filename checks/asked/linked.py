@@ -28,6 +28,11 @@ def word(data):
     return data.hex() or "-"
 
 
+def several(many):
+    """Several byte strings, likewise: with commas between, or none of them."""
+    return ",".join(map(word, many)) or "none"
+
+
 def turned(data):
     """The bytes with the lowest bit of each turned."""
     return [data[:at] + bytes([data[at] ^ 1]) + data[at + 1 :] for at in range(len(data))]
