@@ -4,7 +4,6 @@ import re
 
 from lib.harness import ROOT
 
-from .answers import WITHOUT_WORDS
 from .linked import BINDINGS, EXAMPLES, declared, enumerations, run
 
 # numbers that a binding has no name for: done, what it asks for itself, and what is never returned
@@ -86,12 +85,6 @@ class Go:
         made = self.run(at, "build", "-o", path, ".", library=library)
         count.check(f"Go: {name} is built", made.returncode == 0, made.stderr[-3000:])
         return path
-
-    def check_meanings(self, count, wanted):
-        """The words for each number are those of C."""
-        said = run([self.maker.path("Go asker")], input="meanings\n").stdout.rstrip("\n").split(",")
-        found = {it: words for it, words in enumerate(said) if words != WITHOUT_WORDS}
-        count.check("Go: each number has the words of C", len(said) == 200 and found == wanted, found.items() ^ wanted.items())
 
     def page(self, code):
         """The sources of a program of these lines."""

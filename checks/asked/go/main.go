@@ -147,9 +147,7 @@ var answers = map[string]func(of []string) ([]string, error){
 }
 
 // said are whole answers, without a 0.
-var said = map[string]func(of []string) string{
-	"validate": validate, "addresses": addresses, "meanings": meanings,
-}
+var said = map[string]func(of []string) string{"validate": validate, "addresses": addresses}
 
 func main() {
 	input, output := bufio.NewReader(os.Stdin), bufio.NewWriter(os.Stdout)
@@ -367,16 +365,6 @@ func addresses(of []string) string {
 	address, _ := netip.AddrFromSlice(data(of[1]))
 	return numberOf(sshkey.SourceAddressAllows(list, address)) + " " +
 		numberOf(sshkey.FromAllows(list, host, address))
-}
-
-// meanings are the words for each number.
-func meanings([]string) string {
-	found := []string{"valid"}
-	for number := uint32(1); number < 200; number++ {
-		front, _, _ := strings.Cut(sshkey.Status(number).Error(), fmt.Sprintf(" (%d)", number))
-		found = append(found, front)
-	}
-	return strings.Join(found, ",")
 }
 
 func revoked(yes bool, err error) ([]string, error) {
