@@ -122,24 +122,43 @@ enum {
   SSHKEY_EMPTY_WINDOW = 46,  /* its window has no second */
 
   /* 50 to 53: a host's key is not trusted; the first of these that holds */
-  SSHKEY_HOST_REVOKED = 50,    /* a line for the host revokes the key */
+  SSHKEY_HOST_REVOKED = 50,    /* a line for the host, or a revocation file, revokes it */
   SSHKEY_HOST_UNREADABLE = 51, /* a line is no entry, and may be one for the host */
   SSHKEY_HOST_CHANGED = 52,    /* a line for the host has another key, and none has this one */
   SSHKEY_HOST_UNKNOWN = 53,    /* no line without a marker is for the host */
 
   /* 55, 58, 56, and then 30: a signature does not count; the first of these that holds */
   SSHKEY_SIGNER_NOT_ALLOWED = 55, /* no line lets its key sign for the identity, there and then */
-  SSHKEY_SIGNER_REVOKED = 56,     /* its key is revoked */
+  SSHKEY_REVOKED = 56, /* a revocation file revokes the signer's key, or the certificate */
 
   SSHKEY_ELSEWHERE = 57, /* the client's address is none of those that are allowed */
 
-  /* of a revocation file */
-  SSHKEY_UNREADABLE_REVOCATIONS = 58, /* it can't be read, and so revokes everything */
+  /* of revocation files */
+  SSHKEY_UNREADABLE_REVOCATIONS = 58, /* one can't be read, or there is none: so everything is
+                                         revoked */
 
-  SSHKEY_KEY_NOT_ACCEPTED = 59, /* a kind or a size of key that OpenSSH does not let in; no
-                                   call answers it yet */
+  SSHKEY_KEY_NOT_ACCEPTED = 59, /* a kind or a size of key that OpenSSH does not let in */
 
-  SSHKEY_NOT_REVOKED = 60 /* a revocation file does not revoke the key or the certificate */
+  SSHKEY_NOT_REVOKED = 60, /* no revocation file revokes the key or the certificate */
+
+  /* 70 to 76, with 59 after 72: a certificate that lets nobody in, whoever signed it; the first of
+   * these */
+  SSHKEY_NOT_NORMAL_FORM = 70,  /* its bytes are not its normal form: not those that were signed */
+  SSHKEY_OTHER_TYPE = 71,       /* a user shows one for hosts, or a host one for users */
+  SSHKEY_OTHER_KEY = 72,        /* it certifies another key than the client's */
+  SSHKEY_CRITICAL_OPTIONS = 73, /* a critical option that is not known, or whose value sshd does
+                                   not read */
+  SSHKEY_EXTENSIONS = 74,       /* data in an extension that is a flag, or a zero byte in a name */
+  SSHKEY_KEY_ID = 75,           /* a zero byte in the key id */
+  SSHKEY_VALID_PRINCIPALS = 76, /* it lists no principal, more than 256 or one with a zero byte;
+                                   or the user's name is empty */
+
+  /* 80 to 83: a client's signature that does not count; the first of these */
+  SSHKEY_OTHER_REQUEST = 80,   /* the signed bytes are not those of this request, or its service is
+                                  not ssh-connection */
+  SSHKEY_OTHER_ALGORITHM = 81, /* the algorithm that the request names is not the signature's */
+  SSHKEY_UNTOUCHED = 82,       /* nobody touched the security key, and the grant wants it */
+  SSHKEY_UNVERIFIED = 83       /* the security key did not verify its user, and the grant wants it */
 };
 
 /* The name of an answer as it stands above, without SSHKEY_; for logs. */
@@ -159,9 +178,14 @@ static inline const char *sshkey_answer_name(uint32_t answer) {
     SSHKEY_NAMED(PRINCIPALS); SSHKEY_NAMED(EMPTY_WINDOW);
     SSHKEY_NAMED(HOST_REVOKED); SSHKEY_NAMED(HOST_UNREADABLE);
     SSHKEY_NAMED(HOST_CHANGED); SSHKEY_NAMED(HOST_UNKNOWN);
-    SSHKEY_NAMED(SIGNER_NOT_ALLOWED); SSHKEY_NAMED(SIGNER_REVOKED); SSHKEY_NAMED(ELSEWHERE);
+    SSHKEY_NAMED(SIGNER_NOT_ALLOWED); SSHKEY_NAMED(REVOKED); SSHKEY_NAMED(ELSEWHERE);
     SSHKEY_NAMED(UNREADABLE_REVOCATIONS); SSHKEY_NAMED(KEY_NOT_ACCEPTED);
     SSHKEY_NAMED(NOT_REVOKED);
+    SSHKEY_NAMED(NOT_NORMAL_FORM); SSHKEY_NAMED(OTHER_TYPE); SSHKEY_NAMED(OTHER_KEY);
+    SSHKEY_NAMED(CRITICAL_OPTIONS); SSHKEY_NAMED(EXTENSIONS); SSHKEY_NAMED(KEY_ID);
+    SSHKEY_NAMED(VALID_PRINCIPALS);
+    SSHKEY_NAMED(OTHER_REQUEST); SSHKEY_NAMED(OTHER_ALGORITHM); SSHKEY_NAMED(UNTOUCHED);
+    SSHKEY_NAMED(UNVERIFIED);
     default: return "no answer";
   }
 #undef SSHKEY_NAMED
@@ -184,6 +208,28 @@ typedef struct {
 typedef struct {
   uint8_t bytes[64];
 } sshkey_sha512;
+
+/* ---- what is read ---------------------------------------------------------------------------- */
+
+/* Bytes that a call reads; no null pointer, also where the length is 0 (sshkey_bytes). */
+typedef struct {
+  const uint8_t *bytes;
+  size_t length;
+} sshkey_span;
+
+/* `count` byte strings that a call reads; no null pointer, also where the count is 0. */
+typedef struct {
+  const sshkey_span *items;
+  size_t count;
+} sshkey_spans;
+
+/* `count` fingerprints of keys; no null pointer, also where the count is 0. */
+typedef struct {
+  const sshkey_sha256 *items;
+  size_t count;
+} sshkey_digests;
+
+/* ---- questions ------------------------------------------------------------------------------- */
 
 /* How a signature is made. A key's blob (RFC 4253, section 6.6) is strings, one after the other:
  * four bytes of length, big-endian, and the bytes. The first is the name of the key's type. So
@@ -345,12 +391,6 @@ uint32_t sshkey_certificate_key(const uint8_t *certificate, size_t certificate_l
 
 /* ---- how a certificate is made --------------------------------------------------------------- */
 
-/* Bytes that a call reads; no null pointer, also where the length is 0 (sshkey_bytes). */
-typedef struct {
-  const uint8_t *bytes;
-  size_t length;
-} sshkey_span;
-
 /* What a certificate is to say. */
 typedef struct {
   sshkey_span key;              /* the blob of the key that is certified */
@@ -424,6 +464,45 @@ uint32_t sshkey_signature_question(const uint8_t *key, size_t key_length, const 
                                    size_t message_length, const uint8_t *signature,
                                    size_t signature_length, uint8_t *room, size_t room_length,
                                    sshkey_question *answer);
+
+/* ---- who is let in (sshd(8)) ------------------------------------------------------------------ */
+
+/* A login by a certificate, and whom the server trusts. */
+typedef struct {
+  sshkey_span certificate;    /* its blob, as the client sent it */
+  sshkey_span user;           /* UTF-8 */
+  sshkey_span key;            /* the blob of the key under which the client has signed */
+  sshkey_span client;         /* the address of its socket, of 4 or 16 bytes; with any other number
+                                 of bytes it has none: then source-address lets nobody in */
+  sshkey_digests authorities; /* of the keys that may sign logins */
+  sshkey_spans revoked;       /* revocation files, each a list or keys as text: any of them revokes.
+                                 Who asks none says so: SSHKEY_NO_REVOCATIONS */
+  uint64_t unix_timestamp;
+  uint32_t least_rsa_bits;    /* as RequiredRSASize; below 1,024, as 0, it is 1,024 */
+} sshkey_login;
+
+/* What a grant permits. Zero permits nothing. */
+enum {
+  SSHKEY_PERMIT_PTY = 1,
+  SSHKEY_PERMIT_PORT_FORWARDING = 2,
+  SSHKEY_PERMIT_AGENT_FORWARDING = 4,
+  SSHKEY_PERMIT_X11_FORWARDING = 8,
+  SSHKEY_PERMIT_USER_RC = 16,
+  SSHKEY_PERMIT_ANY_COMMAND = 32,     /* no force-command: what the client asks for, or a shell */
+  SSHKEY_PERMIT_NO_TOUCH = 64,        /* a security key that nobody touched */
+  SSHKEY_PERMIT_NO_VERIFICATION = 128 /* a security key that did not verify its user */
+};
+
+/* What a login may do, and by which certificate. */
+typedef struct {
+  sshkey_part force_command; /* the one command that may run; of no bytes with
+                                SSHKEY_PERMIT_ANY_COMMAND */
+  sshkey_part key_id;        /* a text, for logs */
+  size_t length;             /* how many bytes of the room these take */
+  uint64_t serial;           /* the certificate's */
+  sshkey_sha256 authority;   /* of the key that signed it */
+  uint32_t permits;          /* SSHKEY_PERMIT_* */
+} sshkey_grant;
 
 /* ---- SSH signatures (PROTOCOL.sshsig) -------------------------------------------------------- */
 
@@ -712,6 +791,28 @@ SSHKEY_IS(sizeof(sshkey_certificate_option_parts) == 40);
 SSHKEY_IS(offsetof(sshkey_span, bytes) == 0);
 SSHKEY_IS(offsetof(sshkey_span, length) == 8);
 SSHKEY_IS(sizeof(sshkey_span) == 16);
+SSHKEY_IS(offsetof(sshkey_spans, items) == 0);
+SSHKEY_IS(offsetof(sshkey_spans, count) == 8);
+SSHKEY_IS(sizeof(sshkey_spans) == 16);
+SSHKEY_IS(offsetof(sshkey_digests, items) == 0);
+SSHKEY_IS(offsetof(sshkey_digests, count) == 8);
+SSHKEY_IS(sizeof(sshkey_digests) == 16);
+SSHKEY_IS(offsetof(sshkey_login, certificate) == 0);
+SSHKEY_IS(offsetof(sshkey_login, user) == 16);
+SSHKEY_IS(offsetof(sshkey_login, key) == 32);
+SSHKEY_IS(offsetof(sshkey_login, client) == 48);
+SSHKEY_IS(offsetof(sshkey_login, authorities) == 64);
+SSHKEY_IS(offsetof(sshkey_login, revoked) == 80);
+SSHKEY_IS(offsetof(sshkey_login, unix_timestamp) == 96);
+SSHKEY_IS(offsetof(sshkey_login, least_rsa_bits) == 104);
+SSHKEY_IS(sizeof(sshkey_login) == 112);
+SSHKEY_IS(offsetof(sshkey_grant, force_command) == 0);
+SSHKEY_IS(offsetof(sshkey_grant, key_id) == 16);
+SSHKEY_IS(offsetof(sshkey_grant, length) == 32);
+SSHKEY_IS(offsetof(sshkey_grant, serial) == 40);
+SSHKEY_IS(offsetof(sshkey_grant, authority) == 48);
+SSHKEY_IS(offsetof(sshkey_grant, permits) == 80);
+SSHKEY_IS(sizeof(sshkey_grant) == 88);
 SSHKEY_IS(offsetof(sshkey_draft, key) == 0);
 SSHKEY_IS(offsetof(sshkey_draft, nonce) == 16);
 SSHKEY_IS(offsetof(sshkey_draft, key_id) == 32);

@@ -74,7 +74,7 @@ def of_signature(maker, key):
     for revoked in (b"", b"# a comment\n" + maker.read("authority0.pub").encode(), EMPTY):
         yield "signer_verdict", [signers, who, b"file", file, revoked], [0, 1], "DONE"
     yield "signer_verdict", [signers, who, b"file", file, b""], [0, 0], "NOT_SIGNED"
-    yield "signer_verdict", [signers, who, b"file", file, maker.read(f"{key}.pub").encode()], [0, 1], "SIGNER_REVOKED"
+    yield "signer_verdict", [signers, who, b"file", file, maker.read(f"{key}.pub").encode()], [0, 1], "REVOKED"
     yield "signer_verdict", [signers, b"bob", b"file", file, b""], [0, 1], "SIGNER_NOT_ALLOWED"
     yield "signer_verdict", [signers, b"\xff", b"file", file, b""], [0, 1], "TEXT"
     yield "signer_verdict", [signers, who, b"file", file[:-1], b""], [0, 1], "LENGTH"

@@ -25,18 +25,18 @@ package main
 
 import (
 	"fmt"
+	"net/netip"
 	"time"
 
-	"rafendilo.example/go/judge"
 	"rafendilo.example/go/sshkey"
 )
 
-func letIn() {{}}
+func letIn(sshkey.Grant) {{}}
 
-func logIn(authority sshkey.SHA256, line string, key []byte) {{
+func logIn(authorities []sshkey.SHA256, peer netip.Addr, blob, key []byte) {{
 {0}}}
 
-func main() {{ logIn(sshkey.SHA256{{}}, "", nil) }}
+func main() {{ logIn(nil, netip.Addr{{}}, nil, nil) }}
 """
 RUST_PROGRAM = """\
 use std::net::{{IpAddr, Ipv4Addr}};

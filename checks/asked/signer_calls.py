@@ -9,14 +9,14 @@ from .made import loaded
 from .revoked_lists import list_of
 
 WANTED = {
-    signers.OK: "DONE", signers.NO: "SIGNER_NOT_ALLOWED", signers.REVOKED: "SIGNER_REVOKED", "not verified": "NOT_SIGNED",
+    signers.OK: "DONE", signers.NO: "SIGNER_NOT_ALLOWED", signers.REVOKED: "REVOKED", "not verified": "NOT_SIGNED",
     "no signature": "LENGTH",
 }  # fmt: skip
 # every how many-th case a package is asked about
 SAMPLED = 5
 # texts of revoked keys, which ssh-keygen takes in place of a list, and what is wanted; {broken} is no key
 TEXTS = [
-    ("her key in a text", "{key}\n", "SIGNER_REVOKED"), ("her key behind another", "# x\n\n \t{other}\r\n{key} x", "SIGNER_REVOKED"),
+    ("her key in a text", "{key}\n", "REVOKED"), ("her key behind another", "# x\n\n \t{other}\r\n{key} x", "REVOKED"),
     ("another key in a text", "{other}\n", "DONE"), ("a comment", "# {key}\n", "DONE"), ("an empty file", "", "DONE"),
     ("a line that is no key", "{other}\nssh-ed25519 AAAA\n", "UNREADABLE_REVOCATIONS"),
     ("a text that is not UTF-8", "\xff", "UNREADABLE_REVOCATIONS"),

@@ -1,20 +1,20 @@
 -- What the validation of a host's certificate decides.
 use Rattle.std.proofs.Common.{◌≡◌, ◌≢◌, ap, ℕ, List, [], ◌∷◌, Bool, Result, Ok, Err, IfErr, Some, option_map, refl, subst, sym}
-use Rattle.ssh_key.specs.base.Acceptance.{AcceptsExactly}
-use Rattle.ssh_key.specs.cert.Validity.{JudgesCertificateFor, fingerprint_of, fingerprints_of, refusal_error}
-use Rattle.ssh_key.specs.keys.Fingerprints.{IsFingerprint}
-use Rattle.ssh_key.specs.model.Certificates.{Certificate, Host}
-use Rattle.ssh_key.specs.model.Fingerprints as model
-use Rattle.ssh_key.specs.model.Fingerprints.{fingerprint}
-use Rattle.ssh_key.specs.model.Keys.{Key}
-use Rattle.ssh_key.specs.model.Lines.{IsWithout}
-use Rattle.ssh_key.specs.model.Names.{Sha256}
-use Rattle.ssh_key.specs.model.Principals.{IsValidFor}
-use Rattle.ssh_key.specs.model.Refusals.{first_refusal_for}
-use Rattle.ssh_key.specs.model.Verification.{Question}
-use Rattle.ssh_key.specs.types.Error.{Error}
-use Rattle.ssh_key.specs.types.Error.TheVariants.{Memory}
-use Rattle.ssh_key.specs.types.Fingerprint.{Fingerprint}
+use Rattle.sshkey_base.specs.Acceptance.{AcceptsExactly}
+use Rattle.sshkey_cert.specs.Validity.{JudgesCertificateFor, fingerprint_of, fingerprints_of, refusal_error}
+use Rattle.sshkey_keys.specs.Fingerprints.{IsFingerprint}
+use Rattle.sshkey_model.specs.Certificates.{Certificate, Host}
+use Rattle.sshkey_model.specs.Fingerprints as model
+use Rattle.sshkey_model.specs.Fingerprints.{fingerprint}
+use Rattle.sshkey_model.specs.Keys.{Key}
+use Rattle.sshkey_model.specs.Lines.{IsWithout}
+use Rattle.sshkey_model.specs.Names.{Sha256}
+use Rattle.sshkey_model.specs.Principals.{IsValidFor}
+use Rattle.sshkey_model.specs.Refusals.{first_refusal_for}
+use Rattle.sshkey_model.specs.Verification.{Question}
+use Rattle.sshkey_base.specs.declared.error.Error.{Error}
+use Rattle.sshkey_base.specs.declared.error.Error.TheVariants.{Memory}
+use Rattle.sshkey_fingerprints.specs.declared.fingerprint.Fingerprint.{Fingerprint}
 use Rattle.host_keys.specs.Hosts.{AreForHosts, IsBadFor, IsGoodFor, NotValid, signers}
 
 -- the one fingerprint is the signer's

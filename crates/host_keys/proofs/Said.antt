@@ -1,10 +1,10 @@
 -- What is said of a host, by its name at the port or by its plain name, and what is answered.
 use Rattle.std.proofs.Common.{◌≡◌, ◌≢◌, ◌<◌, length, ℕ, Bool, true, false, IsTrue, List, IfErr, IfOk, Result, Ok, Err, inl, inr, refl, subst, sym, ◌∙◌}
-use Rattle.ssh_key.specs.entries.HostNames.{known_name, standard_port}
-use Rattle.ssh_key.specs.types.Error.{Error}
-use Rattle.ssh_key.specs.types.Error.TheVariants.{Memory}
-use Rattle.ssh_key.specs.types.known_hosts.Verdict.{Verdict}
-use Rattle.ssh_key.specs.types.known_hosts.Verdict.TheVariants.{Revoked, Trusted, Unknown}
+use Rattle.sshkey_entries.specs.HostNames.{known_name, standard_port}
+use Rattle.sshkey_base.specs.declared.error.Error.{Error}
+use Rattle.sshkey_base.specs.declared.error.Error.TheVariants.{Memory}
+use Rattle.sshkey_known_hosts.specs.declared.verdict.Verdict.{Verdict}
+use Rattle.sshkey_known_hosts.specs.declared.verdict.Verdict.TheVariants.{Revoked, Trusted, Unknown}
 use Rattle.host_keys.specs.Answers.{AsksOf, IsRefusalFor, IsWhy, OkExactly, answer_of}
 use Rattle.host_keys.specs.Hosts.{IsSaid, IsSettled}
 use Rattle.host_keys.specs.declared.refusal.Refusal.{Refusal}

@@ -1,12 +1,12 @@
 -- What is said of a key and of the key that signed it.
 use Rattle.std.proofs.Common.{◌≡◌, ℕ, Bool, false, List, IfErr, IfOk, Result, inl, inr, refl, subst}
-use Rattle.ssh_key.specs.entries.HostVerdicts.{HidesSome, IsAuthority, IsRevoked}
-use Rattle.ssh_key.specs.known_hosts.Verdicts.{IsVerdict}
-use Rattle.ssh_key.specs.model.Certificates.{Certificate}
-use Rattle.ssh_key.specs.model.Keys.{Key}
-use Rattle.ssh_key.specs.types.Error.{Error}
-use Rattle.ssh_key.specs.types.known_hosts.Verdict.{Verdict}
-use Rattle.ssh_key.specs.types.known_hosts.Verdict.TheVariants.{Changed, Revoked, Trusted, Unknown, Unreadable}
+use Rattle.sshkey_entries.specs.HostVerdicts.{HidesSome, IsAuthority, IsRevoked}
+use Rattle.sshkey_known_hosts.specs.Verdicts.{IsVerdict}
+use Rattle.sshkey_model.specs.Certificates.{Certificate}
+use Rattle.sshkey_model.specs.Keys.{Key}
+use Rattle.sshkey_base.specs.declared.error.Error.{Error}
+use Rattle.sshkey_known_hosts.specs.declared.verdict.Verdict.{Verdict}
+use Rattle.sshkey_known_hosts.specs.declared.verdict.Verdict.TheVariants.{Changed, Revoked, Trusted, Unknown, Unreadable}
 use Rattle.host_keys.specs.Answers.{IsWhy, OkExactly, answer_of}
 use Rattle.host_keys.specs.Hosts.{IsEitherRevoked, IsSaidOfSigned, IsVerdictOfSigned}
 use Rattle.host_keys.specs.declared.refusal.Refusal.{Refusal}

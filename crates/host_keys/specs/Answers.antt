@@ -1,20 +1,20 @@
 -- What is answered about a host, and why it is refused.
 use Rattle.std.specs.Prelude.{◌≡◌, ◌≢◌, ◌⊎◌, ◌<◌, length, ℕ, List, Bool, true, false, IsErrAnd, IsTrue, Result, Ok, Err}
 use Rattle.openssh_limits.specs.Keys.{is_let_in}
-use Rattle.ssh_key.specs.base.Causes.{Faulty, cause}
-use Rattle.ssh_key.specs.base.Reading.{NoSpelling}
-use Rattle.ssh_key.specs.cert.CertificateReaders.{SpellsCertificate, certificate_value_at}
-use Rattle.ssh_key.specs.krl.Revocation.{Grant}
-use Rattle.ssh_key.specs.krl.Revocations.{is_certificate_revoked, is_key_revoked}
-use Rattle.ssh_key.specs.model.Certificates.{Certificate, normal_certificate}
-use Rattle.ssh_key.specs.model.Keys.{Key}
-use Rattle.ssh_key.specs.model.Parts.{flat}
-use Rattle.ssh_key.specs.model.Reading.{whole}
-use Rattle.ssh_key.specs.model.Verification.{Question}
-use Rattle.ssh_key.specs.types.Error.{Error}
-use Rattle.ssh_key.specs.types.Error.TheVariants.{Memory}
-use Rattle.ssh_key.specs.types.known_hosts.Verdict.{Verdict}
-use Rattle.ssh_key.specs.types.known_hosts.Verdict.TheVariants.{Changed, Revoked, Trusted, Unknown, Unreadable}
+use Rattle.sshkey_base.specs.Causes.{Faulty, cause}
+use Rattle.sshkey_base.specs.Reading.{NoSpelling}
+use Rattle.sshkey_cert.specs.CertificateReaders.{SpellsCertificate, certificate_value_at}
+use Rattle.sshkey_krl.specs.Revocation.{Grant}
+use Rattle.sshkey_krl.specs.Revocations.{is_certificate_revoked, is_key_revoked}
+use Rattle.sshkey_model.specs.Certificates.{Certificate, normal_certificate}
+use Rattle.sshkey_model.specs.Keys.{Key}
+use Rattle.sshkey_model.specs.Parts.{flat}
+use Rattle.sshkey_model.specs.Reading.{whole}
+use Rattle.sshkey_model.specs.Verification.{Question}
+use Rattle.sshkey_base.specs.declared.error.Error.{Error}
+use Rattle.sshkey_base.specs.declared.error.Error.TheVariants.{Memory}
+use Rattle.sshkey_known_hosts.specs.declared.verdict.Verdict.{Verdict}
+use Rattle.sshkey_known_hosts.specs.declared.verdict.Verdict.TheVariants.{Changed, Revoked, Trusted, Unknown, Unreadable}
 use Rattle.host_keys.specs.Hosts.{HostLogin, IsBadFor, IsSaidOfKey, IsSaidOfSigned, plain_name}
 use Rattle.host_keys.specs.declared.refusal.Refusal.{Refusal}
 use Rattle.host_keys.specs.declared.refusal.Refusal.TheVariants as refusal

@@ -6,28 +6,28 @@ use Rattle.openssh_limits.specs.Keys.{is_let_in}
 use Rattle.openssh_limits.specs.Read.{AreReadPrincipals}
 use Rattle.std.specs.List.{flat_map}
 use Rattle.std.specs.Prelude.{◌≡◌, ◌≢◌, ◌⊎◌, ℕ, List, [], ◌∷◌, Bool, false, IsTrue, Some, option_map}
-use Rattle.ssh_key.specs.cert.CertificateReaders.{SpellsCertificate}
-use Rattle.ssh_key.specs.cert.Validity.{refusal_error}
-use Rattle.ssh_key.specs.entries.Fields.{filled_lines}
-use Rattle.ssh_key.specs.entries.HostNames.{known_name, standard_port}
-use Rattle.ssh_key.specs.entries.HostVerdicts.{HidesSome, IsAuthority, IsRevoked}
-use Rattle.ssh_key.specs.known_hosts.Verdicts.{IsVerdict}
-use Rattle.ssh_key.specs.krl.Revocation.{Grant}
-use Rattle.ssh_key.specs.krl.Revocations.{is_certificate_revoked, is_key_revoked}
-use Rattle.ssh_key.specs.model.Certificates.{Certificate, Host, normal_certificate}
-use Rattle.ssh_key.specs.model.Fingerprints.{Fingerprint, fingerprint}
-use Rattle.ssh_key.specs.model.Keys.{Key}
-use Rattle.ssh_key.specs.model.Lines.{IsWithout}
-use Rattle.ssh_key.specs.model.Names.{Sha256}
-use Rattle.ssh_key.specs.model.Parts.{flat}
-use Rattle.ssh_key.specs.model.Principals.{IsValidFor}
-use Rattle.ssh_key.specs.model.Refusals.{first_refusal_for}
-use Rattle.ssh_key.specs.model.Verification.{Question}
-use Rattle.ssh_key.specs.types.Error.{Error}
-use Rattle.ssh_key.specs.types.Error.TheVariants.{CertificateFieldInvalid}
-use Rattle.ssh_key.specs.types.certificate.Field.TheVariants as field
-use Rattle.ssh_key.specs.types.known_hosts.Verdict.{Verdict}
-use Rattle.ssh_key.specs.types.known_hosts.Verdict.TheVariants.{Changed, Revoked, Trusted, Unknown, Unreadable}
+use Rattle.sshkey_cert.specs.CertificateReaders.{SpellsCertificate}
+use Rattle.sshkey_cert.specs.Validity.{refusal_error}
+use Rattle.sshkey_entries.specs.Fields.{filled_lines}
+use Rattle.sshkey_entries.specs.HostNames.{known_name, standard_port}
+use Rattle.sshkey_entries.specs.HostVerdicts.{HidesSome, IsAuthority, IsRevoked}
+use Rattle.sshkey_known_hosts.specs.Verdicts.{IsVerdict}
+use Rattle.sshkey_krl.specs.Revocation.{Grant}
+use Rattle.sshkey_krl.specs.Revocations.{is_certificate_revoked, is_key_revoked}
+use Rattle.sshkey_model.specs.Certificates.{Certificate, Host, normal_certificate}
+use Rattle.sshkey_model.specs.Fingerprints.{Fingerprint, fingerprint}
+use Rattle.sshkey_model.specs.Keys.{Key}
+use Rattle.sshkey_model.specs.Lines.{IsWithout}
+use Rattle.sshkey_model.specs.Names.{Sha256}
+use Rattle.sshkey_model.specs.Parts.{flat}
+use Rattle.sshkey_model.specs.Principals.{IsValidFor}
+use Rattle.sshkey_model.specs.Refusals.{first_refusal_for}
+use Rattle.sshkey_model.specs.Verification.{Question}
+use Rattle.sshkey_base.specs.declared.error.Error.{Error}
+use Rattle.sshkey_base.specs.declared.error.Error.TheVariants.{CertificateFieldInvalid}
+use Rattle.sshkey_base.specs.declared.certificate.field.Field.TheVariants as field
+use Rattle.sshkey_known_hosts.specs.declared.verdict.Verdict.{Verdict}
+use Rattle.sshkey_known_hosts.specs.declared.verdict.Verdict.TheVariants.{Changed, Revoked, Trusted, Unknown, Unreadable}
 use Rattle.host_keys.specs.declared.login.HostLogin as code
 
 -- ---- the lines

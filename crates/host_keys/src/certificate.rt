@@ -1,14 +1,14 @@
 //! Whether a certificate is the host's.
 
 ghost use Rattle.std.specs.Prelude.{◌≡◌, ◌≢◌, ◌↔◌, IfErr, IsTrue, map, string_bytes};
-ghost use Rattle.ssh_key.specs.base.Acceptance.{AcceptsExactly};
-ghost use Rattle.ssh_key.specs.cert.CertificateFormats.{certificate_format};
-ghost use Rattle.ssh_key.specs.cert.CertificateReaders.{SpellsCertificate};
-ghost use Rattle.ssh_key.specs.cert.CertificateValues.{certificate_of};
-ghost use Rattle.ssh_key.specs.model.Certificates.{IsCertificate, normal_certificate};
-ghost use Rattle.ssh_key.specs.model.Keys.{normal_key};
-ghost use Rattle.ssh_key.specs.model.Parts.{BoxesFit, flat};
-ghost use Rattle.ssh_key.specs.types.Error.TheVariants.{Memory};
+ghost use Rattle.sshkey_base.specs.Acceptance.{AcceptsExactly};
+ghost use Rattle.sshkey_cert.specs.CertificateFormats.{certificate_format};
+ghost use Rattle.sshkey_cert.specs.CertificateReaders.{SpellsCertificate};
+ghost use Rattle.sshkey_cert.specs.CertificateValues.{certificate_of};
+ghost use Rattle.sshkey_model.specs.Certificates.{IsCertificate, normal_certificate};
+ghost use Rattle.sshkey_model.specs.Keys.{normal_key};
+ghost use Rattle.sshkey_model.specs.Parts.{BoxesFit, flat};
+ghost use Rattle.sshkey_base.specs.declared.error.Error.TheVariants.{Memory};
 ghost use Rattle.host_keys.specs.Answers.{AsksOf, IsWhyNoCertificate, OkExactly, RefusesHostCertificate};
 ghost use Rattle.host_keys.specs.Hosts.{AreForHosts, IsBadFor, IsGoodFor, IsHostCertificate, IsTrustedCertificate, lines_of, login_of, plain_name};
 ghost use Rattle.host_keys.specs.declared.refusal.Refusal.TheVariants as refusal;
@@ -17,12 +17,15 @@ use crate::login::HostLogin;
 use crate::refusal::{Refusal, answer};
 use crate::verdict::signed_verdict;
 use openssh_limits::{are_read_principals, is_let_in, is_read_text};
-use ssh_key::certificate::Field;
-use ssh_key::encoding::Encode;
-use ssh_key::known_hosts::HmacSha1;
-use ssh_key::laws::{certificate_fits, key_fits, one_certificate, shortest_certificate};
-use ssh_key::revocation::Revocations;
-use ssh_key::{Certificate, Error, HashAlg, RawVerifier};
+use sshkey_base::certificate::Field;
+use sshkey_base::{Error, HashAlg};
+use sshkey_cert::Certificate;
+use sshkey_cert::laws::one_certificate;
+use sshkey_cert_form::is_normal_form;
+use sshkey_keys::RawVerifier;
+use sshkey_known_hosts::HmacSha1;
+use sshkey_krl::Revocations;
+use sshkey_model::laws::key_fits;
 use std::alloc::Global;
 
 /// Accepts the certificate that a host shows, in its bytes, if all of these hold:
@@ -84,21 +87,6 @@ pub fn check_certificate<H: HmacSha1, R: Revocations, V: RawVerifier>(
     judge(alloc, login, &read, hmac, revocations, verifier)
 }
 
-/// Whether the bytes, which spell the certificate, are its normal form. Every other spelling is
-/// longer, so that no byte has to be compared. Does not allocate.
-fn is_normal_form(certificate: &Certificate, blob: &[u8]) -> bool
-    requires { SpellsCertificate (certificate_of certificate.now) blob.now }
-    ensures { IsTrue result
-        ↔ (blob.now ≡ flat (normal_certificate (certificate_of certificate.now))) }
-{
-    certificate_fits();
-    shortest_certificate();
-    match certificate.encoded_len() {
-        Ok(len) => len == blob.len(),
-        Err(_) => false,
-    }
-}
-
 /// Accepts the certificate if it is the host's.
 fn judge<H: HmacSha1, R: Revocations, V: RawVerifier>(
     alloc: Global,
@@ -152,7 +140,7 @@ fn validate<V: RawVerifier>(
     host: &str,
     unix_timestamp: u64,
     verifier: &V,
-) -> ssh_key::Result<()>
+) -> sshkey_base::Result<()>
     requires { BoxesFit (normal_key (certificate_of certificate.now).signed.signature_key) }
     ensures exactly { AcceptsExactly (IsGoodFor (V.accepts verifier.now) unix_timestamp
         (plain_name host.now) (certificate_of certificate.now)) result }

@@ -1,11 +1,11 @@
 //! Why a host is refused.
 
 ghost use Rattle.std.specs.Prelude.{◌≡◌};
-ghost use Rattle.ssh_key.specs.types.Error.TheVariants.{Memory};
+ghost use Rattle.sshkey_base.specs.declared.error.Error.TheVariants.{Memory};
 ghost use Rattle.host_keys.specs.Answers.{IsRefusalFor, answer_of, verdict_answer};
 
-use ssh_key::Error;
-use ssh_key::known_hosts::Verdict;
+use sshkey_base::Error;
+use sshkey_known_hosts::Verdict;
 use std::alloc::AllocError;
 
 /// Why what a host shows is not taken for the host's.
@@ -59,7 +59,7 @@ fn verdict_answer(verdict: Verdict) -> Result<(), Refusal>
 /// What follows from whether something is revoked, and from what known_hosts says of it.
 pub(crate) fn answer(
     revoked: Result<bool, AllocError>,
-    said: ssh_key::Result<Verdict>,
+    said: sshkey_base::Result<Verdict>,
 ) -> Result<(), Refusal>
     ensures { result ≡ answer_of revoked said }
 {

@@ -15,7 +15,7 @@ use allowed_signers::{Refusal, verify};
 use sshkey_base::Result;
 use sshkey_calls::Verification;
 use sshkey_calls::number::{
-    DONE, MEMORY, NOT_SIGNED, SIGNER_NOT_ALLOWED, SIGNER_REVOKED, TEXT, UNREADABLE_REVOCATIONS,
+    DONE, MEMORY, NOT_SIGNED, REVOKED, SIGNER_NOT_ALLOWED, TEXT, UNREADABLE_REVOCATIONS,
     error_number,
 };
 use sshkey_revoked_keys::RevokedKeys;
@@ -141,7 +141,7 @@ fn revoked_number(read: &Result<RevokedKeys<'_>>) -> u32
     ensures { result ≡ revoked_number read.now }
 {
     match read {
-        Ok(_) => SIGNER_REVOKED,
+        Ok(_) => REVOKED,
         Err(_) => UNREADABLE_REVOCATIONS,
     }
 }

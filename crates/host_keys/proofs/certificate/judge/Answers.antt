@@ -1,7 +1,7 @@
 use Rattle.std.proofs.Common.{ap, sym, subst, true≢false, ◌∙◌}
 use Rattle.std.proofs.lemmas.Result.{err_from_is_err_and}
-use Rattle.ssh_key.specs.cert.CertificateValues.{certificate_of}
-use Rattle.ssh_key.specs.krl.Revocations.{is_certificate_revoked}
+use Rattle.sshkey_cert.specs.CertificateValues.{certificate_of}
+use Rattle.sshkey_krl.specs.Revocations.{is_certificate_revoked}
 use Rattle.openssh_limits.specs.Keys.{is_let_in}
 use Rattle.host_keys.specs.Answers.{AsksOf}
 use Rattle.host_keys.specs.Hosts.{IsBadFor, IsSaidOfSigned, IsTrustedCertificate, lines_of, login_of, plain_name}

@@ -1,8 +1,8 @@
 use Rattle.std.proofs.Common.{◌≡◌, true, sym, subst, ◌∙◌}
-use Rattle.ssh_key.specs.cert.CertificateValues.{certificate_of}
-use Rattle.ssh_key.specs.keys.Fingerprints.{IsFingerprint}
-use Rattle.ssh_key.specs.model.Keys.{Key}
-use Rattle.ssh_key.specs.model.Names.{Sha256}
+use Rattle.sshkey_cert.specs.CertificateValues.{certificate_of}
+use Rattle.sshkey_keys.specs.Fingerprints.{IsFingerprint}
+use Rattle.sshkey_model.specs.Keys.{Key}
+use Rattle.sshkey_model.specs.Names.{Sha256}
 use Rattle.host_keys.specs.Hosts.{ForUsers, OtherKeyId, OtherPrincipals, SomeOption}
 use Rattle.host_keys.proofs.Certificates.{bad, good}
 use Rattle.host_keys.proofs.certificate.validate.Goals as goal

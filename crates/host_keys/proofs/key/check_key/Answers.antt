@@ -1,10 +1,10 @@
 use Rattle.std.proofs.Common.{◌≡◌, ℕ, IfErr, Result, false, List, subst, sym, true≢false, ◌∙◌}
 use Rattle.std.proofs.lemmas.Result.{err_from_is_err_and}
 use Rattle.openssh_limits.specs.Keys.{is_let_in}
-use Rattle.ssh_key.specs.keys.Keys.{key_of}
-use Rattle.ssh_key.specs.known_hosts.Verdicts.{IsVerdict}
-use Rattle.ssh_key.specs.krl.Revocations.{is_key_revoked}
-use Rattle.ssh_key.specs.types.known_hosts.Verdict.TheVariants.{Trusted}
+use Rattle.sshkey_keys.specs.Keys.{key_of}
+use Rattle.sshkey_known_hosts.specs.Verdicts.{IsVerdict}
+use Rattle.sshkey_krl.specs.Revocations.{is_key_revoked}
+use Rattle.sshkey_known_hosts.specs.declared.verdict.Verdict.TheVariants.{Trusted}
 use Rattle.host_keys.specs.Answers.{AsksOf, IsWhy, OkExactly}
 use Rattle.host_keys.specs.Hosts.{IsSaidOfKey, IsTrustedKey, lines_of, login_of}
 use Rattle.host_keys.specs.declared.refusal.Refusal.{Refusal}

@@ -1,6 +1,6 @@
 use Rattle.std.proofs.Common.{ap, length, eqb-true, eq-eqb, sym, ◌∙◌}
-use Rattle.ssh_key.specs.cert.CertificateValues.{certificate_of}
-use Rattle.host_keys.proofs.certificate.is_normal_form.Goals as goal
+use Rattle.sshkey_cert.specs.CertificateValues.{certificate_of}
+use Rattle.sshkey_cert_form.proofs.form.is_normal_form.Goals as goal
 
 pub returns-in-Ok : goal.returns-in-Ok
 returns-in-Ok c = (

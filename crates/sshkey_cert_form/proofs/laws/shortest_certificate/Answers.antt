@@ -1,5 +1,5 @@
-use Rattle.ssh_key.proofs.Shortest.{only_shortest, shortest}
-use Rattle.ssh_key.proofs.laws.shortest_certificate.Goals as goal
+use Rattle.sshkey_cert_form.proofs.Shortest.{only_shortest, shortest}
+use Rattle.sshkey_cert_form.proofs.laws.shortest_certificate.Goals as goal
 
 pub returns-clause-shortest : goal.returns-clause-shortest
 returns-clause-shortest c = shortest
