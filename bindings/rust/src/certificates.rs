@@ -67,7 +67,7 @@ pub fn certificate_question(certificate: &[u8]) -> Result<Question, Status> {
 /// Fails with a number from 10 to 29 where the bytes are no certificate, with what is wrong first,
 /// from [`Status::NOT_SIGNED`] to [`Status::UNLISTED_PRINCIPAL`], with [`Status::TEXT`] for a
 /// principal that is not UTF-8, and with [`Status::MEMORY`]. Whether it is one for users, lists
-/// anybody at all, what its options ask, and whether it is revoked is yours to judge.
+/// anybody at all, what its options ask, and whether it is revoked is not asked here.
 pub fn validate_certificate(
     certificate: &[u8],
     unix_timestamp: u64,
