@@ -45,7 +45,7 @@ CRYPTO := -lcrypto
 HEADERS := $(ROOT)/include/sshkey.h $(wildcard $(ROOT)/helpers/*.h)
 PROGRAMS := $(OUT)/sshkey-check $(OUT)/sshkey-principals $(OUT)/sshkey-authorized-keys
 # what they are linked with, each with what it takes of it
-PARTS := $(addprefix $(OUT)/,program.o login.o memory.o show.o sshsig.o judge.o sha1.o verify.o)
+PARTS := $(addprefix $(OUT)/,program.o login.o memory.o show.o certificate.o sshsig.o judge.o sha1.o verify.o)
 PAGES := $(notdir $(wildcard $(ROOT)/helpers/*.[18]))
 
 ifeq ($(KIT),)
@@ -98,10 +98,10 @@ go: $(OUT)/libsshkey.a
 	rm -f $(OUT)/check-go
 	cd $(ROOT)/examples/go && CGO_LDFLAGS=-L$(OUT) go build -o $(OUT)/check-go .
 
-# the program takes the verifier of the helpers
-rust: $(OUT)/libsshkey.a $(OUT)/verify.o
+# the program takes the verifier of the package
+rust: $(OUT)/libsshkey.a
 	cd $(ROOT)/bindings/rust && SSHKEY_LIB_DIR=$(OUT) CARGO_TARGET_DIR=$(OUT)/rust \
-		cargo build --offline --locked --release --example check
+		cargo build --offline --locked --release --features libcrypto --example check
 	cp $(OUT)/rust/release/examples/check $(OUT)/check-rust
 
 INCLUDE := $(DESTDIR)$(PREFIX)/include

@@ -1,9 +1,10 @@
 /* Makes a call of the library for C so many times, for bench/foreign:
  *
- *     foreign question|validate|fields|fingerprint|verify CALLS <certificate-or-key.pub
+ *     foreign question|validate|verdict|log-in|fields|fingerprint|verify CALLS <FILE.pub
  *
- * `verify` is what libcrypto takes to answer the question. It prints nanoseconds of processor time
- * a call. */
+ * `verdict` is that of a login which lets in, and `log-in` all that judge_log_in asks, but that
+ * nothing is verified; `verify` is what libcrypto takes to answer the question. It prints
+ * nanoseconds of processor time a call. */
 #include <stdio.h>
 #include <stdlib.h>
 #include <string.h>
@@ -13,18 +14,50 @@
 #include "verify.h"
 
 static sshkey_question question;
-static uint8_t room[1 << 16];
+static uint8_t room[1 << 16], key[1 << 16];
+static size_t key_length;
+static sshkey_sha256 authority;
+
+static uint32_t verdict(judge_blob given, uint32_t is_verified) {
+  sshkey_grant grant;
+  sshkey_login login = {judge_span(given), judge_text("user"), {key, key_length}, judge_text(""),
+                        {&authority, 1}, SSHKEY_NO_REVOCATIONS, 1, 0};
+  memset(&grant, 0, sizeof grant);
+  return sshkey_login_verdict(&login, is_verified, room, sizeof room, &grant);
+}
+
+static uint32_t ask(judge_blob given) {
+  return sshkey_certificate_question(given.bytes, given.length, room, sizeof room, &question);
+}
+
+/* The calls of judge_log_in. */
+static uint32_t log_in(judge_blob given) {
+  verdict(given, 0);
+  ask(given);
+  return verdict(given, 1);
+}
+
+/* Reads the certified key and the authority that the verdict is given. */
+static void read_certificate(judge_blob given) {
+  sshkey_parts parts;
+  memset(&parts, 0, sizeof parts);
+  if (sshkey_certificate_parts(given.bytes, given.length, &parts) != SSHKEY_DONE) return;
+  sshkey_fingerprint(given.bytes + parts.authority.start, parts.authority.length, &authority);
+  sshkey_certificate_key(given.bytes, given.length, key, sizeof key, &key_length);
+}
 
 static uint32_t call(const char *what, judge_blob given) {
   sshkey_sha256 digest = {{0}};
   sshkey_fields fields = {0, 0, 0, 0, 0, 0};
   if (!strcmp(what, "verify")) return judge_is_signature(&question, room);
+  if (!strcmp(what, "verdict")) return verdict(given, 1);
+  if (!strcmp(what, "log-in")) return log_in(given);
   if (!strcmp(what, "validate"))
     return sshkey_certificate_validate_for(given.bytes, given.length, 1, (const uint8_t *)"user", 4,
                                            &digest, 1, 1);
   if (!strcmp(what, "fields")) return sshkey_certificate_fields(given.bytes, given.length, &fields);
   if (!strcmp(what, "fingerprint")) return sshkey_fingerprint(given.bytes, given.length, &digest);
-  return sshkey_certificate_question(given.bytes, given.length, room, sizeof room, &question);
+  return ask(given);
 }
 
 int main(int count, char **words) {
@@ -37,6 +70,7 @@ int main(int count, char **words) {
       judge_read_line(line, (size_t)length, SSHKEY_LINE_KEY, &given) != SSHKEY_DONE)
     return 2;
   long calls = strtol(words[2], NULL, 10);
+  read_certificate(given);
   call("question", given);
   volatile uint32_t last = 0;
   clock_t began = clock();

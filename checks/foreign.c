@@ -1,7 +1,7 @@
 /* Asks the library that include/sshkey.h declares, for checks/foreign: a line of the input is a
  * question, and has a line of the answer. It answers those of asked/answers.py that the header has
- * calls for, and these. SPAN.. are 7 words of bytes and NUMBER.. 5 numbers, as asked/calls.h
- * passes them to the call of that name:
+ * calls for, and these. SPAN.. are 7 words of bytes, or of several byte strings with commas between,
+ * and NUMBER.. 5 numbers, as asked/calls.h passes them to the call of that name:
  *
  *     call CALL SPAN.. NUMBER..           the number that it answers
  *     rooms CALL SPAN.. NUMBER..          how many rooms, from none on, are too short and stay as
@@ -10,7 +10,7 @@
  *     memory CALL SPAN.. NUMBER.. ROOM | authority LINE            asked/memory_calls.h
  *     string-places BYTES | option-places BYTES
  *                                         what is found from each place, and after the end
- *     verifications .. as `user`          how often the verifier was asked
+ *     verifications .. as `log-in`        how often the verifier was asked
  *     names                               version and ABI of the header and of the library, and
  *                                         numbers of answers with their names
  *     meanings                            the words of judge.h for each of these numbers
@@ -40,8 +40,10 @@ static unsigned digit(char letter) {
   return (unsigned)(letter <= '9' ? letter - '0' : letter - 'a' + 10);
 }
 
+/* The bytes of a word, or of its part before a comma; `-` and `none` have no bytes. */
 static judge_blob bytes_of(const char *word) {
-  judge_blob it = made(strcmp(word, "-") ? strlen(word) / 2 : 0);
+  size_t digits = strcspn(word, ",");
+  judge_blob it = made(*word == '-' || *word == 'n' ? 0 : digits / 2);
   for (size_t at = 0; at < it.length; at++)
     it.bytes[at] = (uint8_t)(digit(word[2 * at]) << 4 | digit(word[2 * at + 1]));
   return it;
@@ -62,7 +64,41 @@ static bool is_filled(judge_blob room, size_t from) {
 
 #include "asked/calls.h"
 #include "asked/memory_calls.h"
-#include "asked/judge_calls.h"
+
+/* ---- what is given */
+
+/* The byte strings of a word: `none` has none of them. */
+static given_spans several_of(const char *word) {
+  size_t count = *word != 'n';
+  for (const char *at = word; *at; at++) count += *at == ',';
+  given_spans it = {calloc(count + 1, sizeof(sshkey_span)), count};
+  if (!it.items) exit(3);
+  for (size_t at = 0; at < count; at++, word += strcspn(word, ",") + 1)
+    it.items[at] = judge_span(bytes_of(word));
+  return it;
+}
+
+static given_call given_by(char **words, int spans) {
+  given_call it;
+  memset(&it, 0, sizeof it);
+  for (int at = 0; at < SPANS; at++) {
+    const char *word = at < spans ? words[at] : "-";
+    it.spans[at] = bytes_of(word);
+    it.several[at] = several_of(word);
+  }
+  for (int at = 0; at < NUMBERS; at++) it.numbers[at] = strtoull(words[spans + at], NULL, 10);
+  return it;
+}
+
+static void let_go(given_call *it) {
+  for (int at = 0; at < SPANS; at++) {
+    free(it->spans[at].bytes);
+    for (size_t of = 0; of < it->several[at].count; of++)
+      free((void *)it->several[at].items[of].bytes);
+    free(it->several[at].items);
+  }
+  free(it->room.bytes);
+}
 
 /* ---- what is said */
 
@@ -152,9 +188,8 @@ static void ask_options(given_call *it, const char *name) {
   if (it->numbers[0] && answer != SSHKEY_END) printf(" and then %" PRIu32, answer);
 }
 
-static void ask_verdict(given_call *it, const char *name) {
-  printf("%" PRIu32 " ", ask(it, name, NULL));
-  printf("%" PRIu32, ask(it, "authority_verdict", NULL));
+static void ask_counted(given_call *it, const char *name) {
+  if (is_done(ask(it, name, NULL))) printf(" %zu", it->length);
 }
 
 static void ask_addresses(given_call *it, const char *name) {
@@ -261,12 +296,14 @@ static void ask_places(given_call *it, const char *name) {
   }
 }
 
+#include "asked/judge_calls.h"
+
 /* ---- questions about any call */
 
 /* How many bytes of the room a call tells that it takes: one of these is not 0. */
 static size_t told(const given_call *it) {
   return it->length + it->question.length + it->line.length + it->entry.length
-         + it->entry_option.length;
+         + it->entry_option.length + it->grant.length;
 }
 
 static void ask_rooms(given_call *it) {
@@ -278,6 +315,8 @@ static void ask_rooms(given_call *it) {
     answer = called(it, 0);
     is_kept = answer == SSHKEY_ROOM && is_filled(it->room, 0) && (!length || told(it) == needed);
     needed = told(it);
+    it->grant.length = 0;
+    if (answer == SSHKEY_ROOM && !is_zero(&it->grant, sizeof it->grant)) printf("and a grant ");
   }
   printf("%" PRIu32 " %zu %zu", answer, length, needed);
 }
@@ -307,7 +346,16 @@ static const struct {
     {"entry", ask_entry, "authorized_entry", 1},
     {"host", ask_entry, "known_host", 1},
     {"options", ask_options, "nth_option", 1},
-    {"verdict", ask_verdict, "host_verdict", 3},
+    {"log-in", ask_log_in, "login_verdict", 6},
+    {"verifications", ask_verifications, "login_verdict", 6},
+    {"host-key", ask_number, "host_key_verdict", 4},
+    {"host-certificate", ask_host_certificate, "host_certificate_verdict", 4},
+    {"unreadable-line", ask_counted, "unreadable_host_line", 2},
+    {"userauth", ask_question, "userauth_question", 6},
+    {"userauth-of", ask_question, "userauth_question_of", 7},
+    {"is-userauth", ask_userauth, "userauth_question", 6},
+    {"flags", ask_number, "grant_flags", 2},
+    {"other-key-line", ask_number, "is_other_key_line", 1},
     {"addresses", ask_addresses, "source_address_allows", 3},
     {"signer", ask_number, "signer_verdict", 5},
     {"revokes-key", ask_revoked, "krl_revokes_key", 2},
@@ -317,19 +365,6 @@ static const struct {
     {"string-places", ask_places, "next_string", 1},
     {"option-places", ask_places, "next_option", 1},
 };
-
-static given_call given_by(char **words, int spans) {
-  given_call it;
-  memset(&it, 0, sizeof it);
-  for (int at = 0; at < SPANS; at++) it.spans[at] = bytes_of(at < spans ? words[at] : "-");
-  for (int at = 0; at < NUMBERS; at++) it.numbers[at] = strtoull(words[spans + at], NULL, 10);
-  return it;
-}
-
-static void let_go(given_call *it) {
-  for (int at = 0; at < SPANS; at++) free(it->spans[at].bytes);
-  free(it->room.bytes);
-}
 
 /* Answers a question whose first word after the question's is a call, or the kind of one. */
 static void answer_of_call(char **words) {
@@ -349,8 +384,8 @@ static void answer_of_call(char **words) {
   let_go(&it);
 }
 
-static void answer(char **words, size_t count) {
-  if (has_judged(words, count)) return;
+static void answer(char **words) {
+  if (has_judged(words)) return;
   for (size_t at = 0; at < sizeof questions / sizeof *questions; at++) {
     if (strcmp(words[0], questions[at].what)) continue;
     given_call it = given_by(words + 1, questions[at].spans);
@@ -370,7 +405,7 @@ int main(void) {
     for (char *word = strtok(line, " \n"); word && count < MOST; word = strtok(NULL, " \n"))
       words[count++] = word;
     for (size_t at = count; at < MOST; at++) words[at] = none;
-    answer(words, count);
+    answer(words);
     putchar('\n');
   }
   free(line);

@@ -14,7 +14,7 @@
 #include "sshsig.h"
 #include "verify.h"
 
-#define ANSWERS 24
+#define ANSWERS 26
 #define MOST 8
 #define ROUNDS 12
 
@@ -73,44 +73,54 @@ static char *text_of(const asked *it, const char *name) {
   return text;
 }
 
-static bool is_met(const uint8_t *name, size_t name_length, const uint8_t *value,
-                   size_t value_length, void *given) {
-  (void)name;
-  (void)name_length;
-  (void)value;
-  (void)value_length;
-  (void)given;
-  return true;
+/* A request of the user's, which the key of the first folder has signed. */
+static void ask_request(asked *it, judge_blob key) {
+  judge_blob signature = file_of(it, "request.sig");
+  sshkey_userauth request = {judge_text("a session"), judge_text("alice"),
+                             judge_text("ssh-ed25519"), judge_span(key), judge_text(""),
+                             judge_span(signature), 0, 0};
+  note(it, judge_userauth(&request));
+  free(signature.bytes);
 }
 
-static void ask_user(asked *it, uint64_t now, judge_authorities by, judge_blob list) {
+static void ask_user(asked *it, uint64_t now, judge_authorities by, sshkey_spans revoked) {
   judge_blob certificate = line_of(it, "user-cert.pub", SSHKEY_LINE_CERTIFICATE);
   judge_blob key = line_of(it, "user.pub", SSHKEY_LINE_KEY), again = {NULL, 0};
-  judge_login login = {"alice", key, now, by, is_met, NULL, list};
+  sshkey_login login = {judge_span(certificate), judge_text("alice"), judge_span(key),
+                        judge_text(""), judge_digests(by), revoked, now, 0};
   char *type = text_of(it, "user.pub"), *base64 = strchr(type, ' ');
+  uint8_t *room = calloc(1, certificate.length);
+  uint32_t is_verified = 0;
+  sshkey_grant grant;
+  memset(&grant, 0, sizeof grant);
+  if (!room) abort();
   *base64++ = 0;
   base64[strcspn(base64, " \n")] = 0;
   note(it, judge_read_words(type, base64, SSHKEY_LINE_KEY, &again));
-  note(it, judge_certificate(certificate, now, "alice", by, list));
-  note(it, judge_validate_user(certificate, &login));
-  note(it, judge_revoked(certificate, true, list));
-  note(it, judge_revoked(again, false, judge_no_revocations));
+  note(it, judge_log_in(&login, room, certificate.length, &grant));
+  note_bytes(it, room, grant.length);
+  note(it, grant.permits);
+  note(it, judge_is_certified(judge_span(certificate), &is_verified));
+  note(it, is_verified);
+  ask_request(it, again);
+  free(room);
   free(type);
   free(again.bytes);
   free(key.bytes);
   free(certificate.bytes);
 }
 
-static void ask_host(asked *it, uint64_t now, judge_blob list) {
+static void ask_host(asked *it, uint64_t now, sshkey_spans revoked) {
   judge_blob certificate = line_of(it, "host-cert.pub", SSHKEY_LINE_CERTIFICATE);
   judge_blob known = file_of(it, "known_hosts");
-  judge_host host = {"host.example.org", 22, now, &known, 1, list};
+  sshkey_span text = judge_span(known);
+  sshkey_host_login login = {{&text, 1}, judge_text("host.example.org"), revoked, now, 0, 22};
   sshkey_question question;
   size_t room_length = 2 * certificate.length + 256;
   uint8_t *room = calloc(1, room_length);
   if (!room) abort();
   memset(&question, 0, sizeof question);
-  note(it, judge_validate_host(certificate, &host));
+  note(it, judge_host_certificate(&login, judge_span(certificate)));
   note(it, sshkey_certificate_question(certificate.bytes, certificate.length, room, room_length,
                                        &question));
   note(it, judge_is_signature(&question, room));
@@ -119,9 +129,9 @@ static void ask_host(asked *it, uint64_t now, judge_blob list) {
   free(certificate.bytes);
 }
 
-static void ask_signature(asked *it, uint64_t now, judge_authorities by, judge_blob list) {
+static void ask_signature(asked *it, uint64_t now, judge_authorities by, sshkey_spans revoked) {
   judge_blob armour = file_of(it, "message.sig"), signature = {NULL, 0};
-  judge_signers signers = {file_of(it, "signers"), "alice", now, list};
+  judge_signers signers = {file_of(it, "signers"), "alice", now, revoked};
   FILE *file = opened(it, "message");
   uint8_t bytes[64];
   note(it, judge_read_armour(armour, &signature));
@@ -145,13 +155,15 @@ static void ask(asked *it) {
   judge_authorities by = {NULL, 0};
   char *line = text_of(it, "authority.pub"), *now = text_of(it, "now");
   judge_blob list = file_of(it, "list");
+  sshkey_span revoked[] = {SSHKEY_NO_REVOCATIONS.items[0], judge_span(list)};
+  sshkey_spans files = {revoked, 2};
   it->count = 0;
   line[strcspn(line, "\n")] = 0;
   uint32_t added = judge_add_authority(&by, line, strlen(line));
   note_bytes(it, (const uint8_t *)judge_meaning(added), strlen(judge_meaning(added)));
-  ask_user(it, strtoull(now, NULL, 10), by, list);
-  ask_host(it, strtoull(now, NULL, 10), list);
-  ask_signature(it, strtoull(now, NULL, 10), by, list);
+  ask_user(it, strtoull(now, NULL, 10), by, files);
+  ask_host(it, strtoull(now, NULL, 10), files);
+  ask_signature(it, strtoull(now, NULL, 10), by, files);
   free(by.keys);
   free(list.bytes);
   free(line);

@@ -70,9 +70,7 @@ def issue(signer: Ed25519PrivateKey, key: bytes, key_id: str, seconds: int, prin
         key, by, sign, principals=principals, key_id=key_id, serial=1 + secrets.randbelow(2**63 - 1), valid_after=now,
         valid_before=now + seconds, extensions={"permit-pty": ""},
     )  # fmt: skip
-    status = check.judge(made, now, principals[0], [sshkey.fingerprint(by)], check.NO_REVOCATIONS)
-    if status != sshkey.Status.DONE:
-        raise sshkey.Refused(status)
+    sshkey.judge_certificate(made, now, [sshkey.fingerprint(by)], principals[0])
     return made
 
 
@@ -93,7 +91,8 @@ def main() -> int:
         return 1
     except (OSError, ValueError, MemoryError) as error:
         print(f"issue.py: {error}", file=sys.stderr)
-        sys.stdout = None  # or else Python writes what is left, and its status is that of this
+        # or else Python writes what is left, and its status is that of this
+        sys.stdout = None  # type: ignore[assignment]
         return 2
     return 0
 

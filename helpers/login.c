@@ -25,24 +25,37 @@ static bool is_user(const char *name) {
   return name[0] && name[0] != '.' && !strchr(name, '/');
 }
 
-bool login_read_words(int count, char **words, bool may_have_file, login_request *asked) {
+/* Takes an option of the words; false where it is none, or stands there a second time. */
+static bool take_option(int letter, login_option own, login_request *asked) {
+  uint64_t bits;
+  switch (letter) {
+  case 'r': return program_add_path(&asked->revoked, optarg);
+  case 's': return asked->is_logged = true;
+  case 'm': return asked->is_insecure = true;
+  case LOGIN_FILE:
+    if (own != LOGIN_FILE || asked->is_file) return false;
+    asked->path = optarg;
+    return asked->is_file = true;
+  case LOGIN_BITS:
+    if (own != LOGIN_BITS || !program_read_number(optarg, &bits) || bits > UINT32_MAX) return false;
+    asked->least_rsa_bits = (uint32_t)bits;
+    return true;
+  default: return false;
+  }
+}
+
+bool login_read_words(int count, char **words, login_option own, login_request *asked) {
   static const struct option options[] = {{"revoked", required_argument, NULL, 'r'},
                                           {"syslog", no_argument, NULL, 's'},
                                           {"insecure-modes", no_argument, NULL, 'm'},
-                                          {"file", required_argument, NULL, 'f'},
+                                          {"file", required_argument, NULL, LOGIN_FILE},
+                                          {"least-rsa-bits", required_argument, NULL, LOGIN_BITS},
                                           {NULL, 0, NULL, 0}};
   memset(asked, 0, sizeof *asked);
   opterr = 0;
   /* those behind the first word that is no option are the client's */
-  for (int letter; (letter = getopt_long(count, words, "+", options, NULL)) != -1;) {
-    if (letter == '?' || (letter == 'r' && asked->revoked)) return false;
-    if (letter == 'f' && (asked->path || !may_have_file)) return false;
-    if (letter == 'r') asked->revoked = optarg;
-    if (letter == 'f') asked->path = optarg;
-    asked->is_logged |= letter == 's';
-    asked->is_insecure |= letter == 'm';
-  }
-  asked->is_file = asked->path != NULL;
+  for (int letter; (letter = getopt_long(count, words, "+", options, NULL)) != -1;)
+    if (!take_option(letter, own, asked)) return false;
   if (count - optind != (asked->is_file ? 3 : 4)) return false;
   if (!asked->is_file) asked->path = words[optind++];
   asked->user = words[optind];
@@ -52,6 +65,7 @@ bool login_read_words(int count, char **words, bool may_have_file, login_request
 }
 
 void login_forget(login_request *asked) {
+  program_forget(&asked->revoked);
   free(asked->offered);
 }
 
@@ -101,23 +115,15 @@ void login_complain(const login_request *asked, const char *format, ...) {
   free(said);
 }
 
-/* Whether it says that the client is not let in, and not that it can't be told. */
-static bool is_no(uint32_t answer) {
-  switch (answer) {
-  case SSHKEY_NOT_SIGNED:
-  case SSHKEY_UNTRUSTED_AUTHORITY:
-  case SSHKEY_INVALID_TIME:
-  case SSHKEY_OUT_OF_WINDOW:
-  case SSHKEY_UNLISTED_PRINCIPAL:
-  case JUDGE_REVOKED: return true;
-  default: return false;
-  }
+/* Whether it says that nothing can be told, and not that the client is not let in. */
+static bool is_untold(uint32_t answer) {
+  return answer == SSHKEY_MEMORY || answer == SSHKEY_TEXT || answer == SSHKEY_UNREADABLE_REVOCATIONS;
 }
 
 int login_refuse(const login_request *asked, uint32_t answer) {
-  login_complain(asked, "%s: %s (%" PRIu32 ")", is_no(answer) ? "refused" : "it can't tell",
+  login_complain(asked, "%s: %s (%" PRIu32 ")", is_untold(answer) ? "it can't tell" : "refused",
                  judge_meaning(answer), answer);
-  return is_no(answer) ? 0 : program_untold;
+  return is_untold(answer) ? program_untold : 0;
 }
 
 /* Writes the fingerprint of a key; false where it has none. */
@@ -239,13 +245,11 @@ login_reading login_read_file(const login_request *asked, const char *path, cons
   return reading;
 }
 
-bool login_read_revoked(const login_request *asked, judge_blob *answer) {
-  judge_blob none = judge_no_revocations;
-  if (asked->revoked) return login_read_file(asked, asked->revoked, NULL, answer) == LOGIN_READ;
-  *answer = (judge_blob){malloc(none.length), none.length};
-  if (answer->bytes)
-    memcpy(answer->bytes, none.bytes, none.length);
-  else
-    login_complain(asked, "no memory");
-  return answer->bytes != NULL;
+bool login_read_revoked(login_request *asked) {
+  for (size_t at = 0; at < asked->revoked.count; at++) {
+    judge_blob text = {NULL, 0};
+    if (login_read_file(asked, asked->revoked.paths[at], NULL, &text) != LOGIN_READ) return false;
+    asked->revoked.texts[at] = judge_span(text);
+  }
+  return true;
 }

@@ -7,19 +7,22 @@
 
 /* What is asked. */
 typedef struct {
-  const char *path;    /* of a file or a folder, as the program says */
-  const char *user;    /* whom the client wants to be */
-  const char *type;    /* the two words of what the client offers */
+  const char *path; /* of a file or a folder, as the program says */
+  const char *user; /* whom the client wants to be */
+  const char *type; /* the two words of what the client offers */
   const char *base64;
-  const char *revoked; /* the path of a revocation file; null where none is given */
-  bool is_file;        /* by --file the path is that of this user's file */
-  bool is_insecure;    /* by --insecure-modes nobody asks who may write files */
-  bool is_logged;      /* by --syslog the system's log is told too what is wrong */
-  char *offered;       /* for the log what is offered, of malloc; null till it is known */
+  program_files revoked;
+  uint32_t least_rsa_bits; /* by --least-rsa-bits; 0 where it is not given */
+  bool is_file;            /* by --file the path is that of this user's file */
+  bool is_insecure;        /* by --insecure-modes nobody asks who may write files */
+  bool is_logged;          /* by --syslog the system's log is told too what is wrong */
+  char *offered;           /* for the log what is offered, of malloc; null till it is known */
 } login_request;
 
-/* Reads the words of a program, which may have --file or not; false where they ask nothing. */
-bool login_read_words(int count, char **words, bool may_have_file, login_request *asked);
+/* Reads the words of a program, which has one option of its own: LOGIN_FILE or LOGIN_BITS. False
+ * where they ask nothing. */
+typedef enum { LOGIN_FILE = 'f', LOGIN_BITS = 'b' } login_option;
+bool login_read_words(int count, char **words, login_option own, login_request *asked);
 
 /* Gives the memory of the request back. */
 void login_forget(login_request *asked);
@@ -48,8 +51,7 @@ typedef enum { LOGIN_READ, LOGIN_MISSING, LOGIN_UNTOLD } login_reading;
 login_reading login_read_file(const login_request *asked, const char *path, const char *owner,
                               judge_blob *answer);
 
-/* The list that the request names, or else one that revokes nothing, in memory of malloc; false
- * where it is not read, which is said. */
-bool login_read_revoked(const login_request *asked, judge_blob *answer);
+/* Reads the revocation files of the request; false where one is not read, which is said. */
+bool login_read_revoked(login_request *asked);
 
 #endif

@@ -69,6 +69,47 @@ uint32_t program_add_authority(judge_authorities *to, const char *line, size_t l
   key[type] = ' ';
   memcpy(key + type + 1, line + base64, rest);
   uint32_t answer = judge_add_authority(to, key, type + 1 + rest);
+  if (answer != SSHKEY_DONE && answer != SSHKEY_MEMORY &&
+      sshkey_is_other_key_line((const uint8_t *)key, type + 1 + rest) == SSHKEY_DONE)
+    answer = SSHKEY_END;
   free(key);
   return answer;
+}
+
+const char program_later_key[] = "a later kind of key, which is passed over";
+
+/* ---- files of which there may be several */
+
+bool program_add_path(program_files *to, const char *path) {
+  size_t count = to->count + 1;
+  const char **paths = realloc(to->paths, count * sizeof *paths);
+  if (paths) to->paths = paths;
+  sshkey_span *texts = paths ? realloc(to->texts, count * sizeof *texts) : NULL;
+  if (!texts) {
+    program_complain("no memory");
+    return false;
+  }
+  to->texts = texts;
+  to->paths[to->count] = path;
+  to->texts[to->count] = (sshkey_span){NULL, 0};
+  to->count = count;
+  return true;
+}
+
+sshkey_spans program_revocations(const program_files *files) {
+  if (!files->count) return SSHKEY_NO_REVOCATIONS;
+  return (sshkey_spans){files->texts, files->count};
+}
+
+void program_forget(program_files *files) {
+  for (size_t at = 0; at < files->count; at++) free((void *)files->texts[at].bytes);
+  free(files->texts);
+  free(files->paths);
+}
+
+bool program_read_number(const char *word, uint64_t *answer) {
+  char *end = NULL;
+  errno = 0;
+  *answer = strtoull(word, &end, 10);
+  return word[0] >= '0' && word[0] <= '9' && *end == 0 && errno == 0;
 }

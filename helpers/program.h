@@ -38,8 +38,32 @@ uint32_t program_each_line(judge_blob text, program_line *each, void *given, siz
 /* How many bytes from that place on are blanks, or are none. */
 size_t program_run_of(bool are_blanks, const char *line, size_t length, size_t place);
 
-/* Adds the key of a line to the authorities: SSHKEY_DONE, or why not. Any blanks may stand between
- * its type and its Base64, and any bytes behind: what a comment holds decides nothing. */
+/* Adds the key of a line to the authorities: SSHKEY_DONE; SSHKEY_END for a line of a later kind of
+ * key, which signs nothing that is read, and is one to pass over; or why not. Any blanks may stand
+ * between its type and its Base64, and any bytes behind: what a comment holds decides nothing. */
 uint32_t program_add_authority(judge_authorities *to, const char *line, size_t length);
+
+/* What is said of a line that such a key stands in. */
+extern const char program_later_key[];
+
+/* Files of which a word may name several: what they hold, once they are read, as calls take it, and
+ * of malloc. */
+typedef struct {
+  const char **paths;
+  sshkey_span *texts;
+  size_t count;
+} program_files;
+
+/* Adds a path, whose text is not read yet; false, which is said, where there is no memory. */
+bool program_add_path(program_files *to, const char *path);
+
+/* What files of revocations hold, which are all read; where there are none, nothing is revoked. */
+sshkey_spans program_revocations(const program_files *files);
+
+/* Gives their memory back. */
+void program_forget(program_files *files);
+
+/* The number of decimal digits; false where there is another character, none, or too many. */
+bool program_read_number(const char *word, uint64_t *answer);
 
 #endif

@@ -8,29 +8,21 @@
 #include "judge.h"
 #include "login.h"
 #include "program.h"
-#include "verify.h"
 
 const char program_name[] = "sshkey-authorized-keys";
 const int program_untold = 1;
 static const char help[] =
-    "usage: sshkey-authorized-keys [--revoked FILE] [--syslog] [--insecure-modes]\n"
+    "usage: sshkey-authorized-keys [--revoked FILE].. [--syslog] [--insecure-modes]\n"
     "                              FOLDER USER TYPE KEY\n"
-    "       sshkey-authorized-keys [--revoked FILE] [--syslog] [--insecure-modes]\n"
+    "       sshkey-authorized-keys [--revoked FILE].. [--syslog] [--insecure-modes]\n"
     "                              --file PATH USER TYPE KEY\n"
     "\n"
     "sshd_config: AuthorizedKeysCommand PATH/sshkey-authorized-keys /etc/ssh/keys %u %t %k\n"
     "             AuthorizedKeysCommandUser sshkey\n"
     "Prints the lines of the file FOLDER/USER, in the form of authorized_keys, that have the key\n"
-    "which the client offers, or may have it; none if FILE, as sshd's RevokedKeys, revokes it.\n"
+    "which the client offers, or may have it; none if a FILE, as sshd's RevokedKeys, revokes it.\n"
     "A PATH has to name the user, by %u or %h. It does not run as nobody.\n"
     "Status 0: all are printed, or there is none; 1: it can't tell, as standard error says.\n";
-
-/* judge.c asks this of certificates. Here sshd verifies them, and no libcrypto is linked. */
-bool judge_is_signature(const sshkey_question *question, const uint8_t *room) {
-  (void)question;
-  (void)room;
-  return false;
-}
 
 /* What the client offers. */
 typedef struct {
@@ -139,9 +131,19 @@ static int answer_offered(const login_request *asked, offered *wanted) {
   return status;
 }
 
+/* SSHKEY_NOT_REVOKED where no revocation file revokes what is offered; else why it is refused. */
+static uint32_t judge_revoked(const login_request *asked, const offered *wanted) {
+  sshkey_spans revoked = program_revocations(&asked->revoked);
+  judge_blob blob = wanted->blob;
+  uint32_t answer =
+      wanted->is_certificate
+          ? sshkey_revoked_certificate(revoked.items, revoked.count, blob.bytes, blob.length)
+          : sshkey_revoked_key(revoked.items, revoked.count, blob.bytes, blob.length);
+  return answer == SSHKEY_DONE ? SSHKEY_REVOKED : answer;
+}
+
 static int answer_request(login_request *asked) {
   offered wanted;
-  judge_blob revoked = {NULL, 0};
   int status = program_untold;
   memset(&wanted, 0, sizeof wanted);
   uint32_t answer = read_offered(asked, &wanted);
@@ -149,13 +151,13 @@ static int answer_request(login_request *asked) {
     login_complain(asked, "what is offered is no key: %s", judge_meaning(answer));
   } else {
     login_note(asked, wanted.blob, wanted.is_certificate);
-    if (login_read_revoked(asked, &revoked)) {
-      answer = judge_revoked(wanted.blob, wanted.is_certificate, revoked);
-      status = answer == SSHKEY_DONE ? answer_offered(asked, &wanted) : login_refuse(asked, answer);
+    if (login_read_revoked(asked)) {
+      answer = judge_revoked(asked, &wanted);
+      status = answer == SSHKEY_NOT_REVOKED ? answer_offered(asked, &wanted)
+                                            : login_refuse(asked, answer);
     }
   }
   free(wanted.blob.bytes);
-  free(revoked.bytes);
   return status;
 }
 
@@ -163,11 +165,9 @@ int main(int count, char **words) {
   login_request asked;
   int status = program_show(count, words, help);
   if (status >= 0) return status;
-  if (!login_read_words(count, words, true, &asked)) {
-    fputs(help, stderr);
-    return program_untold;
-  }
-  status = login_may_run(&asked) ? answer_request(&asked) : program_untold;
+  bool is_asked = login_read_words(count, words, LOGIN_FILE, &asked);
+  if (!is_asked) fputs(help, stderr);
+  status = is_asked && login_may_run(&asked) ? answer_request(&asked) : program_untold;
   login_forget(&asked);
   return status;
 }

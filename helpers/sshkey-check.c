@@ -8,6 +8,7 @@
 #include <stdlib.h>
 #include <string.h>
 
+#include "certificate.h"
 #include "judge.h"
 #include "program.h"
 #include "sha1.h"
@@ -18,9 +19,9 @@
 const char program_name[] = "sshkey-check";
 static const char help[] =
     "usage: sshkey-check [FILE]\n"
-    "       sshkey-check --ca FILE [--user NAME] [--at SECOND] [--revoked FILE] [FILE]\n"
+    "       sshkey-check --ca FILE [--user NAME] [--at SECOND] [--revoked FILE].. [FILE]\n"
     "       sshkey-check verify -k KEYS -n NAMESPACE -s SIGNATURE [FILE]\n"
-    "       sshkey-check verify -f SIGNERS -I IDENTITY -n NAMESPACE -s SIGNATURE [-r REVOKED]\n"
+    "       sshkey-check verify -f SIGNERS -I IDENTITY -n NAMESPACE -s SIGNATURE [-r REVOKED]..\n"
     "                           [--at SECOND] [FILE]\n"
     "\n"
     "The first shows each certificate of FILE, or of standard input, as ssh-keygen -L does. The\n"
@@ -37,13 +38,12 @@ const int program_untold = UNTOLD;
 typedef struct {
   const char *path; /* of certificates or of what is signed; null for standard input */
   const char *authorities, *user, *at;       /* null where they are not given */
-  const char *revoked;                       /* likewise */
   const char *keys, *name_space, *signature; /* likewise */
   const char *signers;                       /* likewise */
   judge_signers allowed;
   bool is_verify;
   judge_authorities by;
-  judge_blob list; /* of what is revoked; of a signature likewise a text of keys */
+  program_files revoked;
   uint64_t second;
   size_t count; /* of the lines that are answered */
   bool is_valid;
@@ -55,44 +55,32 @@ static bool can_not_tell(uint32_t answer) {
   return answer == SSHKEY_MEMORY || answer == SSHKEY_UNREADABLE_REVOCATIONS;
 }
 
-/* Adds the key of a line to those that count, or says that it has none. */
+/* Adds the key of a line to those that count, or says that it has none, or a later one. */
 static uint32_t read_key(const char *line, size_t length, size_t number, void *given) {
   request *asked = given;
+  const char *path = asked->is_verify ? asked->keys : asked->authorities;
   uint32_t answer = program_add_authority(&asked->by, line, length);
   if (answer == SSHKEY_DONE || answer == SSHKEY_MEMORY) return answer;
+  if (answer == SSHKEY_END) {
+    program_complain("%s:%zu: %s", path, number, program_later_key);
+    return SSHKEY_DONE;
+  }
   asked->is_untold = true;
-  program_complain("%s:%zu: no key: %s", asked->is_verify ? asked->keys : asked->authorities,
-                   number, judge_meaning(answer));
+  program_complain("%s:%zu: no key: %s", path, number, judge_meaning(answer));
   return SSHKEY_DONE;
 }
 
 /* ---- certificates */
 
-/* Whether sshd knows the critical option, which it then judges itself. */
-static bool is_known(const uint8_t *name, size_t name_length, const uint8_t *value,
-                     size_t value_length, void *given) {
-  static const char *const known[] = {"force-command", "source-address", "verify-required"};
-  (void)value;
-  (void)value_length;
-  (void)given;
-  for (size_t at = 0; at < sizeof known / sizeof *known; at++)
-    if (strlen(known[at]) == name_length && !memcmp(known[at], name, name_length)) return true;
-  return false;
-}
-
 /* Whether the certificate is valid, and logs the user in, if one is asked for. */
 static uint32_t judge_asked(judge_blob certificate, const request *asked) {
-  if (!asked->user)
-    return judge_certificate(certificate, asked->second, NULL, asked->by, asked->list);
-  /* a room as long as the certificate is enough */
-  judge_blob key = {calloc(1, certificate.length), 0};
-  if (!key.bytes) return SSHKEY_MEMORY;
-  uint32_t answer = sshkey_certificate_key(certificate.bytes, certificate.length, key.bytes,
-                                           certificate.length, &key.length);
-  judge_login login = {asked->user, key, asked->second, asked->by, is_known, NULL, asked->list};
-  if (answer == SSHKEY_DONE) answer = judge_validate_user(certificate, &login);
-  free(key.bytes);
-  return answer;
+  sshkey_spans revoked = program_revocations(&asked->revoked);
+  if (!asked->user) return certificate_validate(certificate, asked->second, asked->by, revoked);
+  sshkey_login login = {.user = judge_text(asked->user),
+                        .authorities = judge_digests(asked->by),
+                        .revoked = revoked,
+                        .unix_timestamp = asked->second};
+  return certificate_log_in(certificate, login);
 }
 
 static const char *path_of(const request *asked) {
@@ -213,26 +201,28 @@ static bool read_keys(const char *path, request *asked) {
   return answer == SSHKEY_DONE && !asked->is_untold;
 }
 
-/* The number of the digits; false where there is another character, none, or too many. */
-static bool read_second(const char *word, uint64_t *answer) {
-  char *end = NULL;
-  errno = 0;
-  *answer = strtoull(word, &end, 10);
-  return word[0] >= '0' && word[0] <= '9' && *end == 0 && errno == 0;
+/* Reads the files of what is revoked, likewise. */
+static bool read_revoked(request *asked) {
+  for (size_t at = 0; at < asked->revoked.count; at++) {
+    judge_blob text = {NULL, 0};
+    if (!read_named(asked->revoked.paths[at], &text)) return false;
+    asked->revoked.texts[at] = judge_span(text);
+  }
+  return true;
 }
 
 static int answer_request(request *asked) {
   const char *keys = asked->is_verify ? asked->keys : asked->authorities;
   judge_blob text = {NULL, 0};
-  if (asked->at && !read_second(asked->at, &asked->second)) {
+  if (asked->at && !program_read_number(asked->at, &asked->second)) {
     program_complain("%s is no second", asked->at);
     return UNTOLD;
   }
   if (!read_keys(keys, asked)) return UNTOLD;
-  if (!read_named(asked->revoked, &asked->list)) return UNTOLD;
+  if (!read_revoked(asked)) return UNTOLD;
   if (!read_named(asked->signers, &asked->allowed.text)) return UNTOLD;
   asked->allowed.unix_timestamp = asked->second;
-  asked->allowed.revoked = asked->list;
+  asked->allowed.revoked = program_revocations(&asked->revoked);
   FILE *file = asked->path ? fopen(asked->path, "rb") : stdin;
   const char *path = asked->is_verify ? asked->signature : path_of(asked);
   int status = UNTOLD;
@@ -261,10 +251,13 @@ static bool read_words(int count, char **words, request *asked) {
   opterr = 0;
   const char *letters = asked->is_verify ? "k:n:s:f:I:r:" : "";
   for (int letter; (letter = getopt_long(count, words, letters, options, NULL)) != -1;) {
+    if (letter == 'r') {
+      if (!program_add_path(&asked->revoked, optarg)) return false;
+      continue;
+    }
     const char **to = letter == 'c'   ? &asked->authorities
                       : letter == 'u' ? &asked->user
                       : letter == 'a' ? &asked->at
-                      : letter == 'r' ? &asked->revoked
                       : letter == 'k' ? &asked->keys
                       : letter == 'n' ? &asked->name_space
                       : letter == 'f' ? &asked->signers
@@ -275,7 +268,7 @@ static bool read_words(int count, char **words, request *asked) {
   }
   if (optind < count && strcmp(words[optind], "-")) asked->path = words[optind];
   if (count - optind > 1) return false;
-  bool is_bound = asked->at || asked->revoked;
+  bool is_bound = asked->at || asked->revoked.count;
   bool is_signers = asked->signers && asked->allowed.identity;
   if (asked->is_verify)
     return asked->name_space && asked->signature && !asked->authorities && !asked->user &&
@@ -290,7 +283,6 @@ int main(int count, char **words) {
   memset(&asked, 0, sizeof asked);
   asked.second = (uint64_t)time(NULL);
   asked.is_valid = true;
-  asked.list = judge_no_revocations;
   int shown = program_show(count, words, help);
   if (shown >= 0) return shown ? UNTOLD : VALID;
   int status = UNTOLD;
@@ -300,6 +292,6 @@ int main(int count, char **words) {
     fputs(help, stderr);
   free(asked.by.keys);
   free(asked.allowed.text.bytes);
-  if (asked.revoked && asked.list.bytes != judge_no_revocations.bytes) free(asked.list.bytes);
+  program_forget(&asked.revoked);
   return status;
 }

@@ -6,6 +6,7 @@
 #include <stdlib.h>
 #include <string.h>
 
+#include "certificate.h"
 #include "judge.h"
 #include "login.h"
 #include "program.h"
@@ -13,13 +14,14 @@
 const char program_name[] = "sshkey-principals";
 const int program_untold = 1;
 static const char help[] =
-    "usage: sshkey-principals [--revoked FILE] [--syslog] [--insecure-modes]\n"
-    "                         AUTHORITIES USER TYPE CERTIFICATE\n"
+    "usage: sshkey-principals [--revoked FILE].. [--least-rsa-bits N] [--syslog]\n"
+    "                         [--insecure-modes] AUTHORITIES USER TYPE CERTIFICATE\n"
     "\n"
     "sshd_config: AuthorizedPrincipalsCommand PATH/sshkey-principals AUTHORITIES %u %t %k\n"
     "             AuthorizedPrincipalsCommandUser sshkey\n"
     "Prints USER if the certificate lets USER in by an authority of a line of AUTHORITIES:\n"
-    "USER[,USER..] TYPE BASE64 [COMMENT], and FILE, as sshd's RevokedKeys, does not revoke it.\n"
+    "USER[,USER..] TYPE BASE64 [COMMENT], and no FILE, as sshd's RevokedKeys, revokes it. N is\n"
+    "sshd's RequiredRSASize.\n"
     "It does not run as nobody.\n"
     "Status 0: printed, or not let in; 1: it can't tell, as standard error says.\n";
 
@@ -42,7 +44,7 @@ typedef struct {
   bool is_whole; /* each line of the user has a key */
 } wanted;
 
-/* Adds the authority of a line if the line has the user, or says that it has no key. */
+/* Adds the authority of a line if the line has the user, or says that it has no key, or a later one. */
 static uint32_t read_authority(const char *line, size_t length, size_t number, void *given) {
   wanted *to = given;
   size_t list = program_run_of(false, line, length, 0);
@@ -50,6 +52,10 @@ static uint32_t read_authority(const char *line, size_t length, size_t number, v
   if (!has_user(line, list, to->asked->user)) return SSHKEY_DONE;
   uint32_t answer = program_add_authority(&to->by, line + key, length - key);
   if (answer == SSHKEY_DONE || answer == SSHKEY_MEMORY) return answer;
+  if (answer == SSHKEY_END) {
+    login_complain(to->asked, "%s:%zu: %s", to->asked->path, number, program_later_key);
+    return SSHKEY_DONE;
+  }
   to->is_whole = false;
   login_complain(to->asked, "%s:%zu: no key: %s", to->asked->path, number, judge_meaning(answer));
   return SSHKEY_DONE;
@@ -66,24 +72,15 @@ static bool read_authorities(wanted *to) {
   return answer == SSHKEY_DONE && to->is_whole;
 }
 
-/* Whether it is a certificate for users that lists principals: one that lists none allows all. */
-static bool is_for_listed_users(judge_blob certificate) {
-  sshkey_fields fields;
-  memset(&fields, 0, sizeof fields);
-  return sshkey_certificate_fields(sshkey_bytes(certificate.bytes), certificate.length, &fields) ==
-             SSHKEY_DONE &&
-         fields.certificate_type == SSHKEY_USER && fields.lists_principals;
-}
-
 /* Prints the user where the certificate lets that user in, and returns the status. */
-static int let_in(judge_blob certificate, const wanted *to, judge_blob revoked) {
+static int let_in(judge_blob certificate, const wanted *to) {
   const login_request *asked = to->asked;
-  if (!is_for_listed_users(certificate)) {
-    login_complain(asked, "refused: the certificate is not one for users that are listed");
-    return 0;
-  }
-  uint32_t answer =
-      judge_certificate(certificate, (uint64_t)time(NULL), asked->user, to->by, revoked);
+  sshkey_login login = {.user = judge_text(asked->user),
+                        .authorities = judge_digests(to->by),
+                        .revoked = program_revocations(&asked->revoked),
+                        .unix_timestamp = (uint64_t)time(NULL),
+                        .least_rsa_bits = asked->least_rsa_bits};
+  uint32_t answer = certificate_log_in(certificate, login);
   if (answer != SSHKEY_DONE) return login_refuse(asked, answer);
   puts(asked->user);
   return program_is_written() ? 0 : program_untold;
@@ -91,7 +88,7 @@ static int let_in(judge_blob certificate, const wanted *to, judge_blob revoked) 
 
 static int answer_request(login_request *asked) {
   wanted to = {asked, {NULL, 0}, true};
-  judge_blob certificate = {NULL, 0}, revoked = {NULL, 0};
+  judge_blob certificate = {NULL, 0};
   int status = program_untold;
   uint32_t answer =
       judge_read_words(asked->type, asked->base64, SSHKEY_LINE_CERTIFICATE, &certificate);
@@ -99,12 +96,10 @@ static int answer_request(login_request *asked) {
     login_complain(asked, "no certificate is offered: %s", judge_meaning(answer));
   } else {
     login_note(asked, certificate, true);
-    if (login_read_revoked(asked, &revoked) && read_authorities(&to))
-      status = let_in(certificate, &to, revoked);
+    if (login_read_revoked(asked) && read_authorities(&to)) status = let_in(certificate, &to);
   }
   free(certificate.bytes);
   free(to.by.keys);
-  free(revoked.bytes);
   return status;
 }
 
@@ -113,11 +108,9 @@ int main(int count, char **words) {
   program_end_without_memory();
   int status = program_show(count, words, help);
   if (status >= 0) return status;
-  if (!login_read_words(count, words, false, &asked)) {
-    fputs(help, stderr);
-    return program_untold;
-  }
-  status = login_may_run(&asked) ? answer_request(&asked) : program_untold;
+  bool is_asked = login_read_words(count, words, LOGIN_BITS, &asked);
+  if (!is_asked) fputs(help, stderr);
+  status = is_asked && login_may_run(&asked) ? answer_request(&asked) : program_untold;
   login_forget(&asked);
   return status;
 }

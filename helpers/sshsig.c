@@ -63,7 +63,7 @@ static uint32_t told(uint32_t answer, judge_blob signature) {
 static uint32_t judge_signer(const sshkey_sha256 *signer, judge_authorities keys) {
   for (size_t at = 0; at < keys.count; at++)
     if (!memcmp(&keys.keys[at], signer, sizeof *signer)) return SSHKEY_DONE;
-  return JUDGE_OTHER_KEY;
+  return SSHKEY_SIGNER_NOT_ALLOWED;
 }
 
 /* SSHKEY_DONE where the signature is verified, and by one of the keys, if some are given. */
@@ -98,8 +98,7 @@ static uint32_t judge_allowed(judge_blob signature, const char *name_space,
   return sshkey_signer_verdict(
       sshkey_bytes(by->text.bytes), by->text.length, (const uint8_t *)by->identity,
       strlen(by->identity), (const uint8_t *)name_space, strlen(name_space), signature.bytes,
-      signature.length, by->unix_timestamp, sshkey_bytes(by->revoked.bytes), by->revoked.length,
-      is_verified);
+      signature.length, by->unix_timestamp, by->revoked.items, by->revoked.count, is_verified);
 }
 
 uint32_t judge_signer_of_digest(judge_blob signature, const char *name_space, judge_blob digest,
@@ -107,8 +106,6 @@ uint32_t judge_signer_of_digest(judge_blob signature, const char *name_space, ju
   if (!by->identity) return SSHKEY_SIGNER_NOT_ALLOWED;
   /* no cryptography runs over a key that may not sign */
   uint32_t answer = judge_allowed(signature, name_space, by, false);
-  /* here no file was read */
-  if (answer == SSHKEY_NOT_SIGNED && !by->revoked.bytes) answer = SSHKEY_UNREADABLE_REVOCATIONS;
   if (answer != SSHKEY_NOT_SIGNED) return told(answer, signature);
   answer = judge_question(signature, name_space, digest, NULL);
   return answer == SSHKEY_DONE ? judge_allowed(signature, name_space, by, true) : answer;

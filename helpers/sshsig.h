@@ -18,9 +18,9 @@ uint32_t judge_read_armour(judge_blob text, judge_blob *answer);
 size_t judge_digest_length(judge_blob signature);
 
 /* Whether the signature counts, in that namespace, for a message with that digest: SSHKEY_DONE, or
- * what is wrong first, JUDGE_OTHER_KEY where it is by none of the keys. No cryptography runs over
- * the key of such a one. With reserved bytes it is SSHKEY_NOT_SIGNED: ssh-keygen verifies it as if
- * there were none. */
+ * what is wrong first, SSHKEY_SIGNER_NOT_ALLOWED where it is by none of the keys. No cryptography
+ * runs over the key of such a one. With reserved bytes it is SSHKEY_NOT_SIGNED: ssh-keygen verifies
+ * it as if there were none. */
 uint32_t judge_sshsig_of_digest(judge_blob signature, const char *name_space, judge_blob digest,
                                 judge_authorities keys);
 
@@ -30,7 +30,7 @@ typedef struct {
   judge_blob text;         /* that of a file of allowed signers */
   const char *identity;    /* one of those whom it names; null is nobody */
   uint64_t unix_timestamp; /* when that is */
-  judge_blob revoked;      /* what a revocation file has, or judge_no_revocations */
+  sshkey_spans revoked;    /* what revocation files have, or SSHKEY_NO_REVOCATIONS */
 } judge_signers;
 
 /* The same, as the identity's by allowed signers: SSHKEY_DONE, or what is wrong first, a number of

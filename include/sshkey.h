@@ -67,6 +67,7 @@ uint32_t sshkey_abi(void);
 
 /* ---- what calls return ----------------------------------------------------------------------- */
 
+/* What a call returns. */
 enum {
   SSHKEY_DONE = 0,   /* done; of a validation: it is valid; of a revocation file: it revokes; of a
                         signer: the signature counts */
@@ -218,8 +219,8 @@ static inline sshkey_spans sshkey_no_revocations(void) {
 
 /* A part of a room, or of other bytes: where it begins, and how many bytes it has. */
 typedef struct {
-  size_t start;
-  size_t length;
+  size_t start;  /* the place of its first byte */
+  size_t length; /* the number of its bytes */
 } sshkey_part;
 
 /* A SHA-256 digest. */
@@ -270,11 +271,11 @@ enum {
  * digest. Whether somebody touched it or was verified, sshkey_userauth_question and
  * sshkey_grant_flags say of a client's signature. */
 typedef struct {
-  sshkey_part key;
-  sshkey_part message;
-  sshkey_part signature;
-  size_t length;      /* how many bytes of the room these take */
-  uint32_t algorithm; /* SSHKEY_ASK_* */
+  sshkey_part key;       /* its blob */
+  sshkey_part message;   /* what is signed */
+  sshkey_part signature; /* as the algorithm has it */
+  size_t length;         /* how many bytes of the room these take */
+  uint32_t algorithm;    /* SSHKEY_ASK_* */
 } sshkey_question;
 
 /* What stands in a line of a key file or of a certificate file: a blob, as the calls below take it,
@@ -286,6 +287,7 @@ typedef struct {
   uint32_t kind; /* SSHKEY_LINE_* */
 } sshkey_line;
 
+/* What the blob of a line is. */
 enum { SSHKEY_LINE_KEY = 1, SSHKEY_LINE_CERTIFICATE = 2 };
 
 /* ---- lines ----------------------------------------------------------------------------------- */

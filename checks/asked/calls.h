@@ -6,10 +6,18 @@
 #define SPANS 7
 #define NUMBERS 5
 
-/* What a call is given, and, from `length` on, what it writes. */
+/* Byte strings, each in memory of its own. */
+typedef struct {
+  sshkey_span *items;
+  size_t count;
+} given_spans;
+
+/* What a call is given, each span also as the several that its word may tell, and, from `length`
+ * on, what it writes. */
 typedef struct {
   const char *name;
   judge_blob spans[SPANS];
+  given_spans several[SPANS];
   uint64_t numbers[NUMBERS];
   judge_blob room;
   size_t length;
@@ -23,11 +31,21 @@ typedef struct {
   sshkey_certificate_option_parts certificate_option;
   sshkey_entry entry;
   sshkey_entry_option_parts entry_option;
+  sshkey_grant grant;
 } given_call;
+
+/* The structs that calls are given. */
+typedef struct {
+  sshkey_draft draft;
+  sshkey_login login;
+  sshkey_host_login host;
+  sshkey_userauth request;
+} given_structs;
 
 #define BYTES(at) it->spans[at].bytes, it->spans[at].length
 #define ROOM it->room.bytes, it->room.length
 #define DRAWN(at) {it->spans[at].bytes, it->spans[at].length}
+#define SEVERAL(at) it->several[at].items, it->several[at].count
 #define PORT (uint16_t)it->numbers[0]
 #define BY (const sshkey_sha256 *)it->spans[2].bytes, it->spans[2].length / sizeof(sshkey_sha256)
 #define CALLS                                                                                    \
@@ -41,7 +59,7 @@ typedef struct {
   CALL(certificate_parts, BYTES(0), &it->parts)                                                  \
   CALL(next_option, BYTES(0), it->numbers[0], &it->certificate_option)                           \
   CALL(certificate_key, BYTES(0), ROOM, &it->length)                                             \
-  CALL(certificate_to_be_signed, draft, ROOM, &it->length)                                       \
+  CALL(certificate_to_be_signed, &given->draft, ROOM, &it->length)                               \
   CALL(certificate_make, BYTES(0), BYTES(1), ROOM, &it->length)                                  \
   CALL(read_line, BYTES(0), ROOM, &it->line)                                                     \
   CALL(fingerprint, BYTES(0), &it->sha256)                                                       \
@@ -52,7 +70,7 @@ typedef struct {
   CALL(sshsig_question, BYTES(0), BYTES(1), BYTES(2), ROOM, &it->question, &it->sha256)          \
   CALL(sshsig_question_of_digest, BYTES(0), BYTES(1), BYTES(2), ROOM, &it->question,             \
        &it->sha256)                                                                              \
-  CALL(signer_verdict, BYTES(0), BYTES(1), BYTES(2), BYTES(3), it->numbers[0], BYTES(4),         \
+  CALL(signer_verdict, BYTES(0), BYTES(1), BYTES(2), BYTES(3), it->numbers[0], SEVERAL(4),       \
        (uint32_t)it->numbers[1])                                                                 \
   CALL(key_normal, BYTES(0), ROOM, &it->length)                                                  \
   CALL(certificate_normal, BYTES(0), ROOM, &it->length)                                          \
@@ -61,18 +79,24 @@ typedef struct {
   CALL(next_string, BYTES(0), it->numbers[0], &it->part)                                         \
   CALL(krl_revokes_key, BYTES(0), BYTES(1))                                                      \
   CALL(krl_revokes_certificate, BYTES(0), BYTES(1))                                              \
-  CALL(revoked_key, BYTES(0), BYTES(1))                                                          \
-  CALL(revoked_certificate, BYTES(0), BYTES(1))                                                  \
+  CALL(revoked_key, SEVERAL(0), BYTES(1))                                                        \
+  CALL(revoked_certificate, SEVERAL(0), BYTES(1))                                                \
   CALL(next_line, BYTES(0), it->numbers[0], &it->part)                                           \
   CALL(authorized_entry, BYTES(0), ROOM, &it->entry)                                             \
   CALL(known_host, BYTES(0), ROOM, &it->entry)                                                   \
   CALL(nth_option, BYTES(0), it->numbers[0], ROOM, &it->entry_option)                            \
-  CALL(host_verdict, BYTES(0), BYTES(1), PORT, BYTES(2))                                         \
-  CALL(authority_verdict, BYTES(0), BYTES(1), PORT, BYTES(2))                                    \
+  CALL(login_verdict, &given->login, (uint32_t)it->numbers[2], ROOM, &it->grant)                 \
+  CALL(host_key_verdict, &given->host, BYTES(2))                                                 \
+  CALL(host_certificate_verdict, &given->host, BYTES(2), (uint32_t)it->numbers[3])               \
+  CALL(unreadable_host_line, BYTES(0), BYTES(1), PORT, &it->length)                              \
+  CALL(userauth_question, &given->request, ROOM, &it->question)                                  \
+  CALL(userauth_question_of, &given->request, BYTES(6), ROOM, &it->question)                     \
+  CALL(grant_flags, (uint32_t)it->numbers[0], BYTES(0), BYTES(1))                                \
+  CALL(is_other_key_line, BYTES(0))                                                              \
   CALL(source_address_allows, BYTES(0), BYTES(1))                                                \
   CALL(from_allows, BYTES(0), BYTES(2), BYTES(1))
 
-static uint32_t call_by_name(given_call *it, const sshkey_draft *draft) {
+static uint32_t call_by_name(given_call *it, const given_structs *given) {
 #define CALL(call, ...) \
   if (!strcmp(it->name, #call)) return sshkey_##call(__VA_ARGS__);
   CALLS
@@ -83,18 +107,26 @@ static uint32_t call_by_name(given_call *it, const sshkey_draft *draft) {
 /* Makes the call; what it writes to is filled beforehand, the room with FILLED. */
 static uint32_t called(given_call *it, int filling) {
   const uint64_t *numbers = it->numbers;
-  sshkey_draft draft = {DRAWN(0), DRAWN(1), DRAWN(2), DRAWN(3), DRAWN(4), DRAWN(5), DRAWN(6),
-                        numbers[0], numbers[1], numbers[2], (uint32_t)numbers[3],
-                        (uint32_t)numbers[4]};
+  const judge_blob *by = &it->spans[4];
+  given_structs given = {
+      {DRAWN(0), DRAWN(1), DRAWN(2), DRAWN(3), DRAWN(4), DRAWN(5), DRAWN(6), numbers[0],
+       numbers[1], numbers[2], (uint32_t)numbers[3], (uint32_t)numbers[4]},
+      {DRAWN(0), DRAWN(1), DRAWN(2), DRAWN(3),
+       {(const sshkey_sha256 *)by->bytes, by->length / sizeof(sshkey_sha256)}, {SEVERAL(5)},
+       numbers[0], (uint32_t)numbers[1]},
+      {{SEVERAL(0)}, DRAWN(1), {SEVERAL(3)}, numbers[2], (uint32_t)numbers[1], PORT},
+      {DRAWN(0), DRAWN(1), DRAWN(2), DRAWN(3), DRAWN(4), DRAWN(5), (uint32_t)numbers[0],
+       (uint32_t)numbers[1]}};
   size_t from = offsetof(given_call, length);
   memset((char *)it + from, filling, sizeof *it - from);
   if (it->room.length) memset(it->room.bytes, FILLED, it->room.length);
-  return call_by_name(it, &draft);
+  return call_by_name(it, &given);
 }
 
 #undef BYTES
 #undef ROOM
 #undef DRAWN
+#undef SEVERAL
 #undef PORT
 #undef BY
 #undef CALLS

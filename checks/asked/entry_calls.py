@@ -11,6 +11,7 @@ from lib.harness import ssh_keygen
 
 from .linked import EXAMPLES, run, word
 from .made import loaded
+from .revocation_calls import EMPTY
 
 LINES, TEXTS, FILES, CUTS = 90, 30, 200, 40
 # what texts of lines are put together of
@@ -179,40 +180,23 @@ def bytes_of(spelled):
     return b"" if spelled == '""' else bytes.fromhex(spelled)
 
 
-def authority_in(folder, hosts, text, name, port, key, verdict):
-    """What is said of the key as an authority's, by the lines that ssh-keygen finds for the name: none of them has a fault
-    where the verdict on the key is not one of the first two."""
-    if verdict in ("HOST_REVOKED", "HOST_UNREADABLE"):
-        return verdict
-    path = hosts.written(folder, text.decode().splitlines())
-    found = hosts.found(path, hosts.looked_up(name.decode(), port)).values()
-    return "DONE" if ("CA", key) in found else "HOST_UNKNOWN"
-
-
 def host_cases(draw, folder, hosts):
-    """Names, texts, hosts, ports and keys, and the names of what is wanted of a host's key and of an authority's."""
+    """Names, texts, hosts, ports and keys, and the name of what is wanted. Where nothing is known at another port, the plain name
+    counts, about which ssh-keygen was not asked (asked/host_calls.py)."""
     keys, hosts.FILES = hosts.made(folder), FILES
-    types = {line: name for name, line in keys.items()}
     for question, shown, wanted in hosts.of_files(draw, folder, keys):
         text, name, port, key = map(bytes_of, question.removeprefix("host-verdict ").split(" , "))
-        verdict, blob = VERDICTS[wanted], base64.b64decode(key.split()[1])
-        authority = authority_in(folder, hosts, text, name, int(port), types[key.decode()], verdict)
-        yield shown, text, name, int(port), blob, verdict, authority
-    for shown, text, name, given, wanted in (
-        ("no text", b"\xff", b"h", blob, "TEXT"), ("no host", b"", b"\xff", blob, "TEXT"),
-        ("neither", b"\xff", b"\xff", b"", "TEXT"), ("no key", b"", b"h", b"", "LENGTH"),
-        ("more than a key", b"", b"h", blob + b"\0", "TRAILING_DATA"),
-    ):  # fmt: skip
-        yield shown, text, name, 22, given, wanted, wanted
+        if wanted != "Unknown" or int(port) == 22:
+            yield shown, text, name, int(port), base64.b64decode(key.split()[1]), VERDICTS[wanted]
 
 
 def check_verdicts(judge, folder, hosts):
-    """What a text says of the keys of hosts and authorities is what `ssh-keygen -F` finds."""
+    """What a text says of the keys of hosts is what `ssh-keygen -F` finds."""
     cases = list(host_cases(random.Random(hosts.SEED), folder, hosts))
-    questions = [f"verdict {word(text)} {word(host)} {word(key)} {port}" for _, text, host, port, key, *_ in cases]
-    judge.ask("verdicts", questions, [f"{judge.number(one)} {judge.number(other)}" for *_, one, other in cases])
-    few = [name for name in VERDICTS.values() if sum(it[-2] == name for it in cases) < FILES // 60]
-    judge.check("each verdict is among them", not few and sum(it[-1] == "DONE" for it in cases) > 2, few)
+    questions = [f"host-key {word(text)} {word(host)} {word(key)} {word(EMPTY)} {port} 0" for _, text, host, port, key, _ in cases]
+    judge.ask("verdicts", questions, [str(judge.number(wanted)) for *_, wanted in cases])
+    few = [name for name in VERDICTS.values() if sum(it[-1] == name for it in cases) < FILES // 60]
+    judge.check("each verdict is among them", not few, few)
 
 
 def check_example(count, folder):

@@ -1,64 +1,142 @@
-"""Whether a certificate is a host's: validate_host of the helpers, of check.py and of the packages. The certificates and the files
-of known_hosts are those about which checks/callers asks a real ssh, and what is wanted is what is wanted there."""
+"""Whether a key or a certificate is a host's: the library's verdicts, with a verifier of each language between the two of a
+certificate. The rows are those of hosts.py, about which checks/callers asks a real ssh, and what is wanted is what is wanted there."""
 import time
+from dataclasses import dataclass, replace
 
 from lib.harness import blob_of, string
 
 from .hosts import (
-    AROUND_NOW, AUTHORITY, BROKEN, CERTIFICATES, CERTIFICATES_OF_FILES, HOST, INVALID, NAMED, NOBODY, TEXTS, field, in_one_file, written,
+    AUTHORITY, BROKEN, CAPITALS, CERTIFICATES, CERTIFICATES_AND_LATER, CERTIFICATES_OF_FILES, HOST, INVALID, KEY_ID, KEYS, KEYS_AND_LATER, KEYS_OF_FILES,
+    LATER, LISTS, NAMED, NOBODY, OTHER, OWN, SERIAL, TEXTS, field, in_one_file, written,
 )  # fmt: skip
-from .linked import run, word
+from .linked import run, several, word
 from .login_calls import blocks, built_page, said_by_python
-from .login_options import APPLICATIONS, certificate
+from .login_options import NO_NORMAL_FORM, RSA, UNACCEPTED, certificate, judged_keys, respelled
 from .revocation_calls import EMPTY, made_list
-from .security_key_calls import SecurityKey
 
-# what the program callers answers, and what validate_host does
-WANTED = {
-    "ok": "DONE", "revoked": "HOST_REVOKED", "unreadable": "HOST_UNREADABLE", "unknown": "HOST_UNKNOWN", INVALID: "OUT_OF_WINDOW",
-    field("valid principals"): "UNLISTED_PRINCIPAL", field("type"): "NOT_FOR_HOSTS", field("critical options"): "UNMET_OPTION",
-    "nobody": "NOBODY_LISTED",
+# what the program callers answers, and the library
+NUMBERED = {
+    "ok": "DONE", "revoked": "HOST_REVOKED", "unreadable": "HOST_UNREADABLE", "changed": "HOST_CHANGED", "unknown": "HOST_UNKNOWN", INVALID: "OUT_OF_WINDOW",
+    field("valid principals"): "VALID_PRINCIPALS", field("type"): "OTHER_TYPE", field("critical options"): "CRITICAL_OPTIONS", field("key id"): "KEY_ID",
+    UNACCEPTED: "KEY_NOT_ACCEPTED", NO_NORMAL_FORM: "NOT_NORMAL_FORM",
 }  # fmt: skip
+# lines of known_hosts, the port, and which of them is the first that may hide a revocation
+UNREADABLE = [
+    ("no line", [], 22, 0), ("an entry", ["h.example {key}"], 22, 0), ("a line that is none", ["h.example {key}", "@revoked h.example {broken}"], 22, 2),
+    ("behind a comment and an empty line", [" # {broken}", "", "h.example {broken}"], 22, 3), ("two of them", ["g.example {key}", "* {broken}", "h.example {broken}"], 22, 2),
+    ("of another host", ["g.example {broken}"], 22, 0), ("of a pattern that is not the host's", ["*.example,!h.example {broken}"], 22, 0),
+    ("of its port", ["[h.example]:2222 {broken}"], 2222, 1), ("of another port", ["[h.example]:2222 {broken}"], 22, 0), ("of the plain name", ["h.example {broken}"], 2222, 0),
+    ("by a hash", ["#h.example {key}", "@revoked * {broken}"], 22, 2), ("a zero byte", ["g.example {key}\0"], 22, 1), ("a later kind", ["h.example {later}"], 22, 0),
+    ("a later kind under another name", ["h.example {later}", "h.example {misnamed}"], 22, 2), ("a line and revoked", ["@revoked * {key}", "@revoked * {broken}"], 22, 2),
+]  # fmt: skip
 
 
-def cases(maker):
-    """Names, certificates, hosts, ports, texts, and what is wanted."""
-    keys = {"key": maker.key("host-key", "ed25519"), "other": maker.key("another-host", "ed25519"), "broken": BROKEN}
-    keys["authority"] = maker.key("host-authority", "ed25519")
-    nobody = ("that lists nobody", [[AUTHORITY]], 22, NOBODY, "nobody")
-    for name, files, port, words, wanted in [*in_one_file(CERTIFICATES), nobody, *CERTIFICATES_OF_FILES]:
-        blob = blob_of(maker.certificate("host-authority", "host-key", *words))
-        yield name, blob, HOST, port, [written(maker, lines, keys) for lines in files], WANTED[wanted]
-    good, texts = blob_of(maker.certificate("host-authority", "host-key", *NAMED)), [written(maker, [AUTHORITY], keys)]
-    turned, revoked = good[:-1] + bytes([good[-1] ^ 1]), written(maker, ["@revoked * {key}"], keys)
-    capitals = blob_of(maker.certificate("host-authority", "host-key", "-h", "-n", "H.Example", *AROUND_NOW))
-    for name, blob, host, given, wanted in (
-        ("asked for in capitals", good, "H.EXAMPLE", texts, "DONE"), ("and listed so", capitals, "H.Example", texts, "UNLISTED_PRINCIPAL"),
-        ("no file", good, HOST, [], "HOST_UNKNOWN"), ("another host", good, "g.example", texts, "HOST_UNKNOWN"),
-        ("a turned bit", turned, HOST, texts, "NOT_SIGNED"), ("no certificate", good[:-1], HOST, texts, "LENGTH"),
-        ("a key in its place", blob_of(keys["key"]), HOST, texts, "LABEL"), ("no bytes", b"", HOST, texts, "LENGTH"),
-        ("a host that is no text", good, b"\xff", texts, "TEXT"), ("a file that is no text", good, HOST, [b"\xff\n"], "TEXT"),
-        ("a second file that is no text", good, HOST, [*texts, b"\xff\n"], "TEXT"),
-        ("revoked, and a second file that is no text", good, HOST, [revoked, b"\xff\n"], "TEXT"),
-        ("a file that is no text, and revoked", good, HOST, [b"\xff\n", revoked], "TEXT"),
+@dataclass(frozen=True)
+class Shown:
+    """What a host shows, a key or a certificate, and who asks."""
+
+    blob: bytes
+    texts: tuple
+    port: int = 22
+    host: bytes = HOST.encode()
+    revoked: tuple = (EMPTY,)
+    second: int = 0
+    bits: int = 0
+
+    def question(self):
+        what, second = ("host-certificate", [self.second]) if self.second else ("host-key", [])
+        words = [what, several(self.texts), word(self.host), word(self.blob), several(self.revoked), self.port, self.bits, *second]
+        return " ".join(map(str, words))
+
+
+def keys_of(maker):
+    found = {"key": maker.key("host-key", "ed25519"), "other": maker.key("another-host", "ed25519"), "broken": BROKEN, **LATER}
+    return {**found, "authority": maker.key("host-authority", "ed25519")}
+
+
+def by_key(maker, keys):
+    """Names, what is shown, and what is wanted, where that is a key."""
+    own, listed = blob_of(keys["key"]), [written(maker, ["h.example {key}"], keys)]
+    for name, files, port, wanted in [*in_one_file([*KEYS, *KEYS_AND_LATER]), *KEYS_OF_FILES]:
+        yield f"a key, {name}", Shown(own, tuple(written(maker, lines, keys) for lines in files), port), NUMBERED[wanted]
+    for name, held, is_accepted, _ in judged_keys(maker):
+        known = Shown(blob_of(held), (f"{HOST} {held}\n".encode(),))
+        yield f"a key, {name}", known, "DONE" if is_accepted else "KEY_NOT_ACCEPTED"
+        if "2047" in name:
+            yield f"a key, {name}, of 2048 at least", replace(known, bits=2048), "KEY_NOT_ACCEPTED"
+    for name, blob, changes, wanted in (
+        ("no file", own, {"texts": ()}, "HOST_UNKNOWN"), ("no key", own[:-1], {}, "LENGTH"), ("more than a key", own + b"\0", {}, "TRAILING_DATA"),
+        ("a host that is no text", own, {"host": b"\xff"}, "TEXT"), ("a file that is no text", own, {"texts": (*listed, b"\xff\n")}, "TEXT"),
     ):  # fmt: skip
-        yield name, blob, host, 22, given, wanted
-    for name, key, key_id, others, wanted in texts_of(keys["key"]):
-        line = certificate(maker, "host-authority", key, b"".join(map(string, [*others, HOST.encode()])), {}, {}, key_id, kind=2)
-        yield name, blob_of(line), HOST, 22, texts, wanted
-    # sshd alone reads the names of extensions
-    line = certificate(maker, "host-authority", keys["key"], string(HOST.encode()), {}, {"x\0y": b""}, kind=2, key_id=b"id")
-    yield "a zero byte in the name of an extension", blob_of(line), HOST, 22, texts, "DONE"
+        yield f"a key, {name}", replace(Shown(blob, tuple(listed)), **changes), wanted
 
 
-def texts_of(key):
-    """Names, keys, key ids, hosts beside the one, and what is wanted: of certificates with texts that ssh(1) does not read."""
+def by_certificate(maker, keys):
+    """The same of certificates."""
+    now, texts = int(time.time()), (written(maker, [AUTHORITY], keys),)
+
+    def made(*words):
+        return blob_of(maker.certificate("host-authority", "host-key", *words))
+
+    def put_together(key, key_id=b"id", others=(), extensions=None, by="host-authority"):
+        names = b"".join(map(string, [*others, HOST.encode()]))
+        return blob_of(certificate(maker, by, key, names, {}, extensions or {}, key_id, kind=2))
+
+    for name, files, port, words, wanted in [*in_one_file([*CERTIFICATES, *CERTIFICATES_AND_LATER]), *CERTIFICATES_OF_FILES]:
+        # of a name that is not listed sshd says the same as of names that are not read
+        number = "UNLISTED_PRINCIPAL" if wanted == field("valid principals") else NUMBERED[wanted]
+        yield name, Shown(made(*words), tuple(written(maker, lines, keys) for lines in files), port, second=now), number
+    for name, host, words, wanted in CAPITALS:
+        number = "DONE" if wanted == "ok" else "UNLISTED_PRINCIPAL"
+        yield name, Shown(made(*words), texts, host=host.encode(), second=now), number
+    yield "that lists nobody", Shown(made(*NOBODY), texts, second=now), "VALID_PRINCIPALS"
     for name, key_id, others, wanted, _ in TEXTS:
-        yield name, key, key_id, others, "DONE" if wanted == "ok" else "UNREADABLE"
-    for kind in ("Ed25519", "ECDSA P-256"):
-        for name, application, wanted, _ in APPLICATIONS:
-            held = SecurityKey(kind, application).line()
-            yield f"{name} ({kind})", held, b"id", [], "DONE" if wanted.startswith("ok") else "UNREADABLE"
+        yield name, Shown(put_together(keys["key"], key_id, others), texts, second=now), NUMBERED[wanted]
+    by_rsa = (written(maker, [AUTHORITY], {"authority": maker.read(f"{RSA}.pub")}),)
+    for name, held, is_accepted, _ in judged_keys(maker):
+        shown = Shown(put_together(held, by=RSA), by_rsa, second=now)
+        yield name, shown, "DONE" if is_accepted else "KEY_NOT_ACCEPTED"
+        if "2047" in name:
+            yield f"{name}, of 2048 at least", replace(shown, bits=2048), "KEY_NOT_ACCEPTED"
+    flag = {"x@example.com": b""}
+    line = certificate(maker, RSA, keys["key"], string(HOST.encode()), {}, flag, kind=2)
+    for name, other in respelled(maker, line, RSA, flag):
+        yield name, Shown(blob_of(other), by_rsa, second=now), "NOT_NORMAL_FORM"
+    # sshd alone reads the names of extensions
+    yield "a zero byte in the name of an extension", Shown(put_together(keys["key"], extensions={"x\0y": b""}), texts, second=now), "DONE"
+    good = Shown(made(*NAMED), texts, second=now)
+    turned, revoked = good.blob[:-1] + bytes([good.blob[-1] ^ 1]), written(maker, ["@revoked * {key}"], keys)
+    for name, changes, wanted in (
+        ("no file", {"texts": ()}, "HOST_UNKNOWN"), ("another host", {"host": b"g.example"}, "HOST_UNKNOWN"), ("a turned bit", {"blob": turned}, "NOT_SIGNED"),
+        ("no certificate", {"blob": good.blob[:-1]}, "LENGTH"), ("a key in its place", {"blob": blob_of(keys["key"])}, "LABEL"), ("no bytes", {"blob": b""}, "LENGTH"),
+        ("a host that is no text", {"host": b"\xff"}, "TEXT"), ("a file that is no text", {"texts": (b"\xff\n",)}, "TEXT"), ("no time", {"second": 2**63}, "INVALID_TIME"),
+        ("a second file that is no text", {"texts": (*texts, b"\xff\n")}, "TEXT"), ("a file that is no text, and revoked", {"texts": (b"\xff\n", revoked)}, "TEXT"),
+    ):  # fmt: skip
+        yield name, replace(good, **changes), wanted
+
+
+def by_lists(maker, keys):
+    """The same of a key and of a certificate by revocation files, of which all that are given have to be read."""
+    for name in (OWN, OTHER):
+        keys = {**keys, name: maker.read(f"{name}.pub")}
+    texts = (written(maker, ["h.example {key}", AUTHORITY], {**keys, "authority": keys[OWN]}),)
+    line = maker.certificate(OWN, "host-key", *NAMED, "-z", str(SERIAL), "-I", KEY_ID)
+    shown = Shown(blob_of(keys["key"]), texts), Shown(blob_of(line), texts, second=int(time.time()))
+    made = {name: made_list(maker, by, [it.format(**{**keys, "authority": keys[OWN]})]) for name, by, it, _, _ in LISTS}
+    rows = [(name, (made[name],), *map(NUMBERED.get, answers)) for name, _, _, *answers in LISTS]
+    nothing, revoked, text = made["nothing"], made["the key"], keys["key"].encode()
+    for name, files, wanted in (
+        ("a list that breaks off", (nothing[:-1],), "UNREADABLE_REVOCATIONS"), ("no list", (b"x",), "UNREADABLE_REVOCATIONS"), ("no file", (), "UNREADABLE_REVOCATIONS"),
+        ("a file of no bytes", (b"",), "DONE"), ("a text of the key", (text,), "HOST_REVOKED"), ("a text of another", (keys["other"].encode(),), "DONE"),
+        ("the key, by the second of two", (nothing, revoked), "HOST_REVOKED"), ("the key, by the first of two", (text, b""), "HOST_REVOKED"),
+        ("nothing by one, and the other breaks off", (nothing, revoked[:-1]), "UNREADABLE_REVOCATIONS"),
+    ):  # fmt: skip
+        rows.append((name, files, wanted, wanted))
+    for name, files, *answers in rows:
+        for what, asked, wanted in zip(("a key", "a certificate"), shown, answers):
+            yield f"{what}, revoked is {name}", replace(asked, revoked=files), wanted
+            if wanted == "DONE":
+                yield f"{what}, revoked is {name}, and the host is not known", replace(asked, revoked=files, texts=(b"",)), "HOST_UNKNOWN"
 
 
 # around the C of docs/FOREIGN.md, "A host's certificate"
@@ -100,29 +178,15 @@ def check_page(count, built, made):
 
 
 def check_hosts(judge):
-    now, asked = int(time.time()), []
-    for name, blob, host, port, texts, wanted in cases(judge.made.maker):
-        spelled = [word(it) for it in (host.encode() if isinstance(host, str) else host, *texts)]
-        question = " ".join(["host-certificate", word(blob), str(now), spelled[0], str(port), *spelled[1:]])
-        asked.append((name, question, judge.said_of(wanted)))
-    judge.hold("a host's certificate", asked)
-    check_revoked(judge, now)
-
-
-def check_revoked(judge, now):
-    """The same with a key revocation list, which is asked before known_hosts."""
     maker = judge.made.maker
-    good, authority = blob_of(maker.certificate("host-authority", "host-key", *NAMED)), maker.read("host-authority.pub")
-    known, revoked = written(maker, [AUTHORITY], {"authority": authority}), made_list(maker, None, [maker.read("host-key.pub")])
+    keys = keys_of(maker)
+    maker.write("user.pub", maker.read("user0.pub"))
+    found = [*by_key(maker, keys), *by_certificate(maker, keys), *by_lists(maker, keys)]
+    judge.hold("a host's", [(name, shown.question(), str(judge.number(wanted))) for name, shown, wanted in found])
     asked = []
-    for name, krl, text, wanted in (
-        ("a list of nothing", EMPTY, known, "DONE"), ("of nothing, and the host is not known", EMPTY, b"", "HOST_UNKNOWN"),
-        ("a list that has its key", revoked, known, "REVOKED"), ("that has its key, and the host is not known", revoked, b"", "REVOKED"),
-        ("a list that has its authority", made_list(maker, None, [authority]), known, "REVOKED"),
-        ("a file of no bytes", b"", known, "DONE"), ("a text of its key", maker.read("host-key.pub").encode(), known, "REVOKED"),
-        ("a text of another key", maker.read("another-host.pub").encode(), known, "DONE"),
-        ("a list without its last byte", revoked[:-1], known, "UNREADABLE_REVOCATIONS"),
-    ):  # fmt: skip
-        words = [word(good), str(now), word(HOST.encode()), "22", word(krl), word(text)]
-        asked.append((name, " ".join(["host-revoked", *words]), judge.said_of(wanted)))
-    judge.hold("a host's certificate and a revocation list", asked)
+    for name, lines, port, wanted in UNREADABLE:
+        text = written(maker, lines, keys)
+        asked.append((name, f"unreadable-line {word(text)} {word(HOST.encode())} {port}", f"0 {wanted}" if wanted else str(judge.number("END"))))
+    for name, text, host in (("no text", b"\xff", HOST.encode()), ("no host", b"", b"\xff")):
+        asked.append((name, f"unreadable-line {word(text)} {word(host)} 22", str(judge.number("TEXT"))))
+    judge.hold("the line of a host's that can't be read", asked)

@@ -13,14 +13,6 @@ bool __wrap_judge_is_signature(const sshkey_question *question, const uint8_t *r
   return __real_judge_is_signature(question, room);
 }
 
-/* Whether the option has the one name that is known, and another value than "unmet". */
-static bool is_met(const uint8_t *name, size_t name_length, const uint8_t *value,
-                   size_t value_length, void *given) {
-  const judge_blob *known = given;
-  return name_length == known->length && !memcmp(name, known->bytes, name_length)
-         && (value_length != 5 || memcmp(value, "unmet", 5));
-}
-
 /* The bytes of the word as a text of malloc, which ends at its first zero byte. */
 static char *text_of(const char *word) {
   judge_blob bytes = bytes_of(word);
@@ -31,50 +23,84 @@ static char *text_of(const char *word) {
   return text;
 }
 
-static void say_judged(uint32_t answer) {
-  if (answer == SSHKEY_DONE)
-    printf("valid");
-  else
-    printf("refused: %s (%" PRIu32 ")", judge_meaning(answer), answer);
+/* ---- who is let in */
+
+/* Whether no byte of what a call may write is another than 0. */
+static bool is_zero(const void *bytes, size_t length) {
+  const uint8_t *byte = bytes;
+  for (size_t at = 0; at < length; at++)
+    if (byte[at]) return false;
+  return true;
 }
 
-static void ask_user(char **words, size_t count) {
-  judge_blob certificate = bytes_of(words[1]), key = bytes_of(words[2]);
-  judge_blob keys = bytes_of(words[5]), known = bytes_of(words[6]), krl = bytes_of(words[7]);
-  char *user = text_of(words[4]);
-  judge_login asked = {user, key, strtoull(words[3], NULL, 10),
-                       {(sshkey_sha256 *)keys.bytes, keys.length / sizeof(sshkey_sha256)},
-                       known.length ? is_met : NULL, &known,
-                       {NULL, 0}};
-  if (judge_validate_user(certificate, &asked) == SSHKEY_DONE) printf("no file lets in ");
-  asked.revoked = count > 7 ? krl : judge_no_revocations;
+/* Says where a verification was asked for, or another answer came after it, though the first call
+ * did not ask for one. */
+static void say_asked_for(uint32_t unverified, uint32_t answer) {
+  if (unverified == SSHKEY_NOT_SIGNED || (unverified == answer && !verifications)) return;
+  printf(" and %zu verifications after %" PRIu32, verifications, unverified);
+}
+
+/* Asks judge_log_in in a room of the certificate's length: the number, and the grant. */
+static uint32_t log_in(given_call *it, const char *name) {
+  uint32_t unverified = ask(it, name, NULL);
+  const uint64_t *numbers = it->numbers;
+  sshkey_login login = {judge_span(it->spans[0]), judge_span(it->spans[1]),
+                        judge_span(it->spans[2]), judge_span(it->spans[3]),
+                        {(const sshkey_sha256 *)it->spans[4].bytes,
+                         it->spans[4].length / sizeof(sshkey_sha256)},
+                        {it->several[5].items, it->several[5].count}, numbers[0],
+                        (uint32_t)numbers[1]};
+  free(it->room.bytes);
+  it->room = made(it->spans[0].length);
+  memset(&it->grant, FILLED, sizeof it->grant);
   verifications = 0;
-  uint32_t answer = judge_validate_user(certificate, &asked);
-  if (!strcmp(words[0], "user"))
-    say_judged(answer);
-  else
-    printf("%zu", verifications);
-  judge_blob made[] = {certificate, key, keys, known, krl};
-  for (size_t at = 0; at < sizeof made / sizeof *made; at++) free(made[at].bytes);
-  free(user);
+  uint32_t answer = judge_log_in(&login, it->room.bytes, it->room.length, &it->grant);
+  say_asked_for(unverified, answer);
+  return answer;
 }
 
-static void ask_host(char **words, size_t count) {
-  bool has_list = !strcmp(words[0], "host-revoked");
-  judge_blob certificate = bytes_of(words[1]), krl = bytes_of(words[5]), texts[MOST];
-  char *host = text_of(words[3]);
-  size_t first = has_list ? 6 : 5, text_count = count - first;
-  for (size_t at = 0; at < text_count; at++) texts[at] = bytes_of(words[first + at]);
-  judge_host asked = {host, (uint16_t)strtoul(words[4], NULL, 10), strtoull(words[2], NULL, 10),
-                      texts, text_count, {NULL, 0}};
-  if (judge_validate_host(certificate, &asked) == SSHKEY_DONE) printf("no file lets in ");
-  asked.revoked = has_list ? krl : judge_no_revocations;
-  say_judged(judge_validate_host(certificate, &asked));
-  free(krl.bytes);
-  for (size_t at = 0; at < text_count; at++) free(texts[at].bytes);
-  free(certificate.bytes);
-  free(host);
+static void ask_log_in(given_call *it, const char *name) {
+  const sshkey_grant *of = &it->grant;
+  if (!is_done(log_in(it, name))) {
+    if (!is_zero(of, sizeof *of) || !is_filled(it->room, 0)) printf(" and a grant");
+    return;
+  }
+  if (!is_filled(it->room, of->length)) printf(" more is written");
+  printf(" %" PRIu32 " %" PRIu64 " ", of->permits, of->serial);
+  say_word(of->authority.bytes, sizeof of->authority.bytes);
+  say_part(" ", it->room, of->force_command);
+  say_part(" ", it->room, of->key_id);
 }
+
+static void ask_verifications(given_call *it, const char *name) {
+  log_in(it, name);
+  printf("%zu", verifications);
+}
+
+static void ask_host_certificate(given_call *it, const char *name) {
+  const uint64_t *numbers = it->numbers;
+  sshkey_host_login login = {{it->several[0].items, it->several[0].count},
+                             judge_span(it->spans[1]),
+                             {it->several[3].items, it->several[3].count}, numbers[2],
+                             (uint32_t)numbers[1], (uint16_t)numbers[0]};
+  uint32_t unverified = ask(it, name, NULL);
+  verifications = 0;
+  uint32_t answer = judge_host_certificate(&login, judge_span(it->spans[2]));
+  say_asked_for(unverified, answer);
+  printf("%" PRIu32, answer);
+}
+
+/* Whether the client signed the request: judge_userauth. */
+static void ask_userauth(given_call *it, const char *name) {
+  (void)name;
+  sshkey_userauth request = {judge_span(it->spans[0]), judge_span(it->spans[1]),
+                             judge_span(it->spans[2]), judge_span(it->spans[3]),
+                             judge_span(it->spans[4]), judge_span(it->spans[5]),
+                             (uint32_t)it->numbers[0], (uint32_t)it->numbers[1]};
+  printf("%" PRIu32, judge_userauth(&request));
+}
+
+/* ---- who signed a file */
 
 static void ask_sshsig_by(char **words) {
   judge_blob signature = bytes_of(words[1]), digest = bytes_of(words[3]), by = bytes_of(words[4]);
@@ -89,22 +115,18 @@ static void ask_sshsig_by(char **words) {
 }
 
 static void ask_signer_by(char **words) {
-  judge_blob text = bytes_of(words[1]), signature = bytes_of(words[4]);
-  judge_blob revoked = bytes_of(words[5]), digest = bytes_of(words[7]);
+  given_call it = given_by(words + 1, 7);
+  judge_blob digest = it.spans[6], signature = it.spans[3];
   char *identity = text_of(words[2]), *name_space = text_of(words[3]);
-  judge_signers by = {text, NULL, strtoull(words[6], NULL, 10), revoked};
+  judge_signers by = {it.spans[0], NULL, strtoull(words[6], NULL, 10),
+                      {it.several[4].items, it.several[4].count}};
   if (judge_signer_of_digest(signature, name_space, digest, &by) != SSHKEY_SIGNER_NOT_ALLOWED)
     printf("nobody may sign ");
   by.identity = identity;
-  by.revoked = (judge_blob){NULL, 0};
-  if (judge_signer_of_digest(signature, name_space, digest, &by) == SSHKEY_DONE)
-    printf("no file lets sign ");
-  by.revoked = revoked;
   verifications = 0;
   printf("%" PRIu32, judge_signer_of_digest(signature, name_space, digest, &by));
   printf(" %zu", verifications);
-  judge_blob made[] = {text, signature, revoked, digest};
-  for (size_t at = 0; at < sizeof made / sizeof *made; at++) free(made[at].bytes);
+  let_go(&it);
   free(identity);
   free(name_space);
 }
@@ -118,19 +140,15 @@ static void ask_names(void) {
 
 static void ask_meanings(void) {
   for (uint32_t answer = 0; answer < 200; answer++)
-    printf("%s%s", answer ? "," : "", judge_meaning(answer));
+    printf("%s%s", answer ? "|" : "", judge_meaning(answer));
 }
 
 /* Answers a question that takes no call of sshkey.h by its name; false where it is none. */
-static bool has_judged(char **words, size_t count) {
+static bool has_judged(char **words) {
   if (!strcmp(words[0], "names"))
     ask_names();
   else if (!strcmp(words[0], "meanings"))
     ask_meanings();
-  else if (!strcmp(words[0], "user") || !strcmp(words[0], "verifications"))
-    ask_user(words, count);
-  else if (!strcmp(words[0], "host-certificate") || !strcmp(words[0], "host-revoked"))
-    ask_host(words, count);
   else if (!strcmp(words[0], "sshsig-by"))
     ask_sshsig_by(words);
   else if (!strcmp(words[0], "signer-by"))

@@ -28,6 +28,21 @@ def word(data):
     return data.hex() or "-"
 
 
+def data_of(text):
+    """The bytes of a word."""
+    return b"" if text == "-" else bytes.fromhex(text)
+
+
+def several(many):
+    """Several byte strings, likewise: with commas between, or none of them."""
+    return ",".join(map(word, many)) or "none"
+
+
+def datas_of(text):
+    """The byte strings of a word."""
+    return [] if text == "none" else list(map(data_of, text.split(",")))
+
+
 def turned(data):
     """The bytes with the lowest bit of each turned."""
     return [data[:at] + bytes([data[at] ^ 1]) + data[at + 1 :] for at in range(len(data))]
@@ -80,7 +95,7 @@ def enumerations():
 def enumerations_of(sshkey):
     """The same of the Python module."""
     prefixes = {"": sshkey.Status, "ASK_": sshkey.Algorithm, "MARKER_": sshkey.Marker}
-    named = [*prefixes.items(), ("", sshkey.CertificateType), ("LINE_", sshkey._library.LineKind)]
+    named = [*prefixes.items(), ("", sshkey.CertificateType), ("LINE_", sshkey._header.LineKind)]
     return [{f"SSHKEY_{prefix}{it.name}": int(it) for it in members} for prefix, members in named]
 
 
@@ -115,7 +130,7 @@ def check_symbols(count, built, sshkey):
     taken = symbols(library, "--undefined-only") - TAKEN
     taken = {it for it in taken if not it.startswith(("_ITM_", "__gmon_start__"))}
     count.check("and takes memory and copying of the C library, and nothing else", not taken, taken)
-    taken = set(sshkey._library.CALLS)
+    taken = set(sshkey._header.CALLS)
     count.check("the Python module has all calls", taken == calls, taken ^ calls)
     found, wanted = (sorted(it, key=str) for it in (enumerations_of(sshkey), enumerations()))
     count.check("and all numbers of the header", found == wanted and all(wanted), found, wanted)
@@ -141,7 +156,7 @@ def check_names(count, built):
 def check_layout(count, sshkey):
     """The structs of Python lie as the header asserts, which check_header compiles."""
     found = {"size_t": ctypes.sizeof(ctypes.c_size_t)}
-    for struct in vars(sshkey._library).values():
+    for struct in vars(sshkey._header).values():
         # each has the name in C as its page
         name = struct.__doc__ if isinstance(struct, type) and issubclass(struct, ctypes.Structure) else ""
         if name.startswith("sshkey_"):

@@ -1,151 +1,97 @@
-"""Whether a certificate logs a user in: validate_user of the helpers, of check.py and of the packages. What is wanted follows from
-the words that ssh-keygen was given, which makes the certificates."""
+"""Whether a certificate lets a user in, and to what it binds the login: the library's verdict, with a verifier of each language between
+its two calls. What is wanted follows from the words that ssh-keygen was given, which makes the certificates, and from the rows of
+login_options.py, about which checks/callers asks a real sshd."""
 import hashlib
+import ipaddress
 import re
 import time
-from unittest.mock import patch
+from dataclasses import dataclass, replace
 
 from lib.harness import ROOT, blob_of, string
 
-from .linked import HELPERS, PEDANTIC, SANITIZED, C, run, word
-from .login_options import ADDRESSES, APPLICATIONS, CASES, CRITICAL, FLAGS, MOST, TEXTS, certificate
+from .linked import HELPERS, PEDANTIC, SANITIZED, C, run, several, word
+from .login_options import (
+    APPLICATIONS, CASES, CRITICAL, EXTENSIONS, KEY_ID, MOST, NO_NORMAL_FORM, PRINCIPALS, RSA, TEXTS, UNACCEPTED, certificate, judged_keys,
+    respelled,
+)  # fmt: skip
 from .made import MIDDLE, WINDOW
 from .revocation_calls import EMPTY, made_list
 from .security_key_calls import SecurityKey
 
-SOURCE, COMMAND = "source-address=192.0.2.0/24", "force-command=true"
+# what the program callers answers, and the library
+NUMBERED = {
+    CRITICAL: "CRITICAL_OPTIONS", EXTENSIONS: "EXTENSIONS", KEY_ID: "KEY_ID", PRINCIPALS: "VALID_PRINCIPALS", UNACCEPTED: "KEY_NOT_ACCEPTED",
+    NO_NORMAL_FORM: "NOT_NORMAL_FORM",
+}  # fmt: skip
+# the numbers of what a grant permits (include/sshkey.h)
+PERMITS = {
+    "permit-pty": 1, "permit-port-forwarding": 2, "permit-agent-forwarding": 4, "permit-X11-forwarding": 8, "permit-user-rc": 16,
+    "any command": 32, "no-touch-required": 64, "no verification": 128,
+}  # fmt: skip
+FREE = PERMITS["any command"] | PERMITS["no verification"]
+# what ssh-keygen allows without words
+USUAL = FREE | 31
+INSIDE, OUTSIDE = (ipaddress.ip_address(it).packed for it in ("192.0.2.7", "198.51.100.7"))
 
 
-def cases(maker):
-    """Names, certificates, keys, seconds, users, authorities, the option that is known, and what is wanted."""
-    middle, words = MIDDLE, WINDOW
-    own, other = (blob_of(maker.read(f"user{it}.pub")) for it in (0, 1))
-    by, strange = (hashlib.sha256(blob_of(maker.read(f"authority{it}.pub"))).digest() for it in (0, 1))
+@dataclass(frozen=True)
+class Login:
+    """A login that is asked for, as the library takes it."""
 
-    def made(*more):
-        return blob_of(maker.certificate("authority0", "user0", *words, *more))
+    certificate: bytes
+    key: bytes
+    authorities: bytes
+    user: bytes = b"alice"
+    client: bytes = b""
+    revoked: tuple = (EMPTY,)
+    second: int = MIDDLE
+    bits: int = 0
 
-    good = made("-n", "alice,bob")
-    for name, blob, key, second, user, authorities, wanted in (
-        ("its user", good, own, middle, "alice", by, "DONE"), ("the other user", good, own, middle, "bob", by, "DONE"),
-        ("one of two authorities", good, own, middle, "alice", strange + by, "DONE"),
-        ("another user", good, own, middle, "eve", by, "UNLISTED_PRINCIPAL"),
-        ("no user", good, own, middle, "", by, "UNLISTED_PRINCIPAL"), ("a user that is no text", good, own, middle, b"\xff", by, "TEXT"),
-        ("another authority", good, own, middle, "alice", strange, "UNTRUSTED_AUTHORITY"),
-        ("another authority, and a turned bit", turned(good), own, middle, "alice", strange, "UNTRUSTED_AUTHORITY"),
-        ("no authority", good, own, middle, "alice", b"", "UNTRUSTED_AUTHORITY"),
-        ("too early", good, own, 1, "alice", by, "OUT_OF_WINDOW"),
-        ("too late", good, own, 2 * middle, "alice", by, "OUT_OF_WINDOW"),
-        ("a turned bit", turned(good), own, middle, "alice", by, "NOT_SIGNED"),
-        ("another key", good, other, middle, "alice", by, "OTHER_KEY"), ("no key", good, own[:-1], middle, "alice", by, "LENGTH"),
-        ("no certificate", good[:-1], own, middle, "alice", by, "LENGTH"),
-        ("a key in its place", own, own, middle, "alice", by, "LABEL"),
-        ("for hosts", made("-h", "-n", "alice"), own, middle, "alice", by, "NOT_FOR_USERS"),
-        ("nobody listed", made(), own, middle, "alice", by, "NOBODY_LISTED"),
-        ("nobody listed, for hosts", made("-h"), own, middle, "alice", by, "NOT_FOR_USERS"),
-    ):  # fmt: skip
-        yield name, blob, key, second, user, authorities, "", wanted
-    both, one = made("-n", "alice", "-O", SOURCE, "-O", COMMAND), made("-n", "alice", "-O", SOURCE)
-    flag = made("-n", "alice", "-O", "verify-required")
-    for name, blob, known, wanted in (
-        ("an option", one, "", "UNMET_OPTION"), ("one that is met", one, "source-address", "DONE"),
-        ("another is known", one, "force-command", "UNMET_OPTION"),
-        ("a beginning of its name", one, "source-addres", "UNMET_OPTION"),
-        ("the second of two", both, "source-address", "UNMET_OPTION"), ("the first of two", both, "force-command", "UNMET_OPTION"),
-        ("one that is not met", made("-n", "alice", "-O", "force-command=unmet"), "force-command", "UNMET_OPTION"),
-        ("a flag", flag, "", "UNMET_OPTION"), ("a flag that is met", flag, "verify-required", "DONE"),
-    ):  # fmt: skip
-        yield name, blob, own, middle, "alice", by, known, wanted
-    # ssh-keygen lists no such name
-    line = certificate(maker, "authority0", maker.read("user0.pub"), string(b""), {}, {})
-    yield "no user, where the empty name is listed", blob_of(line), own, int(time.time()), "", by, "", "UNLISTED_PRINCIPAL"
+    def words(self):
+        given = [*map(word, (self.certificate, self.user, self.key, self.client, self.authorities)), several(self.revoked)]
+        return " ".join([*given, str(self.second), str(self.bits)])
 
 
-def extensions(maker):
-    """The same with extensions. sshd refuses data in those of which it reads the name alone (checks/callers asks it)."""
-    middle, words = MIDDLE, WINDOW
-    own, other = (blob_of(maker.read(f"user{it}.pub")) for it in (0, 1))
-    by = hashlib.sha256(blob_of(maker.read("authority0.pub"))).digest()
+@dataclass(frozen=True)
+class Granted:
+    """What is wanted where the user is let in, by the first authority if no other is named."""
 
-    def made(*more):
-        pairs = [word for it in ("clear", *more) for word in ("-O", it)]
-        return blob_of(maker.certificate("authority0", "user0", *words, "-n", "alice", *pairs))
+    permits: int = USUAL
+    serial: int = 0
+    command: bytes = b""
+    key_id: bytes = b"id"
 
-    data = made("extension:permit-pty=1")
-    for name, blob, key, wanted in (
-        *((f"data in {it}", made(f"extension:{it}=1"), own, "FLAG_DATA") for it in FLAGS),
-        ("each flag", made(*(f"extension:{it}" for it in FLAGS)), own, "DONE"),
-        ("data in one of two flags", made("permit-pty", "extension:permit-user-rc=1"), own, "FLAG_DATA"),
-        ("data in a flag, and another key", data, other, "FLAG_DATA"),
-        ("data in a flag, and an option", made("extension:permit-pty=1", COMMAND), own, "UNMET_OPTION"),
-        ("data in an extension that is not known", made("extension:x@example.com=1"), own, "DONE"),
-        ("data in a flag with other capitals", made("extension:permit-PTY=1"), own, "DONE"),
-        ("data in a beginning of a flag", made("extension:permit-pt=1"), own, "DONE"),
-        ("data in more than a flag", made("extension:permit-pty2=1"), own, "DONE"),
-    ):  # fmt: skip
-        yield name, blob, key, middle, "alice", by, "", wanted
-    line = certificate(maker, "authority0", maker.read("user0.pub"), string(b"alice"), {}, {"permit-pty": string(b"")})
-    yield "an empty string in a flag", blob_of(line), own, int(time.time()), "alice", by, "", "NOT_SIGNED"
+    def words(self, login):
+        # the one that signed is the last of them
+        return f"0 {self.permits} {self.serial} {login.authorities[-32:].hex()} {word(self.command)} {word(self.key_id)}"
 
 
-def texts(maker):
-    """The same with texts and principals that sshd does not read, or takes to end at a zero byte: those about which checks/callers
-    asks it, and more."""
-    key = maker.read("user0.pub")
-    own, other = (blob_of(maker.read(f"user{it}.pub")) for it in (0, 1))
-    by = hashlib.sha256(blob_of(maker.read("authority0.pub"))).digest()
-    alice, zero = string(b"alice"), string(b"a\0b")
-    for name, principals, critical, more, key_id, held, wanted in (
-        *((name, b"".join(map(string, it)) + alice, {}, {}, key_id, own, wanted) for name, key_id, it, wanted, _ in TEXTS),
-        *((name, alice, {}, it, b"id", own, wanted) for name, _, it, wanted, _ in CASES if "\0" in "".join(it)),
-        ("a zero byte in a principal behind the user", alice + zero, {}, {}, b"id", own, "UNREADABLE"),
-        ("a zero byte for a principal", alice + string(b"\0"), {}, {}, b"id", own, "UNREADABLE"),
-        ("the user among too many principals at first", alice + string(b"x") * MOST, {}, {}, b"id", own, "UNREADABLE"),
-        ("a zero byte for a key id", alice, {}, {}, b"\0", own, "UNREADABLE"),
-        ("a zero byte in the second of two extensions", alice, {}, {"permit-pty": b"", "x\0y": b""}, b"id", own, "UNREADABLE"),
-        ("a zero byte in the data of an extension that is not known", alice, {}, {"x@example.com": zero}, b"id", own, "DONE"),
-        ("a zero byte in the key id, and another key", alice, {}, {}, b"a\0b", other, "UNREADABLE"),
-        ("a zero byte in the key id, and data in a flag", alice, {}, {"permit-pty": string(b"1")}, b"a\0b", own, "FLAG_DATA"),
-        ("a zero byte in an extension, and data in a flag", alice, {}, {"a\0b": b"", "permit-pty": string(b"1")}, b"id", own, "FLAG_DATA"),
-        ("a zero byte in the key id, and an option", alice, {"force-command": string(b"true")}, {}, b"a\0b", own, "UNMET_OPTION"),
-        ("a zero byte behind the name of an option", alice, {"source-address\0": string(b"::/0")}, {}, b"id", own, "UNMET_OPTION"),
-    ):  # fmt: skip
-        line = certificate(maker, "authority0", key, principals, critical, more, key_id)
-        # of the rows of checks/callers what the program there answers
-        status = {"ok": "DONE", "refused:": "UNREADABLE"}.get(wanted.split()[0], wanted)
-        yield name, blob_of(line), held, int(time.time()), "alice", by, "source-address", status
-    for kind in ("Ed25519", "ECDSA P-256"):
-        for name, application, wanted, _ in APPLICATIONS:
-            device = SecurityKey(kind, application)
-            line, status = certificate(maker, "authority0", device.line(), alice, {}, {}), "DONE" if wanted.startswith("ok") else "UNREADABLE"
-            yield f"{name} ({kind})", blob_of(line), device.blob(), int(time.time()), "alice", by, "", status
+def granted(answer, key_id=b"id"):
+    """What is wanted where the program callers answers `ok` and what the grant has."""
+    permits = {*PERMITS} & {it.partition("=")[0] for it in answer.split()}
+    bound = PERMITS["no verification"] if "verify-required" in answer.split() else 0
+    return Granted(FREE - bound | sum(PERMITS[it] for it in permits), 1, key_id=key_id)
 
 
-def values(maker):
-    """The same with values of critical options, about which checks/callers asks sshd, and more. Each option is known."""
-    key = maker.read("user0.pub")
-    own, other = (blob_of(maker.read(f"user{it}.pub")) for it in (0, 1))
-    by = hashlib.sha256(blob_of(maker.read("authority0.pub"))).digest()
-    for name, critical, held, wanted in (
-        # whether a list of addresses is well-formed is the caller's question, by sshkey_source_address_allows
-        *((name, it, own, "ok" if said == ADDRESSES else wanted) for name, it, _, wanted, said in CASES if it),
-        ("a zero byte behind addresses", {"source-address": string(b"::/0\0")}, own, CRITICAL),
-        *((f"a zero byte in {it}", {it: string(b"\0")}, own, CRITICAL) for it in ("force-command", "source-address", "verify-required")),
-        ("an empty command, and another key", {"force-command": b""}, other, CRITICAL),
-        ("the name of a flag and more, with data", {"verify-required2": string(b"1")}, own, "ok"),
-        ("a beginning of the name of a flag, with data", {"verify-require": string(b"1")}, own, "ok"),
-        *((f"without a value, and of a name like another's: {it}", {it: b""}, own, "ok") for it in ("force-comman", "source-address2")),
-        ("a zero byte in the value of another name", {"x@example.com": string(b"a\0b")}, own, "ok"),
-    ):  # fmt: skip
-        line = certificate(maker, "authority0", key, string(b"alice"), critical, {})
-        status = "UNMET_OPTION" if wanted == CRITICAL else "DONE"
-        if string(b"") in critical.values():  # that is no normal form, over which the signature would be
-            status = "NOT_SIGNED"
-        yield name, blob_of(line), held, int(time.time()), "alice", by, *critical, status
+def wanted_of(answer, key_id=b"id"):
+    return granted(answer, key_id) if answer.startswith("ok ") else NUMBERED[answer]
 
 
-def all_cases(maker):
-    return [*cases(maker), *extensions(maker), *texts(maker), *values(maker)]
+class Certificates:
+    """Logins by certificates of a key by an authority, that are made as ssh-keygen's words say, or as its options and texts are given."""
+
+    def __init__(self, maker, key="user0", authority="authority0"):
+        self.maker, self.key, self.authority = maker, key, authority
+        self.held, self.by = maker.blob(key), hashlib.sha256(maker.blob(authority)).digest()
+
+    def made(self, *words):
+        return Login(blob_of(self.maker.certificate(self.authority, self.key, *WINDOW, *words)), self.held, self.by)
+
+    def put_together(self, users=b"alice", critical=None, extensions=None, key_id=b"id", line=""):
+        """One that ssh-keygen makes for nobody, valid now."""
+        users = users if isinstance(users, list) else [users]
+        made = certificate(self.maker, self.authority, line or self.maker.read(f"{self.key}.pub"), b"".join(map(string, users)), critical or {}, extensions or {}, key_id)
+        return Login(blob_of(made), blob_of(line) if line else self.held, self.by, second=int(time.time()))
 
 
 def turned(blob):
@@ -154,58 +100,163 @@ def turned(blob):
     return blob[:at] + bytes([blob[at] ^ 1]) + blob[at + 1 :]
 
 
-def check_users(judge):
-    """validate_user, of certificates in which one thing is wrong each, and of one by each kind of authority."""
-    made, asked = judge.made, []
-    for name, blob, key, second, user, by, known, wanted in all_cases(made.maker):
-        user = user.encode() if isinstance(user, str) else user
-        asked.append((name, f"{blob.hex()} {key.hex()} {second} {word(user)} {word(by)} {word(known.encode())}", wanted))
-    for number, kind in enumerate(made.kinds):
-        words = f"{made.key(number).hex()} {made.middle} {b'alice'.hex()} {made.authority(number).hex()} -"
-        for name, blob, wanted in (("good", kind.blob, "DONE"), ("turned", turned(kind.blob), "NOT_SIGNED")):
-            asked.append((f"by an authority of {kind.name}, {name}", f"{blob.hex()} {words}", wanted))
-    judge.hold("a login by a certificate", [(name, f"user {words}", judge.said_of(wanted)) for name, words, wanted in asked])
-    revoked = check_revoked(judge)
-    if not judge.asker.is_package:
-        check_verifications(judge, asked + revoked)
-
-
-def check_revoked(judge):
-    """The same with a revocation file, which is asked behind the authority and before the signature."""
-    maker, (own, other) = judge.made.maker, (judge.made.key(it) for it in (0, 1))
-    good = blob_of(maker.certificate("authority0", "user0", *WINDOW, "-n", "alice", "-z", "5"))
-    by, strange = (judge.made.authority(it) for it in (0, 1))
-    revoked, unlisted = (made_list(maker, "authority0", [f"serial: {it}"]) for it in (5, 6))
-    asked = []
-    for name, blob, key, by_whom, krl, wanted in (
-        ("a list of nothing", good, own, by, EMPTY, "DONE"), ("a list without it", good, own, by, unlisted, "DONE"),
-        ("a list that has its number", good, own, by, revoked, "REVOKED"),
-        ("a list that has its key", good, own, by, made_list(maker, None, [maker.read("user0.pub")]), "REVOKED"),
-        ("a list that has its authority", good, own, by, made_list(maker, None, [maker.read("authority0.pub")]), "REVOKED"),
-        ("a file of no bytes", good, own, by, b"", "DONE"), ("a text of another key", good, own, by, maker.read("user1.pub").encode(), "DONE"),
-        ("a text of its key", good, own, by, maker.read("user0.pub").encode(), "REVOKED"),
-        ("a text of its authority", good, own, by, maker.read("authority0.pub").encode(), "REVOKED"),
-        ("a list without its last byte", good, own, by, unlisted[:-1], "UNREADABLE_REVOCATIONS"),
-        ("a text with a line that is no key", good, own, by, b"ssh-ed25519\n", "UNREADABLE_REVOCATIONS"),
-        ("such a one, by another authority", good, own, strange, b"ssh-ed25519\n", "UNTRUSTED_AUTHORITY"),
-        ("revoked, by another authority", good, own, strange, revoked, "UNTRUSTED_AUTHORITY"),
-        ("revoked, a turned bit", turned(good), own, by, revoked, "REVOKED"), ("revoked, another key", good, other, by, revoked, "REVOKED"),
-        ("another key, a list without it", good, other, by, unlisted, "OTHER_KEY"),
+def cases(maker):
+    """Names, logins, and what is wanted."""
+    certificates = Certificates(maker)
+    good, other, strange = certificates.made("-n", "alice,bob", "-z", "5"), maker.blob("user1"), hashlib.sha256(maker.blob("authority1")).digest()
+    five, broken = Granted(serial=5), replace(good, certificate=turned(good.certificate))
+    hosts, own = certificates.made("-h", "-n", "alice").certificate, good.key
+    for name, changes, wanted in (
+        ("its user", {}, five), ("the other user", {"user": b"bob"}, five), ("the second of two authorities", {"authorities": strange + good.authorities}, five),
+        ("another user", {"user": b"eve"}, "UNLISTED_PRINCIPAL"), ("a beginning of a user", {"user": b"alic"}, "UNLISTED_PRINCIPAL"),
+        ("a user, and a zero byte", {"user": b"alice\0"}, "UNLISTED_PRINCIPAL"), ("no user", {"user": b""}, "VALID_PRINCIPALS"),
+        ("a user that is no text", {"user": b"\xff"}, "TEXT"), ("that, and no key", {"user": b"\xff", "key": b""}, "TEXT"),
+        ("another authority", {"authorities": strange}, "UNTRUSTED_AUTHORITY"), ("no authority", {"authorities": b""}, "UNTRUSTED_AUTHORITY"),
+        ("the first second", {"second": 1704067200}, five), ("a second too early", {"second": 1704067199}, "OUT_OF_WINDOW"),
+        ("the last second", {"second": 1706745599}, five), ("a second too late", {"second": 1706745600}, "OUT_OF_WINDOW"),
+        ("no time", {"second": 2**63}, "INVALID_TIME"), ("another key", {"key": other}, "OTHER_KEY"), ("no key", {"key": own[:-1]}, "LENGTH"),
+        ("no certificate", {"certificate": good.certificate[:-1]}, "LENGTH"), ("a key in its place", {"certificate": own}, "LABEL"),
+        ("neither", {"key": own + b"!", "certificate": b""}, "TRAILING_DATA"), ("for hosts", {"certificate": hosts}, "OTHER_TYPE"),
+        ("for hosts, and another key", {"certificate": hosts, "key": other}, "OTHER_TYPE"),
+        ("another key, by another authority", {"key": other, "authorities": strange}, "OTHER_KEY"),
+        ("another user, and too late", {"user": b"eve", "second": 1706745600}, "OUT_OF_WINDOW"),
     ):  # fmt: skip
-        words = f"{blob.hex()} {key.hex()} {judge.made.middle} {b'alice'.hex()} {by_whom.hex()} - {word(krl)}"
-        asked.append((name, words, wanted))
-    judge.hold("a login and a revocation list", [(name, f"user {words}", judge.said_of(wanted)) for name, words, wanted in asked])
-    return asked
+        yield name, replace(good, **changes), wanted
+    for name, changes, wanted in (
+        ("a turned bit", {}, "NOT_SIGNED"), ("a turned bit, and too late", {"second": 1706745600}, "NOT_SIGNED"),
+        ("a turned bit, by another authority", {"authorities": strange}, "UNTRUSTED_AUTHORITY"), ("a turned bit, and another key", {"key": other}, "OTHER_KEY"),
+    ):  # fmt: skip
+        yield name, replace(broken, **changes), wanted
+    yield "nobody listed", certificates.made(), "VALID_PRINCIPALS"
+    yield "nobody listed, for hosts", certificates.made("-h"), "OTHER_TYPE"
+    yield "no user, where the empty name is listed", replace(certificates.put_together(b""), user=b""), "VALID_PRINCIPALS"
 
 
-def check_verifications(judge, asked):
-    """How often cryptography runs, in C and in Python: not at all over another authority's key."""
-    said = judge.said("logins whose verifications are counted", [f"verifications {words}" for _, words, _ in asked])
-    for (name, words, wanted), answer in zip(asked, said):
-        with patch.object(judge.made.check, "is_signature", wraps=judge.made.check.is_signature) as verifier:
-            judge.answers.to(f"user {words}")
-        right = {"UNTRUSTED_AUTHORITY": "0", "REVOKED": "0", "UNREADABLE_REVOCATIONS": "0", "NOT_SIGNED": "1", "DONE": "1"}.get(wanted, answer)
-        judge.check(f"the verifications of a login: {name}", answer == str(verifier.call_count) == right, answer, verifier.call_count)
+def options(maker):
+    """The same with what ssh-keygen writes of options."""
+    certificates = Certificates(maker)
+
+    def made(*names):
+        return certificates.made("-n", "alice", *(it for name in ("clear", *names) for it in ("-O", name)))
+
+    yield "no extension", made(), Granted(FREE)
+    for name, number in PERMITS.items():
+        if "-" in name:
+            yield f"the extension {name}", made(name), Granted(FREE | number)
+    yield "a command", made("force-command=echo 1, 2"), Granted(FREE - PERMITS["any command"], command=b"echo 1, 2")
+    yield "a verified user", made("verify-required"), Granted(FREE - PERMITS["no verification"])
+    yield "an option that is not known", made("critical:x@example.com=1"), "CRITICAL_OPTIONS"
+    yield "an extension that is not known", made("extension:x@example.com=1"), Granted(FREE)
+    bound, moved = made("source-address=192.0.2.0/24,2001:db8::/32", "force-command=ls"), Granted(FREE - PERMITS["any command"], command=b"ls")
+    mapped, long = bytes(10) + b"\xff\xff" + INSIDE, ipaddress.ip_address("2001:db8::7").packed
+    for name, client, wanted in (
+        ("a client from there", INSIDE, moved), ("one by an IPv6 socket", mapped, moved), ("one by IPv6", long, moved), ("one from elsewhere", OUTSIDE, "ELSEWHERE"),
+        ("one without an address", b"", "ELSEWHERE"), ("one with half an address", INSIDE[:2], "ELSEWHERE"), ("one with more", INSIDE + b"\0", "ELSEWHERE"),
+    ):  # fmt: skip
+        yield f"addresses, and {name}", replace(bound, client=client), wanted
+        yield f"no addresses, and {name}", replace(made(), client=client), Granted(FREE)
+    for name, changes, wanted in (
+        ("another user", {"user": b"eve"}, "UNLISTED_PRINCIPAL"), ("too late", {"second": 1706745600}, "OUT_OF_WINDOW"),
+        ("a turned bit", {"certificate": turned(bound.certificate)}, "NOT_SIGNED"),
+    ):  # fmt: skip
+        yield f"from elsewhere, and {name}", replace(bound, client=OUTSIDE, **changes), wanted
+
+
+def rows(maker):
+    """The rows of login_options.py, and what is wrong in two ways."""
+    certificates, zero = Certificates(maker), string(b"a\0b")
+    for name, critical, extensions, wanted, _ in CASES:
+        yield name, certificates.put_together(critical=critical, extensions=extensions), wanted_of(wanted)
+    for name, key_id, others, wanted, _ in TEXTS:
+        yield name, certificates.put_together([*others, b"alice"], key_id=key_id), wanted_of(wanted, key_id)
+    for kind in ("Ed25519", "ECDSA P-256"):
+        for name, application, wanted, _ in APPLICATIONS:
+            yield f"{name} ({kind})", certificates.put_together(line=SecurityKey(kind, application).line()), wanted_of(wanted)
+    flag, command = {"permit-pty": string(b"1")}, {"force-command": string(b"true")}
+    for name, given, wanted in (
+        ("a zero byte in a principal behind the user", {"users": [b"alice", b"a\0b"]}, PRINCIPALS), ("a zero byte for a principal", {"users": [b"alice", b"\0"]}, PRINCIPALS),
+        ("the user among too many principals at first", {"users": [b"alice", *[b"x"] * MOST]}, PRINCIPALS), ("a zero byte for a key id", {"key_id": b"\0"}, KEY_ID),
+        ("a zero byte in the second of two extensions", {"extensions": {"permit-pty": b"", "x\0y": b""}}, EXTENSIONS),
+        ("a zero byte in the data of an extension that is not known", {"extensions": {"x@example.com": zero}}, "ok touch-required"),
+        ("a zero byte in the key id, and data in a flag", {"key_id": b"a\0b", "extensions": flag}, EXTENSIONS),
+        ("data in a flag, and an option that is not known", {"extensions": flag, "critical": {"x@example.com": b""}}, CRITICAL),
+        ("a command, and an option that is not known", {"critical": {**command, "x@example.com": b""}}, CRITICAL),
+        ("a zero byte behind the name of an option", {"critical": {"source-address\0": string(b"::/0")}}, CRITICAL),
+        ("a zero byte behind addresses", {"critical": {"source-address": string(b"::/0\0")}}, CRITICAL),
+        ("a zero byte in the key id, and nobody listed", {"key_id": b"a\0b", "users": []}, KEY_ID),
+    ):  # fmt: skip
+        yield name, certificates.put_together(**given), wanted_of(wanted)
+
+
+def keys(maker):
+    """Keys of each kind and size, and certificates that do not stand as they were signed."""
+    maker.write("user.pub", maker.read("user0.pub"))
+    certificates, by_rsa = Certificates(maker), Certificates(maker, authority=RSA)
+    for name, line, is_accepted, _ in judged_keys(maker):
+        yield name, certificates.put_together(line=line), granted("ok touch-required") if is_accepted else "KEY_NOT_ACCEPTED"
+        if "1024" in name or "2047" in name:
+            size = 1024 if "1024" in name else 2047
+            for bits in (size, size + 1):
+                wanted = granted("ok touch-required") if bits == size else "KEY_NOT_ACCEPTED"
+                yield f"{name}, of {bits} at least", replace(certificates.put_together(line=line), bits=bits), wanted
+    signed = by_rsa.put_together(extensions={"permit-pty": b""})
+    yield "by an RSA authority", signed, granted("ok touch-required permit-pty=")
+    line = certificate(maker, RSA, maker.read("user0.pub"), string(b"alice"), {}, {"permit-pty": b""})
+    for name, other in respelled(maker, line, RSA, {"permit-pty": b""}):
+        yield f"a certificate with {name}", replace(signed, certificate=blob_of(other)), "NOT_NORMAL_FORM"
+
+
+def revocations(maker):
+    """Revocation files, which are asked behind the authority and before the signature: all that are given have to be read."""
+    good, other = Certificates(maker).made("-n", "alice", "-z", "5"), maker.blob("user1")
+    strange = hashlib.sha256(maker.blob("authority1")).digest()
+    revoked, unlisted = (made_list(maker, "authority0", [f"serial: {it}"]) for it in (5, 6))
+    five, cut, broken = Granted(serial=5), unlisted[:-1], b"ssh-ed25519\n"
+    own, by, another = (maker.read(f"{it}.pub").encode() for it in ("user0", "authority0", "user1"))
+    for name, files, wanted in (
+        ("a list of nothing", [EMPTY], five), ("a list without it", [unlisted], five), ("a list that has its number", [revoked], "REVOKED"),
+        ("a list that has its key", [made_list(maker, None, [own.decode()])], "REVOKED"), ("a list that has its authority", [made_list(maker, None, [by.decode()])], "REVOKED"),
+        ("a file of no bytes", [b""], five), ("a text of another key", [another], five), ("a text of its key", [own], "REVOKED"), ("a text of its authority", [by], "REVOKED"),
+        ("a list without its last byte", [cut], "UNREADABLE_REVOCATIONS"), ("a text with a line that is no key", [broken], "UNREADABLE_REVOCATIONS"),
+        ("no file", [], "UNREADABLE_REVOCATIONS"), ("two files without it", [unlisted, another], five), ("the first of two has it", [revoked, another], "REVOKED"),
+        ("the second of two has it", [another, revoked], "REVOKED"), ("the last of three has it", [EMPTY, b"", own], "REVOKED"),
+        ("the second of two is cut off", [another, cut], "UNREADABLE_REVOCATIONS"), ("one has it, and one is none", [revoked, broken], "UNREADABLE_REVOCATIONS"),
+    ):  # fmt: skip
+        yield f"revoked is {name}", replace(good, revoked=tuple(files)), wanted
+    for name, changes, wanted in (
+        ("by another authority", {"authorities": strange}, "UNTRUSTED_AUTHORITY"), ("a turned bit", {"certificate": turned(good.certificate)}, "REVOKED"),
+        ("another key", {"key": other}, "OTHER_KEY"), ("another user", {"user": b"eve"}, "REVOKED"), ("too late", {"second": 1706745600}, "REVOKED"),
+    ):  # fmt: skip
+        yield f"revoked, {name}", replace(good, revoked=(revoked,), **changes), wanted
+        if wanted == "UNTRUSTED_AUTHORITY":
+            yield "a file that is none, by another authority", replace(good, revoked=(broken,), **changes), wanted
+
+
+def by_kinds(made):
+    for number, kind in enumerate(made.kinds):
+        login = Login(kind.blob, made.key(number), made.authority(number))
+        yield f"by an authority of {kind.name}", login, Granted()
+        yield f"by an authority of {kind.name}, turned", replace(login, certificate=turned(kind.blob)), "NOT_SIGNED"
+
+
+def all_cases(made):
+    maker = made.maker
+    return [*cases(maker), *options(maker), *rows(maker), *keys(maker), *revocations(maker), *by_kinds(made)]
+
+
+# what is answered without a verification: all but these
+VERIFIED = ("NOT_SIGNED", "INVALID_TIME", "OUT_OF_WINDOW", "UNLISTED_PRINCIPAL", "ELSEWHERE")
+
+
+def check_users(judge):
+    """Logins by certificates in which one thing is wrong each, or two, of which the first is told."""
+    found = all_cases(judge.made)
+    said = [it.words(login) if isinstance(it, Granted) else str(judge.number(it)) for _, login, it in found]
+    judge.hold("a login by a certificate", [(name, f"log-in {login.words()}", it) for (name, login, _), it in zip(found, said)])
+    if judge.asker.is_package:
+        return
+    counts = [int(isinstance(it, Granted) or it in VERIFIED) for *_, it in found]
+    judge.hold("the verifications of a login", [(name, f"verifications {login.words()}", str(it)) for (name, login, _), it in zip(found, counts)])
 
 
 # ---- what README and docs/FOREIGN.md show

@@ -4,7 +4,8 @@ import os
 import re
 import shutil
 
-from lib.harness import ROOT, ssh_keygen
+from lib.harness import ROOT, blob_of, ssh_keygen, string
+from lib.signatures import signed
 
 from .linked import HELPERS, C, run
 from .revocation_calls import made_list
@@ -22,9 +23,15 @@ def sources():
                 yield path
 
 
+def request(key):
+    """What a client signs at a login as alice by that key (RFC 4252, section 7)."""
+    strings = b"".join(map(string, (b"alice", b"ssh-connection", b"publickey")))
+    return string(b"a session") + b"\x32" + strings + b"\1" + string(b"ssh-ed25519") + string(key)
+
+
 def filled(made, number):
-    """A folder of what one pair of threads asks about. The second one's signature is by the first one's key, and of its message: it
-    counts only where the threads take one another's bytes."""
+    """A folder of what one pair of threads asks about. The second one's signatures are by the first one's keys, and that of a message
+    is of the first one's: they count only where the threads take one another's bytes."""
     maker, folder = made.maker, made.maker.path(f"threads{number}")
     os.mkdir(folder)
     for name in ("authority", "user", "host"):
@@ -44,6 +51,9 @@ def filled(made, number):
             shutil.copy(maker.path(f"threads0/{name}"), f"{folder}/{name if name == 'message.sig' else 'signer.pub'}")
     signer = maker.read("threads0/authority.pub")
     maker.write(f"threads{number}/signers", f"alice {signer}\n")
+    with open(f"{folder}/request.sig", "wb") as file:
+        message = request(blob_of(maker.read(f"threads{number}/user.pub")))
+        file.write(signed(maker.path("threads0/user"), maker.read("threads0/user.pub"), message))
     return folder
 
 

@@ -2,11 +2,13 @@
 from __future__ import annotations
 
 import ipaddress
+from typing import Union
 
+from ._header import Status
 from ._library import LIBRARY, bytes_of, done, text_of
-from ._values import BytesLike, Status
+from ._values import BytesLike
 
-Address = str | ipaddress.IPv4Address | ipaddress.IPv6Address
+Address = Union[str, ipaddress.IPv4Address, ipaddress.IPv6Address]
 
 
 def source_address_allows(source_address: str | BytesLike, address: Address) -> bool:
@@ -14,7 +16,7 @@ def source_address_allows(source_address: str | BytesLike, address: Address) -> 
     socket. `::ffff:10.1.2.3` is 10.1.2.3, and an address of fe80::/10 is in no network, as to sshd.
 
     Raises Refused where the list is malformed, which sshd refuses too, or not UTF-8, and ValueError where the text is no address."""
-    return _allowed(LIBRARY.sshkey_source_address_allows(*text_of(source_address), *_packed(address)))
+    return _allowed(LIBRARY.sshkey_source_address_allows(*text_of(source_address), *bytes_of(packed(address))))
 
 
 def from_allows(listed: str | BytesLike, address: Address, host: str | BytesLike = "") -> bool:
@@ -24,11 +26,12 @@ def from_allows(listed: str | BytesLike, address: Address, host: str | BytesLike
     Raises Refused where the list is malformed, an address of fe80::/10, or of ::/96 beyond :: and ::1, may have another text to
     sshd, or the host's name is like an address: refuse the login then, since sshd may let in by this line. Raises ValueError where
     the text is no address, and MemoryError."""
-    return _allowed(LIBRARY.sshkey_from_allows(*text_of(listed), *text_of(host), *_packed(address)))
+    return _allowed(LIBRARY.sshkey_from_allows(*text_of(listed), *text_of(host), *bytes_of(packed(address))))
 
 
-def _packed(address: Address) -> tuple:
-    return bytes_of(ipaddress.ip_address(address).packed)
+def packed(address: Address) -> bytes:
+    """The bytes of an address. Raises ValueError where the text is none."""
+    return ipaddress.ip_address(address).packed
 
 
 def _allowed(status: int) -> bool:

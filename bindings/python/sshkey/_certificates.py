@@ -6,11 +6,11 @@ import os
 from collections.abc import Callable, Iterable, Mapping
 from types import MappingProxyType
 
+from ._header import FOREVER, CertificateOptionParts, CertificateType, Draft, Fields, Parts, Span, Status
 from ._keys import question_of, string, strings
-from ._library import LIBRARY, CertificateOption, Draft, Fields, Parts, Span
-from ._library import bytes_of, digests_of, done, number_of, parts_of, text_of, written
-from ._values import ALL_PRINCIPALS, FOREVER, AllPrincipals, BytesLike, CertificateFields, CertificateType, Contents
-from ._values import Question, Status
+from ._library import LIBRARY, bytes_of, digests_of, done, number_of, parts_of, text_of, written
+from ._values import ALL_PRINCIPALS, AllPrincipals, BytesLike, CertificateFields, Contents, Question, Refused
+from ._verify import Verifier, is_signature
 
 
 def certificate_question(certificate: BytesLike) -> Question:
@@ -18,6 +18,15 @@ def certificate_question(certificate: BytesLike) -> Question:
     signature do not go together, and MemoryError."""
     given = bytes_of(certificate)
     return question_of(lambda *room: LIBRARY.sshkey_certificate_question(*given, *room), 2 * given[1] + 256)
+
+
+def is_certified(certificate: bytes, verifier: Verifier) -> bool:
+    """Whether the certificate raises a question to which the verifier says yes."""
+    try:
+        question = certificate_question(certificate)
+    except Refused:
+        return False
+    return verifier(question) is True
 
 
 def validate_certificate(
@@ -40,6 +49,21 @@ def validate_certificate(
     return status
 
 
+def judge_certificate(
+    certificate: BytesLike, unix_timestamp: int, authorities: Iterable[BytesLike], principal: str | BytesLike | None = None,
+    verifier: Verifier = is_signature,
+) -> None:  # fmt: skip
+    """Returns exactly if the certificate is valid, as validate_certificate takes it, and raises what that raises; else Refused, which
+    says what is wrong first, and first UNTRUSTED_AUTHORITY, so that no cryptography runs over a key that somebody made up.
+
+    That is no login: whose key it certifies, its type, its options and revocations are not looked at. log_in does that, and
+    check_host_certificate."""
+    given, by = bytes_of(certificate)[0], list(authorities)
+    if validate_certificate(given, unix_timestamp, by, True, principal) == Status.UNTRUSTED_AUTHORITY:
+        raise Refused(Status.UNTRUSTED_AUTHORITY)
+    done(validate_certificate(given, unix_timestamp, by, is_certified(given, verifier), principal))
+
+
 # ---- what a certificate says
 
 
@@ -58,7 +82,7 @@ def options(blob: BytesLike) -> dict[str, str]:
     UnicodeDecodeError, which is a ValueError, where one is not UTF-8, and ValueError where two have one name: in a certificate all
     are UTF-8, and each has a name of its own."""
     found: dict[str, str] = {}
-    place, option = 0, CertificateOption()
+    place, option = 0, CertificateOptionParts()
     data, length = bytes_of(blob)
     while (status := LIBRARY.sshkey_next_option(data, length, place, ctypes.byref(option))) != Status.END:
         done(status)

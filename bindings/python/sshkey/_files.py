@@ -1,11 +1,12 @@
-"""Lines of authorized_keys and known_hosts, and what known_hosts says of a key and a file of allowed signers of a signature."""
+"""Lines of authorized_keys and known_hosts."""
 from __future__ import annotations
 
 import ctypes
 from collections.abc import Callable
 
-from ._library import LIBRARY, Entry, EntryOption, Part, ask, bytes_of, done, number_of, parts_of, text_of
-from ._values import AuthorizedEntry, BytesLike, KnownHost, Marker, Refused, Status
+from ._header import Entry, EntryOptionParts, Marker, Part, Status
+from ._library import LIBRARY, ask, bytes_of, done, parts_of
+from ._values import AuthorizedEntry, BytesLike, KnownHost, Refused
 
 
 def entry_lines(text: BytesLike) -> list[bytes]:
@@ -38,7 +39,7 @@ def authorized_entry(line: BytesLike) -> AuthorizedEntry:
 
 def known_host(line: BytesLike) -> KnownHost:
     """The entry of a line of known_hosts, as ssh reads it. Raises Refused where the line is none, which may be a revocation, and
-    MemoryError: to judge the key of a host, ask host_verdict about the whole text."""
+    MemoryError: to judge the key of a host, ask check_host_key about the whole text."""
     marker, parts = _entry(LIBRARY.sshkey_known_host, line)
     return KnownHost(Marker(marker), *parts)
 
@@ -53,7 +54,7 @@ def entry_options(text: BytesLike) -> list[tuple[bytes, bytes | None]]:
 
     Raises Refused where the text is no list of options, and MemoryError."""
     found: list[tuple[bytes, bytes | None]] = []
-    given, answer = bytes_of(text), EntryOption()
+    given, answer = bytes_of(text), EntryOptionParts()
     while True:
         try:
             room = ask(lambda *room: LIBRARY.sshkey_nth_option(*given, len(found), *room), answer, given[1])
@@ -63,53 +64,3 @@ def entry_options(text: BytesLike) -> list[tuple[bytes, bytes | None]]:
             raise
         name, value = parts_of(room, answer.name, answer.value)
         found.append((name, value if answer.has_value else None))
-
-
-def _judged(call: Callable[..., int], known_hosts: BytesLike, host: str | BytesLike, port: int, key: BytesLike) -> Status:
-    status = Status(call(*bytes_of(known_hosts), *text_of(host), number_of(port, 16), *bytes_of(key)))
-    if status < Status.HOST_REVOKED:
-        done(status)
-    return status
-
-
-def host_verdict(known_hosts: BytesLike, host: str | BytesLike, port: int, key: BytesLike) -> Status:
-    """Status.DONE exactly if a text of known_hosts trusts the key, given as its blob, for a host (a name or an address) at a
-    port; HOST_REVOKED, HOST_UNREADABLE, HOST_CHANGED or HOST_UNKNOWN for what it says else. Of several files the first of these
-    counts that one of them says: revoked, unreadable, trusted, changed. Where all say HOST_UNKNOWN of a port other than 22, and
-    only there, ssh(1) asks about port 22 too. `judge` of examples/host.py does both.
-
-    Raises Refused where the bytes are no key, or the text or the host is not UTF-8, ValueError for a port that is not from 0 to
-    65535, and MemoryError."""
-    return _judged(LIBRARY.sshkey_host_verdict, known_hosts, host, port, key)
-
-
-def authority_verdict(known_hosts: BytesLike, host: str | BytesLike, port: int, key: BytesLike) -> Status:
-    """The same of the key of an authority that signed a certificate of the host: Status.DONE exactly if an entry @cert-authority
-    for the host has the key, and neither is it revoked nor a line that may be the host's unreadable; HOST_UNKNOWN where no such
-    entry has it. Raises what host_verdict raises.
-
-    That is not all that a host's certificate has to meet: host_verdict of the certified key (`certificate_contents`) may not be
-    HOST_REVOKED, the certificate has to be one for hosts, without critical options, and valid by that authority for the host's
-    name in small letters. `validate_host` of examples/check.py asks all of it, of several files (docs/FOREIGN.md)."""
-    return _judged(LIBRARY.sshkey_authority_verdict, known_hosts, host, port, key)
-
-
-def signer_verdict(
-    signers: BytesLike, identity: str | BytesLike, namespace: str | BytesLike, signature: BytesLike, unix_timestamp: int,
-    revoked: BytesLike, is_verified: bool,
-) -> Status:  # fmt: skip
-    """Status.DONE exactly if an SSH signature (what stands in its armour, decoded) counts as the identity's in that namespace, by
-    a text of allowed signers, at that second, as `ssh-keygen -Y verify` says, or more strictly (docs/CALLING.md): a time without
-    Z in the text, which is of the machine's zone there, has to hold in every zone here. `revoked` is what the file of its -r has, a
-    list or keys, or NO_REVOCATIONS. `is_verified` is your answer to the question of this signature, in the namespace and of the message
-    (sshsig_question, sshsig_question_of_digest).
-
-    Else SIGNER_NOT_ALLOWED, UNREADABLE_REVOCATIONS, REVOKED or NOT_SIGNED, the first that holds. Ask with False first: only
-    where that is NOT_SIGNED there is something to verify (`judge_signer_of_digest` of examples/check.py does both). Raises Refused
-    where the bytes are no signature, or a text is not UTF-8, and MemoryError."""
-    texts = (*bytes_of(signers), *text_of(identity), *text_of(namespace), *bytes_of(signature))
-    second, given = number_of(unix_timestamp, 64), bytes_of(revoked)
-    status = Status(LIBRARY.sshkey_signer_verdict(*texts, second, *given, 1 if is_verified is True else 0))
-    if status < Status.NOT_SIGNED:
-        done(status)
-    return status

@@ -4,18 +4,18 @@ from __future__ import annotations
 import ctypes
 from collections.abc import Callable
 
-from . import _library
+from . import _header
+from ._header import FINGERPRINT_SHA512_TEXT, FINGERPRINT_TEXT, Algorithm, LineKind, Status
 from ._library import LIBRARY, ask, bytes_of, digests_of, done, parts_of, text_of, written
-from ._values import Algorithm, BytesLike, Line, Question, Status
+from ._values import BytesLike, Line, Question
 
-FINGERPRINT_TEXT, FINGERPRINT_SHA512_TEXT = 50, 93
 # what stands in front of the strings of an SSH signature: SSHSIG and its version
 SSHSIG_FRONT = 10
 
 
 def question_of(call: Callable[..., int], length: int) -> Question:
     """The question that a call writes, which is given a room of that length at first."""
-    answer = _library.Question()
+    answer = _header.Question()
     room = ask(call, answer, length)
     return Question(Algorithm(answer.algorithm), *parts_of(room, answer.key, answer.message, answer.signature))
 
@@ -23,10 +23,10 @@ def question_of(call: Callable[..., int], length: int) -> Question:
 def read_line(line: str | BytesLike) -> Line:
     """What stands in a line of a file of public keys or of certificates. Raises Refused where it is a line of neither, and
     MemoryError."""
-    given, answer = text_of(line), _library.Line()
+    given, answer = text_of(line), _header.Line()
     room = ask(lambda *room: LIBRARY.sshkey_read_line(*given, *room), answer, given[1])
     blob, comment = parts_of(room, answer.blob, answer.comment)
-    return Line(blob, comment.decode(), answer.kind == _library.LineKind.CERTIFICATE)
+    return Line(blob, comment.decode(), answer.kind == LineKind.CERTIFICATE)
 
 
 # ---- fingerprints
@@ -35,7 +35,7 @@ def read_line(line: str | BytesLike) -> Line:
 def fingerprint(key: BytesLike) -> bytes:
     """The SHA-256 fingerprint of a key, given as its blob: 32 bytes. Raises Refused where the bytes are no key, and
     MemoryError."""
-    answer = _library.Sha256()
+    answer = _header.Sha256()
     done(LIBRARY.sshkey_fingerprint(*bytes_of(key), ctypes.byref(answer)))
     return bytes(answer.bytes)
 
@@ -50,7 +50,7 @@ def fingerprint_text(digest: BytesLike) -> str:
 def fingerprint_sha512(key: BytesLike) -> bytes:
     """The SHA-512 fingerprint of a key, given as its blob: 64 bytes. Raises Refused where the bytes are no key, and
     MemoryError."""
-    answer = _library.Sha512()
+    answer = _header.Sha512()
     done(LIBRARY.sshkey_fingerprint_sha512(*bytes_of(key), ctypes.byref(answer)))
     return bytes(answer.bytes)
 
@@ -61,7 +61,7 @@ def fingerprint_sha512_text(digest: BytesLike) -> str:
     if length != 64:
         raise ValueError("a SHA-512 fingerprint has 64 bytes")
     room = (ctypes.c_uint8 * FINGERPRINT_SHA512_TEXT)()
-    done(LIBRARY.sshkey_fingerprint_sha512_text(_library.Sha512((ctypes.c_uint8 * 64)(*given)), room, len(room)))
+    done(LIBRARY.sshkey_fingerprint_sha512_text(_header.Sha512((ctypes.c_uint8 * 64)(*given)), room, len(room)))
     return bytes(room).decode("ascii")
 
 
@@ -95,7 +95,7 @@ def sshsig_question_of_digest(
 def _sshsig_question(
     call: Callable[..., int], signature: BytesLike, namespace: str | BytesLike, covered: BytesLike
 ) -> tuple[Question, bytes]:  # fmt: skip
-    given, signer = (*bytes_of(signature), *text_of(namespace), *bytes_of(covered)), _library.Sha256()
+    given, signer = (*bytes_of(signature), *text_of(namespace), *bytes_of(covered)), _header.Sha256()
     question = question_of(lambda *room: call(*given, *room, ctypes.byref(signer)), sum(given[1::2]) + 256)
     return question, bytes(signer.bytes)
 
@@ -154,7 +154,7 @@ def normal_signature(signature: BytesLike) -> bytes:
 def strings(blob: BytesLike) -> list[bytes]:
     """The strings, one after the other, that the bytes of a question's key or of an ECDSA signature are. Raises Refused where
     they are none."""
-    found, place, part = [], 0, _library.Part()
+    found, place, part = [], 0, _header.Part()
     data, length = bytes_of(blob)
     while (status := LIBRARY.sshkey_next_string(data, length, place, ctypes.byref(part))) != Status.END:
         done(status)

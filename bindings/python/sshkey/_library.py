@@ -1,168 +1,20 @@
-"""The library as ctypes has it: the structs and the calls of sshkey.h, and how a call is given bytes and a room."""
+"""The library as ctypes has it, and how a call is given bytes and a room."""
 from __future__ import annotations
 
 import ctypes
-import enum
 import operator
 import os
 from collections.abc import Callable, Iterable
 from ctypes.util import find_library
 from typing import Any
 
-from ._values import BytesLike, Refused, Status
-
-
-class LineKind(enum.IntEnum):
-    """SSHKEY_LINE_*"""
-
-    KEY = 1
-    CERTIFICATE = 2
-
-
-class Part(ctypes.Structure):
-    """sshkey_part"""
-
-    _fields_ = [("start", ctypes.c_size_t), ("length", ctypes.c_size_t)]
-
-
-class Sha256(ctypes.Structure):
-    """sshkey_sha256"""
-
-    _fields_ = [("bytes", ctypes.c_uint8 * 32)]
-
-
-class Sha512(ctypes.Structure):
-    """sshkey_sha512"""
-
-    _fields_ = [("bytes", ctypes.c_uint8 * 64)]
-
-
-class Question(ctypes.Structure):
-    """sshkey_question"""
-
-    _fields_ = [
-        ("key", Part), ("message", Part), ("signature", Part), ("length", ctypes.c_size_t), ("algorithm", ctypes.c_uint32),
-    ]  # fmt: skip
-
-
-class Line(ctypes.Structure):
-    """sshkey_line"""
-
-    _fields_ = [("blob", Part), ("comment", Part), ("length", ctypes.c_size_t), ("kind", ctypes.c_uint32)]
-
-
-class Fields(ctypes.Structure):
-    """sshkey_fields"""
-
-    _fields_ = [
-        ("serial", ctypes.c_uint64), ("valid_after", ctypes.c_uint64), ("valid_before", ctypes.c_uint64),
-        ("certificate_type", ctypes.c_uint32), ("lists_principals", ctypes.c_uint32), ("has_critical_options", ctypes.c_uint32),
-    ]  # fmt: skip
-
-
-class Parts(ctypes.Structure):
-    """sshkey_parts"""
-
-    _fields_ = [(name, Part) for name in ("key_id", "principals", "critical_options", "extensions", "authority")]
-
-
-class CertificateOption(ctypes.Structure):
-    """sshkey_certificate_option_parts"""
-
-    _fields_ = [("name", Part), ("value", Part), ("next", ctypes.c_size_t)]
-
-
-class Span(ctypes.Structure):
-    """sshkey_span"""
-
-    _fields_ = [("bytes", ctypes.c_char_p), ("length", ctypes.c_size_t)]
-
-
-class Draft(ctypes.Structure):
-    """sshkey_draft"""
-
-    _spans = ("key", "nonce", "key_id", "principals", "critical_options", "extensions", "authority")
-    _fields_ = [(name, Span) for name in _spans] + [
-        ("serial", ctypes.c_uint64), ("valid_after", ctypes.c_uint64), ("valid_before", ctypes.c_uint64),
-        ("certificate_type", ctypes.c_uint32), ("all_principals", ctypes.c_uint32),
-    ]  # fmt: skip
-
-
-class Entry(ctypes.Structure):
-    """sshkey_entry"""
-
-    _fields_ = [
-        ("front", Part), ("key", Part), ("comment", Part), ("length", ctypes.c_size_t), ("marker", ctypes.c_uint32),
-    ]  # fmt: skip
-
-
-class EntryOption(ctypes.Structure):
-    """sshkey_entry_option_parts"""
-
-    _fields_ = [("name", Part), ("value", Part), ("length", ctypes.c_size_t), ("has_value", ctypes.c_uint32)]
-
-
-class Length(ctypes.Structure):
-    """The size_t that says how many bytes of a room are written, or needed."""
-
-    _fields_ = [("length", ctypes.c_size_t)]
-
+from ._header import ABI, CALLS, Part, Sha256, Span, Spans, Status
+from ._values import BytesLike, Refused
 
 HERE = os.path.dirname(os.path.realpath(__file__))
 # where the sources have what is built; a copy of the package elsewhere has nothing there
 BUILT = os.path.join(HERE, "..", "..", "..", "out", "libsshkey.so")
 IS_IN_SOURCES = HERE.split(os.sep)[-3:-1] == ["bindings", "python"]
-# SSHKEY_ABI of the header from which this is written
-ABI = 1
-# bytes that are only read: a pointer and a length
-BYTES = (ctypes.c_char_p, ctypes.c_size_t)
-# bytes, and a place in them
-PLACE = (*BYTES, ctypes.c_size_t)
-# a room: a pointer and a length
-ROOM = (ctypes.POINTER(ctypes.c_uint8), ctypes.c_size_t)
-# a room, and the length of what is written there
-WRITTEN = (*ROOM, ctypes.POINTER(Length))
-DIGESTS = (ctypes.POINTER(Sha256), ctypes.c_size_t)
-# what each call takes
-CALLS = {
-    "sshkey_version": (),
-    "sshkey_abi": (),
-    "sshkey_certificate_question": (*BYTES, *ROOM, ctypes.POINTER(Question)),
-    "sshkey_certificate_validate": (*BYTES, ctypes.c_uint64, *DIGESTS, ctypes.c_uint32),
-    "sshkey_certificate_validate_for": (*BYTES, ctypes.c_uint64, *BYTES, *DIGESTS, ctypes.c_uint32),
-    "sshkey_certificate_fields": (*BYTES, ctypes.POINTER(Fields)),
-    "sshkey_fingerprint": (*BYTES, ctypes.POINTER(Sha256)),
-    "sshkey_fingerprint_text": (ctypes.POINTER(Sha256), *ROOM),
-    "sshkey_sshsig_question": (*BYTES, *BYTES, *BYTES, *ROOM, ctypes.POINTER(Question), ctypes.POINTER(Sha256)),
-    "sshkey_sshsig_question_of_digest": (*BYTES, *BYTES, *BYTES, *ROOM, ctypes.POINTER(Question), ctypes.POINTER(Sha256)),
-    "sshkey_signer_verdict": (*BYTES, *BYTES, *BYTES, *BYTES, ctypes.c_uint64, *BYTES, ctypes.c_uint32),
-    "sshkey_read_line": (*BYTES, *ROOM, ctypes.POINTER(Line)),
-    "sshkey_fingerprint_sha512": (*BYTES, ctypes.POINTER(Sha512)),
-    "sshkey_fingerprint_sha512_text": (ctypes.POINTER(Sha512), *ROOM),
-    "sshkey_signature_question": (*BYTES, *BYTES, *BYTES, *ROOM, ctypes.POINTER(Question)),
-    "sshkey_key_normal": (*BYTES, *WRITTEN),
-    "sshkey_certificate_normal": (*BYTES, *WRITTEN),
-    "sshkey_sshsig_normal": (*BYTES, *WRITTEN),
-    "sshkey_signature_normal": (*BYTES, *WRITTEN),
-    "sshkey_next_string": (*PLACE, ctypes.POINTER(Part)),
-    "sshkey_certificate_parts": (*BYTES, ctypes.POINTER(Parts)),
-    "sshkey_next_option": (*PLACE, ctypes.POINTER(CertificateOption)),
-    "sshkey_certificate_key": (*BYTES, *WRITTEN),
-    "sshkey_certificate_to_be_signed": (ctypes.POINTER(Draft), *WRITTEN),
-    "sshkey_certificate_make": (*BYTES, *BYTES, *WRITTEN),
-    "sshkey_krl_revokes_key": (*BYTES, *BYTES),
-    "sshkey_krl_revokes_certificate": (*BYTES, *BYTES),
-    "sshkey_revoked_key": (*BYTES, *BYTES),
-    "sshkey_revoked_certificate": (*BYTES, *BYTES),
-    "sshkey_next_line": (*PLACE, ctypes.POINTER(Part)),
-    "sshkey_authorized_entry": (*BYTES, *ROOM, ctypes.POINTER(Entry)),
-    "sshkey_known_host": (*BYTES, *ROOM, ctypes.POINTER(Entry)),
-    "sshkey_nth_option": (*PLACE, *ROOM, ctypes.POINTER(EntryOption)),
-    "sshkey_host_verdict": (*BYTES, *BYTES, ctypes.c_uint16, *BYTES),
-    "sshkey_authority_verdict": (*BYTES, *BYTES, ctypes.c_uint16, *BYTES),
-    "sshkey_source_address_allows": (*BYTES, *BYTES),
-    "sshkey_from_allows": (*BYTES, *BYTES, *BYTES),
-}
 
 
 def _named() -> str | None:
@@ -212,6 +64,19 @@ def text_of(value: str | BytesLike) -> tuple[bytes, int]:
     return bytes_of(value.encode() if isinstance(value, str) else value)
 
 
+def span_of(value: BytesLike) -> Span:
+    """A copy of the bytes, as a struct has them."""
+    return Span(*bytes_of(value))
+
+
+def spans_of(values: Iterable[BytesLike]) -> Spans:
+    """The same of several. Raises TypeError where one is None, as a file that was not read, and for bytes in place of a list."""
+    if isinstance(values, (str, bytes, bytearray, memoryview)):
+        raise TypeError("a list of files is wanted, and not what one has")
+    spans = [span_of(it) for it in values]
+    return Spans((Span * max(len(spans), 1))(*spans), len(spans))
+
+
 def number_of(value: int, bits: int) -> int:
     value = operator.index(value)
     if not 0 <= value < 1 << bits:
@@ -243,15 +108,15 @@ def ask(call: Callable[..., int], answer: Any, length: int) -> bytes:
         status = call(room, length, ctypes.byref(answer))
         if status != Status.ROOM:
             break
-        length = answer.length
+        length = answer.value if isinstance(answer, ctypes.c_size_t) else answer.length
     done(status)
     return bytes(room)
 
 
 def written(call: Callable[..., int], length: int) -> bytes:
     """The bytes that a call writes to the front of a room, which has that length at first."""
-    answer = Length()
-    return ask(call, answer, length)[: answer.length]
+    answer = ctypes.c_size_t()
+    return ask(call, answer, length)[: answer.value]
 
 
 def parts_of(data: bytes, *parts: Part) -> tuple[bytes, ...]:

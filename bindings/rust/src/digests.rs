@@ -5,13 +5,9 @@ use std::fmt;
 use crate::raw;
 use crate::status::Status;
 
-/// How many bytes the texts of fingerprints have.
-const SHA256_TEXT: usize = 50;
-const SHA512_TEXT: usize = 93;
-
 /// A SHA-256 digest. Its text is that of a fingerprint, as ssh-keygen shows it.
 #[repr(C)]
-#[derive(Clone, Copy, Debug, PartialEq, Eq, PartialOrd, Ord, Hash)]
+#[derive(Clone, Copy, Debug, Default, PartialEq, Eq, PartialOrd, Ord, Hash)]
 pub struct Sha256 {
     /// The digest's bytes.
     pub bytes: [u8; 32],
@@ -28,7 +24,7 @@ pub struct Sha512 {
 /// The SHA-256 fingerprint of a key, given as its blob. Fails with a number from 10 to 29 where
 /// the bytes are no key, and with [`Status::MEMORY`].
 pub fn fingerprint(key: &[u8]) -> Result<Sha256, Status> {
-    let mut digest = Sha256 { bytes: [0; 32] };
+    let mut digest = Sha256::default();
     Status::of(raw::sshkey_fingerprint(key, &mut digest))?;
     Ok(digest)
 }
@@ -48,14 +44,14 @@ fn show(answer: u32, room: &[u8], formatter: &mut fmt::Formatter<'_>) -> fmt::Re
 
 impl fmt::Display for Sha256 {
     fn fmt(&self, formatter: &mut fmt::Formatter<'_>) -> fmt::Result {
-        let mut room = [0; SHA256_TEXT];
+        let mut room = [0; raw::FINGERPRINT_TEXT];
         show(raw::sshkey_fingerprint_text(self, &mut room), &room, formatter)
     }
 }
 
 impl fmt::Display for Sha512 {
     fn fmt(&self, formatter: &mut fmt::Formatter<'_>) -> fmt::Result {
-        let mut room = [0; SHA512_TEXT];
+        let mut room = [0; raw::FINGERPRINT_SHA512_TEXT];
         show(raw::sshkey_fingerprint_sha512_text(self, &mut room), &room, formatter)
     }
 }

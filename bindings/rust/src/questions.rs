@@ -10,22 +10,23 @@ use crate::status::Status;
 /// of fewer than 2,048 bits) have to be refused.
 #[derive(Clone, Copy, Debug, PartialEq, Eq, Hash)]
 #[non_exhaustive]
+#[repr(u32)]
 pub enum Algorithm {
     /// With SHA-1. Behind the name p, q, g, y; signature: r and s, unsigned, 20 bytes each.
-    Dsa = 1,
+    Dsa = raw::ASK_DSA,
     /// ECDSA with SHA-256. Behind the name the curve's name, and the point as in SEC 1; signature:
     /// two strings, r and s.
-    P256 = 2,
+    P256 = raw::ASK_P256,
     /// The same with SHA-384.
-    P384 = 3,
+    P384 = raw::ASK_P384,
     /// The same with SHA-512.
-    P521 = 4,
+    P521 = raw::ASK_P521,
     /// Behind the name the key, 32 bytes; signature: 64 bytes.
-    Ed25519 = 5,
+    Ed25519 = raw::ASK_ED25519,
     /// PKCS#1 v1.5 with SHA-256. Behind the name e and n; signature: an unsigned number.
-    RsaSha256 = 6,
+    RsaSha256 = raw::ASK_RSA_SHA256,
     /// The same with SHA-512.
-    RsaSha512 = 7,
+    RsaSha512 = raw::ASK_RSA_SHA512,
 }
 
 impl Algorithm {
@@ -82,9 +83,24 @@ impl Question {
         self.answer.signature.of(&self.room)
     }
 
-    /// The struct of sshkey.h, and the room in which its parts stand, for a verifier in C.
-    #[must_use]
-    pub fn as_raw(&self) -> (&raw::Question, &[u8]) {
-        (&self.answer, &self.room)
+    /// Fails with [`Status::NOT_SIGNED`] where the verifier says no.
+    pub(crate) fn check(&self, verify: impl FnOnce(&Question) -> bool) -> Result<(), Status> {
+        if verify(self) {
+            Ok(())
+        } else {
+            Err(Status::NOT_SIGNED)
+        }
+    }
+}
+
+/// What the library says once it is told whether a verification says yes. It is asked first as if
+/// that said no, and the verification is made only where nothing else is wrong.
+pub(crate) fn decide<T>(
+    verdict: impl Fn(bool) -> Result<T, Status>,
+    is_verified: impl FnOnce() -> Result<bool, Status>,
+) -> Result<T, Status> {
+    match verdict(false) {
+        Err(Status::NOT_SIGNED) => verdict(is_verified()?),
+        said => said,
     }
 }

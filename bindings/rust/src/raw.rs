@@ -1,168 +1,435 @@
-//! The structs and the calls of sshkey.h as they are. What a verifier in C takes is public: a
-//! [`Question`] and its [`Part`]s.
+//! The structs, the numbers and the calls of include/sshkey.h.
+//!
+//! Printed by bindings/prototypes, which writes it anew: change the header, and run
+//! bindings/prototypes --write.
 
-use std::marker::PhantomData;
-use std::sync::Once;
+use std::mem::size_of;
 
+use crate::calling::{calls, expect_abi, Slice};
 use crate::digests::{Sha256, Sha512};
+use crate::status::{statuses, Status};
 
-/// `sshkey_part`: where a part of other bytes begins, and how many bytes it has.
+/// What sshkey_abi answers where the library has the structs, the calls and the numbers below.
+pub const ABI: u32 = 1;
+
+/// The end of a window that has none.
+pub const FOREVER: u64 = 18446744073709551615;
+
+/// How many bytes the text of a SHA-256 fingerprint has, as ssh-keygen shows it: "SHA256:" and 43
+/// characters.
+pub const FINGERPRINT_TEXT: usize = 50;
+
+/// "SHA512:" and 86 characters.
+pub const FINGERPRINT_SHA512_TEXT: usize = 93;
+
+/// `SSHKEY_ASK_DSA`.
+pub const ASK_DSA: u32 = 1;
+
+/// `SSHKEY_ASK_P256`. With SHA-256.
+pub const ASK_P256: u32 = 2;
+
+/// `SSHKEY_ASK_P384`. With SHA-384.
+pub const ASK_P384: u32 = 3;
+
+/// `SSHKEY_ASK_P521`. With SHA-512.
+pub const ASK_P521: u32 = 4;
+
+/// `SSHKEY_ASK_ED25519`.
+pub const ASK_ED25519: u32 = 5;
+
+/// `SSHKEY_ASK_RSA_SHA256`. With SHA-256.
+pub const ASK_RSA_SHA256: u32 = 6;
+
+/// `SSHKEY_ASK_RSA_SHA512`. With SHA-512.
+pub const ASK_RSA_SHA512: u32 = 7;
+
+/// `SSHKEY_LINE_KEY`.
+pub const LINE_KEY: u32 = 1;
+
+/// `SSHKEY_LINE_CERTIFICATE`.
+pub const LINE_CERTIFICATE: u32 = 2;
+
+/// `SSHKEY_USER`.
+pub const USER: u32 = 1;
+
+/// `SSHKEY_HOST`.
+pub const HOST: u32 = 2;
+
+/// `SSHKEY_MARKER_NONE`.
+pub const MARKER_NONE: u32 = 0;
+
+/// `SSHKEY_MARKER_CERT_AUTHORITY`.
+pub const MARKER_CERT_AUTHORITY: u32 = 1;
+
+/// `SSHKEY_MARKER_REVOKED`.
+pub const MARKER_REVOKED: u32 = 2;
+
+/// `SSHKEY_PERMIT_PTY`.
+pub const PERMIT_PTY: u32 = 1;
+
+/// `SSHKEY_PERMIT_PORT_FORWARDING`.
+pub const PERMIT_PORT_FORWARDING: u32 = 2;
+
+/// `SSHKEY_PERMIT_AGENT_FORWARDING`.
+pub const PERMIT_AGENT_FORWARDING: u32 = 4;
+
+/// `SSHKEY_PERMIT_X11_FORWARDING`.
+pub const PERMIT_X11_FORWARDING: u32 = 8;
+
+/// `SSHKEY_PERMIT_USER_RC`.
+pub const PERMIT_USER_RC: u32 = 16;
+
+/// `SSHKEY_PERMIT_ANY_COMMAND`. No force-command: what the client asks for, or a shell.
+pub const PERMIT_ANY_COMMAND: u32 = 32;
+
+/// `SSHKEY_PERMIT_NO_TOUCH`. A security key that nobody touched.
+pub const PERMIT_NO_TOUCH: u32 = 64;
+
+/// `SSHKEY_PERMIT_NO_VERIFICATION`. A security key that did not verify its user.
+pub const PERMIT_NO_VERIFICATION: u32 = 128;
+
+statuses! {
+    /// Malloc refused; nothing is said of the input, and nothing is kept: the call may be made
+    /// again.
+    MEMORY = 1, "no memory";
+    /// The room is too short; `length` says how many bytes are needed.
+    ROOM = 2, "the room is too short";
+    /// Nothing is left: the place is the end, or there is no such line or option.
+    END = 3, "nothing is left";
+    /// The principal is not UTF-8, or a line of authorized_keys or known_hosts, options, a text of
+    /// known_hosts or of signers, a host's name, an identity or a namespace; nothing is said of the
+    /// rest. sshkey_read_line returns 11 for such a line.
+    TEXT = 4, "a name or a text that is given is not UTF-8";
+    /// A word of a line is no Base64, or not the one of its bytes.
+    BASE64 = 10, "not Base64";
+    /// A text is not UTF-8, or has a character that no name has.
+    CHARACTER_ENCODING = 11, "a text that is not UTF-8";
+    /// A name that is none of those that may stand there.
+    LABEL = 12, "a name that may not stand there";
+    /// A stated length passes the bytes, or is not the one wanted; a word of a line is missing; a
+    /// digest is not as long as one by the signature's hash.
+    LENGTH = 13, "a length that passes the bytes";
+    /// Bytes follow the end.
+    TRAILING_DATA = 14, "bytes after the end";
+    /// A value does not keep the form of its kind.
+    FORMAT = 15, "a value that has not the form of its kind";
+    /// Two names differ that have to be one, or a point begins with 00 or 05.
+    ALGORITHM_UNKNOWN = 16, "two names that have to be one";
+    /// A number in a signature is not positive, or the curve of a security key is not P-256.
+    CRYPTO = 17, "a number that is not positive";
+    /// No encoding of a point.
+    ECDSA = 18, "no encoding of a point";
+    /// A time above 2^63 - 1 in the certificate.
+    TIME = 19, "a time above 2^63 - 1";
+    /// An empty namespace in the SSH signature.
+    NAMESPACE = 20, "an empty namespace";
+    /// Never returned: a fault of private keys.
+    PUBLIC_KEY = 21, "a public key that is not the private one's";
+    /// An SSH signature of a version above 1, or a revocation list of another version than 1.
+    UNSUPPORTED_VERSION = 22, "a version that is not read";
+    /// Never returned.
+    OTHER_FAULT = 23, "another fault";
+    /// An RSA signature by SHA-1, which no call reads: to them it is SSHKEY_LENGTH. judge_read_line
+    /// of helpers/ tells it.
+    RSA_SHA1 = 24, "signed by RSA with SHA-1";
+    /// It raises no question, or `is_verified` is not 1; a signature also where it is in another
+    /// namespace, or has reserved bytes.
+    NOT_SIGNED = 30, "not signed";
+    /// The key that signed it is none of the authorities'.
+    UNTRUSTED_AUTHORITY = 31, "another authority";
+    /// The time is above 2^63 - 1.
+    INVALID_TIME = 32, "no time that a certificate has";
+    /// It is not yet valid, or no longer.
+    OUT_OF_WINDOW = 33, "not valid at that time";
+    /// It lists principals, and not this one.
+    UNLISTED_PRINCIPAL = 34, "another principal";
+    /// Key and signature do not go together: it is not signed.
+    UNSUPPORTED = 40, "key and signature do not go together";
+    /// The SSH signature is for another namespace.
+    OTHER_NAMESPACE = 41, "another namespace";
+    /// It lists none and does not say so, or says so and lists some.
+    PRINCIPALS = 45, "a list of principals against what is said of all";
+    /// Its window has no second.
+    EMPTY_WINDOW = 46, "a window without a second";
+    /// A line for the host revokes the key.
+    HOST_REVOKED = 50, "revoked for the host";
+    /// A line is no entry, and may be one for the host.
+    HOST_UNREADABLE = 51, "a line that may revoke it and can't be read";
+    /// A line for the host has another key, and none has this one.
+    HOST_CHANGED = 52, "another key than the one known for the host";
+    /// No line without a marker is for the host.
+    HOST_UNKNOWN = 53, "no key or authority is known for the host";
+    /// No line lets its key sign for the identity, there and then.
+    SIGNER_NOT_ALLOWED = 55, "no allowed signer";
+    /// A revocation file revokes the signer's key, or the certificate.
+    REVOKED = 56, "revoked";
+    /// The client's address is none of those that are allowed.
+    ELSEWHERE = 57, "from an address that is not allowed";
+    /// It can't be read, and so revokes everything.
+    UNREADABLE_REVOCATIONS = 58, "the revocation file can't be read";
+    /// A kind or a size of key that OpenSSH does not let in; no call answers it yet.
+    KEY_NOT_ACCEPTED = 59, "a kind or a size of key that OpenSSH does not let in";
+    /// A revocation file does not revoke the key or the certificate.
+    NOT_REVOKED = 60, "not revoked";
+    /// Its bytes are not its normal form, and so not those that were signed.
+    NOT_NORMAL_FORM = 70, "not in its normal form";
+    /// It is for hosts where a user shows it, or for users where a host does.
+    OTHER_TYPE = 71, "for hosts in place of users, or for users in place of hosts";
+    /// It certifies another key than the client's.
+    OTHER_KEY = 72, "another key";
+    /// A critical option that is not known, or whose value sshd does not read.
+    CRITICAL_OPTIONS = 73, "a critical option that is not known, or not read";
+    /// Data stand in an extension that is a flag, or a name has a zero byte.
+    EXTENSIONS = 74, "an extension that is not read";
+    /// A zero byte in the key id.
+    KEY_ID = 75, "a zero byte in the key id";
+    /// It lists no principal, more than 256 or one with a zero byte; or the user's name is empty.
+    VALID_PRINCIPALS = 76, "no principals, or some that are not read";
+    /// The signed bytes are not those of this request, or its service is not ssh-connection.
+    OTHER_REQUEST = 80, "signed for another request";
+    /// The algorithm that the request names is not the signature's.
+    OTHER_ALGORITHM = 81, "another algorithm than the request's";
+    /// Nobody touched the security key, and the grant wants it.
+    UNTOUCHED = 82, "a security key that nobody touched";
+    /// The security key did not verify its user, and the grant wants it.
+    UNVERIFIED = 83, "a security key that did not verify its user";
+}
+
+/// A part of a room, or of other bytes: where it begins, and how many bytes it has.
 #[repr(C)]
 #[derive(Clone, Copy, Debug, Default)]
 pub struct Part {
-    /// The place of its first byte.
     pub start: usize,
-    /// The number of its bytes.
     pub length: usize,
 }
 
-impl Part {
-    /// The place after its last byte.
-    pub(crate) fn end(self) -> usize {
-        self.start + self.length
-    }
+/// Bytes that a call reads; no null pointer, also where the length is 0 (sshkey_bytes).
+pub(crate) type Span<'a> = Slice<'a, u8>;
 
-    /// The part of these bytes. It lies there, as is proved of each call; else this panics.
-    pub(crate) fn of(self, bytes: &[u8]) -> &[u8] {
-        &bytes[self.start..self.end()]
-    }
-}
-
-/// `sshkey_question`: where the parts of a question stand in its room.
+/// What has to be verified: that `signature` is one of `message` under `key`, made as `algorithm`
+/// says.
 #[repr(C)]
 #[derive(Clone, Copy, Debug, Default)]
 pub struct Question {
-    /// The key's blob.
     pub key: Part,
-    /// What is signed.
     pub message: Part,
-    /// The signature.
     pub signature: Part,
     /// How many bytes of the room these take.
     pub length: usize,
-    /// `SSHKEY_ASK_*`
+    /// SSHKEY_ASK_*.
     pub algorithm: u32,
 }
 
-/// The structs of sshkey.h that stay within this crate, by its names and fields.
-macro_rules! structs {
-    ($($name:ident { $($field:ident: $kind:ty),* })*) => {
-        $(
-            #[repr(C)]
-            #[derive(Clone, Copy, Debug, Default)]
-            pub(crate) struct $name {
-                $(pub $field: $kind,)*
-            }
-        )*
-    };
-}
-
-structs! {
-    Line { blob: Part, comment: Part, length: usize, kind: u32 }
-    Fields {
-        serial: u64, valid_after: u64, valid_before: u64, certificate_type: u32,
-        lists_principals: u32, has_critical_options: u32
-    }
-    Parts {
-        key_id: Part, principals: Part, critical_options: Part, extensions: Part, authority: Part
-    }
-    CertificateOptionParts { name: Part, value: Part, next: usize }
-    Entry { front: Part, key: Part, comment: Part, length: usize, marker: u32 }
-    EntryOptionParts { name: Part, value: Part, length: usize, has_value: u32 }
-}
-
-/// `sshkey_span`: bytes that a call reads.
+/// What stands in a line of a key file or of a certificate file: a blob, as the calls below take
+/// it, and the comment, which may be empty.
 #[repr(C)]
-#[derive(Clone, Copy, Debug)]
-pub(crate) struct Span<'a> {
-    bytes: *const u8,
-    length: usize,
-    lent: PhantomData<&'a [u8]>,
+#[derive(Clone, Copy, Debug, Default)]
+pub(crate) struct Line {
+    pub blob: Part,
+    pub comment: Part,
+    /// How many bytes of the room these take.
+    pub length: usize,
+    /// SSHKEY_LINE_*.
+    pub kind: u32,
 }
 
-impl<'a> From<&'a [u8]> for Span<'a> {
-    fn from(bytes: &'a [u8]) -> Span<'a> {
-        Span { bytes: bytes.as_ptr(), length: bytes.len(), lent: PhantomData }
-    }
-}
-
-/// `sshkey_draft`
+/// What a policy asks of a certificate.
 #[repr(C)]
-#[derive(Clone, Copy, Debug)]
-pub(crate) struct Draft<'a> {
-    pub key: Span<'a>,
-    pub nonce: Span<'a>,
-    pub key_id: Span<'a>,
-    pub principals: Span<'a>,
-    pub critical_options: Span<'a>,
-    pub extensions: Span<'a>,
-    pub authority: Span<'a>,
+#[derive(Clone, Copy, Debug, Default)]
+pub(crate) struct Fields {
     pub serial: u64,
+    /// The first second of its window.
     pub valid_after: u64,
+    /// The first second after its window, or SSHKEY_FOREVER.
     pub valid_before: u64,
+    /// SSHKEY_USER or SSHKEY_HOST.
     pub certificate_type: u32,
+    /// 0 where it lists none, and so allows everybody; else 1.
+    pub lists_principals: u32,
+    /// 0 where it has none; else 1: refuse it unless you know each.
+    pub has_critical_options: u32,
+}
+
+/// Where parts of a certificate stand in its bytes, in this order, each after its length of four
+/// bytes.
+#[repr(C)]
+#[derive(Clone, Copy, Debug, Default)]
+pub(crate) struct Parts {
+    /// A text, for logs.
+    pub key_id: Part,
+    /// Strings: sshkey_next_string goes over them.
+    pub principals: Part,
+    /// One after the other: sshkey_next_option goes over them.
+    pub critical_options: Part,
+    /// Likewise.
+    pub extensions: Part,
+    /// The blob of the key that signed.
+    pub authority: Part,
+}
+
+/// Where the name and the value of an option stand, and the place of the next one.
+#[repr(C)]
+#[derive(Clone, Copy, Debug, Default)]
+pub(crate) struct CertificateOptionParts {
+    pub name: Part,
+    /// Of no bytes where the option has none.
+    pub value: Part,
+    pub next: usize,
+}
+
+/// What a certificate is to say.
+#[repr(C)]
+#[derive(Clone, Copy, Debug, Default)]
+pub(crate) struct Draft<'a> {
+    /// The blob of the key that is certified.
+    pub key: Span<'a>,
+    /// Random bytes of yours: 16 or 32.
+    pub nonce: Span<'a>,
+    /// A text, for logs.
+    pub key_id: Span<'a>,
+    /// Strings, one after the other: refuse a zero byte in one, since sshd takes the name to end
+    /// there, and so for another user's.
+    pub principals: Span<'a>,
+    /// As sshkey_next_option reads them, with rising names.
+    pub critical_options: Span<'a>,
+    /// Likewise.
+    pub extensions: Span<'a>,
+    /// The blob of the key that is to sign.
+    pub authority: Span<'a>,
+    /// Not 0: to OpenSSH that is none, and no KRL can name it.
+    pub serial: u64,
+    /// The first second of its window, since 1970.
+    pub valid_after: u64,
+    /// The first second after its window, or SSHKEY_FOREVER.
+    pub valid_before: u64,
+    /// SSHKEY_USER or SSHKEY_HOST.
+    pub certificate_type: u32,
+    /// 1 where it lists no principals, and so allows everybody; else 0.
     pub all_principals: u32,
 }
 
-// the library is one for x86-64
-const _: () = assert!(std::mem::size_of::<usize>() == 8);
-
-/// SSHKEY_ABI of the header from which this crate is written.
-const ABI: u32 = 1;
-
-/// Panics where the library has another ABI than this crate needs, which is asked once.
-fn expect_abi() {
-    static ASKED: Once = Once::new();
-    ASKED.call_once(|| {
-        let (abi, version) = (sshkey_abi(), sshkey_version());
-        let its = format!("libsshkey has the ABI {abi} (version {version})");
-        assert!(abi == ABI, "{its}, and this crate needs {ABI}");
-    });
+/// An entry of a line: where its parts stand in the room.
+#[repr(C)]
+#[derive(Clone, Copy, Debug, Default)]
+pub(crate) struct Entry {
+    /// The options as they stand in the line, or the hosts.
+    pub front: Part,
+    /// The key's blob in its normal form, which fingerprints are digests of.
+    pub key: Part,
+    /// All that follows.
+    pub comment: Part,
+    /// How many bytes of the room these take.
+    pub length: usize,
+    /// SSHKEY_MARKER_*; of authorized_keys always SSHKEY_MARKER_NONE.
+    pub marker: u32,
 }
 
-/// The calls of sshkey.h as functions that are safe: of a slice C gets the pointer and the length,
-/// and a reference as a pointer. In brackets stands what each does first.
-macro_rules! calls {
-    (
-        @ $first:tt $call:ident [$($rust:tt)*] [$($c:tt)*] [$($got:tt)*]
-        $it:ident: &mut [u8], $($more:tt)*
-    ) => {
-        calls! {
-            @ $first $call [$($rust)* $it: &mut [u8],] [$($c)* _: *mut u8, _: usize,]
-            [$($got)* $it.as_mut_ptr(), $it.len(),] $($more)*
-        }
-    };
-    (
-        @ $first:tt $call:ident [$($rust:tt)*] [$($c:tt)*] [$($got:tt)*]
-        $it:ident: &[$of:ty], $($more:tt)*
-    ) => {
-        calls! {
-            @ $first $call [$($rust)* $it: &[$of],] [$($c)* _: *const $of, _: usize,]
-            [$($got)* $it.as_ptr(), $it.len(),] $($more)*
-        }
-    };
-    (
-        @ $first:tt $call:ident [$($rust:tt)*] [$($c:tt)*] [$($got:tt)*]
-        $it:ident: $of:ty, $($more:tt)*
-    ) => {
-        calls! { @ $first $call [$($rust)* $it: $of,] [$($c)* _: $of,] [$($got)* $it,] $($more)* }
-    };
-    (@ [$($first:tt)*] $call:ident [$($rust:tt)*] [$($c:tt)*] [$($got:tt)*] $(,)?) => {
-        pub(crate) fn $call($($rust)*) -> u32 {
-            extern "C" {
-                fn $call($($c)*) -> u32;
-            }
-            $($first)*
-            // SAFETY: these are the parameters of sshkey.h, which checks/bindings compares. Each
-            // pointer has the length of its slice beside it, what is read is lent for longer than
-            // the call, and what is written is borrowed by it alone.
-            unsafe { $call($($got)*) }
-        }
-    };
-    ($first:tt $(fn $call:ident($($parameters:tt)*);)*) => {
-        $(calls! { @ $first $call [] [] [] $($parameters)*, })*
-    };
+/// An option of an entry: where its parts stand in the room.
+#[repr(C)]
+#[derive(Clone, Copy, Debug, Default)]
+pub(crate) struct EntryOptionParts {
+    /// As it stands in the line: letters are compared without case.
+    pub name: Part,
+    /// Without its quotes, and without each backslash before a quote.
+    pub value: Part,
+    /// How many bytes of the room these take.
+    pub length: usize,
+    /// 0 where there is no value; else 1.
+    pub has_value: u32,
 }
+
+/// Byte strings that a call reads: `count` of them.
+pub(crate) type Spans<'a> = Slice<'a, Span<'a>>;
+
+/// SHA-256 fingerprints of keys.
+pub(crate) type Digests<'a> = Slice<'a, Sha256>;
+
+/// ---- who is let in: a login by a certificate ----.
+#[repr(C)]
+#[derive(Clone, Copy, Debug, Default)]
+pub(crate) struct Login<'a> {
+    /// Its blob, as the client sent it.
+    pub certificate: Span<'a>,
+    /// UTF-8.
+    pub user: Span<'a>,
+    /// The blob of the key that the client has signed under.
+    pub key: Span<'a>,
+    /// The address of its socket, 4 or 16 bytes; with any other number of bytes it has none.
+    pub client: Span<'a>,
+    /// The keys that may sign logins.
+    pub authorities: Digests<'a>,
+    /// Revocation files, each a list or keys as text: any of them revokes.
+    pub revoked: Spans<'a>,
+    pub unix_timestamp: u64,
+    /// RequiredRSASize; below 1,024, as 0, it is 1,024.
+    pub least_rsa_bits: u32,
+}
+
+/// `sshkey_grant`.
+#[repr(C)]
+#[derive(Clone, Copy, Debug, Default)]
+pub(crate) struct Grant {
+    /// In the room: the one command that may run; of no bytes with SSHKEY_PERMIT_ANY_COMMAND.
+    pub force_command: Part,
+    /// In the room, after it.
+    pub key_id: Part,
+    /// How many bytes of the room these take.
+    pub length: usize,
+    pub serial: u64,
+    pub authority: Sha256,
+    /// SSHKEY_PERMIT_*.
+    pub permits: u32,
+}
+
+/// ---- a host ----.
+#[repr(C)]
+#[derive(Clone, Copy, Debug, Default)]
+pub(crate) struct HostLogin<'a> {
+    /// The texts of all the files that count.
+    pub known_hosts: Spans<'a>,
+    pub host: Span<'a>,
+    /// As above (RevokedHostKeys).
+    pub revoked: Spans<'a>,
+    /// Asked of certificates alone.
+    pub unix_timestamp: u64,
+    pub least_rsa_bits: u32,
+    pub port: u16,
+}
+
+/// ---- what a client signs ----.
+#[repr(C)]
+#[derive(Clone, Copy, Debug, Default)]
+pub(crate) struct Userauth<'a> {
+    pub session_id: Span<'a>,
+    pub user: Span<'a>,
+    /// The name of the public key algorithm in the request.
+    pub algorithm: Span<'a>,
+    /// The blob of the key or the certificate in the request.
+    pub public_key: Span<'a>,
+    /// The server's host key, if has_host_key is 1 (publickey-hostbound-v00@openssh.com).
+    pub host_key: Span<'a>,
+    /// The blob of the client's signature.
+    pub signature: Span<'a>,
+    /// 0: the method is publickey; else hostbound.
+    pub has_host_key: u32,
+    /// Of the grant.
+    pub permits: u32,
+}
+
+// the layout that the library was built for
+const _: () = assert!(size_of::<usize>() == 8);
+const _: () = assert!(size_of::<Part>() == 16);
+const _: () = assert!(size_of::<Sha256>() == 32);
+const _: () = assert!(size_of::<Sha512>() == 64);
+const _: () = assert!(size_of::<Line>() == 48);
+const _: () = assert!(size_of::<Question>() == 64);
+const _: () = assert!(size_of::<Fields>() == 40);
+const _: () = assert!(size_of::<Parts>() == 80);
+const _: () = assert!(size_of::<CertificateOptionParts>() == 40);
+const _: () = assert!(size_of::<Span>() == 16);
+const _: () = assert!(size_of::<Draft>() == 144);
+const _: () = assert!(size_of::<Entry>() == 64);
+const _: () = assert!(size_of::<EntryOptionParts>() == 48);
 
 calls! {
     []
@@ -197,24 +464,24 @@ calls! {
         key: &[u8], message: &[u8], signature: &[u8], room: &mut [u8], answer: &mut Question
     );
     fn sshkey_sshsig_question(
-        signature: &[u8], name_space: &[u8], message: &[u8], room: &mut [u8],
-        answer: &mut Question, signer: &mut Sha256
+        signature: &[u8], name_space: &[u8], message: &[u8], room: &mut [u8], answer: &mut Question,
+        signer: &mut Sha256
     );
     fn sshkey_sshsig_question_of_digest(
-        signature: &[u8], name_space: &[u8], digest: &[u8], room: &mut [u8],
-        answer: &mut Question, signer: &mut Sha256
+        signature: &[u8], name_space: &[u8], digest: &[u8], room: &mut [u8], answer: &mut Question,
+        signer: &mut Sha256
     );
     fn sshkey_signer_verdict(
         signers: &[u8], identity: &[u8], name_space: &[u8], signature: &[u8], unix_timestamp: u64,
-        revoked: &[u8], is_verified: u32
+        revoked: &[Span<'_>], is_verified: u32
     );
     fn sshkey_key_normal(key: &[u8], room: &mut [u8], length: &mut usize);
     fn sshkey_certificate_normal(certificate: &[u8], room: &mut [u8], length: &mut usize);
     fn sshkey_sshsig_normal(signature: &[u8], room: &mut [u8], length: &mut usize);
     fn sshkey_signature_normal(signature: &[u8], room: &mut [u8], length: &mut usize);
     fn sshkey_next_string(bytes: &[u8], place: usize, answer: &mut Part);
-    fn sshkey_revoked_key(revoked: &[u8], key: &[u8]);
-    fn sshkey_revoked_certificate(revoked: &[u8], certificate: &[u8]);
+    fn sshkey_revoked_key(revoked: &[Span<'_>], key: &[u8]);
+    fn sshkey_revoked_certificate(revoked: &[Span<'_>], certificate: &[u8]);
     fn sshkey_krl_revokes_key(krl: &[u8], key: &[u8]);
     fn sshkey_krl_revokes_certificate(krl: &[u8], certificate: &[u8]);
     fn sshkey_next_line(text: &[u8], place: usize, answer: &mut Part);
@@ -223,8 +490,18 @@ calls! {
     fn sshkey_nth_option(
         options: &[u8], number: usize, room: &mut [u8], answer: &mut EntryOptionParts
     );
-    fn sshkey_host_verdict(known_hosts: &[u8], host: &[u8], port: u16, key: &[u8]);
-    fn sshkey_authority_verdict(known_hosts: &[u8], host: &[u8], port: u16, key: &[u8]);
     fn sshkey_source_address_allows(list: &[u8], address: &[u8]);
     fn sshkey_from_allows(list: &[u8], host: &[u8], address: &[u8]);
+    fn sshkey_login_verdict(
+        login: &Login<'_>, is_verified: u32, room: &mut [u8], answer: &mut Grant
+    );
+    fn sshkey_host_key_verdict(login: &HostLogin<'_>, key: &[u8]);
+    fn sshkey_host_certificate_verdict(login: &HostLogin<'_>, certificate: &[u8], is_verified: u32);
+    fn sshkey_unreadable_host_line(known_hosts: &[u8], host: &[u8], port: u16, number: &mut usize);
+    fn sshkey_userauth_question(request: &Userauth<'_>, room: &mut [u8], answer: &mut Question);
+    fn sshkey_userauth_question_of(
+        request: &Userauth<'_>, signed_bytes: &[u8], room: &mut [u8], answer: &mut Question
+    );
+    fn sshkey_grant_flags(permits: u32, key: &[u8], signature: &[u8]);
+    fn sshkey_is_other_key_line(line: &[u8]);
 }

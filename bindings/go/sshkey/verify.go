@@ -1,4 +1,4 @@
-package judge
+package sshkey
 
 import (
 	"crypto"
@@ -10,42 +10,41 @@ import (
 	_ "crypto/sha512" // for crypto.SHA384 and crypto.SHA512
 	"math"
 	"math/big"
-
-	"rafendilo.example/go/sshkey"
 )
 
 // leastBits and mostBits are those of an RSA key that counts: a shorter one is too weak, and
 // OpenSSH reads no longer one: each verification would take minutes.
 const leastBits, mostBits = 2048, 16384
 
-var curves = map[sshkey.Algorithm]struct {
+var curves = map[Algorithm]struct {
 	curve elliptic.Curve
 	hash  crypto.Hash
 }{
-	sshkey.P256: {elliptic.P256(), crypto.SHA256},
-	sshkey.P384: {elliptic.P384(), crypto.SHA384},
-	sshkey.P521: {elliptic.P521(), crypto.SHA512},
+	P256: {elliptic.P256(), crypto.SHA256},
+	P384: {elliptic.P384(), crypto.SHA384},
+	P521: {elliptic.P521(), crypto.SHA512},
 }
 
-// IsSignature says whether the question's signature is one: a sshkey.Verifier. It says no to what
-// is too weak to count: DSA, and RSA keys of fewer than 2,048 bits; to a number of a key that is
-// zero or negative, and to a point that does not begin with 04, which OpenSSH does not read; and to
-// what crypto/rsa does not take: an exponent above 2^31 - 1, which no tool makes, and a signature
-// shorter than the modulus, which OpenSSH reads as if zeros stood before it.
-func IsSignature(question sshkey.Question) bool {
-	parts, err := sshkey.Strings(question.Key)
+// IsSignature says whether the question's signature is one, by Go's standard library: the Verifier
+// of who names none. It says no to what is too weak to count: DSA, and RSA keys of fewer than 2,048
+// bits; to a number of a key that is zero or negative, and to a point that does not begin with 04,
+// which OpenSSH does not read; and to what crypto/rsa does not take: an exponent above 2^31 - 1,
+// which no tool makes, and a signature shorter than the modulus, which OpenSSH reads as if zeros
+// stood before it.
+func IsSignature(question Question) bool {
+	parts, err := Strings(question.Key)
 	if err != nil {
 		return false
 	}
 	switch question.Algorithm {
-	case sshkey.Ed25519:
+	case Ed25519:
 		return len(parts) == 2 && len(parts[1]) == ed25519.PublicKeySize &&
 			ed25519.Verify(parts[1], question.Message, question.Signature)
-	case sshkey.P256, sshkey.P384, sshkey.P521:
+	case P256, P384, P521:
 		return len(parts) == 3 && isECDSA(parts[2], question)
-	case sshkey.RSASHA256:
+	case RSASHA256:
 		return len(parts) == 3 && isRSA(parts[1], parts[2], crypto.SHA256, question)
-	case sshkey.RSASHA512:
+	case RSASHA512:
 		return len(parts) == 3 && isRSA(parts[1], parts[2], crypto.SHA512, question)
 	default: // DSA: too weak to count
 		return false
@@ -70,13 +69,13 @@ func digestOf(hash crypto.Hash, message []byte) []byte {
 	return state.Sum(nil)
 }
 
-func isECDSA(point []byte, question sshkey.Question) bool {
+func isECDSA(point []byte, question Question) bool {
 	of := curves[question.Algorithm]
 	if len(point) == 0 || point[0] != 4 {
 		return false
 	}
 	x, y := elliptic.Unmarshal(of.curve, point)
-	numbers, err := sshkey.Strings(question.Signature)
+	numbers, err := Strings(question.Signature)
 	if x == nil || err != nil || len(numbers) != 2 {
 		return false
 	}
@@ -88,7 +87,7 @@ func isECDSA(point []byte, question sshkey.Question) bool {
 	return ecdsa.Verify(&key, digestOf(of.hash, question.Message), r, s)
 }
 
-func isRSA(exponent, modulus []byte, hash crypto.Hash, question sshkey.Question) bool {
+func isRSA(exponent, modulus []byte, hash crypto.Hash, question Question) bool {
 	if len(modulus) > mostBits/8+1 {
 		return false
 	}
@@ -102,4 +101,19 @@ func isRSA(exponent, modulus []byte, hash crypto.Hash, question sshkey.Question)
 	key := rsa.PublicKey{N: n, E: int(e.Int64())}
 	digest := digestOf(hash, question.Message)
 	return rsa.VerifyPKCS1v15(&key, hash, digest, question.Signature) == nil
+}
+
+// check fails with why there is no question, or else with ErrNotSigned where the verifier does not
+// say yes.
+func (verify Verifier) check(asked Question, err error) error {
+	if err != nil {
+		return err
+	}
+	if verify == nil {
+		verify = IsSignature
+	}
+	if !verify(asked) {
+		return ErrNotSigned
+	}
+	return nil
 }

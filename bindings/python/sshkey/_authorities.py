@@ -1,0 +1,75 @@
+"""Texts of keys that sign certificates, as sshd's TrustedUserCAKeys."""
+from __future__ import annotations
+
+from dataclasses import dataclass
+from typing import Any
+
+from ._files import entry_lines
+from ._header import Status
+from ._keys import fingerprint, read_line
+from ._library import LIBRARY, bytes_of, done
+from ._values import BytesLike, Refused
+
+
+@dataclass(frozen=True)
+class Authorities:
+    """The keys of a text, by their fingerprints, and the numbers, from 1, of the lines that are passed over: tell of them."""
+
+    keys: tuple[bytes, ...]
+    other_lines: tuple[int, ...]
+
+
+class NoKey(Refused):
+    """The line of that number, from 1, is no key's: `status` says why."""
+
+    def __init__(self, status: int, line: int) -> None:
+        super().__init__(status)
+        self.line = line
+
+    def __str__(self) -> str:
+        return f"line {self.line}: {super().__str__()}"
+
+    def __reduce__(self) -> tuple[Any, ...]:
+        return type(self), (self.status, self.line)
+
+
+def authorities(text: BytesLike) -> Authorities:
+    """The keys of a text, a line each, between empty lines and comments. Lines of a later kind of key (is_other_key_line) are passed
+    over. Raises NoKey, which is a Refused, for any other line, and MemoryError: use none of the keys then."""
+    keys: list[bytes] = []
+    other_lines: list[int] = []
+    for number, piece in enumerate(bytes_of(text)[0].split(b"\n"), 1):
+        for line in entry_lines(piece):
+            if _is_other(line):
+                other_lines.append(number)
+                continue
+            try:
+                keys.append(_fingerprint_of(line))
+            except Refused as refused:
+                raise NoKey(refused.status, number) from refused
+    return Authorities(tuple(keys), tuple(other_lines))
+
+
+def _fingerprint_of(line: bytes) -> bytes:
+    found = read_line(line)
+    if found.is_certificate:
+        raise Refused(Status.LABEL)
+    return fingerprint(found.blob)
+
+
+def _is_other(line: bytes) -> bool:
+    try:
+        return is_other_key_line(line)
+    except Refused:  # it is not UTF-8: read_line says so
+        return False
+
+
+def is_other_key_line(line: BytesLike) -> bool:
+    """Whether a line of a text of authorities is that of a key of a kind that is not read here, as ssh-mldsa44-ed25519 of OpenSSH
+    10.6: it signs nothing that is read. False for the line of a key that is, and for what is no key's. Raises Refused for a line
+    that is not UTF-8."""
+    status = LIBRARY.sshkey_is_other_key_line(*bytes_of(line))
+    if status == Status.LABEL:
+        return False
+    done(status)
+    return True

@@ -1,0 +1,79 @@
+"""Whether an SSH signature counts: by the keys that are trusted for its namespace, or by a text of allowed signers."""
+from __future__ import annotations
+
+from collections.abc import Collection, Iterable
+from dataclasses import dataclass
+
+from ._header import Status
+from ._keys import sshsig_question, sshsig_question_of_digest, sshsig_reserved
+from ._library import LIBRARY, bytes_of, done, number_of, spans_of, text_of
+from ._values import BytesLike, Question, Refused
+from ._verify import Verifier, decided, is_signature
+
+
+@dataclass(frozen=True)
+class Signers:
+    """By whom a signature has to be, as `ssh-keygen -Y verify` asks, or more strictly (docs/CALLING.md): a time without Z in the
+    text, which is of the machine's zone there, has to hold in every zone here."""
+
+    text: BytesLike  # that of a file of allowed signers
+    identity: str | BytesLike  # one of those whom it names
+    unix_timestamp: int
+    revoked: Iterable[BytesLike]  # what the files of ssh-keygen's -r have, or NO_REVOCATIONS; without a file no signature counts
+
+
+def signer_verdict(signature: BytesLike, namespace: str | BytesLike, by: Signers, is_verified: bool) -> Status:
+    """Status.DONE exactly if an SSH signature (what stands in its armour, decoded) counts as the identity's in that namespace, by the
+    allowed signers. `is_verified` is your answer to the question of this signature, in the namespace and of the message
+    (sshsig_question, sshsig_question_of_digest).
+
+    Else SIGNER_NOT_ALLOWED, UNREADABLE_REVOCATIONS, REVOKED or NOT_SIGNED, the first that holds. Ask with False first: only where
+    that is NOT_SIGNED there is something to verify (judge_signer_of_digest does both). Raises Refused where the bytes are no
+    signature, or a text is not UTF-8, and MemoryError."""
+    revoked, second = spans_of(by.revoked), number_of(by.unix_timestamp, 64)
+    texts = (*bytes_of(by.text), *text_of(by.identity), *text_of(namespace), *bytes_of(signature))
+    status = Status(LIBRARY.sshkey_signer_verdict(*texts, second, revoked.items, revoked.count, is_verified is True))
+    if status < Status.NOT_SIGNED:
+        done(status)
+    return status
+
+
+def judge_signer_of_digest(
+    signature: BytesLike, namespace: str | BytesLike, digest: BytesLike, by: Signers, verifier: Verifier = is_signature
+) -> None:  # fmt: skip
+    """Returns exactly if the signature, of a message with that digest, by the hash that sshsig_hash names, counts as the identity's in
+    that namespace, by the allowed signers; else raises Refused, as signer_verdict answers, and as sshsig_question_of_digest raises it
+    of a key that may sign. The verifier is not asked about another."""
+    given, _ = bytes_of(signature)
+
+    def is_verified() -> bool:
+        return verifier(sshsig_question_of_digest(given, namespace, digest)[0]) is True
+
+    decided(lambda yes: done(signer_verdict(given, namespace, by, yes)), is_verified)
+
+
+def judge_sshsig(
+    signature: BytesLike, namespace: str | BytesLike, message: BytesLike, signers: Collection[bytes], verifier: Verifier = is_signature
+) -> None:  # fmt: skip
+    """Returns exactly if an SSH signature is one of the message in that namespace by one of the signers, which are the fingerprints of
+    the keys that you trust for it. Else raises Refused: as sshsig_question does, SIGNER_NOT_ALLOWED for another signer, about whose
+    key the verifier is not asked, or NOT_SIGNED. That is also one with reserved bytes, which ssh-keygen verifies as if these were
+    empty."""
+    given, _ = bytes_of(signature)
+    _judge(given, sshsig_question(given, namespace, message), signers, verifier)
+
+
+def judge_sshsig_of_digest(
+    signature: BytesLike, namespace: str | BytesLike, digest: BytesLike, signers: Collection[bytes], verifier: Verifier = is_signature
+) -> None:  # fmt: skip
+    """The same of a message with that digest, by the hash that sshsig_hash names."""
+    given, _ = bytes_of(signature)
+    _judge(given, sshsig_question_of_digest(given, namespace, digest), signers, verifier)
+
+
+def _judge(signature: bytes, asked: tuple[Question, bytes], signers: Collection[bytes], verifier: Verifier) -> None:
+    question, signer = asked
+    if signer not in signers:
+        raise Refused(Status.SIGNER_NOT_ALLOWED)
+    if sshsig_reserved(signature) or verifier(question) is not True:
+        raise Refused(Status.NOT_SIGNED)
