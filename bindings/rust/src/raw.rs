@@ -204,7 +204,7 @@ pub(crate) type Spans<'a> = Slice<'a, Span<'a>>;
 /// A part of a room, or of other bytes: where it begins, and how many bytes it has.
 #[repr(C)]
 #[derive(Clone, Copy, Debug, Default)]
-pub struct Part {
+pub(crate) struct Part {
     /// The place of its first byte.
     pub start: usize,
     /// The number of its bytes.
@@ -218,7 +218,7 @@ pub(crate) type Digests<'a> = Slice<'a, Sha256>;
 /// says.
 #[repr(C)]
 #[derive(Clone, Copy, Debug, Default)]
-pub struct Question {
+pub(crate) struct Question {
     /// Its blob.
     pub key: Part,
     /// What is signed.
