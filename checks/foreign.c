@@ -315,6 +315,8 @@ static void ask_rooms(given_call *it) {
     answer = called(it, 0);
     is_kept = answer == SSHKEY_ROOM && is_filled(it->room, 0) && (!length || told(it) == needed);
     needed = told(it);
+    it->grant.length = 0;
+    if (answer == SSHKEY_ROOM && !is_zero(&it->grant, sizeof it->grant)) printf("and a grant ");
   }
   printf("%" PRIu32 " %zu %zu", answer, length, needed);
 }

@@ -5,18 +5,27 @@ and where it follows from the words that ssh-keygen was given, against these.
     judge.hold("a line", [("with a comment", "line 737368..", "0 0 0000..")])
 
 An asker is a program that answers each line of its input with a line: checks/foreign.c over the library for C, asked/go and
-asked/rust over the packages. Words are bytes in hexadecimal (- for none), numbers and names:
+asked/rust over the packages. Words are bytes in hexadecimal (- for none), several byte strings with commas between (none for none of
+them: FILES, which are revocation files, and TEXTS), numbers and names:
 
     certificate BYTES | signature KEY MESSAGE SIGNATURE      0 ALGORITHM KEY MESSAGE SIGNATURE
     sshsig BYTES NAMESPACE MESSAGE                           the same, and the SIGNER
     sshsig-of-digest BYTES NAMESPACE DIGEST
     is-signature KEY MESSAGE SIGNATURE                       0 and 1 if it verifies, else 0
-    user BYTES KEY SECOND USER AUTHORITIES OPTION            what validate_user says, as check.py prints it, where the critical
-                                                             option of that name is met if its value is not "unmet"; also with
-                                                             a LIST behind it, where no list revokes nothing
-    host-certificate BYTES SECOND HOST PORT TEXT ..          what validate_host says, as check.py prints it, and
-    host-revoked BYTES SECOND HOST PORT LIST TEXT ..         with a list
-    signer-by TEXT IDENTITY NAMESPACE BYTES REVOKED SECOND DIGEST        what judge_signer_of_digest says, and how often it verifies
+    log-in BYTES USER KEY CLIENT AUTHORITIES FILES SECOND BITS
+                                                             0 PERMITS SERIAL AUTHORITY COMMAND KEY-ID; a CLIENT of another number of
+                                                             bytes than 4 or 16 has no address
+    host-key TEXTS HOST KEY FILES PORT BITS                  0
+    host-certificate TEXTS HOST BYTES FILES PORT BITS SECOND
+    unreadable-line TEXT HOST PORT                           0 NUMBER, or 3
+    userauth SESSION USER ALGORITHM KEY HOST-KEY SIGNATURE 0|1 PERMITS
+                                                             as certificate, of what a client signs, bound to the host's key for 1
+    userauth-of SESSION USER ALGORITHM KEY HOST-KEY SIGNATURE BYTES 0|1 PERMITS
+                                                             the same of the bytes that it has signed
+    is-userauth .. as userauth                               0 where it is verified too, else also 30
+    flags KEY SIGNATURE PERMITS                              0
+    other-key-line LINE                                      0, or 12
+    signer-by TEXT IDENTITY NAMESPACE BYTES FILES SECOND DIGEST          what judge_signer_of_digest says, and how often it verifies
     sshsig-by BYTES NAMESPACE DIGEST SIGNERS                 in C: likewise judge_sshsig_of_digest
     fields BYTES                                             0 SERIAL AFTER BEFORE TYPE 0|1 0|1
     lists BYTES                                              0 KEY-ID KEY AUTHORITY, principal=NAME and critical=NAME=VALUE and
@@ -25,16 +34,15 @@ asked/rust over the packages. Words are bytes in hexadecimal (- for none), numbe
     line BYTES                                               0 0|1 BLOB COMMENT, 1 for a certificate
     lines TEXT                                               0 CONTENT ..
     normal key|certificate|sshsig|signature BYTES            0 BYTES
-    signer TEXT IDENTITY NAMESPACE BYTES REVOKED SECOND 0|1  what a text of allowed signers says, where a verification says no or yes
+    signer TEXT IDENTITY NAMESPACE BYTES FILES SECOND 0|1    what a text of allowed signers says, where a verification says no or yes
     revokes-key LIST KEY | revokes-certificate LIST BYTES    0 1 if the list revokes it, else 0 0
-    revoked-key FILE KEY | revoked-certificate FILE BYTES    the same of a file of sshd's RevokedKeys
+    revoked-key FILES KEY | revoked-certificate FILES BYTES  the same of files of sshd's RevokedKeys
     draft KEY NONCE KEY-ID PRINCIPALS CRITICAL EXTENSIONS AUTHORITY SERIAL AFTER BEFORE TYPE ALL
                                                              0 BYTES that are to be signed; lists as a certificate has them, of
                                                              which a package makes lists of its own, ALL 1 for everybody
     join BYTES SIGNATURE                                     0 BYTES
     entry LINE | host LINE                                   0 MARKER FRONT KEY COMMENT
     options TEXT                                             0 NAME=VALUE, or NAME where there is none, ..
-    verdict TEXT HOST KEY PORT                               NUMBER NUMBER: of the host's key, and of an authority's
     addresses LIST ADDRESS HOST                              NUMBER NUMBER: of the list as source-address, and as from
 
 and a package also
@@ -55,17 +63,12 @@ name and of a principal with a zero byte.
 """
 import ipaddress
 from dataclasses import dataclass
-from unittest.mock import patch
 
-from .linked import VALGRIND, run, word
+from .linked import VALGRIND, data_of, datas_of, run, word
+from .verdict_answers import VerdictAnswers
 
 # what is said of a number that no answer has
 WITHOUT_WORDS = "an answer without words"
-# the numbers of helpers/judge.h
-REFUSALS = {
-    "NOT_FOR_USERS": 100, "NOBODY_LISTED": 101, "UNMET_OPTION": 102, "OTHER_KEY": 103, "FLAG_DATA": 104, "NOT_FOR_HOSTS": 105,
-    "UNREADABLE": 106, "REVOKED": 107,
-}  # fmt: skip
 
 
 @dataclass(frozen=True)
@@ -81,15 +84,11 @@ class Asker:
         return self.language != "C"
 
 
-def data_of(text):
-    return b"" if text == "-" else bytes.fromhex(text)
-
-
-class Answers:
-    """What the Python package and check.py answer to each kind of question."""
+class Answers(VerdictAnswers):
+    """What the Python package answers to each kind of question."""
 
     def __init__(self, made):
-        self.sshkey, self.check = made.sshkey, made.check
+        self.sshkey = made.sshkey
 
     def to(self, question):
         what, *words = question.split(" ")
@@ -127,32 +126,44 @@ class Answers:
 
     def is_sshsig(self, *given):
         *words, by = given
-        return [str(int(self.check.judge_signature(*map(data_of, words), self.digests(by))))]
+        self.sshkey.judge_sshsig(*map(data_of, words), self.digests(by))
+        return ["0"]
 
     def is_sshsig_of_digest(self, *given):
         *words, by = given
-        return [str(int(self.check.judge_signature_of_digest(*map(data_of, words), self.digests(by))))]
+        self.sshkey.judge_sshsig_of_digest(*map(data_of, words), self.digests(by))
+        return ["0"]
 
-    def counted(self, call, *given, **named):
-        """What a call of check.py says, and how often it verifies."""
-        with patch.object(self.check, "is_signature", wraps=self.check.is_signature) as verifier:
-            status = call(*given, **named)
-        return [str(int(status)), str(verifier.call_count)]
+    def counted(self, call, *given, answer=None):
+        """What a call of the package says, and how often it verifies, or asks a verifier that gives that answer."""
+        asked = []
+
+        def verifier(question):
+            asked.append(question)
+            return self.sshkey.is_signature(question) if answer is None else answer
+
+        try:
+            call(*given, verifier)
+        except self.sshkey.Refused as refused:
+            return [str(int(refused.status)), str(len(asked))]
+        return ["0", str(len(asked))]
 
     def sshsig_by(self, *given):
         *words, by = given
-        return self.counted(self.check.judge_signature_of_digest, *map(data_of, words), self.digests(by))
+        return self.counted(self.sshkey.judge_sshsig_of_digest, *map(data_of, words), self.digests(by))
 
     def is_signer(self, *given):
         return self.signer_by(*given)[:1]
 
-    def signer_by(self, *given):
-        text, identity, namespace, signature, revoked, digest = map(data_of, (*given[:5], given[6]))
-        call = self.check.judge_signer_of_digest
-        return self.counted(call, signature, namespace, digest, text, identity, int(given[5]), revoked=revoked)
+    def signers_of(self, text, identity, files, second):
+        return self.sshkey.Signers(data_of(text), data_of(identity), int(second), datas_of(files))
+
+    def signer_by(self, text, identity, namespace, signature, files, second, digest):
+        by = self.signers_of(text, identity, files, second)
+        return self.counted(self.sshkey.judge_signer_of_digest, data_of(signature), data_of(namespace), data_of(digest), by)
 
     def is_signature(self, *given):
-        return ["0", str(int(self.check.is_signature(self.sshkey.signature_question(*map(data_of, given)))))]
+        return ["0", str(int(self.sshkey.is_signature(self.sshkey.signature_question(*map(data_of, given)))))]
 
     @staticmethod
     def digests(data):
@@ -161,23 +172,7 @@ class Answers:
 
     def validate(self, data, second, principal, by, yes):
         whom = None if principal == "*" else data_of(principal)
-        with patch.object(self.check, "is_signature", return_value=yes == "1") as verifier:
-            status = self.check.judge(data_of(data), int(second), whom, self.digests(by), self.check.NO_REVOCATIONS)
-        return [str(int(status)), str(verifier.call_count)]
-
-    def user(self, data, key, second, user, by, known, *krl):
-        def is_met(name, value):
-            return name.encode() == data_of(known) and value != "unmet"
-
-        given = (data_of(data), data_of(key), int(second), data_of(user), self.digests(by), is_met)
-        return [self.check.said(self.check.validate_user(*given, revoked=data_of(krl[0]) if krl else self.check.NO_REVOCATIONS))]
-
-    def host_certificate(self, data, second, host, port, *texts):
-        return self.host_revoked(data, second, host, port, word(self.check.NO_REVOCATIONS), *texts)
-
-    def host_revoked(self, data, second, host, port, krl, *texts):
-        given = (data_of(data), int(second), data_of(host), int(port), [data_of(it) for it in texts])
-        return [self.check.said(self.check.validate_host(*given, revoked=data_of(krl)))]
+        return self.counted(self.sshkey.judge_certificate, data_of(data), int(second), self.digests(by), whom, answer=yes == "1")
 
     def fields(self, data):
         of = self.sshkey.certificate_fields(data_of(data))
@@ -216,16 +211,9 @@ class Answers:
     def normal(self, kind, data):
         return ["0", word(getattr(self.sshkey, f"normal_{kind}")(data_of(data)))]
 
-    def signer(self, *given):
-        text, *who, second, yes = given
-        signers, identity, namespace, signature, revoked = map(data_of, (text, *who))
-        return [str(int(self.sshkey.signer_verdict(signers, identity, namespace, signature, int(second), revoked, yes == "1")))]
-
-    def revoked_key(self, revoked, key):
-        return ["0", str(int(self.sshkey.revoked_key(data_of(revoked), data_of(key))))]
-
-    def revoked_certificate(self, revoked, data):
-        return ["0", str(int(self.sshkey.revoked_certificate(data_of(revoked), data_of(data))))]
+    def signer(self, text, identity, namespace, signature, files, second, yes):
+        by = self.signers_of(text, identity, files, second)
+        return [str(int(self.sshkey.signer_verdict(data_of(signature), data_of(namespace), by, yes == "1")))]
 
     def revokes_key(self, krl, key):
         return ["0", str(int(self.sshkey.krl_revokes_key(data_of(krl), data_of(key))))]
@@ -267,15 +255,6 @@ class Answers:
         found = self.sshkey.entry_options(data_of(data))
         return ["0", *(word(name) + ("" if value is None else f"={word(value)}") for name, value in found)]
 
-    def verdict(self, text, host, key, port):
-        def said(call):
-            try:
-                return str(int(call(data_of(text), data_of(host), int(port), data_of(key))))
-            except self.sshkey.Refused as refused:
-                return str(int(refused.status))
-
-        return [said(self.sshkey.host_verdict), said(self.sshkey.authority_verdict)]
-
     def addresses(self, items, address, host):
         def said(call, *given):
             try:
@@ -298,14 +277,8 @@ class Judge:
         self.asked = []
 
     def number(self, status):
-        """The number of a status or of a refusal of that name."""
-        return REFUSALS[status] if status in REFUSALS else int(self.made.sshkey.Status[status])
-
-    def said_of(self, status):
-        """What check.py prints of a status or a refusal of that name."""
-        number = self.number(status)
-        means = {int(it): words for it, words in self.made.check.MEANING.items()}
-        return "valid" if number == 0 else f"refused: {means[number]} ({number})"
+        """The number of a status of that name."""
+        return int(self.made.sshkey.Status[status])
 
     def check(self, name, holds, *details):
         self.count.check(f"{self.asker.language}: {name}", holds, *details)

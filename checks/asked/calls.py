@@ -1,31 +1,40 @@
 """All that is asked of the library in each language: check_calls, for checks/foreign and checks/bindings."""
-from .answers import data_of
+from lib.harness import string
+
 from .address_calls import check_addresses
 from .certificate_calls import check_certificates
 from .digest_calls import check_digests
 from .entry_calls import check_entry_calls
 from .host_calls import check_hosts
 from .key_calls import check_keys
-from .linked import word
+from .linked import data_of, word
 from .login_calls import check_users
 from .made import MIDDLE
 from .memory_calls import question_of
 from .revocation_calls import EMPTY, check_revocations
 from .security_key_calls import check_signatures
 from .signer_calls import check_signers
+from .userauth_calls import check_userauths
 
 # of how many hostile byte strings a package is asked about one
 SAMPLED = 12
 # and of how many of all kinds one by the calls for other bytes
 OTHERS = 25 * SAMPLED
 # the calls that read the bytes of each kind
-FILE, DIGEST = b"file".hex(), "a5" * 64
+FILE, DIGEST, ALICE, HOST, NONE = b"file".hex(), "a5" * 64, b"alice".hex(), b"h.example".hex(), EMPTY.hex()
+KEY = word(string(b"ssh-ed25519") + string(bytes(32)))
 OF_KINDS = {
-    "certificate": ["certificate {}", "fields {}", "lists {}", "normal certificate {}", f"revokes-certificate {EMPTY.hex()} {{}}", "revoked-certificate - {}"],
-    "key": ["key {}", "normal key {}", f"revokes-key {EMPTY.hex()} {{}}", "revoked-key - {}"],
+    "certificate": [
+        "certificate {}", "fields {}", "lists {}", "normal certificate {}", f"revokes-certificate {NONE} {{}}", "revoked-certificate - {}",
+        f"log-in {{}} {ALICE} {KEY} - {DIGEST[:64]} {NONE} {MIDDLE} 0", f"host-certificate - {HOST} {{}} {NONE} 22 0 {MIDDLE}",
+    ],
+    "key": ["key {}", "normal key {}", f"revokes-key {NONE} {{}}", "revoked-key - {}", f"host-key - {HOST} {{}} {NONE} 22 0"],
     "ssh-signature": [f"sshsig {{}} {FILE} {b'message'.hex()}", "normal sshsig {}", f"signer - {FILE} {FILE} {{}} - {MIDDLE} 1"],
 }  # fmt: skip
-OF_OTHERS = ["normal signature {}", "lines {}", "entry {}", "host {}", "options {}", "line {}", "revokes-key {} -", "revoked-key {} -"]
+OF_OTHERS = [
+    "normal signature {}", "lines {}", "entry {}", "host {}", "options {}", "line {}", "revokes-key {} -", "revoked-key {} -", "other-key-line {}",
+    f"unreadable-line {{}} {HOST} 22", f"host-key {{}} {HOST} {KEY} {NONE} 22 0", f"flags {KEY} {{}} 0", f"userauth {FILE} {ALICE} {FILE} {KEY} - {{}} 0 0",
+]  # fmt: skip
 # those that a package is asked too
 OF_PACKAGES = {
     "certificate": [f"validate {{}} {MIDDLE} * {'00' * 32} 1"], "others": ["strings {}", "certificate-options {}"],
@@ -40,7 +49,9 @@ def is_as_wanted(judge, wanted, answer):
         return number == judge.number({"trailing": "TRAILING_DATA", "length": "LENGTH"}[wanted])
     if wanted == "refused":
         return 10 <= number < 30
-    read = map(judge.number, ("DONE", "UNSUPPORTED", "OTHER_NAMESPACE", "SIGNER_NOT_ALLOWED"))
+    # what is read is no certificate of that key, nor is that host known
+    others = ("UNSUPPORTED", "OTHER_NAMESPACE", "SIGNER_NOT_ALLOWED", "NOT_NORMAL_FORM", "OTHER_TYPE", "OTHER_KEY", "HOST_UNKNOWN")
+    read = map(judge.number, ("DONE", *others))
     return number in read or wanted != "read" and 10 <= number < 30
 
 
@@ -108,5 +119,6 @@ def check_calls(judge):
     check_entry_calls(judge)
     check_users(judge)
     check_hosts(judge)
+    check_userauths(judge)
     check_signers(judge)
     check_addresses(judge)

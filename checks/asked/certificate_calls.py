@@ -7,6 +7,7 @@ from lib.harness import blob_of, ssh_keygen, string, take
 
 from .linked import EXAMPLES, run, turned, word
 from .made import END, FIRST, WINDOW, is_verified
+from .verdicts import status_of
 
 OPTIONS = [
     "clear", "force-command=echo \"a b\"", "source-address=10.0.0.0/8,::1/128", "verify-required", "critical:z@example.org=value",
@@ -260,7 +261,7 @@ def check_turned(judge, fields):
 
 def check_issued(judge, library):
     """examples/issue.py issues what ssh-keygen reads and takes."""
-    count, maker, sshkey, check = judge.count, judge.made.maker, judge.made.sshkey, judge.made.check
+    count, maker, sshkey = judge.count, judge.made.maker, judge.made.sshkey
     maker.key("issuer", "ed25519")
     maker.key("holder", "ed25519")
     words = [sys.executable, os.path.join(EXAMPLES, "issue.py"), maker.path("issuer"), maker.path("holder.pub")]
@@ -280,7 +281,9 @@ def check_issued(judge, library):
     second = int(sshkey.certificate_fields(blob).valid_after)
     by = [sshkey.fingerprint(maker.blob("issuer"))]
     for principal, wanted in (("alice", "DONE"), ("eve", "UNLISTED_PRINCIPAL")):
-        count.check(f"it is valid for {principal}: {wanted}", check.judge(blob, second, principal, by, check.NO_REVOCATIONS).name == wanted)
+        login = sshkey.Login(blob, principal, maker.blob("holder"), second, by, sshkey.NO_REVOCATIONS)
+        status = status_of(sshkey, sshkey.log_in, login)
+        count.check(f"it is valid for {principal}: {wanted}", status.name == wanted, status)
     signature = maker.signature("holder-cert.pub", "text")
     allowed = "alice cert-authority " + maker.read("issuer.pub")
     count.check("and ssh-keygen takes it", is_verified(maker.folder, "issued", signature, "text", "alice", second, allowed))

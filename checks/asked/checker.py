@@ -22,7 +22,7 @@ HOSTILE_WORDS = 150
 WINDOWS = ("always:forever", "20240101:forever", "always:20240101000000", "20240101000000:20240201000000")
 # lines of allowed signers with a signature by {key} of "a text" in SPACE, what it is asked about, what is revoked, and what is said at
 # the middle of a window
-NOBODY, REVOKED, UNREAD = "no allowed signer (55)", "a signer that is revoked (56)", "the revocation file can't be read (58)"
+NOBODY, REVOKED, UNREAD = "no allowed signer (55)", "revoked (56)", "the revocation file can't be read (58)"
 ALLOWED = [
     ("as it is", "alice {key}", {}, None, "valid"), ("of one of two", "bob,alice {key}", {}, None, "valid"),
     ("of another text", "alice {key}", {"text": "a texts"}, None, "not signed (30)"),
@@ -132,8 +132,8 @@ def check_verified(count, programs, maker):
         for name, words, text, wanted in (
             ("as it is", (keys, SPACE), "a text", "valid"), ("of another text", (keys, SPACE), "a texts", "not signed (30)"),
             ("in another namespace", (keys, "git"), "a text", "another namespace (41)"),
-            ("by another key", (maker.path(f"{other}.pub"), SPACE), "a text", "another key (103)"),
-            ("by no key", (maker.write("none-of-these", ""), SPACE), "a text", "another key (103)"),
+            ("by another key", (maker.path(f"{other}.pub"), SPACE), "a text", "no allowed signer (55)"),
+            ("by no key", (maker.write("none-of-these", ""), SPACE), "a text", "no allowed signer (55)"),
         ):  # fmt: skip
             check_signature(count, programs, maker, f"by {kind}, {name}", signature, words, text, wanted)
     line = maker.read("shown0.pub")

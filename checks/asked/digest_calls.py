@@ -6,6 +6,7 @@ from lib.signatures import signed_data, ssh_signature_over
 
 from .linked import turned, word
 from .login_calls import blocks
+from .verdicts import status_of
 
 HASHES = ("sha256", "sha512")
 TEXT = b"text"
@@ -52,7 +53,7 @@ def questions_of(signature, namespace, digest, signers):
 
 def check_signed(judge, name, key, signature, hashed):
     """What is said of each digest, and that the right one is asked about as the text is, over what PROTOCOL.sshsig has signed."""
-    sshkey, check, own = judge.made.sshkey, judge.made.check, judge.made.sshkey.fingerprint(key)
+    sshkey, own = judge.made.sshkey, judge.made.sshkey.fingerprint(key)
     right, asked = hashlib.new(hashed, TEXT).digest(), []
     for reserved in (b"", b"reserved"):
         changed = with_reserved(signature, reserved)
@@ -63,15 +64,15 @@ def check_signed(judge, name, key, signature, hashed):
     for case, namespace, digest, wanted in cases(hashed):
         question, whole = questions_of(signature, namespace, digest, own)
         asked.append((case, question, "0" if wanted == "NOT_SIGNED" else str(judge.number(wanted))))
-        status = check.judge_signature_of_digest(signature, namespace, digest, {own})
-        judge.check(f"{name} by a digest: {case}, by check.py", status.name == wanted, status.name)
+        status = status_of(sshkey, sshkey.judge_sshsig_of_digest, signature, namespace, digest, {own})
+        judge.check(f"{name} by a digest: {case}, by Python", status.name == wanted, status.name)
         asked += [(f"{case}, whether it counts", whole, str(judge.number(wanted)))] if judge.asker.is_package else []
     for case, given, wanted in (("cut", signature[:-1], "13"), ("lengthened", signature + b"!", "14"), ("no signature", b"", "13")):
         asked.append((case, questions_of(given, b"file", right, own)[0], wanted))
     if judge.asker.is_package:
         asked.append(("its hash", f"sshsig-hash {signature.hex()}", f"0 {hashed}"))
         asked.append(("the hash, cut", f"sshsig-hash {signature[:-1].hex()}", "13"))
-        asked.append(("another signer", questions_of(signature, b"file", right, bytes(32))[1], str(judge.number("OTHER_KEY"))))
+        asked.append(("another signer", questions_of(signature, b"file", right, bytes(32))[1], str(judge.number("SIGNER_NOT_ALLOWED"))))
         asked.append(("by the text", f"is-sshsig {signature.hex()} {word(b'file')} {TEXT.hex()} {own.hex()}", "0"))
     judge.hold(f"{name} by a digest", asked)
     if not judge.asker.is_package:
@@ -84,8 +85,8 @@ def check_verifications(judge, name, signature, digest, own):
     for case, given, by, wanted, count in (
         ("its signer", signature, own, "DONE", 1), ("one of two signers", signature, strange + own, "DONE", 1),
         ("turned", wrong, own, "NOT_SIGNED", 1), ("over reserved bytes", with_reserved(signature, b"reserved"), own, "NOT_SIGNED", 0),
-        ("another signer", signature, strange, "OTHER_KEY", 0), ("no signer", signature, b"", "OTHER_KEY", 0),
-        ("another signer, turned", wrong, strange, "OTHER_KEY", 0),
+        ("another signer", signature, strange, "SIGNER_NOT_ALLOWED", 0), ("no signer", signature, b"", "SIGNER_NOT_ALLOWED", 0),
+        ("another signer, turned", wrong, strange, "SIGNER_NOT_ALLOWED", 0),
     ):  # fmt: skip
         question = " ".join(["sshsig-by", *map(word, (given, b"file", digest, by))])
         asked.append((case, question, f"{judge.number(wanted)} {count}"))
@@ -101,7 +102,7 @@ def check_reserved(judge, user, key):
         by_text = f"is-sshsig {signature.hex()} {word(b'file')} {TEXT.hex()} {own.hex()}"
         # the signer is asked first
         by_other = questions_of(signature, b"file", hashlib.sha512(TEXT).digest(), bytes(32))[1]
-        asked += [("by another signer", by_other, str(judge.number("OTHER_KEY")))]
+        asked += [("by another signer", by_other, str(judge.number("SIGNER_NOT_ALLOWED")))]
         asked += [("what is reserved", f"sshsig-reserved {signature.hex()}", f"0 {word(reserved)}")]
         asked += [("cut", f"sshsig-reserved {signature[:-1].hex()}", "13"), ("by its text", by_text, wanted), ("by its digest", by_digest, wanted)]
     judge.hold(f"a signature by {user} over reserved bytes", asked)

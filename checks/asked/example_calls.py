@@ -7,11 +7,14 @@ import sys
 
 from lib.signatures import armoured
 
-from .answers import REFUSALS, WITHOUT_WORDS
+from .answers import WITHOUT_WORDS
+from .hosts import LATER
 from .linked import BINDINGS, EXAMPLES, enumerations, run
 from .revocation_calls import EMPTY, made_list
 from .stubs import OTHER_ABI, check_other_abi, stub_library
 
+# what is said of a line of a later kind of key
+PASSED_OVER = "a later kind of key, which is passed over"
 # the status that a program has promised
 VALID, INVALID, UNTOLD = 0, 1, 2
 SECONDS = [
@@ -39,6 +42,18 @@ def certificate_cases(maker, kind, middle):
     ]  # fmt: skip
 
 
+def revoked_words(maker, files):
+    """The words that name files of that content; None for one that is not there."""
+    words = []
+    for number, data in enumerate(files):
+        path = maker.path("none" if data is None else f"revocations{number}")
+        if data is not None:
+            with open(path, "wb") as file:
+                file.write(data)
+        words += ["--revoked", path]
+    return words
+
+
 def check_certificates(count, built, maker, kind, middle):
     """sshkey-check has the status 2 where it can't tell."""
     good, line, wrong = kind.path, f"{kind.line}\n", maker.path("wrong")
@@ -58,43 +73,42 @@ def check_certificates(count, built, maker, kind, middle):
         count.check(f"{program}: a folder on standard input", ran.returncode == UNTOLD and ran.stderr, ran.returncode, ran.stderr)
         revoked = made_list(maker, None, [kind.line])
         unread, own = maker.read("user0.pub")[:40].encode(), kind.maker.read(f"{kind.authority}.pub").encode()
-        for name, data, wanted in (
-            ("nothing", EMPTY, VALID), ("no bytes", b"", VALID), ("its key", revoked, INVALID), ("a text of its authority", own, INVALID),
-            ("half a list", EMPTY[:20], UNTOLD), ("a text of half a key", unread, UNTOLD),
+        for name, files, wanted in (
+            ("nothing", [EMPTY], VALID), ("no bytes", [b""], VALID), ("its key", [revoked], INVALID), ("a text of its authority", [own], INVALID),
+            ("half a list", [EMPTY[:20]], UNTOLD), ("a text of half a key", [unread], UNTOLD), ("nothing, and no bytes", [EMPTY, b""], VALID),
+            ("nothing, and its key", [EMPTY, revoked], INVALID), ("its key, and half a list", [revoked, EMPTY[:20]], UNTOLD),
         ):  # fmt: skip
-            with open(maker.path("revocations"), "wb") as file:
-                file.write(data)
-            ran = run([*words, good, "--at", str(middle), "--revoked", maker.path("revocations")], input=line)
-            same = ran.returncode == wanted and ("(107)" in ran.stderr) == (wanted == INVALID) and bool(ran.stdout) == (wanted != UNTOLD)
-            count.check(f"{program}: a revocation list of {name}", same, ran.returncode, ran.stdout, ran.stderr)
+            ran = run([*words, good, "--at", str(middle), *revoked_words(maker, files)], input=line)
+            same = ran.returncode == wanted and ("(56)" in ran.stderr) == (wanted == INVALID) and bool(ran.stdout) == (wanted != UNTOLD)
+            count.check(f"{program}: revocation files of {name}", same, ran.returncode, ran.stdout, ran.stderr)
         ran = run([*words, good, "--at", str(middle), "--revoked", maker.path("none")], input=line)
         count.check(f"{program}: no file of revocations", ran.returncode == UNTOLD and ran.stderr and not ran.stdout, ran.stdout)
     os.close(folder)
     ran = run([f"{built.plain}/sshkey-check", "--ca", wrong], input=line)
     count.check("sshkey-check names the line that is no key", f"{wrong}:4: no key" in ran.stderr, ran.stderr)
+    later = maker.write("later", f"{LATER['later']} a comment\n{maker.read(f'{kind.authority}.pub')}\n")
+    ran = run([f"{built.sanitized}/sshkey-check", "--ca", later, "--user", "alice", "--at", str(middle)], input=line)
+    said = (ran.returncode, ran.stdout, ran.stderr)
+    count.check("and passes over a later kind of key", said == (VALID, "valid\n", f"sshkey-check: {later}:1: {PASSED_OVER}\n"), ran)
 
 
 def check_revoked(count, out, maker, programs):
-    """With a list of revocations the programs print what they print without it, unless the list revokes it or can't be read."""
-    lists = {
-        "a list of nothing": EMPTY, "a list that revokes it": made_list(maker, None, [maker.read("user0.pub")]), "an empty file": b"",
-        "a list of another key": made_list(maker, None, [maker.read("user1.pub")]), "a text of another key": maker.read("user1.pub").encode(),
-        "a text of its key": maker.read("user0.pub").encode(), "half a list": EMPTY[:20],
-    }  # fmt: skip
-    good = ("a list of nothing", "an empty file", "a list of another key", "a text of another key")
+    """With files of revocations the programs print what they print without them, unless one revokes it or can't be read."""
+    revoked, other = (made_list(maker, None, [maker.read(f"{it}.pub")]) for it in ("user0", "user1"))
+    own, text = (maker.read(f"{it}.pub").encode() for it in ("user0", "user1"))
     for program, words in programs.items():
         plain = run([f"{out}/{program}", *words])
-        for name, data in {**lists, "no such file": None}.items():
-            path = maker.path("none")
-            if data is not None:
-                path = maker.path("revocations")
-                with open(path, "wb") as file:
-                    file.write(data)
-            ran = run([f"{out}/{program}", "--revoked", path, *words])
-            is_good, is_untold = name in good, data is None or name == "half a list"
+        for name, files, wanted in (
+            ("a list of nothing", [EMPTY], VALID), ("an empty file", [b""], VALID), ("a list of another key", [other], VALID),
+            ("a text of another key", [text], VALID), ("three files without it", [EMPTY, other, text], VALID), ("a list that revokes it", [revoked], INVALID),
+            ("a text of its key", [own], INVALID), ("the last of three revokes it", [EMPTY, text, revoked], INVALID),
+            ("the first of two revokes it", [own, EMPTY], INVALID), ("half a list", [EMPTY[:20]], UNTOLD), ("no such file", [None], UNTOLD),
+            ("one revokes it, and the other is none", [revoked, EMPTY[:20]], UNTOLD), ("one revokes it, and the other is not there", [revoked, None], UNTOLD),
+        ):  # fmt: skip
+            ran = run([f"{out}/{program}", *revoked_words(maker, files), *words])
             # what is revoked is a no, and where no file is read the program can't tell
-            wanted = (0, plain.stdout) if is_good else (int(is_untold), "")
-            same = (ran.returncode, ran.stdout) == wanted and bool(ran.stderr) != is_good and plain.stdout
+            said = {VALID: (0, plain.stdout), INVALID: (0, ""), UNTOLD: (1, "")}[wanted]
+            same = (ran.returncode, ran.stdout) == said and bool(ran.stderr) == (wanted != VALID) and plain.stdout
             count.check(f"{program}, {os.path.basename(out)}: {name}", same, ran.returncode, ran.stdout, ran.stderr)
 
 
@@ -119,6 +133,12 @@ def check_helpers(count, built, maker, kind):
             count.check(f"principals, {name}: {case}", same, ran.returncode, ran.stdout, ran.stderr)
         ran = run([f"{out}/sshkey-principals", "--insecure-modes", wrong, "alice", *offered])
         count.check(f"sshkey-principals, {name}, names the line", f"{wrong}:2: no key" in ran.stderr, ran.stderr)
+        later = maker.write("later", f"alice {LATER['later']} x\nbob {LATER['misnamed']}\nalice {key}\n")
+        for user, wanted in (("alice", (0, "alice\n", f"sshkey-principals: {later}:1: {PASSED_OVER}\n")), ("bob", (1, "", None))):
+            ran = run([f"{out}/sshkey-principals", "--insecure-modes", later, user, *offered])
+            same = (ran.returncode, ran.stdout) == wanted[:2] and (wanted[2] is None and "2: no key" in ran.stderr or ran.stderr == wanted[2])
+            count.check(f"sshkey-principals, {name}, {user}: a line of a later kind", same, ran)
+        check_bits(count, f"{out}/sshkey-principals", maker, kind)
         own_words = ["--file", own, "alice", *maker.read("own").split()[:2]]
         programs = {"sshkey-principals": [good, "alice", *offered], "sshkey-authorized-keys": own_words}
         programs = {program: ["--insecure-modes", *words] for program, words in programs.items()}
@@ -127,6 +147,20 @@ def check_helpers(count, built, maker, kind):
             with open("/dev/full", "wb") as full:
                 ran = run([f"{out}/{program}", *words], capture_output=False, stdout=full, stderr=-1)
             count.check(f"{program}, {name}: nothing is written", ran.returncode == 1 and ran.stderr, ran.returncode, ran.stderr)
+
+
+def check_bits(count, program, maker, kind):
+    """RequiredRSASize of sshd, which is 1,024 here unless it is given."""
+    maker.key("short", "rsa -b 2048")
+    offered = maker.certificate(kind.authority, "short", "-n", "alice", "-V", "-5m:+5m").split()[:2]
+    good = maker.write("helped", f"alice {maker.read(f'{kind.authority}.pub')}\n")
+    for words, wanted in (([], "alice\n"), (["--least-rsa-bits", "2048"], "alice\n"), (["--least-rsa-bits", "2049"], "")):
+        ran = run([program, "--insecure-modes", *words, good, "alice", *offered])
+        same = (ran.returncode, ran.stdout) == (0, wanted) and ("(59)" in ran.stderr) == (not wanted)
+        count.check(f"sshkey-principals, an RSA key of 2,048 bits {words}", same, ran)
+    for bits in ("x", "-1", "4294967296", ""):
+        ran = run([program, "--least-rsa-bits", bits, good, "alice", *offered])
+        count.check(f"sshkey-principals --least-rsa-bits {bits!r} is no call", ran.returncode == 1 and ran.stderr.startswith("usage: "), ran)
 
 
 def check_issuing(count, built, maker):
@@ -272,20 +306,13 @@ def check_copies(count, built, maker):
         count.check(f"SSHKEY_LIBRARY in a program with the rights of {name}", taken, ran.stdout, ran.stderr)
 
 
-def meanings_wanted(check):
-    """The words for each number, which check.py has for all of the header and of judge.h, each its own."""
-    numbers = {*next(it for it in enumerations() if "SSHKEY_DONE" in it).values(), *REFUSALS.values()}
-    return numbers, {int(it): words for it, words in check.MEANING.items()}
-
-
-def check_meanings(count, built, check):
-    """Each number has words, the same in C and in Python, and no two have the same."""
-    numbers, wanted = meanings_wanted(check)
-    count.check("each number of the headers has words in Python", {*wanted} == numbers, {*wanted} ^ numbers)
-    count.check("no two have the same", len({*wanted.values()}) == len(wanted), sorted(wanted.values()))
-    said = run([f"{built.plain}/foreign"], input="meanings\n").stdout.rstrip("\n").split(",")
+def check_meanings(count, built):
+    """Each number of the header has words, and no two have the same. Other languages print them from those in C."""
+    numbers = {*next(it for it in enumerations() if "SSHKEY_DONE" in it).values()}
+    said = run([f"{built.plain}/foreign"], input="meanings\n").stdout.rstrip("\n").split("|")
     found = {it: words for it, words in enumerate(said) if words != WITHOUT_WORDS}
-    count.check("answers have the same words in C and in Python", len(said) == 200 and found == wanted, found.items() ^ wanted.items())
+    count.check("each number of the header has words, and no other", len(said) == 200 and {*found} == numbers, {*found} ^ numbers)
+    count.check("no two have the same", len({*found.values()}) == len(found), sorted(found.values()))
 
 
 def check_authorities(count, built, kind):
@@ -300,7 +327,7 @@ def check_authorities(count, built, kind):
     count.check("authorities are added without a fault", ran.returncode == 0, ran.stderr[-2000:])
 
 
-def check_example_calls(count, built, check, maker, kind, middle):
+def check_example_calls(count, built, maker, kind, middle):
     check_certificates(count, built, maker, kind, middle)
     check_helpers(count, built, maker, kind)
     check_issuing(count, built, maker)
@@ -308,5 +335,5 @@ def check_example_calls(count, built, check, maker, kind, middle):
     check_armour(count, maker)
     check_host_words(count, built, maker)
     check_copies(count, built, maker)
-    check_meanings(count, built, check)
+    check_meanings(count, built)
     check_authorities(count, built, kind)

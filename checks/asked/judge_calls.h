@@ -140,7 +140,7 @@ static void ask_names(void) {
 
 static void ask_meanings(void) {
   for (uint32_t answer = 0; answer < 200; answer++)
-    printf("%s%s", answer ? "," : "", judge_meaning(answer));
+    printf("%s%s", answer ? "|" : "", judge_meaning(answer));
 }
 
 /* Answers a question that takes no call of sshkey.h by its name; false where it is none. */

@@ -28,9 +28,19 @@ def word(data):
     return data.hex() or "-"
 
 
+def data_of(text):
+    """The bytes of a word."""
+    return b"" if text == "-" else bytes.fromhex(text)
+
+
 def several(many):
     """Several byte strings, likewise: with commas between, or none of them."""
     return ",".join(map(word, many)) or "none"
+
+
+def datas_of(text):
+    """The byte strings of a word."""
+    return [] if text == "none" else list(map(data_of, text.split(",")))
 
 
 def turned(data):

@@ -4,11 +4,13 @@ says so take no memory."""
 import hashlib
 import re
 
-from lib.harness import ssh_keygen, string
+from lib.harness import blob_of, ssh_keygen, string
 
+from .hosts import LATER
 from .key_calls import all_of, encoded, keys_of, renamed, signed_by
-from .linked import ABI, VERSION, declared, header, word
+from .linked import ABI, VERSION, declared, header, several, word
 from .revocation_calls import EMPTY
+from .userauth_calls import by_keys
 
 SPANS, NUMBERS = 7, 5
 # how many bytes the texts of fingerprints have, which no call tells
@@ -24,8 +26,8 @@ OTHER_NAME = "rsa-sha2-256"
 DOING_WITHOUT = {"certificate_validate", "certificate_validate_for"}
 
 
-def of_certificate(blob, authority, second):
-    """Calls about a certificate for alice by the authority, with what they are given and what is wanted."""
+def of_certificate(blob, authority, second, key):
+    """Calls about a certificate of the key for alice by the authority, with what they are given and what is wanted."""
     by, alice = hashlib.sha256(authority).digest(), b"alice"
     signed = blob.rindex(string(authority)) + len(string(authority))
     for call in ("question", "fields", "parts", "key", "normal"):
@@ -42,6 +44,66 @@ def of_certificate(blob, authority, second):
     yield "certificate_validate", [blob[:-1], b"", by], [second, 1], "LENGTH"
     yield "certificate_validate_for", [blob, b"eve", by], [second, 1], "UNLISTED_PRINCIPAL"
     yield "certificate_validate_for", [blob, b"\xff", by], [second, 1], "TEXT"
+    yield from of_logins([blob, alice, key, bytes(4), by, [EMPTY, b""]], second)
+
+
+def of_logins(good, second):
+    """Calls about the login of a good one by what they are given, and by others."""
+    strange, revoked = bytes(32), EMPTY + b"\2" + string(string(good[2]))
+    for is_verified, wanted in ((1, "DONE"), (0, "NOT_SIGNED")):
+        yield "login_verdict", good, [second, 0, is_verified], wanted
+        yield "login_verdict", [*good[:5], [b"# a comment\n"]], [second, 0, is_verified], wanted
+    for at, other, wanted in (
+        (0, good[0][:-1], "LENGTH"), (1, b"\xff", "TEXT"), (1, b"eve", "UNLISTED_PRINCIPAL"), (1, b"", "VALID_PRINCIPALS"), (2, good[2][:-1], "LENGTH"),
+        (4, strange, "UNTRUSTED_AUTHORITY"), (5, [EMPTY, revoked], "REVOKED"), (5, [revoked], "REVOKED"), (5, [], "UNREADABLE_REVOCATIONS"),
+        (5, [revoked[:-1]], "UNREADABLE_REVOCATIONS"), (5, [b"", b"x"], "UNREADABLE_REVOCATIONS"),
+    ):  # fmt: skip
+        yield "login_verdict", [*good[:at], other, *good[at + 1 :]], [second, 0, 1], wanted
+    yield "login_verdict", good, [0, 0, 1], "OUT_OF_WINDOW"
+
+
+def of_hosts(maker, second):
+    """Calls about a host that shows a key or a certificate, by texts of which one has hashed names."""
+    words = ["-h", "-n", "host", "-V", "20240101000000:20240201000000", "-O", "clear"]
+    own, other = blob_of(maker.key("memory-host", "ed25519")), blob_of(maker.key("another-memory-host", "ecdsa -b 256"))
+    certificate, by = blob_of(maker.certificate("authority0", "memory-host", *words)), encoded(maker.blob("authority0"))
+    path = maker.write("hashed", f"host,192.0.2.1 ssh-ed25519 {encoded(own)}\n")
+    ssh_keygen("-q", "-H", "-f", path)
+    hashed, authority = maker.read("hashed").encode() + b"\n", f"@cert-authority * ssh-ed25519 {by}\n".encode()
+    revoked, listed = f"@revoked * ssh-ed25519 {encoded(own)}\n".encode(), EMPTY + b"\2" + string(string(own))
+    for texts, files, port, of_key, of_certificate_ in (
+        ([b"# a comment\n", hashed + authority], [EMPTY], 22, "DONE", "DONE"), ([hashed, authority], [b"", EMPTY], 2222, "DONE", "DONE"),
+        ([], [EMPTY], 22, "HOST_UNKNOWN", "HOST_UNKNOWN"), ([hashed + authority, revoked], [EMPTY], 22, "HOST_REVOKED", "HOST_REVOKED"),
+        ([hashed + b"host ssh-ed25519 AAAA\n"], [EMPTY], 22, "HOST_UNREADABLE", "HOST_UNREADABLE"), ([hashed + authority], [listed], 22, "HOST_REVOKED", "HOST_REVOKED"),
+        ([hashed + authority], [], 22, "UNREADABLE_REVOCATIONS", "UNREADABLE_REVOCATIONS"), ([hashed + authority, b"\xff"], [EMPTY], 22, "TEXT", "TEXT"),
+    ):  # fmt: skip
+        yield "host_key_verdict", [texts, b"host", own, files], [port, 0], of_key
+        yield "host_certificate_verdict", [texts, b"host", certificate, files], [port, 0, second, 1], of_certificate_
+    yield "host_key_verdict", [[hashed], b"host", other, [EMPTY]], [22, 0], "HOST_CHANGED"
+    yield "host_key_verdict", [[hashed], b"host", own[:-1], [EMPTY]], [22, 0], "LENGTH"
+    yield "host_certificate_verdict", [[authority], b"host", certificate, [EMPTY]], [22, 0, second, 0], "NOT_SIGNED"
+    yield "host_certificate_verdict", [[authority], b"other", certificate, [EMPTY]], [22, 0, second, 1], "UNLISTED_PRINCIPAL"
+    yield "host_certificate_verdict", [[authority], b"host", certificate[:-1], [EMPTY]], [22, 0, second, 1], "LENGTH"
+    for text, wanted in ((hashed + b"host x y\n", "DONE"), (hashed, "END"), (b"", "END"), (b"\xff", "TEXT")):
+        yield "unreadable_host_line", [text, b"host"], [22], wanted
+    for line, wanted in ((LATER["later"].encode(), "DONE"), (LATER["cut"].encode(), "LABEL"), (b"", "LABEL"), (b"\xff", "TEXT")):
+        yield "is_other_key_line", [line], [], wanted
+
+
+def of_requests(maker):
+    """Calls about what clients sign."""
+    for _, request, _ in by_keys(maker):
+        given = [request.session, request.user, request.algorithm, request.key, request.host_key or b"", request.signature]
+        numbers = [int(request.host_key is not None), 0]
+        yield "userauth_question", given, numbers, "DONE"
+        yield "userauth_question_of", [*given, request.message()], numbers, "DONE"
+        yield "userauth_question_of", [*given, b""], numbers, "OTHER_REQUEST"
+        yield "userauth_question", [*given[:5], request.signature[:-1]], numbers, "LENGTH"
+        yield "userauth_question", [*given[:2], b"ssh-dss", *given[3:]], numbers, "OTHER_ALGORITHM"
+        if b"-cert-" not in request.algorithm:
+            yield "grant_flags", [request.key, request.signature], [0], "DONE"
+            yield "grant_flags", [request.key, request.signature[:-1]], [0], "LENGTH"
+            yield "grant_flags", [request.key[:-1], request.signature], [0], "LENGTH"
 
 
 def of_key(blob):
@@ -71,13 +133,15 @@ def of_signature(maker, key):
     yield "sshsig_question_of_digest", [file, b"file", digest[:32]], [], "LENGTH"
     yield "sshsig_question_of_digest", [file[:-1], b"file", digest], [], "LENGTH"
     signers, who = b"# a comment\nbob x\nalice " + maker.read(f"{key}.pub").encode(), b"alice"
-    for revoked in (b"", b"# a comment\n" + maker.read("authority0.pub").encode(), EMPTY):
+    text, own = b"# a comment\n" + maker.read("authority0.pub").encode(), maker.read(f"{key}.pub").encode()
+    for revoked in ([b""], [text], [EMPTY], [EMPTY, text]):
         yield "signer_verdict", [signers, who, b"file", file, revoked], [0, 1], "DONE"
-    yield "signer_verdict", [signers, who, b"file", file, b""], [0, 0], "NOT_SIGNED"
-    yield "signer_verdict", [signers, who, b"file", file, maker.read(f"{key}.pub").encode()], [0, 1], "REVOKED"
-    yield "signer_verdict", [signers, b"bob", b"file", file, b""], [0, 1], "SIGNER_NOT_ALLOWED"
-    yield "signer_verdict", [signers, b"\xff", b"file", file, b""], [0, 1], "TEXT"
-    yield "signer_verdict", [signers, who, b"file", file[:-1], b""], [0, 1], "LENGTH"
+    yield "signer_verdict", [signers, who, b"file", file, [b""]], [0, 0], "NOT_SIGNED"
+    for revoked, wanted in (([own], "REVOKED"), ([EMPTY, own], "REVOKED"), ([], "UNREADABLE_REVOCATIONS"), ([own, b"x"], "UNREADABLE_REVOCATIONS")):
+        yield "signer_verdict", [signers, who, b"file", file, revoked], [0, 1], wanted
+    yield "signer_verdict", [signers, b"bob", b"file", file, [b""]], [0, 1], "SIGNER_NOT_ALLOWED"
+    yield "signer_verdict", [signers, b"\xff", b"file", file, [b""]], [0, 1], "TEXT"
+    yield "signer_verdict", [signers, who, b"file", file[:-1], [b""]], [0, 1], "LENGTH"
     yield "sshsig_normal", [file], [], "DONE"
     yield "sshsig_normal", [file + b"!"], [], "TRAILING_DATA"
     yield "signature_question", [blob, message, signature], [], "DONE"
@@ -89,20 +153,10 @@ def of_signature(maker, key):
 
 def of_files(maker, key):
     """Calls about files with the key, names of which are hashed."""
-    word, other = encoded(key).encode(), encoded(key[:-1] + bytes([key[-1] ^ 1])).encode()
-    path = maker.write("hashed", f"host,192.0.2.1 ssh-ed25519 {word.decode()}\n")
+    path = maker.write("hashed", f"host,192.0.2.1 ssh-ed25519 {encoded(key)}\n")
     ssh_keygen("-q", "-H", "-f", path)
     hashed = maker.read("hashed").encode() + b"\n"
     yield "known_host", [hashed.split(b"\n")[0]], [], "DONE"
-    texts = {
-        "DONE": b"# a comment\n" + hashed, "HOST_CHANGED": b"host ssh-ed25519 " + other, "HOST_UNKNOWN": b"a ssh-ed25519 " + word,
-        "HOST_REVOKED": hashed + b"@revoked host ssh-ed25519 " + word, "HOST_UNREADABLE": hashed + b"host ssh-ed25519 AAAA",
-    }  # fmt: skip
-    for wanted, text in texts.items():
-        yield "host_verdict", [text, b"host", key], [22], wanted
-    yield "host_verdict", [hashed, b"\xff", key], [22], "TEXT"
-    yield "authority_verdict", [b"@cert-authority * ssh-ed25519 " + word, b"host", key], [22], "DONE"
-    yield "authority_verdict", [hashed, b"host", key], [22], "HOST_UNKNOWN"
     for address, wanted in ((bytes([10, 1, 2, 3]), "DONE"), (bytes([11, 1, 2, 3]), "ELSEWHERE"), (bytes(5), "LENGTH")):
         yield "source_address_allows", [b"10.0.0.0/8", address], [], wanted
         yield "from_allows", [b"10.0.0.0/8", address, b""], [], wanted
@@ -121,22 +175,22 @@ def of_lists(made, keys):
     blob, listed = made.kinds[0].blob, made.maker.blob(made.kinds[0].authority)
     other = EMPTY + b"\2" + string(string(keys["ed25519"]))
     for revoked, wanted in ((EMPTY + b"\2" + string(string(listed)), "DONE"), (other, "NOT_REVOKED")):
-        for calls in ("krl_revokes", "revoked"):
-            yield f"{calls}_certificate", [revoked, blob], [], wanted
-            yield f"{calls}_key", [revoked, listed], [], wanted
+        for calls, files in (("krl_revokes", revoked), ("revoked", [revoked]), ("revoked", [b"# a comment\n", revoked])):
+            yield f"{calls}_certificate", [files, blob], [], wanted
+            yield f"{calls}_key", [files, listed], [], wanted
     for key in (*keys.values(), renamed(keys["rsa -b 2048"], OTHER_NAME.encode())):
-        for call in ("krl_revokes_key", "revoked_key"):
-            yield call, [other, key], [], "DONE" if key == keys["ed25519"] else "NOT_REVOKED"
+        for call, files in (("krl_revokes_key", other), ("revoked_key", [other])):
+            yield call, [files, key], [], "DONE" if key == keys["ed25519"] else "NOT_REVOKED"
     for call, value in (("krl_revokes_key", listed), ("krl_revokes_certificate", blob)):
         yield call, [other[:-1], value], [], "LENGTH"
         yield call, [other, value[:-1]], [], "LENGTH"
         yield call, [other, value + b"!"], [], "TRAILING_DATA"
     for call, value in (("revoked_key", listed), ("revoked_certificate", blob)):
-        yield call, [b"", value], [], "NOT_REVOKED"
-        for file in (other[:-1], b"\xff", b"ssh-ed25519\n"):
-            yield call, [file, value], [], "UNREADABLE_REVOCATIONS"
-        yield call, [other, value[:-1]], [], "LENGTH"
-        yield call, [b"", value + b"!"], [], "TRAILING_DATA"
+        yield call, [[b""], value], [], "NOT_REVOKED"
+        for files in ([other[:-1]], [b"\xff"], [b"ssh-ed25519\n"], [], [b"", other[:-1]]):
+            yield call, [files, value], [], "UNREADABLE_REVOCATIONS"
+        yield call, [[other], value[:-1]], [], "LENGTH"
+        yield call, [[b""], value + b"!"], [], "TRAILING_DATA"
 
 
 def of_drafts(key, authority):
@@ -155,7 +209,7 @@ def of_drafts(key, authority):
 def cases(made):
     maker, keys = made.maker, dict(keys_of(made.maker))
     for number, kind in enumerate(made.kinds):
-        yield from of_certificate(kind.blob, maker.blob(kind.authority), made.middle)
+        yield from of_certificate(kind.blob, maker.blob(kind.authority), made.middle, made.key(number))
         yield "read_line", [kind.line.encode()], [], "DONE"
         yield from of_signature(maker, f"user{number}")
     for blob in keys.values():
@@ -170,10 +224,12 @@ def cases(made):
     yield "abi", [], [], ABI
     yield from of_files(maker, keys["ed25519"])
     yield from of_lists(made, keys)
+    yield from of_hosts(maker, made.middle)
+    yield from of_requests(maker)
 
 
 def question_of(what, call, spans, numbers, *more):
-    words = [*(word(it) for it in spans), *["-"] * (SPANS - len(spans))]
+    words = [*(several(it) if isinstance(it, list) else word(it) for it in spans), *["-"] * (SPANS - len(spans))]
     words += [*map(str, numbers), *["0"] * (NUMBERS - len(numbers))]
     return " ".join([what, call, *words, *map(str, more)])
 

@@ -10,7 +10,7 @@ from concurrent.futures import ThreadPoolExecutor
 from lib.harness import blob_of, line_of, ssh_keygen, string
 
 from .key_calls import renamed
-from .linked import turned, word
+from .linked import several, turned, word
 
 SUBJECTS, AUTHORITIES = ("ed25519", "ecdsa -b 384", "rsa -b 2048"), ("ed25519", "ecdsa -b 256")
 # the serial numbers and the key ids of the certificates of each subject
@@ -187,6 +187,23 @@ def check_files(judge):
         asked.append((name, question(data, ".pub", subjects[0][1] if "and" not in name else b"", "revoked"), kind))
     asked.append(("no bytes, and no key", question(b"", ".pub", b"", "revoked"), str(judge.number("LENGTH"))))
     judge.hold("a revocation file", asked)
+    check_several(judge, subjects)
+
+
+def check_several(judge, subjects):
+    """The same of several files: any of them revokes, and all have to be read."""
+    read, asked = judge.made.maker.read, []
+    own, other, half = (it.encode() for it in (read("revoked0.pub"), read("revoked1.pub"), read("revoked0.pub")[:40]))
+    listed, unread = made_list(judge.made.maker, None, [read("revoked0.pub")]), str(judge.number("UNREADABLE_REVOCATIONS"))
+    for name, files, wanted in (
+        ("none", [], unread), ("one that revokes nothing", [EMPTY], "0 0"), ("two of nothing", [EMPTY, b""], "0 0"), ("its key in the first", [own, other], "0 1"),
+        ("its key in the last of three", [b"", other, listed], "0 1"), ("its key in both", [own, listed], "0 1"), ("another key in both", [other, other], "0 0"),
+        ("half a key in the second", [EMPTY, half], unread), ("half a key in the first", [half, own], unread), ("its key, and half a list", [own, listed[:-1]], unread),
+    ):  # fmt: skip
+        for path, blob in subjects:
+            kind = "certificate" if path.endswith("-cert") else "key"
+            asked.append((f"{name}: {path}", f"revoked-{kind} {several(files)} {word(blob)}", wanted))
+    judge.hold("several revocation files", asked)
 
 
 def check_revocations(judge):

@@ -14,7 +14,7 @@ from lib.signatures import mpint, signed_data, ssh_signature
 from .key_calls import question_of
 from .linked import turned, word
 from .made import MIDDLE, WINDOW, is_verified
-from .verdicts import said_by_checker, said_by_python
+from .verdicts import said, said_by_checker, said_by_python, status_of
 
 TOUCHED, VERIFIED = 1, 4
 COUNTER = 5
@@ -100,14 +100,14 @@ class Judges:
 
     def __init__(self, judge, built):
         self.judge, self.count, self.built, self.maker = judge, judge.count, built, judge.made.maker
-        self.sshkey, self.check = judge.made.sshkey, judge.made.check
+        self.sshkey = judge.made.sshkey
 
     def of_certificates(self, lines, authority, principal, second):
-        """What sshkey-check and check.py say of each line."""
+        """What sshkey-check and the Python package say of each line."""
         path = self.maker.write("authority.pub", f"{authority}\n")
         by_c = said_by_checker([f"{self.built.sanitized}/sshkey-check"], path, principal, second, lines)
         by = [self.sshkey.fingerprint(blob_of(authority))]
-        return by_c, said_by_python(self.sshkey, self.check, by, principal, second, lines)
+        return by_c, said_by_python(self.sshkey, by, principal, second, lines)
 
     def is_taken(self, lines):
         """Whether ssh-keygen takes each line for one of a certificate: it verifies what the authority signed."""
@@ -150,7 +150,7 @@ def check_question(judges, key, certificate, signed, raw):
 def check_authority(judges, key, window):
     """Certificates that a security key signed, and others, are valid as OpenSSH says."""
     middle, words = window
-    fields, said = fields_by(judges.maker, words), judges.check.said
+    fields = fields_by(judges.maker, words)
     raw = key.raw(key.device_message(fields + string(key.blob())))
     good = fields + string(key.blob()) + string(key.signature(raw))
     check_question(judges, key, good, fields + string(key.blob()), raw)
@@ -164,7 +164,7 @@ def check_authority(judges, key, window):
         wanted.append(is_one)
     for (name, signer), line, is_one, taken in zip(names, lines, wanted, judges.is_taken(lines)):
         by_c, by_python = judges.of_certificates([line], signer, "alice", middle)
-        answer = said(judges.sshkey.Status.DONE if is_one else judges.sshkey.Status.NOT_SIGNED)
+        answer = said(judges.sshkey, judges.sshkey.Status.DONE if is_one else judges.sshkey.Status.NOT_SIGNED)
         same = by_c == by_python == [answer] and taken == is_one
         judges.count.check(f"a certificate by a security key of {key.kind}: {name}", same, by_c, by_python, f"ssh-keygen: {taken}")
     check_window(judges, key, good, window)
@@ -187,7 +187,7 @@ def check_made(judges, key, middle):
 
 def check_window(judges, key, certificate, window):
     """Where the certificate is valid for another second or principal, as `ssh-keygen -Y verify` says of what its key signs."""
-    maker, said, middle = judges.maker, judges.check.said, window[0]
+    maker, middle = judges.maker, window[0]
     signature = with_signer(maker.signature("user1", "text"), certificate)
     for principal, second, wanted in (
         ("alice", middle, "DONE"), ("eve", middle, "UNLISTED_PRINCIPAL"), ("alice", 0, "OUT_OF_WINDOW"),
@@ -197,7 +197,7 @@ def check_window(judges, key, certificate, window):
         # ssh-keygen takes no time before its first day
         at = max(second, 86400)
         judged = is_verified(maker.folder, "device", signature, "text", principal, at, f"{principal} cert-authority {key.line()}")
-        same = found == ([said(judges.sshkey.Status[wanted])],) * 2 and judged == (wanted == "DONE")
+        same = found == ([said(judges.sshkey, judges.sshkey.Status[wanted])],) * 2 and judged == (wanted == "DONE")
         judges.count.check(f"and for {principal} at {second}", same, found, f"ssh-keygen: {judged}")
 
 
@@ -243,7 +243,7 @@ def check_file(judges, key):
     signed = signed_data(b"file", b"", b"sha512", b"text")
     for name, blob, signature, is_one in signatures(key, signed):
         file, line = ssh_signature(blob, signature), line_of(blob)
-        status = judges.check.judge_signature(file, "file", b"text", {judges.sshkey.fingerprint(blob)})
+        status = status_of(judges.sshkey, judges.sshkey.judge_sshsig, file, "file", b"text", {judges.sshkey.fingerprint(blob)})
         judged = is_verified(judges.maker.folder, "file", file, "text", "signer", MIDDLE, f"signer {line}")
         same = (status == 0) == judged == is_one
         judges.count.check(f"a file's signature by a security key of {key.kind}: {name}", same, status, judged)
@@ -257,7 +257,7 @@ def check_zero(judges, kind):
     for name, application, is_one in (("with", ended.application, True), ("without", cut.application, False)):
         cut.application = application
         file = ssh_signature(ended.blob(), ended.signature(ended.raw(cut.device_message(signed))))
-        status = judges.check.judge_signature(file, "file", b"text", {hashlib.sha256(ended.blob()).digest()})
+        status = status_of(judges.sshkey, judges.sshkey.judge_sshsig, file, "file", b"text", {hashlib.sha256(ended.blob()).digest()})
         judged = is_verified(judges.maker.folder, "zero", file, "text", "signer", MIDDLE, f"signer {ended.line()}")
         same = (status == 0) == is_one and judged != is_one
         judges.count.check(f"a zero byte behind the application of {kind}, signed {name} it", same, status, f"ssh-keygen: {judged}")
@@ -280,7 +280,7 @@ def check_zero_in_principal(judges, key):
         found = judges.of_certificates([line_of(made)], key.line(), "alice", MIDDLE)
         file = with_signer(judges.maker.signature("user0", "text"), made)
         judged = is_verified(judges.maker.folder, "zero", file, "text", "alice", MIDDLE, f"alice cert-authority {key.line()}")
-        refused = judges.check.said(judges.sshkey.Status.UNLISTED_PRINCIPAL)
+        refused = said(judges.sshkey, judges.sshkey.Status.VALID_PRINCIPALS)
         same = judged == is_taken and found == ([refused],) * 2
         judges.count.check(f"the principal {principal!r} is not alice", same, found, f"ssh-keygen: {judged}")
 

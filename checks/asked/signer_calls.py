@@ -4,7 +4,7 @@ import os
 import tempfile
 
 from . import signers
-from .linked import word
+from .linked import several, word
 from .made import loaded
 from .revoked_lists import list_of
 
@@ -29,13 +29,13 @@ OTHERS = [
 
 
 def question(text, who, namespace, blob, revoked, at, yes):
-    return " ".join(["signer", *map(word, (text, who, namespace, blob, revoked)), str(at), str(int(yes))])
+    return " ".join(["signer", *map(word, (text, who, namespace, blob)), several(revoked), str(at), str(int(yes))])
 
 
 def is_verified(made, blob, namespace, message):
     """Whether the signature raises a question as one of the message in the namespace, and the example verifies it."""
     try:
-        return made.check.is_signature(made.sshkey.sshsig_question(blob, namespace, message)[0])
+        return made.sshkey.is_signature(made.sshkey.sshsig_question(blob, namespace, message)[0])
     except made.sshkey.Refused:
         return False
 
@@ -57,7 +57,7 @@ def cases(made, maker):
         # a signature that nobody verified is one that the caller's library refuses
         yes = bool(verified) and is_verified(made, blob, namespace, message)
         wanted = "UNREADABLE_REVOCATIONS" if name.endswith("a list that breaks off") else WANTED.get(wanted, wanted)
-        yield name, (text, who.encode(), namespace.encode(), blob, revoked, at), message, yes, wanted
+        yield name, (text, who.encode(), namespace.encode(), blob, [revoked], at), message, yes, wanted
 
 
 def revocations(maker):
@@ -67,9 +67,12 @@ def revocations(maker):
     given = (text, signers.WHO.encode(), signers.NAMESPACE.encode(), blob)
     for name, lines, wanted in TEXTS:
         revoked = lines.format(**keys).encode("latin-1")
+        # ssh-keygen takes one file
         if signers.says(maker, text, blob, message, signers.WHO, signers.NAMESPACE, signers.NOON, revoked) != (wanted == "DONE"):
             wanted = f"{wanted}, and ssh-keygen says otherwise"
-        yield f"revoked is {name}", (*given, revoked, signers.NOON), message, True, wanted
+        yield f"revoked is {name}", (*given, [revoked], signers.NOON), message, True, wanted
+        yield f"another file, and revoked is {name}", (*given, [list_of(maker, keys["other"]), revoked], signers.NOON), message, True, wanted
+    yield "no file of what is revoked", (*given, [], signers.NOON), message, True, "UNREADABLE_REVOCATIONS"
 
 
 def no_texts(maker):
@@ -78,7 +81,7 @@ def no_texts(maker):
     blob, text = signers.made_by(maker, "signer", message), f"{signers.WHO} {key}\n".encode()
     for name, other, who, wanted in OTHERS:
         asked = (text if other is None else other, signers.WHO.encode() if who is None else who)
-        yield name, (*asked, signers.NAMESPACE.encode(), blob, list_of(maker, key), signers.NOON), message, True, wanted
+        yield name, (*asked, signers.NAMESPACE.encode(), blob, [list_of(maker, key)], signers.NOON), message, True, wanted
 
 
 def asked_whole(made, found):
@@ -86,7 +89,7 @@ def asked_whole(made, found):
     for name, (*front, revoked, at), message, _, wanted in found:
         hashed, said = said_by_verifying(made, *front[2:], message)
         status = said if wanted in ("DONE", "NOT_SIGNED") else wanted
-        words = [*map(word, (*front, revoked)), str(at), word(hashlib.new(hashed, message).digest())]
+        words = [*map(word, front), several(revoked), str(at), word(hashlib.new(hashed, message).digest())]
         yield name, " ".join(words), status, "" if status == "NOT_SIGNED" else f" {int(status == 'DONE')}"
 
 

@@ -1,34 +1,45 @@
-"""What helpers/sshkey-check and check.py say of certificates, by the same words."""
+"""What helpers/sshkey-check and the Python package say of certificates, by the same words."""
 import re
 
 from .linked import run
 
-# the critical options that sshd knows, and judges itself
-KNOWN = ("force-command", "source-address", "verify-required")
+
+def said(sshkey, status):
+    """What sshkey-check says of a number."""
+    words = sshkey._header.WORDS[sshkey.Status(status)]
+    return words if status == sshkey.Status.DONE else f"refused: {words} ({int(status)})"
+
+
+def status_of(sshkey, call, *given):
+    """DONE where the call of the package raises nothing, or what is refused."""
+    try:
+        call(*given)
+    except sshkey.Refused as refused:
+        return refused.status
+    return sshkey.Status.DONE
 
 
 def said_by_checker(words, authority, user, second, lines):
-    """What the program says of each line: `valid`, or `refused` and why, as check.py does."""
-    whom = [] if user is None else ["--user", user]
-    ran = run([*words, "--ca", authority, *whom, "--at", str(second)], input="".join(f"{it}\n" for it in lines))
+    """What the program says of each line: `valid`, or `refused` and why."""
+    ran = run([*words, "--ca", authority, "--user", user, "--at", str(second)], input="".join(f"{it}\n" for it in lines))
     if ran.returncode not in (0, 1):
         return [f"status {ran.returncode}: {ran.stderr[-2000:]}"]
     reasons = dict(re.findall(r"^sshkey-check: \(stdin\):(\d+): (.*)$", ran.stderr, re.M))
     return [it if it == "valid" else f"{it}: {reasons.get(str(at), 'why?')}" for at, it in enumerate(ran.stdout.splitlines(), 1)]
 
 
-def said_by_python(sshkey, check, by, user, second, lines):
-    """What check.py says of each line, to which the options are known that sshd knows."""
+def said_by_python(sshkey, by, user, second, lines):
+    """What the package says of each line, of a client whose address is one that its certificate allows."""
 
     def judged(line):
-        if user is None:
-            return check.judge_line(line, second, None, by, check.NO_REVOCATIONS)
         try:
-            found = check.read(line, is_certificate=True)
-            key = sshkey.certificate_contents(found).key
+            found = sshkey.read_line(line)
         except sshkey.Refused as refused:
             return refused.status
-        none = check.NO_REVOCATIONS
-        return check.validate_user(found, key, second, user, by, lambda name, _: name in KNOWN, revoked=none)
+        if not found.is_certificate:
+            return sshkey.Status.LABEL
+        key = sshkey.certificate_contents(found.blob).key
+        status = status_of(sshkey, sshkey.log_in, sshkey.Login(found.blob, user, key, second, by, sshkey.NO_REVOCATIONS))
+        return sshkey.Status.DONE if status == sshkey.Status.ELSEWHERE else status
 
-    return [check.said(judged(it)) for it in lines]
+    return [said(sshkey, judged(it)) for it in lines]

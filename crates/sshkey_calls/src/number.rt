@@ -62,7 +62,7 @@ pub(crate) const OUT_OF_WINDOW: u32 = 33;
 /// The certificate lists principals, and not this one.
 pub(crate) const UNLISTED_PRINCIPAL: u32 = 34;
 /// Key and signature do not go together, so nothing is asked.
-pub(crate) const UNSUPPORTED: u32 = 40;
+pub const UNSUPPORTED: u32 = 40;
 /// The SSH signature is in another namespace.
 pub(crate) const OTHER_NAMESPACE: u32 = 41;
 /// A draft lists no principals without saying that all are allowed, or says so and lists some.

@@ -24,7 +24,7 @@ returns-in_err-answer g c =
     let is = sym c.answer.ensures ∙ c.in_err-answer.was in
     rw (p.1, p.2) (record {
       exactly = λ other (trusted : IsTrustedKey (login_of c.args.login.now hmac) (g.R.Revocations.revokes_key c.args.revocations.now) key). (subst (OkExactly ((revoked ≡ false) × Said Trusted)) is told) other (trusted.unrevoked, trusted.listed);
-      refused = subst (λ (r : Result (Unit {0}) Refusal). IfErr r (IsWhy Said revoked (is_let_in c.args.login.now.least_rsa_bits key) (λ e. ⊥))) is (why Said revoked _ (λ e. ⊥) _ _ c.is_key_revoked-revoked.ensures.said c.key_verdict-said.ensures.answer);
+      refused = subst (λ (r : Result (Unit {0}) Refusal). IfErr r (IsWhy Said revoked (is_let_in c.args.login.now.least_rsa_bits key) (λ r. ⊥))) is (why Said revoked _ (λ r. ⊥) _ _ c.is_key_revoked-revoked.ensures.said c.key_verdict-said.ensures.answer);
       asks = subst (AsksOf ⊥ (g.R.Revocations.revokes_none c.args.revocations.now) lines) is (asks_of ⊥ _ lines _ _ c.is_key_revoked-revoked.ensures.asks c.key_verdict-said.ensures.asks);
     })
 

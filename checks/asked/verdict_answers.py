@@ -1,0 +1,71 @@
+"""What the Python package answers of logins, hosts and what clients sign, for asked/answers.py."""
+import ipaddress
+
+from .linked import data_of, datas_of, word
+
+
+class VerdictAnswers:
+    """The answers about verdicts, each as the words after 0, and as Refused where it is a refusal."""
+
+    def login_of(self, data, user, key, client, by, files, second, bits):
+        address = data_of(client)
+        return self.sshkey.Login(
+            certificate=data_of(data), user=data_of(user), key=data_of(key), authorities=self.digests(by), revoked=datas_of(files),
+            client=ipaddress.ip_address(address) if len(address) in (4, 16) else None, unix_timestamp=int(second), least_rsa_bits=int(bits),
+        )  # fmt: skip
+
+    def log_in(self, *given):
+        of = self.sshkey.log_in(self.login_of(*given))
+        command = b"" if of.force_command is None else of.force_command.encode()
+        return ["0", str(int(of.permits)), str(of.serial), word(of.authority), word(command), word(of.key_id.encode())]
+
+    def verifications(self, *given):
+        return self.counted(self.sshkey.log_in, self.login_of(*given))[1:]
+
+    def host_of(self, texts, host, files, port, bits, second=None):
+        return self.sshkey.HostLogin(
+            known_hosts=datas_of(texts), host=data_of(host), port=int(port), revoked=datas_of(files), unix_timestamp=second, least_rsa_bits=int(bits)
+        )  # fmt: skip
+
+    def host_key(self, texts, host, key, files, port, bits):
+        self.sshkey.check_host_key(self.host_of(texts, host, files, port, bits), data_of(key))
+        return ["0"]
+
+    def host_certificate(self, texts, host, data, files, port, bits, second):
+        self.sshkey.check_host_certificate(self.host_of(texts, host, files, port, bits, int(second)), data_of(data))
+        return ["0"]
+
+    def unreadable_line(self, text, host, port):
+        found = self.sshkey.unreadable_host_line(data_of(text), data_of(host), int(port))
+        return ["3"] if found is None else ["0", str(found)]
+
+    def request_of(self, session, user, algorithm, key, host_key, signature, has_host_key, permits, signed=None):
+        return self.sshkey.Userauth(
+            session_id=data_of(session), user=data_of(user), algorithm=data_of(algorithm), public_key=data_of(key), signature=data_of(signature),
+            host_key=data_of(host_key) if has_host_key == "1" else None, permits=int(permits), signed=signed,
+        )  # fmt: skip
+
+    def userauth(self, *given):
+        return self.asked(self.sshkey.userauth_question(self.request_of(*given)))
+
+    def userauth_of(self, *given):
+        *front, signed, has_host_key, permits = given
+        return self.asked(self.sshkey.userauth_question(self.request_of(*front, has_host_key, permits, data_of(signed))))
+
+    def is_userauth(self, *given):
+        self.sshkey.check_userauth(self.request_of(*given))
+        return ["0"]
+
+    def flags(self, key, signature, permits):
+        self.sshkey.grant_flags(int(permits), data_of(key), data_of(signature))
+        return ["0"]
+
+    def other_key_line(self, line):
+        # 12 is SSHKEY_LABEL
+        return ["0" if self.sshkey.is_other_key_line(data_of(line)) else "12"]
+
+    def revoked_key(self, files, key):
+        return ["0", str(int(self.sshkey.revoked_key(datas_of(files), data_of(key))))]
+
+    def revoked_certificate(self, files, data):
+        return ["0", str(int(self.sshkey.revoked_certificate(datas_of(files), data_of(data))))]
