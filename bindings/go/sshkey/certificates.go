@@ -23,23 +23,20 @@ func questionOf(in input) (Question, error) {
 
 // ValidateCertificate gives nil exactly if the certificate, given as its blob, is valid at that
 // time for one of the authorities, which are the fingerprints of their keys; else what is wrong
-// first, which is ErrUntrustedAuthority for each certificate of another authority. The verifier is
-// asked about this very certificate, once, and not at all where the certificate raises no question
-// or is of another authority, whose key may be one that the client made up.
+// first. The verifier is asked about this very certificate, once, and not at all where the
+// certificate raises no question or is of another authority (ErrUntrustedAuthority), whose key may
+// be one that the client made up.
 //
 // Nothing is said here of whom the certificate is for: of its type, its principals, its critical
 // options, and whether it is revoked. LogIn asks what a login asks.
 func ValidateCertificate(
 	certificate []byte, now time.Time, authorities []SHA256, verify Verifier,
 ) error {
-	in, by := inputOf(certificate), digestsOf(authorities)
-	isVerified, err := verified(in, by, verify)
-	if err != nil {
-		return err
-	}
-	second := C.uint64_t(SecondOf(now))
-	return errorOf(C.sshkey_certificate_validate(in.pointer(), in.length(), second,
-		by.pointer(), by.count(), isVerified))
+	in, by, second := inputOf(certificate), digestsOf(authorities), C.uint64_t(SecondOf(now))
+	return validated(verify, in, func(isVerified C.uint32_t) error {
+		return errorOf(C.sshkey_certificate_validate(in.pointer(), in.length(), second,
+			by.pointer(), by.count(), isVerified))
+	})
 }
 
 // ValidateCertificateFor does the same, and gives ErrUnlistedPrincipal last, for a certificate that
@@ -48,53 +45,39 @@ func ValidateCertificate(
 func ValidateCertificateFor(
 	certificate []byte, now time.Time, principal string, authorities []SHA256, verify Verifier,
 ) error {
-	in, whom, by := inputOf(certificate), inputOf(principal), digestsOf(authorities)
-	isVerified, err := verified(in, by, verify)
-	if err != nil {
+	in, by, second := inputOf(certificate), digestsOf(authorities), C.uint64_t(SecondOf(now))
+	whom := inputOf(principal)
+	return validated(verify, in, func(isVerified C.uint32_t) error {
+		return errorOf(C.sshkey_certificate_validate_for(in.pointer(), in.length(), second,
+			whom.pointer(), whom.length(), by.pointer(), by.count(), isVerified))
+	})
+}
+
+// validated is a verdict about a certificate, once the verifier has answered its question. It is
+// asked none where the authority is another one.
+func validated(
+	verify Verifier, certificate input, verdict func(isVerified C.uint32_t) error,
+) error {
+	if err := verdict(1); err == ErrUntrustedAuthority || err == ErrMemory {
 		return err
 	}
-	second := C.uint64_t(SecondOf(now))
-	return errorOf(C.sshkey_certificate_validate_for(in.pointer(), in.length(), second,
-		whom.pointer(), whom.length(), by.pointer(), by.count(), isVerified))
+	return answered(verify, certificate, verdict)
 }
 
-// verified is 1 exactly if the certificate raises a question to which the verifier says yes. It
-// fails where the bytes are no certificate of one of the authorities, and with ErrMemory.
-func verified(in input, authorities digests, verify Verifier) (C.uint32_t, error) {
-	if err := judgeAuthority(in, authorities); err != nil {
-		return 0, err
-	}
-	return verify.answer(questionOf(in))
-}
-
-// answer is 1 exactly if there is a question to which the verifier says yes. It fails with
-// ErrMemory, where nothing is known of that.
-func (verify Verifier) answer(asked Question, err error) (C.uint32_t, error) {
+// answered is a verdict about a certificate by what the verifier says of its question, or no if
+// there is none. It fails with ErrMemory where nothing is known of that.
+func answered(
+	verify Verifier, certificate input, verdict func(isVerified C.uint32_t) error,
+) error {
+	asked, err := questionOf(certificate)
 	switch err := verify.check(asked, err); err {
 	case nil:
-		return 1, nil
+		return verdict(1)
 	case ErrMemory:
-		return 0, err
+		return err
 	default:
-		return 0, nil
+		return verdict(0)
 	}
-}
-
-// judgeAuthority gives nil where one of the authorities signed the certificate, or says that it
-// did.
-func judgeAuthority(in input, authorities digests) error {
-	var parts C.sshkey_parts
-	if err := errorOf(C.sshkey_certificate_parts(in.pointer(), in.length(), &parts)); err != nil {
-		return err
-	}
-	signer, err := Fingerprint(partOf(in, parts.authority))
-	if err != nil {
-		return err
-	}
-	if !isOneOf(signer, authorities) {
-		return ErrUntrustedAuthority
-	}
-	return nil
 }
 
 // CertificateFields gives what a policy asks of a certificate, valid or not. It fails with a Status

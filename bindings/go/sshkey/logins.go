@@ -134,9 +134,5 @@ func decided(
 	if err := verdict(0); err != ErrNotSigned {
 		return err
 	}
-	isVerified, err := verify.answer(questionOf(certificate))
-	if err != nil {
-		return err
-	}
-	return verdict(isVerified)
+	return answered(verify, certificate, verdict)
 }

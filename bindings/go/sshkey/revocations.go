@@ -3,11 +3,18 @@ package sshkey
 // #include "sshkey.h"
 import "C"
 
+import "unsafe"
+
 // NoRevocations is the word of who asks no revocation file: one file, a key revocation list
 // (PROTOCOL.krl) that revokes nothing. What is revoked is else what files of sshd's RevokedKeys
 // have: each such a list, or keys, one a line; a file of no bytes revokes nothing. A nil slice is
 // no file that was read.
-var NoRevocations = [][]byte{append([]byte("SSHKRL\n\x00\x00\x00\x00\x01"), make([]byte, 32)...)}
+var NoRevocations = noRevocations()
+
+func noRevocations() [][]byte {
+	file := C.sshkey_no_revocations().items
+	return [][]byte{C.GoBytes(unsafe.Pointer(file.bytes), C.int(file.length))}
+}
 
 // filesOf is revocation files as a call takes them: none where one of them was not read, so that
 // the call answers ErrUnreadableRevocations.
