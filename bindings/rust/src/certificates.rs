@@ -4,7 +4,7 @@ use std::collections::BTreeMap;
 use std::iter::FusedIterator;
 use std::str;
 
-use crate::digests::{fingerprint, Sha256};
+use crate::digests::Sha256;
 use crate::keys::written_of;
 use crate::questions::Question;
 use crate::raw;
@@ -100,12 +100,12 @@ pub fn judge_certificate(
     authorities: &[Sha256],
     verify: impl FnOnce(&Question) -> bool,
 ) -> Result<(), Status> {
-    let signer = fingerprint(certificate_contents(certificate)?.authority)?;
-    if !authorities.contains(&signer) {
-        return Err(Status::UNTRUSTED_AUTHORITY);
+    let (second, by) = (unix_timestamp, authorities);
+    let validate = |yes| validate_certificate(certificate, second, principal, by, yes);
+    match validate(true) {
+        Err(Status::UNTRUSTED_AUTHORITY) => Err(Status::UNTRUSTED_AUTHORITY),
+        _ => validate(is_verified(certificate, verify)?),
     }
-    let is_verified = is_verified(certificate, verify)?;
-    validate_certificate(certificate, unix_timestamp, principal, authorities, is_verified)
 }
 
 /// Whether the certificate raises a question, to which the verifier says yes. Fails with a number
