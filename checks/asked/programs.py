@@ -17,6 +17,7 @@ from lib.signatures import armoured
 
 from .example_calls import SPACE, UNTOLD, VALID, armour_cases, certificate_cases
 from .linked import run
+from .verdicts import said
 
 
 @dataclass(frozen=True)
@@ -57,10 +58,10 @@ def check_statuses(count, program, made):
     two = made.maker.write("two", f"# keys\n\n \t{made.maker.read(f'{made.kinds[1].authority}.pub')}\n{made.maker.read(f'{kind.authority}.pub')}")
     given = f"{kind.line}\n{made.kinds[1].line}\n{made.kinds[2].line}\n"
     ran = program.run("certificates", two, "alice", str(made.middle), input=given)
-    wanted = ["valid", "valid", made.check.said(made.sshkey.Status.UNTRUSTED_AUTHORITY)]
+    wanted = ["valid", "valid", said(made.sshkey, made.sshkey.Status.UNTRUSTED_AUTHORITY)]
     count.check(f"{program.language}: two authorities in a file", ran.stdout.splitlines() == wanted, ran.stdout, ran.stderr)
     ran = program.run("certificates", kind.path, "-", input=f"{kind.line}\n")
-    wanted = made.check.said(made.sshkey.Status.OUT_OF_WINDOW)
+    wanted = said(made.sshkey, made.sshkey.Status.OUT_OF_WINDOW)
     count.check(f"{program.language}: without a second it is now", ran.stdout == f"{wanted}\n", ran.stdout, ran.stderr)
 
 
