@@ -103,4 +103,4 @@ pub use sshsigs::{
 };
 pub use status::Status;
 pub use strings::{string, strings, Strings};
-pub use userauth::{grant_flags, UserauthRequest};
+pub use userauth::{check_userauth, grant_flags, userauth_question, Userauth};

@@ -62,8 +62,8 @@ pub struct Grant {
 /// [`Status::REVOKED`]; 32 to 34, and [`Status::NOT_SIGNED`] where `verify` says no;
 /// [`Status::ELSEWHERE`]. Else it fails only with [`Status::MEMORY`].
 ///
-/// That the client signed this session under the key asks
-/// [`UserauthRequest::check`](crate::UserauthRequest::check).
+/// Whether the client has signed this session under the key asks
+/// [`check_userauth`](crate::check_userauth).
 pub fn log_in(login: &Login<'_>, verify: impl FnOnce(&Question) -> bool) -> Result<Grant, Status> {
     decide(|yes| verdict(login, yes), || is_verified(login.certificate, verify))
 }

@@ -34,7 +34,7 @@ fn values_go_from_thread_to_thread() {
     shared::<Draft<'static>>();
     shared::<sshkey::Login<'static>>();
     shared::<HostLogin<'static>>();
-    shared::<sshkey::UserauthRequest<'static>>();
+    shared::<sshkey::Userauth<'static>>();
     shared::<sshkey::Grant>();
     shared::<Status>();
 }

@@ -6,7 +6,7 @@ use std::net::IpAddr;
 
 use sshkey::{
     is_signature, CertificateType, Draft, HashAlgorithm, HostLogin, Listed, Login, Permits,
-    Principal, Question, Sha256, Signers, Status, UserauthRequest,
+    Principal, Question, Sha256, Signers, Status, Userauth,
 };
 
 type Answer = Result<String, Status>;
@@ -169,7 +169,7 @@ fn userauth(what: &str, given: &[&str]) -> Answer {
     let [session_id, user, algorithm, public_key, host_key, signature] =
         [0, 1, 2, 3, 4, 5].map(|at| data(given[at]));
     let signed = has_signed.then(|| data(given[6]));
-    let request = UserauthRequest {
+    let request = Userauth {
         session_id: &session_id,
         user: &user,
         algorithm: &algorithm,
@@ -180,9 +180,9 @@ fn userauth(what: &str, given: &[&str]) -> Answer {
         permits: Permits::from_bits(numbers[1].parse().expect("bits")),
     };
     if what == "is-userauth" {
-        return Ok(number_of(request.check(is_signature)));
+        return Ok(number_of(sshkey::check_userauth(&request, is_signature)));
     }
-    asked(&request.question()?, None)
+    asked(&sshkey::userauth_question(&request)?, None)
 }
 
 fn flags(given: &[&str]) -> String {
