@@ -288,7 +288,7 @@ def check_issued(judge, library):
     allowed = "alice cert-authority " + maker.read("issuer.pub")
     count.check("and ssh-keygen takes it", is_verified(maker.folder, "issued", signature, "text", "alice", second, allowed))
     none = run([*words, "holder's key", "0", "alice"], env=environment)
-    count.check("issue.py issues none for no second", none.returncode == 1 and "empty window" in none.stderr, none.stderr)
+    count.check("issue.py issues none for no second", none.returncode == 1 and "a window without a second" in none.stderr, none.stderr)
 
 
 def check_certificates(judge):

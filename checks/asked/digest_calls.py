@@ -126,13 +126,12 @@ def check_digests(judge):
 
 def check_page(count, made):
     """The lines in Python that docs/FOREIGN.md shows, of a file of five megabytes."""
-    sshkey, check, maker = made.sshkey, made.check, made.maker
+    sshkey, maker = made.sshkey, made.maker
     code, signers = blocks("python", "A signature of a large file"), {sshkey.fingerprint(made.key())}
     count.check("docs/FOREIGN.md shows how a large file is checked", len(code) == 1, code)
     for name in HASHES:
         signature = maker.signature("user0", "text\n" * (1 << 20), "file", "-O", f"hashalg={name}")
         for path, wanted in ((maker.path("signed"), "DONE"), (maker.path("user0.pub"), "NOT_SIGNED")):
-            names = {"hashlib": hashlib, "sshkey": sshkey, "check": check, "path": path, "signature": signature, "signers": signers}
-            exec(code[0], names)
-            said = names["status"].name
+            names = {"hashlib": hashlib, "sshkey": sshkey, "path": path, "signature": signature, "signers": signers}
+            said = status_of(sshkey, exec, code[0], names).name
             count.check(f"a large file and a signature with {name}: {wanted}", said == wanted, said)

@@ -147,14 +147,16 @@ PAGE = """\
 #include <string.h>
 #include <time.h>
 #include "judge.h"
+#include "verify.h"
 static void go_on(void) {{ puts("go on"); }}
 int main(int count, char **words) {{
-judge_blob certificate, texts[2];
+judge_blob read;
+sshkey_span texts[2];
 size_t text_count = 2;
-if (count != 4 || judge_read_line(words[1], strlen(words[1]), SSHKEY_LINE_CERTIFICATE, &certificate) != SSHKEY_DONE) return 1;
-for (size_t at = 0; at < text_count; at++)
-  texts[at] = (judge_blob){{(uint8_t *)words[2 + at], strlen(words[2 + at])}};
-{0}free(certificate.bytes);
+if (count != 4 || judge_read_line(words[1], strlen(words[1]), SSHKEY_LINE_CERTIFICATE, &read) != SSHKEY_DONE) return 1;
+for (size_t at = 0; at < text_count; at++) texts[at] = judge_text(words[2 + at]);
+sshkey_span certificate = judge_span(read);
+{0}free(read.bytes);
 return 0;
 }}
 """
@@ -169,7 +171,7 @@ def check_page(count, built, made):
     by, key = (maker.read(f"{it}.pub") for it in ("host-authority", "host-key"))
     for name, texts, *wanted in (
         ("its authority", ["", f"@cert-authority db.example.org {by}\n"], "go on", "go on"),
-        ("a revoked key", [f"@cert-authority db.example.org {by}\n", f"@revoked * {key}\n"], "refused: revoked by a line for the host (50)", "refused: HOST_REVOKED"),
+        ("a revoked key", [f"@cert-authority db.example.org {by}\n", f"@revoked * {key}\n"], "refused: revoked for the host (50)", "refused: HOST_REVOKED"),
     ):
         ran = run([path, line, *texts]) if page.returncode == 0 else page
         by_python = said_by_python(made, in_python[0], certificate=blob_of(line), texts=[it.encode() for it in texts])

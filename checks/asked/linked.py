@@ -94,7 +94,7 @@ def enumerations():
 
 def enumerations_of(sshkey):
     """The same of the Python module."""
-    prefixes = {"": sshkey.Status, "ASK_": sshkey.Algorithm, "MARKER_": sshkey.Marker}
+    prefixes = {"": sshkey.Status, "ASK_": sshkey.Algorithm, "MARKER_": sshkey.Marker, "PERMIT_": sshkey.Permits}
     named = [*prefixes.items(), ("", sshkey.CertificateType), ("LINE_", sshkey._header.LineKind)]
     return [{f"SSHKEY_{prefix}{it.name}": int(it) for it in members} for prefix, members in named]
 

@@ -263,30 +263,44 @@ def check_users(judge):
 
 PAGE = """\
 #include <inttypes.h>
-#include <netinet/in.h>
 #include <stdio.h>
 #include <stdlib.h>
 #include <string.h>
 #include <time.h>
-#include <utmp.h>
 #include "judge.h"
 #include "verify.h"
-uint32_t two_calls(const uint8_t *certificate, size_t length, const sshkey_sha256 *authorities, size_t authority_count);
-judge_is_met *met(void);
 static bool is_signature(const sshkey_question *question, const uint8_t *room) {{ return judge_is_signature(question, room); }}
-static void let_in(void) {{ puts("let in"); }}
+static void let_in(const sshkey_grant *grant, const uint8_t *room) {{
+(void)room;
+puts(grant->permits ? "let in" : "let in to nothing"); }}
 static void log_in(const char *authority_line, const char *line, judge_blob key) {{
 size_t authority_length = strlen(authority_line), length = strlen(line);
+sshkey_span client = judge_text("");
 {0}}}
-{1}
-judge_is_met *met(void) {{ return is_met; }}
-uint32_t two_calls(const uint8_t *certificate, size_t length, const sshkey_sha256 *authorities, size_t authority_count) {{
+static uint32_t signed_by(sshkey_grant grant, sshkey_span session_id, sshkey_span user, sshkey_span algorithm, sshkey_span public_key,
+    sshkey_span host_key, sshkey_span signature, uint32_t has_host_key) {{
+uint32_t answer;
+{1}return answer; }}
+static uint32_t by_own_cryptography(sshkey_login login, uint8_t *room, size_t room_length) {{
+sshkey_grant grant = {{0}};
 {2}return answer; }}
 int main(int count, char **words) {{
-judge_blob key;
+judge_authorities by = {{NULL, 0}};
+judge_blob certificate, key;
+sshkey_grant none = {{0}};
+uint8_t room[8192];
 if (count != 4 || judge_read_line(words[3], strlen(words[3]), SSHKEY_LINE_KEY, &key) != SSHKEY_DONE) return 1;
+if (judge_read_line(words[2], strlen(words[2]), SSHKEY_LINE_CERTIFICATE, &certificate) != SSHKEY_DONE) return 1;
+if (judge_add_authority(&by, words[1], strlen(words[1])) != SSHKEY_DONE) return 1;
 log_in(words[1], words[2], key);
+sshkey_login login = {{judge_span(certificate), judge_text("alice"), judge_span(key), judge_text(""), judge_digests(by),
+  SSHKEY_NO_REVOCATIONS, (uint64_t)time(NULL), 0}};
+sshkey_span empty = judge_text("");
+printf("%" PRIu32 " %" PRIu32 "\\n", by_own_cryptography(login, room, sizeof room),
+  signed_by(none, empty, login.user, empty, login.key, empty, empty, 0));
 free(key.bytes);
+free(certificate.bytes);
+free(by.keys);
 return 0;
 }}
 """
@@ -306,8 +320,8 @@ def blocks(language, heading="The lines that matter"):
 def said_by_python(made, code, **names):
     """What the lines in Python say, which call one of these where all is good."""
     said = []
-    names.update({"sshkey": made.sshkey, "check": made.check, "time": time, "print": lambda *words: said.append(" ".join(words))})
-    names.update({"let_in": lambda: said.append("let in"), "go_on": lambda: said.append("go on")})
+    names.update({"sshkey": made.sshkey, "time": time, "print": lambda *words: said.append(" ".join(map(str, words)))})
+    names.update({"let_in": lambda grant: said.append("let in"), "go_on": lambda: said.append("go on")})
     exec(code, names)
     return said
 
@@ -316,7 +330,7 @@ def built_page(built, maker, name, text):
     """A program of the lines in C that docs/FOREIGN.md shows: its path, and how it was built."""
     path = f"{maker.folder}/{name}"
     maker.write(f"{name}.c", text)
-    parts = [f"{path}.c", *(f"{built.sanitized}/{it}" for it in ("judge.o", "sha1.o", "verify.o", "libsshkey.a")), "-lcrypto", "-o", path]
+    parts = [f"{path}.c", *(f"{built.sanitized}/{it}" for it in ("parts.a", "libsshkey.a")), "-lcrypto", "-o", path]
     return path, run([*C, *PEDANTIC, f"-I{HELPERS}", *SANITIZED.split(), *parts])
 
 
@@ -327,13 +341,14 @@ def check_page(count, built, made):
     count.check("the C of docs/FOREIGN.md compiles", len(code) == 3 and page.returncode == 0, page.stderr[-2000:])
     authority, own, other = (maker.read(f"{it}.pub") for it in ("authority0", "user0", "user1"))
     good, strange = (maker.certificate("authority0", "user0", "-V", "-5m:+5m", "-n", it) for it in ("alice", "eve"))
-    for name, words, wanted in (
-        ("its user", (authority, good, own), "let in"),
-        ("another user's", (authority, strange, own), "refused: another principal (34)"),
-        ("another key", (authority, good, other), "refused: another key (103)"),
+    for name, words, wanted, number in (
+        ("its user", (authority, good, own), "let in", 0), ("another user's", (authority, strange, own), "refused: another principal (34)", 34),
+        ("another key", (authority, good, other), "refused: another key (72)", 72),
     ):  # fmt: skip
         ran = run([path, *words]) if page.returncode == 0 else page
-        by_c = [*ran.stdout.splitlines(), *ran.stderr.splitlines()]
-        by_python = said_by_python(made, blocks("python")[0], authority_line=words[0], line=words[1], key=blob_of(words[2]))
-        same = by_c == [wanted] and len(by_python) == 1 and (by_python == ["let in"]) == (wanted == "let in")
+        # what the client signs is no signature there
+        by_c = [it for it in (*ran.stdout.splitlines(), *ran.stderr.splitlines()) if it != f"{number} 13"]
+        given = {"authority_line": words[0], "line": words[1], "key": blob_of(words[2]), "address": "192.0.2.1"}
+        by_python = said_by_python(made, blocks("python")[0], **given)
+        same = by_c == by_python == [wanted]
         count.check(f"the lines of docs/FOREIGN.md: {name}", same, by_c, by_python)

@@ -11,7 +11,7 @@ import time
 from lib.harness import ROOT, blob_of, new_key, ssh_keygen
 from lib.signatures import armoured, unarmoured
 
-from .linked import BINDINGS, EXAMPLES, run
+from .linked import BINDINGS, run
 
 # the kinds of authorities: the words that make the key, and those that have it sign so
 AUTHORITIES = {
@@ -33,16 +33,15 @@ def loaded(name):
     return module
 
 
-def modules(library):
-    """The Python module over that library, and the example that uses it."""
+def module(library):
+    """The Python module over that library."""
     os.environ["SSHKEY_LIBRARY"] = library
     # for the programs in Python, too
     os.environ["PYTHONPATH"] = os.path.join(BINDINGS, "python")
-    sys.path[:0] = [os.environ["PYTHONPATH"], EXAMPLES]
-    import check  # pylint: disable=import-error,import-outside-toplevel
+    sys.path.insert(0, os.environ["PYTHONPATH"])
     import sshkey  # pylint: disable=import-error,import-outside-toplevel
 
-    return sshkey, check
+    return sshkey
 
 
 class Maker:
@@ -141,13 +140,13 @@ def hostile_of():
 
 class Made:
     """What the cases are made of, in a folder: a certificate under each kind of authority, and hostile bytes. And the Python package
-    and check.py over the library, a libsshkey.so."""
+    over the library, a libsshkey.so."""
 
     def __init__(self, folder, library):
         # ssh-keygen is given local times
         os.environ.update(TZ="UTC", LC_ALL="C.UTF-8")
         self.folder, self.middle = folder, MIDDLE
-        self.sshkey, self.check = modules(library)
+        self.sshkey = module(library)
         self.maker = Maker(folder)
         self.kinds = [Kind(self.maker, name, number) for number, name in enumerate(AUTHORITIES)]
         self.hostile = list(hostile_of())

@@ -12,11 +12,11 @@ from .login_calls import blocks
 # the ways in which the page tells them: PATH is the tree, and out/ what make builds
 C_LINE, GO_LINES = r"`(cc -IPATH.*?)`", r"`(require rafendilo\S* v\S+)` and `(replace rafendilo\S* => PATH\S*)`"
 RUST_LINE = r"`(sshkey = \{ path = \"PATH.*? \})`"
-HEADERS = r"include `(\S+?\.h)`.*?README's lines also need (.*)"
+HEADERS = r"include `(\S+?\.h)` and `(\S+?\.h)`.*?README's lines also need (.*)"
 # what stands around the lines of README in C, and of FOREIGN.md in Go and in Rust
 C_PROGRAM = """\
-{0}static void let_in(void) {{ puts("let in"); }}
-void log_in(const char *authority_line, size_t authority_length, const char *line, size_t length, judge_blob key) {{
+{0}static void let_in(const sshkey_grant *grant, const uint8_t *room) {{ printf("%u %p\\n", grant->permits, (const void *)room); }}
+void log_in(const char *authority_line, size_t authority_length, const char *line, size_t length, judge_blob key, sshkey_span client) {{
 {1}}}
 int main(void) {{ return 0; }}
 """
@@ -74,8 +74,9 @@ def write(folder, **files):
 
 
 def built_c(folder, out):
-    command, (header, others) = re.search(C_LINE, page())[1], re.search(HEADERS, page()).groups()
-    includes = "".join(f"#include <{it}>\n" for it in re.findall(r"<(\S+?)>", others)) + f'#include "{header}"\n'
+    command, (*headers, others) = re.search(C_LINE, page())[1], re.search(HEADERS, page()).groups()
+    includes = [*(f"<{it}>" for it in re.findall(r"<(\S+?)>", others)), *(f'"{it}"' for it in headers)]
+    includes = "".join(f"#include {it}\n" for it in includes)
     write(folder, login_c=C_PROGRAM.format(includes, blocks("c")[0]))
     return run(here(command, out).split(), cwd=folder)
 

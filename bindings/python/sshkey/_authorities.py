@@ -7,7 +7,7 @@ from typing import Any
 from ._files import entry_lines
 from ._header import Status
 from ._keys import fingerprint, read_line
-from ._library import LIBRARY, bytes_of, done
+from ._library import LIBRARY, bytes_of, done, text_of
 from ._values import BytesLike, Refused
 
 
@@ -33,12 +33,12 @@ class NoKey(Refused):
         return type(self), (self.status, self.line)
 
 
-def authorities(text: BytesLike) -> Authorities:
+def authorities(text: str | BytesLike) -> Authorities:
     """The keys of a text, a line each, between empty lines and comments. Lines of a later kind of key (is_other_key_line) are passed
     over. Raises NoKey, which is a Refused, for any other line, and MemoryError: use none of the keys then."""
     keys: list[bytes] = []
     other_lines: list[int] = []
-    for number, piece in enumerate(bytes_of(text)[0].split(b"\n"), 1):
+    for number, piece in enumerate(text_of(text)[0].split(b"\n"), 1):
         for line in entry_lines(piece):
             if _is_other(line):
                 other_lines.append(number)

@@ -55,15 +55,6 @@ pub const USER: u32 = 1;
 /// `SSHKEY_HOST`.
 pub const HOST: u32 = 2;
 
-/// `SSHKEY_MARKER_NONE`.
-pub const MARKER_NONE: u32 = 0;
-
-/// `SSHKEY_MARKER_CERT_AUTHORITY`.
-pub const MARKER_CERT_AUTHORITY: u32 = 1;
-
-/// `SSHKEY_MARKER_REVOKED`.
-pub const MARKER_REVOKED: u32 = 2;
-
 /// `SSHKEY_PERMIT_PTY`.
 pub const PERMIT_PTY: u32 = 1;
 
@@ -87,6 +78,15 @@ pub const PERMIT_NO_TOUCH: u32 = 64;
 
 /// `SSHKEY_PERMIT_NO_VERIFICATION`. A security key that did not verify its user.
 pub const PERMIT_NO_VERIFICATION: u32 = 128;
+
+/// `SSHKEY_MARKER_NONE`.
+pub const MARKER_NONE: u32 = 0;
+
+/// `SSHKEY_MARKER_CERT_AUTHORITY`.
+pub const MARKER_CERT_AUTHORITY: u32 = 1;
+
+/// `SSHKEY_MARKER_REVOKED`.
+pub const MARKER_REVOKED: u32 = 2;
 
 statuses! {
     /// Malloc refused; nothing is said of the input, and nothing is kept: the call may be made
@@ -151,7 +151,7 @@ statuses! {
     PRINCIPALS = 45, "a list of principals against what is said of all";
     /// Its window has no second.
     EMPTY_WINDOW = 46, "a window without a second";
-    /// A line for the host revokes the key.
+    /// A line for the host, or a revocation file, revokes it.
     HOST_REVOKED = 50, "revoked for the host";
     /// A line is no entry, and may be one for the host.
     HOST_UNREADABLE = 51, "a line that may revoke it and can't be read";
@@ -165,21 +165,21 @@ statuses! {
     REVOKED = 56, "revoked";
     /// The client's address is none of those that are allowed.
     ELSEWHERE = 57, "from an address that is not allowed";
-    /// It can't be read, and so revokes everything.
+    /// One can't be read, or there is none: so everything is revoked.
     UNREADABLE_REVOCATIONS = 58, "the revocation file can't be read";
-    /// A kind or a size of key that OpenSSH does not let in; no call answers it yet.
+    /// A kind or a size of key that OpenSSH does not let in.
     KEY_NOT_ACCEPTED = 59, "a kind or a size of key that OpenSSH does not let in";
-    /// A revocation file does not revoke the key or the certificate.
+    /// No revocation file revokes the key or the certificate.
     NOT_REVOKED = 60, "not revoked";
-    /// Its bytes are not its normal form, and so not those that were signed.
+    /// Its bytes are not its normal form: not those that were signed.
     NOT_NORMAL_FORM = 70, "not in its normal form";
-    /// It is for hosts where a user shows it, or for users where a host does.
+    /// A user shows one for hosts, or a host one for users.
     OTHER_TYPE = 71, "for hosts in place of users, or for users in place of hosts";
     /// It certifies another key than the client's.
     OTHER_KEY = 72, "another key";
     /// A critical option that is not known, or whose value sshd does not read.
     CRITICAL_OPTIONS = 73, "a critical option that is not known, or not read";
-    /// Data stand in an extension that is a flag, or a name has a zero byte.
+    /// Data in an extension that is a flag, or a zero byte in a name.
     EXTENSIONS = 74, "an extension that is not read";
     /// A zero byte in the key id.
     KEY_ID = 75, "a zero byte in the key id";
@@ -195,24 +195,35 @@ statuses! {
     UNVERIFIED = 83, "a security key that did not verify its user";
 }
 
+/// Bytes that a call reads; no null pointer, also where the length is 0 (sshkey_bytes).
+pub(crate) type Span<'a> = Slice<'a, u8>;
+
+/// Byte strings that a call reads: `count` of them, at no null pointer.
+pub(crate) type Spans<'a> = Slice<'a, Span<'a>>;
+
 /// A part of a room, or of other bytes: where it begins, and how many bytes it has.
 #[repr(C)]
 #[derive(Clone, Copy, Debug, Default)]
-pub struct Part {
+pub(crate) struct Part {
+    /// The place of its first byte.
     pub start: usize,
+    /// The number of its bytes.
     pub length: usize,
 }
 
-/// Bytes that a call reads; no null pointer, also where the length is 0 (sshkey_bytes).
-pub(crate) type Span<'a> = Slice<'a, u8>;
+/// SHA-256 fingerprints of keys that a call reads: `count` of them, at no null pointer.
+pub(crate) type Digests<'a> = Slice<'a, Sha256>;
 
 /// What has to be verified: that `signature` is one of `message` under `key`, made as `algorithm`
 /// says.
 #[repr(C)]
 #[derive(Clone, Copy, Debug, Default)]
-pub struct Question {
+pub(crate) struct Question {
+    /// Its blob.
     pub key: Part,
+    /// What is signed.
     pub message: Part,
+    /// As the algorithm has it.
     pub signature: Part,
     /// How many bytes of the room these take.
     pub length: usize,
@@ -308,6 +319,67 @@ pub(crate) struct Draft<'a> {
     pub all_principals: u32,
 }
 
+/// A login by a certificate, and whom the server trusts.
+#[repr(C)]
+#[derive(Clone, Copy, Debug, Default)]
+pub(crate) struct Login<'a> {
+    /// Its blob, as the client sent it.
+    pub certificate: Span<'a>,
+    /// UTF-8.
+    pub user: Span<'a>,
+    /// The blob of the key under which the client has signed.
+    pub key: Span<'a>,
+    /// The address of its socket, of 4 or 16 bytes; with any other number of bytes it has none:
+    /// then source-address lets nobody in.
+    pub client: Span<'a>,
+    /// Of the keys that may sign logins.
+    pub authorities: Digests<'a>,
+    /// Revocation files, each a list or keys as text: any of them revokes.
+    pub revoked: Spans<'a>,
+    pub unix_timestamp: u64,
+    /// As RequiredRSASize; below 1,024, as 0, it is 1,024.
+    pub least_rsa_bits: u32,
+}
+
+/// What a login may do, and by which certificate.
+#[repr(C)]
+#[derive(Clone, Copy, Debug, Default)]
+pub(crate) struct Grant {
+    /// The one command that may run; of no bytes with SSHKEY_PERMIT_ANY_COMMAND.
+    pub force_command: Part,
+    /// A text, for logs.
+    pub key_id: Part,
+    /// How many bytes of the room these take.
+    pub length: usize,
+    /// The certificate's.
+    pub serial: u64,
+    /// Of the key that signed it.
+    pub authority: Sha256,
+    /// SSHKEY_PERMIT_*.
+    pub permits: u32,
+}
+
+/// A client's signature for a login by public key, and the request that it has to be of.
+#[repr(C)]
+#[derive(Clone, Copy, Debug, Default)]
+pub(crate) struct Userauth<'a> {
+    /// The server's own, and nothing that the client sent.
+    pub session_id: Span<'a>,
+    pub user: Span<'a>,
+    /// The name of the public key algorithm in the request.
+    pub algorithm: Span<'a>,
+    /// The blob of the key or the certificate that the grant came from.
+    pub public_key: Span<'a>,
+    /// The blob of the server's host key, if has_host_key is not 0.
+    pub host_key: Span<'a>,
+    /// The blob of the client's signature (RFC 4253, section 6.6).
+    pub signature: Span<'a>,
+    /// 0: the method is publickey; else publickey-hostbound-v00@openssh.com.
+    pub has_host_key: u32,
+    /// The grant's: SSHKEY_PERMIT_NO_TOUCH, .._NO_VERIFICATION.
+    pub permits: u32,
+}
+
 /// An entry of a line: where its parts stand in the room.
 #[repr(C)]
 #[derive(Clone, Copy, Debug, Default)]
@@ -338,82 +410,22 @@ pub(crate) struct EntryOptionParts {
     pub has_value: u32,
 }
 
-/// Byte strings that a call reads: `count` of them.
-pub(crate) type Spans<'a> = Slice<'a, Span<'a>>;
-
-/// SHA-256 fingerprints of keys.
-pub(crate) type Digests<'a> = Slice<'a, Sha256>;
-
-/// ---- who is let in: a login by a certificate ----.
-#[repr(C)]
-#[derive(Clone, Copy, Debug, Default)]
-pub(crate) struct Login<'a> {
-    /// Its blob, as the client sent it.
-    pub certificate: Span<'a>,
-    /// UTF-8.
-    pub user: Span<'a>,
-    /// The blob of the key that the client has signed under.
-    pub key: Span<'a>,
-    /// The address of its socket, 4 or 16 bytes; with any other number of bytes it has none.
-    pub client: Span<'a>,
-    /// The keys that may sign logins.
-    pub authorities: Digests<'a>,
-    /// Revocation files, each a list or keys as text: any of them revokes.
-    pub revoked: Spans<'a>,
-    pub unix_timestamp: u64,
-    /// RequiredRSASize; below 1,024, as 0, it is 1,024.
-    pub least_rsa_bits: u32,
-}
-
-/// `sshkey_grant`.
-#[repr(C)]
-#[derive(Clone, Copy, Debug, Default)]
-pub(crate) struct Grant {
-    /// In the room: the one command that may run; of no bytes with SSHKEY_PERMIT_ANY_COMMAND.
-    pub force_command: Part,
-    /// In the room, after it.
-    pub key_id: Part,
-    /// How many bytes of the room these take.
-    pub length: usize,
-    pub serial: u64,
-    pub authority: Sha256,
-    /// SSHKEY_PERMIT_*.
-    pub permits: u32,
-}
-
-/// ---- a host ----.
+/// The host that a client connects to, and what is known of it.
 #[repr(C)]
 #[derive(Clone, Copy, Debug, Default)]
 pub(crate) struct HostLogin<'a> {
-    /// The texts of all the files that count.
+    /// The texts of all the files that count: one file alone may list a key that another one
+    /// revokes.
     pub known_hosts: Spans<'a>,
+    /// The name or address that was asked for, without brackets; UTF-8.
     pub host: Span<'a>,
-    /// As above (RevokedHostKeys).
+    /// Revocation files (RevokedHostKeys), each a list or keys as text: any of them revokes.
     pub revoked: Spans<'a>,
     /// Asked of certificates alone.
     pub unix_timestamp: u64,
+    /// As RequiredRSASize; below 1,024, as 0, it is 1,024.
     pub least_rsa_bits: u32,
     pub port: u16,
-}
-
-/// ---- what a client signs ----.
-#[repr(C)]
-#[derive(Clone, Copy, Debug, Default)]
-pub(crate) struct Userauth<'a> {
-    pub session_id: Span<'a>,
-    pub user: Span<'a>,
-    /// The name of the public key algorithm in the request.
-    pub algorithm: Span<'a>,
-    /// The blob of the key or the certificate in the request.
-    pub public_key: Span<'a>,
-    /// The server's host key, if has_host_key is 1 (publickey-hostbound-v00@openssh.com).
-    pub host_key: Span<'a>,
-    /// The blob of the client's signature.
-    pub signature: Span<'a>,
-    /// 0: the method is publickey; else hostbound.
-    pub has_host_key: u32,
-    /// Of the grant.
-    pub permits: u32,
 }
 
 // the layout that the library was built for
@@ -427,7 +439,13 @@ const _: () = assert!(size_of::<Fields>() == 40);
 const _: () = assert!(size_of::<Parts>() == 80);
 const _: () = assert!(size_of::<CertificateOptionParts>() == 40);
 const _: () = assert!(size_of::<Span>() == 16);
+const _: () = assert!(size_of::<Spans>() == 16);
+const _: () = assert!(size_of::<Digests>() == 16);
+const _: () = assert!(size_of::<Login>() == 112);
+const _: () = assert!(size_of::<Grant>() == 88);
 const _: () = assert!(size_of::<Draft>() == 144);
+const _: () = assert!(size_of::<Userauth>() == 104);
+const _: () = assert!(size_of::<HostLogin>() == 64);
 const _: () = assert!(size_of::<Entry>() == 64);
 const _: () = assert!(size_of::<EntryOptionParts>() == 48);
 
@@ -463,6 +481,11 @@ calls! {
     fn sshkey_signature_question(
         key: &[u8], message: &[u8], signature: &[u8], room: &mut [u8], answer: &mut Question
     );
+    fn sshkey_userauth_question(request: &Userauth<'_>, room: &mut [u8], answer: &mut Question);
+    fn sshkey_userauth_question_of(
+        request: &Userauth<'_>, signed_bytes: &[u8], room: &mut [u8], answer: &mut Question
+    );
+    fn sshkey_grant_flags(permits: u32, key: &[u8], signature: &[u8]);
     fn sshkey_sshsig_question(
         signature: &[u8], name_space: &[u8], message: &[u8], room: &mut [u8], answer: &mut Question,
         signer: &mut Sha256
@@ -490,18 +513,8 @@ calls! {
     fn sshkey_nth_option(
         options: &[u8], number: usize, room: &mut [u8], answer: &mut EntryOptionParts
     );
-    fn sshkey_source_address_allows(list: &[u8], address: &[u8]);
-    fn sshkey_from_allows(list: &[u8], host: &[u8], address: &[u8]);
-    fn sshkey_login_verdict(
-        login: &Login<'_>, is_verified: u32, room: &mut [u8], answer: &mut Grant
-    );
     fn sshkey_host_key_verdict(login: &HostLogin<'_>, key: &[u8]);
     fn sshkey_host_certificate_verdict(login: &HostLogin<'_>, certificate: &[u8], is_verified: u32);
-    fn sshkey_unreadable_host_line(known_hosts: &[u8], host: &[u8], port: u16, number: &mut usize);
-    fn sshkey_userauth_question(request: &Userauth<'_>, room: &mut [u8], answer: &mut Question);
-    fn sshkey_userauth_question_of(
-        request: &Userauth<'_>, signed_bytes: &[u8], room: &mut [u8], answer: &mut Question
-    );
-    fn sshkey_grant_flags(permits: u32, key: &[u8], signature: &[u8]);
-    fn sshkey_is_other_key_line(line: &[u8]);
+    fn sshkey_source_address_allows(list: &[u8], address: &[u8]);
+    fn sshkey_from_allows(list: &[u8], host: &[u8], address: &[u8]);
 }

@@ -39,7 +39,7 @@ module _ (accepts : Question → Bool) (bytes : List ℕ) (is_verified : ℕ) (v
   same_answer None e = refl
   same_answer (Some q) e = sym (v c spelled q e)
 
-  same_signed : is_signed (λ _. is_yes_number is_verified) c ≡ is_signed accepts c
+  pub same_signed : is_signed (λ _. is_yes_number is_verified) c ≡ is_signed accepts c
   same_signed = same_answer (certificate_question c) refl
 
   same_first : (authorities : List Fingerprint) (t : ℕ) → first_refusal (λ _. is_yes_number is_verified) authorities t c ≡ first_refusal accepts authorities t c

@@ -182,7 +182,6 @@ pub fn certificate_error_number(error: Error) -> u32
     ensures fault { (fault : Fault) → cause error ≡ Faulty fault → result ≡ fault_number fault }
     ensures memory { cause error ≡ NoMemory → result ≡ 1 }
     ensures range { cause error ≢ NoMemory → 9 < result }
-    ensures apart { (result ≢ 0) × (result ≢ 2) }
 {
     match error {
         Error::CertificateFieldInvalid(field) => field_number(field),

@@ -15,7 +15,7 @@ mod revocation_files;
 mod revocations;
 mod signers;
 
-pub use addresses::{from_allows, source_address_allows};
+pub use addresses::{address_of, from_allows, source_address_allows};
 pub use entries::{EntryParts, authorized_entry, known_host};
 pub use lines::next_line;
 pub use options::{OptionParts, nth_option};
