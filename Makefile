@@ -98,10 +98,10 @@ go: $(OUT)/libsshkey.a
 	rm -f $(OUT)/check-go
 	cd $(ROOT)/examples/go && CGO_LDFLAGS=-L$(OUT) go build -o $(OUT)/check-go .
 
-# the program takes the verifier of the helpers
-rust: $(OUT)/libsshkey.a $(OUT)/verify.o
+# the program takes the verifier of the package
+rust: $(OUT)/libsshkey.a
 	cd $(ROOT)/bindings/rust && SSHKEY_LIB_DIR=$(OUT) CARGO_TARGET_DIR=$(OUT)/rust \
-		cargo build --offline --locked --release --example check
+		cargo build --offline --locked --release --features libcrypto --example check
 	cp $(OUT)/rust/release/examples/check $(OUT)/check-rust
 
 INCLUDE := $(DESTDIR)$(PREFIX)/include

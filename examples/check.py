@@ -43,9 +43,9 @@ def fingerprints(path: str) -> Collection[bytes]:
     try:
         found = sshkey.authorities(text)
     except sshkey.NoKey as fault:
-        raise ValueError(f"{path}: {fault}") from fault
+        raise ValueError(f"{path}:{fault.line}: no key") from fault
     for number in found.other_lines:
-        print(f"check.py: {path}: line {number} is passed over: a kind of key that is not read", file=sys.stderr)
+        print(f"check.py: {path}:{number}: a later kind of key, which is passed over", file=sys.stderr)
     return found.keys
 
 

@@ -1,5 +1,5 @@
 //! Says whether certificates and SSH signatures are valid, or what is wrong first. OpenSSL's
-//! libcrypto verifies, by the functions of helpers/verify.c.
+//! libcrypto verifies.
 
 use std::env;
 use std::ffi::{OsStr, OsString};
@@ -11,7 +11,7 @@ use std::path::Path;
 use std::process::ExitCode;
 use std::time::{SystemTime, UNIX_EPOCH};
 
-use sshkey::{Principal, Refusal, Sha256, Status};
+use sshkey::{NoKey, Principal, Sha256, Status};
 
 const USAGE: &str = "\
 Says whether certificates and SSH signatures are valid, or what is wrong first.
@@ -22,37 +22,16 @@ Says whether certificates and SSH signatures are valid, or what is wrong first.
 AUTHORITIES and SIGNERS are files of public keys, a line each. The first answers of each line of
 its input. The status is 0 if all is valid, 1 if not, and 2 where it can't tell: so also where there
 is no certificate. A valid certificate may be for a host, or for nobody by name, and - is no name
-that a client may choose: who logs users in calls `sshkey::validate_user`.
+that a client may choose: who logs users in calls `sshkey::log_in`.
 ";
-
-// ---- cryptography
-
-pub(crate) mod verify {
-    use sshkey::raw;
-    use sshkey::Question;
-
-    extern "C" {
-        // of helpers/verify.h
-        fn judge_is_signature(question: *const raw::Question, room: *const u8) -> bool;
-    }
-
-    /// Whether the signature is one of the message under the key. False also where libcrypto
-    /// fails, and for DSA and short RSA keys, which are too weak to count.
-    pub(crate) fn verifies(question: &Question) -> bool {
-        let (parts, room) = question.as_raw();
-        // SAFETY: the room is the one that the parts stand in, as sshkey.h says; both are lent for
-        // longer than the call, which writes nothing.
-        unsafe { judge_is_signature(parts, room.as_ptr()) }
-    }
-}
 
 // ---- what is read
 
-/// The key or the certificate of a line. Fails where it is a line of neither, and with
-/// [`Status::LABEL`] for the other.
-fn read(line: &[u8], is_certificate: bool) -> Result<Vec<u8>, Status> {
+/// The certificate of a line. Fails where it is a line of none, and with [`Status::LABEL`] for a
+/// key.
+fn read(line: &[u8]) -> Result<Vec<u8>, Status> {
     let found = sshkey::read_line(line)?;
-    if found.is_certificate != is_certificate {
+    if !found.is_certificate {
         return Err(Status::LABEL);
     }
     Ok(found.blob)
@@ -66,20 +45,24 @@ fn of_file(path: &Path, fault: impl fmt::Display) -> Untold {
     format!("{}: {fault}", path.display()).into()
 }
 
-/// The fault of a file, of which a line is no key, or of which that can't be told.
-fn no_key(path: &Path, status: Status) -> Untold {
-    let front = if status == Status::MEMORY { "" } else { "no key: " };
-    of_file(path, format_args!("{front}{}", Refusal::from(status).meaning()))
-}
-
-/// The fingerprints of the keys in a file. Fails where it can't be read, and where a line is no
-/// key.
+/// The fingerprints of the keys in a file; of a line with a later kind of key it says that it passes
+/// over it. Fails where the file can't be read, and where a line is no key.
 fn fingerprints(path: &Path) -> Result<Vec<Sha256>, Untold> {
     let text = fs::read(path).map_err(|fault| of_file(path, fault))?;
-    sshkey::entry_lines(&text)
-        .map(|line| sshkey::fingerprint(&read(line, false)?))
-        .collect::<Result<_, Status>>()
-        .map_err(|status| no_key(path, status))
+    let found = sshkey::authorities(&text).map_err(|fault| no_key(path, fault))?;
+    for line in found.other_lines {
+        writeln!(io::stderr(), "check: {}:{line}: a later kind of key", path.display())?;
+    }
+    Ok(found.keys)
+}
+
+/// The fault of a file, of which a line is no key, or of which that can't be told.
+fn no_key(path: &Path, fault: NoKey) -> Untold {
+    let said = fault.status.meaning();
+    match fault.status {
+        Status::MEMORY => of_file(path, said),
+        _ => format!("{}:{}: no key: {said}", path.display(), fault.line).into(),
+    }
 }
 
 /// The second of the digits, or else now. Fails where there is another character, or none.
@@ -141,16 +124,15 @@ fn value_of(digit: u8) -> Option<u32> {
 // ---- what is said
 
 /// The line for what is valid, or for what is wrong first.
-pub(crate) fn line_for(answer: Result<(), Refusal>) -> String {
+pub(crate) fn line_for(answer: Result<(), Status>) -> String {
     answer.map_or_else(|refusal| format!("refused: {refusal}"), |()| String::from("valid"))
 }
 
 /// Says whether something is valid, and returns that. Fails where memory was refused, and where
 /// nothing can be written.
-fn say(output: &mut impl Write, answer: Result<(), Refusal>) -> Result<bool, Untold> {
-    let no_memory = Refusal::from(Status::MEMORY);
-    if answer == Err(no_memory) {
-        return Err(no_memory.meaning().into());
+fn say(output: &mut impl Write, answer: Result<(), Status>) -> Result<bool, Untold> {
+    if answer == Err(Status::MEMORY) {
+        return Err(Status::MEMORY.meaning().into());
     }
     writeln!(output, "{}", line_for(answer))?;
     Ok(answer.is_ok())
@@ -158,11 +140,11 @@ fn say(output: &mut impl Write, answer: Result<(), Refusal>) -> Result<bool, Unt
 
 /// Says of each line of the input what the function does of its certificate, and returns whether
 /// all are valid. Fails where there is no line.
-fn say_of_lines(judge: impl Fn(&[u8]) -> Result<(), Refusal>) -> Result<bool, Untold> {
+fn say_of_lines(judge: impl Fn(&[u8]) -> Result<(), Status>) -> Result<bool, Untold> {
     let (mut input, mut output) = (io::stdin().lock(), io::stdout().lock());
     let (mut line, mut are_valid, mut is_empty) = (Vec::new(), true, true);
     while input.read_until(b'\n', &mut line)? > 0 {
-        let said = read(&line, true).map_err(Refusal::from).and_then(|it| judge(&it));
+        let said = read(&line).and_then(|it| judge(&it));
         are_valid &= say(&mut output, said)?;
         is_empty = false;
         line.clear();
@@ -182,7 +164,7 @@ fn certificates(authorities: &OsStr, principal: &OsStr, second: u64) -> Result<b
         name => Principal::Named(name),
     };
     say_of_lines(|certificate| {
-        Ok(sshkey::judge_certificate(certificate, second, whom, &by, verify::verifies)?)
+        sshkey::judge_certificate(certificate, second, whom, &by, sshkey::is_signature)
     })
 }
 
@@ -193,7 +175,7 @@ fn signature(signers: &OsStr, namespace: &OsStr, file: &OsStr) -> Result<bool, U
     let (given, by) = (unarmoured(&armour)?, fingerprints(signers.as_ref())?);
     let message = fs::read(file).map_err(|fault| of_file(file.as_ref(), fault))?;
     let name = namespace.to_str().ok_or("the namespace is not UTF-8")?;
-    let answer = sshkey::judge_sshsig(&given, name, &message, &by, verify::verifies);
+    let answer = sshkey::judge_sshsig(&given, name, &message, &by, sshkey::is_signature);
     let mut output = io::stdout().lock();
     let is_valid = say(&mut output, answer)?;
     output.flush()?;

@@ -69,7 +69,7 @@ def tell_unreadable(login: sshkey.HostLogin, paths: Collection[str]) -> None:
     for path, text in zip(paths, login.known_hosts):
         number = sshkey.unreadable_host_line(text, login.host, login.port)
         if number is not None:
-            print(f"host.py: {path}: line {number} can't be read", file=sys.stderr)
+            print(f"host.py: {path}:{number}: a line that may revoke it and can't be read", file=sys.stderr)
 
 
 def main() -> int:

@@ -122,24 +122,43 @@ enum {
   SSHKEY_EMPTY_WINDOW = 46,  /* its window has no second */
 
   /* 50 to 53: a host's key is not trusted; the first of these that holds */
-  SSHKEY_HOST_REVOKED = 50,    /* a line for the host revokes the key */
+  SSHKEY_HOST_REVOKED = 50,    /* a line for the host, or a revocation file, revokes it */
   SSHKEY_HOST_UNREADABLE = 51, /* a line is no entry, and may be one for the host */
   SSHKEY_HOST_CHANGED = 52,    /* a line for the host has another key, and none has this one */
   SSHKEY_HOST_UNKNOWN = 53,    /* no line without a marker is for the host */
 
   /* 55, 58, 56, and then 30: a signature does not count; the first of these that holds */
   SSHKEY_SIGNER_NOT_ALLOWED = 55, /* no line lets its key sign for the identity, there and then */
-  SSHKEY_SIGNER_REVOKED = 56,     /* its key is revoked */
+  SSHKEY_REVOKED = 56, /* a revocation file revokes the signer's key, or the certificate */
 
   SSHKEY_ELSEWHERE = 57, /* the client's address is none of those that are allowed */
 
-  /* of a revocation file */
-  SSHKEY_UNREADABLE_REVOCATIONS = 58, /* it can't be read, and so revokes everything */
+  /* of revocation files */
+  SSHKEY_UNREADABLE_REVOCATIONS = 58, /* one can't be read, or there is none: so everything is
+                                         revoked */
 
-  SSHKEY_KEY_NOT_ACCEPTED = 59, /* a kind or a size of key that OpenSSH does not let in; no
-                                   call answers it yet */
+  SSHKEY_KEY_NOT_ACCEPTED = 59, /* a kind or a size of key that OpenSSH does not let in */
 
-  SSHKEY_NOT_REVOKED = 60 /* a revocation file does not revoke the key or the certificate */
+  SSHKEY_NOT_REVOKED = 60, /* no revocation file revokes the key or the certificate */
+
+  /* 70 to 76, with 59 after 72: a certificate that lets nobody in, whoever signed it; the first of
+   * these */
+  SSHKEY_NOT_NORMAL_FORM = 70,  /* its bytes are not its normal form: not those that were signed */
+  SSHKEY_OTHER_TYPE = 71,       /* a user shows one for hosts, or a host one for users */
+  SSHKEY_OTHER_KEY = 72,        /* it certifies another key than the client's */
+  SSHKEY_CRITICAL_OPTIONS = 73, /* a critical option that is not known, or whose value sshd does
+                                   not read */
+  SSHKEY_EXTENSIONS = 74,       /* data in an extension that is a flag, or a zero byte in a name */
+  SSHKEY_KEY_ID = 75,           /* a zero byte in the key id */
+  SSHKEY_VALID_PRINCIPALS = 76, /* it lists no principal, more than 256 or one with a zero byte;
+                                   or the user's name is empty */
+
+  /* 80 to 83: a client's signature that does not count; the first of these */
+  SSHKEY_OTHER_REQUEST = 80,   /* the signed bytes are not those of this request, or its service is
+                                  not ssh-connection */
+  SSHKEY_OTHER_ALGORITHM = 81, /* the algorithm that the request names is not the signature's */
+  SSHKEY_UNTOUCHED = 82,       /* nobody touched the security key, and the grant wants it */
+  SSHKEY_UNVERIFIED = 83       /* the security key did not verify its user, and the grant wants it */
 };
 
 /* The name of an answer as it stands above, without SSHKEY_; for logs. */
@@ -159,13 +178,42 @@ static inline const char *sshkey_answer_name(uint32_t answer) {
     SSHKEY_NAMED(PRINCIPALS); SSHKEY_NAMED(EMPTY_WINDOW);
     SSHKEY_NAMED(HOST_REVOKED); SSHKEY_NAMED(HOST_UNREADABLE);
     SSHKEY_NAMED(HOST_CHANGED); SSHKEY_NAMED(HOST_UNKNOWN);
-    SSHKEY_NAMED(SIGNER_NOT_ALLOWED); SSHKEY_NAMED(SIGNER_REVOKED); SSHKEY_NAMED(ELSEWHERE);
+    SSHKEY_NAMED(SIGNER_NOT_ALLOWED); SSHKEY_NAMED(REVOKED); SSHKEY_NAMED(ELSEWHERE);
     SSHKEY_NAMED(UNREADABLE_REVOCATIONS); SSHKEY_NAMED(KEY_NOT_ACCEPTED);
     SSHKEY_NAMED(NOT_REVOKED);
+    SSHKEY_NAMED(NOT_NORMAL_FORM); SSHKEY_NAMED(OTHER_TYPE); SSHKEY_NAMED(OTHER_KEY);
+    SSHKEY_NAMED(CRITICAL_OPTIONS); SSHKEY_NAMED(EXTENSIONS); SSHKEY_NAMED(KEY_ID);
+    SSHKEY_NAMED(VALID_PRINCIPALS);
+    SSHKEY_NAMED(OTHER_REQUEST); SSHKEY_NAMED(OTHER_ALGORITHM); SSHKEY_NAMED(UNTOUCHED);
+    SSHKEY_NAMED(UNVERIFIED);
     default: return "no answer";
   }
 #undef SSHKEY_NAMED
 }
+
+/* ---- what is read ---------------------------------------------------------------------------- */
+
+/* Bytes that a call reads; no null pointer, also where the length is 0 (sshkey_bytes). */
+typedef struct {
+  const uint8_t *bytes;
+  size_t length;
+} sshkey_span;
+
+/* Byte strings that a call reads: `count` of them, at no null pointer. */
+typedef struct {
+  const sshkey_span *items;
+  size_t count;
+} sshkey_spans;
+
+/* The revocation files of who asks about no revocation: one file, the list of nothing (PROTOCOL.krl).
+ * No file at all would revoke everything, as one does that could not be read. */
+static inline sshkey_spans sshkey_no_revocations(void) {
+  static const uint8_t list[44] = "SSHKRL\n\0\0\0\0\1";
+  static const sshkey_span file = {list, sizeof list};
+  sshkey_spans files = {&file, 1};
+  return files;
+}
+#define SSHKEY_NO_REVOCATIONS sshkey_no_revocations()
 
 /* ---- what is written ------------------------------------------------------------------------- */
 
@@ -184,6 +232,14 @@ typedef struct {
 typedef struct {
   uint8_t bytes[64];
 } sshkey_sha512;
+
+/* SHA-256 fingerprints of keys that a call reads: `count` of them, at no null pointer. */
+typedef struct {
+  const sshkey_sha256 *items;
+  size_t count;
+} sshkey_digests;
+
+/* ---- questions ------------------------------------------------------------------------------- */
 
 /* How a signature is made. A key's blob (RFC 4253, section 6.6) is strings, one after the other:
  * four bytes of length, big-endian, and the bytes. The first is the name of the key's type. So
@@ -212,9 +268,8 @@ enum {
 /* What has to be verified: that `signature` is one of `message` under `key`, made as `algorithm`
  * says. A security key's question is already the one about the plain key within and about what the
  * device signed (PROTOCOL.u2f): 32 bytes of digest, a byte of flags, four of the counter, and 32 of
- * digest. Whether somebody touched it (bit 0x01 of message[32]) or was verified (bit 0x04) is yours
- * to judge, of the client's signature and only where the key that was given has a name sk-..: in
- * the message of another key that byte is the client's data. */
+ * digest. Whether somebody touched it or was verified, sshkey_userauth_question and
+ * sshkey_grant_flags say of a client's signature. */
 typedef struct {
   sshkey_part key;       /* its blob */
   sshkey_part message;   /* what is signed */
@@ -345,12 +400,6 @@ uint32_t sshkey_certificate_key(const uint8_t *certificate, size_t certificate_l
 
 /* ---- how a certificate is made --------------------------------------------------------------- */
 
-/* Bytes that a call reads; no null pointer, also where the length is 0 (sshkey_bytes). */
-typedef struct {
-  const uint8_t *bytes;
-  size_t length;
-} sshkey_span;
-
 /* What a certificate is to say. */
 typedef struct {
   sshkey_span key;              /* the blob of the key that is certified */
@@ -425,6 +474,88 @@ uint32_t sshkey_signature_question(const uint8_t *key, size_t key_length, const 
                                    size_t signature_length, uint8_t *room, size_t room_length,
                                    sshkey_question *answer);
 
+/* ---- who is let in (sshd(8)) ------------------------------------------------------------------ */
+
+/* A login by a certificate, and whom the server trusts. */
+typedef struct {
+  sshkey_span certificate;    /* its blob, as the client sent it */
+  sshkey_span user;           /* UTF-8 */
+  sshkey_span key;            /* the blob of the key under which the client has signed */
+  sshkey_span client;         /* the address of its socket, of 4 or 16 bytes; with any other number
+                                 of bytes it has none: then source-address lets nobody in */
+  sshkey_digests authorities; /* of the keys that may sign logins */
+  sshkey_spans revoked;       /* revocation files, each a list or keys as text: any of them revokes.
+                                 Who asks none says so: SSHKEY_NO_REVOCATIONS */
+  uint64_t unix_timestamp;
+  uint32_t least_rsa_bits;    /* as RequiredRSASize; below 1,024, as 0, it is 1,024 */
+} sshkey_login;
+
+/* What a grant permits. Zero permits nothing. */
+enum {
+  SSHKEY_PERMIT_PTY = 1,
+  SSHKEY_PERMIT_PORT_FORWARDING = 2,
+  SSHKEY_PERMIT_AGENT_FORWARDING = 4,
+  SSHKEY_PERMIT_X11_FORWARDING = 8,
+  SSHKEY_PERMIT_USER_RC = 16,
+  SSHKEY_PERMIT_ANY_COMMAND = 32,     /* no force-command: what the client asks for, or a shell */
+  SSHKEY_PERMIT_NO_TOUCH = 64,        /* a security key that nobody touched */
+  SSHKEY_PERMIT_NO_VERIFICATION = 128 /* a security key that did not verify its user */
+};
+
+/* What a login may do, and by which certificate. */
+typedef struct {
+  sshkey_part force_command; /* the one command that may run; of no bytes with
+                                SSHKEY_PERMIT_ANY_COMMAND */
+  sshkey_part key_id;        /* a text, for logs */
+  size_t length;             /* how many bytes of the room these take */
+  uint64_t serial;           /* the certificate's */
+  sshkey_sha256 authority;   /* of the key that signed it */
+  uint32_t permits;          /* SSHKEY_PERMIT_* */
+} sshkey_grant;
+
+/* ---- what a client signs (RFC 4252, section 7; OpenSSH's PROTOCOL) --------------------------- */
+
+/* A client's signature for a login by public key, and the request that it has to be of. */
+typedef struct {
+  sshkey_span session_id; /* the server's own, and nothing that the client sent */
+  sshkey_span user;
+  sshkey_span algorithm;  /* the name of the public key algorithm in the request */
+  sshkey_span public_key; /* the blob of the key or the certificate that the grant came from */
+  sshkey_span host_key;   /* the blob of the server's host key, if has_host_key is not 0 */
+  sshkey_span signature;  /* the blob of the client's signature (RFC 4253, section 6.6) */
+  uint32_t has_host_key;  /* 0: the method is publickey; else publickey-hostbound-v00@openssh.com */
+  uint32_t permits;       /* the grant's: SSHKEY_PERMIT_NO_TOUCH, .._NO_VERIFICATION */
+} sshkey_userauth;
+
+/* What has to be verified of a client's signature for a login. The bytes that it signs are made
+ * here, for the service ssh-connection. The names of algorithms are compared as by sshd: that of a
+ * certificate stands for its plain one, and rsa-sha2-256 is not rsa-sha2-512.
+ *
+ * SSHKEY_DONE exactly if the signature is by the algorithm that the request names, public_key is a
+ * key of it, or a certificate where the name is one's, and the flags of a security key are what the
+ * grant wants (memory and room aside): then the signature is the client's exactly if your
+ * verification says yes. Else 10 to 29 for bytes that are no signature; SSHKEY_LENGTH for a part
+ * that no string can hold; 81 to 83; 10 to 29 for a public_key that is none; SSHKEY_UNSUPPORTED. A
+ * room of twice the length of all the parts, and 256 bytes, is enough. */
+uint32_t sshkey_userauth_question(const sshkey_userauth *request, uint8_t *room,
+                                  size_t room_length, sshkey_question *answer);
+
+/* The same where the server has the bytes that the client signed. Where they are not those of the
+ * request, SSHKEY_OTHER_REQUEST, in place of SSHKEY_LENGTH. */
+uint32_t sshkey_userauth_question_of(const sshkey_userauth *request, const uint8_t *signed_bytes,
+                                     size_t signed_length, uint8_t *room, size_t room_length,
+                                     sshkey_question *answer);
+
+/* Whether the flags in a client's signature are what a grant that permits this wants: for a server
+ * whose SSH library has verified the signature, under the key of that blob (no certificate).
+ *
+ * SSHKEY_DONE exactly if key and signature go together, and the key is no security key or its flags
+ * are what is wanted (memory aside); else SSHKEY_UNSUPPORTED, SSHKEY_UNTOUCHED,
+ * SSHKEY_UNVERIFIED, or 10 to 29 for bytes that are no key, or else no signature. SSHKEY_MEMORY
+ * only where they are both. */
+uint32_t sshkey_grant_flags(uint32_t permits, const uint8_t *key, size_t key_length,
+                            const uint8_t *signature, size_t signature_length);
+
 /* ---- SSH signatures (PROTOCOL.sshsig) -------------------------------------------------------- */
 
 /* What has to be verified of an SSH signature of the message in that namespace, and the SHA-256
@@ -452,12 +583,11 @@ uint32_t sshkey_sshsig_question_of_digest(const uint8_t *signature, size_t signa
 /* Whether an SSH signature counts as the identity's in that namespace, by a text of allowed
  * signers (ssh-keygen(1)), at that second (since 1970), as `ssh-keygen -Y verify` says, or more
  * strictly (docs/CALLING.md): a time without Z, which is of the machine's zone there, has to hold
- * in every zone here. `revoked` is what the file of its `-r` has: a list, or keys, one a line; a
- * file of no bytes revokes nothing. Who asks no file passes a list of nothing (judge_no_revocations
- * in helpers/judge.h), and never what is left where a file was not read. `is_verified` is 1 if the
- * answer to the question of this signature, in the namespace and of the message, is yes; any other
- * number is no. Ask with 0 first: SSHKEY_NOT_SIGNED says that its key may sign, and with any other
- * answer there is nothing to verify.
+ * in every zone here. `revoked` are revocation files, as sshkey_revoked_key takes them; who asks
+ * none passes SSHKEY_NO_REVOCATIONS, and never what is left where a file was not read.
+ * `is_verified` is 1 if the answer to the question of this signature, in the namespace and of the
+ * message, is yes; any other number is no. Ask with 0 first: SSHKEY_NOT_SIGNED says that its key
+ * may sign, and with any other answer there is nothing to verify.
  *
  * SSHKEY_DONE exactly if the bytes are a signature in the namespace that raises a question,
  * without reserved bytes, `is_verified` is 1, a line lets its key sign for the identity in the
@@ -468,8 +598,8 @@ uint32_t sshkey_signer_verdict(const uint8_t *signers, size_t signers_length,
                                const uint8_t *identity, size_t identity_length,
                                const uint8_t *name_space, size_t name_space_length,
                                const uint8_t *signature, size_t signature_length,
-                               uint64_t unix_timestamp, const uint8_t *revoked,
-                               size_t revoked_length, uint32_t is_verified);
+                               uint64_t unix_timestamp, const sshkey_span *revoked,
+                               size_t revoked_count, uint32_t is_verified);
 
 /* ---- normal forms ---------------------------------------------------------------------------- */
 
@@ -507,22 +637,23 @@ uint32_t sshkey_next_string(const uint8_t *bytes, size_t length, size_t place, s
 
 /* ---- revocation files (sshd_config(5), "RevokedKeys") ---------------------------------------- */
 
-/* Whether a revocation file revokes the key of that blob: a list (PROTOCOL.krl), as `ssh-keygen -k`
- * makes it, that has the key or its digest by SHA-1 or SHA-256; or a text with a key or a
- * certificate a line, that has the key. A file of no bytes revokes nothing, as sshd's.
+/* Whether one of these files revokes the key of that blob: a list (PROTOCOL.krl), as
+ * `ssh-keygen -k` makes it, that has the key or its digest by SHA-1 or SHA-256; or a text with a key
+ * or a certificate a line, that has the key. A file of no bytes revokes nothing, as sshd's.
  *
  * Let in for SSHKEY_NOT_REVOKED alone: a caller that takes any other answer for "not revoked" is
- * wrong (docs/CHECKLIST.md, "All of them"). SSHKEY_DONE exactly if the file revokes the key (memory
- * aside); SSHKEY_UNREADABLE_REVOCATIONS for a file that can't be read, by which sshd lets nobody in
- * either (docs/CALLING.md says what sshd refuses beyond that); else 10 to 29 for bytes that are no
- * key. A text takes memory for its lines, a list only for a key that is not its normal form. */
-uint32_t sshkey_revoked_key(const uint8_t *revoked, size_t revoked_length, const uint8_t *key,
+ * wrong (docs/CHECKLIST.md, "All of them"). SSHKEY_DONE exactly if all files can be read, and one
+ * revokes the key (memory aside); SSHKEY_UNREADABLE_REVOCATIONS without a file, or for one that
+ * can't be read, by which sshd lets nobody in either (docs/CALLING.md says what sshd refuses beyond
+ * that); else 10 to 29 for bytes that are no key. A text takes memory for its lines, several files
+ * do, and one list only for a key that is not its normal form. */
+uint32_t sshkey_revoked_key(const sshkey_span *revoked, size_t revoked_count, const uint8_t *key,
                             size_t key_length);
 
-/* The same of a certificate: the file has its key or the key that signed it, or a list revokes its
+/* The same of a certificate: a file has its key or the key that signed it, or a list revokes its
  * serial number or its key id among the certificates of that key or of every key. The serial number
- * 0 revokes nothing. A list takes memory only where the bytes are a certificate. */
-uint32_t sshkey_revoked_certificate(const uint8_t *revoked, size_t revoked_length,
+ * 0 revokes nothing. One list takes memory only where the bytes are a certificate. */
+uint32_t sshkey_revoked_certificate(const sshkey_span *revoked, size_t revoked_count,
                                     const uint8_t *certificate, size_t certificate_length);
 
 /* Whether a key revocation list, as `ssh-keygen -k` makes it, revokes the key of that blob: it has
@@ -578,8 +709,7 @@ uint32_t sshkey_authorized_entry(const uint8_t *line, size_t line_length, uint8_
                                  size_t room_length, sshkey_entry *answer);
 
 /* The same of a line of known_hosts, as ssh reads it; one with a zero byte is refused. A line that
- * is refused may be a revocation: to judge a host's key, ask sshkey_host_verdict about the whole
- * text. */
+ * is refused may be a revocation: to judge a host's key, ask sshkey_host_key_verdict. */
 uint32_t sshkey_known_host(const uint8_t *line, size_t line_length, uint8_t *room,
                            size_t room_length, sshkey_entry *answer);
 
@@ -605,33 +735,46 @@ typedef struct {
 uint32_t sshkey_nth_option(const uint8_t *options, size_t options_length, size_t number,
                            uint8_t *room, size_t room_length, sshkey_entry_option_parts *answer);
 
-/* What a text of known_hosts says of the key, given as its blob, that a host shows at a port. The
- * host is the name or address that was asked for, without brackets. HMAC-SHA1, under which names
- * are hashed there, is computed here.
- *
- * SSHKEY_DONE exactly if the key is trusted: an entry for the host has it, none revokes it, and no
- * line that is no entry could be one for the host (SSHKEY_MEMORY aside), as each with a zero byte
- * could. Else 50 to 53, 10 to 29 for bytes that are no key, or SSHKEY_TEXT where the text or the
- * host is not UTF-8. Ask it of each file: the first of these counts that one of them says, revoked,
- * unreadable, trusted, changed. Where all say SSHKEY_HOST_UNKNOWN of a port other than 22, and only
- * there, ssh(1) asks about port 22 too. Of authorities nothing is said. Also ask:
- * docs/CHECKLIST.md, "A host". */
-uint32_t sshkey_host_verdict(const uint8_t *known_hosts, size_t known_hosts_length,
-                             const uint8_t *host, size_t host_length, uint16_t port,
-                             const uint8_t *key, size_t key_length);
+/* ---- whether a host is the known one (ssh(1)) ------------------------------------------------ */
 
-/* The same of the key of an authority that signed a certificate of the host: SSHKEY_DONE exactly if
- * an entry @cert-authority for the host has the key, none revokes it, and no line that is no entry
- * could be one for the host (SSHKEY_MEMORY aside). SSHKEY_HOST_CHANGED is never answered, and
- * SSHKEY_HOST_UNKNOWN where no such entry has the key.
+/* The host that a client connects to, and what is known of it. */
+typedef struct {
+  sshkey_spans known_hosts; /* the texts of all the files that count: one file alone may list a key
+                               that another one revokes */
+  sshkey_span host;         /* the name or address that was asked for, without brackets; UTF-8 */
+  sshkey_spans revoked;     /* revocation files (RevokedHostKeys), each a list or keys as text: any
+                               of them revokes. Who asks none says so: SSHKEY_NO_REVOCATIONS */
+  uint64_t unix_timestamp;  /* asked of certificates alone */
+  uint32_t least_rsa_bits;  /* as RequiredRSASize; below 1,024, as 0, it is 1,024 */
+  uint16_t port;
+} sshkey_host_login;
+
+/* Whether the key of that blob is the host's, as ssh(1) says with StrictHostKeyChecking. Hashed
+ * names are compared here, by HMAC-SHA1. Where no line is for the host at a port other than 22, the
+ * host's plain name is asked too.
  *
- * A host's certificate has to meet more: sshkey_host_verdict of the certified key may not be
- * SSHKEY_HOST_REVOKED, in any file, certificate_type has to be SSHKEY_HOST, has_critical_options 0,
- * and sshkey_certificate_validate_for, with the host's name in small letters and this key's
- * fingerprint alone, SSHKEY_DONE (docs/FOREIGN.md, "A host's certificate"). */
-uint32_t sshkey_authority_verdict(const uint8_t *known_hosts, size_t known_hosts_length,
-                                  const uint8_t *host, size_t host_length, uint16_t port,
-                                  const uint8_t *key, size_t key_length);
+ * SSHKEY_DONE exactly if a line for the host has the key, no line for it and no revocation file
+ * revokes the key, no line that is no entry could be one for the host, as each with a zero byte
+ * could, and OpenSSH accepts its kind and size (memory aside). Else the first of these:
+ * SSHKEY_TEXT, 10 to 29 for bytes that are no key, SSHKEY_UNREADABLE_REVOCATIONS, 50 to 53,
+ * SSHKEY_KEY_NOT_ACCEPTED. SSHKEY_MEMORY only where the bytes are a key. */
+uint32_t sshkey_host_key_verdict(const sshkey_host_login *login, const uint8_t *key,
+                                 size_t key_length);
+
+/* Whether a certificate is the host's. `is_verified` is 1 if the answer to the question of this
+ * certificate is yes (sshkey_certificate_question); any other number is no. Ask with 0 first:
+ * SSHKEY_NOT_SIGNED says "now verify", and with any other answer there is nothing to verify.
+ *
+ * SSHKEY_DONE exactly if its bytes are its normal form; a line @cert-authority for the host has the
+ * key that signed it; no line for the host revokes one of its two keys, and no revocation file the
+ * certificate; no line that is no entry could be one for the host; OpenSSH accepts its key; it is
+ * for hosts, without critical options, of texts that ssh reads, and valid then for the host's name
+ * in small letters, which it lists; and `is_verified` is 1 (memory aside). Else the first of these:
+ * SSHKEY_TEXT, 10 to 29, SSHKEY_NOT_NORMAL_FORM, SSHKEY_UNREADABLE_REVOCATIONS, 50, 51, 53, 59, 71,
+ * 73, 75, 76, 30, 32 to 34. */
+uint32_t sshkey_host_certificate_verdict(const sshkey_host_login *login,
+                                         const uint8_t *certificate, size_t certificate_length,
+                                         uint32_t is_verified);
 
 /* ---- where a client may come from ------------------------------------------------------------ */
 
@@ -712,6 +855,28 @@ SSHKEY_IS(sizeof(sshkey_certificate_option_parts) == 40);
 SSHKEY_IS(offsetof(sshkey_span, bytes) == 0);
 SSHKEY_IS(offsetof(sshkey_span, length) == 8);
 SSHKEY_IS(sizeof(sshkey_span) == 16);
+SSHKEY_IS(offsetof(sshkey_spans, items) == 0);
+SSHKEY_IS(offsetof(sshkey_spans, count) == 8);
+SSHKEY_IS(sizeof(sshkey_spans) == 16);
+SSHKEY_IS(offsetof(sshkey_digests, items) == 0);
+SSHKEY_IS(offsetof(sshkey_digests, count) == 8);
+SSHKEY_IS(sizeof(sshkey_digests) == 16);
+SSHKEY_IS(offsetof(sshkey_login, certificate) == 0);
+SSHKEY_IS(offsetof(sshkey_login, user) == 16);
+SSHKEY_IS(offsetof(sshkey_login, key) == 32);
+SSHKEY_IS(offsetof(sshkey_login, client) == 48);
+SSHKEY_IS(offsetof(sshkey_login, authorities) == 64);
+SSHKEY_IS(offsetof(sshkey_login, revoked) == 80);
+SSHKEY_IS(offsetof(sshkey_login, unix_timestamp) == 96);
+SSHKEY_IS(offsetof(sshkey_login, least_rsa_bits) == 104);
+SSHKEY_IS(sizeof(sshkey_login) == 112);
+SSHKEY_IS(offsetof(sshkey_grant, force_command) == 0);
+SSHKEY_IS(offsetof(sshkey_grant, key_id) == 16);
+SSHKEY_IS(offsetof(sshkey_grant, length) == 32);
+SSHKEY_IS(offsetof(sshkey_grant, serial) == 40);
+SSHKEY_IS(offsetof(sshkey_grant, authority) == 48);
+SSHKEY_IS(offsetof(sshkey_grant, permits) == 80);
+SSHKEY_IS(sizeof(sshkey_grant) == 88);
 SSHKEY_IS(offsetof(sshkey_draft, key) == 0);
 SSHKEY_IS(offsetof(sshkey_draft, nonce) == 16);
 SSHKEY_IS(offsetof(sshkey_draft, key_id) == 32);
@@ -725,6 +890,22 @@ SSHKEY_IS(offsetof(sshkey_draft, valid_before) == 128);
 SSHKEY_IS(offsetof(sshkey_draft, certificate_type) == 136);
 SSHKEY_IS(offsetof(sshkey_draft, all_principals) == 140);
 SSHKEY_IS(sizeof(sshkey_draft) == 144);
+SSHKEY_IS(offsetof(sshkey_userauth, session_id) == 0);
+SSHKEY_IS(offsetof(sshkey_userauth, user) == 16);
+SSHKEY_IS(offsetof(sshkey_userauth, algorithm) == 32);
+SSHKEY_IS(offsetof(sshkey_userauth, public_key) == 48);
+SSHKEY_IS(offsetof(sshkey_userauth, host_key) == 64);
+SSHKEY_IS(offsetof(sshkey_userauth, signature) == 80);
+SSHKEY_IS(offsetof(sshkey_userauth, has_host_key) == 96);
+SSHKEY_IS(offsetof(sshkey_userauth, permits) == 100);
+SSHKEY_IS(sizeof(sshkey_userauth) == 104);
+SSHKEY_IS(offsetof(sshkey_host_login, known_hosts) == 0);
+SSHKEY_IS(offsetof(sshkey_host_login, host) == 16);
+SSHKEY_IS(offsetof(sshkey_host_login, revoked) == 32);
+SSHKEY_IS(offsetof(sshkey_host_login, unix_timestamp) == 48);
+SSHKEY_IS(offsetof(sshkey_host_login, least_rsa_bits) == 56);
+SSHKEY_IS(offsetof(sshkey_host_login, port) == 60);
+SSHKEY_IS(sizeof(sshkey_host_login) == 64);
 SSHKEY_IS(offsetof(sshkey_entry, front) == 0);
 SSHKEY_IS(offsetof(sshkey_entry, key) == 16);
 SSHKEY_IS(offsetof(sshkey_entry, comment) == 32);

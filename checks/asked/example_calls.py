@@ -186,7 +186,7 @@ def check_issuing(count, built, maker):
 
 
 PROGRAMS = {
-    "check.py certificates": ["check.py", "certificates", "{key}", "alice"],
+    "check.py certificates": ["check.py", "certificates", "{issuer}.pub", "alice"],
     "check.py signature": ["check.py", "signature", "{key}", "file", "{key}"],
     "host.py": ["host.py", "h.example", "22", "{key}"], "issue.py": ["issue.py", "{issuer}", "{key}", "id", "60", "alice"],
 }  # fmt: skip

@@ -1,10 +1,9 @@
-"""The packages in Go of bindings/go, for checks/bindings: how programs over them are built, what they declare and their own tests."""
+"""The package in Go of bindings/go, for checks/bindings: how programs over it are built, what it declares and its own tests."""
 import os
 import re
 
 from lib.harness import ROOT
 
-from .answers import WITHOUT_WORDS
 from .linked import BINDINGS, EXAMPLES, declared, enumerations, run
 
 # numbers that a binding has no name for: done, what it asks for itself, and what is never returned
@@ -15,23 +14,30 @@ package main
 
 import (
 	"fmt"
+	"net/netip"
 	"os"
 	"time"
 
-	"rafendilo.example/go/judge"
 	"rafendilo.example/go/sshkey"
 )
 
-func letIn() {{ fmt.Println("let in") }}
+func letIn(sshkey.Grant) {{ fmt.Println("let in") }}
 
-func logIn(authority sshkey.SHA256, line string, key []byte) {{
+func logIn(authorities []sshkey.SHA256, peer netip.Addr, blob, key []byte) {{
 {0}}}
 
-func twoCalls(certificate []byte, authorities []sshkey.SHA256) error {{
+func twoCalls(blob []byte, authorities []sshkey.SHA256) error {{
 {1}	return err
 }}
 
-func blob(line string) []byte {{
+func said(err error) string {{
+	if err == nil {{
+		return "valid"
+	}}
+	return "refused: " + err.Error()
+}}
+
+func blobOf(line string) []byte {{
 	found, err := sshkey.ReadLine(line)
 	if err != nil {{
 		panic(err)
@@ -40,12 +46,13 @@ func blob(line string) []byte {{
 }}
 
 func main() {{
-	authority, err := sshkey.Fingerprint(blob(os.Args[1]))
+	authorities, _, err := sshkey.Authorities(os.Args[1])
 	if err != nil {{
 		panic(err)
 	}}
-	logIn(authority, os.Args[2], blob(os.Args[3]))
-	fmt.Println(judge.Said(twoCalls(blob(os.Args[2]), []sshkey.SHA256{{authority}})))
+	blob := blobOf(os.Args[2])
+	logIn(authorities, netip.MustParseAddr("192.0.2.1"), blob, blobOf(os.Args[3]))
+	fmt.Println(said(twoCalls(blob, authorities)))
 }}
 """
 
@@ -79,12 +86,6 @@ class Go:
         count.check(f"Go: {name} is built", made.returncode == 0, made.stderr[-3000:])
         return path
 
-    def check_meanings(self, count, wanted):
-        """The words for each number are those of C."""
-        said = run([self.maker.path("Go asker")], input="meanings\n").stdout.rstrip("\n").split(",")
-        found = {it: words for it, words in enumerate(said) if words != WITHOUT_WORDS}
-        count.check("Go: each number has the words of C", len(said) == 200 and found == wanted, found.items() ^ wanted.items())
-
     def page(self, code):
         """The sources of a program of these lines."""
         os.mkdir(self.maker.path("page-go"))
@@ -94,7 +95,7 @@ class Go:
         return self.maker.path("page-go")
 
     def check_sources(self, count):
-        """What gofmt and vet say, the tests of the packages, and what they declare."""
+        """What gofmt and vet say, the tests of the package, and what it declares."""
         for at in (self.module, self.example, self.asker):
             name = os.path.relpath(at, ROOT)
             said = run(["gofmt", "-l", at])
@@ -102,31 +103,28 @@ class Go:
             said = self.run(at, "vet", "./...")
             count.check(f"Go: go vet finds nothing in {name}", said.returncode == 0, said.stdout, said.stderr)
         said = self.run(self.module, "test", "-count=1", "./...")
-        passed = said.returncode == 0 and len(re.findall(r"^ok\s", said.stdout, re.M)) == 2
-        count.check("Go: the tests of the packages", passed, said.stdout[-3000:], said.stderr)
+        passed = said.returncode == 0 and len(re.findall(r"^ok\s", said.stdout, re.M)) == 1
+        count.check("Go: the tests of the package", passed, said.stdout[-3000:], said.stderr)
         self.check_covers(count)
         self.check_installed(count)
 
     def check_covers(self, count):
         """The package calls each call of the header, and has a name for each number."""
-        text = self.sources("sshkey")
+        text = self.sources()
         calls, numbers = set(re.findall(r"\bC\.(sshkey_\w+)\(", text)), set(re.findall(r"\bC\.(SSHKEY_\w+)", text))
-        calls |= set(re.findall(r"return (sshkey_\w+)\(", text))
         count.check("Go: each call of the header is called", declared() <= calls, declared() - calls)
         missing = {name for of in enumerations() for name in of} - numbers - UNNAMED - {"SSHKEY_LINE_KEY"}
         count.check("Go: each number of the header has a name", not missing, missing)
         self.check_names(count, text)
-        for package in ("sshkey", "judge"):
-            named = exported(self.sources(package))
-            undocumented = [name for comment, name in named if comment.split()[:2] != ["//", name]]
-            whole = len(named) > 9 and not undocumented
-            count.check(f"Go: each name of {package} has a comment that begins with it", whole, undocumented)
+        named = exported(text)
+        undocumented = [name for comment, name in named if comment.split()[:2] != ["//", name]]
+        count.check("Go: each name of the package has a comment that begins with it", len(named) > 9 and not undocumented, undocumented)
 
-    def sources(self, package):
+    def sources(self):
         text = ""
-        for name in sorted(os.listdir(f"{self.module}/{package}")):
+        for name in sorted(os.listdir(f"{self.module}/sshkey")):
             if name.endswith(".go") and not name.endswith("_test.go"):
-                with open(f"{self.module}/{package}/{name}", encoding="utf-8") as file:
+                with open(f"{self.module}/sshkey/{name}", encoding="utf-8") as file:
                     text += file.read()
         return text
 

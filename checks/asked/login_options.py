@@ -18,7 +18,6 @@ CRITICAL, EXTENSIONS, KEY_ID, PRINCIPALS = (
     "refused: certificate field invalid: " + it
     for it in ("critical options", "extensions", "key id", "valid principals")
 )
-INVALID = "refused: certificate validation failed"
 UNACCEPTED, NO_NORMAL_FORM = "unaccepted key", "no normal form"
 FLAGS = [
     "no-touch-required", "permit-X11-forwarding", "permit-agent-forwarding", "permit-port-forwarding", "permit-pty", "permit-user-rc",

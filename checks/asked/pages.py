@@ -11,9 +11,9 @@ from .login_calls import blocks
 
 # the ways in which the page tells them: PATH is the tree, and out/ what make builds
 C_LINE, GO_LINES = r"`(cc -IPATH.*?)`", r"`(require rafendilo\S* v\S+)` and `(replace rafendilo\S* => PATH\S*)`"
-RUST_LINE, BUILD = r"`(sshkey = \{ path = \"PATH.*?\" \})`", r"```rust\n(fn main\(\) \{.*?)^```"
+RUST_LINE = r"`(sshkey = \{ path = \"PATH.*? \})`"
 HEADERS = r"include `(\S+?\.h)` and `(\S+?\.h)`.*?README's lines also need (.*)"
-# what stands around the lines of README in C, of FOREIGN.md in Go, and around the verifier of examples/check.rs
+# what stands around the lines of README in C, and of FOREIGN.md in Go and in Rust
 C_PROGRAM = """\
 {0}static void let_in(const sshkey_grant *grant, const uint8_t *room) {{ printf("%u %p\\n", grant->permits, (const void *)room); }}
 void log_in(const char *authority_line, size_t authority_length, const char *line, size_t length, judge_blob key, sshkey_span client) {{
@@ -25,30 +25,31 @@ package main
 
 import (
 	"fmt"
+	"net/netip"
 	"time"
 
-	"rafendilo.example/go/judge"
 	"rafendilo.example/go/sshkey"
 )
 
-func letIn() {{}}
+func letIn(sshkey.Grant) {{}}
 
-func logIn(authority sshkey.SHA256, line string, key []byte) {{
+func logIn(authorities []sshkey.SHA256, peer netip.Addr, blob, key []byte) {{
 {0}}}
 
-func main() {{ logIn(sshkey.SHA256{{}}, "", nil) }}
+func main() {{ logIn(nil, netip.Addr{{}}, nil, nil) }}
 """
 RUST_PROGRAM = """\
+use std::net::{{IpAddr, Ipv4Addr}};
 use std::time::{{SystemTime, UNIX_EPOCH}};
+fn let_in(_: &sshkey::Grant) {{}}
+fn log_in(
+    authority_line: &str, line: &str, key: &[u8], peer: IpAddr,
+) -> Result<(), Box<dyn std::error::Error>> {{
 {0}
-fn let_in() {{}}
-fn log_in(authority_line: &str, line: &str, key: &[u8]) -> Result<(), Box<dyn std::error::Error>> {{
-    use verify::verifies;
-{1}
     Ok(())
 }}
 fn main() {{
-    drop(log_in("", "", &[]));
+    drop(log_in("", "", &[], Ipv4Addr::LOCALHOST.into()));
 }}
 """
 PACKAGE = '[package]\nname = "login"\nversion = "1.0.0"\nedition = "2021"\n\n[dependencies]\n{}\n'
@@ -88,11 +89,8 @@ def built_go(folder, out):
 
 
 def built_rust(folder, out):
-    with open(f"{ROOT}/examples/check.rs", encoding="utf-8") as file:
-        module = re.search(r"^pub\(crate\) mod verify \{.*?^\}\n", file.read(), re.M | re.S)[0]
-    program = RUST_PROGRAM.format(module, blocks("rust")[0])
-    build = here(re.search(BUILD, page(), re.M | re.S)[1], out)
-    write(folder, Cargo_toml=PACKAGE.format(here(re.search(RUST_LINE, page())[1], out)), build_rs=build, src__main_rs=program)
+    program, line = RUST_PROGRAM.format(blocks("rust")[0]), re.search(RUST_LINE, page())[1]
+    write(folder, Cargo_toml=PACKAGE.format(here(line, out)), src__main_rs=program)
     kept = {**os.environ, "SSHKEY_LIB_DIR": out, "CARGO_TARGET_DIR": f"{folder}/target"}
     return run(["cargo", "build", "--offline"], cwd=folder, env=kept)
 

@@ -16,6 +16,7 @@ from dataclasses import dataclass
 from lib.signatures import armoured
 
 from .example_calls import SPACE, UNTOLD, VALID, armour_cases, certificate_cases
+from .hosts import LATER
 from .linked import run
 from .verdicts import said
 
@@ -60,6 +61,11 @@ def check_statuses(count, program, made):
     ran = program.run("certificates", two, "alice", str(made.middle), input=given)
     wanted = ["valid", "valid", said(made.sshkey, made.sshkey.Status.UNTRUSTED_AUTHORITY)]
     count.check(f"{program.language}: two authorities in a file", ran.stdout.splitlines() == wanted, ran.stdout, ran.stderr)
+    later = made.maker.write("later", f"{LATER['later']}\n{made.maker.read(f'{kind.authority}.pub')}\n")
+    ran = program.run("certificates", later, "alice", str(made.middle), input=f"{kind.line}\n")
+    said_so = ran.stderr.startswith(f"{program.says}{later}:1: a later kind of key") and ran.stderr.count("\n") == 1
+    same = (ran.returncode, ran.stdout) == (VALID, "valid\n") and said_so
+    count.check(f"{program.language}: a line of a later kind of key is passed over", same, ran)
     ran = program.run("certificates", kind.path, "-", input=f"{kind.line}\n")
     wanted = said(made.sshkey, made.sshkey.Status.OUT_OF_WINDOW)
     count.check(f"{program.language}: without a second it is now", ran.stdout == f"{wanted}\n", ran.stdout, ran.stderr)

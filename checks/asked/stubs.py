@@ -1,7 +1,6 @@
 """Libraries that only answer a number, and how a package of another language behaves over one, for checks/bindings and
 checks/foreign."""
 import os
-import re
 import subprocess
 
 from .linked import ABI, declared, run
@@ -35,6 +34,7 @@ def check_stub(count, asker, made, number):
     header knows, is never taken for done, and no room is asked for twice in vain."""
     blob, key = made.kinds[0].blob.hex(), made.key().hex()
     by, name = "00" * 32, b"alice".hex()
+    request = f"{by} {name} {name} {key} {key} {key}"
     questions = [
         f"certificate {blob}", f"signature {key} 00 {key}", f"sshsig {key} {name} 00", f"is-signature {key} 00 {key}",
         f"sshsig-of-digest {key} {name} {by}", f"sshsig-hash {key}", f"sshsig-reserved {key}", f"is-sshsig {key} {name} 00 {by}",
@@ -43,8 +43,9 @@ def check_stub(count, asker, made, number):
         f"certificate-options {blob}", f"strings {blob}", f"key {key}", f"line {name}", f"normal key {key}",
         f"normal certificate {blob}", f"normal sshsig {key}", f"normal signature {key}", f"join {blob} {key}", f"entry {name}",
         f"host {name}", f"options {name}", f"draft {key} 00 {name} - - - {key} 0 0 9 1 1",
-        f"make {key} 00 {name} - - - {key} 0 0 9 1 1 {key}", f"verdict {name} {name} {key} 22",
-        f"user {blob} {key} 7 {name} {by} -", f"host-certificate {blob} 7 {name} 22 {name}",
+        f"make {key} 00 {name} - - - {key} 0 0 9 1 1 {key}", f"log-in {blob} {name} {key} - {by} - 7 0",
+        f"host-key {name} {name} {key} - 22 0", f"host-certificate {name} {name} {blob} - 22 0 7", f"unreadable-line {name} {name} 22",
+        f"userauth {request} 0 0", f"userauth-of {request} 00 0 0", f"is-userauth {request} 1 0", f"flags {key} {key} 0", f"other-key-line {name}",
         f"revokes-key {key} {key}", f"revokes-certificate {key} {blob}", f"signer {name} {name} {name} {key} - 7 1",
         f"revoked-key {key} {key}", f"revoked-certificate {key} {blob}", f"is-signer {name} {name} {name} {key} - 7 {by}",
     ]  # fmt: skip
@@ -52,16 +53,14 @@ def check_stub(count, asker, made, number):
 
 
 def check_answered(count, asker, name, questions, number):
-    """Each question is answered with that number, a verdict with two, and a validation without a question of its own. Of a login
-    the words are not looked at."""
+    """Each question is answered with that number, and a validation without a question of its own."""
     try:
         ran = run(asker.words, input="".join(f"{it}\n" for it in questions), timeout=30)
     except subprocess.TimeoutExpired:
         count.check(f"{asker.language}: {name}, and the answers end", False)
         return
-    said = [re.sub(r"^refused: .* \((\d+)\)$", r"\1", it) for it in ran.stdout.splitlines()]
-    more = {"verdict": f" {number}", "validate": " 0"}
-    wanted = [f"{number}{more.get(it.split()[0], '')}" for it in questions]
+    said = ran.stdout.splitlines()
+    wanted = [f"{number} 0" if it.startswith("validate ") else str(number) for it in questions]
     wrong = [it for it in zip(questions, said, wanted) if it[1] != it[2]]
     same = ran.returncode == 0 and len(said) == len(questions) and not wrong
     count.check(f"{asker.language}: {name}", same, *wrong[:5], ran.stderr[-2000:])
@@ -72,5 +71,7 @@ def check_refused_questions(count, asker, made):
     first: of a certificate of which it could not ask nothing is known."""
     blob, key = made.kinds[0].blob.hex(), made.key().hex()
     by, name = "00" * 32, b"alice".hex()
-    questions = [f"validate {blob} 7 {whom} {by} 1" for whom in ("*", name)] + [f"user {blob} {key} 7 {name} {by} -"]
+    questions = [f"validate {blob} 7 {whom} {by} 1" for whom in ("*", name)] + [
+        f"log-in {blob} {name} {key} - {by} - 7 0", f"host-certificate {name} {name} {blob} - 22 0 7",
+    ]  # fmt: skip
     check_answered(count, asker, "where a question is refused memory, that is answered", questions, 1)

@@ -2,7 +2,6 @@ package main
 
 import (
 	"bufio"
-	"bytes"
 	"encoding/base64"
 	"errors"
 	"fmt"
@@ -13,59 +12,47 @@ import (
 	"time"
 	"unicode/utf8"
 
-	"rafendilo.example/go/judge"
 	"rafendilo.example/go/sshkey"
 )
 
-// read is the key or the certificate of a line.
-func read(line string, isCertificate bool) ([]byte, error) {
-	found, err := sshkey.ReadLine(line)
-	if err != nil {
-		return nil, err
-	}
-	if found.IsCertificate != isCertificate {
-		return nil, sshkey.ErrLabel
-	}
-	return found.Blob, nil
-}
-
-// fingerprints is those of the keys in a file.
+// fingerprints is those of the keys in a file. It tells of the lines that it passes over.
 func fingerprints(path string) ([]sshkey.SHA256, error) {
 	text, err := os.ReadFile(path)
 	if err != nil {
 		return nil, err
 	}
-	var found []sshkey.SHA256
-	// as check.py does, and not by sshkey.EntryLines, which gives no line's number
-	for at, whole := range bytes.Split(text, []byte("\n")) {
-		line := strings.TrimLeft(string(whole), " \t\r\v\f")
-		if line == "" || line[0] == '#' {
-			continue
-		}
-		key, err := read(line, false)
-		if err != nil {
-			return nil, fmt.Errorf("%s:%d: no key: %w", path, at+1, err)
-		}
-		digest, err := sshkey.Fingerprint(key)
-		if err != nil {
-			return nil, fmt.Errorf("%s:%d: no key: %w", path, at+1, err)
-		}
-		found = append(found, digest)
+	keys, otherLines, err := sshkey.Authorities(string(text))
+	if err != nil {
+		return nil, fmt.Errorf("%s: %w", path, err)
 	}
-	return found, nil
+	for _, line := range otherLines {
+		why := "a later kind of key, which is passed over"
+		fmt.Fprintf(os.Stderr, "check: %s: line %d: %s\n", path, line, why)
+	}
+	return keys, nil
+}
+
+// said is "valid", or what is wrong.
+func said(err error) string {
+	if err == nil {
+		return "valid"
+	}
+	return "refused: " + err.Error()
 }
 
 // judgeLine gives nil where the line is that of a certificate that is valid, else what is wrong
 // first. Where the principal is -, any is meant.
 func judgeLine(line string, now time.Time, principal string, by []sshkey.SHA256) error {
-	certificate, err := read(line, true)
-	if err != nil {
+	certificate, err := sshkey.ReadLine(line)
+	switch {
+	case err != nil:
 		return err
+	case !certificate.IsCertificate:
+		return sshkey.ErrLabel
+	case principal == "-":
+		return sshkey.ValidateCertificate(certificate.Blob, now, by, nil)
 	}
-	if principal == "-" {
-		return sshkey.ValidateCertificate(certificate, now, by, judge.IsSignature)
-	}
-	return sshkey.ValidateCertificateFor(certificate, now, principal, by, judge.IsSignature)
+	return sshkey.ValidateCertificateFor(certificate.Blob, now, principal, by, nil)
 }
 
 // timeOf is that of the second in the words, or now where they have none. Above 2^63 - 1 it is one
@@ -107,7 +94,7 @@ func certificates(words []string, given io.Reader) ([]string, bool, error) {
 		if errors.Is(err, sshkey.ErrMemory) {
 			return nil, false, err
 		}
-		lines, isValid = append(lines, judge.Said(err)+"\n"), isValid && err == nil
+		lines, isValid = append(lines, said(err)+"\n"), isValid && err == nil
 	}
 	if len(lines) == 0 {
 		return nil, false, errors.New("no certificate was given")
@@ -150,9 +137,9 @@ func signature(words []string, given io.Reader) ([]string, bool, error) {
 	if err != nil {
 		return nil, false, err
 	}
-	err = judge.ValidateSSHSig(bare, words[1], message, signers)
+	err = sshkey.ValidateSSHSig(bare, words[1], message, signers, nil)
 	if errors.Is(err, sshkey.ErrMemory) {
 		return nil, false, err
 	}
-	return []string{judge.Said(err) + "\n"}, err == nil, nil
+	return []string{said(err) + "\n"}, err == nil, nil
 }

@@ -28,7 +28,7 @@ func questionOf(in input) (Question, error) {
 // or is of another authority, whose key may be one that the client made up.
 //
 // Nothing is said here of whom the certificate is for: of its type, its principals, its critical
-// options, and whether it is revoked. judge.ValidateUser asks what a login asks.
+// options, and whether it is revoked. LogIn asks what a login asks.
 func ValidateCertificate(
 	certificate []byte, now time.Time, authorities []SHA256, verify Verifier,
 ) error {
@@ -64,17 +64,24 @@ func verified(in input, authorities digests, verify Verifier) (C.uint32_t, error
 	if err := judgeAuthority(in, authorities); err != nil {
 		return 0, err
 	}
-	asked, err := questionOf(in)
-	if err == ErrMemory {
-		return 0, err
-	}
-	if err != nil || verify == nil || !verify(asked) {
-		return 0, nil
-	}
-	return 1, nil
+	return verify.answer(questionOf(in))
 }
 
-// judgeAuthority gives nil where one of the authorities signed the certificate, or says that it did.
+// answer is 1 exactly if there is a question to which the verifier says yes. It fails with
+// ErrMemory, where nothing is known of that.
+func (verify Verifier) answer(asked Question, err error) (C.uint32_t, error) {
+	switch err := verify.check(asked, err); err {
+	case nil:
+		return 1, nil
+	case ErrMemory:
+		return 0, err
+	default:
+		return 0, nil
+	}
+}
+
+// judgeAuthority gives nil where one of the authorities signed the certificate, or says that it
+// did.
 func judgeAuthority(in input, authorities digests) error {
 	var parts C.sshkey_parts
 	if err := errorOf(C.sshkey_certificate_parts(in.pointer(), in.length(), &parts)); err != nil {
@@ -84,12 +91,10 @@ func judgeAuthority(in input, authorities digests) error {
 	if err != nil {
 		return err
 	}
-	for _, one := range authorities {
-		if one == signer {
-			return nil
-		}
+	if !isOneOf(signer, authorities) {
+		return ErrUntrustedAuthority
 	}
-	return ErrUntrustedAuthority
+	return nil
 }
 
 // CertificateFields gives what a policy asks of a certificate, valid or not. It fails with a Status

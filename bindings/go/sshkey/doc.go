@@ -1,11 +1,11 @@
 // Package sshkey reads and makes SSH keys, certificates and signatures, and lines of
 // authorized_keys and known_hosts, by the proved library that include/sshkey.h declares.
 //
-// Cryptography is the caller's: a [Verifier] says whether a signature is one. The package judge
-// beside this one has such a function over Go's standard library, and ValidateUser, which says
-// whether a certificate logs a user in. Who logs users in calls that: a certificate that
-// [ValidateCertificate] finds valid may be for a host, or for nobody by name. Who is shown a host's
-// certificate calls its ValidateHost.
+// Who logs users in by certificates calls [LogIn] and then [CheckUserauth]. Who is shown a host's
+// key or certificate calls [CheckHostKey] or [CheckHostCertificate]. Each of these is one call,
+// which asks the library what has to be verified, has a [Verifier] verify that, by default
+// [IsSignature] over Go's standard library, and asks the library again. A certificate that
+// [ValidateCertificate] finds valid may be for a host, or for nobody by name.
 //
 // # Errors
 //

@@ -1,19 +1,6 @@
 package sshkey
 
 // #include "sshkey.h"
-//
-// enum { SPANS = 7 };
-//
-// // A draft whose spans lie in the bytes, one after the other: Go hands over no pointers to
-// // pointers.
-// static uint32_t to_be_signed(const uint8_t *bytes, const size_t *lengths, sshkey_draft draft,
-//                              uint8_t *room, size_t room_length, size_t *length) {
-//   sshkey_span *spans[SPANS] = {&draft.key, &draft.nonce, &draft.key_id, &draft.principals,
-//                                &draft.critical_options, &draft.extensions, &draft.authority};
-//   for (int at = 0; at < SPANS; bytes += lengths[at++])
-//     *spans[at] = (sshkey_span){bytes, lengths[at]};
-//   return sshkey_certificate_to_be_signed(&draft, room, room_length, length);
-// }
 import "C"
 
 import (
@@ -53,51 +40,45 @@ type Draft struct {
 // user's; with ErrTime for a time that is none, with ErrLabel for a key that has a private-use
 // name; with ErrMemory, and where there are no random bytes with what crypto/rand says.
 func (draft *Draft) ToBeSigned() ([]byte, error) {
-	bytes, lengths, err := draft.spans()
+	var memory held
+	defer memory.free()
+	asked, err := draft.held(&memory)
 	if err != nil {
 		return nil, err
 	}
-	numbers := C.sshkey_draft{
-		serial:           C.uint64_t(draft.Serial),
-		valid_after:      C.uint64_t(draft.ValidAfter),
-		valid_before:     C.uint64_t(draft.ValidBefore),
-		certificate_type: C.uint32_t(draft.Type),
-	}
-	if draft.AllPrincipals {
-		numbers.all_principals = 1
-	}
 	return form(1024, func(to room, length *C.size_t) C.uint32_t {
-		return C.to_be_signed(bytes.pointer(), &lengths[0], numbers, to.at, to.length, length)
+		return C.sshkey_certificate_to_be_signed(&asked, to.at, to.length, length)
 	})
 }
 
-// spans is the draft's bytes, one after the other, and the length of each.
-func (draft *Draft) spans() (input, [C.SPANS]C.size_t, error) {
-	var lengths [C.SPANS]C.size_t
+func (draft *Draft) held(memory *held) (asked C.sshkey_draft, err error) {
 	nonce, err := draft.nonce()
 	if err != nil {
-		return nil, lengths, err
+		return asked, err
 	}
 	principals, err := principalsOf(draft.Principals)
 	if err != nil {
-		return nil, lengths, err
+		return asked, err
 	}
 	critical, err := listed(draft.CriticalOptions)
 	if err != nil {
-		return nil, lengths, err
+		return asked, err
 	}
 	extensions, err := listed(draft.Extensions)
 	if err != nil {
-		return nil, lengths, err
+		return asked, err
 	}
-	var all []byte
-	for at, span := range [C.SPANS][]byte{
-		draft.Key, nonce, []byte(draft.KeyID), principals, critical, extensions, draft.Authority,
-	} {
-		all = append(all, span...)
-		lengths[at] = C.size_t(len(span))
+	if draft.AllPrincipals {
+		asked.all_principals = 1
 	}
-	return inputOf(all), lengths, nil
+	asked.key, asked.authority = spanOf(memory, draft.Key), spanOf(memory, draft.Authority)
+	asked.nonce, asked.key_id = spanOf(memory, nonce), spanOf(memory, draft.KeyID)
+	asked.principals = spanOf(memory, principals)
+	asked.critical_options, asked.extensions = spanOf(memory, critical), spanOf(memory, extensions)
+	asked.serial, asked.certificate_type = C.uint64_t(draft.Serial), C.uint32_t(draft.Type)
+	asked.valid_after = C.uint64_t(draft.ValidAfter)
+	asked.valid_before = C.uint64_t(draft.ValidBefore)
+	return asked, nil
 }
 
 func (draft *Draft) nonce() ([]byte, error) {

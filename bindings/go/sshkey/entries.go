@@ -7,16 +7,25 @@ import "C"
 // that are neither empty nor a comment, without the spaces and tabs at their front and without
 // their ends. Do not use bufio.Scanner, which stops at a long line.
 func EntryLines(text string) []string {
-	var part C.sshkey_part
 	in, found := inputOf(text), []string{}
-	for place := C.size_t(0); ; place = part.start + part.length {
-		status := C.sshkey_next_line(in.pointer(), in.length(), place, &part)
-		if status == C.SSHKEY_END {
+	for place := C.size_t(0); ; {
+		part, isThere := nextLine(in, place)
+		if !isThere {
 			return found
 		}
-		have(status)
 		found = append(found, string(partOf(in, part)))
+		place = part.start + part.length
 	}
+}
+
+// nextLine is the next line from that place on that may be an entry, if there is one.
+func nextLine(in input, place C.size_t) (part C.sshkey_part, isThere bool) {
+	status := C.sshkey_next_line(in.pointer(), in.length(), place, &part)
+	if status == C.SSHKEY_END {
+		return part, false
+	}
+	have(status)
+	return part, true
 }
 
 // entry is the entry that a call reads of a line, and its marker.
@@ -55,8 +64,8 @@ func AuthorizedEntry(line string) (Entry, error) {
 }
 
 // KnownHost gives the entry of a line of known_hosts, as ssh reads it. It fails with a Status where
-// the line is none, which may be a revocation, and with ErrMemory: to judge the key of a host, ask
-// HostVerdict about the whole text.
+// the line is none, which may be a revocation, and with ErrMemory: to judge the key of a host, call
+// CheckHostKey.
 func KnownHost(line string) (HostEntry, error) {
 	in := inputOf(line)
 	return entry(in, func(to room, answer *C.sshkey_entry) C.uint32_t {
@@ -102,34 +111,4 @@ func nthOption(in input, number int) (EntryOption, error) {
 		Value:    string(partOf(data, answer.value)),
 		HasValue: answer.has_value != 0,
 	}, nil
-}
-
-// HostVerdict gives nil exactly if a text of known_hosts trusts the key, given as its blob, for a
-// host at a port; ErrHostRevoked, ErrHostUnreadable, ErrHostChanged or ErrHostUnknown for what it
-// says else. The host is a name or an address alone, without a port and without brackets:
-// net.SplitHostPort takes apart what a dialer has. It fails with a Status for bytes that are no
-// key, with ErrText where text or host are not UTF-8, and with ErrMemory.
-//
-// Ask it of each file before one is believed: the first of these counts that one of them says:
-// ErrHostRevoked, ErrHostUnreadable, nil, ErrHostChanged. Where all say ErrHostUnknown of a port
-// other than 22, and only there, ssh(1) asks about port 22 too.
-func HostVerdict(knownHosts, host string, port uint16, key []byte) error {
-	in, whom, by := inputOf(knownHosts), inputOf(host), inputOf(key)
-	return errorOf(C.sshkey_host_verdict(in.pointer(), in.length(),
-		whom.pointer(), whom.length(), C.uint16_t(port), by.pointer(), by.length()))
-}
-
-// AuthorityVerdict gives the same of the key of an authority that signed a certificate of the host:
-// nil exactly if an entry @cert-authority for the host has the key, and neither is it revoked nor a
-// line that may be the host's unreadable; ErrHostUnknown where no such entry has it. It fails as
-// HostVerdict does.
-//
-// It is asked of each file, as HostVerdict is, and alone it trusts no certificate: that has to be
-// of type Host, without critical options, valid (ValidateCertificateFor) for the host's name in
-// small letters by the fingerprint of this key and no other, and of a key (Contents.Key) that
-// HostVerdict calls ErrHostRevoked in no file. judge.ValidateHost asks all of it.
-func AuthorityVerdict(knownHosts, host string, port uint16, key []byte) error {
-	in, whom, by := inputOf(knownHosts), inputOf(host), inputOf(key)
-	return errorOf(C.sshkey_authority_verdict(in.pointer(), in.length(),
-		whom.pointer(), whom.length(), C.uint16_t(port), by.pointer(), by.length()))
 }

@@ -4,12 +4,8 @@ package sshkey
 import "C"
 
 import (
-	"crypto"
-	_ "crypto/sha256" // for crypto.SHA256
-	_ "crypto/sha512" // for crypto.SHA512
 	"encoding/binary"
 	"math"
-	"time"
 )
 
 // question is what a call writes, which is given a room of that length at first.
@@ -91,10 +87,7 @@ func (digest SHA512) String() string {
 // with a Status for bytes that are none, with ErrUnsupported where they do not go together, and
 // with ErrMemory.
 //
-// Of a key whose blob begins with a name sk-..@openssh.com, and of no other, byte 32 of the message
-// is the device's flags: refuse a login where nobody touched it (0x01), unless the certificate or
-// the line has no-touch-required and no touch-required after it, and one where it has not verified
-// its user (0x04), if verify-required asks for that.
+// Of a login ask UserauthQuestion, which also looks at the flags of a security key.
 func SignatureQuestion(key, message, signature []byte) (Question, error) {
 	in, of, by := inputOf(key), inputOf(message), inputOf(signature)
 	length := len(in) + len(of) + len(by) + 256
@@ -102,110 +95,6 @@ func SignatureQuestion(key, message, signature []byte) (Question, error) {
 		return C.sshkey_signature_question(in.pointer(), in.length(), of.pointer(), of.length(),
 			by.pointer(), by.length(), to.at, to.length, answer)
 	})
-}
-
-// SSHSigQuestion gives what has to be verified of an SSH signature (what stands in the armour,
-// Base64 decoded) of the message in that namespace, and the fingerprint of the key that signed:
-// whether that key may sign is the caller's to judge, as judge.ValidateSSHSig does. It fails with a
-// Status for bytes that are none, with ErrOtherNamespace, with ErrUnsupported where key and
-// signature do not go together, and with ErrMemory.
-func SSHSigQuestion(signature []byte, namespace string, message []byte) (Question, SHA256, error) {
-	var signer SHA256
-	in, space, of := inputOf(signature), inputOf(namespace), inputOf(message)
-	asked, err := question(2*len(in)+256, func(to room, answer *C.sshkey_question) C.uint32_t {
-		return C.sshkey_sshsig_question(in.pointer(), in.length(), space.pointer(), space.length(),
-			of.pointer(), of.length(), to.at, to.length, answer, signer.pointer())
-	})
-	return asked, signer, err
-}
-
-// SSHSigQuestionOfDigest gives the same with the digest of the message in place of the message, so
-// that a long one need not be in memory: by the hash that SSHSigHash gives. It fails with ErrLength
-// also where the digest is not as long as one by that hash.
-func SSHSigQuestionOfDigest(
-	signature []byte, namespace string, digest []byte,
-) (Question, SHA256, error) {
-	var signer SHA256
-	in, space, of := inputOf(signature), inputOf(namespace), inputOf(digest)
-	asked, err := question(2*len(in)+256, func(to room, answer *C.sshkey_question) C.uint32_t {
-		return C.sshkey_sshsig_question_of_digest(in.pointer(), in.length(), space.pointer(),
-			space.length(), of.pointer(), of.length(), to.at, to.length, answer, signer.pointer())
-	})
-	return asked, signer, err
-}
-
-// sshsigFront is the length of what stands in front of the strings of an SSH signature: SSHSIG and
-// its version.
-const sshsigFront = 10
-
-// SSHSigHash gives the hash by which an SSH signature digests its message: crypto.SHA256 or
-// crypto.SHA512. It fails with a Status for bytes that are none, and with ErrMemory.
-func SSHSigHash(signature []byte) (crypto.Hash, error) {
-	fields, err := sshsigFields(signature)
-	if err != nil {
-		return 0, err
-	}
-	switch string(fields[3]) {
-	case "sha256":
-		return crypto.SHA256, nil
-	case "sha512":
-		return crypto.SHA512, nil
-	default:
-		return 0, ErrLabel
-	}
-}
-
-// SSHSigReserved gives the reserved bytes of an SSH signature, which are signed too. ssh-keygen
-// writes none, and `ssh-keygen -Y verify` takes them as empty, whatever they are. It fails with a
-// Status for bytes that are no SSH signature, and with ErrMemory.
-func SSHSigReserved(signature []byte) ([]byte, error) {
-	fields, err := sshsigFields(signature)
-	if err != nil {
-		return nil, err
-	}
-	return fields[2], nil
-}
-
-// sshsigFields gives the signer's key, the namespace, the reserved bytes, the hash's name and the
-// signature.
-func sshsigFields(signature []byte) ([][]byte, error) {
-	normal, err := NormalSSHSig(signature)
-	if err != nil {
-		return nil, err
-	}
-	return Strings(normal[sshsigFront:])
-}
-
-// SignerVerdict gives nil exactly if an SSH signature counts as the identity's in that namespace,
-// by a text of allowed signers, at that time, as `ssh-keygen -Y verify` says, or more strictly
-// (docs/CALLING.md): a time without Z in the text, which is of the machine's zone there, has to hold
-// in every zone here. revoked is what the file of its -r has, a list or keys, or NoRevocations. isVerified
-// is what the verifier said of the question of this signature, in the namespace and of the message.
-//
-// It fails with ErrSignerNotAllowed, ErrUnreadableRevocations, ErrSignerRevoked or ErrNotSigned, the
-// first that holds; for nil in place of a file with the second, whatever the rest is. Ask with false
-// first, and verify only where it fails with the last; judge.ValidateSignerOfDigest does so. It
-// fails with a Status for bytes
-// that are no signature, with ErrText for a text that is not UTF-8, with ErrInvalidTime for a time
-// before 1970, and with ErrMemory.
-func SignerVerdict(
-	signers, identity, namespace string, signature []byte, now time.Time, revoked []byte,
-	isVerified bool,
-) error {
-	if revoked == nil {
-		return ErrUnreadableRevocations
-	}
-	if now.Unix() < 0 {
-		return ErrInvalidTime
-	}
-	by, whose, space := inputOf(signers), inputOf(identity), inputOf(namespace)
-	in, list, yes := inputOf(signature), inputOf(revoked), C.uint32_t(0)
-	if isVerified {
-		yes = 1
-	}
-	return errorOf(C.sshkey_signer_verdict(by.pointer(), by.length(), whose.pointer(),
-		whose.length(), space.pointer(), space.length(), in.pointer(), in.length(),
-		C.uint64_t(now.Unix()), list.pointer(), list.length(), yes))
 }
 
 // ---- normal forms

@@ -3,6 +3,7 @@ package sshkey
 // #cgo !sshkey_installed CFLAGS: -I${SRCDIR}/../../../include
 // #cgo !sshkey_installed LDFLAGS: -L${SRCDIR}/../../../out -l:libsshkey.a
 // #cgo sshkey_installed pkg-config: sshkey
+// #include <stdlib.h>
 // #include "sshkey.h"
 import "C"
 
@@ -54,6 +55,45 @@ func (in digests) pointer() *C.sshkey_sha256 {
 
 func (in digests) count() C.size_t {
 	return C.size_t(len(in))
+}
+
+// held is copies in C's memory: what a call is given in a struct may not point to Go's.
+type held []unsafe.Pointer
+
+func (memory *held) free() {
+	for _, at := range *memory {
+		C.free(at)
+	}
+}
+
+func (memory *held) copied(data []byte) unsafe.Pointer {
+	at := C.CBytes(data)
+	*memory = append(*memory, at)
+	return at
+}
+
+func spanOf[T string | []byte](memory *held, data T) C.sshkey_span {
+	return C.sshkey_span{
+		bytes: (*C.uint8_t)(memory.copied([]byte(data))), length: C.size_t(len(data)),
+	}
+}
+
+func spansOf[T string | []byte](memory *held, all []T) C.sshkey_spans {
+	// zeros, since Go looks at a pointer before it writes another in its place
+	at := (*C.sshkey_span)(memory.copied(make([]byte, len(all)*C.sizeof_sshkey_span)))
+	for number, items := 0, unsafe.Slice(at, len(all)); number < len(all); number++ {
+		items[number] = spanOf(memory, all[number])
+	}
+	return C.sshkey_spans{items: at, count: C.size_t(len(all))}
+}
+
+func (memory *held) digests(fingerprints []SHA256) C.sshkey_digests {
+	var all []byte
+	for _, one := range fingerprints {
+		all = append(all, one[:]...)
+	}
+	at := (*C.sshkey_sha256)(memory.copied(all))
+	return C.sshkey_digests{items: at, count: C.size_t(len(fingerprints))}
 }
 
 func (digest *SHA256) pointer() *C.sshkey_sha256 {

@@ -3,39 +3,55 @@ package sshkey
 // #include "sshkey.h"
 import "C"
 
-// NoRevocations is the word of who asks no revocation file: a key revocation list (PROTOCOL.krl) that
-// revokes nothing. What is revoked is else what a file of sshd's RevokedKeys has: such a list, or
-// keys, one a line; a file of no bytes revokes nothing. A nil slice is no file that was read.
-var NoRevocations = append([]byte("SSHKRL\n\x00\x00\x00\x00\x01"), make([]byte, 32)...)
+import "unsafe"
 
-// RevokedKey tells whether a file of sshd's RevokedKeys revokes the key, given as its blob. It fails
-// with ErrUnreadableRevocations for a file that can't be read, as for nil, and else with a Status
-// for bytes that are no key, and with ErrMemory. Where it fails it answers true, so that false alone
-// lets in.
-func RevokedKey(revoked, key []byte) (bool, error) {
-	if revoked == nil {
-		return true, ErrUnreadableRevocations
+// NoRevocations is the word of who asks no revocation file: one file, a key revocation list
+// (PROTOCOL.krl) that revokes nothing. What is revoked is else what files of sshd's RevokedKeys
+// have: each such a list, or keys, one a line; a file of no bytes revokes nothing. A nil slice is
+// no file that was read.
+var NoRevocations = noRevocations()
+
+func noRevocations() [][]byte {
+	file := C.sshkey_no_revocations().items
+	return [][]byte{C.GoBytes(unsafe.Pointer(file.bytes), C.int(file.length))}
+}
+
+// filesOf is revocation files as a call takes them: none where one of them was not read, so that
+// the call answers ErrUnreadableRevocations.
+func filesOf(memory *held, revoked [][]byte) C.sshkey_spans {
+	for _, file := range revoked {
+		if file == nil {
+			revoked = nil
+		}
 	}
-	file, in := inputOf(revoked), inputOf(key)
-	return isRevoked(C.sshkey_revoked_key(file.pointer(), file.length(),
-		in.pointer(), in.length()))
+	return spansOf(memory, revoked)
+}
+
+// RevokedKey tells whether one of the files of sshd's RevokedKeys revokes the key, given as its
+// blob. It fails with ErrUnreadableRevocations where one can't be read, as nil, and where there is
+// none, with a Status for bytes that are no key, and with ErrMemory. Where it fails it answers
+// true, so that false alone lets in.
+func RevokedKey(revoked [][]byte, key []byte) (bool, error) {
+	var memory held
+	defer memory.free()
+	files, in := filesOf(&memory, revoked), inputOf(key)
+	return isRevoked(C.sshkey_revoked_key(files.items, files.count, in.pointer(), in.length()))
 }
 
 // RevokedCertificate tells the same of a certificate, given as its blob: as KRLRevokesCertificate
 // by a list, and by a text where it has its key or the key that signed it. It fails as RevokedKey
 // does.
-func RevokedCertificate(revoked, certificate []byte) (bool, error) {
-	if revoked == nil {
-		return true, ErrUnreadableRevocations
-	}
-	file, in := inputOf(revoked), inputOf(certificate)
-	return isRevoked(C.sshkey_revoked_certificate(file.pointer(), file.length(),
+func RevokedCertificate(revoked [][]byte, certificate []byte) (bool, error) {
+	var memory held
+	defer memory.free()
+	files, in := filesOf(&memory, revoked), inputOf(certificate)
+	return isRevoked(C.sshkey_revoked_certificate(files.items, files.count,
 		in.pointer(), in.length()))
 }
 
-// KRLRevokesKey tells whether a key revocation list (PROTOCOL.krl), as `ssh-keygen -k` makes it, has
-// the key, given as its blob, or its digest by SHA-1 or SHA-256. It fails with a Status for bytes
-// that are no list (an empty file is none, nor is a text of keys), or else no key, and with
+// KRLRevokesKey tells whether a key revocation list (PROTOCOL.krl), as `ssh-keygen -k` makes it,
+// has the key, given as its blob, or its digest by SHA-1 or SHA-256. It fails with a Status for
+// bytes that are no list (an empty file is none, nor is a text of keys), or else no key, and with
 // ErrMemory. Where it fails it answers true, so that false alone lets in.
 func KRLRevokesKey(krl, key []byte) (bool, error) {
 	list, in := inputOf(krl), inputOf(key)

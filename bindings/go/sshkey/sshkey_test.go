@@ -74,7 +74,7 @@ func TestValidateCertificate(t *testing.T) {
 		{"the last nanosecond", end.Add(-1), yes, nil},
 		{"the end", end, yes, sshkey.ErrOutOfWindow},
 		{"no time", time.Time{}, yes, sshkey.ErrInvalidTime},
-		{"no verifier", first, nil, sshkey.ErrNotSigned},
+		{"no verifier of the caller's", first, nil, nil},
 	} {
 		err := sshkey.ValidateCertificate(certificate, it.now, by, it.verify)
 		same(t, it.what, err, it.wanted)
@@ -129,8 +129,8 @@ func TestSecond(t *testing.T) {
 
 func TestStatus(t *testing.T) {
 	same(t, "name", sshkey.ErrNotSigned.Name(), "NOT_SIGNED")
-	same(t, "words", sshkey.ErrNotSigned.Error(), "sshkey: not signed (30)")
-	same(t, "no answer", sshkey.Status(200).Error(), "sshkey: no answer (200)")
+	same(t, "words", sshkey.ErrNotSigned.Error(), "not signed (30)")
+	same(t, "without words", sshkey.Status(200).Error(), "an answer without words (200)")
 }
 
 // What a call gives shares no bytes with what it was given, and appending to a part changes no

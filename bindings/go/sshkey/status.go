@@ -3,15 +3,12 @@ package sshkey
 // #include "sshkey.h"
 import "C"
 
-import (
-	"fmt"
-	"strings"
-)
+import "fmt"
 
 // Status is why a call refused what it was given, or could not answer. It is an error, and no call
 // gives one that says yes: what is done is nil. Compare with [errors.Is]. [errors.As] takes it out
-// to show its number; where that is false, as for a Refusal of package judge, the zero value that
-// is left says nothing: decide by err == nil alone.
+// to show its number; where that is false the zero value that is left says nothing: decide by
+// err == nil alone.
 type Status uint32
 
 // What is no answer on what was given.
@@ -25,8 +22,8 @@ const (
 	ErrText Status = C.SSHKEY_TEXT
 )
 
-// The bytes are no certificate, key, signature or revocation list, or the line is none: a fault that
-// they have. For logs: lines with one fault may fail with different ones.
+// The bytes are no certificate, key, signature or revocation list, or the line is none: a fault
+// that they have. For logs: lines with one fault may fail with different ones.
 const (
 	// ErrBase64 is for a word of a line that is no Base64, or not the one of its bytes.
 	ErrBase64 Status = C.SSHKEY_BASE64
@@ -61,8 +58,7 @@ const (
 	ErrRSASHA1 Status = C.SSHKEY_RSA_SHA1
 )
 
-// What is wrong first with a certificate that is not valid, and why nothing is asked of a
-// signature.
+// What is wrong first with a certificate that is not valid, and why a signature does not count.
 const (
 	// ErrNotSigned is for a certificate or a signature that the verifier did not take.
 	ErrNotSigned Status = C.SSHKEY_NOT_SIGNED
@@ -79,16 +75,53 @@ const (
 	// ErrSignerNotAllowed is for an SSH signature whose key no line lets sign for the identity, in
 	// the namespace and at the time.
 	ErrSignerNotAllowed Status = C.SSHKEY_SIGNER_NOT_ALLOWED
-	// ErrSignerRevoked is for one whose key is revoked.
-	ErrSignerRevoked Status = C.SSHKEY_SIGNER_REVOKED
+	// ErrRevoked is for one whose key a revocation file revokes, and for such a certificate.
+	ErrRevoked Status = C.SSHKEY_REVOKED
 	// ErrElsewhere is for a client's address that is none of those that are allowed.
 	ErrElsewhere Status = C.SSHKEY_ELSEWHERE
-	// ErrUnreadableRevocations is for a revocation file that can't be read, and so revokes all.
+	// ErrUnreadableRevocations is for a revocation file that can't be read, and so revokes all, and
+	// where there is none.
 	ErrUnreadableRevocations Status = C.SSHKEY_UNREADABLE_REVOCATIONS
 	// ErrKeyNotAccepted is for a kind or a size of key that OpenSSH does not let in.
 	ErrKeyNotAccepted Status = C.SSHKEY_KEY_NOT_ACCEPTED
 	// ErrOtherNamespace is for an SSH signature that is for another namespace.
 	ErrOtherNamespace Status = C.SSHKEY_OTHER_NAMESPACE
+)
+
+// A certificate lets nobody in, whoever signed it: the first of these, with ErrKeyNotAccepted after
+// ErrOtherKey.
+const (
+	// ErrNotNormalForm is for bytes that are not the certificate's normal form, and so not those that
+	// were signed.
+	ErrNotNormalForm Status = C.SSHKEY_NOT_NORMAL_FORM
+	// ErrOtherType is for one of a host where a user shows it, or of a user where a host does.
+	ErrOtherType Status = C.SSHKEY_OTHER_TYPE
+	// ErrOtherKey is for one of another key than the client's.
+	ErrOtherKey Status = C.SSHKEY_OTHER_KEY
+	// ErrCriticalOptions is for one with a critical option that is not known, or whose value sshd does
+	// not read.
+	ErrCriticalOptions Status = C.SSHKEY_CRITICAL_OPTIONS
+	// ErrExtensions is for one with data in an extension that is a flag, or with a zero byte in the
+	// name of an extension.
+	ErrExtensions Status = C.SSHKEY_EXTENSIONS
+	// ErrKeyID is for one with a zero byte in its key id.
+	ErrKeyID Status = C.SSHKEY_KEY_ID
+	// ErrValidPrincipals is for one that lists no principal, more than 256 or one with a zero byte,
+	// and for a user without a name.
+	ErrValidPrincipals Status = C.SSHKEY_VALID_PRINCIPALS
+)
+
+// A client's signature does not count: the first of these.
+const (
+	// ErrOtherRequest is for signed bytes that are not those of the request, or are for another
+	// service than ssh-connection.
+	ErrOtherRequest Status = C.SSHKEY_OTHER_REQUEST
+	// ErrOtherAlgorithm is for a request that names another algorithm than the signature's.
+	ErrOtherAlgorithm Status = C.SSHKEY_OTHER_ALGORITHM
+	// ErrUntouched is for a security key that nobody touched.
+	ErrUntouched Status = C.SSHKEY_UNTOUCHED
+	// ErrUnverified is for one that did not verify its user.
+	ErrUnverified Status = C.SSHKEY_UNVERIFIED
 )
 
 // A draft of a certificate contradicts itself.
@@ -101,7 +134,7 @@ const (
 
 // A host's key is not trusted: the first of these that holds.
 const (
-	// ErrHostRevoked is for a key that a line for the host revokes.
+	// ErrHostRevoked is for a key that a line for the host revokes, or a revocation file.
 	ErrHostRevoked Status = C.SSHKEY_HOST_REVOKED
 	// ErrHostUnreadable is for a text with a line that is no entry and may be one for the host.
 	ErrHostUnreadable Status = C.SSHKEY_HOST_UNREADABLE
@@ -116,8 +149,11 @@ func (status Status) Name() string {
 	return C.GoString(C.sshkey_answer_name(C.uint32_t(status)))
 }
 
-// Error is the name in words, and the number.
+// Error is what it means, in words, and the number.
 func (status Status) Error() string {
-	words := strings.ReplaceAll(strings.ToLower(status.Name()), "_", " ")
-	return fmt.Sprintf("sshkey: %s (%d)", words, uint32(status))
+	words, isKnown := meanings[status]
+	if !isKnown { // none that a call of this version gives
+		words = "an answer without words"
+	}
+	return fmt.Sprintf("%s (%d)", words, uint32(status))
 }

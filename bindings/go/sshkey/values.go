@@ -39,8 +39,8 @@ type Question struct {
 	Key, Message, Signature []byte
 }
 
-// Verifier says whether the signature of a question is one, and no to what is too weak to count:
-// judge.IsSignature is one. A nil Verifier is taken for one that always says no.
+// Verifier says whether the signature of a question is one, and no to what is too weak to count. A
+// nil Verifier is taken for IsSignature.
 type Verifier func(Question) bool
 
 // SHA256 is the SHA-256 fingerprint of a key. The zero value is that of no key.

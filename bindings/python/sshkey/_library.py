@@ -106,9 +106,10 @@ def ask(call: Callable[..., int], answer: Any, length: int) -> bytes:
     while True:
         room = (ctypes.c_uint8 * max(length, 1))()
         status = call(room, length, ctypes.byref(answer))
-        if status != Status.ROOM:
+        needed = answer.value if isinstance(answer, ctypes.c_size_t) else answer.length
+        if status != Status.ROOM or needed <= length:
             break
-        length = answer.value if isinstance(answer, ctypes.c_size_t) else answer.length
+        length = needed
     done(status)
     return bytes(room)
 

@@ -12,7 +12,7 @@ use crate::status::Status;
 /// Fails with [`Status::ELSEWHERE`] if it does not, with [`Status::FORMAT`] for a malformed list,
 /// which sshd refuses too, and with [`Status::TEXT`] for one that is not UTF-8.
 pub fn source_address_allows(list: impl AsRef<[u8]>, address: IpAddr) -> Result<(), Status> {
-    with_bytes(address, |bytes| raw::sshkey_source_address_allows(list.as_ref(), bytes))
+    Status::of(raw::sshkey_source_address_allows(list.as_ref(), &octets(Some(address))))
 }
 
 /// Whether the list, the value of the option `from` of a line of authorized_keys, lets a client in
@@ -29,13 +29,15 @@ pub fn from_allows(
     host: impl AsRef<[u8]>,
     address: IpAddr,
 ) -> Result<(), Status> {
-    with_bytes(address, |bytes| raw::sshkey_from_allows(list.as_ref(), host.as_ref(), bytes))
+    let (list, host) = (list.as_ref(), host.as_ref());
+    Status::of(raw::sshkey_from_allows(list, host, &octets(Some(address))))
 }
 
-/// What a call says of the bytes of the address.
-fn with_bytes(address: IpAddr, call: impl FnOnce(&[u8]) -> u32) -> Result<(), Status> {
-    Status::of(match address {
-        IpAddr::V4(it) => call(&it.octets()),
-        IpAddr::V6(it) => call(&it.octets()),
-    })
+/// The bytes of the address, 4 or 16; none if there is none.
+pub(crate) fn octets(address: Option<IpAddr>) -> Vec<u8> {
+    match address {
+        Some(IpAddr::V4(it)) => it.octets().to_vec(),
+        Some(IpAddr::V6(it)) => it.octets().to_vec(),
+        None => Vec::new(),
+    }
 }

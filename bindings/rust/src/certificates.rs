@@ -67,7 +67,7 @@ pub fn certificate_question(certificate: &[u8]) -> Result<Question, Status> {
 /// Fails with a number from 10 to 29 where the bytes are no certificate, with what is wrong first,
 /// from [`Status::NOT_SIGNED`] to [`Status::UNLISTED_PRINCIPAL`], with [`Status::TEXT`] for a
 /// principal that is not UTF-8, and with [`Status::MEMORY`]. Whether it is one for users, lists
-/// anybody at all, what its options ask, and whether it is revoked is yours to judge.
+/// anybody at all, what its options ask, and whether it is revoked is not asked here.
 pub fn validate_certificate(
     certificate: &[u8],
     unix_timestamp: u64,
@@ -91,8 +91,8 @@ pub fn validate_certificate(
 /// certificate of another authority, whose key may be one that the client made up: `verify` is not
 /// asked about it.
 ///
-/// A login asks more of a certificate, [`validate_user`](crate::validate_user), and so does a
-/// host's key, [`validate_host`](crate::validate_host).
+/// A login asks more of a certificate, [`log_in`](crate::log_in), and so does a host,
+/// [`check_host_certificate`](crate::check_host_certificate).
 pub fn judge_certificate(
     certificate: &[u8],
     unix_timestamp: u64,
@@ -100,23 +100,25 @@ pub fn judge_certificate(
     authorities: &[Sha256],
     verify: impl FnOnce(&Question) -> bool,
 ) -> Result<(), Status> {
-    judge_authority(certificate, authorities)?;
-    let is_verified = match certificate_question(certificate) {
-        Ok(question) => verify(&question),
-        Err(Status::MEMORY) => return Err(Status::MEMORY),
-        Err(_) => false,
-    };
-    validate_certificate(certificate, unix_timestamp, principal, authorities, is_verified)
-}
-
-/// Fails with [`Status::UNTRUSTED_AUTHORITY`] unless one of the authorities signed the certificate,
-/// or it says that one did.
-pub(crate) fn judge_authority(certificate: &[u8], authorities: &[Sha256]) -> Result<(), Status> {
     let signer = fingerprint(certificate_contents(certificate)?.authority)?;
     if !authorities.contains(&signer) {
         return Err(Status::UNTRUSTED_AUTHORITY);
     }
-    Ok(())
+    let is_verified = is_verified(certificate, verify)?;
+    validate_certificate(certificate, unix_timestamp, principal, authorities, is_verified)
+}
+
+/// Whether the certificate raises a question, to which the verifier says yes. Fails with a number
+/// from 10 to 29 where the bytes are none, and with [`Status::MEMORY`].
+pub(crate) fn is_verified(
+    certificate: &[u8],
+    verify: impl FnOnce(&Question) -> bool,
+) -> Result<bool, Status> {
+    match certificate_question(certificate) {
+        Ok(question) => Ok(verify(&question)),
+        Err(Status::UNSUPPORTED) => Ok(false),
+        Err(status) => Err(status),
+    }
 }
 
 /// What a policy asks of a certificate.
@@ -187,7 +189,7 @@ pub fn certificate_key(certificate: &[u8]) -> Result<Vec<u8>, Status> {
 }
 
 /// The text of these bytes. Fails with [`Status::CHARACTER_ENCODING`] where they are not UTF-8.
-fn text(bytes: &[u8]) -> Result<&str, Status> {
+pub(crate) fn text(bytes: &[u8]) -> Result<&str, Status> {
     str::from_utf8(bytes).map_err(|_| Status::CHARACTER_ENCODING)
 }
 

@@ -7,7 +7,7 @@ use crate::status::Status;
 
 /// A SHA-256 digest. Its text is that of a fingerprint, as ssh-keygen shows it.
 #[repr(C)]
-#[derive(Clone, Copy, Debug, PartialEq, Eq, PartialOrd, Ord, Hash)]
+#[derive(Clone, Copy, Debug, Default, PartialEq, Eq, PartialOrd, Ord, Hash)]
 pub struct Sha256 {
     /// The digest's bytes.
     pub bytes: [u8; 32],
@@ -24,7 +24,7 @@ pub struct Sha512 {
 /// The SHA-256 fingerprint of a key, given as its blob. Fails with a number from 10 to 29 where
 /// the bytes are no key, and with [`Status::MEMORY`].
 pub fn fingerprint(key: &[u8]) -> Result<Sha256, Status> {
-    let mut digest = Sha256 { bytes: [0; 32] };
+    let mut digest = Sha256::default();
     Status::of(raw::sshkey_fingerprint(key, &mut digest))?;
     Ok(digest)
 }

@@ -1,4 +1,4 @@
-//! Lines of authorized_keys and known_hosts, and what known_hosts says of a key.
+//! Lines of authorized_keys and known_hosts.
 
 use std::iter::FusedIterator;
 
@@ -95,8 +95,8 @@ pub struct KnownHost {
 }
 
 /// The entry of a line of known_hosts, as ssh reads it. Fails as [`authorized_entry`] does, also
-/// where the line may be a revocation: to judge the key of a host, ask [`host_verdict`] about the
-/// whole text.
+/// where the line may be a revocation: [`check_host_key`](crate::check_host_key) judges the key of
+/// a host by whole texts.
 pub fn known_host(line: &[u8]) -> Result<KnownHost, Status> {
     let (room, found) = ask(line.len(), |room, answer| raw::sshkey_known_host(line, room, answer))?;
     let markers = [Marker::None, Marker::CertAuthority, Marker::Revoked];
@@ -169,42 +169,3 @@ impl Iterator for EntryOptions<'_> {
 }
 
 impl FusedIterator for EntryOptions<'_> {}
-
-/// Whether a text of known_hosts trusts the key, given as its blob, for a host (a name or an
-/// address, without brackets) at a port. Fails with [`Status::HOST_REVOKED`],
-/// [`Status::HOST_UNREADABLE`], [`Status::HOST_CHANGED`] or [`Status::HOST_UNKNOWN`] for what it
-/// says else, with a number from 10 to 29 where the bytes are no key, with [`Status::TEXT`] where
-/// the text or the host is not UTF-8, and with [`Status::MEMORY`].
-///
-/// Ask it of each file before one is believed: the first of these counts that one of them says,
-/// [`Status::HOST_REVOKED`], [`Status::HOST_UNREADABLE`], `Ok`, [`Status::HOST_CHANGED`]. Where all
-/// say [`Status::HOST_UNKNOWN`] of a port other than 22, and only there, ssh(1) asks about port 22
-/// too. Of authorities nothing is said.
-pub fn host_verdict(
-    known_hosts: &[u8],
-    host: impl AsRef<[u8]>,
-    port: u16,
-    key: &[u8],
-) -> Result<(), Status> {
-    Status::of(raw::sshkey_host_verdict(known_hosts, host.as_ref(), port, key))
-}
-
-/// The same of the key of an authority that signed a certificate of the host: whether an entry
-/// `@cert-authority` for the host has it, and neither is it revoked nor a line that may be the
-/// host's unreadable. Fails as [`host_verdict`] does, never with [`Status::HOST_CHANGED`], and
-/// with [`Status::HOST_UNKNOWN`] where no such entry has it.
-///
-/// It is asked of each file, as [`host_verdict`] is, and alone it trusts no certificate: that has
-/// to be of type [`CertificateType::Host`](crate::CertificateType::Host), without critical options,
-/// valid ([`validate_certificate`](crate::validate_certificate)) for the host's name in small
-/// letters by the fingerprint of this key and no other, and of a key
-/// ([`certificate_key`](crate::certificate_key)) of which [`host_verdict`] says
-/// [`Status::HOST_REVOKED`] in no file. [`validate_host`](crate::validate_host) asks all of it.
-pub fn authority_verdict(
-    known_hosts: &[u8],
-    host: impl AsRef<[u8]>,
-    port: u16,
-    key: &[u8],
-) -> Result<(), Status> {
-    Status::of(raw::sshkey_authority_verdict(known_hosts, host.as_ref(), port, key))
-}

@@ -1,102 +1,97 @@
-//! Whether a certificate is that of a host.
+//! Whether the key or the certificate that a host shows is the host's, by known_hosts.
 
-use crate::certificates::{
-    certificate_contents, certificate_fields, certificate_key, judge_certificate, CertificateType,
-    Principal,
-};
-use crate::digests::fingerprint;
-use crate::files::{authority_verdict, host_verdict};
-use crate::logins::is_readable;
-use crate::questions::Question;
-use crate::refusal::Refusal;
-use crate::revocations::Revocations;
+use crate::certificates::is_verified;
+use crate::questions::{decide, Question};
+use crate::raw;
+use crate::rooms::spans;
 use crate::status::Status;
 
-/// A host that shows a certificate.
+/// A host that shows a key or a certificate, and what is known of it.
 #[derive(Clone, Copy, Debug)]
-pub struct Host<'a> {
-    /// The name that was asked for. A certificate has to list it in small letters, as ssh(1) asks.
-    pub name: &'a [u8],
-    /// Where it was asked.
-    pub port: u16,
-    /// When that is, in seconds since 1970.
-    pub unix_timestamp: u64,
+pub struct HostLogin<'a> {
     /// The texts of all the files of known_hosts that count, the user's and the machine's.
     pub known_hosts: &'a [&'a [u8]],
-    /// What is revoked, as ssh(1) asks by `RevokedHostKeys`.
-    pub revoked: Revocations<'a>,
+    /// The name or the address that was asked for, without brackets, in UTF-8.
+    pub host: &'a [u8],
+    /// Where it was asked.
+    pub port: u16,
+    /// The revocation files, as `RevokedHostKeys` of ssh_config(5) names them: any of them revokes.
+    /// [`NO_REVOCATIONS`](crate::NO_REVOCATIONS) where none is asked; an empty list refuses.
+    pub revoked: &'a [&'a [u8]],
+    /// When that is, in seconds since 1970. Of a plain key it is not asked.
+    pub unix_timestamp: u64,
+    /// How many bits an RSA key has at least (`RequiredRSASize`). Below 1,024, as 0, it is 1,024.
+    pub least_rsa_bits: u32,
 }
 
-/// The port about which ssh(1) asks too.
-const STANDARD_PORT: u16 = 22;
-
-/// What texts of known_hosts say: the first of these counts that one of them says.
-const VERDICTS: [Result<(), Status>; 5] = [
-    Err(Status::HOST_REVOKED),
-    Err(Status::HOST_UNREADABLE),
-    Ok(()),
-    Err(Status::HOST_CHANGED),
-    Err(Status::HOST_UNKNOWN),
-];
-
-/// What the texts say at that port of a key that the authority signed. Fails with
-/// [`Status::HOST_REVOKED`] where a line revokes one of the two, and else as [`authority_verdict`]
-/// does.
-fn signed_verdict(host: &Host<'_>, port: u16, key: &[u8], authority: &[u8]) -> Result<(), Status> {
-    let said = host.known_hosts.iter().flat_map(|text| {
-        let signer = authority_verdict(text, host.name, port, authority);
-        let own = match host_verdict(text, host.name, port, key) {
-            // that the certified key is listed, or another one is, counts for nothing
-            Ok(()) | Err(Status::HOST_CHANGED) => Err(Status::HOST_UNKNOWN),
-            other => other,
-        };
-        [signer, own]
-    });
-    // a fault has no place among the verdicts, which is less than each
-    said.min_by_key(|it| VERDICTS.iter().position(|verdict| verdict == it))
-        .unwrap_or(Err(Status::HOST_UNKNOWN))
+/// Accepts the key, given as its blob, if it is one that the host is known by, as ssh(1) does or
+/// more strictly.
+///
+/// Fails with a number from 10 to 29 where the bytes are no key, and else with what is wrong first:
+/// [`Status::HOST_REVOKED`], [`Status::UNREADABLE_REVOCATIONS`], [`Status::HOST_UNREADABLE`],
+/// [`Status::HOST_CHANGED`], [`Status::HOST_UNKNOWN`] or [`Status::KEY_NOT_ACCEPTED`]; with
+/// [`Status::TEXT`] where a text or the host is not UTF-8, and with [`Status::MEMORY`].
+///
+/// That the host has signed this session under the key is yours to ask.
+pub fn check_host_key(login: &HostLogin<'_>, key: &[u8]) -> Result<(), Status> {
+    with_raw(login, |asked| raw::sshkey_host_key_verdict(asked, key))
 }
 
-/// Whether the certificate, given as its blob, is that of the host, by an authority that the texts
-/// of known_hosts name as the host's. `verify` is your cryptography.
+/// Accepts the certificate, given as its blob, if it is the host's, as ssh(1) does or more
+/// strictly: one for hosts that lists the host's name in small letters, by an authority that
+/// known_hosts names for the host, valid then, and not revoked. `verify` is your cryptography; it
+/// is asked once, and only where nothing else is wrong.
 ///
-/// Fails with what is wrong first: with a number from 10 to 29 where the bytes are no certificate;
-/// with [`Refusal::Revoked`] or [`Status::UNREADABLE_REVOCATIONS`]; as [`authority_verdict`] does,
-/// and with [`Status::HOST_REVOKED`] where a line revokes the certified key; with
-/// [`Refusal::NotForHosts`]; with [`Refusal::UnmetOption`] for each critical option, since none is
-/// known for hosts; with [`Refusal::Unreadable`]; with [`Refusal::NobodyListed`] for one that lists
-/// no name; and as [`judge_certificate`] does.
+/// Fails with a number from 10 to 29 where the bytes are no certificate, and else with what is
+/// wrong first: [`Status::NOT_NORMAL_FORM`]; as [`check_host_key`] does, never with
+/// [`Status::HOST_CHANGED`]; with [`Status::OTHER_TYPE`], [`Status::CRITICAL_OPTIONS`],
+/// [`Status::KEY_ID`] or [`Status::VALID_PRINCIPALS`]; with 32 to 34, and with
+/// [`Status::NOT_SIGNED`] where `verify` says no.
 ///
-/// Whether the host holds the certified key is not looked at (docs/FOREIGN.md).
-pub fn validate_host(
+/// That the host has signed this session under the certified key
+/// ([`certificate_key`](crate::certificate_key)) is yours to ask.
+pub fn check_host_certificate(
+    login: &HostLogin<'_>,
     certificate: &[u8],
-    host: &Host<'_>,
     verify: impl FnOnce(&Question) -> bool,
-) -> Result<(), Refusal> {
-    let fields = certificate_fields(certificate)?;
-    let contents = certificate_contents(certificate)?;
-    let authority = contents.authority;
-    let key = certificate_key(certificate)?;
-    host.revoked.judge(certificate)?;
-    let mut verdict = signed_verdict(host, host.port, &key, authority);
-    if verdict == Err(Status::HOST_UNKNOWN) && host.port != STANDARD_PORT {
-        verdict = signed_verdict(host, STANDARD_PORT, &key, authority);
+) -> Result<(), Status> {
+    let verdict = |yes| {
+        with_raw(login, |asked| {
+            raw::sshkey_host_certificate_verdict(asked, certificate, u32::from(yes))
+        })
+    };
+    decide(verdict, || is_verified(certificate, verify))
+}
+
+/// What a call says of the login.
+fn with_raw(
+    login: &HostLogin<'_>,
+    call: impl FnOnce(&raw::HostLogin<'_>) -> u32,
+) -> Result<(), Status> {
+    let (known_hosts, revoked) = (spans(login.known_hosts), spans(login.revoked));
+    Status::of(call(&raw::HostLogin {
+        known_hosts: known_hosts.as_slice().into(),
+        host: login.host.into(),
+        revoked: revoked.as_slice().into(),
+        unix_timestamp: login.unix_timestamp,
+        least_rsa_bits: login.least_rsa_bits,
+        port: login.port,
+    }))
+}
+
+/// The number, from 1 on, of the first line of a text of known_hosts for which a host is answered
+/// with [`Status::HOST_UNREADABLE`]; none if there is no such line. Fails with [`Status::TEXT`]
+/// where the text or the host is not UTF-8.
+pub fn unreadable_host_line(
+    known_hosts: &[u8],
+    host: impl AsRef<[u8]>,
+    port: u16,
+) -> Result<Option<usize>, Status> {
+    let mut number = 0;
+    let host = host.as_ref();
+    match Status::of(raw::sshkey_unreadable_host_line(known_hosts, host, port, &mut number)) {
+        Ok(()) => Ok(Some(number)),
+        Err(Status::END) => Ok(None),
+        Err(status) => Err(status),
     }
-    verdict?;
-    if fields.certificate_type != CertificateType::Host {
-        return Err(Refusal::NotForHosts);
-    }
-    if fields.has_critical_options {
-        return Err(Refusal::UnmetOption);
-    }
-    if !is_readable(&contents, &key)? {
-        return Err(Refusal::Unreadable);
-    }
-    if !fields.lists_principals {
-        // it would be for each host of its authority
-        return Err(Refusal::NobodyListed);
-    }
-    let (second, name) = (host.unix_timestamp, host.name.to_ascii_lowercase());
-    let signer = fingerprint(authority)?;
-    Ok(judge_certificate(certificate, second, Principal::Named(&name), &[signer], verify)?)
 }

@@ -23,10 +23,15 @@ pub fn read_line(line: impl AsRef<[u8]>) -> Result<Line, Status> {
     let line = line.as_ref();
     let (room, found) = ask(line.len(), |room, answer| raw::sshkey_read_line(line, room, answer))?;
     let comment = String::from_utf8(found.comment.of(&room).to_vec());
+    let is_certificate = match found.kind {
+        raw::LINE_KEY => false,
+        raw::LINE_CERTIFICATE => true,
+        _ => return Err(Status::OTHER_FAULT),
+    };
     Ok(Line {
         blob: found.blob.of(&room).to_vec(),
         comment: comment.map_err(|_| Status::CHARACTER_ENCODING)?,
-        is_certificate: found.kind == raw::LINE_CERTIFICATE,
+        is_certificate,
     })
 }
 
@@ -35,10 +40,8 @@ pub fn read_line(line: impl AsRef<[u8]>) -> Result<Line, Status> {
 /// 10 to 29 where they are none, with [`Status::UNSUPPORTED`] where they do not go together, and
 /// with [`Status::MEMORY`].
 ///
-/// Of a key whose blob begins with a name `sk-..@openssh.com`, and of no other, byte 32 of the
-/// message is the device's flags: refuse a login where nobody touched it (0x01), unless the
-/// certificate or the line has `no-touch-required` and no `touch-required` after it, and one that
-/// it has not verified (0x04) where `verify-required` asks for that.
+/// Of a login [`UserauthRequest::check`](crate::UserauthRequest::check) asks it, and the flags of a
+/// security key, which are looked at there alone.
 pub fn signature_question(
     key: &[u8],
     message: &[u8],

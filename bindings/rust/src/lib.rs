@@ -2,10 +2,11 @@
 //! the proved library that include/sshkey.h declares. This crate is tested, and not proved.
 //!
 //! Cryptography is yours: a call tells the question that has to be verified, and a function of
-//! yours answers it.
+//! yours answers it. With the feature `libcrypto` the crate has one that asks OpenSSL's library,
+//! `sshkey::is_signature`.
 //!
 //! ```
-//! use sshkey::{Login, Question, Refusal, Revocations, Sha256, Status};
+//! use sshkey::{Grant, Login, Question, Sha256, Status, NO_REVOCATIONS};
 //!
 //! /// Whether the signature is one of the message under the key, by your library.
 //! fn is_signature(question: &Question) -> bool {
@@ -13,16 +14,24 @@
 //!     false
 //! }
 //!
-//! /// Whether the line of a certificate logs in alice, who has proved that she holds the key.
-//! fn judge(
-//!     line: &str, key: &[u8], unix_timestamp: u64, authorities: &[Sha256], revoked: &[u8],
-//! ) -> Result<(), Refusal> {
+//! /// Logs alice in by the line of a certificate, if she has signed this session under the key.
+//! fn log_in(
+//!     line: &str, key: &[u8], unix_timestamp: u64, authorities: &[Sha256],
+//! ) -> Result<Grant, Status> {
 //!     let certificate = sshkey::read_line(line)?.blob;
-//!     let revoked = Revocations::File(revoked); // what that of sshd's RevokedKeys has
-//!     let login = Login { user: b"alice", key, unix_timestamp, authorities, revoked };
-//!     sshkey::validate_user(&certificate, &login, is_signature, |_name, _value| false)
+//!     let login = Login {
+//!         certificate: &certificate,
+//!         user: b"alice",
+//!         key,
+//!         client: None, // the address of the socket
+//!         unix_timestamp,
+//!         authorities,
+//!         revoked: NO_REVOCATIONS, // or what the files of sshd's RevokedKeys have
+//!         least_rsa_bits: 0,
+//!     };
+//!     sshkey::log_in(&login, is_signature)
 //! }
-//! # assert_eq!(judge("ssh-ed25519", &[], 0, &[], &[]), Err(Refusal::Invalid(Status::LENGTH)));
+//! # assert_eq!(log_in("ssh-ed25519", &[], 0, &[]), Err(Status::LENGTH));
 //! ```
 //!
 //! The library is libsshkey.a of the folder that SSHKEY_LIB_DIR names when this crate is built, or
@@ -37,6 +46,7 @@
 #![deny(missing_docs)]
 
 mod addresses;
+mod authorities;
 mod calling;
 mod certificates;
 mod digests;
@@ -44,18 +54,22 @@ mod drafts;
 mod files;
 mod hosts;
 mod keys;
+#[cfg(feature = "libcrypto")]
+mod libcrypto;
 mod logins;
+mod permits;
 mod questions;
-pub mod raw;
-mod refusal;
+mod raw;
 mod revocations;
 mod rooms;
 mod signers;
 mod sshsigs;
 mod status;
 mod strings;
+mod userauth;
 
 pub use addresses::{from_allows, source_address_allows};
+pub use authorities::{authorities, is_other_key_line, Authorities, NoKey};
 pub use certificates::{
     certificate_contents, certificate_fields, certificate_key, certificate_options,
     certificate_question, judge_certificate, validate_certificate, CertificateContents,
@@ -65,20 +79,22 @@ pub use certificates::{
 pub use digests::{fingerprint, fingerprint_sha512, Sha256, Sha512};
 pub use drafts::{certificate_to_be_signed, join_certificate, make_certificate, Draft, Listed};
 pub use files::{
-    authority_verdict, authorized_entry, entry_lines, entry_options, host_verdict, known_host,
-    AuthorizedEntry, EntryLines, EntryOption, EntryOptions, KnownHost, Marker,
+    authorized_entry, entry_lines, entry_options, known_host, AuthorizedEntry, EntryLines,
+    EntryOption, EntryOptions, KnownHost, Marker,
 };
-pub use hosts::{validate_host, Host};
+pub use hosts::{check_host_certificate, check_host_key, unreadable_host_line, HostLogin};
 pub use keys::{
     normal_certificate, normal_key, normal_signature, normal_sshsig, read_line, signature_question,
     Line,
 };
-pub use logins::{validate_user, Login};
+#[cfg(feature = "libcrypto")]
+pub use libcrypto::is_signature;
+pub use logins::{log_in, Grant, Login};
+pub use permits::Permits;
 pub use questions::{Algorithm, Question};
 pub use raw::FOREVER;
-pub use refusal::Refusal;
 pub use revocations::{
-    krl_revokes_certificate, krl_revokes_key, revoked_certificate, revoked_key, Revocations,
+    krl_revokes_certificate, krl_revokes_key, revoked_certificate, revoked_key, NO_REVOCATIONS,
 };
 pub use signers::{judge_signer_of_digest, signer_verdict, Signers};
 pub use sshsigs::{
@@ -87,3 +103,4 @@ pub use sshsigs::{
 };
 pub use status::Status;
 pub use strings::{string, strings, Strings};
+pub use userauth::{grant_flags, UserauthRequest};

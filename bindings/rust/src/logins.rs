@@ -1,148 +1,96 @@
-//! Whether a certificate logs a user in.
+//! Whether a certificate logs a user in, and what the login is bound to.
 
-use crate::certificates::{
-    certificate_contents, certificate_fields, certificate_key, judge_authority, judge_certificate,
-    CertificateContents, CertificateType, Principal,
-};
+use std::net::IpAddr;
+
+use crate::addresses::octets;
+use crate::certificates::{is_verified, text};
 use crate::digests::Sha256;
-use crate::keys::normal_key;
-use crate::questions::Question;
-use crate::refusal::Refusal;
-use crate::revocations::Revocations;
+use crate::permits::Permits;
+use crate::questions::{decide, Question};
+use crate::raw;
+use crate::rooms::{ask, spans};
 use crate::status::Status;
-use crate::strings::strings;
-
-/// The extensions in which nothing may stand (PROTOCOL.certkeys).
-const FLAGS: [&str; 6] = [
-    "no-touch-required",
-    "permit-X11-forwarding",
-    "permit-agent-forwarding",
-    "permit-port-forwarding",
-    "permit-pty",
-    "permit-user-rc",
-];
-
-/// The types of security keys, whose last string is the application (PROTOCOL.u2f).
-const SECURITY_KEYS: [&[u8]; 2] =
-    [b"sk-ssh-ed25519@openssh.com", b"sk-ecdsa-sha2-nistp256@openssh.com"];
-
-/// How many principals OpenSSH reads.
-const MOST_PRINCIPALS: usize = 256;
 
 /// A login by a certificate.
 #[derive(Clone, Copy, Debug)]
 pub struct Login<'a> {
-    /// Whom the client wants to be. The empty name is nobody, also where a certificate lists it.
+    /// The certificate's blob, as the client sent it.
+    pub certificate: &'a [u8],
+    /// Whom the client wants to be, in UTF-8. The empty name is nobody, also where a certificate
+    /// lists it.
     pub user: &'a [u8],
-    /// The blob of the key that the client has proved to hold.
+    /// The blob of the key under which the client has signed.
     pub key: &'a [u8],
+    /// The address of the client's socket, and no header of a proxy's. Without one, a certificate
+    /// with `source-address` lets nobody in.
+    pub client: Option<IpAddr>,
     /// When that is, in seconds since 1970.
     pub unix_timestamp: u64,
-    /// Who may certify users, by the fingerprints of their keys.
+    /// Who may sign logins, by the fingerprints of their keys.
     pub authorities: &'a [Sha256],
-    /// What is revoked.
-    pub revoked: Revocations<'a>,
+    /// The revocation files, as `RevokedKeys` of sshd_config(5) names them: any of them revokes.
+    /// [`NO_REVOCATIONS`](crate::NO_REVOCATIONS) where none is asked; an empty list refuses.
+    pub revoked: &'a [&'a [u8]],
+    /// How many bits an RSA key has at least (`RequiredRSASize`). Below 1,024, as 0, it is 1,024.
+    pub least_rsa_bits: u32,
 }
 
-/// Whether the certificate, given as its blob, logs the user in. `verify` is your cryptography, and
-/// `is_met` says of a critical option, by its name and value, whether it is known and met at this
-/// login. It is asked of no `force-command` or `source-address` that is empty or has a zero byte,
-/// and of no `verify-required` with a value: such a one is never met. Let it say no to a
-/// `source-address` that is no list of networks.
+/// What a login is bound to, and what it may do.
+#[derive(Clone, Debug, PartialEq, Eq)]
+#[must_use = "a login is bound to what its grant says"]
+pub struct Grant {
+    /// The one command that may run, whatever the client asks for. Where there is none, the client
+    /// has the command that it asks for, or a shell ([`Permits::ANY_COMMAND`]).
+    pub force_command: Option<String>,
+    /// What the login may do, and what its signature by a security key may lack.
+    pub permits: Permits,
+    /// The certificate's serial number, by which it can be revoked; 0 is none.
+    pub serial: u64,
+    /// A text of the authority's, for logs, where its line ends have to be escaped.
+    pub key_id: String,
+    /// The fingerprint of the authority's key.
+    pub authority: Sha256,
+}
+
+/// Lets the user in whom the certificate names, as sshd(8) does or more strictly: the certificate
+/// is one for users, of that key and by an authority, valid then and there, and not revoked.
+/// `verify` is your cryptography; it is asked once, and only where nothing else is wrong.
 ///
-/// Fails with what is wrong first: as [`judge_certificate`] does, which may be [`Status::MEMORY`];
-/// with [`Refusal::Revoked`] or [`Status::UNREADABLE_REVOCATIONS`], which are asked after the authority and
-/// before `verify`; with [`Refusal::NotForUsers`], [`Refusal::NobodyListed`], [`Refusal::UnmetOption`],
-/// [`Refusal::FlagData`] and [`Refusal::Unreadable`]; and with [`Refusal::OtherKey`], or as
-/// [`normal_key`] does, where the key is not the certificate's own.
+/// Fails with the first of these: [`Status::TEXT`]; a number from 10 to 29 where the key's bytes
+/// are no key, or else the certificate's are none; 70 to 76, with [`Status::KEY_NOT_ACCEPTED`]
+/// after 72; [`Status::UNTRUSTED_AUTHORITY`]; [`Status::UNREADABLE_REVOCATIONS`] or
+/// [`Status::REVOKED`]; 32 to 34, and [`Status::NOT_SIGNED`] where `verify` says no;
+/// [`Status::ELSEWHERE`]. Else it fails only with [`Status::MEMORY`].
 ///
-/// Whether somebody touched a security key, and what its extensions say is not looked at
-/// (docs/FOREIGN.md).
-pub fn validate_user(
-    certificate: &[u8],
-    login: &Login<'_>,
-    verify: impl FnOnce(&Question) -> bool,
-    is_met: impl Fn(&str, &str) -> bool,
-) -> Result<(), Refusal> {
-    if login.user.is_empty() {
-        return Err(Refusal::Invalid(Status::UNLISTED_PRINCIPAL));
-    }
-    let (second, user) = (login.unix_timestamp, Principal::Named(login.user));
-    judge_authority(certificate, login.authorities)?;
-    login.revoked.judge(certificate)?;
-    judge_certificate(certificate, second, user, login.authorities, verify)?;
-    let fields = certificate_fields(certificate)?;
-    let contents = certificate_contents(certificate)?;
-    if fields.certificate_type != CertificateType::User {
-        return Err(Refusal::NotForUsers);
-    }
-    if !fields.lists_principals {
-        // it would be for everybody
-        return Err(Refusal::NobodyListed);
-    }
-    judge_options(&contents, is_met)?;
-    let key = certificate_key(certificate)?;
-    if !is_readable(&contents, &key)? {
-        return Err(Refusal::Unreadable);
-    }
-    if normal_key(login.key)? != key {
-        return Err(Refusal::OtherKey);
-    }
-    Ok(())
+/// That the client signed this session under the key asks
+/// [`UserauthRequest::check`](crate::UserauthRequest::check).
+pub fn log_in(login: &Login<'_>, verify: impl FnOnce(&Question) -> bool) -> Result<Grant, Status> {
+    decide(|yes| verdict(login, yes), || is_verified(login.certificate, verify))
 }
 
-/// Fails with [`Refusal::UnmetOption`] unless each critical option is met, with
-/// [`Refusal::FlagData`] unless nothing stands in the extensions that are flags, and with
-/// [`Refusal::Unreadable`] where a byte 0 is in the name of one.
-fn judge_options(
-    contents: &CertificateContents<'_>,
-    is_met: impl Fn(&str, &str) -> bool,
-) -> Result<(), Refusal> {
-    for option in contents.critical_options.clone() {
-        let option = option?;
-        if !is_value(option.name, option.value) || !is_met(option.name, option.value) {
-            return Err(Refusal::UnmetOption);
-        }
-    }
-    for extension in contents.extensions.clone() {
-        let extension = extension?;
-        if FLAGS.contains(&extension.name) && !extension.value.is_empty() {
-            return Err(Refusal::FlagData);
-        }
-    }
-    for extension in contents.extensions.clone() {
-        if extension?.name.contains('\0') {
-            return Err(Refusal::Unreadable);
-        }
-    }
-    Ok(())
-}
-
-/// Whether the critical option may have the value: nothing stands in `verify-required`, while a
-/// command and addresses have some bytes, none of them 0. Of other names it says nothing.
-fn is_value(name: &str, value: &str) -> bool {
-    match name {
-        "force-command" | "source-address" => !value.is_empty() && !value.contains('\0'),
-        "verify-required" => value.is_empty(),
-        _ => true,
-    }
-}
-
-/// Whether OpenSSH reads the principals and the texts of a certificate of that key: it reads up to
-/// 256 of these, and no byte 0 within one, in the key id or in the application of a security key.
-pub(crate) fn is_readable(contents: &CertificateContents<'_>, key: &[u8]) -> Result<bool, Status> {
-    let mut is_read = !contents.key_id.contains('\0') && has_read_application(key)?;
-    for (at, principal) in contents.principals.clone().enumerate() {
-        is_read &= at < MOST_PRINCIPALS && !principal?.contains('\0');
-    }
-    Ok(is_read)
-}
-
-/// Whether no byte 0 is in the application, if the key is a security key's.
-fn has_read_application(key: &[u8]) -> Result<bool, Status> {
-    let parts = strings(key).collect::<Result<Vec<_>, Status>>()?;
-    Ok(match parts[..] {
-        [name, .., application] if SECURITY_KEYS.contains(&name) => !application.contains(&0),
-        _ => true,
+/// What the library says of the login, where the verification says yes or no.
+fn verdict(login: &Login<'_>, is_verified: bool) -> Result<Grant, Status> {
+    let (client, revoked) = (octets(login.client), spans(login.revoked));
+    let asked = raw::Login {
+        certificate: login.certificate.into(),
+        user: login.user.into(),
+        key: login.key.into(),
+        client: client.as_slice().into(),
+        authorities: login.authorities.into(),
+        revoked: revoked.as_slice().into(),
+        unix_timestamp: login.unix_timestamp,
+        least_rsa_bits: login.least_rsa_bits,
+    };
+    let (room, found) = ask(login.certificate.len(), |room, answer| {
+        raw::sshkey_login_verdict(&asked, u32::from(is_verified), room, answer)
+    })?;
+    let permits = Permits::from_bits(found.permits);
+    let command = text(found.force_command.of(&room))?;
+    Ok(Grant {
+        force_command: (!permits.contains(Permits::ANY_COMMAND)).then(|| command.into()),
+        permits,
+        serial: found.serial,
+        key_id: text(found.key_id.of(&room))?.into(),
+        authority: found.authority,
     })
 }

@@ -83,9 +83,24 @@ impl Question {
         self.answer.signature.of(&self.room)
     }
 
-    /// The struct of sshkey.h, and the room in which its parts stand, for a verifier in C.
-    #[must_use]
-    pub fn as_raw(&self) -> (&raw::Question, &[u8]) {
-        (&self.answer, &self.room)
+    /// Fails with [`Status::NOT_SIGNED`] where the verifier says no.
+    pub(crate) fn check(&self, verify: impl FnOnce(&Question) -> bool) -> Result<(), Status> {
+        if verify(self) {
+            Ok(())
+        } else {
+            Err(Status::NOT_SIGNED)
+        }
+    }
+}
+
+/// What the library says once it is told whether a verification says yes. It is asked first as if
+/// that said no, and the verification is made only where nothing else is wrong.
+pub(crate) fn decide<T>(
+    verdict: impl Fn(bool) -> Result<T, Status>,
+    is_verified: impl FnOnce() -> Result<bool, Status>,
+) -> Result<T, Status> {
+    match verdict(false) {
+        Err(Status::NOT_SIGNED) => verdict(is_verified()?),
+        said => said,
     }
 }

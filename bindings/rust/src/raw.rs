@@ -204,21 +204,21 @@ pub(crate) type Spans<'a> = Slice<'a, Span<'a>>;
 /// A part of a room, or of other bytes: where it begins, and how many bytes it has.
 #[repr(C)]
 #[derive(Clone, Copy, Debug, Default)]
-pub struct Part {
+pub(crate) struct Part {
     /// The place of its first byte.
     pub start: usize,
     /// The number of its bytes.
     pub length: usize,
 }
 
-/// `count` fingerprints of keys; no null pointer, also where the count is 0.
+/// SHA-256 fingerprints of keys that a call reads: `count` of them, at no null pointer.
 pub(crate) type Digests<'a> = Slice<'a, Sha256>;
 
 /// What has to be verified: that `signature` is one of `message` under `key`, made as `algorithm`
 /// says.
 #[repr(C)]
 #[derive(Clone, Copy, Debug, Default)]
-pub struct Question {
+pub(crate) struct Question {
     /// Its blob.
     pub key: Part,
     /// What is signed.
@@ -410,18 +410,20 @@ pub(crate) struct EntryOptionParts {
     pub has_value: u32,
 }
 
-/// A host that shows a key or a certificate, and whom the client trusts.
+/// The host that a client connects to, and what is known of it.
 #[repr(C)]
 #[derive(Clone, Copy, Debug, Default)]
 pub(crate) struct HostLogin<'a> {
-    /// The texts of all the files that count.
+    /// The texts of all the files that count: one file alone may list a key that another one
+    /// revokes.
     pub known_hosts: Spans<'a>,
+    /// The name or address that was asked for, without brackets; UTF-8.
     pub host: Span<'a>,
-    /// Revocation files, as of a login (RevokedHostKeys).
+    /// Revocation files (RevokedHostKeys), each a list or keys as text: any of them revokes.
     pub revoked: Spans<'a>,
     /// Asked of certificates alone.
     pub unix_timestamp: u64,
-    /// As of a login.
+    /// As RequiredRSASize; below 1,024, as 0, it is 1,024.
     pub least_rsa_bits: u32,
     pub port: u16,
 }
@@ -441,9 +443,9 @@ const _: () = assert!(size_of::<Spans>() == 16);
 const _: () = assert!(size_of::<Digests>() == 16);
 const _: () = assert!(size_of::<Login>() == 112);
 const _: () = assert!(size_of::<Grant>() == 88);
-const _: () = assert!(size_of::<HostLogin>() == 64);
 const _: () = assert!(size_of::<Draft>() == 144);
 const _: () = assert!(size_of::<Userauth>() == 104);
+const _: () = assert!(size_of::<HostLogin>() == 64);
 const _: () = assert!(size_of::<Entry>() == 64);
 const _: () = assert!(size_of::<EntryOptionParts>() == 48);
 
@@ -479,9 +481,6 @@ calls! {
     fn sshkey_signature_question(
         key: &[u8], message: &[u8], signature: &[u8], room: &mut [u8], answer: &mut Question
     );
-    fn sshkey_login_verdict(
-        login: &Login<'_>, is_verified: u32, room: &mut [u8], answer: &mut Grant
-    );
     fn sshkey_userauth_question(request: &Userauth<'_>, room: &mut [u8], answer: &mut Question);
     fn sshkey_userauth_question_of(
         request: &Userauth<'_>, signed_bytes: &[u8], room: &mut [u8], answer: &mut Question
@@ -516,8 +515,6 @@ calls! {
     );
     fn sshkey_host_key_verdict(login: &HostLogin<'_>, key: &[u8]);
     fn sshkey_host_certificate_verdict(login: &HostLogin<'_>, certificate: &[u8], is_verified: u32);
-    fn sshkey_unreadable_host_line(known_hosts: &[u8], host: &[u8], port: u16, number: &mut usize);
-    fn sshkey_is_other_key_line(line: &[u8]);
     fn sshkey_source_address_allows(list: &[u8], address: &[u8]);
     fn sshkey_from_allows(list: &[u8], host: &[u8], address: &[u8]);
 }

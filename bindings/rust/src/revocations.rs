@@ -1,55 +1,30 @@
 //! Revocation files and key revocation lists.
 
 use crate::raw;
-use crate::refusal::Refusal;
+use crate::rooms::spans;
 use crate::status::Status;
 
-/// What is revoked.
-#[derive(Clone, Copy, Debug)]
-pub enum Revocations<'a> {
-    /// Nothing: the word of who asks no revocation file.
-    Nothing,
-    /// What a file of sshd's `RevokedKeys` that has these bytes revokes: a key revocation list
-    /// (PROTOCOL.krl), as `ssh-keygen -k` makes it, or keys, one a line. One of no bytes revokes
-    /// nothing, and one that cannot be read everything: do not pass an empty slice for a file that
-    /// could not be opened.
-    File(&'a [u8]),
-}
+/// That no revocation file is asked: one file, the key revocation list of nothing (PROTOCOL.krl).
+/// No files, as an empty slice, are none that were read: by them everything is refused.
+pub const NO_REVOCATIONS: &[&[u8]] = &[
+    // the magic number and the version; the list's number, date, flags, reserved bytes and comment
+    b"SSHKRL\n\0\0\0\0\x01\
+      \0\0\0\0\0\0\0\0\0\0\0\0\0\0\0\0\0\0\0\0\0\0\0\0\0\0\0\0\0\0\0\0",
+];
 
-impl<'a> Revocations<'a> {
-    /// The bytes of a file that revokes the same.
-    pub(crate) fn file(self) -> &'a [u8] {
-        match self {
-            Revocations::Nothing => &[],
-            Revocations::File(bytes) => bytes,
-        }
-    }
-
-    /// Fails with [`Refusal::Revoked`] where the certificate, which the caller has read, is revoked,
-    /// with [`Status::UNREADABLE_REVOCATIONS`] where the file cannot be read, and with
-    /// [`Status::MEMORY`].
-    pub(crate) fn judge(self, certificate: &[u8]) -> Result<(), Refusal> {
-        match revoked_certificate(self.file(), certificate) {
-            Ok(false) => Ok(()),
-            Ok(true) => Err(Refusal::Revoked),
-            Err(Status::MEMORY) => Err(Refusal::Invalid(Status::MEMORY)),
-            Err(_) => Err(Refusal::Invalid(Status::UNREADABLE_REVOCATIONS)),
-        }
-    }
-}
-
-/// Whether a file of sshd's `RevokedKeys` revokes the key, given as its blob: a key revocation list,
-/// as [`krl_revokes_key`] asks it, or keys, one a line. A file of no bytes revokes nothing. Let in
-/// for `Ok(false)` alone. Fails with [`Status::UNREADABLE_REVOCATIONS`] where the file cannot be
+/// Whether one of the files of sshd's `RevokedKeys` revokes the key, given as its blob. Each file
+/// is a key revocation list, as [`krl_revokes_key`] asks it, or has keys, one a line; one of no
+/// bytes revokes nothing: do not pass it for a file that could not be opened. Let in for `Ok(false)`
+/// alone. Fails with [`Status::UNREADABLE_REVOCATIONS`] where there is no file, or one cannot be
 /// read, else with a number from 10 to 29 where the bytes are no key, and with [`Status::MEMORY`].
-pub fn revoked_key(revoked: &[u8], key: &[u8]) -> Result<bool, Status> {
-    is_revoked(raw::sshkey_revoked_key(revoked, key))
+pub fn revoked_key(revoked: &[&[u8]], key: &[u8]) -> Result<bool, Status> {
+    is_revoked(raw::sshkey_revoked_key(&spans(revoked), key))
 }
 
 /// The same of a certificate, given as its blob: as [`krl_revokes_certificate`] asks a list, and of
 /// a text whether it has its key or the key that signed it. Fails as [`revoked_key`] does.
-pub fn revoked_certificate(revoked: &[u8], certificate: &[u8]) -> Result<bool, Status> {
-    is_revoked(raw::sshkey_revoked_certificate(revoked, certificate))
+pub fn revoked_certificate(revoked: &[&[u8]], certificate: &[u8]) -> Result<bool, Status> {
+    is_revoked(raw::sshkey_revoked_certificate(&spans(revoked), certificate))
 }
 
 /// Whether a key revocation list (PROTOCOL.krl), as `ssh-keygen -k` makes it, has the key, given as

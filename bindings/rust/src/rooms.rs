@@ -1,4 +1,4 @@
-//! How a call is given a room.
+//! How a call is given a room, and lists of bytes.
 
 use crate::raw;
 use crate::status::Status;
@@ -26,7 +26,12 @@ macro_rules! answers {
     };
 }
 
-answers! { Question Line Entry EntryOptionParts }
+answers! { Question Line Entry EntryOptionParts Grant }
+
+/// The byte strings of a list, as a call takes them.
+pub(crate) fn spans<'a>(list: &[&'a [u8]]) -> Vec<raw::Span<'a>> {
+    list.iter().map(|it| raw::Span::from(*it)).collect()
+}
 
 /// A room of that length. Fails with [`Status::MEMORY`].
 fn room_of(length: usize) -> Result<Vec<u8>, Status> {

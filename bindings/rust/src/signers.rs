@@ -1,10 +1,9 @@
 //! Whether an SSH signature counts, by a text of allowed signers.
 
-use crate::questions::Question;
+use crate::questions::{decide, Question};
 use crate::raw;
-use crate::refusal::Refusal;
-use crate::revocations::Revocations;
-use crate::sshsigs::judge_any_of_digest;
+use crate::rooms::spans;
+use crate::sshsigs::sshsig_question_of_digest;
 use crate::status::Status;
 
 /// By whom a signature has to be, as `ssh-keygen -Y verify` asks, or more strictly: a time without
@@ -17,30 +16,27 @@ pub struct Signers<'a> {
     pub identity: &'a [u8],
     /// When the key has to be allowed, in seconds since 1970.
     pub unix_timestamp: u64,
-    /// What is revoked, as `ssh-keygen -Y verify -r` asks.
-    pub revoked: Revocations<'a>,
+    /// The revocation files, as `ssh-keygen -Y verify -r` asks one: any of them revokes.
+    /// [`NO_REVOCATIONS`](crate::NO_REVOCATIONS) where none is asked; an empty list refuses.
+    pub revoked: &'a [&'a [u8]],
 }
 
 /// Whether an SSH signature (what stands in its armour, Base64 decoded), of a message with that
 /// digest and in that namespace, counts as the identity's by the allowed signers. `verify` is your
 /// cryptography, which is not asked about a key that may not sign.
 ///
-/// Fails as [`signer_verdict`] does, and as
-/// [`judge_sshsig_of_digest`](crate::judge_sshsig_of_digest) does of a key that may sign.
+/// Fails as [`signer_verdict`] does, and as [`sshsig_question_of_digest`] does of a key that may
+/// sign.
 pub fn judge_signer_of_digest(
     signature: &[u8],
     namespace: impl AsRef<[u8]>,
     digest: &[u8],
     by: &Signers<'_>,
     verify: impl FnOnce(&Question) -> bool,
-) -> Result<(), Refusal> {
+) -> Result<(), Status> {
     let namespace = namespace.as_ref();
-    match signer_verdict(signature, namespace, by, false) {
-        Err(Status::NOT_SIGNED) => {}
-        said => return Ok(said?),
-    }
-    judge_any_of_digest(signature, namespace, digest, verify)?;
-    Ok(signer_verdict(signature, namespace, by, true)?)
+    let verdict = |yes| signer_verdict(signature, namespace, by, yes);
+    decide(verdict, || Ok(verify(&sshsig_question_of_digest(signature, namespace, digest)?.0)))
 }
 
 /// Whether an SSH signature counts as the identity's in that namespace, by a text of allowed
@@ -49,7 +45,7 @@ pub fn judge_signer_of_digest(
 /// signature, in the namespace and of the message.
 ///
 /// Fails with [`Status::SIGNER_NOT_ALLOWED`], [`Status::UNREADABLE_REVOCATIONS`],
-/// [`Status::SIGNER_REVOKED`] or [`Status::NOT_SIGNED`], the first that holds: ask with `false`
+/// [`Status::REVOKED`] or [`Status::NOT_SIGNED`], the first that holds: ask with `false`
 /// first, and verify only where it fails with the last, as [`judge_signer_of_digest`] does. Fails
 /// with a number from 10 to 29 where the bytes are no signature, with [`Status::TEXT`] where a text
 /// is not UTF-8, and with [`Status::MEMORY`].
@@ -65,7 +61,7 @@ pub fn signer_verdict(
         namespace.as_ref(),
         signature,
         by.unix_timestamp,
-        by.revoked.file(),
+        &spans(by.revoked),
         u32::from(is_verified),
     ))
 }

@@ -4,7 +4,6 @@ use crate::digests::Sha256;
 use crate::keys::normal_sshsig;
 use crate::questions::Question;
 use crate::raw;
-use crate::refusal::Refusal;
 use crate::status::Status;
 use crate::strings::strings;
 
@@ -20,7 +19,7 @@ fn question_by(
     covered: &[u8],
 ) -> Result<(Question, Sha256), Status> {
     let enough = signature.len().saturating_mul(2).saturating_add(256);
-    let mut signer = Sha256 { bytes: [0; 32] };
+    let mut signer = Sha256::default();
     let question = Question::of_call(enough, |room, answer| {
         call(signature, namespace, covered, room, answer, &mut signer)
     })?;
@@ -55,7 +54,7 @@ pub fn sshsig_question_of_digest(
 
 /// Whether an SSH signature is one of the message in that namespace, by one of the signers, which
 /// are those that you trust for it: `verify` answers its question. Fails as [`sshsig_question`]
-/// does, with [`Refusal::OtherKey`] where another signed, about which `verify` is not asked, and
+/// does, with [`Status::SIGNER_NOT_ALLOWED`] where another signed, of which `verify` is not asked, and
 /// with [`Status::NOT_SIGNED`] where `verify` says no and where it has reserved bytes, which
 /// ssh-keygen takes to be empty.
 pub fn judge_sshsig(
@@ -64,7 +63,7 @@ pub fn judge_sshsig(
     message: &[u8],
     signers: &[Sha256],
     verify: impl FnOnce(&Question) -> bool,
-) -> Result<(), Refusal> {
+) -> Result<(), Status> {
     let question = sshsig_question(signature, namespace, message)?;
     judge(signature, question, signers, verify)
 }
@@ -77,20 +76,9 @@ pub fn judge_sshsig_of_digest(
     digest: &[u8],
     signers: &[Sha256],
     verify: impl FnOnce(&Question) -> bool,
-) -> Result<(), Refusal> {
+) -> Result<(), Status> {
     let question = sshsig_question_of_digest(signature, namespace, digest)?;
     judge(signature, question, signers, verify)
-}
-
-/// The same by any signer.
-pub(crate) fn judge_any_of_digest(
-    signature: &[u8],
-    namespace: &[u8],
-    digest: &[u8],
-    verify: impl FnOnce(&Question) -> bool,
-) -> Result<(), Refusal> {
-    let (question, signer) = sshsig_question_of_digest(signature, namespace, digest)?;
-    judge(signature, (question, signer), &[signer], verify)
 }
 
 /// Whether the signer is one of those, nothing is reserved, and the question is answered with yes.
@@ -99,14 +87,14 @@ fn judge(
     (question, signer): (Question, Sha256),
     signers: &[Sha256],
     verify: impl FnOnce(&Question) -> bool,
-) -> Result<(), Refusal> {
+) -> Result<(), Status> {
     if !signers.contains(&signer) {
-        return Err(Refusal::OtherKey);
+        return Err(Status::SIGNER_NOT_ALLOWED);
     }
-    if !sshsig_reserved(signature)?.is_empty() || !verify(&question) {
-        return Err(Refusal::Invalid(Status::NOT_SIGNED));
+    if !sshsig_reserved(signature)?.is_empty() {
+        return Err(Status::NOT_SIGNED);
     }
-    Ok(())
+    question.check(verify)
 }
 
 /// A hash by which SSH signatures digest their messages.

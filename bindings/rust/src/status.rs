@@ -59,12 +59,14 @@ macro_rules! statuses {
 
 pub(crate) use statuses;
 
+/// The meaning and the number.
 impl fmt::Display for Status {
     fn fmt(&self, formatter: &mut fmt::Formatter<'_>) -> fmt::Result {
-        formatter.pad(self.name())
+        write!(formatter, "{} ({})", self.meaning(), self.number())
     }
 }
 
+/// The name and the number.
 impl fmt::Debug for Status {
     fn fmt(&self, formatter: &mut fmt::Formatter<'_>) -> fmt::Result {
         write!(formatter, "{} ({})", self.name(), self.number())

@@ -1,11 +1,20 @@
 //! What the questions of checks/bindings can't ask.
 
-use sshkey::{Draft, Listed, Question, Status};
+use sshkey::{Authorities, Draft, HostLogin, Listed, Permits, Question, Status};
+
+/// Strings, one after the other (RFC 4251, section 5).
+fn strings(parts: &[&[u8]]) -> Vec<u8> {
+    parts.iter().flat_map(|it| sshkey::string(it).unwrap()).collect()
+}
+
+/// The blob of an Ed25519 key with these bytes.
+fn ed25519(bytes: &[u8; 32]) -> Vec<u8> {
+    strings(&[b"ssh-ed25519", bytes])
+}
 
 #[test]
 fn a_draft_is_refused_where_something_is_left_out() {
-    let parts = ["ssh-ed25519", "the thirty-two bytes of some key"];
-    let key = parts.map(|it| sshkey::string(it).unwrap()).concat();
+    let key = ed25519(b"the thirty-two bytes of some key");
     let refusal = |draft| sshkey::certificate_to_be_signed(&draft).err();
     let draft = Draft { key: &key, authority: &key, nonce: &[0; 16], ..Draft::default() };
     assert_eq!(refusal(draft), Some(Status::EMPTY_WINDOW));
@@ -23,5 +32,51 @@ fn values_go_from_thread_to_thread() {
     shared::<sshkey::CertificateContents<'static>>();
     shared::<sshkey::EntryOptions<'static>>();
     shared::<Draft<'static>>();
+    shared::<sshkey::Login<'static>>();
+    shared::<HostLogin<'static>>();
+    shared::<sshkey::UserauthRequest<'static>>();
+    shared::<sshkey::Grant>();
     shared::<Status>();
+}
+
+#[test]
+fn no_file_is_not_no_revocation() {
+    let key = ed25519(b"the thirty-two bytes of some key");
+    assert_eq!(sshkey::revoked_key(sshkey::NO_REVOCATIONS, &key), Ok(false));
+    assert_eq!(sshkey::revoked_key(&[], &key), Err(Status::UNREADABLE_REVOCATIONS));
+    let login = HostLogin {
+        known_hosts: &[
+            b"h ssh-ed25519 AAAAC3NzaC1lZDI1NTE5AAAAIHRoZSB0aGlydHktdHdvIGJ5dGVzIG9mIHNvbWUga2V5",
+        ],
+        host: b"h",
+        port: 22,
+        revoked: sshkey::NO_REVOCATIONS,
+        unix_timestamp: 0,
+        least_rsa_bits: 0,
+    };
+    assert_eq!(sshkey::check_host_key(&login, &key), Ok(()));
+    let login = HostLogin { revoked: &[], ..login };
+    assert_eq!(sshkey::check_host_key(&login, &key), Err(Status::UNREADABLE_REVOCATIONS));
+}
+
+#[test]
+fn a_later_kind_of_key_is_passed_over() {
+    let line = "ssh-ed25519 AAAAC3NzaC1lZDI1NTE5AAAAIHRoZSB0aGlydHktdHdvIGJ5dGVzIG9mIHNvbWUga2V5";
+    // the string "ssh-later", and four bytes
+    let later = "ssh-later AAAACXNzaC1sYXRlcgAAAAA=";
+    let key = sshkey::fingerprint(&ed25519(b"the thirty-two bytes of some key")).unwrap();
+    let found = |lines: &[&str]| sshkey::authorities(lines.join("\n").as_bytes());
+    let both = Authorities { keys: vec![key, key], other_lines: vec![4] };
+    assert_eq!(found(&["# keys", line, "", later, line]), Ok(both));
+    let refused = found(&[later, "", "ssh-later AAAACXNzaC1sYXRlcg", line]).unwrap_err();
+    assert_eq!((refused.line, refused.status), (3, Status::LABEL));
+    assert_eq!(found(&[]), Ok(Authorities::default()));
+}
+
+#[test]
+fn permits_are_sets() {
+    let both = Permits::PTY | Permits::NO_TOUCH;
+    assert!(both.contains(Permits::PTY) && both.contains(both));
+    assert!(!Permits::PTY.contains(both) && !Permits::default().contains(Permits::PTY));
+    assert_eq!(both.bits(), 65);
 }

@@ -15,7 +15,6 @@ import (
 	"strings"
 	"time"
 
-	"rafendilo.example/go/judge"
 	"rafendilo.example/go/sshkey"
 )
 
@@ -36,22 +35,18 @@ var answers = map[string]func(of []string) ([]string, error){
 		return made(sshkey.SSHSigReserved(data(of[0])))
 	},
 	"is-sshsig": func(of []string) ([]string, error) {
-		by := digests(of[3])
-		return nil, judge.ValidateSSHSig(data(of[0]), text(of[1]), data(of[2]), by)
+		return nil, sshkey.ValidateSSHSig(data(of[0]), text(of[1]), data(of[2]), digests(of[3]), nil)
 	},
 	"is-sshsig-of-digest": func(of []string) ([]string, error) {
 		by := digests(of[3])
-		return nil, judge.ValidateSSHSigOfDigest(data(of[0]), text(of[1]), data(of[2]), by)
+		return nil, sshkey.ValidateSSHSigOfDigest(data(of[0]), text(of[1]), data(of[2]), by, nil)
 	},
 	"is-signer": func(of []string) ([]string, error) {
-		by := judge.Signers{
-			Text: text(of[0]), Identity: text(of[1]), Now: at(of[5]), Revoked: file(of[4]),
-		}
-		return nil, judge.ValidateSignerOfDigest(data(of[3]), text(of[2]), data(of[6]), by)
+		return nil, sshkey.ValidateSignerOfDigest(data(of[3]), text(of[2]), data(of[6]), signers(of))
 	},
 	"is-signature": func(of []string) ([]string, error) {
 		question, err := signature(of)
-		return []string{bit(judge.IsSignature(question))}, err
+		return []string{bit(sshkey.IsSignature(question))}, err
 	},
 	"fields": fields,
 	"lists":  lists,
@@ -105,11 +100,43 @@ var answers = map[string]func(of []string) ([]string, error){
 		return []string{marker, word(found.Hosts), word(found.Key), word(found.Comment)}, err
 	},
 	"options": options,
+	"log-in":  logIn,
+	"host-key": func(of []string) ([]string, error) {
+		return nil, sshkey.CheckHostKey(hostLogin(of), data(of[2]))
+	},
+	"host-certificate": func(of []string) ([]string, error) {
+		login := hostLogin(of)
+		login.Now = at(of[6])
+		return nil, sshkey.CheckHostCertificate(login, data(of[2]))
+	},
+	"userauth": func(of []string) ([]string, error) {
+		return asked(sshkey.UserauthQuestion(request(of[:6], of[6:], nil)))
+	},
+	"userauth-of": func(of []string) ([]string, error) {
+		return asked(sshkey.UserauthQuestion(request(of[:6], of[7:], file(of[6]))))
+	},
+	"is-userauth": func(of []string) ([]string, error) {
+		return nil, sshkey.CheckUserauth(request(of[:6], of[6:], nil))
+	},
+	"flags": func(of []string) ([]string, error) {
+		return nil, sshkey.GrantFlags(sshkey.Permits(number(of[2])), data(of[0]), data(of[1]))
+	},
+	"unreadable-line": unreadableLine,
+	"other-key-line": func(of []string) ([]string, error) {
+		isOther, err := sshkey.IsOtherKeyLine(text(of[0]))
+		if err == nil && !isOther {
+			err = sshkey.ErrLabel
+		}
+		return nil, err
+	},
+	"signer": func(of []string) ([]string, error) {
+		return nil, sshkey.SignerVerdict(data(of[3]), text(of[2]), signers(of), of[6] == "1")
+	},
 	"revoked-key": func(of []string) ([]string, error) {
-		return revoked(sshkey.RevokedKey(file(of[0]), data(of[1])))
+		return revoked(sshkey.RevokedKey(files(of[0]), data(of[1])))
 	},
 	"revoked-certificate": func(of []string) ([]string, error) {
-		return revoked(sshkey.RevokedCertificate(file(of[0]), data(of[1])))
+		return revoked(sshkey.RevokedCertificate(files(of[0]), data(of[1])))
 	},
 	"revokes-key": func(of []string) ([]string, error) {
 		return revoked(sshkey.KRLRevokesKey(data(of[0]), data(of[1])))
@@ -120,16 +147,7 @@ var answers = map[string]func(of []string) ([]string, error){
 }
 
 // said are whole answers, without a 0.
-var said = map[string]func(of []string) string{
-	"validate": validate, "user": user, "verdict": verdict, "addresses": addresses, "signer": signer,
-	"host-certificate": func(of []string) string {
-		return hostCertificate(of[:4], of[4:], judge.NoRevocations)
-	},
-	"host-revoked": func(of []string) string {
-		return hostCertificate(of[:4], of[5:], file(of[4]))
-	},
-	"meanings": meanings,
-}
+var said = map[string]func(of []string) string{"validate": validate, "addresses": addresses}
 
 func main() {
 	input, output := bufio.NewReader(os.Stdin), bufio.NewWriter(os.Stdout)
@@ -152,12 +170,8 @@ func main() {
 
 // ---- words
 
-// numberOf is that of a Status or a Refusal, 0 for nil.
+// numberOf is that of a Status, 0 for nil.
 func numberOf(err error) string {
-	var refusal judge.Refusal
-	if errors.As(err, &refusal) {
-		return strconv.FormatUint(uint64(refusal), 10)
-	}
 	var status sshkey.Status
 	if err != nil && !errors.As(err, &status) {
 		panic(err)
@@ -179,6 +193,18 @@ func data(word string) []byte {
 // file is what a file that was read has: also of no bytes it is not nil.
 func file(word string) []byte {
 	return append([]byte{}, data(word)...)
+}
+
+// files is several of them, with commas between.
+func files(word string) [][]byte {
+	if word == "none" {
+		return nil
+	}
+	found := [][]byte{}
+	for _, one := range strings.Split(word, ",") {
+		found = append(found, file(one))
+	}
+	return found
 }
 
 func text(word string) string {
@@ -286,33 +312,52 @@ func validate(of []string) string {
 	return numberOf(err) + " " + strconv.Itoa(questions)
 }
 
-func user(of []string) string {
-	login := judge.Login{
-		Key: data(of[1]), Now: at(of[2]), User: text(of[3]), Authorities: digests(of[4]),
-		Revoked: judge.NoRevocations,
-	}
-	if len(of) > 6 {
-		login.Revoked = file(of[6])
-	}
-	if known := text(of[5]); known != "" {
-		login.IsMet = func(name, value string) bool { return name == known && value != "unmet" }
-	}
-	return judge.Said(judge.ValidateUser(data(of[0]), login))
+func logIn(of []string) ([]string, error) {
+	client, _ := netip.AddrFromSlice(data(of[3]))
+	grant, err := sshkey.LogIn(sshkey.Login{
+		Certificate: data(of[0]), User: text(of[1]), Key: data(of[2]), Client: client,
+		Authorities: digests(of[4]), Revoked: files(of[5]), Now: at(of[6]),
+		LeastRSABits: uint32(number(of[7])),
+	})
+	numbers := fmt.Sprint(uint32(grant.Permits), grant.Serial)
+	return []string{numbers, word(grant.Authority[:]), word(grant.ForceCommand), word(grant.KeyID)}, err
 }
 
-func hostCertificate(of, known []string, revoked []byte) string {
-	texts, port := []string{}, uint16(number(of[3]))
-	for _, it := range known {
-		texts = append(texts, text(it))
+func hostLogin(of []string) sshkey.HostLogin {
+	login := sshkey.HostLogin{
+		Host: text(of[1]), Port: uint16(number(of[4])), Revoked: files(of[3]),
+		LeastRSABits: uint32(number(of[5])),
 	}
-	err := judge.ValidateHost(data(of[0]), at(of[1]), text(of[2]), port, texts, revoked)
-	return judge.Said(err)
+	for _, known := range files(of[0]) {
+		login.KnownHosts = append(login.KnownHosts, string(known))
+	}
+	return login
 }
 
-func verdict(of []string) string {
-	known, host, key, port := text(of[0]), text(of[1]), data(of[2]), uint16(number(of[3]))
-	ofHost := sshkey.HostVerdict(known, host, port, key)
-	return numberOf(ofHost) + " " + numberOf(sshkey.AuthorityVerdict(known, host, port, key))
+func unreadableLine(of []string) ([]string, error) {
+	found, err := sshkey.UnreadableHostLine(text(of[0]), text(of[1]), uint16(number(of[2])))
+	if err == nil && found == 0 { // there is none
+		err = sshkey.Status(3)
+	}
+	return []string{strconv.Itoa(found)}, err
+}
+
+// request is a client's; the signed bytes are nil where they are to be made.
+func request(of, numbers []string, signed []byte) sshkey.Userauth {
+	found := sshkey.Userauth{
+		SessionID: data(of[0]), User: text(of[1]), Algorithm: text(of[2]), PublicKey: data(of[3]),
+		Signature: data(of[5]), Permits: sshkey.Permits(number(numbers[1])), Signed: signed,
+	}
+	if numbers[0] != "0" {
+		found.HostKey = file(of[4])
+	}
+	return found
+}
+
+func signers(of []string) sshkey.Signers {
+	return sshkey.Signers{
+		Text: text(of[0]), Identity: text(of[1]), Revoked: files(of[4]), Now: at(of[5]),
+	}
 }
 
 func addresses(of []string) string {
@@ -320,25 +365,6 @@ func addresses(of []string) string {
 	address, _ := netip.AddrFromSlice(data(of[1]))
 	return numberOf(sshkey.SourceAddressAllows(list, address)) + " " +
 		numberOf(sshkey.FromAllows(list, host, address))
-}
-
-func signer(of []string) string {
-	return numberOf(sshkey.SignerVerdict(text(of[0]), text(of[1]), text(of[2]), data(of[3]),
-		at(of[5]), file(of[4]), of[6] == "1"))
-}
-
-// meanings are the words of package judge for each number: of a Status, and from 100 on of a Refusal.
-func meanings([]string) string {
-	found := []string{judge.Said(nil)}
-	for number := uint32(1); number < 200; number++ {
-		var answer error = sshkey.Status(number)
-		if number >= 100 {
-			answer = judge.Refusal(number)
-		}
-		words := strings.TrimPrefix(judge.Said(answer), "refused: ")
-		found = append(found, strings.TrimSuffix(words, fmt.Sprintf(" (%d)", number)))
-	}
-	return strings.Join(found, ",")
 }
 
 func revoked(yes bool, err error) ([]string, error) {

@@ -1,17 +1,13 @@
-//! Answers questions about the calls of the Rust package in bindings/rust, and by the functions of
-//! its example `check`: a line of the input a line of the answer, as checks/asked/answers.py says.
+//! Answers questions about the calls of the Rust package in bindings/rust: a line of the input a
+//! line of the answer, as checks/asked/answers.py says.
 
 use std::io::{self, BufRead};
 use std::net::IpAddr;
 
 use sshkey::{
-    CertificateType, Draft, HashAlgorithm, Listed, Principal, Question, Refusal, Revocations,
-    Sha256, Signers, Status,
+    is_signature, CertificateType, Draft, HashAlgorithm, HostLogin, Listed, Login, Permits,
+    Principal, Question, Sha256, Signers, Status, UserauthRequest,
 };
-
-#[allow(dead_code)]
-#[path = "../../../examples/check.rs"]
-mod check;
 
 type Answer = Result<String, Status>;
 
@@ -21,6 +17,17 @@ fn data(word: &str) -> Vec<u8> {
     let digits = if word == "-" { "" } else { word };
     let pairs = (0..digits.len()).step_by(2).map(|at| &digits[at..at + 2]);
     pairs.map(|it| u8::from_str_radix(it, 16).expect("a word of hexadecimal digits")).collect()
+}
+
+/// The byte strings of a word, between commas.
+fn several(word: &str) -> Vec<Vec<u8>> {
+    let items = if word == "none" { None } else { Some(word.split(',')) };
+    items.into_iter().flatten().map(data).collect()
+}
+
+/// The same, lent.
+fn lent(items: &[Vec<u8>]) -> Vec<&[u8]> {
+    items.iter().map(Vec::as_slice).collect()
 }
 
 fn word(data: impl AsRef<[u8]>) -> String {
@@ -50,8 +57,8 @@ fn one(made: Result<Vec<u8>, Status>) -> Answer {
     words([word(made?)])
 }
 
-fn number_of(answer: Result<(), impl Into<Refusal>>) -> String {
-    answer.map_or_else(|fault| fault.into().number(), |()| 0).to_string()
+fn number_of(answer: Result<(), Status>) -> String {
+    answer.map_or_else(Status::number, |()| 0).to_string()
 }
 
 // ---- questions
@@ -77,17 +84,16 @@ fn sshsig_hash(signature: &[u8]) -> Answer {
 
 fn is_sshsig(what: &str, given: &[&str]) -> Answer {
     let (signature, space, covered) = (data(given[0]), data(given[1]), data(given[2]));
-    let (by, verifies) = (digests(given[3]), check::verify::verifies);
+    let by = digests(given[3]);
     Ok(number_of(if what == "is-sshsig" {
-        sshkey::judge_sshsig(&signature, space, &covered, &by, verifies)
+        sshkey::judge_sshsig(&signature, space, &covered, &by, is_signature)
     } else {
-        sshkey::judge_sshsig_of_digest(&signature, space, &covered, &by, verifies)
+        sshkey::judge_sshsig_of_digest(&signature, space, &covered, &by, is_signature)
     }))
 }
 
-fn is_signature(key: &[u8], message: &[u8], signature: &[u8]) -> Answer {
-    let question = sshkey::signature_question(key, message, signature)?;
-    words([u8::from(check::verify::verifies(&question)).to_string()])
+fn verified(question: &Question) -> Answer {
+    words([u8::from(is_signature(question)).to_string()])
 }
 
 fn validate(given: &[&str]) -> Answer {
@@ -103,35 +109,90 @@ fn validate(given: &[&str]) -> Answer {
     Ok(format!("{} {questions}", number_of(answer)))
 }
 
-fn user(given: &[&str]) -> Answer {
-    let (key, user, known) = (data(given[1]), data(given[3]), data(given[5]));
-    let (by, krl) = (digests(given[4]), given.get(6).map(|it| data(it)));
-    let login = sshkey::Login {
-        user: &user,
-        key: &key,
-        unix_timestamp: number(given[2]),
-        authorities: &by,
-        revoked: krl.as_deref().map_or(Revocations::Nothing, Revocations::File),
-    };
-    let is_met = |name: &str, value: &str| name.as_bytes() == known && value != "unmet";
-    let verifies = check::verify::verifies;
-    let answer = sshkey::validate_user(&data(given[0]), &login, verifies, is_met);
-    Ok(check::line_for(answer))
+// ---- who is let in
+
+fn address(bytes: &[u8]) -> Option<IpAddr> {
+    let of_six = || <[u8; 16]>::try_from(bytes).map(IpAddr::from).ok();
+    <[u8; 4]>::try_from(bytes).map(IpAddr::from).ok().or_else(of_six)
 }
 
-fn host_certificate(given: &[&str], texts: &[&str], revoked: Revocations<'_>) -> Answer {
-    let name = data(given[2]);
-    let texts: Vec<Vec<u8>> = texts.iter().map(|it| data(it)).collect();
-    let known_hosts: Vec<&[u8]> = texts.iter().map(|it| &it[..]).collect();
-    let host = sshkey::Host {
-        name: &name,
-        port: given[3].parse().expect("a port"),
-        unix_timestamp: number(given[1]),
-        known_hosts: &known_hosts,
-        revoked,
+fn log_in(given: &[&str]) -> Answer {
+    let [certificate, user, key, client] = [0, 1, 2, 3].map(|at| data(given[at]));
+    let (authorities, revoked) = (digests(given[4]), several(given[5]));
+    let login = Login {
+        certificate: &certificate,
+        user: &user,
+        key: &key,
+        client: address(&client),
+        unix_timestamp: number(given[6]),
+        authorities: &authorities,
+        revoked: &lent(&revoked),
+        least_rsa_bits: number(given[7]).try_into().expect("a number of bits"),
     };
-    let answer = sshkey::validate_host(&data(given[0]), &host, check::verify::verifies);
-    Ok(check::line_for(answer))
+    let grant = sshkey::log_in(&login, is_signature)?;
+    let command = grant.force_command.as_deref();
+    assert_eq!(command.is_none(), grant.permits.contains(Permits::ANY_COMMAND));
+    let numbers = [u64::from(grant.permits.bits()), grant.serial].map(|it| it.to_string());
+    let texts = [command.unwrap_or_default(), &grant.key_id].map(word);
+    words(numbers.into_iter().chain([word(grant.authority.bytes)]).chain(texts))
+}
+
+fn host_verdict(what: &str, given: &[&str]) -> String {
+    let (texts, host, shown) = (several(given[0]), data(given[1]), data(given[2]));
+    let revoked = several(given[3]);
+    let login = HostLogin {
+        known_hosts: &lent(&texts),
+        host: &host,
+        port: given[4].parse().expect("a port"),
+        revoked: &lent(&revoked),
+        unix_timestamp: given.get(6).map_or(0, |it| number(it)),
+        least_rsa_bits: number(given[5]).try_into().expect("a number of bits"),
+    };
+    number_of(if what == "host-key" {
+        sshkey::check_host_key(&login, &shown)
+    } else {
+        sshkey::check_host_certificate(&login, &shown, is_signature)
+    })
+}
+
+fn unreadable_line(given: &[&str]) -> Answer {
+    let port = given[2].parse().expect("a port");
+    let found = sshkey::unreadable_host_line(&data(given[0]), data(given[1]), port)?;
+    found.map_or(Err(Status::END), |line| words([line.to_string()]))
+}
+
+/// What is to be verified of a request, or what is said of it once it is verified; the signed bytes
+/// follow the signature if they are given.
+fn userauth(what: &str, given: &[&str]) -> Answer {
+    let has_signed = what == "userauth-of";
+    let numbers = &given[6 + usize::from(has_signed)..];
+    let [session_id, user, algorithm, public_key, host_key, signature] =
+        [0, 1, 2, 3, 4, 5].map(|at| data(given[at]));
+    let signed = has_signed.then(|| data(given[6]));
+    let request = UserauthRequest {
+        session_id: &session_id,
+        user: &user,
+        algorithm: &algorithm,
+        public_key: &public_key,
+        host_key: (numbers[0] != "0").then(|| &host_key[..]),
+        signed: signed.as_deref(),
+        signature: &signature,
+        permits: Permits::from_bits(numbers[1].parse().expect("bits")),
+    };
+    if what == "is-userauth" {
+        return Ok(number_of(request.check(is_signature)));
+    }
+    asked(&request.question()?, None)
+}
+
+fn flags(given: &[&str]) -> String {
+    let permits = Permits::from_bits(given[2].parse().expect("bits"));
+    number_of(sshkey::grant_flags(permits, &data(given[0]), &data(given[1])))
+}
+
+fn other_key_line(line: &[u8]) -> Answer {
+    let is_other = sshkey::is_other_key_line(line)?;
+    Ok(number_of(if is_other { Ok(()) } else { Err(Status::LABEL) }))
 }
 
 // ---- certificates
@@ -251,22 +312,9 @@ fn options(bytes: &[u8]) -> Answer {
     words(found?)
 }
 
-fn verdict(given: &[&str]) -> Answer {
-    let (known_hosts, host, key) = (data(given[0]), data(given[1]), data(given[2]));
-    let port = given[3].parse().expect("a port");
-    let of_host = number_of(sshkey::host_verdict(&known_hosts, &host, port, &key));
-    Ok(format!(
-        "{of_host} {}",
-        number_of(sshkey::authority_verdict(&known_hosts, &host, port, &key))
-    ))
-}
-
 fn addresses(given: &[&str]) -> String {
-    let (list, bytes, host) = (data(given[0]), data(given[1]), data(given[2]));
-    let address = match <[u8; 4]>::try_from(bytes.as_slice()) {
-        Ok(octets) => IpAddr::from(octets),
-        Err(_) => IpAddr::from(<[u8; 16]>::try_from(bytes.as_slice()).expect("an address")),
-    };
+    let (list, host) = (data(given[0]), data(given[2]));
+    let address = address(&data(given[1])).expect("an address");
     let by_certificate = number_of(sshkey::source_address_allows(&list, address));
     format!("{by_certificate} {}", number_of(sshkey::from_allows(&list, &host, address)))
 }
@@ -274,18 +322,19 @@ fn addresses(given: &[&str]) -> String {
 /// What a text of allowed signers says of a signature, where a verification says no or yes, or of
 /// one of a message with a digest.
 fn signer(what: &str, given: &[&str]) -> String {
-    let [text, identity, namespace, signature, revoked] = [0, 1, 2, 3, 4].map(|at| data(given[at]));
+    let [text, identity, namespace, signature] = [0, 1, 2, 3].map(|at| data(given[at]));
+    let revoked = several(given[4]);
     let by = Signers {
         text: &text,
         identity: &identity,
         unix_timestamp: number(given[5]),
-        revoked: Revocations::File(&revoked),
+        revoked: &lent(&revoked),
     };
     if what == "signer" {
         return number_of(sshkey::signer_verdict(&signature, namespace, &by, given[6] == "1"));
     }
-    let (digest, verifies) = (data(given[6]), check::verify::verifies);
-    number_of(sshkey::judge_signer_of_digest(&signature, namespace, &digest, &by, verifies))
+    let digest = data(given[6]);
+    number_of(sshkey::judge_signer_of_digest(&signature, namespace, &digest, &by, is_signature))
 }
 
 fn revoked(answer: Result<bool, Status>) -> Answer {
@@ -304,11 +353,14 @@ fn answer(question: &str) -> Answer {
         "sshsig-hash" => sshsig_hash(&at(0)),
         "sshsig-reserved" => one(sshkey::sshsig_reserved(&at(0))),
         "is-sshsig" | "is-sshsig-of-digest" => is_sshsig(what, given),
-        "is-signature" => is_signature(&at(0), &at(1), &at(2)),
+        "is-signature" => verified(&sshkey::signature_question(&at(0), &at(1), &at(2))?),
         "validate" => validate(given),
-        "user" => user(given),
-        "host-certificate" => host_certificate(given, &given[4..], Revocations::Nothing),
-        "host-revoked" => host_certificate(given, &given[5..], Revocations::File(&at(4))),
+        "log-in" => log_in(given),
+        "host-key" | "host-certificate" => Ok(host_verdict(what, given)),
+        "unreadable-line" => unreadable_line(given),
+        "userauth" | "userauth-of" | "is-userauth" => userauth(what, given),
+        "flags" => Ok(flags(given)),
+        "other-key-line" => other_key_line(&at(0)),
         "fields" => fields(&at(0)),
         "lists" => lists(&at(0)),
         "certificate-options" => words(pairs("", sshkey::certificate_options(&at(0)))?),
@@ -322,11 +374,12 @@ fn answer(question: &str) -> Answer {
         "entry" => entry(&at(0)),
         "host" => host(&at(0)),
         "options" => options(&at(0)),
-        "verdict" => verdict(given),
         "addresses" => Ok(addresses(given)),
         "signer" | "is-signer" => Ok(signer(what, given)),
-        "revoked-key" => revoked(sshkey::revoked_key(&at(0), &at(1))),
-        "revoked-certificate" => revoked(sshkey::revoked_certificate(&at(0), &at(1))),
+        "revoked-key" => revoked(sshkey::revoked_key(&lent(&several(given[0])), &at(1))),
+        "revoked-certificate" => {
+            revoked(sshkey::revoked_certificate(&lent(&several(given[0])), &at(1)))
+        }
         "revokes-key" => revoked(sshkey::krl_revokes_key(&at(0), &at(1))),
         "revokes-certificate" => revoked(sshkey::krl_revokes_certificate(&at(0), &at(1))),
         _ => panic!("no question: {question}"),

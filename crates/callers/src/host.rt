@@ -96,6 +96,7 @@ fn shown(alloc: Global, answer: std::result::Result<(), Refusal>) -> Result<Stri
         Err(Refusal::UnacceptedKey) => "unaccepted key",
         Err(Refusal::NotNormalForm) => "no normal form",
         Err(Refusal::Certificate(error)) => return Err(error),
+        Err(Refusal::Invalid(first)) => return Err(first.error()),
         Err(Refusal::Memory) => return Err(ssh_key::Error::Memory),
     };
     Ok(String::from_str(alloc, text)?)

@@ -2,9 +2,10 @@
 
 use crate::revoked::read_lists;
 use crate::verified::Told;
-use crate::words::{NO_LINE, fingerprints, number};
+use crate::words::{NO_LINE, blob, fingerprints, number};
 use login_policy::{Grant, Login, Refusal, log_in};
-use ssh_key::{Error, PublicKey, Result};
+use ssh_key::certificate::CertificateRefusal;
+use ssh_key::{Certificate, Error, PublicKey, Result};
 use std::alloc::{AllocError, Global};
 use std::net::IpAddr;
 
@@ -45,8 +46,10 @@ pub(crate) fn answer(
     };
     let offered = PublicKey::from_openssh(alloc, offered)?;
     let authorities = fingerprints(alloc, authorities)?;
+    Certificate::from_openssh(alloc, certificate)?; // so the line is one of a certificate
+    let certificate = blob(alloc, certificate)?;
     let login = Login {
-        line: certificate,
+        certificate: &certificate,
         user,
         offered: offered.key_data(),
         unix_timestamp: number(seconds)?,
@@ -59,9 +62,21 @@ pub(crate) fn answer(
         Err(Refusal::Certificate(error)) => Err(error),
         Err(Refusal::NotNormalForm) => Ok(String::from_str(alloc, "no normal form")?),
         Err(Refusal::UnacceptedKey) => Ok(String::from_str(alloc, "unaccepted key")?),
+        Err(Refusal::Invalid(refusal)) => Ok(String::from_str(alloc, invalid(refusal))?),
         Err(Refusal::Elsewhere) => Ok(String::from_str(alloc, "elsewhere")?),
         Err(Refusal::Revoked) => Ok(String::from_str(alloc, "revoked")?),
         Err(Refusal::Memory) => Err(Error::Memory),
+    }
+}
+
+/// What is wrong with a certificate.
+fn invalid(refusal: CertificateRefusal) -> &'static str {
+    match refusal {
+        CertificateRefusal::Signature => "not signed",
+        CertificateRefusal::Authority => "another authority",
+        CertificateRefusal::Time => "no time",
+        CertificateRefusal::Window => "out of the window",
+        CertificateRefusal::Principal => "another user",
     }
 }
 

@@ -1,34 +1,34 @@
--- What the validation of a host's certificate decides.
-use Rattle.std.proofs.Common.{◌≡◌, ◌≢◌, ap, ℕ, List, [], ◌∷◌, Bool, Result, Ok, Err, IfErr, Some, option_map, refl, subst, sym}
-use Rattle.ssh_key.specs.base.Acceptance.{AcceptsExactly}
-use Rattle.ssh_key.specs.cert.Validity.{JudgesCertificateFor, fingerprint_of, fingerprints_of, refusal_error}
-use Rattle.ssh_key.specs.keys.Fingerprints.{IsFingerprint}
-use Rattle.ssh_key.specs.model.Certificates.{Certificate, Host}
-use Rattle.ssh_key.specs.model.Fingerprints as model
-use Rattle.ssh_key.specs.model.Fingerprints.{fingerprint}
-use Rattle.ssh_key.specs.model.Keys.{Key}
-use Rattle.ssh_key.specs.model.Lines.{IsWithout}
-use Rattle.ssh_key.specs.model.Names.{Sha256}
-use Rattle.ssh_key.specs.model.Principals.{IsValidFor}
-use Rattle.ssh_key.specs.model.Refusals.{first_refusal_for}
-use Rattle.ssh_key.specs.model.Verification.{Question}
-use Rattle.ssh_key.specs.types.Error.{Error}
-use Rattle.ssh_key.specs.types.Error.TheVariants.{Memory}
-use Rattle.ssh_key.specs.types.Fingerprint.{Fingerprint}
-use Rattle.host_keys.specs.Hosts.{AreForHosts, IsBadFor, IsGoodFor, NotValid, signers}
+-- What makes a host's certificate good.
+use Rattle.std.proofs.Common.{◌≡◌, ap, ℕ, List, [], ◌∷◌, Bool, Result, Option, Some, None, Ok, Err, option_map, refl, subst, sym, ◌∙◌}
+use Rattle.sshkey_base.specs.declared.error.Error.{Error}
+use Rattle.sshkey_cert.specs.Validity.{FindsRefusal, fingerprint_of, fingerprints_of, refusal_of}
+use Rattle.sshkey_cert.specs.declared.certificate.refusal.CertificateRefusal.{CertificateRefusal}
+use Rattle.sshkey_fingerprints.specs.declared.fingerprint.Fingerprint.{Fingerprint}
+use Rattle.sshkey_keys.specs.Fingerprints.{IsFingerprint}
+use Rattle.sshkey_model.specs.Certificates.{Certificate}
+use Rattle.sshkey_model.specs.Fingerprints as model
+use Rattle.sshkey_model.specs.Fingerprints.{fingerprint}
+use Rattle.sshkey_model.specs.Keys.{Key}
+use Rattle.sshkey_model.specs.Names.{Sha256}
+use Rattle.sshkey_model.specs.Refusals.{first_refusal_for}
+use Rattle.sshkey_model.specs.Verification.{Question}
+use Rattle.sshkey_model.proofs.Refusals.{none_where_wanted}
+use Rattle.host_keys.specs.Hosts.{HasHostFields, IsGoodFor, signers}
 
 -- the one fingerprint is the signer's
-pub own : (k : Key) (f : Fingerprint) → IsFingerprint Sha256 k f → fingerprint_of f ≡ fingerprint Sha256 k
+own : (k : Key) (f : Fingerprint) → IsFingerprint Sha256 k f → fingerprint_of f ≡ fingerprint Sha256 k
 own k f is = let by = is.by in let digest = is.digest in rw (by, digest) refl
 
-module _ (accepts : Question → Bool) (t : ℕ) (host : List ℕ) (c : Certificate) (f : Fingerprint) (is : IsFingerprint Sha256 c.signed.signature_key f) (hosts : c.signed.certificate_type ≡ Host) (none : c.signed.critical_options ≡ []) (key_id : IsWithout 0 c.signed.key_id) (principals : AreForHosts c.signed.valid_principals) where
-  same : fingerprints_of (f ∷ []) ≡ signers c
-  same = ap (λ (g : model.Fingerprint). g ∷ []) (own c.signed.signature_key f is)
+module _ (accepts : Question → Bool) (t : ℕ) (host : List ℕ) (c : Certificate) where
+  -- what is wrong first is asked about that one
+  pub first_found : (f : Fingerprint) → IsFingerprint Sha256 c.signed.signature_key f → (r : Result (Option CertificateRefusal) Error) → FindsRefusal (first_refusal_for accepts (fingerprints_of (f ∷ [])) t host c) r → FindsRefusal (first_refusal_for accepts (signers c) t host c) r
+  first_found f is r found = subst (λ (given : List model.Fingerprint). FindsRefusal (first_refusal_for accepts given t host c) r) (ap (λ (g : model.Fingerprint). g ∷ []) (own c.signed.signature_key f is)) found
 
-  pub good : (r : Result (Unit {0}) Error) → JudgesCertificateFor accepts (f ∷ []) t host c r → AcceptsExactly (IsGoodFor accepts t host c) r
-  good (Ok u) valid = record { for_hosts = hosts; no_options = none; key_id = key_id; principals = principals; valid = subst (λ (given : List model.Fingerprint). IsValidFor accepts given t host c) same valid }
-  good (Err e) judged = λ other is. (judged other).0 (subst (λ (given : List model.Fingerprint). IsValidFor accepts given t host c) (sym same) is.valid)
+  pub good : HasHostFields c → None ≡ first_refusal_for accepts (signers c) t host c → IsGoodFor accepts t host c
+  good fields none = record { fields = fields; valid = (none_where_wanted accepts (signers c) t host c).0 (sym none) }
 
-  pub bad : (r : Result (Unit {0}) Error) → JudgesCertificateFor accepts (f ∷ []) t host c r → IfErr r (λ e. e ≢ Memory → IsBadFor accepts t host c e)
-  bad (Ok u) valid = tt
-  bad (Err e) judged = λ other. NotValid hosts none key_id principals e (subst (λ (given : List model.Fingerprint). option_map refusal_error (first_refusal_for accepts given t host c) ≡ Some e) same (judged other).1)
+  pub not_good : (first : CertificateRefusal) → Some (refusal_of first) ≡ first_refusal_for accepts (signers c) t host c → IsGoodFor accepts t host c → ⊥
+  not_good first some is =
+      let none : first_refusal_for accepts (signers c) t host c ≡ None = (none_where_wanted accepts (signers c) t host c).1 is.valid in
+      let both : Some (refusal_of first) ≡ None = some ∙ none in
+      cc both

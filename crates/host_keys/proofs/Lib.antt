@@ -1,5 +1,5 @@
 mod Certificates
 mod Listed
 mod Said
-mod SeveralTexts
+pub mod SeveralTexts
 mod Signed

@@ -1,12 +1,14 @@
 -- What is said of a host, by its name at the port or by its plain name, and what is answered.
 use Rattle.std.proofs.Common.{◌≡◌, ◌≢◌, ◌<◌, length, ℕ, Bool, true, false, IsTrue, List, IfErr, IfOk, Result, Ok, Err, inl, inr, refl, subst, sym, ◌∙◌}
-use Rattle.ssh_key.specs.entries.HostNames.{known_name, standard_port}
-use Rattle.ssh_key.specs.types.Error.{Error}
-use Rattle.ssh_key.specs.types.Error.TheVariants.{Memory}
-use Rattle.ssh_key.specs.types.known_hosts.Verdict.{Verdict}
-use Rattle.ssh_key.specs.types.known_hosts.Verdict.TheVariants.{Revoked, Trusted, Unknown}
+use Rattle.sshkey_entries.specs.HostNames.{known_name, standard_port}
+use Rattle.sshkey_base.specs.declared.error.Error.{Error}
+use Rattle.sshkey_base.specs.declared.error.Error.TheVariants.{Memory}
+use Rattle.sshkey_model.specs.Certificates.{Certificate}
+use Rattle.sshkey_model.specs.Verification.{Question}
+use Rattle.sshkey_known_hosts.specs.declared.verdict.Verdict.{Verdict}
+use Rattle.sshkey_known_hosts.specs.declared.verdict.Verdict.TheVariants.{Revoked, Trusted, Unknown}
 use Rattle.host_keys.specs.Answers.{AsksOf, IsRefusalFor, IsWhy, OkExactly, answer_of}
-use Rattle.host_keys.specs.Hosts.{IsSaid, IsSettled}
+use Rattle.host_keys.specs.Hosts.{IsBadFor, IsSaid, IsSettled}
 use Rattle.host_keys.specs.declared.refusal.Refusal.{Refusal}
 use Rattle.host_keys.specs.declared.refusal.Refusal.TheVariants as refusal
 
@@ -42,7 +44,7 @@ module _ {E F : Type 0} (Said : Verdict → Type 0) (revoked : Bool) where
   exactly one (Ok false) (Err e) is said = λ other. absurd (other refl)
   exactly one (Err e) says is said = λ other. absurd (other refl)
 
-  module _ (accepted : Bool) (Bad : Error → Type 0) where
+  module _ (accepted : Bool) (Bad : Refusal → Type 0) where
     pub why : (asked : Result Bool E) (says : Result Verdict F) → IfOk asked (λ yes. yes ≡ revoked) → IfOk says Said → IfErr (answer_of asked says) (IsWhy Said revoked accepted Bad)
     why (Ok true) says is said = inl (sym is)
     why (Ok false) (Ok Trusted) is said = tt
@@ -60,9 +62,21 @@ asks_of Reads none lines (Ok false) (Err e) a s = λ m. inr (inl s)
 asks_of Reads none lines (Err e) says a s = λ m. inr (inr a)
 
 -- for what is wrong with the certificate
-pub why_bad : (Said : Verdict → Type 0) (revoked accepted : Bool) (Bad : Error → Type 0) (e : Error) (r : Refusal) → (revoked ≡ false) × Said Trusted → IsTrue accepted → (e ≢ Memory → Bad e) → IsRefusalFor e r → IsWhy Said revoked accepted Bad r
-why_bad Said revoked accepted Bad e r good let_in bad (inl m) = subst (IsWhy Said revoked accepted Bad) (sym m.1) tt
-why_bad Said revoked accepted Bad e r good let_in bad (inr n) = subst (IsWhy Said revoked accepted Bad) (sym n.1) (good.0, good.1, let_in, bad n.0)
+module _ (Said : Verdict → Type 0) (revoked accepted : Bool) (accepts : Question → Bool) (t : ℕ) (host : List ℕ) (c : Certificate) (good : (revoked ≡ false) × Said Trusted) (let_in : IsTrue accepted) where
+  why_refused : (r : Refusal) → (r ≢ refusal.Memory → IsBadFor accepts t host c r) → IsWhy Said revoked accepted (IsBadFor accepts t host c) r
+  why_refused refusal.Memory bad = tt
+  why_refused (refusal.Certificate e) bad = (good.0, good.1, let_in, bad (λ same. cc same))
+  why_refused (refusal.Invalid first) bad = (good.0, good.1, let_in, bad (λ same. cc same))
+  why_refused refusal.Revoked bad = absurd (bad (λ same. cc same))
+  why_refused refusal.Unreadable bad = absurd (bad (λ same. cc same))
+  why_refused refusal.Changed bad = absurd (bad (λ same. cc same))
+  why_refused refusal.Unknown bad = absurd (bad (λ same. cc same))
+  why_refused refusal.UnacceptedKey bad = absurd (bad (λ same. cc same))
+  why_refused refusal.NotNormalForm bad = absurd (bad (λ same. cc same))
+
+  pub why_bad : (r : Result (Unit {0}) Refusal) → IfErr r (λ x. x ≢ refusal.Memory → IsBadFor accepts t host c x) → IfErr r (IsWhy Said revoked accepted (IsBadFor accepts t host c))
+  why_bad (Ok u) bad = tt
+  why_bad (Err r) bad = why_refused r bad
 
 -- a refusal for something else than memory is for an error that is no lack of memory
 pub other_of : (e : Error) (r : Refusal) → IsRefusalFor e r → r ≢ refusal.Memory → e ≢ Memory

@@ -5,8 +5,8 @@ use Rattle.std.proofs.lemmas.Grind.{flat_map-append}
 use Rattle.std.proofs.lemmas.List.{flat_map_more, take-append-drop, take_all, take_more}
 use Rattle.std.proofs.lemmas.List.Folds.{length-flat_map-take}
 use Rattle.std.specs.List.{Any}
-use Rattle.ssh_key.specs.entries.Fields.{filled_lines}
-use Rattle.ssh_key.proofs.Verdicts.{first, later, either}
+use Rattle.sshkey_entries.specs.Fields.{filled_lines}
+use Rattle.sshkey_known_hosts.proofs.Verdicts.{first, later, either}
 use Rattle.host_keys.specs.Hosts.{lines_of}
 
 -- ---- one text more

@@ -1,12 +1,11 @@
 -- What is said of a key and of the key that signed it.
 use Rattle.std.proofs.Common.{◌≡◌, ℕ, Bool, false, List, IfErr, IfOk, Result, inl, inr, refl, subst}
-use Rattle.ssh_key.specs.entries.HostVerdicts.{HidesSome, IsAuthority, IsRevoked}
-use Rattle.ssh_key.specs.known_hosts.Verdicts.{IsVerdict}
-use Rattle.ssh_key.specs.model.Certificates.{Certificate}
-use Rattle.ssh_key.specs.model.Keys.{Key}
-use Rattle.ssh_key.specs.types.Error.{Error}
-use Rattle.ssh_key.specs.types.known_hosts.Verdict.{Verdict}
-use Rattle.ssh_key.specs.types.known_hosts.Verdict.TheVariants.{Changed, Revoked, Trusted, Unknown, Unreadable}
+use Rattle.sshkey_entries.specs.HostVerdicts.{HidesSome, IsAuthority, IsRevoked}
+use Rattle.sshkey_known_hosts.specs.Verdicts.{IsVerdict}
+use Rattle.sshkey_model.specs.Certificates.{Certificate}
+use Rattle.sshkey_model.specs.Keys.{Key}
+use Rattle.sshkey_known_hosts.specs.declared.verdict.Verdict.{Verdict}
+use Rattle.sshkey_known_hosts.specs.declared.verdict.Verdict.TheVariants.{Changed, Revoked, Trusted, Unknown, Unreadable}
 use Rattle.host_keys.specs.Answers.{IsWhy, OkExactly, answer_of}
 use Rattle.host_keys.specs.Hosts.{IsEitherRevoked, IsSaidOfSigned, IsVerdictOfSigned}
 use Rattle.host_keys.specs.declared.refusal.Refusal.{Refusal}
@@ -74,5 +73,5 @@ module _ {E F : Type 0} (hmac : List ℕ → List ℕ → List ℕ) (host : List
       let one = one_said (λ (name : List ℕ). IsVerdictOfSigned hmac name c.signed.key c.signed.signature_key lines) host port (λ name. one_verdict hmac name lines c.signed.key c.signed.signature_key) in
       subst (OkExactly ((revoked ≡ false) × Said Trusted)) was (exactly Said revoked one asked says is said_of_both)
 
-  pub why_judged : (accepted : Bool) (Bad : Error → Type 0) → IfErr r (IsWhy (IsSaidOfSigned hmac host port c.signed.key c.signed.signature_key lines) revoked accepted Bad)
+  pub why_judged : (accepted : Bool) (Bad : Refusal → Type 0) → IfErr r (IsWhy (IsSaidOfSigned hmac host port c.signed.key c.signed.signature_key lines) revoked accepted Bad)
   why_judged accepted Bad = subst (λ (x : Result (Unit {0}) Refusal). IfErr x (IsWhy Said revoked accepted Bad)) was (why Said revoked accepted Bad asked says is said_of_both)

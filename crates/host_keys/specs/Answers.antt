@@ -1,20 +1,19 @@
 -- What is answered about a host, and why it is refused.
-use Rattle.std.specs.Prelude.{◌≡◌, ◌≢◌, ◌⊎◌, ◌<◌, length, ℕ, List, Bool, true, false, IsErrAnd, IsTrue, Result, Ok, Err}
+use Rattle.std.specs.Prelude.{◌≡◌, ◌≢◌, ◌⊎◌, ◌<◌, length, ℕ, List, Bool, true, false, IsTrue, Result, Ok, Err}
 use Rattle.openssh_limits.specs.Keys.{is_let_in}
-use Rattle.ssh_key.specs.base.Causes.{Faulty, cause}
-use Rattle.ssh_key.specs.base.Reading.{NoSpelling}
-use Rattle.ssh_key.specs.cert.CertificateReaders.{SpellsCertificate, certificate_value_at}
-use Rattle.ssh_key.specs.krl.Revocation.{Grant}
-use Rattle.ssh_key.specs.krl.Revocations.{is_certificate_revoked, is_key_revoked}
-use Rattle.ssh_key.specs.model.Certificates.{Certificate, normal_certificate}
-use Rattle.ssh_key.specs.model.Keys.{Key}
-use Rattle.ssh_key.specs.model.Parts.{flat}
-use Rattle.ssh_key.specs.model.Reading.{whole}
-use Rattle.ssh_key.specs.model.Verification.{Question}
-use Rattle.ssh_key.specs.types.Error.{Error}
-use Rattle.ssh_key.specs.types.Error.TheVariants.{Memory}
-use Rattle.ssh_key.specs.types.known_hosts.Verdict.{Verdict}
-use Rattle.ssh_key.specs.types.known_hosts.Verdict.TheVariants.{Changed, Revoked, Trusted, Unknown, Unreadable}
+use Rattle.sshkey_base.specs.Reading.{NoSpelling}
+use Rattle.sshkey_cert.specs.CertificateReaders.{SpellsCertificate}
+use Rattle.sshkey_cert_form.specs.Faults.{IsFaultOf}
+use Rattle.sshkey_krl.specs.Revocation.{Grant}
+use Rattle.sshkey_krl.specs.Revocations.{is_certificate_revoked, is_key_revoked}
+use Rattle.sshkey_model.specs.Certificates.{Certificate, normal_certificate}
+use Rattle.sshkey_model.specs.Keys.{Key}
+use Rattle.sshkey_model.specs.Parts.{flat}
+use Rattle.sshkey_model.specs.Verification.{Question}
+use Rattle.sshkey_base.specs.declared.error.Error.{Error}
+use Rattle.sshkey_base.specs.declared.error.Error.TheVariants.{Memory}
+use Rattle.sshkey_known_hosts.specs.declared.verdict.Verdict.{Verdict}
+use Rattle.sshkey_known_hosts.specs.declared.verdict.Verdict.TheVariants.{Changed, Revoked, Trusted, Unknown, Unreadable}
 use Rattle.host_keys.specs.Hosts.{HostLogin, IsBadFor, IsSaidOfKey, IsSaidOfSigned, plain_name}
 use Rattle.host_keys.specs.declared.refusal.Refusal.{Refusal}
 use Rattle.host_keys.specs.declared.refusal.Refusal.TheVariants as refusal
@@ -50,27 +49,24 @@ answer_of (Ok false) (Err e) = Err refusal.Memory
 answer_of (Err e) said = Err refusal.Memory
 
 -- It is revoked, or that is said. Or it is not revoked, and that is said; or the host is trusted so
--- far, and the key is not accepted; or it is, and the certificate is bad for that error; or memory
+-- far, and the key is not accepted; or it is, and the certificate is bad for that reason; or memory
 -- ran out.
-abbrev pub IsWhy : (Verdict → Type 0) → Bool → Bool → (Error → Type 0) → Refusal → Type 0
+abbrev pub IsWhy : (Verdict → Type 0) → Bool → Bool → (Refusal → Type 0) → Refusal → Type 0
 IsWhy Said revoked accepted Bad refusal.Revoked = (revoked ≡ true) ⊎ Said Revoked
 IsWhy Said revoked accepted Bad refusal.Unreadable = (revoked ≡ false) × Said Unreadable
 IsWhy Said revoked accepted Bad refusal.Changed = (revoked ≡ false) × Said Changed
 IsWhy Said revoked accepted Bad refusal.Unknown = (revoked ≡ false) × Said Unknown
 IsWhy Said revoked accepted Bad refusal.UnacceptedKey = (revoked ≡ false) × Said Trusted × (accepted ≡ false)
-IsWhy Said revoked accepted Bad (refusal.Certificate e) = (revoked ≡ false) × Said Trusted × IsTrue accepted × Bad e
+IsWhy Said revoked accepted Bad (refusal.Certificate e) = (revoked ≡ false) × Said Trusted × IsTrue accepted × Bad (refusal.Certificate e)
+IsWhy Said revoked accepted Bad (refusal.Invalid first) = (revoked ≡ false) × Said Trusted × IsTrue accepted × Bad (refusal.Invalid first)
 IsWhy Said revoked accepted Bad refusal.NotNormalForm = ⊥
 IsWhy Said revoked accepted Bad refusal.Memory = Unit {0}
 
 abbrev pub IsWhyNoKey : HostLogin → (List ℕ → Bool) → Key → Refusal → Type 0
-IsWhyNoKey login revokes_key key = IsWhy (IsSaidOfKey login.hmac login.host login.port key login.lines) (is_key_revoked revokes_key key) (is_let_in login.least_rsa_bits key) (λ e. ⊥)
+IsWhyNoKey login revokes_key key = IsWhy (IsSaidOfKey login.hmac login.host login.port key login.lines) (is_key_revoked revokes_key key) (is_let_in login.least_rsa_bits key) (λ r. ⊥)
 
 abbrev pub IsWhyNoCertificate : HostLogin → (Question → Bool) → (List ℕ → Grant → Bool) → Certificate → Refusal → Type 0
 IsWhyNoCertificate login accepts revokes c = IsWhy (IsSaidOfSigned login.hmac login.host login.port c.signed.key c.signed.signature_key login.lines) (is_certificate_revoked revokes c) (is_let_in login.least_rsa_bits c.signed.key) (IsBadFor accepts login.time (plain_name login.host) c)
-
--- the plain reader refuses the bytes for that error
-abbrev pub IsFaultOf : List ℕ → Error → Type 0
-IsFaultOf blob e = IsErrAnd (whole certificate_value_at blob) (λ fault. cause e ≡ Faulty fault)
 
 -- The bytes spell no certificate, and have that fault. Or they spell one: they are not its normal
 -- form; or they are, and it is refused.

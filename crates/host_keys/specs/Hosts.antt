@@ -5,30 +5,32 @@ use denote.Ref.{Bor}
 use Rattle.openssh_limits.specs.Keys.{is_let_in}
 use Rattle.openssh_limits.specs.Read.{AreReadPrincipals}
 use Rattle.std.specs.List.{flat_map}
-use Rattle.std.specs.Prelude.{◌≡◌, ◌≢◌, ◌⊎◌, ℕ, List, [], ◌∷◌, Bool, false, IsTrue, Some, option_map}
-use Rattle.ssh_key.specs.cert.CertificateReaders.{SpellsCertificate}
-use Rattle.ssh_key.specs.cert.Validity.{refusal_error}
-use Rattle.ssh_key.specs.entries.Fields.{filled_lines}
-use Rattle.ssh_key.specs.entries.HostNames.{known_name, standard_port}
-use Rattle.ssh_key.specs.entries.HostVerdicts.{HidesSome, IsAuthority, IsRevoked}
-use Rattle.ssh_key.specs.known_hosts.Verdicts.{IsVerdict}
-use Rattle.ssh_key.specs.krl.Revocation.{Grant}
-use Rattle.ssh_key.specs.krl.Revocations.{is_certificate_revoked, is_key_revoked}
-use Rattle.ssh_key.specs.model.Certificates.{Certificate, Host, normal_certificate}
-use Rattle.ssh_key.specs.model.Fingerprints.{Fingerprint, fingerprint}
-use Rattle.ssh_key.specs.model.Keys.{Key}
-use Rattle.ssh_key.specs.model.Lines.{IsWithout}
-use Rattle.ssh_key.specs.model.Names.{Sha256}
-use Rattle.ssh_key.specs.model.Parts.{flat}
-use Rattle.ssh_key.specs.model.Principals.{IsValidFor}
-use Rattle.ssh_key.specs.model.Refusals.{first_refusal_for}
-use Rattle.ssh_key.specs.model.Verification.{Question}
-use Rattle.ssh_key.specs.types.Error.{Error}
-use Rattle.ssh_key.specs.types.Error.TheVariants.{CertificateFieldInvalid}
-use Rattle.ssh_key.specs.types.certificate.Field.TheVariants as field
-use Rattle.ssh_key.specs.types.known_hosts.Verdict.{Verdict}
-use Rattle.ssh_key.specs.types.known_hosts.Verdict.TheVariants.{Changed, Revoked, Trusted, Unknown, Unreadable}
+use Rattle.std.specs.Prelude.{◌≡◌, ◌≢◌, ◌⊎◌, ℕ, List, [], ◌∷◌, Bool, false, IsTrue, Some}
+use Rattle.sshkey_cert.specs.CertificateReaders.{SpellsCertificate}
+use Rattle.sshkey_cert.specs.Validity.{refusal_of}
+use Rattle.sshkey_entries.specs.Fields.{filled_lines}
+use Rattle.sshkey_entries.specs.HostNames.{known_name, standard_port}
+use Rattle.sshkey_entries.specs.HostVerdicts.{HidesSome, IsAuthority, IsRevoked}
+use Rattle.sshkey_known_hosts.specs.Verdicts.{IsVerdict}
+use Rattle.sshkey_krl.specs.Revocation.{Grant}
+use Rattle.sshkey_krl.specs.Revocations.{is_certificate_revoked, is_key_revoked}
+use Rattle.sshkey_model.specs.Certificates.{Certificate, Host, normal_certificate}
+use Rattle.sshkey_model.specs.Fingerprints.{Fingerprint, fingerprint}
+use Rattle.sshkey_model.specs.Keys.{Key}
+use Rattle.sshkey_model.specs.Lines.{IsWithout}
+use Rattle.sshkey_model.specs.Names.{Sha256}
+use Rattle.sshkey_model.specs.Parts.{flat}
+use Rattle.sshkey_model.specs.Principals.{IsValidFor}
+use Rattle.sshkey_model.specs.Refusals.{first_refusal_for}
+use Rattle.sshkey_model.specs.Verification.{Question}
+use Rattle.sshkey_base.specs.declared.error.Error.{Error}
+use Rattle.sshkey_base.specs.declared.error.Error.TheVariants.{CertificateFieldInvalid}
+use Rattle.sshkey_base.specs.declared.certificate.field.Field.TheVariants as field
+use Rattle.sshkey_known_hosts.specs.declared.verdict.Verdict.{Verdict}
+use Rattle.sshkey_known_hosts.specs.declared.verdict.Verdict.TheVariants.{Changed, Revoked, Trusted, Unknown, Unreadable}
 use Rattle.host_keys.specs.declared.login.HostLogin as code
+use Rattle.host_keys.specs.declared.refusal.Refusal.{Refusal}
+use Rattle.host_keys.specs.declared.refusal.Refusal.TheVariants as refusal
 
 -- ---- the lines
 
@@ -97,13 +99,17 @@ pub record AreForHosts (names : List (List ℕ)) : Type 0 where
   pub some : names ≢ []
   pub read : AreReadPrincipals names
 
--- For whoever trusts the key that signed, the certificate is good for the host at that time: it is
--- for hosts, without critical options, valid for the host's name, and has texts that ssh(1) reads.
-pub record IsGoodFor (accepts : Question → Bool) (t : ℕ) (host : List ℕ) (c : Certificate) : Type 0 where
+-- It is for hosts, without critical options, and has texts that ssh(1) reads.
+pub record HasHostFields (c : Certificate) : Type 0 where
   pub for_hosts : c.signed.certificate_type ≡ Host
   pub no_options : c.signed.critical_options ≡ []
   pub key_id : IsWithout 0 c.signed.key_id
   pub principals : AreForHosts c.signed.valid_principals
+
+-- For whoever trusts the key that signed, the certificate is good for the host at that time: it has
+-- the fields of one for hosts, and is valid for the host's name.
+pub record IsGoodFor (accepts : Question → Bool) (t : ℕ) (host : List ℕ) (c : Certificate) : Type 0 where
+  pub fields : HasHostFields c
   pub valid : IsValidFor accepts (signers c) t host c
 
 -- The key is the host's, and ssh accepts it.
@@ -129,9 +135,15 @@ pub record IsHostCertificate (login : HostLogin) (accepts : Question → Bool) (
 
 -- ---- what is wrong with a certificate first
 
-pub data IsBadFor (accepts : Question → Bool) (t : ℕ) (host : List ℕ) (c : Certificate) : Error → Type 0 where
-  ForUsers : c.signed.certificate_type ≢ Host → IsBadFor accepts t host c (CertificateFieldInvalid field.CertType)
-  SomeOption : c.signed.certificate_type ≡ Host → c.signed.critical_options ≢ [] → IsBadFor accepts t host c (CertificateFieldInvalid field.CriticalOptions)
-  OtherKeyId : c.signed.certificate_type ≡ Host → c.signed.critical_options ≡ [] → (IsWithout 0 c.signed.key_id → ⊥) → IsBadFor accepts t host c (CertificateFieldInvalid field.KeyId)
-  OtherPrincipals : c.signed.certificate_type ≡ Host → c.signed.critical_options ≡ [] → IsWithout 0 c.signed.key_id → (AreForHosts c.signed.valid_principals → ⊥) → IsBadFor accepts t host c (CertificateFieldInvalid field.ValidPrincipals)
-  NotValid : c.signed.certificate_type ≡ Host → c.signed.critical_options ≡ [] → IsWithout 0 c.signed.key_id → AreForHosts c.signed.valid_principals → (e : Error) → option_map refusal_error (first_refusal_for accepts (signers c) t host c) ≡ Some e → IsBadFor accepts t host c e
+-- a field that none for hosts has
+pub data HasOtherField (c : Certificate) : Error → Type 0 where
+  ForUsers : c.signed.certificate_type ≢ Host → HasOtherField c (CertificateFieldInvalid field.CertType)
+  SomeOption : c.signed.certificate_type ≡ Host → c.signed.critical_options ≢ [] → HasOtherField c (CertificateFieldInvalid field.CriticalOptions)
+  OtherKeyId : c.signed.certificate_type ≡ Host → c.signed.critical_options ≡ [] → (IsWithout 0 c.signed.key_id → ⊥) → HasOtherField c (CertificateFieldInvalid field.KeyId)
+  OtherPrincipals : c.signed.certificate_type ≡ Host → c.signed.critical_options ≡ [] → IsWithout 0 c.signed.key_id → (AreForHosts c.signed.valid_principals → ⊥) → HasOtherField c (CertificateFieldInvalid field.ValidPrincipals)
+
+-- such a field; or, with the fields of one for hosts, what makes it not valid first
+abbrev pub IsBadFor : (Question → Bool) → ℕ → List ℕ → Certificate → Refusal → Type 0
+IsBadFor accepts t host c (refusal.Certificate e) = HasOtherField c e
+IsBadFor accepts t host c (refusal.Invalid first) = HasHostFields c × (first_refusal_for accepts (signers c) t host c ≡ Some (refusal_of first))
+IsBadFor accepts t host c r = ⊥

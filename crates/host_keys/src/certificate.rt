@@ -1,28 +1,31 @@
 //! Whether a certificate is the host's.
 
-ghost use Rattle.std.specs.Prelude.{◌≡◌, ◌≢◌, ◌↔◌, IfErr, IsTrue, map, string_bytes};
-ghost use Rattle.ssh_key.specs.base.Acceptance.{AcceptsExactly};
-ghost use Rattle.ssh_key.specs.cert.CertificateFormats.{certificate_format};
-ghost use Rattle.ssh_key.specs.cert.CertificateReaders.{SpellsCertificate};
-ghost use Rattle.ssh_key.specs.cert.CertificateValues.{certificate_of};
-ghost use Rattle.ssh_key.specs.model.Certificates.{IsCertificate, normal_certificate};
-ghost use Rattle.ssh_key.specs.model.Keys.{normal_key};
-ghost use Rattle.ssh_key.specs.model.Parts.{BoxesFit, flat};
-ghost use Rattle.ssh_key.specs.types.Error.TheVariants.{Memory};
+ghost use Rattle.std.specs.Prelude.{◌≡◌, ◌≢◌, ◌↔◌, IfErr, IsOk, IsTrue, map, string_bytes};
+ghost use Rattle.sshkey_cert.specs.CertificateFormats.{certificate_format};
+ghost use Rattle.sshkey_cert.specs.CertificateReaders.{SpellsCertificate};
+ghost use Rattle.sshkey_cert.specs.CertificateValues.{certificate_of};
+ghost use Rattle.sshkey_cert.specs.Validity.{FindsRefusal};
+ghost use Rattle.sshkey_model.specs.Certificates.{IsCertificate, normal_certificate};
+ghost use Rattle.sshkey_model.specs.Keys.{normal_key};
+ghost use Rattle.sshkey_model.specs.Parts.{BoxesFit, flat};
+ghost use Rattle.sshkey_model.specs.Refusals.{first_refusal_for};
 ghost use Rattle.host_keys.specs.Answers.{AsksOf, IsWhyNoCertificate, OkExactly, RefusesHostCertificate};
-ghost use Rattle.host_keys.specs.Hosts.{AreForHosts, IsBadFor, IsGoodFor, IsHostCertificate, IsTrustedCertificate, lines_of, login_of, plain_name};
+ghost use Rattle.host_keys.specs.Hosts.{AreForHosts, HasHostFields, HasOtherField, IsBadFor, IsGoodFor, IsHostCertificate, IsTrustedCertificate, lines_of, login_of, plain_name, signers};
 ghost use Rattle.host_keys.specs.declared.refusal.Refusal.TheVariants as refusal;
 
 use crate::login::HostLogin;
 use crate::refusal::{Refusal, answer};
 use crate::verdict::signed_verdict;
 use openssh_limits::{are_read_principals, is_let_in, is_read_text};
-use ssh_key::certificate::Field;
-use ssh_key::encoding::Encode;
-use ssh_key::known_hosts::HmacSha1;
-use ssh_key::laws::{certificate_fits, key_fits, one_certificate, shortest_certificate};
-use ssh_key::revocation::Revocations;
-use ssh_key::{Certificate, Error, HashAlg, RawVerifier};
+use sshkey_base::certificate::Field;
+use sshkey_base::{Error, HashAlg};
+use sshkey_cert::laws::one_certificate;
+use sshkey_cert::{Certificate, CertificateRefusal};
+use sshkey_cert_form::is_normal_form;
+use sshkey_keys::RawVerifier;
+use sshkey_known_hosts::HmacSha1;
+use sshkey_krl::Revocations;
+use sshkey_model::laws::key_fits;
 use std::alloc::Global;
 
 /// Accepts the certificate that a host shows, in its bytes, if all of these hold:
@@ -47,7 +50,9 @@ use std::alloc::Global;
 /// - `Unknown`: the key that signed is no authority of the host;
 /// - `UnacceptedKey`;
 /// - `Certificate`: `CertificateFieldInvalid` with `CertType`, `CriticalOptions`, `KeyId` or
-///   `ValidPrincipals`, or a refusal of `Certificate::validate_principal_at`.
+///   `ValidPrincipals`;
+/// - `Invalid` with the first refusal (`Certificate::first_refusal_for`), which is never
+///   `Authority`.
 ///
 /// So the verifier is asked only about a certificate by an authority of the host.
 ///
@@ -84,21 +89,6 @@ pub fn check_certificate<H: HmacSha1, R: Revocations, V: RawVerifier>(
     judge(alloc, login, &read, hmac, revocations, verifier)
 }
 
-/// Whether the bytes, which spell the certificate, are its normal form. Every other spelling is
-/// longer, so that no byte has to be compared. Does not allocate.
-fn is_normal_form(certificate: &Certificate, blob: &[u8]) -> bool
-    requires { SpellsCertificate (certificate_of certificate.now) blob.now }
-    ensures { IsTrue result
-        ↔ (blob.now ≡ flat (normal_certificate (certificate_of certificate.now))) }
-{
-    certificate_fits();
-    shortest_certificate();
-    match certificate.encoded_len() {
-        Ok(len) => len == blob.len(),
-        Err(_) => false,
-    }
-}
-
 /// Accepts the certificate if it is the host's.
 fn judge<H: HmacSha1, R: Revocations, V: RawVerifier>(
     alloc: Global,
@@ -133,16 +123,13 @@ fn judge<H: HmacSha1, R: Revocations, V: RawVerifier>(
     if !is_let_in(key, login.least_rsa_bits) {
         return Err(Refusal::UnacceptedKey);
     }
-    match validate(
+    validate(
         alloc,
         certificate,
         login.host,
         login.unix_timestamp,
         verifier,
-    ) {
-        Ok(()) => Ok(()),
-        Err(error) => Err(Refusal::of_certificate(error)),
-    }
+    )
 }
 
 /// Whether the certificate is good for the host at that time, if its authority is.
@@ -152,12 +139,27 @@ fn validate<V: RawVerifier>(
     host: &str,
     unix_timestamp: u64,
     verifier: &V,
-) -> ssh_key::Result<()>
+) -> Result<(), Refusal>
     requires { BoxesFit (normal_key (certificate_of certificate.now).signed.signature_key) }
-    ensures exactly { AcceptsExactly (IsGoodFor (V.accepts verifier.now) unix_timestamp
+    ensures exactly { OkExactly (IsGoodFor (V.accepts verifier.now) unix_timestamp
         (plain_name host.now) (certificate_of certificate.now)) result }
-    ensures refused { IfErr result (λ e. e ≢ Memory → IsBadFor (V.accepts verifier.now)
-        unix_timestamp (plain_name host.now) (certificate_of certificate.now) e) }
+    ensures refused { IfErr result (λ r. r ≢ refusal.Memory → IsBadFor (V.accepts verifier.now)
+        unix_timestamp (plain_name host.now) (certificate_of certificate.now) r) }
+{
+    if let Err(error) = check_fields(certificate) {
+        return Err(Refusal::Certificate(error));
+    }
+    match first_refusal(alloc, certificate, host, unix_timestamp, verifier) {
+        Ok(None) => Ok(()),
+        Ok(Some(first)) => Err(Refusal::Invalid(first)),
+        Err(_) => Err(Refusal::Memory),
+    }
+}
+
+/// Whether the certificate is for hosts, without critical options, and has texts that ssh(1) reads.
+fn check_fields(certificate: &Certificate) -> sshkey_base::Result<()>
+    ensures exactly { IsOk result ↔ HasHostFields (certificate_of certificate.now) }
+    ensures refused { IfErr result (λ e. HasOtherField (certificate_of certificate.now) e) }
 {
     if !certificate.cert_type().is_host() {
         return Err(Error::CertificateFieldInvalid(Field::CertType));
@@ -171,11 +173,28 @@ fn validate<V: RawVerifier>(
     if !are_for_hosts(certificate.valid_principals()) {
         return Err(Error::CertificateFieldInvalid(Field::ValidPrincipals));
     }
+    Ok(())
+}
+
+/// What is wrong with the certificate first, for whoever trusts the key that signed. Fails only
+/// when out of memory.
+fn first_refusal<V: RawVerifier>(
+    alloc: Global,
+    certificate: &Certificate,
+    host: &str,
+    unix_timestamp: u64,
+    verifier: &V,
+) -> sshkey_base::Result<Option<CertificateRefusal>>
+    requires { BoxesFit (normal_key (certificate_of certificate.now).signed.signature_key) }
+    ensures { FindsRefusal (first_refusal_for (V.accepts verifier.now)
+        (signers (certificate_of certificate.now)) unix_timestamp (plain_name host.now)
+        (certificate_of certificate.now)) result }
+{
     let signer = certificate
         .signature_key()
         .fingerprint(alloc, HashAlg::Sha256)?;
     let name = host.to_ascii_lowercase(alloc)?;
-    certificate.validate_principal_at(alloc, unix_timestamp, name.as_str(), &[signer], verifier)
+    certificate.first_refusal_for(alloc, unix_timestamp, name.as_str(), &[signer], verifier)
 }
 
 /// Whether there are principals, and ssh(1) reads them.

@@ -1,7 +1,7 @@
 //! Whether a key is the host's.
 
 ghost use Rattle.std.specs.Prelude.{IfErr};
-ghost use Rattle.ssh_key.specs.keys.Keys.{key_of};
+ghost use Rattle.sshkey_keys.specs.Keys.{key_of};
 ghost use Rattle.host_keys.specs.Answers.{AsksOf, IsWhyNoKey, OkExactly};
 ghost use Rattle.host_keys.specs.Hosts.{IsTrustedKey, lines_of, login_of};
 
@@ -9,15 +9,15 @@ use crate::login::HostLogin;
 use crate::refusal::{Refusal, answer};
 use crate::verdict::key_verdict;
 use openssh_limits::is_let_in;
-use ssh_key::known_hosts::HmacSha1;
-use ssh_key::laws::one_verdict;
-use ssh_key::public::KeyData;
-use ssh_key::revocation::Revocations;
+use sshkey_keys::KeyData;
+use sshkey_known_hosts::HmacSha1;
+use sshkey_known_hosts::laws::one_verdict;
+use sshkey_krl::Revocations;
 use std::alloc::Global;
 
 /// Accepts the key that a host shows if the texts of known_hosts, as OpenSSH reads them, list the
 /// key for the host at that port, and revoke it in no line for it
-/// (`ssh_key::known_hosts::judge_key`). `revocations`, such as the list of `RevokedHostKeys`
+/// (`sshkey_known_hosts::judge_key`). `revocations`, such as the list of `RevokedHostKeys`
 /// (ssh_config(5)), must not revoke it either, and ssh(1) has to accept its kind and size
 /// (`openssh_limits::is_let_in`).
 ///

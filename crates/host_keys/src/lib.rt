@@ -1,6 +1,7 @@
 //! Whether the key or the certificate that a host shows is the host's, by known_hosts.
 //!
-//! It names `ssh_key` and `openssh_limits` alone, and is proved from their contracts. Copy both.
+//! It names the crates for keys, certificates, known_hosts and revocations, and nothing of private
+//! keys, and is proved from their contracts. Copy it and change it.
 #![tactic(auto)]
 
 mod certificate;

@@ -1,11 +1,12 @@
 //! Why a host is refused.
 
 ghost use Rattle.std.specs.Prelude.{◌≡◌};
-ghost use Rattle.ssh_key.specs.types.Error.TheVariants.{Memory};
+ghost use Rattle.sshkey_base.specs.declared.error.Error.TheVariants.{Memory};
 ghost use Rattle.host_keys.specs.Answers.{IsRefusalFor, answer_of, verdict_answer};
 
-use ssh_key::Error;
-use ssh_key::known_hosts::Verdict;
+use sshkey_base::Error;
+use sshkey_cert::CertificateRefusal;
+use sshkey_known_hosts::Verdict;
 use std::alloc::AllocError;
 
 /// Why what a host shows is not taken for the host's.
@@ -22,9 +23,12 @@ pub enum Refusal {
     Unknown,
     /// ssh(1) accepts no such key, by its kind or its size (`openssh_limits::is_let_in`).
     UnacceptedKey,
-    /// The bytes spell no certificate; or it is by an authority of the host, but not good for it
-    /// now.
+    /// The bytes spell no certificate; or it is by an authority of the host, but for users, with a
+    /// critical option, or with a text that ssh(1) does not read (`Error::CertificateFieldInvalid`).
     Certificate(Error),
+    /// The certificate is by an authority of the host, but not valid for it now: for its signature,
+    /// the time, its window or its principals.
+    Invalid(CertificateRefusal),
     /// The bytes are not the certificate's normal form, and so not those that were signed.
     NotNormalForm,
     /// Memory ran out.
@@ -59,7 +63,7 @@ fn verdict_answer(verdict: Verdict) -> Result<(), Refusal>
 /// What follows from whether something is revoked, and from what known_hosts says of it.
 pub(crate) fn answer(
     revoked: Result<bool, AllocError>,
-    said: ssh_key::Result<Verdict>,
+    said: sshkey_base::Result<Verdict>,
 ) -> Result<(), Refusal>
     ensures { result ≡ answer_of revoked said }
 {

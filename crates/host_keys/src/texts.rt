@@ -2,19 +2,20 @@
 
 ghost use Rattle.std.specs.List.{Any};
 ghost use Rattle.std.specs.Prelude.{◌≡◌, ◌↔◌, ◌<◌, length, IfErr, IfOk, IsTrue};
-ghost use Rattle.ssh_key.specs.entries.HostNames.{known_name};
-ghost use Rattle.ssh_key.specs.entries.HostVerdicts.{IsAuthority};
-ghost use Rattle.ssh_key.specs.keys.Keys.{key_of};
-ghost use Rattle.ssh_key.specs.known_hosts.Verdicts.{IsVerdict};
-ghost use Rattle.ssh_key.specs.model.Keys.{IsKey};
-ghost use Rattle.ssh_key.specs.public.PublicKeys.{public_of};
-ghost use Rattle.ssh_key.specs.types.Error.TheVariants.{Memory};
+ghost use Rattle.sshkey_entries.specs.HostNames.{known_name};
+ghost use Rattle.sshkey_entries.specs.HostVerdicts.{IsAuthority};
+ghost use Rattle.sshkey_keys.specs.Keys.{key_of};
+ghost use Rattle.sshkey_known_hosts.specs.Verdicts.{IsVerdict};
+ghost use Rattle.sshkey_model.specs.Keys.{IsKey};
+ghost use Rattle.sshkey_public.specs.PublicKeys.{public_of};
+ghost use Rattle.sshkey_base.specs.declared.error.Error.TheVariants.{Memory};
 ghost use Rattle.host_keys.specs.Hosts.{lines_of};
 
-use ssh_key::known_hosts::{HmacSha1, Verdict, authorities, judge_key};
-use ssh_key::laws::compared_keys;
-use ssh_key::public::KeyData;
-use ssh_key::{PublicKey, Result};
+use sshkey_base::Result;
+use sshkey_keys::KeyData;
+use sshkey_keys::laws::compared_keys;
+use sshkey_known_hosts::{HmacSha1, Verdict, authorities, judge_key};
+use sshkey_public::PublicKey;
 use std::alloc::Global;
 
 /// What the texts say of a key at just that port. Fails only when out of memory.

@@ -1,17 +1,17 @@
 //! What known_hosts says of what a host shows.
 
 ghost use Rattle.std.specs.Prelude.{◌≡◌, ◌↔◌, ◌<◌, length, IfErr, IfOk, IsTrue};
-ghost use Rattle.ssh_key.specs.entries.HostNames.{known_name};
-ghost use Rattle.ssh_key.specs.keys.Keys.{key_of};
-ghost use Rattle.ssh_key.specs.model.Keys.{IsKey};
-ghost use Rattle.ssh_key.specs.types.Error.TheVariants.{Memory};
-ghost use Rattle.ssh_key.specs.types.known_hosts.Verdict.TheVariants.{Revoked, Unknown, Unreadable};
+ghost use Rattle.sshkey_entries.specs.HostNames.{known_name};
+ghost use Rattle.sshkey_keys.specs.Keys.{key_of};
+ghost use Rattle.sshkey_model.specs.Keys.{IsKey};
+ghost use Rattle.sshkey_base.specs.declared.error.Error.TheVariants.{Memory};
+ghost use Rattle.sshkey_known_hosts.specs.declared.verdict.Verdict.TheVariants.{Revoked, Unknown, Unreadable};
 ghost use Rattle.host_keys.specs.Hosts.{IsSaidOfKey, IsSaidOfSigned, IsSettled, IsVerdictOfSigned, lines_of};
 
 use crate::texts::{has_authority, judge_all};
-use ssh_key::Result;
-use ssh_key::known_hosts::{HmacSha1, Verdict};
-use ssh_key::public::KeyData;
+use sshkey_base::Result;
+use sshkey_keys::KeyData;
+use sshkey_known_hosts::{HmacSha1, Verdict};
 use std::alloc::Global;
 
 /// The port at which a host is known by its plain name.

@@ -6,8 +6,8 @@ use Rattle.std.specs.List.{list_any}
 use Rattle.std.proofs.lemmas.List.Elements.{All-cons, All-head, All-tail}
 use Rattle.std.proofs.lemmas.Map.Views.{Contains-from_any}
 use Rattle.std.proofs.lemmas.Slice.Eq.{bytes_eq-Decides}
-use Rattle.ssh_key.specs.addresses.SourceAddresses.{IsNetworks}
-use Rattle.ssh_key.specs.model.Options.{CertificateOption}
+use Rattle.sshkey_addresses.specs.SourceAddresses.{IsNetworks}
+use Rattle.sshkey_model.specs.Options.{CertificateOption}
 use Rattle.login_policy.specs.KnownOptions.{Addresses, Command, IsArgument, IsEmptyIfFlag, IsKnownOption, Verification, flags, force_command, source_address, verify_required}
 
 -- ---- a walk

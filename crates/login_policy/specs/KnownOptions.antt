@@ -1,9 +1,9 @@
 -- The options of user certificates that the policy knows, and the values that sshd(8) reads of them
 -- (PROTOCOL.certkeys).
 use Rattle.std.specs.Prelude.{◌≡◌, ◌≢◌, ℕ, List, [], ◌∷◌, Contains, codes}
-use Rattle.ssh_key.specs.addresses.SourceAddresses.{IsNetworks}
-use Rattle.ssh_key.specs.model.Lines.{IsWithout}
-use Rattle.ssh_key.specs.model.Options.{CertificateOption}
+use Rattle.sshkey_addresses.specs.SourceAddresses.{IsNetworks}
+use Rattle.sshkey_model.specs.Lines.{IsWithout}
+use Rattle.sshkey_model.specs.Options.{CertificateOption}
 
 abbrev pub force_command : List ℕ
 force_command = codes "force-command"

@@ -2,22 +2,23 @@
 -- sshd_config(5), TrustedUserCAKeys and RevokedKeys).
 use Rattle.std.specs.Prelude.{◌≡◌, ◌≢◌, ℕ, List, Bool, not, All, Contains, IsTrue, Result, Ok, Err, Option, Some, None, false, is_some, option_map, string_bytes}
 use Rattle.std.specs.declared.net.ip_addr.IpAddr.{IpAddr}
-use Rattle.ssh_key.specs.addresses.SourceAddresses.{ComesFrom, IsNetworks}
-use Rattle.ssh_key.specs.cert.Validity.{fingerprints_of}
-use Rattle.ssh_key.specs.keys.Fingerprints.{IsFingerprint}
-use Rattle.ssh_key.specs.keys.Keys.{key_of}
-use Rattle.ssh_key.specs.krl.Revocation as krl
-use Rattle.ssh_key.specs.krl.Revocations.{is_certificate_revoked}
-use Rattle.ssh_key.specs.model.Certificates.{Certificate, User, normal_certificate}
-use Rattle.ssh_key.specs.model.Fingerprints.{Fingerprint}
-use Rattle.ssh_key.specs.model.Keys.{Key}
-use Rattle.ssh_key.specs.model.Lines.{IsCertificateLine, IsWithout}
-use Rattle.ssh_key.specs.model.Names.{Sha256}
-use Rattle.ssh_key.specs.model.OptionMaps.{value_of}
-use Rattle.ssh_key.specs.model.Parts.{flat}
-use Rattle.ssh_key.specs.model.Validity.{IsValid}
-use Rattle.ssh_key.specs.model.Verification.{Question}
-use Rattle.ssh_key.specs.options.OptionMaps.{options_of}
+use Rattle.sshkey_addresses.specs.SourceAddresses.{ComesFrom, IsNetworks}
+use Rattle.sshkey_cert.specs.CertificateReaders.{SpellsCertificate}
+use Rattle.sshkey_cert.specs.Validity.{fingerprints_of}
+use Rattle.sshkey_keys.specs.Fingerprints.{IsFingerprint}
+use Rattle.sshkey_keys.specs.Keys.{key_of}
+use Rattle.sshkey_krl.specs.Revocation as krl
+use Rattle.sshkey_krl.specs.Revocations.{is_certificate_revoked}
+use Rattle.sshkey_model.specs.Certificates.{Certificate, User, normal_certificate}
+use Rattle.sshkey_model.specs.Fingerprints.{Fingerprint}
+use Rattle.sshkey_model.specs.Keys.{Key}
+use Rattle.sshkey_model.specs.Lines.{IsWithout}
+use Rattle.sshkey_model.specs.Names.{Sha256}
+use Rattle.sshkey_model.specs.OptionMaps.{value_of}
+use Rattle.sshkey_model.specs.Parts.{flat}
+use Rattle.sshkey_model.specs.Validity.{IsValid}
+use Rattle.sshkey_model.specs.Verification.{Question}
+use Rattle.sshkey_cert_values.specs.OptionMaps.{options_of}
 use Rattle.openssh_limits.specs.Keys.{is_let_in}
 use Rattle.login_policy.specs.KnownOptions.{IsKnownOption, IsPlainExtension}
 use Rattle.login_policy.specs.KnownOptions as options
@@ -28,8 +29,8 @@ use Rattle.login_policy.specs.declared.refusal.Refusal.{Refusal}
 use Rattle.login_policy.specs.declared.refusal.Refusal.TheVariants.{Memory}
 
 -- A login that is asked for, and what decides it: whom the verifier accepts, what is revoked, which
--- authorities are trusted, and where the client is, if it is at an address. An RSA key has to have
--- so many bits.
+-- authorities are trusted, and where the client is, if it is at an address. The blob is that of its
+-- certificate. An RSA key has to have so many bits.
 pub record Login : Type 0 where
   pub accepts : Question → Bool
   pub revokes : List ℕ → krl.Grant → Bool
@@ -37,13 +38,13 @@ pub record Login : Type 0 where
   pub time : ℕ
   pub user : List ℕ
   pub offered : Key
-  pub line : List ℕ
+  pub blob : List ℕ
   pub least_rsa_bits : ℕ
   pub client : Option IpAddr
 
 -- the login of a call, of its verifier and of who says what is revoked
 abbrev pub login_of : code.Login → (Question → Bool) → (List ℕ → krl.Grant → Bool) → Login
-login_of l accepts revokes = record { accepts = accepts; revokes = revokes; authorities = fingerprints_of l.authorities.now; time = l.unix_timestamp; user = l.user.now; offered = key_of l.offered.now; line = l.line.now; least_rsa_bits = l.least_rsa_bits; client = l.client }
+login_of l accepts revokes = record { accepts = accepts; revokes = revokes; authorities = fingerprints_of l.authorities.now; time = l.unix_timestamp; user = l.user.now; offered = key_of l.offered.now; blob = l.certificate.now; least_rsa_bits = l.least_rsa_bits; client = l.client }
 
 -- The fields are those of a certificate for users, of the offered key, which is let in, with only
 -- critical options that are known, nothing in a flag, and texts and principals that sshd reads.
@@ -88,12 +89,11 @@ pub record IsUnbound (g : Grant) : Type 0 where
   pub any_command : g.force_command ≡ None
   pub unverified : g.verify_required ≡ false
 
--- The line is that of a certificate, in its normal form, that lets the user in.
+-- The blob is that of a certificate, in its normal form, that lets the user in.
 pub record IsLogin (login : Login) : Type 0 where
   pub certificate : Certificate
-  pub comment : List ℕ
-  pub line : IsCertificateLine login.line certificate comment
-  pub normal : line.blob ≡ flat (normal_certificate certificate)
+  pub spelled : SpellsCertificate certificate login.blob
+  pub normal : login.blob ≡ flat (normal_certificate certificate)
   pub lets_in : LetsIn login certificate
 
 -- Out of memory aside, Ok exactly if it is, and then with that certificate's grant.

@@ -1,24 +1,26 @@
 -- Why a login is refused, and where memory is needed.
-use Rattle.std.specs.Prelude.{◌≡◌, ◌≢◌, ◌⊎◌, ℕ, List, All, Some, false, IsTrue, option_map}
-use Rattle.ssh_key.specs.cert.CertificateFormats.{certificate_format}
-use Rattle.ssh_key.specs.cert.CertificateReaders.{SpellsCertificate}
-use Rattle.ssh_key.specs.cert.Validity.{refusal_error}
-use Rattle.ssh_key.specs.keys.Fingerprints.{IsShort}
-use Rattle.ssh_key.specs.krl.Revocations.{is_certificate_revoked}
-use Rattle.ssh_key.specs.model.Certificates.{Certificate, User, normal_certificate}
-use Rattle.ssh_key.specs.model.Fingerprints.{Fingerprint}
-use Rattle.ssh_key.specs.model.Keys.{Key}
-use Rattle.ssh_key.specs.model.Lines.{IsCertificateLine, IsNoLine, IsWithout, name_of_certificate}
-use Rattle.ssh_key.specs.model.OptionMaps.{value_of}
-use Rattle.ssh_key.specs.model.Parts.{flat}
-use Rattle.ssh_key.specs.model.Principals.{IsValidFor}
-use Rattle.ssh_key.specs.model.Refusals.{first_refusal_for, has_trusted_authority}
-use Rattle.ssh_key.specs.public.LineFaults.{HasFaultOfLine}
-use Rattle.ssh_key.specs.public.LineNeeds.{HasComment, NeedsValue}
-use Rattle.ssh_key.specs.types.Error.{Error}
-use Rattle.ssh_key.specs.types.Error.TheVariants as error
-use Rattle.ssh_key.specs.types.certificate.Field.{Field}
-use Rattle.ssh_key.specs.types.certificate.Field.TheVariants as field
+use Rattle.std.specs.Prelude.{◌≡◌, ◌≢◌, ◌⊎◌, ℕ, List, All, Some, false, IsTrue}
+use Rattle.sshkey_cert.specs.CertificateFormats.{certificate_format}
+use Rattle.sshkey_cert.specs.CertificateReaders.{SpellsCertificate}
+use Rattle.sshkey_cert.specs.Validity.{refusal_of}
+use Rattle.sshkey_cert.specs.declared.certificate.refusal.CertificateRefusal.{CertificateRefusal}
+use Rattle.sshkey_cert.specs.declared.certificate.refusal.CertificateRefusal.TheVariants.{Authority}
+use Rattle.sshkey_cert_form.specs.Faults.{IsFaultOf}
+use Rattle.sshkey_keys.specs.Fingerprints.{IsShort}
+use Rattle.sshkey_krl.specs.Revocations.{is_certificate_revoked}
+use Rattle.sshkey_model.specs.Certificates.{Certificate, User, normal_certificate}
+use Rattle.sshkey_model.specs.Fingerprints.{Fingerprint}
+use Rattle.sshkey_model.specs.Keys.{Key}
+use Rattle.sshkey_model.specs.Lines.{IsWithout}
+use Rattle.sshkey_model.specs.OptionMaps.{value_of}
+use Rattle.sshkey_model.specs.Parts.{flat}
+use Rattle.sshkey_model.specs.Principals.{IsValidFor}
+use Rattle.sshkey_model.specs.Refusals.{first_refusal_for, has_trusted_authority}
+use Rattle.sshkey_base.specs.Reading.{NoSpelling}
+use Rattle.sshkey_base.specs.declared.error.Error.{Error}
+use Rattle.sshkey_base.specs.declared.error.Error.TheVariants as error
+use Rattle.sshkey_base.specs.declared.certificate.field.Field.{Field}
+use Rattle.sshkey_base.specs.declared.certificate.field.Field.TheVariants as field
 use Rattle.openssh_limits.specs.Keys.{is_let_in}
 use Rattle.login_policy.specs.KnownOptions.{IsKnownOption, IsPlainExtension, source_address}
 use Rattle.login_policy.specs.Logins.{HasRightFields, IsAllowedFrom, Login}
@@ -46,22 +48,22 @@ pub data HasWrongField (user : List ℕ) (offered : Key) (least_rsa_bits : ℕ) 
 -- The refusal says what is wrong first once the fields are right: the authority, then revocation,
 -- then the signature, the time or the user's name, and only then where the client is.
 pub data IsUntrusted (login : Login) (c : Certificate) : Refusal → Type 0 where
-  OtherAuthority : has_trusted_authority login.authorities c ≡ false → IsUntrusted login c (refusal.Certificate error.CertificateValidation)
+  OtherAuthority : has_trusted_authority login.authorities c ≡ false → IsUntrusted login c (refusal.Invalid Authority)
   IsRevoked : IsTrue (has_trusted_authority login.authorities c) → IsTrue (is_certificate_revoked login.revokes c) → IsUntrusted login c refusal.Revoked
-  NotValid : IsTrue (has_trusted_authority login.authorities c) → is_certificate_revoked login.revokes c ≡ false → (e : Error) → option_map refusal_error (first_refusal_for login.accepts login.authorities login.time login.user c) ≡ Some e → IsUntrusted login c (refusal.Certificate e)
+  NotValid : IsTrue (has_trusted_authority login.authorities c) → is_certificate_revoked login.revokes c ≡ false → (w : CertificateRefusal) → first_refusal_for login.accepts login.authorities login.time login.user c ≡ Some (refusal_of w) → IsUntrusted login c (refusal.Invalid w)
   FromElsewhere : is_certificate_revoked login.revokes c ≡ false → IsValidFor login.accepts login.authorities login.time login.user c → (IsAllowedFrom (value_of source_address c.signed.critical_options) login.client → ⊥) → IsUntrusted login c refusal.Elsewhere
 
 -- The refusal says what is wrong first with a certificate in its normal form.
 abbrev pub RefusesCertificate : Login → Certificate → Refusal → Type 0
 RefusesCertificate login c r = HasWrongField login.user login.offered login.least_rsa_bits c r ⊎ (HasRightFields login.user login.offered login.least_rsa_bits c × IsUntrusted login c r)
 
--- The bytes spell the certificate: they are not its normal form; or they are, and it is refused.
-abbrev pub RefusesSpelling : Login → Certificate → List ℕ → Refusal → Type 0
-RefusesSpelling login c blob r = ((blob ≢ flat (normal_certificate c)) × (r ≡ refusal.NotNormalForm)) ⊎ ((blob ≡ flat (normal_certificate c)) × RefusesCertificate login c r)
+-- The blob spells the certificate: it is not its normal form; or it is, and it is refused.
+abbrev pub RefusesSpelling : Login → Certificate → Refusal → Type 0
+RefusesSpelling login c r = ((login.blob ≢ flat (normal_certificate c)) × (r ≡ refusal.NotNormalForm)) ⊎ ((login.blob ≡ flat (normal_certificate c)) × RefusesCertificate login c r)
 
--- The line is of no certificate, and has that fault; or of one that is refused for that.
-abbrev pub RefusesCertificateLine : Login → Refusal → Type 0
-RefusesCertificateLine login r = (IsNoLine name_of_certificate SpellsCertificate login.line × ((e : Error) × HasFaultOfLine certificate_format name_of_certificate SpellsCertificate login.line e × IsRefusalFor e r)) ⊎ ((c : Certificate) × (comment : List ℕ) × (is : IsCertificateLine login.line c comment) × RefusesSpelling login c is.blob r)
+-- The blob is that of no certificate, and has that fault; or of one that is refused for that.
+abbrev pub RefusesLogin : Login → Refusal → Type 0
+RefusesLogin login r = (NoSpelling SpellsCertificate login.blob × ((e : Error) × IsFaultOf login.blob e × IsRefusalFor e r)) ⊎ ((c : Certificate) × SpellsCertificate c login.blob × RefusesSpelling login c r)
 
 -- ---- where memory is needed
 
@@ -70,7 +72,6 @@ RefusesCertificateLine login r = (IsNoLine name_of_certificate SpellsCertificate
 abbrev pub NeedsJudging : List Fingerprint → Certificate → Type 0
 NeedsJudging authorities c = ¬ IsShort c.signed.signature_key ⊎ IsTrue (has_trusted_authority authorities c)
 
--- The certificate in the text needs memory, or the comment after it does; or the text is the line
--- of a certificate that needs memory to be judged.
+-- The blob needs memory to be read; or it spells a certificate that needs memory to be judged.
 abbrev pub NeedsMemory : List Fingerprint → List ℕ → Type 0
-NeedsMemory authorities text = NeedsValue certificate_format text ⊎ HasComment name_of_certificate SpellsCertificate text ⊎ ((c : Certificate) × (comment : List ℕ) × IsCertificateLine text c comment × NeedsJudging authorities c)
+NeedsMemory authorities blob = certificate_format.needs blob 0 ⊎ ((c : Certificate) × SpellsCertificate c blob × NeedsJudging authorities c)

@@ -1,26 +1,28 @@
 //! Whether an authority vouches for a certificate, and nobody has revoked it.
 
 ghost use Rattle.std.specs.Prelude.{◌≡◌, ◌≢◌, false, IfErr, IfOk, OnOk};
-ghost use Rattle.ssh_key.specs.cert.CertificateValues.{certificate_of};
-ghost use Rattle.ssh_key.specs.cert.Validity.{fingerprints_of};
-ghost use Rattle.ssh_key.specs.keys.Fingerprints.{IsFingerprint};
-ghost use Rattle.ssh_key.specs.krl.Revocations.{is_certificate_revoked};
-ghost use Rattle.ssh_key.specs.model.Keys.{normal_key};
-ghost use Rattle.ssh_key.specs.model.Names.{Sha256};
-ghost use Rattle.ssh_key.specs.model.Parts.{BoxesFit};
-ghost use Rattle.ssh_key.specs.model.Principals.{IsValidFor};
+ghost use Rattle.sshkey_cert.specs.CertificateValues.{certificate_of};
+ghost use Rattle.sshkey_cert.specs.Validity.{fingerprints_of};
+ghost use Rattle.sshkey_keys.specs.Fingerprints.{IsFingerprint};
+ghost use Rattle.sshkey_krl.specs.Revocations.{is_certificate_revoked};
+ghost use Rattle.sshkey_model.specs.Keys.{normal_key};
+ghost use Rattle.sshkey_model.specs.Names.{Sha256};
+ghost use Rattle.sshkey_model.specs.Parts.{BoxesFit};
+ghost use Rattle.sshkey_model.specs.Principals.{IsValidFor};
 ghost use Rattle.login_policy.specs.Logins.{login_of};
 ghost use Rattle.login_policy.specs.Refusals.{IsUntrusted, NeedsJudging};
 ghost use Rattle.login_policy.specs.declared.refusal.Refusal.TheVariants.{Memory};
 
 use crate::login::Login;
 use crate::refusal::Refusal;
-use ssh_key::certificate::contains_digest;
-use ssh_key::revocation::Revocations;
-use ssh_key::{Certificate, Error, Fingerprint, HashAlg, RawVerifier};
+use sshkey_base::HashAlg;
+use sshkey_cert::{Certificate, CertificateRefusal, contains_digest};
+use sshkey_keys::{Fingerprint, RawVerifier};
+use sshkey_krl::Revocations;
+use sshkey_model::laws::certificates::refused_or_wanted;
 use std::alloc::Global;
 
-/// Validates the certificate as `Certificate::validate_principal_at` does, and returns the SHA-256
+/// Validates the certificate as `Certificate::first_refusal_for` does, and returns the SHA-256
 /// fingerprint of the key that signed it. Before the verifier it asks whether that is the key of one
 /// of the authorities, since anybody can sign with a key of their own, and then whether the
 /// certificate is revoked.
@@ -45,11 +47,12 @@ pub(crate) fn validate<R: Revocations, V: RawVerifier>(
     ensures memory { IfErr result (λ r. r ≡ Memory → NeedsJudging
         (fingerprints_of login.now.authorities.now) (certificate_of certificate.now)) }
 {
+    refused_or_wanted();
     let authority = certificate
         .signature_key()
         .fingerprint(alloc, HashAlg::Sha256)?;
     if !contains_digest(login.authorities, authority.as_bytes()) {
-        return Err(Refusal::Certificate(Error::CertificateValidation));
+        return Err(Refusal::Invalid(CertificateRefusal::Authority));
     }
     let Ok(is_revoked) = revocations.is_certificate_revoked(alloc, certificate) else {
         return Err(Refusal::Memory);
@@ -57,12 +60,14 @@ pub(crate) fn validate<R: Revocations, V: RawVerifier>(
     if is_revoked {
         return Err(Refusal::Revoked);
     }
-    certificate.validate_principal_at(
+    match certificate.first_refusal_for(
         alloc,
         login.unix_timestamp,
         login.user,
         login.authorities,
         verifier,
-    )?;
-    Ok(authority)
+    )? {
+        None => Ok(authority),
+        Some(refusal) => Err(Refusal::Invalid(refusal)),
+    }
 }

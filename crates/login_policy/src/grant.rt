@@ -1,15 +1,17 @@
 //! What a login is bound to, and what it may do.
 
 ghost use Rattle.std.specs.Prelude.{◌≡◌, ◌↔◌, IfErr, IfOk, IsTrue, option_map, string_bytes};
-ghost use Rattle.ssh_key.specs.cert.CertificateValues.{certificate_of};
-ghost use Rattle.ssh_key.specs.keys.Fingerprints.{IsFingerprint};
-ghost use Rattle.ssh_key.specs.model.Names.{Sha256};
-ghost use Rattle.ssh_key.specs.types.Error.TheVariants.{Memory};
+ghost use Rattle.sshkey_cert.specs.CertificateValues.{certificate_of};
+ghost use Rattle.sshkey_keys.specs.Fingerprints.{IsFingerprint};
+ghost use Rattle.sshkey_model.specs.Names.{Sha256};
+ghost use Rattle.sshkey_base.specs.declared.error.Error.TheVariants.{Memory};
 ghost use Rattle.login_policy.specs.Logins.{IsGrantOf, IsUnbound};
 
 use crate::options::{FORCE_COMMAND, NO_TOUCH_REQUIRED, VERIFY_REQUIRED};
-use ssh_key::certificate::OptionsMap;
-use ssh_key::{Certificate, Fingerprint, Result};
+use sshkey_base::Result;
+use sshkey_cert::Certificate;
+use sshkey_cert_values::OptionsMap;
+use sshkey_keys::Fingerprint;
 use std::alloc::Global;
 
 /// What a certificate binds a login to, and what it permits (PROTOCOL.certkeys).

@@ -1,14 +1,14 @@
 //! Whether a key is the certified one.
 
 ghost use Rattle.std.specs.Prelude.{◌≡◌, ◌↔◌, IsTrue};
-ghost use Rattle.ssh_key.specs.cert.CertificateValues.{certificate_of};
-ghost use Rattle.ssh_key.specs.keys.Keys.{key_of};
-ghost use Rattle.ssh_key.specs.model.Certificates.{IsCertificate};
-ghost use Rattle.ssh_key.specs.model.Keys.{IsKey};
+ghost use Rattle.sshkey_cert.specs.CertificateValues.{certificate_of};
+ghost use Rattle.sshkey_keys.specs.Keys.{key_of};
+ghost use Rattle.sshkey_model.specs.Certificates.{IsCertificate};
+ghost use Rattle.sshkey_model.specs.Keys.{IsKey};
 
-use ssh_key::Certificate;
-use ssh_key::laws::compared_keys;
-use ssh_key::public::KeyData;
+use sshkey_cert::Certificate;
+use sshkey_keys::KeyData;
+use sshkey_keys::laws::compared_keys;
 
 /// Whether the offered key is the one that is certified.
 pub(crate) fn is_key_of(certificate: &Certificate, offered: &KeyData) -> bool

@@ -1,10 +1,10 @@
 //! A login policy: whom a certificate lets in, and what such a login is bound to.
 //!
-//! It names `ssh_key` and `openssh_limits` alone, and is proved from their contracts. Copy both.
+//! It names the crates for certificates, revocations and addresses, and nothing of private keys, and
+//! is proved from their contracts. Copy it and change it.
 #![tactic(auto)]
 
 mod authority;
-mod form;
 mod grant;
 mod key;
 mod login;

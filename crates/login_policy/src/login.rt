@@ -1,38 +1,40 @@
 //! Who may log in.
 
 ghost use Rattle.std.specs.Prelude.{◌≡◌, ◌≢◌, IfErr, OnOk};
-ghost use Rattle.ssh_key.specs.cert.CertificateValues.{certificate_of};
-ghost use Rattle.ssh_key.specs.cert.Validity.{fingerprints_of};
-ghost use Rattle.ssh_key.specs.keys.Keys.{key_of};
-ghost use Rattle.ssh_key.specs.model.Certificates.{IsCertificate};
-ghost use Rattle.ssh_key.specs.model.Keys.{IsKey};
+ghost use Rattle.sshkey_cert.specs.CertificateValues.{certificate_of};
+ghost use Rattle.sshkey_cert.specs.Validity.{fingerprints_of};
+ghost use Rattle.sshkey_keys.specs.Keys.{key_of};
+ghost use Rattle.sshkey_model.specs.Certificates.{IsCertificate};
+ghost use Rattle.sshkey_model.specs.Keys.{IsKey};
 ghost use Rattle.login_policy.specs.Logins.{GrantsExactly, HasRightFields, login_of};
-ghost use Rattle.login_policy.specs.Refusals.{HasWrongField, NeedsMemory, RefusesCertificateLine, invalid};
+ghost use Rattle.login_policy.specs.Refusals.{HasWrongField, NeedsMemory, RefusesLogin, invalid};
 ghost use Rattle.login_policy.specs.declared.refusal.Refusal.TheVariants.{Memory};
 
 use crate::authority::validate;
-use crate::form::is_normal_form;
 use crate::grant::{Grant, grant_of};
 use crate::key::is_key_of;
 use crate::options::{are_known, are_plain, is_allowed_from};
 use crate::principals::are_for;
 use crate::refusal::Refusal;
 use openssh_limits::{is_let_in, is_read_text};
-use ssh_key::certificate::Field;
-use ssh_key::laws::certificates::refused_or_wanted;
-use ssh_key::laws::{certificate_fits, lines};
-use ssh_key::public::KeyData;
-use ssh_key::revocation::Revocations;
-use ssh_key::{Certificate, Error, Fingerprint, RawVerifier};
+use sshkey_base::Error;
+use sshkey_base::certificate::Field;
+use sshkey_cert::Certificate;
+use sshkey_cert::laws::one_certificate;
+use sshkey_cert_form::is_normal_form;
+use sshkey_keys::{Fingerprint, KeyData, RawVerifier};
+use sshkey_krl::Revocations;
+use sshkey_model::laws::certificate_fits;
+use sshkey_model::laws::certificates::refused_or_wanted;
 use std::alloc::Global;
 use std::net::IpAddr;
 
 /// A login that is asked for, and whom the server trusts.
 #[derive(Debug, Clone, Copy)]
 pub struct Login<'a> {
-    /// The line of the certificate, as the client sent it: its bytes in Base64 behind their name.
-    /// Do not write it anew from a `Certificate`, whose line is always in normal form.
-    pub line: &'a str,
+    /// The bytes of the certificate, as the client sent them. Do not write them anew from a
+    /// `Certificate`, whose bytes are always its normal form.
+    pub certificate: &'a [u8],
     /// The name of the user who is to be let in.
     pub user: &'a str,
     /// The key under which the client has signed.
@@ -49,10 +51,10 @@ pub struct Login<'a> {
     pub client: Option<IpAddr>,
 }
 
-/// Lets a user in who holds the offered key, if the line has a certificate for users of just that
+/// Lets a user in who holds the offered key, if the bytes are a certificate for users of just that
 /// key, which lists the user's name. It must be valid at that time, by one of the authorities, and
-/// not revoked, and let the client in from its address. It must be as it was signed, in its normal form. The key, texts and options must be
-/// such as sshd(8) accepts (PROTOCOL.certkeys):
+/// not revoked, and let the client in from its address. It must be as it was signed, in its normal
+/// form. The key, texts and options must be such as sshd(8) accepts (PROTOCOL.certkeys):
 ///
 /// - no DSA key, none under a private-use name, and no RSA key of fewer bits than the login says or
 ///   of more than 16,384; a point that begins with 04; no zero byte in an application
@@ -60,13 +62,13 @@ pub struct Login<'a> {
 /// - no zero byte in the key id, a principal, or the name of an extension, and at most 256
 ///   principals;
 /// - critical options `force-command`, neither empty nor with a zero byte, `source-address`, a list
-///   of networks (`ssh_key::addresses::is_source_list`), and `verify-required`, which is empty, and
+///   of networks (`sshkey_addresses::is_source_list`), and `verify-required`, which is empty, and
 ///   no others;
 /// - extensions that are flags, as `permit-pty`, which are empty, and any others.
 ///
 /// Out of memory aside, it refuses all others with the first of these:
 ///
-/// - `Certificate` with an error of `Certificate::from_openssh`;
+/// - `Certificate` with an error of `Certificate::from_bytes`;
 /// - `NotNormalForm`;
 /// - `Certificate` with `CertificateFieldInvalid`: `CertType` for a certificate for hosts, and then
 ///   `PublicKey` for one of another key;
@@ -76,15 +78,13 @@ pub struct Login<'a> {
 ///   `KeyId` if the key id has one; `ValidPrincipals` if it lists no principal (such a certificate
 ///   lets nobody in: sshd_config(5), `TrustedUserCAKeys`), more than 256, or one with a zero byte,
 ///   and if the user's name is empty, which a certificate may list;
-/// - `Certificate` with `CertificateValidation` for another authority;
+/// - `Invalid` with `Authority` for another authority;
 /// - `Revoked`;
-/// - `Certificate` with an error of `Certificate::validate_principal_at`;
+/// - `Invalid` with `Signature`, `Time`, `Window` or `Principal`, as
+///   `Certificate::first_refusal_for` says;
 /// - `Elsewhere`.
 ///
-/// For a line that is no certificate's, `Memory` means what it means for
-/// `Certificate::from_openssh`. Another authority, a bad signature and a time outside the window
-/// are all `CertificateValidation`: for a log `Certificate::first_refusal_for` tells which, but it
-/// asks the verifier first, also about a stranger's key.
+/// For bytes that are no certificate, `Memory` means what it means for `Certificate::from_bytes`.
 ///
 /// The verifier is asked only about a certificate by one of the authorities that is not revoked: a
 /// key that a client made and signed with never reaches it.
@@ -108,17 +108,16 @@ pub fn log_in<R: Revocations, V: RawVerifier>(
     requires { IsKey (key_of login.now.offered.now) }
     ensures exactly { GrantsExactly
         (login_of login.now (V.accepts verifier.now) (R.revokes revocations.now)) result }
-    ensures refused { IfErr result (λ r. r ≢ Memory → RefusesCertificateLine
+    ensures refused { IfErr result (λ r. r ≢ Memory → RefusesLogin
         (login_of login.now (V.accepts verifier.now) (R.revokes revocations.now)) r) }
     ensures memory { IfErr result (λ r. r ≡ Memory
-        → NeedsMemory (fingerprints_of login.now.authorities.now) login.now.line.now) }
+        → NeedsMemory (fingerprints_of login.now.authorities.now) login.now.certificate.now) }
 {
-    lines();
+    one_certificate();
     certificate_fits();
     refused_or_wanted();
-    let line = login.line;
-    let certificate = Certificate::from_openssh(alloc, line)?;
-    if !is_normal_form(&certificate, line) {
+    let certificate = Certificate::from_bytes(alloc, login.certificate)?;
+    if !is_normal_form(&certificate, login.certificate) {
         return Err(Refusal::NotNormalForm);
     }
     check_fields(

@@ -2,14 +2,14 @@
 
 ghost use Rattle.std.specs.Prelude.{◌≡◌, ◌↔◌, IsTrue, All, bytes_eq, map};
 ghost use Rattle.std.specs.List.{list_any};
-ghost use Rattle.ssh_key.specs.model.OptionMaps.{value_of};
-ghost use Rattle.ssh_key.specs.options.OptionMaps.{options_of};
+ghost use Rattle.sshkey_model.specs.OptionMaps.{value_of};
+ghost use Rattle.sshkey_cert_values.specs.OptionMaps.{options_of};
 ghost use Rattle.login_policy.specs.KnownOptions.{IsArgument, IsEmptyIfFlag, IsKnownOption, IsPlainExtension, flags, source_address};
 ghost use Rattle.login_policy.specs.Logins.{IsAllowedFrom};
 
 use openssh_limits::is_read_text;
-use ssh_key::addresses::{is_source_list, may_come_from};
-use ssh_key::certificate::OptionsMap;
+use sshkey_addresses::{is_source_list, may_come_from};
+use sshkey_cert_values::OptionsMap;
 use std::net::IpAddr;
 
 /// The one command that may run, whatever the client asks for.

@@ -2,18 +2,19 @@
 
 ghost use Rattle.login_policy.specs.Refusals.{IsRefusalFor};
 
-use ssh_key::Error;
+use sshkey_base::Error;
+use sshkey_cert::CertificateRefusal;
 
 /// Why a login is refused.
 #[derive(Debug, Drop, thiserror::Error)]
 pub enum Refusal {
-    /// The line is no certificate's, or the certificate does not let the user in, for that error. It
-    /// is never `Error::Memory`.
+    /// The bytes are no certificate, or a field of it lets nobody in, for that error. It is never
+    /// `Error::Memory`.
     #[error("{0}")]
     Certificate(Error),
-    /// The bytes in the line are not the certificate's normal form, and so not those that were
-    /// signed: an RSA authority has a name with a hash there, or an option without a value the
-    /// empty value as a string.
+    /// The bytes are not the certificate's normal form, and so not those that were signed: an RSA
+    /// authority has a name with a hash there, or an option without a value the empty value as a
+    /// string.
     #[error("certificate is not in its normal form")]
     NotNormalForm,
     /// sshd(8) accepts no such key, by its kind or its size (`openssh_limits::is_let_in`).
@@ -22,6 +23,9 @@ pub enum Refusal {
     /// The certificate is revoked: its number, its key id, the certified key or the authority's.
     #[error("certificate is revoked")]
     Revoked,
+    /// It is by another authority, or the signature, the time or the user's name is wrong.
+    #[error("certificate is not valid: {0:?}")]
+    Invalid(CertificateRefusal),
     /// The certificate lets its user in from other addresses alone, or the client's is not known. It
     /// is valid otherwise.
     #[error("certificate is for other addresses")]

@@ -16,4 +16,3 @@ pub mod Validation
 pub mod Verdicts
 pub mod Writing
 mod NormalForms
-mod Shortest

@@ -9,7 +9,7 @@
 //! `compared_*`, `equal_*` and `ordered_*` what `==` and `cmp` go by. `certificates` has those of
 //! what is valid. The others say what their docs say.
 
-ghost use Rattle.std.specs.Prelude.{◌≡◌, ◌↔◌, ◌≤◌, List, length, ℕ};
+ghost use Rattle.std.specs.Prelude.{◌≡◌, ◌↔◌, List, ℕ};
 ghost use Rattle.std.specs.Int.{w64};
 ghost use Rattle.std.specs.List.{AllByRecursion};
 ghost use Rattle.ssh_key.specs.NormalForms.{AreNormalForms};
@@ -55,6 +55,7 @@ pub use sshkey_cert::laws::compared_certificates;
 pub use sshkey_cert::laws::equal_certificate_refusals;
 pub use sshkey_cert::laws::one_certificate;
 pub use sshkey_cert_fields::laws::compared_signed_fields;
+pub use sshkey_cert_form::laws::shortest_certificate;
 pub use sshkey_cert_values::laws::compared_ends;
 pub use sshkey_cert_values::laws::compared_options;
 pub use sshkey_cert_values::laws::compared_times;
@@ -305,13 +306,4 @@ pub fn apart()
 pub fn spelled_certificate()
     ensures { (c : Certificate) (blob : List ℕ) → certificate_format.Spells c blob
         ↔ SpellsCertificate c blob }
-{}
-
-/// No spelling of a certificate is shorter than its normal form, and no other is as short: what is
-/// as long as the normal form is the normal form.
-pub fn shortest_certificate()
-    ensures shortest { (c : Certificate) (blob : List ℕ) → SpellsCertificate c blob
-        → length (flat (normal_certificate c)) ≤ length blob }
-    ensures only { (c : Certificate) (blob : List ℕ) → SpellsCertificate c blob
-        → length blob ≡ length (flat (normal_certificate c)) → blob ≡ flat (normal_certificate c) }
 {}

@@ -1,41 +1,35 @@
-//! What a text of known_hosts says of a host's key and of the authority that signed it.
+//! Whether a key or a certificate is a host's.
 
-ghost use Rattle.std.specs.Prelude.{◌≡◌};
-ghost use Rattle.std.specs.Str.{IsUtf8};
-ghost use Rattle.sshkey_entry_calls.specs.Verdicts.{TellsAuthority, TellsVerdict};
+ghost use Rattle.std.specs.Prelude.{◌≡◌, false, true};
+ghost use Rattle.sshkey_host_calls.specs.Hosts.{TellsHostCertificate, TellsHostKey, are_texts};
 
-use sshkey_entry_calls::{authority_verdict, host_verdict};
+use sshkey_host_calls::{HostLogin, host_certificate_verdict, host_key_verdict};
 use std::alloc::Global;
 
-/// What a text of known_hosts says of the key that a host shows: `sshkey_entry_calls::host_verdict`.
+/// Whether a key is a host's: `sshkey_host_calls::host_key_verdict`.
 #[unsafe(no_mangle)]
-pub extern "C" fn sshkey_host_verdict(
+pub extern "C" fn sshkey_host_key_verdict(
     alloc: Global,
-    known_hosts: &[u8],
-    host: &[u8],
-    port: u16,
+    login: &HostLogin<'_>,
     key: &[u8],
 ) -> u32
-    ensures verdict { IsUtf8 known_hosts.now → IsUtf8 host.now
-        → TellsVerdict known_hosts.now host.now port key.now result }
-    ensures text { (IsUtf8 known_hosts.now → IsUtf8 host.now → ⊥) → result ≡ 4 }
+    ensures verdict { are_texts login.now ≡ true → TellsHostKey login.now key.now result }
+    ensures text { are_texts login.now ≡ false → result ≡ 4 }
 {
-    host_verdict(alloc, known_hosts, host, port, key)
+    host_key_verdict(alloc, login, key)
 }
 
-/// What a text of known_hosts says of the key of an authority that signed a host's certificate:
-/// `sshkey_entry_calls::authority_verdict`.
+/// Whether a certificate is a host's: `sshkey_host_calls::host_certificate_verdict`.
 #[unsafe(no_mangle)]
-pub extern "C" fn sshkey_authority_verdict(
+pub extern "C" fn sshkey_host_certificate_verdict(
     alloc: Global,
-    known_hosts: &[u8],
-    host: &[u8],
-    port: u16,
-    key: &[u8],
+    login: &HostLogin<'_>,
+    certificate: &[u8],
+    is_verified: u32,
 ) -> u32
-    ensures verdict { IsUtf8 known_hosts.now → IsUtf8 host.now
-        → TellsAuthority known_hosts.now host.now port key.now result }
-    ensures text { (IsUtf8 known_hosts.now → IsUtf8 host.now → ⊥) → result ≡ 4 }
+    ensures verdict { are_texts login.now ≡ true → TellsHostCertificate login.now certificate.now
+        is_verified result }
+    ensures text { are_texts login.now ≡ false → result ≡ 4 }
 {
-    authority_verdict(alloc, known_hosts, host, port, key)
+    host_certificate_verdict(alloc, login, certificate, is_verified)
 }

@@ -1,9 +1,9 @@
 //! The library for programs in C, and for whoever calls C. `include/sshkey.h` declares what it
 //! exports.
 //!
-//! Each export, but for those of `version`, makes one call of `sshkey_calls` or of
-//! `sshkey_entry_calls`, whose contract it has too. In C a slice is a pointer and a length, and
-//! an allocator is nothing.
+//! Each export, but for those of `version`, makes one call of `sshkey_calls` or of another crate of
+//! calls (`sshkey_.._calls`), whose contract it has too. In C a slice is a pointer and a length,
+//! and an allocator is nothing.
 #![tactic(auto)]
 
 mod address;
@@ -20,5 +20,6 @@ mod sha512;
 mod signature;
 mod signer;
 mod sshsig;
+mod userauth;
 mod version;
 mod walk;

@@ -1,4 +1,4 @@
-//! Whether a revocation file, or a key revocation list, revokes a key or a certificate.
+//! Whether revocation files, or a key revocation list, revoke a key or a certificate.
 
 ghost use Rattle.std.specs.Prelude.{◌≡◌, ◌⊎◌, Err};
 ghost use Rattle.sshkey_base.specs.Acceptance.{SpellsSome};
@@ -10,30 +10,31 @@ ghost use Rattle.sshkey_model.specs.Reading.{Fault, whole};
 ghost use Rattle.sshkey_calls.specs.NormalForms.{IsRenamedKey};
 ghost use Rattle.sshkey_calls.specs.Numbers.{fault_number};
 ghost use Rattle.sshkey_calls.specs.Revocations.{IsWhetherCertificateRevoked, IsWhetherKeyRevoked, TellsRevoked};
-ghost use Rattle.sshkey_entry_calls.specs.Revocations.{NeedsFile, TellsRevokedCertificate, TellsRevokedKey};
+ghost use Rattle.sshkey_entry_calls.specs.RevocationFiles.{NeedsFiles};
+ghost use Rattle.sshkey_entry_calls.specs.Revocations.{TellsRevokedCertificate, TellsRevokedKey};
 
 use sshkey_calls::{krl_revokes_certificate, krl_revokes_key};
 use sshkey_entry_calls::{revoked_certificate, revoked_key};
 use std::alloc::Global;
 
-/// Whether a file revokes a key: `sshkey_entry_calls::revoked_key`.
+/// Whether one of the files revokes a key: `sshkey_entry_calls::revoked_key`.
 #[unsafe(no_mangle)]
-pub extern "C" fn sshkey_revoked_key(alloc: Global, revoked: &[u8], key: &[u8]) -> u32
+pub extern "C" fn sshkey_revoked_key(alloc: Global, revoked: &[&[u8]], key: &[u8]) -> u32
     ensures answer { TellsRevokedKey revoked.now key.now result }
-    ensures memory { result ≡ 1 → NeedsFile revoked.now ⊎ IsRenamedKey key.now }
+    ensures memory { result ≡ 1 → NeedsFiles revoked.now ⊎ IsRenamedKey key.now }
 {
     revoked_key(alloc, revoked, key)
 }
 
-/// Whether a file revokes a certificate: `sshkey_entry_calls::revoked_certificate`.
+/// Whether one of the files revokes a certificate: `sshkey_entry_calls::revoked_certificate`.
 #[unsafe(no_mangle)]
 pub extern "C" fn sshkey_revoked_certificate(
     alloc: Global,
-    revoked: &[u8],
+    revoked: &[&[u8]],
     certificate: &[u8],
 ) -> u32
     ensures answer { TellsRevokedCertificate revoked.now certificate.now result }
-    ensures memory { result ≡ 1 → NeedsFile revoked.now
+    ensures memory { result ≡ 1 → NeedsFiles revoked.now
         ⊎ SpellsSome SpellsCertificate certificate.now }
 {
     revoked_certificate(alloc, revoked, certificate)

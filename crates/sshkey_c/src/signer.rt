@@ -20,7 +20,7 @@ pub extern "C" fn sshkey_signer_verdict(
     namespace: &[u8],
     signature: &[u8],
     unix_timestamp: u64,
-    revoked: &[u8],
+    revoked: &[&[u8]],
     is_verified: u32,
 ) -> u32
     ensures verdict { IsUtf8 signers.now → IsUtf8 identity.now → IsUtf8 namespace.now

@@ -39,13 +39,13 @@ module _ (accepts : Question → Bool) (bytes : List ℕ) (is_verified : ℕ) (v
   same_answer None e = refl
   same_answer (Some q) e = sym (v c spelled q e)
 
-  same_signed : is_signed (λ _. is_yes_number is_verified) c ≡ is_signed accepts c
+  pub same_signed : is_signed (λ _. is_yes_number is_verified) c ≡ is_signed accepts c
   same_signed = same_answer (certificate_question c) refl
 
   same_first : (authorities : List Fingerprint) (t : ℕ) → first_refusal (λ _. is_yes_number is_verified) authorities t c ≡ first_refusal accepts authorities t c
   same_first authorities t = ap (λ (b : Bool). unless b NotSigned (refusal_of_authority_or_time (has_trusted_authority authorities c) (c.signed.valid_after, c.signed.valid_before) t)) same_signed
 
-  same_first_of : (authorities : List Fingerprint) (t : ℕ) (wanted : Option (List ℕ)) → first_refusal_of (λ _. is_yes_number is_verified) authorities t wanted c ≡ first_refusal_of accepts authorities t wanted c
+  pub same_first_of : (authorities : List Fingerprint) (t : ℕ) (wanted : Option (List ℕ)) → first_refusal_of (λ _. is_yes_number is_verified) authorities t wanted c ≡ first_refusal_of accepts authorities t wanted c
   same_first_of authorities t None = same_first authorities t
   same_first_of authorities t (Some wanted) = ap (λ (r : Option Refusal). or_else r (unless (allows c.signed.valid_principals wanted) UnlistedPrincipal None)) (same_first authorities t)
 

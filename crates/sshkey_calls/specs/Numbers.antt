@@ -1,9 +1,11 @@
 -- The numbers that calls answer with.
 use Rattle.std.specs.Prelude.{ℕ, Option, Some, None}
 use Rattle.sshkey_base.specs.Causes.{Cause, Faulty, NoMemory, Other, cause}
+use Rattle.sshkey_base.specs.declared.certificate.field.Field.{Field}
+use Rattle.sshkey_base.specs.declared.certificate.field.Field.TheVariants as field
 use Rattle.sshkey_base.specs.declared.encoding.Error.TheVariants.{Base64}
 use Rattle.sshkey_base.specs.declared.error.Error.{Error}
-use Rattle.sshkey_base.specs.declared.error.Error.TheVariants.{Encoding}
+use Rattle.sshkey_base.specs.declared.error.Error.TheVariants.{CertificateFieldInvalid, Encoding}
 use Rattle.sshkey_model.specs.Names.{Algorithm, Sha256, Sha512, Nistp256, Nistp384, Nistp521}
 use Rattle.sshkey_model.specs.Reading.{Fault}
 use Rattle.sshkey_model.specs.Reading as fault
@@ -34,6 +36,21 @@ cause_number Other = 23
 abbrev pub error_number : Error → ℕ
 error_number (Encoding Base64) = 10
 error_number e = cause_number (cause e)
+
+-- the field of a certificate that lets nobody in; no call meets another one
+abbrev pub field_number : Field → ℕ
+field_number field.CertType = 71
+field_number field.PublicKey = 72
+field_number field.CriticalOptions = 73
+field_number field.Extensions = 74
+field_number field.KeyId = 75
+field_number field.ValidPrincipals = 76
+field_number f = 23
+
+-- why bytes are no certificate, or one that lets nobody in
+abbrev pub certificate_error_number : Error → ℕ
+certificate_error_number (CertificateFieldInvalid f) = field_number f
+certificate_error_number e = error_number e
 
 -- what is wrong with a certificate first, and 0 where nothing is
 abbrev pub refusal_number : Option Refusal → ℕ

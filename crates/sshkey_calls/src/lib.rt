@@ -39,7 +39,7 @@ pub use lists::{CertificateParts, certificate_parts};
 pub use normal::{certificate_normal, key_normal, signature_normal, sshsig_normal};
 pub use option::{OptionParts, next_option};
 pub use part::Part;
-pub use question::{Question, certificate_question};
+pub use question::{Question, answer_question, certificate_question};
 pub use revocation::{krl_revokes_certificate, krl_revokes_key};
 pub use signature::signature_question;
 pub use signed::certificate_make;

@@ -7,8 +7,9 @@ ghost use Rattle.sshkey_base.specs.Names.{algorithm_of, curve_of, hash_of};
 ghost use Rattle.sshkey_cert.specs.Validity.{refusal_of};
 ghost use Rattle.sshkey_model.specs.Names.{Ecdsa, Rsa};
 ghost use Rattle.sshkey_model.specs.Reading.{Fault};
-ghost use Rattle.sshkey_calls.specs.Numbers.{algorithm_number, error_number, fault_number, refusal_number};
+ghost use Rattle.sshkey_calls.specs.Numbers.{algorithm_number, certificate_error_number, error_number, fault_number, field_number, refusal_number};
 
+use sshkey_base::certificate::Field;
 use sshkey_base::{Algorithm, EcdsaCurve, Error, HashAlg, encoding};
 use sshkey_cert::CertificateRefusal;
 
@@ -61,14 +62,14 @@ pub(crate) const OUT_OF_WINDOW: u32 = 33;
 /// The certificate lists principals, and not this one.
 pub(crate) const UNLISTED_PRINCIPAL: u32 = 34;
 /// Key and signature do not go together, so nothing is asked.
-pub(crate) const UNSUPPORTED: u32 = 40;
+pub const UNSUPPORTED: u32 = 40;
 /// The SSH signature is in another namespace.
 pub(crate) const OTHER_NAMESPACE: u32 = 41;
 /// A draft lists no principals without saying that all are allowed, or says so and lists some.
 pub(crate) const PRINCIPALS: u32 = 45;
 /// The window of a draft has no second.
 pub(crate) const EMPTY_WINDOW: u32 = 46;
-/// A line for the host revokes the key.
+/// A line for the host, or a revocation file, revokes the key or the certificate.
 pub const HOST_REVOKED: u32 = 50;
 /// A line is no entry, and may be one for the host.
 pub const HOST_UNREADABLE: u32 = 51;
@@ -78,14 +79,38 @@ pub const HOST_CHANGED: u32 = 52;
 pub const HOST_UNKNOWN: u32 = 53;
 /// No allowed signer is the key, or not for that identity, there and then.
 pub const SIGNER_NOT_ALLOWED: u32 = 55;
-/// The signer's key is revoked.
-pub const SIGNER_REVOKED: u32 = 56;
-/// The client's address is none of those that the list lets in.
+/// A revocation file revokes the signer's key, or the certificate.
+pub const REVOKED: u32 = 56;
+/// The client's address is none of those that are let in.
 pub const ELSEWHERE: u32 = 57;
-/// The revocation file cannot be read, and so revokes everything.
+/// A revocation file cannot be read, or there is none, and so everything is revoked.
 pub const UNREADABLE_REVOCATIONS: u32 = 58;
+/// OpenSSH lets in no key of that kind or of that size.
+pub const KEY_NOT_ACCEPTED: u32 = 59;
 /// The list or the file does not revoke it.
 pub const NOT_REVOKED: u32 = 60;
+/// The bytes of the certificate are not its normal form, and so not those that were signed.
+pub const NOT_NORMAL_FORM: u32 = 70;
+/// The certificate is for hosts, where it is to be for users, or for users.
+const OTHER_TYPE: u32 = 71;
+/// The certificate is of another key.
+const OTHER_KEY: u32 = 72;
+/// A critical option of the certificate is not known, or has a value that sshd does not read.
+const CRITICAL_OPTIONS: u32 = 73;
+/// Data stand in an extension that is a flag, or a name has a zero byte.
+const EXTENSIONS: u32 = 74;
+/// The key id has a zero byte.
+const KEY_ID: u32 = 75;
+/// The certificate lists nobody, too many, or a name with a zero byte; or the user has no name.
+const VALID_PRINCIPALS: u32 = 76;
+/// The signed bytes are not those of the request.
+pub const OTHER_REQUEST: u32 = 80;
+/// The algorithm that the request names is not the signature's.
+pub const OTHER_ALGORITHM: u32 = 81;
+/// Nobody touched the security key.
+pub const UNTOUCHED: u32 = 82;
+/// The security key did not verify its user.
+pub const UNVERIFIED: u32 = 83;
 
 /// A question is asked by DSA.
 const ASK_DSA: u32 = 1;
@@ -150,8 +175,44 @@ fn encoding_number(fault: encoding::Error) -> u32
     }
 }
 
+/// The number of why a certificate is refused that is read, or is none: from 71 to 76 for a field
+/// that lets nobody in, and else that of the error.
+pub fn certificate_error_number(error: Error) -> u32
+    ensures number { result ≡ certificate_error_number error }
+    ensures fault { (fault : Fault) → cause error ≡ Faulty fault → result ≡ fault_number fault }
+    ensures memory { cause error ≡ NoMemory → result ≡ 1 }
+    ensures range { cause error ≢ NoMemory → 9 < result }
+{
+    match error {
+        Error::CertificateFieldInvalid(field) => field_number(field),
+        error => error_number(error),
+    }
+}
+
+/// The number of a field of a certificate that lets nobody in.
+fn field_number(field: Field) -> u32
+    ensures number { result ≡ field_number field }
+    ensures range { 9 < result }
+{
+    match field {
+        Field::CertType => OTHER_TYPE,
+        Field::PublicKey => OTHER_KEY,
+        Field::CriticalOptions => CRITICAL_OPTIONS,
+        Field::Extensions => EXTENSIONS,
+        Field::KeyId => KEY_ID,
+        Field::ValidPrincipals => VALID_PRINCIPALS,
+        Field::Nonce
+        | Field::Serial
+        | Field::ValidAfter
+        | Field::ValidBefore
+        | Field::SignatureKey
+        | Field::Signature
+        | Field::Comment => OTHER_FAULT,
+    }
+}
+
 /// The number of what is wrong with a certificate first, and 0 where nothing is.
-pub(crate) fn refusal_number(first: Option<CertificateRefusal>) -> u32
+pub fn refusal_number(first: Option<CertificateRefusal>) -> u32
     ensures { result ≡ refusal_number (option_map refusal_of first) }
 {
     match first {

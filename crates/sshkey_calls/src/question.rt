@@ -1,6 +1,6 @@
 //! What has to be verified.
 
-ghost use Rattle.std.specs.Prelude.{◌≡◌, IfOk};
+ghost use Rattle.std.specs.Prelude.{◌≡◌, IfOk, option_map};
 ghost use Rattle.sshkey_cert_ref.specs.CertificateRef.{certificate_of};
 ghost use Rattle.sshkey_cert.specs.Questions.{asks, certificate_question};
 ghost use Rattle.sshkey_keys.specs.Questions.{question_of};
@@ -80,7 +80,24 @@ fn tell(
 ) -> u32
     ensures { TellsQuestion (asks asked.now) result answer.old answer.new room.old room.new }
 {
-    match asked.question() {
+    answer_question(alloc, asked.question(), room, answer)
+}
+
+/// Answers with the question that is raised, its parts in the room where there is room for them.
+///
+/// Returns 0; 2 where the room is shorter, which stays as it was; 1 if memory ran out; and 40 where
+/// there is none, since a key and a signature do not go together. With 1 and 40 answer and room
+/// stay as they were.
+pub fn answer_question(
+    alloc: Global,
+    asked: Option<Asked<'_>>,
+    room: &mut [u8],
+    answer: &mut Question,
+) -> u32
+    ensures { TellsQuestion (option_map question_of asked.entry)
+        result answer.old answer.new room.old room.new }
+{
+    match asked {
         Some(question) => answer_with(alloc, &question, room, answer),
         None => UNSUPPORTED,
     }

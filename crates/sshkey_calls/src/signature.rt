@@ -10,8 +10,8 @@ ghost use Rattle.sshkey_model.specs.Verification.{question};
 ghost use Rattle.sshkey_calls.specs.Questions.{TellsQuestion};
 ghost use Rattle.sshkey_calls.specs.Signatures.{TellsSignatureQuestion, TellsQuestionUnder};
 
-use crate::number::{MEMORY, UNSUPPORTED, error_number};
-use crate::question::{Question, answer_with};
+use crate::number::{MEMORY, error_number};
+use crate::question::{Question, answer_question};
 use sshkey_keys_ref::{KeyDataRef, SignatureRef};
 use std::alloc::Global;
 
@@ -78,8 +78,5 @@ fn ask(
     let Ok(signature) = made.to_signature(alloc) else {
         return MEMORY;
     };
-    match key.question(message, &signature) {
-        Some(question) => answer_with(alloc, &question, room, answer),
-        None => UNSUPPORTED,
-    }
+    answer_question(alloc, key.question(message, &signature), room, answer)
 }

@@ -1,6 +1,5 @@
 pub mod CutLines
 pub mod Found
 pub mod Counted
-pub mod Told
 mod SignerVerdicts
 mod RevokedFiles

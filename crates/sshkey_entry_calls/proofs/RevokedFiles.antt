@@ -1,6 +1,8 @@
--- What a revocation file says, and where memory is asked for.
-use Rattle.std.proofs.Common.{◌≡◌, ◌≢◌, ℕ, List, Bool, true, false, Result, Ok, Err, refl, sym, ◌∙◌}
-use Rattle.std.specs.Prelude.{IfErr, IsErrAnd}
+-- What revocation files say, and where memory is asked for.
+use denote.Ref.{Bor}
+use Rattle.std.proofs.Common.{◌≡◌, ◌≢◌, ◌<◌, arith, ℕ, List, [], ◌∷◌, ◌++◌, length, Bool, true, false, Result, Ok, Err, refl, sym, ◌∙◌}
+use Rattle.std.specs.List.{AllZip}
+use Rattle.std.specs.Prelude.{IfErr, IsErrAnd, if◌then◌else◌}
 use Rattle.std.specs.Str.{is_utf8}
 use Rattle.sshkey_base.specs.Causes.{Faulty, NoMemory, cause}
 use Rattle.sshkey_base.specs.declared.encoding.Error.TheVariants.{CharacterEncoding}
@@ -15,8 +17,7 @@ use Rattle.sshkey_model.specs.Parts.{flat}
 use Rattle.sshkey_model.specs.Reading.{Fault, whole}
 use Rattle.sshkey_revoked_keys.specs.RevokedKeys.{AsksText, ReadsKrl, ReadsRevokedKeys, begins_krl}
 use Rattle.sshkey_revoked_keys.specs.declared.revoked_keys.RevokedKeys.{RevokedKeys}
-use Rattle.sshkey_entry_calls.specs.Revocations.{NeedsFile}
-use Rattle.sshkey_entry_calls.specs.Signers.{IsReadOf}
+use Rattle.sshkey_entry_calls.specs.RevocationFiles.{AreReadOf, IsReadOf, NeedsFile, NeedsFiles, are_read, revoked_number}
 
 -- a list is refused for its fault alone
 no_list : (found : Result Krl Fault) (file : List ℕ) (e : Error) → ReadsKrl found file (Err e) → cause e ≢ NoMemory
@@ -36,6 +37,32 @@ module _ (file : List ℕ) where
   pub read_of : (found : Result RevokedKeys Error) → (begins_krl file ≡ true → ReadsKrl (whole krl_format.read file) file found) → (begins_krl file ≡ false → is_utf8 file ≡ false → IsErrAnd found (λ e. e ≡ Encoding CharacterEncoding)) → (begins_krl file ≡ false → is_utf8 file ≡ true → ReadsRevokedKeys file found) → IfErr found (λ e. cause e ≢ NoMemory) → IsReadOf file found
   read_of found list no_text text some = record { list = list; no_text = no_text; text = text; some_memory = some }
 
--- the file is asked about the certificate
+-- ---- several files
+
+module _ {R : Type 0} (Q : Bor (List ℕ) → R → Type 0) where
+  -- one more was read
+  pub read_more : (files : List (Bor (List ℕ))) (reads : List R) (file : Bor (List ℕ)) (read : R) → AllZip Q files reads → Q file read → AllZip Q (files ++ (file ∷ [])) (reads ++ (read ∷ []))
+  read_more [] [] file read all q = (q, tt)
+  read_more [] (r ∷ reads) file read all q = absurd all
+  read_more (f ∷ files) [] file read all q = absurd all
+  read_more (f ∷ files) (r ∷ reads) file read all q = (all.0, read_more files reads file read all.1 q)
+
+pub needs_first : (file : Bor (List ℕ)) (rest : List (Bor (List ℕ))) → NeedsFile file.now → NeedsFiles (file ∷ rest)
+needs_first file [] needs = needs
+needs_first file (other ∷ rest) needs = tt
+
+pub needs_more : (file : Bor (List ℕ)) (rest : List (Bor (List ℕ))) → 0 < length rest → NeedsFiles (file ∷ rest)
+needs_more file [] some = absurd (omega (arith, some))
+needs_more file (other ∷ rest) some = tt
+
+-- the number of what they revoke is none of those that say something else
+pub high_number : (reads : List (Result RevokedKeys Error)) → 1 < revoked_number reads
+high_number reads = go (are_read reads)
+  where
+    go : (b : Bool) → 1 < (if b then 56 else 58)
+    go true = omega arith
+    go false = omega arith
+
+-- the files are asked about the certificate
 pub certificate_said : (says : List ℕ → Grant → Bool) (c : Certificate) (key signer key_id : List ℕ) (serial : ℕ) → key ≡ flat (normal_key c.signed.key) → signer ≡ flat (normal_key c.signed.signature_key) → serial ≡ c.signed.serial → key_id ≡ c.signed.key_id → says key (grant signer serial key_id) ≡ is_certificate_revoked says c
 certificate_said says c key signer key_id serial k s n i = rw (k, s, n, i) refl

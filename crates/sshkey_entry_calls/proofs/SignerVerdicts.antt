@@ -1,10 +1,9 @@
 -- The verdict on an SSH signature, given what the caller's verification said.
-use Rattle.std.proofs.Common.{◌≡◌, ◌≢◌, ◌<◌, ◌↔◌, arith, ◌∙◌, ℕ, List, [], Bool, false, IsTrue, IsErrAnd, subst, Option, Some, None, Result, Ok, Err, IfErr, refl, sym}
-use Rattle.std.proofs.lemmas.Bool.{true≢false}
+use denote.Ref.{Bor}
+use Rattle.std.proofs.Common.{◌≡◌, ◌≢◌, ◌<◌, arith, ◌∙◌, ℕ, List, [], Bool, subst, Option, Some, None, Result, Ok, Err, IfErr, refl, sym}
 use Rattle.allowed_signers.specs.AllowedSigners.{Counts, HasSignature, HasSigned, IsWhy, OkExactly}
 use Rattle.allowed_signers.specs.declared.signers.Refusal.{Refusal}
 use Rattle.allowed_signers.specs.declared.signers.Refusal.TheVariants.{Memory, NoSignature, NotAllowed, NotVerified, Revoked}
-use Rattle.sshkey_base.specs.Causes.{NoMemory, cause}
 use Rattle.sshkey_base.specs.declared.error.Error.{Error}
 use Rattle.sshkey_calls.specs.Validations.{is_yes_number}
 use Rattle.sshkey_calls.proofs.Validations.{same_asking}
@@ -14,7 +13,8 @@ use Rattle.sshkey_model.specs.Verification.{Question, question}
 use Rattle.sshkey_model.specs.Verification as model
 use Rattle.sshkey_revoked_keys.specs.declared.revoked_keys.RevokedKeys.{RevokedKeys}
 use Rattle.sshkey_sshsig.specs.SshSignatureReaders.{SpellsSshSignature}
-use Rattle.sshkey_entry_calls.specs.Signers.{IsJudged, IsReadOf, SaysOf, TellsSigner, revoked_number, revokes_of, verdict_number}
+use Rattle.sshkey_entry_calls.specs.RevocationFiles.{AreReadOf, one_revokes_key, revoked_number}
+use Rattle.sshkey_entry_calls.specs.Signers.{IsJudged, SaysOf, TellsSigner, verdict_number}
 
 -- ---- from a verdict to its number
 
@@ -74,18 +74,7 @@ module _ (accepts : Question → Bool) (bytes message : List ℕ) (is_verified :
           (w.0, why_there w.0 w.1, w.2);
     }
 
-pub told : (signers identity namespace : List ℕ) (time : ℕ) (revoked : List ℕ) (is_verified : ℕ) (bytes : List ℕ) (n : ℕ) (b : Bool) → b ≡ is_yes_number is_verified → (n ≢ 1 → (read : Result RevokedKeys Error) × IsReadOf revoked read × IsJudged (λ _. b) (revokes_of read) (revoked_number read) signers identity namespace [] time bytes n) → TellsSigner signers identity namespace time revoked is_verified bytes n
+pub told : (signers identity namespace : List ℕ) (time : ℕ) (revoked : List (Bor (List ℕ))) (is_verified : ℕ) (bytes : List ℕ) (n : ℕ) (b : Bool) → b ≡ is_yes_number is_verified → (n ≢ 1 → (reads : List (Result RevokedKeys Error)) × AreReadOf revoked reads × IsJudged (λ _. b) (one_revokes_key reads) (revoked_number reads) signers identity namespace [] time bytes n) → TellsSigner signers identity namespace time revoked is_verified bytes n
 told signers identity namespace time revoked is_verified bytes n b same judged spelled not_memory =
     let j = judged not_memory in
-    (j.0, j.1, λ accepts message says. judged_there accepts bytes message is_verified says (revokes_of j.0) (revoked_number j.0) signers identity namespace time n (subst (λ (y : Bool). IsJudged (λ _. y) (revokes_of j.0) (revoked_number j.0) signers identity namespace [] time bytes n) same j.2))
-
--- ---- memory
-
-pub some_memory : (read : Result RevokedKeys Error) (lacks : Bool) → IsTrue lacks ↔ IsErrAnd read (λ e. cause e ≡ NoMemory) → lacks ≡ false → IfErr read (λ e. cause e ≢ NoMemory)
-some_memory (Ok file) lacks is none = tt
-some_memory (Err e) lacks is none = λ memory. true≢false (sym (is.1 memory) ∙ none)
-
--- the number of a revoked key is none of those that say something else
-pub high_number : (read : Result RevokedKeys Error) → 1 < revoked_number read
-high_number (Ok file) = omega arith
-high_number (Err e) = omega arith
+    (j.0, j.1, λ accepts message says. judged_there accepts bytes message is_verified says (one_revokes_key j.0) (revoked_number j.0) signers identity namespace time n (subst (λ (y : Bool). IsJudged (λ _. y) (one_revokes_key j.0) (revoked_number j.0) signers identity namespace [] time bytes n) same j.2))

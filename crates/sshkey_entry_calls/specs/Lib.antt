@@ -1,7 +1,7 @@
 pub mod Lines
 pub mod Entries
 pub mod Options
-pub mod Verdicts
+pub mod RevocationFiles
 pub mod Signers
 pub mod Addresses
 pub mod Revocations

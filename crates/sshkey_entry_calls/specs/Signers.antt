@@ -1,30 +1,19 @@
 -- What is answered of an SSH signature, by a text of allowed signers (ssh-keygen(1), ALLOWED
 -- SIGNERS).
-use Rattle.std.specs.Prelude.{◌≡◌, ◌≢◌, ℕ, List, Bool, true, false, Some, Result, Ok, Err, IfErr, IsErrAnd}
-use Rattle.std.specs.Str.{is_utf8}
+use denote.Ref.{Bor}
+use Rattle.std.specs.Prelude.{◌≡◌, ◌≢◌, ℕ, List, Bool, Some, Result, Ok, Err}
 use Rattle.allowed_signers.specs.AllowedSigners.{Counts, HasSignature, IsWhy}
 use Rattle.allowed_signers.specs.declared.signers.Refusal.{Refusal}
 use Rattle.allowed_signers.specs.declared.signers.Refusal.TheVariants.{Memory, NoSignature, NotAllowed, NotVerified, Revoked}
 use Rattle.sshkey_base.specs.Acceptance.{SpellsSome}
-use Rattle.sshkey_base.specs.Causes.{NoMemory, cause}
-use Rattle.sshkey_base.specs.declared.encoding.Error.TheVariants.{CharacterEncoding}
 use Rattle.sshkey_base.specs.declared.error.Error.{Error}
-use Rattle.sshkey_base.specs.declared.error.Error.TheVariants.{Encoding}
 use Rattle.sshkey_calls.specs.Validations.{SaysWhether, is_yes_number}
-use Rattle.sshkey_krl.specs.Krls.{krl_format}
-use Rattle.sshkey_krl.specs.Revocations.{unless_read}
-use Rattle.sshkey_model.specs.Reading.{whole}
 use Rattle.sshkey_model.specs.SignedMessages.{signed_by}
 use Rattle.sshkey_model.specs.SshSignatures.{SshSignature}
 use Rattle.sshkey_model.specs.Verification.{Question, question}
-use Rattle.sshkey_revoked_keys.specs.RevokedKeys.{ReadsKrl, ReadsRevokedKeys, begins_krl, revokes_key}
 use Rattle.sshkey_revoked_keys.specs.declared.revoked_keys.RevokedKeys.{RevokedKeys}
 use Rattle.sshkey_sshsig.specs.SshSignatureReaders.{SpellsSshSignature}
-
--- the number of a key that is revoked: as each is by a file that cannot be read, it is another one
-abbrev pub revoked_number : Result RevokedKeys Error → ℕ
-revoked_number (Ok file) = 56
-revoked_number (Err e) = 58
+use Rattle.sshkey_entry_calls.specs.RevocationFiles.{AreReadOf, one_revokes_key, revoked_number}
 
 -- the number of a verdict, where that one is told of a key that is revoked
 abbrev pub verdict_number : ℕ → Result (Unit {0}) Refusal → ℕ
@@ -34,19 +23,6 @@ verdict_number of_revoked (Err NoSignature) = 30
 verdict_number of_revoked (Err NotVerified) = 30
 verdict_number of_revoked (Err NotAllowed) = 55
 verdict_number of_revoked (Err Revoked) = of_revoked
-
--- ---- the revocation file
-
--- What reading the file gives, for which memory was enough: a list, keys, or an error.
-pub record IsReadOf (file : List ℕ) (read : Result RevokedKeys Error) : Type 0 where
-  pub list : begins_krl file ≡ true → ReadsKrl (whole krl_format.read file) file read
-  pub no_text : begins_krl file ≡ false → is_utf8 file ≡ false → IsErrAnd read (λ e. e ≡ Encoding CharacterEncoding)
-  pub text : begins_krl file ≡ false → is_utf8 file ≡ true → ReadsRevokedKeys file read
-  pub some_memory : IfErr read (λ e. cause e ≢ NoMemory)
-
--- which keys it revokes: all where it was not read
-abbrev pub revokes_of : Result RevokedKeys Error → List ℕ → Bool
-revokes_of read key = unless_read (λ it. revokes_key it key) read
 
 -- ---- the verdict
 
@@ -62,5 +38,5 @@ pub record IsJudged (accepts : Question → Bool) (revokes : List ℕ → Bool) 
 
 -- For bytes that spell a signature the number says this, memory aside, about each message about
 -- which the verification said so.
-abbrev pub TellsSigner : List ℕ → List ℕ → List ℕ → ℕ → List ℕ → ℕ → List ℕ → ℕ → Type 0
-TellsSigner signers identity namespace time revoked is_verified bytes n = SpellsSome SpellsSshSignature bytes → n ≢ 1 → (read : Result RevokedKeys Error) × IsReadOf revoked read × ((accepts : Question → Bool) (message : List ℕ) → SaysOf accepts bytes message is_verified → IsJudged accepts (revokes_of read) (revoked_number read) signers identity namespace message time bytes n)
+abbrev pub TellsSigner : List ℕ → List ℕ → List ℕ → ℕ → List (Bor (List ℕ)) → ℕ → List ℕ → ℕ → Type 0
+TellsSigner signers identity namespace time revoked is_verified bytes n = SpellsSome SpellsSshSignature bytes → n ≢ 1 → (reads : List (Result RevokedKeys Error)) × AreReadOf revoked reads × ((accepts : Question → Bool) (message : List ℕ) → SaysOf accepts bytes message is_verified → IsJudged accepts (one_revokes_key reads) (revoked_number reads) signers identity namespace message time bytes n)

@@ -56,8 +56,9 @@ fn from_texts(alloc: Global, list: &str, host: &str, address: IpAddr) -> u32
     from_number(from_allows_at(alloc, list, name_of(host), address))
 }
 
-/// The address of 4 or of 16 bytes, the most significant first.
-fn address_of(bytes: &[u8]) -> Option<IpAddr>
+/// Returns the address of 4 or of 16 bytes, the most significant first, if there are that many. Does
+/// not allocate.
+pub fn address_of(bytes: &[u8]) -> Option<IpAddr>
     ensures { MatchOption result ((a : IpAddr) → IsAddressOf bytes.now a → ⊥)
         (λ a. IsAddressOf bytes.now a) }
 {

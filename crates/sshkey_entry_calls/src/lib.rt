@@ -1,25 +1,24 @@
 //! The calls of the library for C about authorized_keys, known_hosts, allowed signers, revocation
 //! files and addresses, as an ordinary library: the lines of a text, the entry of a line, the options
-//! of an entry, what a text says of a host's key or of a signature, or a file of a key or a
-//! certificate, and whether a list of addresses lets a client in.
+//! of an entry, what a text says of a signature, or files of a key or a certificate, and whether a
+//! list of addresses lets a client in.
 //!
 //! As those of `sshkey_calls`, each call answers with a number, and the bytes that it answers with
-//! are in the caller's room. HMAC-SHA1 is that of `sshkey_known_hosts`.
+//! are in the caller's room.
 #![tactic(auto)]
 
 mod addresses;
-mod authority;
 mod entries;
-mod hosts;
 mod lines;
 mod options;
+mod revocation_files;
 mod revocations;
 mod signers;
 
-pub use addresses::{from_allows, source_address_allows};
+pub use addresses::{address_of, from_allows, source_address_allows};
 pub use entries::{EntryParts, authorized_entry, known_host};
-pub use hosts::{authority_verdict, host_verdict};
 pub use lines::next_line;
 pub use options::{OptionParts, nth_option};
+pub use revocation_files::RevocationFiles;
 pub use revocations::{revoked_certificate, revoked_key};
 pub use signers::signer_verdict;

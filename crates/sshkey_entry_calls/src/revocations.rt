@@ -13,119 +13,116 @@ ghost use Rattle.sshkey_model.specs.Certificates.{certificate_at};
 ghost use Rattle.sshkey_model.specs.Keys.{normal_key};
 ghost use Rattle.sshkey_model.specs.Parts.{flat};
 ghost use Rattle.sshkey_model.specs.Reading.{Fault, whole};
-ghost use Rattle.sshkey_revoked_keys.specs.RevokedKeys.{revokes, revokes_key};
-ghost use Rattle.sshkey_entry_calls.specs.Revocations.{IsWhether, NeedsFile, TellsRevokedCertificate, TellsRevokedKey};
+ghost use Rattle.sshkey_entry_calls.specs.RevocationFiles.{NeedsFiles, one_revokes, one_revokes_key, reads_of};
+ghost use Rattle.sshkey_entry_calls.specs.Revocations.{IsWhether, TellsRevokedCertificate, TellsRevokedKey};
 
+use crate::revocation_files::RevocationFiles;
 use sshkey_base::{Error, Result, encode_vec};
 use sshkey_calls::number::{DONE, MEMORY, NOT_REVOKED, UNREADABLE_REVOCATIONS, error_number};
 use sshkey_cert_ref::CertificateRef;
 use sshkey_keys::KeyData;
 use sshkey_keys_ref::KeyDataRef;
 use sshkey_krl::Revocations;
-use sshkey_revoked_keys::RevokedKeys;
 use std::alloc::Global;
 
-/// Whether the revocation file (`RevokedKeys::from_bytes`) revokes the key that all its bytes
-/// spell.
+/// Whether one of the revocation files (`RevocationFiles`) revokes the key that all its bytes spell.
 ///
-/// Returns 0 if it does, 60 if it does not, 58 for a file that cannot be read, which revokes
-/// everything, from 10 to 29 the fault of bytes that are no key, and 1 if memory ran out. So 60
-/// alone says that the key is not revoked. Of a list, memory is taken only for an RSA key under
-/// another name than `ssh-rsa`.
-pub fn revoked_key(alloc: Global, revoked: &[u8], key: &[u8]) -> u32
+/// Returns 0 if one does, 60 if none does, 58 if a file cannot be read or there is none, which
+/// revokes everything, from 10 to 29 the fault of bytes that are no key, and 1 if memory ran out.
+/// So 60 alone says that the key is not revoked. Of one list, memory is taken only for an RSA key
+/// under another name than `ssh-rsa`.
+pub fn revoked_key(alloc: Global, revoked: &[&[u8]], key: &[u8]) -> u32
     ensures answer { TellsRevokedKey revoked.now key.now result }
-    ensures memory { result ≡ 1 → NeedsFile revoked.now ⊎ IsRenamedKey key.now }
+    ensures memory { result ≡ 1 → NeedsFiles revoked.now ⊎ IsRenamedKey key.now }
 {
-    match RevokedKeys::from_bytes(alloc, revoked) {
-        Ok(file) => key_number(alloc, &file, key),
-        Err(error) => unread_number(error),
+    let Ok(files) = RevocationFiles::read(alloc, revoked) else {
+        return MEMORY;
+    };
+    if !files.are_read() {
+        return UNREADABLE_REVOCATIONS;
     }
+    key_number(alloc, &files, key)
 }
 
-/// Whether the revocation file revokes the certificate that all its bytes spell.
+/// Whether one of the revocation files revokes the certificate that all its bytes spell.
 ///
-/// Returns what `revoked_key` does, with the fault of bytes that are no certificate. Of a list,
+/// Returns what `revoked_key` does, with the fault of bytes that are no certificate. Of one list,
 /// memory is taken only for bytes that are one.
-pub fn revoked_certificate(alloc: Global, revoked: &[u8], certificate: &[u8]) -> u32
+pub fn revoked_certificate(alloc: Global, revoked: &[&[u8]], certificate: &[u8]) -> u32
     ensures answer { TellsRevokedCertificate revoked.now certificate.now result }
-    ensures memory { result ≡ 1 → NeedsFile revoked.now
+    ensures memory { result ≡ 1 → NeedsFiles revoked.now
         ⊎ SpellsSome SpellsCertificate certificate.now }
 {
-    match RevokedKeys::from_bytes(alloc, revoked) {
-        Ok(file) => certificate_number(alloc, &file, certificate),
-        Err(error) => unread_number(error),
-    }
-}
-
-/// The number of a file that could not be read.
-fn unread_number(error: Error) -> u32
-    ensures unread { cause error ≢ NoMemory → result ≡ 58 }
-    ensures memory { cause error ≡ NoMemory → result ≡ 1 }
-    ensures out { result ≡ 1 → cause error ≡ NoMemory }
-{
-    if error.is_memory() {
+    let Ok(files) = RevocationFiles::read(alloc, revoked) else {
         return MEMORY;
+    };
+    if !files.are_read() {
+        return UNREADABLE_REVOCATIONS;
     }
-    UNREADABLE_REVOCATIONS
+    certificate_number(alloc, &files, certificate)
 }
 
-/// The number of what the file says of the key.
-fn key_number(alloc: Global, file: &RevokedKeys<'_>, key: &[u8]) -> u32
+/// The number of what the files say of the key.
+fn key_number(alloc: Global, files: &RevocationFiles<'_>, key: &[u8]) -> u32
     ensures exactly { TellsRevoked (IsWhether SpellsKey
-        (λ k. values.is_key_revoked (revokes_key file.now) k) key.now) result }
+        (λ k. values.is_key_revoked (one_revokes_key (reads_of files.now)) k) key.now) result }
     ensures fault { (met : Fault) → whole key_data_at key.now ≡ Err met
         → result ≡ fault_number met }
     ensures memory { result ≡ 1 → IsRenamedKey key.now }
 {
-    match is_key_revoked(alloc, file, key) {
+    match is_key_revoked(alloc, files, key) {
         Ok(true) => DONE,
         Ok(false) => NOT_REVOKED,
         Err(error) => error_number(error),
     }
 }
 
-/// Whether the file revokes the key. Fails with the fault of the key, and when out of memory.
-fn is_key_revoked(alloc: Global, file: &RevokedKeys<'_>, key: &[u8]) -> Result<bool>
+/// Whether a file revokes the key. Fails with the fault of the key, and when out of memory.
+fn is_key_revoked(alloc: Global, files: &RevocationFiles<'_>, key: &[u8]) -> Result<bool>
     ensures said { IfOk result (IsWhether SpellsKey
-        (λ k. values.is_key_revoked (revokes_key file.now) k) key.now) }
+        (λ k. values.is_key_revoked (one_revokes_key (reads_of files.now)) k) key.now) }
     ensures fault { (met : Fault) → whole key_data_at key.now ≡ Err met
         → IsErrAnd result (λ e. cause e ≡ Faulty met) }
     ensures unsaid { IfErr result (λ e. cause e ≢ NoMemory → (yes : Bool) → IsWhether SpellsKey
-        (λ k. values.is_key_revoked (revokes_key file.now) k) key.now yes → ⊥) }
+        (λ k. values.is_key_revoked (one_revokes_key (reads_of files.now)) k) key.now yes → ⊥) }
     ensures memory { IfErr result (λ e. cause e ≡ NoMemory → IsRenamedKey key.now) }
 {
     let key = KeyDataRef::from_bytes(key)?;
     if let Some(bytes) = key.normal_bytes() {
-        return Ok(file.revokes_key(bytes));
+        return Ok(files.revokes_key(bytes));
     }
     let bytes = normal_form(alloc, &key.to_key_data(alloc)?)?;
-    Ok(file.revokes_key(&bytes))
+    Ok(files.revokes_key(&bytes))
 }
 
-/// The number of what the file says of the certificate.
-fn certificate_number(alloc: Global, file: &RevokedKeys<'_>, certificate: &[u8]) -> u32
+/// The number of what the files say of the certificate.
+fn certificate_number(alloc: Global, files: &RevocationFiles<'_>, certificate: &[u8]) -> u32
     ensures exactly { TellsRevoked (IsWhether SpellsCertificate
-        (λ c. values.is_certificate_revoked (revokes file.now) c) certificate.now) result }
+        (λ c. values.is_certificate_revoked (one_revokes (reads_of files.now)) c) certificate.now) result }
     ensures fault { (met : Fault) → whole certificate_at certificate.now ≡ Err met
         → result ≡ fault_number met }
     ensures memory { result ≡ 1 → SpellsSome SpellsCertificate certificate.now }
 {
-    match is_certificate_revoked(alloc, file, certificate) {
+    match is_certificate_revoked(alloc, files, certificate) {
         Ok(true) => DONE,
         Ok(false) => NOT_REVOKED,
         Err(error) => error_number(error),
     }
 }
 
-/// Whether the file revokes the certificate. Fails with the fault of the certificate, and when out
+/// Whether a file revokes the certificate. Fails with the fault of the certificate, and when out
 /// of memory.
-fn is_certificate_revoked(alloc: Global, file: &RevokedKeys<'_>, certificate: &[u8]) -> Result<bool>
+fn is_certificate_revoked(
+    alloc: Global,
+    files: &RevocationFiles<'_>,
+    certificate: &[u8],
+) -> Result<bool>
     ensures said { IfOk result (IsWhether SpellsCertificate
-        (λ c. values.is_certificate_revoked (revokes file.now) c) certificate.now) }
+        (λ c. values.is_certificate_revoked (one_revokes (reads_of files.now)) c) certificate.now) }
     ensures fault { (met : Fault) → whole certificate_at certificate.now ≡ Err met
         → IsErrAnd result (λ e. cause e ≡ Faulty met) }
     ensures unsaid { IfErr result (λ e. cause e ≢ NoMemory → (yes : Bool)
-        → IsWhether SpellsCertificate (λ c. values.is_certificate_revoked (revokes file.now) c)
+        → IsWhether SpellsCertificate (λ c. values.is_certificate_revoked (one_revokes (reads_of files.now)) c)
         certificate.now yes → ⊥) }
     ensures memory { IfErr result (λ e. cause e ≡ NoMemory
         → SpellsSome SpellsCertificate certificate.now) }
@@ -133,7 +130,7 @@ fn is_certificate_revoked(alloc: Global, file: &RevokedKeys<'_>, certificate: &[
     let read = CertificateRef::from_bytes(certificate)?;
     let key = normal_form(alloc, &read.public_key(alloc)?)?;
     let signature_key = normal_form(alloc, &read.signature_key(alloc)?)?;
-    Ok(file.revokes_certificate(&key, &signature_key, read.serial(), read.key_id()))
+    Ok(files.revokes_certificate(&key, &signature_key, read.serial(), read.key_id()))
 }
 
 /// The bytes of the key's normal form. Fails only when out of memory.

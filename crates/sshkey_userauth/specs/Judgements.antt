@@ -1,6 +1,7 @@
 -- What is asked about a client's signature, and what is wrong with it first.
-use Rattle.std.specs.Prelude.{◌≡◌, ◌⊎◌, ℕ, List, [], ◌∷◌, Bool, ◌&&◌, ◌==◌, Option, Some, None, Result, Ok, Err, IsErr, codes, bytes_eq, bit_and, if◌then◌else◌}
+use Rattle.std.specs.Prelude.{◌≡◌, ◌⊎◌, ℕ, List, [], ◌∷◌, Bool, ◌&&◌, ◌==◌, Option, Some, None, Result, Ok, Err, IsErrAnd, codes, bytes_eq, bit_and, if◌then◌else◌}
 use Rattle.std.specs.Result.{IsOk}
+use Rattle.sshkey_base.specs.Causes.{Faulty, cause}
 use Rattle.sshkey_model.specs.Certificates.{certificate_at}
 use Rattle.sshkey_model.specs.Keys.{Key}
 use Rattle.sshkey_model.specs.Names.{Nistp256, Nistp384, Nistp521, Sha256, Sha512, Algorithm, Dsa, Ecdsa, Ed25519, Rsa, SkEcdsa, SkEd25519, Other}
@@ -104,10 +105,10 @@ abbrev pub key_from : KeyForm → List ℕ → Result Key Fault
 key_from Plain b = whole key_data_at b
 key_from Certified b = whole certificate_at b >>= λ c. Ok c.0.signed.key
 
--- The key in the bytes, or that there is none, or no memory for one that is there.
+-- The key in the bytes, or why there is none, or that there is no memory for one that is there.
 abbrev pub ReadsKey : KeyForm → List ℕ → Result KeyData Refusal → Type 0
 ReadsKey form b (Ok key) = key_from form b ≡ Ok (key_of key)
-ReadsKey form b (Err refusals.Key) = IsErr (key_from form b)
+ReadsKey form b (Err (refusals.Key e)) = IsErrAnd (key_from form b) (λ fault. cause e ≡ Faulty fault)
 ReadsKey form b (Err refusals.Memory) = IsOk (key_from form b)
 ReadsKey form b (Err e) = ⊥
 

@@ -18,14 +18,14 @@ mod name;
 
 use crate::refusal::Refusal;
 use crate::request::UserauthRequest;
-use flags::check_flags;
+pub use flags::check_flags;
 use key::key_in;
 use name::{KeyForm, form_of};
 use sshkey_keys::{KeyData, Question, RawVerifier, Signature};
 use std::alloc::{AllocError, Global};
 
 /// The service that starts after a login (RFC 4254).
-const CONNECTION: &[u8] = b"ssh-connection";
+pub const CONNECTION: &[u8] = b"ssh-connection";
 
 /// What a grant requires of the flags in the signatures of security keys (PROTOCOL.u2f). Other keys
 /// have no flags, and are not asked for any.
@@ -57,8 +57,8 @@ impl UserauthRequest<'_> {
     /// request; `Service`; `Algorithm` if the request's name is not that of the signature's
     /// algorithm, as sshd(8) compares them: a certificate's name stands for its plain one, and
     /// `rsa-sha2-256` is not `rsa-sha2-512`; `Touch` and `Verification` if the flags of a security
-    /// key lack what is required; `Key` if the request holds no key, or no certificate, as its name
-    /// says; and `Memory`.
+    /// key lack what is required; `Key` with the fault if the request holds no key, or no
+    /// certificate, as its name says; and `Memory`.
     pub fn question<'a>(
         &self,
         alloc: Global,

@@ -7,6 +7,6 @@ pub mod laws;
 mod refusal;
 mod request;
 
-pub use judgement::{Requirements, UserauthQuestion};
+pub use judgement::{CONNECTION, Requirements, UserauthQuestion, check_flags};
 pub use refusal::Refusal;
 pub use request::UserauthRequest;

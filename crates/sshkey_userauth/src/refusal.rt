@@ -1,5 +1,7 @@
 //! Why a client's signature is refused.
 
+use sshkey_base::Error;
+
 /// Why a client's signature is refused, before a verifier is asked.
 #[derive(Debug, Drop)]
 pub enum Refusal {
@@ -14,8 +16,8 @@ pub enum Refusal {
     Touch,
     /// The verification of the user is required, and the flags of the security key tell of none.
     Verification,
-    /// The request holds no key, or no certificate, as its name says.
-    Key,
+    /// The request holds no key, or no certificate, as its name says, for that fault.
+    Key(Error),
     /// Memory ran out.
     Memory,
 }

@@ -14,8 +14,13 @@ const USER_PRESENT: u8 = 0x01;
 /// The security key verified its user (`SSH_SK_USER_VERIFICATION_REQD`).
 const USER_VERIFIED: u8 = 0x04;
 
-/// Whether the flags of a security key are those that are required.
-pub(super) fn check_flags(signature: &Signature, requirements: Requirements) -> Result<(), Refusal>
+/// Accepts a signature if the flags of a security key in it are those that are required. The
+/// signatures of other keys have no flags, and are accepted. Does not allocate.
+///
+/// Fails with the first of these: `Touch` if a touch is required, and the bit 0x01 is not set;
+/// `Verification` if verification is required, and the bit 0x04 is not set. So ask it only about a
+/// signature that was verified under the client's key: another one may say anything.
+pub fn check_flags(signature: &Signature, requirements: Requirements) -> Result<(), Refusal>
     ensures { result ≡ lacking requirements (flags_of (signature_of signature.now)) }
 {
     match flags_of(signature) {

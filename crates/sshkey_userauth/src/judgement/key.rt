@@ -29,7 +29,7 @@ fn plain_key(alloc: Global, bytes: &[u8]) -> Result<KeyData, Refusal>
             Ok(key) => Ok(key),
             Err(_) => Err(Refusal::Memory),
         },
-        Err(_) => Err(Refusal::Key),
+        Err(error) => Err(Refusal::Key(error)),
     }
 }
 
@@ -42,6 +42,6 @@ fn certified_key(alloc: Global, bytes: &[u8]) -> Result<KeyData, Refusal>
             Ok(key) => Ok(key),
             Err(_) => Err(Refusal::Memory),
         },
-        Err(_) => Err(Refusal::Key),
+        Err(error) => Err(Refusal::Key(error)),
     }
 }

@@ -1,9 +1,9 @@
 use Rattle.std.proofs.Common.{◌≡◌, [], true, ap, inl, inr, refl, subst, sym, ◌∙◌}
-use Rattle.ssh_key.specs.cert.CertificateFormats.{certificate_format}
-use Rattle.ssh_key.specs.cert.CertificateValues.{certificate_of}
-use Rattle.ssh_key.specs.model.Certificates.{Certificate, normal_certificate}
-use Rattle.ssh_key.specs.model.Parts.{flat}
-use Rattle.ssh_key.proofs.Acceptance.{other_cause}
+use Rattle.sshkey_cert.specs.CertificateFormats.{certificate_format}
+use Rattle.sshkey_cert.specs.CertificateValues.{certificate_of}
+use Rattle.sshkey_model.specs.Certificates.{Certificate, normal_certificate}
+use Rattle.sshkey_model.specs.Parts.{flat}
+use Rattle.sshkey_base.proofs.Acceptance.{other_cause}
 use Rattle.host_keys.specs.Hosts.{IsHostCertificate, IsTrustedCertificate, lines_of, login_of}
 use Rattle.host_keys.proofs.Said.{as_much, asks_more, other_of}
 use Rattle.host_keys.proofs.certificate.check_certificate.Goals as goal

@@ -1,11 +1,11 @@
 use Rattle.std.proofs.Common.{ap, sym, subst, true≢false, ◌∙◌}
 use Rattle.std.proofs.lemmas.Result.{err_from_is_err_and}
-use Rattle.ssh_key.specs.cert.CertificateValues.{certificate_of}
-use Rattle.ssh_key.specs.krl.Revocations.{is_certificate_revoked}
+use Rattle.sshkey_cert.specs.CertificateValues.{certificate_of}
+use Rattle.sshkey_krl.specs.Revocations.{is_certificate_revoked}
 use Rattle.openssh_limits.specs.Keys.{is_let_in}
 use Rattle.host_keys.specs.Answers.{AsksOf}
-use Rattle.host_keys.specs.Hosts.{IsBadFor, IsSaidOfSigned, IsTrustedCertificate, lines_of, login_of, plain_name}
-use Rattle.host_keys.proofs.Said.{asks_of, why_bad}
+use Rattle.host_keys.specs.Hosts.{IsBadFor, IsGoodFor, IsSaidOfSigned, IsTrustedCertificate, lines_of, login_of, plain_name}
+use Rattle.host_keys.proofs.Said.{as_much, asks_of, why_bad}
 use Rattle.host_keys.proofs.Signed.{judged, why_judged}
 use Rattle.host_keys.proofs.certificate.judge.Goals as goal
 
@@ -36,22 +36,25 @@ returns-then-not-is_let_in-clause-refused g c =
     let trusted = judged hmac c.args.login.now.host.now c.args.login.now.port certificate lines revoked _ _ _ _ c.public_key-key.ensures.value c.signature_key-signer.ensures.value c.is_certificate_revoked-revoked.ensures.said c.signed_verdict-said.ensures.answer _ (sym c.answer.ensures ∙ c.in_ok-answer.was) in
     (trusted.0, trusted.1, ap (is_let_in c.args.login.now.least_rsa_bits) (sym c.public_key-key.ensures.value) ∙ sym c.is_let_in.ensures ∙ c.if-not-is_let_in.true)
 
-pub returns-in-Ok-clause-exactly : goal.returns-in-Ok-clause-exactly
-returns-in-Ok-clause-exactly g c =
+pub returns-clause-exactly : goal.returns-clause-exactly
+returns-clause-exactly g c =
     let hmac = g.H.HmacSha1.hmac c.args.hmac.now in
     let certificate = certificate_of c.args.certificate.now in
     let lines = lines_of c.args.login.now.texts.now in
     let revoked = is_certificate_revoked (g.R.Revocations.revokes c.args.revocations.now) certificate in
     let trusted = judged hmac c.args.login.now.host.now c.args.login.now.port certificate lines revoked _ _ _ _ c.public_key-key.ensures.value c.signature_key-signer.ensures.value c.is_certificate_revoked-revoked.ensures.said c.signed_verdict-said.ensures.answer _ (sym c.answer.ensures ∙ c.in_ok-answer.was) in
     let accepted = ap (is_let_in c.args.login.now.least_rsa_bits) (sym c.public_key-key.ensures.value) ∙ sym c.is_let_in.ensures ∙ c.if-not-is_let_in.false in
-    record { by_authority = trusted.1; unrevoked = trusted.0; accepted = accepted; good = c.in-Ok.ensures.exactly }
+    as_much {P = IsGoodFor (g.V.RawVerifier.accepts c.args.verifier.now) c.args.login.now.unix_timestamp (plain_name c.args.login.now.host.now) certificate} {Q = IsTrustedCertificate (login_of c.args.login.now hmac) (g.V.RawVerifier.accepts c.args.verifier.now) (g.R.Revocations.revokes c.args.revocations.now) certificate} c.validate.result
+    (λ good. record { by_authority = trusted.1; unrevoked = trusted.0; accepted = accepted; good = good })
+    (λ is. is.good)
+    c.validate.ensures.exactly
 
-pub returns-in-Err-clause-refused : goal.returns-in-Err-clause-refused
-returns-in-Err-clause-refused g c =
+pub returns-clause-refused : goal.returns-clause-refused
+returns-clause-refused g c =
     let hmac = g.H.HmacSha1.hmac c.args.hmac.now in
     let certificate = certificate_of c.args.certificate.now in
     let lines = lines_of c.args.login.now.texts.now in
     let revoked = is_certificate_revoked (g.R.Revocations.revokes c.args.revocations.now) certificate in
     let trusted = judged hmac c.args.login.now.host.now c.args.login.now.port certificate lines revoked _ _ _ _ c.public_key-key.ensures.value c.signature_key-signer.ensures.value c.is_certificate_revoked-revoked.ensures.said c.signed_verdict-said.ensures.answer _ (sym c.answer.ensures ∙ c.in_ok-answer.was) in
     let accepted = ap (is_let_in c.args.login.now.least_rsa_bits) (sym c.public_key-key.ensures.value) ∙ sym c.is_let_in.ensures ∙ c.if-not-is_let_in.false in
-    why_bad (IsSaidOfSigned hmac c.args.login.now.host.now c.args.login.now.port certificate.signed.key certificate.signed.signature_key lines) revoked _ _ c.in-Err.error c.of_certificate.result trusted accepted c.in-Err.ensures.refused c.of_certificate.ensures
+    why_bad (IsSaidOfSigned hmac c.args.login.now.host.now c.args.login.now.port certificate.signed.key certificate.signed.signature_key lines) revoked _ (g.V.RawVerifier.accepts c.args.verifier.now) c.args.login.now.unix_timestamp (plain_name c.args.login.now.host.now) certificate trusted accepted c.validate.result c.validate.ensures.refused

@@ -1,10 +1,10 @@
 use Rattle.std.proofs.Common.{◌≡◌, ℕ, IfErr, Result, false, List, subst, sym, true≢false, ◌∙◌}
 use Rattle.std.proofs.lemmas.Result.{err_from_is_err_and}
 use Rattle.openssh_limits.specs.Keys.{is_let_in}
-use Rattle.ssh_key.specs.keys.Keys.{key_of}
-use Rattle.ssh_key.specs.known_hosts.Verdicts.{IsVerdict}
-use Rattle.ssh_key.specs.krl.Revocations.{is_key_revoked}
-use Rattle.ssh_key.specs.types.known_hosts.Verdict.TheVariants.{Trusted}
+use Rattle.sshkey_keys.specs.Keys.{key_of}
+use Rattle.sshkey_known_hosts.specs.Verdicts.{IsVerdict}
+use Rattle.sshkey_krl.specs.Revocations.{is_key_revoked}
+use Rattle.sshkey_known_hosts.specs.declared.verdict.Verdict.TheVariants.{Trusted}
 use Rattle.host_keys.specs.Answers.{AsksOf, IsWhy, OkExactly}
 use Rattle.host_keys.specs.Hosts.{IsSaidOfKey, IsTrustedKey, lines_of, login_of}
 use Rattle.host_keys.specs.declared.refusal.Refusal.{Refusal}
@@ -24,7 +24,7 @@ returns-in_err-answer g c =
     let is = sym c.answer.ensures ∙ c.in_err-answer.was in
     rw (p.1, p.2) (record {
       exactly = λ other (trusted : IsTrustedKey (login_of c.args.login.now hmac) (g.R.Revocations.revokes_key c.args.revocations.now) key). (subst (OkExactly ((revoked ≡ false) × Said Trusted)) is told) other (trusted.unrevoked, trusted.listed);
-      refused = subst (λ (r : Result (Unit {0}) Refusal). IfErr r (IsWhy Said revoked (is_let_in c.args.login.now.least_rsa_bits key) (λ e. ⊥))) is (why Said revoked _ (λ e. ⊥) _ _ c.is_key_revoked-revoked.ensures.said c.key_verdict-said.ensures.answer);
+      refused = subst (λ (r : Result (Unit {0}) Refusal). IfErr r (IsWhy Said revoked (is_let_in c.args.login.now.least_rsa_bits key) (λ r. ⊥))) is (why Said revoked _ (λ r. ⊥) _ _ c.is_key_revoked-revoked.ensures.said c.key_verdict-said.ensures.answer);
       asks = subst (AsksOf ⊥ (g.R.Revocations.revokes_none c.args.revocations.now) lines) is (asks_of ⊥ _ lines _ _ c.is_key_revoked-revoked.ensures.asks c.key_verdict-said.ensures.asks);
     })
 

@@ -1,11 +1,11 @@
 use Rattle.std.proofs.Common.{◌≡◌, Some, true, refl, subst, sym}
 use Rattle.std.specs.List.{Any}
-use Rattle.ssh_key.specs.entries.HostNames.{known_name}
-use Rattle.ssh_key.specs.entries.HostVerdicts.{Lists}
-use Rattle.ssh_key.specs.entries.KnownHosts.{CertAuthority}
-use Rattle.ssh_key.specs.keys.Keys.{key_of}
-use Rattle.ssh_key.specs.public.PublicKeys.{public_of}
-use Rattle.ssh_key.specs.types.PublicKey.{PublicKey}
+use Rattle.sshkey_entries.specs.HostNames.{known_name}
+use Rattle.sshkey_entries.specs.HostVerdicts.{Lists}
+use Rattle.sshkey_entries.specs.KnownHosts.{CertAuthority}
+use Rattle.sshkey_keys.specs.Keys.{key_of}
+use Rattle.sshkey_public.specs.PublicKeys.{public_of}
+use Rattle.sshkey_public.specs.declared.public_key.PublicKey.{PublicKey}
 use Rattle.host_keys.proofs.SeveralTexts.{all_lines, none_more, of_error, some_line, some_more}
 use Rattle.host_keys.proofs.texts.has_authority.Goals as goal
 

@@ -1,7 +1,7 @@
 use Rattle.std.proofs.Common.{take}
-use Rattle.ssh_key.specs.entries.HostNames.{known_name}
-use Rattle.ssh_key.specs.entries.HostVerdicts.{IsAuthority}
-use Rattle.ssh_key.specs.keys.Keys.{key_of}
+use Rattle.sshkey_entries.specs.HostNames.{known_name}
+use Rattle.sshkey_entries.specs.HostVerdicts.{IsAuthority}
+use Rattle.sshkey_keys.specs.Keys.{key_of}
 use Rattle.host_keys.specs.Hosts.{lines_of}
 use Rattle.host_keys.proofs.texts.has_authority.Given as goal
 

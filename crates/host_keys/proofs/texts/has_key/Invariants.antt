@@ -1,7 +1,7 @@
 use Rattle.std.proofs.Common.{◌≡◌, ℕ, ◌<◌, get_or}
-use Rattle.ssh_key.specs.keys.Keys.{key_of}
-use Rattle.ssh_key.specs.public.PublicKeys.{public_of}
-use Rattle.ssh_key.specs.types.PublicKey.{PublicKey}
+use Rattle.sshkey_keys.specs.Keys.{key_of}
+use Rattle.sshkey_public.specs.PublicKeys.{public_of}
+use Rattle.sshkey_public.specs.declared.public_key.PublicKey.{PublicKey}
 use Rattle.host_keys.proofs.texts.has_key.Given as goal
 
 -- none of the keys so far is it

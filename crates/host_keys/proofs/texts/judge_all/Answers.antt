@@ -1,7 +1,7 @@
 use Rattle.std.proofs.Common.{ℕ, List, sym, subst}
-use Rattle.ssh_key.specs.entries.HostNames.{known_name}
-use Rattle.ssh_key.specs.keys.Keys.{key_of}
-use Rattle.ssh_key.specs.known_hosts.Verdicts.{IsVerdict}
+use Rattle.sshkey_entries.specs.HostNames.{known_name}
+use Rattle.sshkey_keys.specs.Keys.{key_of}
+use Rattle.sshkey_known_hosts.specs.Verdicts.{IsVerdict}
 use Rattle.host_keys.proofs.SeveralTexts.{all_lines, more_lines, of_error, some_line}
 use Rattle.host_keys.proofs.texts.judge_all.Goals as goal
 

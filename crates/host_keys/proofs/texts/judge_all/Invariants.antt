@@ -1,7 +1,7 @@
 use Rattle.std.proofs.Common.{take}
-use Rattle.ssh_key.specs.entries.HostNames.{known_name}
-use Rattle.ssh_key.specs.keys.Keys.{key_of}
-use Rattle.ssh_key.specs.known_hosts.Verdicts.{IsVerdict}
+use Rattle.sshkey_entries.specs.HostNames.{known_name}
+use Rattle.sshkey_keys.specs.Keys.{key_of}
+use Rattle.sshkey_known_hosts.specs.Verdicts.{IsVerdict}
 use Rattle.host_keys.specs.Hosts.{lines_of}
 use Rattle.host_keys.proofs.texts.judge_all.Given as goal
 

@@ -1,6 +1,6 @@
 use Rattle.std.proofs.Common.{◌≡◌, true, sym, ◌∙◌}
-use Rattle.ssh_key.specs.entries.HostNames.{known_name}
-use Rattle.ssh_key.specs.keys.Keys.{key_of}
+use Rattle.sshkey_entries.specs.HostNames.{known_name}
+use Rattle.sshkey_keys.specs.Keys.{key_of}
 use Rattle.host_keys.specs.Hosts.{lines_of}
 use Rattle.host_keys.proofs.Signed.{trusted, unknown, unreadable}
 use Rattle.host_keys.proofs.verdict.judge_signed.Goals as goal

@@ -1,6 +1,6 @@
 use Rattle.std.proofs.Common.{ℕ, List}
-use Rattle.ssh_key.specs.keys.Keys.{key_of}
-use Rattle.ssh_key.specs.known_hosts.Verdicts.{IsVerdict}
+use Rattle.sshkey_keys.specs.Keys.{key_of}
+use Rattle.sshkey_known_hosts.specs.Verdicts.{IsVerdict}
 use Rattle.host_keys.specs.Hosts.{lines_of}
 use Rattle.host_keys.proofs.Said.{settled}
 use Rattle.host_keys.proofs.verdict.key_verdict.Goals as goal

@@ -1,5 +1,5 @@
 use Rattle.std.proofs.Common.{ℕ, List}
-use Rattle.ssh_key.specs.keys.Keys.{key_of}
+use Rattle.sshkey_keys.specs.Keys.{key_of}
 use Rattle.host_keys.specs.Hosts.{IsVerdictOfSigned, lines_of}
 use Rattle.host_keys.proofs.Said.{settled}
 use Rattle.host_keys.proofs.verdict.signed_verdict.Goals as goal

@@ -1,11 +1,7 @@
-use Rattle.std.proofs.Common.{refl}
-use Rattle.sshkey_cert.specs.Questions.{asks}
-use Rattle.sshkey_keys.specs.Questions.{question_of}
-use Rattle.sshkey_calls.proofs.Questions.{none_told, question_told}
+use Rattle.std.proofs.Common.{Option, subst}
+use Rattle.sshkey_model.specs.Verification as model
+use Rattle.sshkey_calls.specs.Questions.{TellsQuestion}
 use Rattle.sshkey_calls.proofs.question.tell.Goals as goal
 
-pub returns-in-Some : goal.returns-in-Some
-returns-in-Some c = question_told question_of (asks c.args.asked.now) c.question.result c.question.ensures _ _ _ _ _ c.in-Some.question c.in-Some.is c.answer_with.ensures
-
-pub returns-in-None : goal.returns-in-None
-returns-in-None c = none_told question_of (asks c.args.asked.now) c.question.result c.question.ensures 40 _ _ _ _ c.in-None.is refl (refl, refl)
+pub returns : goal.returns
+returns c = subst (λ (q : Option model.Question). TellsQuestion q c.answer_question.result c.args.answer.now c.answer_question.new.answer c.args.room.now c.answer_question.new.room) c.question.ensures c.answer_question.ensures

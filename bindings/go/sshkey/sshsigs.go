@@ -1,0 +1,138 @@
+package sshkey
+
+// #include "sshkey.h"
+import "C"
+
+import (
+	"crypto"
+	_ "crypto/sha256" // for crypto.SHA256
+	_ "crypto/sha512" // for crypto.SHA512
+)
+
+// SSHSigQuestion gives what has to be verified of an SSH signature (what stands in the armour,
+// Base64 decoded) of the message in that namespace, and the fingerprint of the key that signed:
+// whether that key may sign is the caller's to judge, as ValidateSSHSig does. It fails with a
+// Status for bytes that are none, with ErrOtherNamespace, with ErrUnsupported where key and
+// signature do not go together, and with ErrMemory.
+func SSHSigQuestion(signature []byte, namespace string, message []byte) (Question, SHA256, error) {
+	var signer SHA256
+	in, space, of := inputOf(signature), inputOf(namespace), inputOf(message)
+	asked, err := question(2*len(in)+256, func(to room, answer *C.sshkey_question) C.uint32_t {
+		return C.sshkey_sshsig_question(in.pointer(), in.length(), space.pointer(), space.length(),
+			of.pointer(), of.length(), to.at, to.length, answer, signer.pointer())
+	})
+	return asked, signer, err
+}
+
+// SSHSigQuestionOfDigest gives the same with the digest of the message in place of the message, so
+// that a long one need not be in memory: by the hash that SSHSigHash gives. It fails with ErrLength
+// also where the digest is not as long as one by that hash.
+func SSHSigQuestionOfDigest(
+	signature []byte, namespace string, digest []byte,
+) (Question, SHA256, error) {
+	var signer SHA256
+	in, space, of := inputOf(signature), inputOf(namespace), inputOf(digest)
+	asked, err := question(2*len(in)+256, func(to room, answer *C.sshkey_question) C.uint32_t {
+		return C.sshkey_sshsig_question_of_digest(in.pointer(), in.length(), space.pointer(),
+			space.length(), of.pointer(), of.length(), to.at, to.length, answer, signer.pointer())
+	})
+	return asked, signer, err
+}
+
+// ValidateSSHSig gives nil exactly if the bytes, as they stand in the armour, are an SSH signature
+// (`ssh-keygen -Y sign`) of the message in that namespace by one of the signers, which are the
+// fingerprints of the keys that may sign for that namespace; else what is wrong first: as
+// SSHSigQuestion fails, or ErrSignerNotAllowed for another signer, about whose key the verifier is
+// not asked, or ErrNotSigned. One with reserved bytes is ErrNotSigned: ssh-keygen verifies it as if
+// these were empty. It fails with ErrMemory, which says nothing of the signature.
+func ValidateSSHSig(
+	signature []byte, namespace string, message []byte, signers []SHA256, verify Verifier,
+) error {
+	// nobody changes it between the calls
+	signature = append([]byte(nil), signature...)
+	asked, signer, err := SSHSigQuestion(signature, namespace, message)
+	return judgeSSHSig(signature, asked, signer, err, signers, verify)
+}
+
+// ValidateSSHSigOfDigest does the same with the digest of the message in place of the message, by
+// the hash that SSHSigHash gives.
+func ValidateSSHSigOfDigest(
+	signature []byte, namespace string, digest []byte, signers []SHA256, verify Verifier,
+) error {
+	// nobody changes it between the calls
+	signature = append([]byte(nil), signature...)
+	asked, signer, err := SSHSigQuestionOfDigest(signature, namespace, digest)
+	return judgeSSHSig(signature, asked, signer, err, signers, verify)
+}
+
+// judgeSSHSig gives nil where the question was asked, the signer is one of those, nothing is
+// reserved, and the verifier says yes.
+func judgeSSHSig(
+	signature []byte, asked Question, signer SHA256, err error, signers []SHA256, verify Verifier,
+) error {
+	if err != nil {
+		return err
+	}
+	if !isOneOf(signer, signers) {
+		return ErrSignerNotAllowed
+	}
+	reserved, err := SSHSigReserved(signature)
+	if err != nil {
+		return err
+	}
+	if len(reserved) > 0 {
+		return ErrNotSigned
+	}
+	return verify.check(asked, nil)
+}
+
+func isOneOf(signer SHA256, keys []SHA256) bool {
+	for _, one := range keys {
+		if one == signer {
+			return true
+		}
+	}
+	return false
+}
+
+// sshsigFront is the length of what stands in front of the strings of an SSH signature: SSHSIG and
+// its version.
+const sshsigFront = 10
+
+// SSHSigHash gives the hash by which an SSH signature digests its message: crypto.SHA256 or
+// crypto.SHA512. It fails with a Status for bytes that are none, and with ErrMemory.
+func SSHSigHash(signature []byte) (crypto.Hash, error) {
+	fields, err := sshsigFields(signature)
+	if err != nil {
+		return 0, err
+	}
+	switch string(fields[3]) {
+	case "sha256":
+		return crypto.SHA256, nil
+	case "sha512":
+		return crypto.SHA512, nil
+	default:
+		return 0, ErrLabel
+	}
+}
+
+// SSHSigReserved gives the reserved bytes of an SSH signature, which are signed too. ssh-keygen
+// writes none, and `ssh-keygen -Y verify` takes them as empty, whatever they are. It fails with a
+// Status for bytes that are no SSH signature, and with ErrMemory.
+func SSHSigReserved(signature []byte) ([]byte, error) {
+	fields, err := sshsigFields(signature)
+	if err != nil {
+		return nil, err
+	}
+	return fields[2], nil
+}
+
+// sshsigFields gives the signer's key, the namespace, the reserved bytes, the hash's name and the
+// signature.
+func sshsigFields(signature []byte) ([][]byte, error) {
+	normal, err := NormalSSHSig(signature)
+	if err != nil {
+		return nil, err
+	}
+	return Strings(normal[sshsigFront:])
+}

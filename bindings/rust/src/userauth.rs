@@ -1,0 +1,84 @@
+//! What a client signs for a login by public key (RFC 4252, section 7).
+
+use crate::permits::Permits;
+use crate::questions::Question;
+use crate::raw;
+use crate::status::Status;
+
+/// A client's request to log in by a public key, with its signature, as the server expects it.
+#[derive(Clone, Copy, Debug)]
+pub struct UserauthRequest<'a> {
+    /// The session identifier, which is the server's own (RFC 4253, section 7.2).
+    pub session_id: &'a [u8],
+    /// The user whom the grant is for.
+    pub user: &'a [u8],
+    /// The name of the public key algorithm in the request.
+    pub algorithm: &'a [u8],
+    /// The blob of the key or of the certificate in the request, which the grant is for.
+    pub public_key: &'a [u8],
+    /// The blob of the server's host key, where the method of the request is
+    /// `publickey-hostbound-v00@openssh.com`; none where it is `publickey`.
+    pub host_key: Option<&'a [u8]>,
+    /// The bytes that the client signed, where the server has them; else they are made of the
+    /// request, for the service `ssh-connection`.
+    pub signed: Option<&'a [u8]>,
+    /// The blob of the client's signature.
+    pub signature: &'a [u8],
+    /// What the grant permits.
+    pub permits: Permits,
+}
+
+impl UserauthRequest<'_> {
+    /// What has to be verified of the signature.
+    ///
+    /// Fails with [`Status::OTHER_REQUEST`] where the signed bytes are not those of this request,
+    /// with [`Status::OTHER_ALGORITHM`] where the name in the request is not that of the
+    /// signature's algorithm (a certificate's name stands for its plain one), with
+    /// [`Status::UNTOUCHED`] or [`Status::UNVERIFIED`] where the flags of a security key lack what
+    /// the grant does not let be, with a number from 10 to 29 where the blob in the request is no
+    /// key, or no certificate, as the name says, or the signature is none, with
+    /// [`Status::UNSUPPORTED`] where key and signature do not go together, and with
+    /// [`Status::MEMORY`].
+    pub fn question(&self) -> Result<Question, Status> {
+        let asked = self.raw();
+        Question::of_call(self.enough(), |room, answer| match self.signed {
+            Some(signed) => raw::sshkey_userauth_question_of(&asked, signed, room, answer),
+            None => raw::sshkey_userauth_question(&asked, room, answer),
+        })
+    }
+
+    /// Accepts the request if the client has signed it, and a security key has the flags that the
+    /// grant asks for. `verify` is your cryptography. Fails as [`UserauthRequest::question`] does,
+    /// and with [`Status::NOT_SIGNED`] where `verify` says no.
+    pub fn check(&self, verify: impl FnOnce(&Question) -> bool) -> Result<(), Status> {
+        self.question()?.check(verify)
+    }
+
+    fn raw(&self) -> raw::Userauth<'_> {
+        raw::Userauth {
+            session_id: self.session_id.into(),
+            user: self.user.into(),
+            algorithm: self.algorithm.into(),
+            public_key: self.public_key.into(),
+            host_key: self.host_key.unwrap_or_default().into(),
+            signature: self.signature.into(),
+            has_host_key: u32::from(self.host_key.is_some()),
+            permits: self.permits.bits(),
+        }
+    }
+
+    /// How many bytes of room are mostly enough for a question.
+    fn enough(&self) -> usize {
+        let [host_key, signed] = [self.host_key, self.signed].map(Option::unwrap_or_default);
+        let parts = [self.session_id, self.user, self.public_key, host_key, signed, self.signature];
+        parts.iter().fold(512, |sum: usize, it| sum.saturating_add(it.len()))
+    }
+}
+
+/// Accepts a client's signature, which an SSH library has verified, if its key is no security
+/// key's, or its flags have what the grant asks for. Fails with [`Status::UNTOUCHED`] or
+/// [`Status::UNVERIFIED`], with a number from 10 to 29 where the bytes are no key, or else no
+/// signature, and with [`Status::MEMORY`].
+pub fn grant_flags(permits: Permits, key: &[u8], signature: &[u8]) -> Result<(), Status> {
+    Status::of(raw::sshkey_grant_flags(permits.bits(), key, signature))
+}

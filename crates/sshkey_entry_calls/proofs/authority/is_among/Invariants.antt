@@ -1,9 +1,0 @@
-use Rattle.std.proofs.Common.{◌≡◌, ℕ, ◌<◌, get_or}
-use Rattle.sshkey_keys.specs.Keys.{key_of}
-use Rattle.sshkey_public.specs.PublicKeys.{public_of}
-use Rattle.sshkey_public.specs.declared.public_key.PublicKey.{PublicKey}
-use Rattle.sshkey_entry_calls.proofs.authority.is_among.Given as goal
-
--- none of the keys so far is it
-abbrev pub invariant-loop-one : goal.invariant-loop-one
-invariant-loop-one l = (k : ℕ) (d : PublicKey) → k < l.one-index → public_of (get_or l.keys k d) ≡ key_of l.key → ⊥

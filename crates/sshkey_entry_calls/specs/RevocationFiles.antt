@@ -1,0 +1,70 @@
+-- What several revocation files say together (sshd_config(5), "RevokedKeys", which may name several
+-- since OpenSSH 10.3).
+use denote.Ref.{Bor}
+use Rattle.std.specs.List.{AllZip, list_all, list_any}
+use Rattle.std.specs.Prelude.{◌≡◌, ◌≢◌, ℕ, List, [], ◌∷◌, Bool, true, false, Result, Ok, Err, IfErr, IsErrAnd, is_ok, if◌then◌else◌}
+use Rattle.std.specs.Str.{is_utf8}
+use Rattle.sshkey_base.specs.Causes.{NoMemory, cause}
+use Rattle.sshkey_base.specs.declared.encoding.Error.TheVariants.{CharacterEncoding}
+use Rattle.sshkey_base.specs.declared.error.Error.{Error}
+use Rattle.sshkey_base.specs.declared.error.Error.TheVariants.{Encoding}
+use Rattle.sshkey_entries.specs.Answers.{NeedsFirstLine}
+use Rattle.sshkey_krl.specs.Krls.{krl_format}
+use Rattle.sshkey_krl.specs.Revocation.{Grant}
+use Rattle.sshkey_krl.specs.Revocations.{unless_read}
+use Rattle.sshkey_krl.specs.Wholeness.{any_whole, read_whole}
+use Rattle.sshkey_model.specs.Reading.{whole}
+use Rattle.sshkey_revoked_keys.specs.RevokedKeys.{ReadsKrl, ReadsRevokedKeys, begins_krl, file_whole, revokes, revokes_key}
+use Rattle.sshkey_revoked_keys.specs.RevokedLines.{NeedsLine, RevokesKey, revoked_lines}
+use Rattle.sshkey_revoked_keys.specs.declared.revoked_keys.RevokedKeys.{RevokedKeys}
+use Rattle.sshkey_entry_calls.specs.declared.revocation_files.RevocationFiles.{RevocationFiles}
+
+-- ---- what reading gives
+
+-- What reading the file gives, for which memory was enough: a list, keys, or an error.
+pub record IsReadOf (file : List ℕ) (read : Result RevokedKeys Error) : Type 0 where
+  pub list : begins_krl file ≡ true → ReadsKrl (whole krl_format.read file) file read
+  pub no_text : begins_krl file ≡ false → is_utf8 file ≡ false → IsErrAnd read (λ e. e ≡ Encoding CharacterEncoding)
+  pub text : begins_krl file ≡ false → is_utf8 file ≡ true → ReadsRevokedKeys file read
+  pub some_memory : IfErr read (λ e. cause e ≢ NoMemory)
+
+-- What reading each of the files gives, in order. No file at all is one that cannot be read.
+abbrev pub AreReadOf : List (Bor (List ℕ)) → List (Result RevokedKeys Error) → Type 0
+AreReadOf [] reads = (e : Error) × (reads ≡ Err e ∷ [])
+AreReadOf (file ∷ files) reads = AllZip (λ it read. IsReadOf it.now read) (file ∷ files) reads
+
+abbrev pub reads_of : RevocationFiles → List (Result RevokedKeys Error)
+reads_of it = it.first ∷ it.more.items
+
+-- ---- what is said
+
+abbrev pub are_read : List (Result RevokedKeys Error) → Bool
+are_read reads = list_all is_ok reads
+
+-- whether a file revokes the key; one that cannot be read revokes all
+abbrev pub one_revokes_key : List (Result RevokedKeys Error) → List ℕ → Bool
+one_revokes_key reads key = list_any (λ read. unless_read (λ file. revokes_key file key) read) reads
+
+-- whether a file revokes the certificate
+abbrev pub one_revokes : List (Result RevokedKeys Error) → List ℕ → Grant → Bool
+one_revokes reads key asked = list_any (λ read. unless_read (λ file. revokes file key asked) read) reads
+
+-- What revokes a key revokes each certificate of it.
+pub files_whole : (reads : List (Result RevokedKeys Error)) (key : List ℕ) (asked : Grant) → one_revokes_key reads key ≡ true → one_revokes reads key asked ≡ true
+files_whole reads key asked = any_whole (λ read. unless_read (λ file. revokes_key file key) read) (λ read. unless_read (λ file. revokes file key asked) read) (λ read. read_whole (λ file. revokes_key file key) (λ file. revokes file key asked) (λ file. file_whole file key asked) read) reads
+
+-- the number of what they revoke: by a file that cannot be read, which revokes all, it is another one
+abbrev pub revoked_number : List (Result RevokedKeys Error) → ℕ
+revoked_number reads = if are_read reads then 56 else 58
+
+-- ---- memory
+
+-- It is a text whose first line revokes a key, or needs memory itself.
+abbrev pub NeedsFile : List ℕ → Type 0
+NeedsFile file = (begins_krl file ≡ false) × NeedsFirstLine RevokesKey NeedsLine (revoked_lines file)
+
+-- The one file needs memory itself; several always do.
+abbrev pub NeedsFiles : List (Bor (List ℕ)) → Type 0
+NeedsFiles [] = ⊥
+NeedsFiles (file ∷ []) = NeedsFile file.now
+NeedsFiles (file ∷ other ∷ files) = Unit {0}

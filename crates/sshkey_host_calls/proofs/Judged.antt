@@ -1,0 +1,35 @@
+-- From what is answered of a host to its number.
+use Rattle.std.proofs.Common.{◌≡◌, ◌≢◌, ℕ, Bool, Result, Ok, Err, IfErr, inl, inr, refl, ap, ◌⊎◌}
+use Rattle.host_keys.specs.Answers.{OkExactly}
+use Rattle.host_keys.specs.declared.refusal.Refusal.{Refusal}
+use Rattle.host_keys.specs.declared.refusal.Refusal.TheVariants as refusal
+use Rattle.sshkey_host_calls.specs.Hosts.{IsJudged, answer_number, host_number}
+
+is_memory : (r : Refusal) → (r ≡ refusal.Memory) ⊎ (r ≢ refusal.Memory)
+is_memory refusal.Memory = inl refl
+is_memory refusal.Revoked = inr (λ same. cc same)
+is_memory refusal.Unreadable = inr (λ same. cc same)
+is_memory refusal.Changed = inr (λ same. cc same)
+is_memory refusal.Unknown = inr (λ same. cc same)
+is_memory refusal.UnacceptedKey = inr (λ same. cc same)
+is_memory refusal.NotNormalForm = inr (λ same. cc same)
+is_memory (refusal.Certificate e) = inr (λ same. cc same)
+is_memory (refusal.Invalid first) = inr (λ same. cc same)
+
+module _ (Holds : Type 0) (IsWhy : Refusal → Type 0) (are_read : Bool) where
+  refused : (r : Refusal) → (r ≡ refusal.Memory) ⊎ (r ≢ refusal.Memory) → host_number are_read r ≢ 0 → (r ≢ refusal.Memory → Holds → ⊥) → (r ≢ refusal.Memory → IsWhy r) → IsJudged Holds IsWhy are_read (host_number are_read r)
+  refused r (inl memory) some none why = record {
+    says = record { yes_ = λ zero_. absurd (some zero_); no_ = λ _ other. absurd (other (ap (host_number are_read) memory)) };
+    first = λ _ other. absurd (other (ap (host_number are_read) memory));
+  }
+  refused r (inr other) some none why = record {
+    says = record { yes_ = λ zero_. absurd (some zero_); no_ = λ _ _. none other };
+    first = λ _ _. (r, why other, refl);
+  }
+
+  pub judged : (answer : Result (Unit {0}) Refusal) → IfErr answer (λ r. answer_number are_read answer ≢ 0) → OkExactly Holds answer → IfErr answer (λ r. r ≢ refusal.Memory → IsWhy r) → IsJudged Holds IsWhy are_read (answer_number are_read answer)
+  judged (Ok x) some holds why = record {
+    says = record { yes_ = λ _. holds; no_ = λ not_zero. absurd (not_zero refl) };
+    first = λ not_zero. absurd (not_zero refl);
+  }
+  judged (Err r) some none why = refused r (is_memory r) some none why

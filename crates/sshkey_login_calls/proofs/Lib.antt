@@ -1,0 +1,2 @@
+mod Grants
+mod Logins

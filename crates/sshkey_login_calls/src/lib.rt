@@ -1,0 +1,14 @@
+//! The calls of the library for C about who is let in, as an ordinary library.
+//!
+//! As those of `sshkey_calls`, each call answers with a number, and the bytes that it answers with
+//! are in the caller's room. A decision is two calls: one that says that a signature is to be
+//! verified, and one that is told what the verification said.
+#![tactic(auto)]
+
+mod grant;
+mod login;
+mod request;
+
+pub use grant::GrantParts;
+pub use login::login_verdict;
+pub use request::LoginRequest;

@@ -1,0 +1,166 @@
+//! Who is let in, given what the caller's verification said.
+
+ghost use Rattle.std.specs.Prelude.{◌≡◌, ◌≢◌, ◌<◌, Err, IfErr, IfOk};
+ghost use Rattle.std.specs.Str.{IsUtf8};
+ghost use Rattle.sshkey_base.specs.Acceptance.{SpellsSome};
+ghost use Rattle.sshkey_calls.specs.Numbers.{fault_number};
+ghost use Rattle.sshkey_calls.specs.Validations.{authorities_of};
+ghost use Rattle.sshkey_cert.specs.Validity.{fingerprints_of};
+ghost use Rattle.sshkey_keys.specs.Keys.{SpellsKey, key_data_at};
+ghost use Rattle.sshkey_keys_ref.specs.KeyDataRef.{key_bytes};
+ghost use Rattle.sshkey_model.specs.Reading.{Fault, whole};
+ghost use Rattle.sshkey_login_calls.specs.Grants.{IsGranted, TellsGrant};
+ghost use Rattle.sshkey_login_calls.specs.Logins.{TellsLogin, login_number, number_of};
+
+use crate::grant::{GrantParts, give, lay_out, nothing};
+use crate::request::LoginRequest;
+use login_policy::{Login, Refusal, log_in};
+use sshkey_calls::number::{
+    ELSEWHERE, KEY_NOT_ACCEPTED, MEMORY, NOT_NORMAL_FORM, TEXT, certificate_error_number,
+    error_number, refusal_number,
+};
+use sshkey_calls::{Sha256Digest, Verification};
+use sshkey_entry_calls::{RevocationFiles, address_of};
+use sshkey_keys::Fingerprint;
+use sshkey_keys_ref::KeyDataRef;
+use std::alloc::Global;
+use std::str;
+
+/// Whether the login is let in (`login_policy::log_in`), and what it is granted. 1 says that the
+/// question of the certificate (`sshkey_calls::certificate_question`) was answered yes, and every
+/// other number that it was not.
+///
+/// Returns 0 with the grant, exactly if `log_in` lets in for every verifier that says so about that
+/// question; 2 if it does where the room is too short for the grant, and then the answer is nothing
+/// but how much room is needed; 1 if memory ran out; 4 for a user that is not UTF-8; and else what is
+/// wrong first: from 10 to 29 the fault of bytes that are no key, or else no certificate, 70 for
+/// bytes that are not the certificate's normal form, 71 to 76 for a field and 59, after 72, for the
+/// kind or the size of the key, 31 for another authority, 58 where a revocation file cannot be read
+/// or there is none, which revokes everything, 56 for a certificate that is revoked, 30 where it was
+/// not verified, 32 to 34 for the time and the user, and 57 for the client's address.
+///
+/// So 30, before anything is verified, says that an authority's certificate, which is not revoked,
+/// is to be verified, and nothing else has to be. With any number but 0 nothing is granted. Memory
+/// is taken only where the user is UTF-8 and the key is one.
+///
+/// What is left to the caller: that the client has signed under the key, that a security key's flags
+/// are those that the grant asks for, and to run no other command than the grant says.
+pub fn login_verdict(
+    alloc: Global,
+    login: &LoginRequest<'_>,
+    is_verified: u32,
+    room: &mut [u8],
+    answer: &mut GrantParts,
+) -> u32
+    ensures verdict { IsUtf8 login.now.user.now → SpellsSome SpellsKey login.now.key.now
+        → TellsLogin login.now is_verified result }
+    ensures grant { TellsGrant login.now.certificate.now result answer.new room.old room.new }
+    ensures fault { IsUtf8 login.now.user.now → (fault : Fault)
+        → whole key_data_at login.now.key.now ≡ Err fault → result ≡ fault_number fault }
+    ensures text { (IsUtf8 login.now.user.now → ⊥) → result ≡ 4 }
+    ensures memory { result ≡ 1
+        → IsUtf8 login.now.user.now × SpellsSome SpellsKey login.now.key.now }
+{
+    match judge(alloc, login, is_verified) {
+        Ok((content, grant)) => give(&content, grant, room, answer),
+        Err(number) => {
+            *answer = nothing(0);
+            number
+        }
+    }
+}
+
+/// What is granted, laid out, or the number of what is wrong.
+fn judge(
+    alloc: Global,
+    login: &LoginRequest<'_>,
+    is_verified: u32,
+) -> Result<(Vec<u8>, GrantParts), u32>
+    ensures verdict { IsUtf8 login.now.user.now → SpellsSome SpellsKey login.now.key.now
+        → TellsLogin login.now is_verified (number_of result) }
+    ensures granted { IfOk result (IsGranted login.now.certificate.now) }
+    ensures refused { IfErr result (λ n. n ≢ 1 → 2 < n) }
+    ensures fault { IsUtf8 login.now.user.now → (fault : Fault)
+        → whole key_data_at login.now.key.now ≡ Err fault
+        → number_of result ≡ fault_number fault }
+    ensures text { (IsUtf8 login.now.user.now → ⊥) → number_of result ≡ 4 }
+    ensures memory { number_of result ≡ 1
+        → IsUtf8 login.now.user.now × SpellsSome SpellsKey login.now.key.now }
+{
+    let Ok(user) = str::from_utf8(login.user) else {
+        return Err(TEXT);
+    };
+    match KeyDataRef::from_bytes(login.key) {
+        Ok(key) => judge_of(alloc, login, user, &key, is_verified),
+        Err(error) => Err(error_number(error)),
+    }
+}
+
+/// The same of a user's name and a key that was read.
+fn judge_of(
+    alloc: Global,
+    login: &LoginRequest<'_>,
+    user: &str,
+    key: &KeyDataRef<'_>,
+    is_verified: u32,
+) -> Result<(Vec<u8>, GrantParts), u32>
+    ensures verdict { user.now ≡ login.now.user.now → key_bytes key.now ≡ login.now.key.now
+        → TellsLogin login.now is_verified (number_of result) }
+    ensures granted { IfOk result (IsGranted login.now.certificate.now) }
+    ensures refused { IfErr result (λ n. n ≢ 1 → 2 < n) }
+{
+    let Ok(offered) = key.to_key_data(alloc) else {
+        return Err(MEMORY);
+    };
+    let Ok(files) = RevocationFiles::read(alloc, login.revoked) else {
+        return Err(MEMORY);
+    };
+    let Ok(authorities) = fingerprints(alloc, login.authorities) else {
+        return Err(MEMORY);
+    };
+    let asked = Login {
+        certificate: login.certificate,
+        user,
+        offered: &offered,
+        unix_timestamp: login.unix_timestamp,
+        authorities: &authorities,
+        least_rsa_bits: login.least_rsa_bits,
+        client: address_of(login.client),
+    };
+    let said = Verification::of(is_verified);
+    match log_in(alloc, &asked, &files, &said) {
+        Ok(grant) => match lay_out(alloc, &grant) {
+            Ok(laid) => Ok(laid),
+            Err(_) => Err(MEMORY),
+        },
+        Err(refusal) => Err(login_number(refusal, files.revoked_number())),
+    }
+}
+
+/// The fingerprints with these digests. Fails only when out of memory.
+fn fingerprints(alloc: Global, digests: &[Sha256Digest]) -> sshkey_base::Result<Vec<Fingerprint>>
+    ensures { IfOk result (λ found. fingerprints_of found.items ≡ authorities_of digests.now) }
+{
+    let mut found = Vec::new(alloc);
+    for digest in digests {
+        found.push(Fingerprint::Sha256(digest.bytes))?;
+    }
+    Ok(found)
+}
+
+/// The number of a refusal, where the one of a certificate that is revoked is given.
+fn login_number(refusal: Refusal, of_revoked: u32) -> u32
+    requires { 2 < of_revoked }
+    ensures number { result ≡ login_number of_revoked refusal }
+    ensures refused { result ≢ 1 → 2 < result }
+{
+    match refusal {
+        Refusal::Certificate(error) => certificate_error_number(error),
+        Refusal::NotNormalForm => NOT_NORMAL_FORM,
+        Refusal::UnacceptedKey => KEY_NOT_ACCEPTED,
+        Refusal::Revoked => of_revoked,
+        Refusal::Invalid(refusal) => refusal_number(Some(refusal)),
+        Refusal::Elsewhere => ELSEWHERE,
+        Refusal::Memory => MEMORY,
+    }
+}

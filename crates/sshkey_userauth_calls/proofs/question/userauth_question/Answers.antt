@@ -1,0 +1,18 @@
+use Rattle.std.proofs.Common.{inl, refl, subst, sym}
+use Rattle.sshkey_base.specs.Causes.{cause}
+use Rattle.sshkey_keys.specs.SignatureReaders.{SpellsSignature}
+use Rattle.sshkey_keys_ref.specs.SignatureRef.{signature_bytes}
+use Rattle.sshkey_model.specs.Reading.{whole}
+use Rattle.sshkey_model.specs.Signatures.{signature_at}
+use Rattle.sshkey_calls.proofs.Kept.{kept_bytes}
+use Rattle.sshkey_calls.proofs.Outcomes.{refused}
+use Rattle.sshkey_userauth_calls.proofs.question.userauth_question.Goals as goal
+
+pub returns-in-Ok : goal.returns-in-Ok
+returns-in-Ok c =
+    let g = c.in-Ok.ensures.accepts in
+    let same = kept_bytes signature_bytes cause c.args.signed.now.signature.now c.in-Ok.made (whole signature_at c.args.signed.now.signature.now) c.in-Ok.ensures.keeps in
+    inl (g.0, g.1, c.ask_of_request.ensures g.0 (subst (SpellsSignature g.0) (sym same) g.1))
+
+pub returns-in-Err : goal.returns-in-Err
+returns-in-Err c = refused signature_bytes cause c.args.signed.now.signature.now c.in-Err.error _ c.error_number.ensures.fault SpellsSignature signature_at c.in-Err.ensures.keeps (refl, refl)

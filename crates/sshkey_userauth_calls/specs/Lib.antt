@@ -1,0 +1,2 @@
+pub mod Userauths
+pub mod Flags
