@@ -96,9 +96,12 @@ bool program_add_path(program_files *to, const char *path) {
   return true;
 }
 
-sshkey_spans program_revocations(const program_files *files) {
-  if (!files->count) return SSHKEY_NO_REVOCATIONS;
+sshkey_spans program_texts(const program_files *files) {
   return (sshkey_spans){files->texts, files->count};
+}
+
+sshkey_spans program_revocations(const program_files *files) {
+  return files->count ? program_texts(files) : SSHKEY_NO_REVOCATIONS;
 }
 
 void program_forget(program_files *files) {

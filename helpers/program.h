@@ -57,7 +57,9 @@ typedef struct {
 /* Adds a path, whose text is not read yet; false, which is said, where there is no memory. */
 bool program_add_path(program_files *to, const char *path);
 
-/* What files of revocations hold, which are all read; where there are none, nothing is revoked. */
+/* What they hold, of which all are read; and the same of revocation files, where nothing is revoked
+ * if there are none. */
+sshkey_spans program_texts(const program_files *files);
 sshkey_spans program_revocations(const program_files *files);
 
 /* Gives their memory back. */

@@ -20,14 +20,17 @@ const char program_name[] = "sshkey-check";
 static const char help[] =
     "usage: sshkey-check [FILE]\n"
     "       sshkey-check --ca FILE [--user NAME] [--at SECOND] [--revoked FILE].. [FILE]\n"
+    "       sshkey-check --host NAME [--port NUMBER] --known-hosts FILE.. [--at SECOND]\n"
+    "                    [--revoked FILE].. [FILE]\n"
     "       sshkey-check verify -k KEYS -n NAMESPACE -s SIGNATURE [FILE]\n"
     "       sshkey-check verify -f SIGNERS -I IDENTITY -n NAMESPACE -s SIGNATURE [-r REVOKED]..\n"
     "                           [--at SECOND] [FILE]\n"
     "\n"
     "The first shows each certificate of FILE, or of standard input, as ssh-keygen -L does. The\n"
     "second says of each whether it is valid by an authority of the file, for logins as NAME, at\n"
-    "that second since 1970, or else now. The third says whether the signature of ssh-keygen -Y\n"
-    "sign is one of FILE in the namespace by a key of the file KEYS, and the fourth whether it is\n"
+    "that second since 1970, or else now. The third says of each, or of a key, whether it is that of\n"
+    "the host, by all the files of known_hosts. The fourth says whether the signature of ssh-keygen\n"
+    "-Y sign is one of FILE in the namespace by a key of the file KEYS, and the fifth whether it is\n"
     "the identity's by the file of allowed signers, as ssh-keygen -Y verify does.\n"
     "Status 0: all is shown, or valid; 1: not all, as standard error says; 2: it can't tell.\n";
 
@@ -38,13 +41,14 @@ const int program_untold = UNTOLD;
 typedef struct {
   const char *path; /* of certificates or of what is signed; null for standard input */
   const char *authorities, *user, *at;       /* null where they are not given */
+  const char *host, *port;                   /* likewise */
   const char *keys, *name_space, *signature; /* likewise */
   const char *signers;                       /* likewise */
   judge_signers allowed;
   bool is_verify;
   judge_authorities by;
-  program_files revoked;
-  uint64_t second;
+  program_files known_hosts, revoked;
+  uint64_t second, port_number;
   size_t count; /* of the lines that are answered */
   bool is_valid;
   bool is_untold; /* a line of the keys is none */
@@ -83,6 +87,43 @@ static uint32_t judge_asked(judge_blob certificate, const request *asked) {
   return certificate_log_in(certificate, login);
 }
 
+/* Names the lines of known_hosts that may hide a revocation: of one file, where the host is known
+ * at that port. */
+static bool name_unreadable(const request *asked, uint16_t port) {
+  bool is_named = false;
+  for (size_t at = 0; at < asked->known_hosts.count; at++) {
+    sshkey_span text = asked->known_hosts.texts[at], host = judge_text(asked->host);
+    size_t number = 0;
+    if (sshkey_unreadable_host_line(text.bytes, text.length, host.bytes, host.length, port,
+                                    &number) != SSHKEY_DONE)
+      continue;
+    program_complain("%s:%zu: no entry, and may be one for the host",
+                     asked->known_hosts.paths[at], number);
+    is_named = true;
+  }
+  return is_named;
+}
+
+/* Whether the key or the certificate of a line is the host's. */
+static uint32_t judge_host(const char *line, size_t length, const request *asked) {
+  uint16_t port = (uint16_t)asked->port_number;
+  sshkey_host_login login = {program_texts(&asked->known_hosts), judge_text(asked->host),
+                             program_revocations(&asked->revoked), asked->second, 0, port};
+  judge_blob shown = {NULL, 0};
+  uint32_t answer = judge_read_line(line, length, SSHKEY_LINE_CERTIFICATE, &shown);
+  if (answer == SSHKEY_DONE) {
+    answer = judge_host_certificate(&login, judge_span(shown));
+  } else if (answer == SSHKEY_LABEL) {
+    answer = judge_read_line(line, length, SSHKEY_LINE_KEY, &shown);
+    if (answer == SSHKEY_DONE)
+      answer = sshkey_host_key_verdict(&login, shown.bytes, shown.length);
+  }
+  free(shown.bytes);
+  /* ssh asks about the plain name where nothing is known at the port */
+  if (answer == SSHKEY_HOST_UNREADABLE && !name_unreadable(asked, port)) name_unreadable(asked, 22);
+  return answer;
+}
+
 static const char *path_of(const request *asked) {
   return asked->path ? asked->path : "(stdin)";
 }
@@ -107,9 +148,9 @@ static uint32_t show_sha1(const char *line, size_t length, const request *asked,
   return shown == SSHKEY_DONE ? answer : shown;
 }
 
-/* Answers what is asked about a line: SSHKEY_DONE, or why it can't tell. */
-static uint32_t answer_line(const char *line, size_t length, size_t number, void *given) {
-  request *asked = given;
+/* What is said of the certificate of a line: by an authority, or shown. */
+static uint32_t answer_certificate(const char *line, size_t length, size_t number,
+                                   const request *asked) {
   judge_blob certificate = {NULL, 0};
   uint32_t answer = judge_read_line(line, length, SSHKEY_LINE_CERTIFICATE, &certificate);
   if (answer == SSHKEY_DONE)
@@ -118,9 +159,17 @@ static uint32_t answer_line(const char *line, size_t length, size_t number, void
   else if (answer == SSHKEY_RSA_SHA1 && !asked->authorities)
     answer = show_sha1(line, length, asked, number);
   free(certificate.bytes);
+  return answer;
+}
+
+/* Answers what is asked about a line: SSHKEY_DONE, or why it can't tell. */
+static uint32_t answer_line(const char *line, size_t length, size_t number, void *given) {
+  request *asked = given;
+  uint32_t answer = asked->host ? judge_host(line, length, asked)
+                                : answer_certificate(line, length, number, asked);
   asked->count++;
   if (can_not_tell(answer)) return answer;
-  if (asked->authorities) puts(answer == SSHKEY_DONE ? "valid" : "refused");
+  if (asked->authorities || asked->host) puts(answer == SSHKEY_DONE ? "valid" : "refused");
   if (answer == SSHKEY_DONE) return answer;
   asked->is_valid = false;
   program_complain("%s:%zu: %s (%" PRIu32 ")", path_of(asked), number, judge_meaning(answer),
@@ -135,7 +184,8 @@ static int answer_text(judge_blob text, request *asked) {
   if (answer != SSHKEY_DONE)
     program_complain("%s:%zu: %s", path_of(asked), number, judge_meaning(answer));
   else if (!asked->count)
-    program_complain("%s: no certificate was given", path_of(asked));
+    program_complain("%s: no %s was given", path_of(asked),
+                     asked->host ? "key or certificate" : "certificate");
   if (!program_is_written() || answer != SSHKEY_DONE || !asked->count) return UNTOLD;
   return asked->is_valid ? VALID : INVALID;
 }
@@ -201,25 +251,35 @@ static bool read_keys(const char *path, request *asked) {
   return answer == SSHKEY_DONE && !asked->is_untold;
 }
 
-/* Reads the files of what is revoked, likewise. */
-static bool read_revoked(request *asked) {
-  for (size_t at = 0; at < asked->revoked.count; at++) {
+/* Reads files of which there may be several, likewise. */
+static bool read_files(program_files *files) {
+  for (size_t at = 0; at < files->count; at++) {
     judge_blob text = {NULL, 0};
-    if (!read_named(asked->revoked.paths[at], &text)) return false;
-    asked->revoked.texts[at] = judge_span(text);
+    if (!read_named(files->paths[at], &text)) return false;
+    files->texts[at] = judge_span(text);
   }
   return true;
+}
+
+/* Reads the numbers of the words; false, with a word to standard error, where one is none. */
+static bool read_numbers(request *asked) {
+  asked->port_number = 22;
+  if (asked->at && !program_read_number(asked->at, &asked->second)) {
+    program_complain("%s is no second", asked->at);
+    return false;
+  }
+  if (!asked->port) return true;
+  if (program_read_number(asked->port, &asked->port_number) && asked->port_number <= UINT16_MAX)
+    return true;
+  program_complain("%s is no port", asked->port);
+  return false;
 }
 
 static int answer_request(request *asked) {
   const char *keys = asked->is_verify ? asked->keys : asked->authorities;
   judge_blob text = {NULL, 0};
-  if (asked->at && !program_read_number(asked->at, &asked->second)) {
-    program_complain("%s is no second", asked->at);
-    return UNTOLD;
-  }
-  if (!read_keys(keys, asked)) return UNTOLD;
-  if (!read_revoked(asked)) return UNTOLD;
+  if (!read_numbers(asked) || !read_keys(keys, asked)) return UNTOLD;
+  if (!read_files(&asked->revoked) || !read_files(&asked->known_hosts)) return UNTOLD;
   if (!read_named(asked->signers, &asked->allowed.text)) return UNTOLD;
   asked->allowed.unix_timestamp = asked->second;
   asked->allowed.revoked = program_revocations(&asked->revoked);
@@ -237,12 +297,30 @@ static int answer_request(request *asked) {
   return status;
 }
 
+/* Whether the words ask one thing, with nothing that is for another. */
+static bool is_one_question(const request *asked) {
+  bool is_bound = asked->at || asked->revoked.count;
+  bool is_signers = asked->signers && asked->allowed.identity;
+  bool is_host = asked->host && asked->known_hosts.count;
+  bool has_host = asked->host || asked->port || asked->known_hosts.count;
+  if (asked->is_verify)
+    return asked->name_space && asked->signature && !asked->authorities && !asked->user &&
+           !has_host &&
+           (asked->keys ? !asked->signers && !asked->allowed.identity && !is_bound : is_signers);
+  if (asked->keys || asked->name_space || asked->signature || asked->signers ||
+      asked->allowed.identity)
+    return false;
+  if (has_host) return is_host && !asked->authorities && !asked->user;
+  return asked->authorities || !(asked->user || is_bound);
+}
+
 /* Reads the words; false where they ask nothing. */
 static bool read_words(int count, char **words, request *asked) {
   static const struct option options[] = {
       {"ca", required_argument, NULL, 'c'},        {"user", required_argument, NULL, 'u'},
       {"at", required_argument, NULL, 'a'},        {"keys", required_argument, NULL, 'k'},
-      {"revoked", required_argument, NULL, 'r'},
+      {"revoked", required_argument, NULL, 'r'},   {"known-hosts", required_argument, NULL, 'h'},
+      {"host", required_argument, NULL, 'H'},      {"port", required_argument, NULL, 'p'},
       {"namespace", required_argument, NULL, 'n'}, {"signature", required_argument, NULL, 's'},
       {"signers", required_argument, NULL, 'f'},   {"identity", required_argument, NULL, 'I'},
       {NULL, 0, NULL, 0}};
@@ -251,13 +329,16 @@ static bool read_words(int count, char **words, request *asked) {
   opterr = 0;
   const char *letters = asked->is_verify ? "k:n:s:f:I:r:" : "";
   for (int letter; (letter = getopt_long(count, words, letters, options, NULL)) != -1;) {
-    if (letter == 'r') {
-      if (!program_add_path(&asked->revoked, optarg)) return false;
+    if (letter == 'r' || letter == 'h') {
+      if (!program_add_path(letter == 'r' ? &asked->revoked : &asked->known_hosts, optarg))
+        return false;
       continue;
     }
     const char **to = letter == 'c'   ? &asked->authorities
                       : letter == 'u' ? &asked->user
                       : letter == 'a' ? &asked->at
+                      : letter == 'H' ? &asked->host
+                      : letter == 'p' ? &asked->port
                       : letter == 'k' ? &asked->keys
                       : letter == 'n' ? &asked->name_space
                       : letter == 'f' ? &asked->signers
@@ -268,13 +349,7 @@ static bool read_words(int count, char **words, request *asked) {
   }
   if (optind < count && strcmp(words[optind], "-")) asked->path = words[optind];
   if (count - optind > 1) return false;
-  bool is_bound = asked->at || asked->revoked.count;
-  bool is_signers = asked->signers && asked->allowed.identity;
-  if (asked->is_verify)
-    return asked->name_space && asked->signature && !asked->authorities && !asked->user &&
-           (asked->keys ? !asked->signers && !asked->allowed.identity && !is_bound : is_signers);
-  return !asked->keys && !asked->name_space && !asked->signature && !asked->signers &&
-         !asked->allowed.identity && (asked->authorities || !(asked->user || is_bound));
+  return is_one_question(asked);
 }
 
 int main(int count, char **words) {
@@ -292,6 +367,7 @@ int main(int count, char **words) {
     fputs(help, stderr);
   free(asked.by.keys);
   free(asked.allowed.text.bytes);
+  program_forget(&asked.known_hosts);
   program_forget(&asked.revoked);
   return status;
 }

@@ -13,6 +13,10 @@ from .certificate_calls import CASES
 from .key_calls import all_of
 from .example_calls import INVALID, SPACE, UNTOLD, VALID, armour_cases
 from .linked import VALGRIND, run, turned
+from .hosts import (
+    BROKEN, CERTIFICATES, CERTIFICATES_AND_LATER, CERTIFICATES_OF_FILES, HOST, KEYS, KEYS_AND_LATER, KEYS_OF_FILES, LATER, field, in_one_file, written,
+)  # fmt: skip
+from .hosts import INVALID as INVALID_TIME
 from .login_options import certificate
 from .made import MIDDLE, is_verified
 
@@ -207,6 +211,38 @@ def check_allowed(count, programs, maker):
                 count.check(f"sshkey-check, a signature {name}", same, ran)
 
 
+# numbers of what is wrong with what a host shows
+NUMBERS = {"revoked": 50, "unreadable": 51, "changed": 52, "unknown": 53, INVALID_TIME: 33, field("type"): 71, field("critical options"): 73}
+
+
+def check_hosts(count, programs, maker):
+    """The rows of hosts.py about which a real ssh was asked, by several files; and which line is named where one can't be read."""
+    keys = {"key": maker.key("shown-host", "ed25519"), "other": maker.key("other-host", "ed25519"), "broken": BROKEN, **LATER}
+    keys["authority"] = maker.read("shower0.pub")
+    rows = [*in_one_file([*KEYS, *KEYS_AND_LATER]), *KEYS_OF_FILES]
+    rows = [(name, files, port, None, wanted) for name, files, port, wanted in rows]
+    rows += [*in_one_file([*CERTIFICATES, *CERTIFICATES_AND_LATER]), *CERTIFICATES_OF_FILES]
+    for name, files, port, words, wanted in rows:
+        shown = keys["key"] if words is None else maker.certificate("shower0", "shown-host", *words)
+        given = ["--host", HOST, "--port", str(port)]
+        for number, lines in enumerate(files):
+            with open(maker.path(f"known{number}"), "wb") as file:
+                file.write(written(maker, lines, keys))
+            given += ["--known-hosts", file.name]
+        for program in programs:
+            ran = run([program, *given], input=f"{shown}\n")
+            found = re.search(r"\((\d+)\)\n\Z", ran.stderr)
+            # of principals sshd says the same where the name is not listed
+            right = NUMBERS.get(wanted, 34) if wanted != "ok" else None
+            same = (ran.returncode, ran.stdout) == ((VALID, "valid\n") if wanted == "ok" else (INVALID, "refused\n"))
+            named = re.findall(r"^sshkey-check: \S+known(\d):(\d+): no entry", ran.stderr, re.M)
+            same = same and (int(found[1]) if found else None) == right and bool(named) == (wanted == "unreadable")
+            count.check(f"sshkey-check of a host's {'key' if words is None else 'certificate'}, {name}", same, ran)
+    known = maker.write("known0", f"# keys\n{HOST} {keys['key']}\n\n@revoked * {BROKEN}\n{HOST} {BROKEN}\n")
+    ran = run([programs[0], "--host", HOST, "--known-hosts", known], input=f"{keys['key']}\n")
+    count.check("sshkey-check names the first line that can't be read", f"{known}:4: no entry" in ran.stderr and ran.stderr.count("\n") == 2, ran)
+
+
 def check_hostile_signatures(count, programs, maker):
     """Turned, cut and drawn bytes in an armour are no valid signature, and read nothing that is not theirs."""
     draw, signature = random.Random(69), maker.signature("shown0", "a text", SPACE)
@@ -275,7 +311,9 @@ def check_words(count, programs, maker):
     allowed = ["verify", "-f", key, "-I", "alice", *signed[2:]]
     for words in (
         allowed[:3] + allowed[5:], [*allowed[:1], *allowed[3:]], [*allowed, "-k", key], [*allowed, "--user", "alice"], allowed[1:],
-        ["verify", *signed, "-r", key], ["verify", *signed, "--at", "1"],
+        ["verify", *signed, "-r", key], ["verify", *signed, "--at", "1"], ["--host", "h"], ["--known-hosts", key], ["--port", "22"],
+        ["--host", "h", "--known-hosts", key, "--ca", ca], ["--host", "h", "--known-hosts", key, "--user", "alice"], ["--host", "h", "--port", "22"],
+        ["--host", "h", "--host", "h", "--known-hosts", key], ["verify", *signed, "--host", "h", "--known-hosts", key],
         [key, key], ["--user", "alice"], ["--at", "1"], ["--ca"], ["--ca", ca, "--ca", ca], ["--ca", ca, "--keys", key], signed,
         ["verify"], ["verify", *signed[:4]], ["verify", *signed, "--ca", ca], ["verify", *signed, key, key], ["verify", "--help"],
     ):  # fmt: skip
@@ -283,7 +321,8 @@ def check_words(count, programs, maker):
         same = ran.returncode == UNTOLD and ran.stderr.startswith("usage: ") and not ran.stdout
         count.check(f"sshkey-check {' '.join(map(os.path.basename, words))} is no call", same, ran)
     for words in (["verify", *signed[:4], "-s", maker.path("none")], ["verify", "-k", maker.folder, *signed[2:]], [*allowed, "-r", maker.path("none")],
-                  ["verify", "-f", maker.path("none"), *allowed[3:]], [maker.path("none")]):
+                  ["verify", "-f", maker.path("none"), *allowed[3:]], [maker.path("none")], ["--host", "h", "--known-hosts", maker.path("none")],
+                  *(["--host", "h", "--known-hosts", key, "--port", it] for it in ("65536", "x", "-1", ""))):
         ran = run([programs[0], *words], input="")
         count.check(f"sshkey-check can't tell of {words[-1]}", ran.returncode == UNTOLD and ran.stderr.count("\n") == 1, ran)
 
@@ -325,6 +364,7 @@ def check_checker(count, built, made):
     check_verified(count, programs, maker)
     check_key_files(count, programs, maker)
     check_allowed(count, programs, maker)
+    check_hosts(count, programs, maker)
     check_hostile_signatures(count, programs, maker)
     check_hostile_words(count, built, made)
     check_refused_memory(count, built, maker)

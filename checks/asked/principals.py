@@ -8,7 +8,9 @@ from concurrent.futures import ThreadPoolExecutor
 
 from lib.harness import line_of
 
+from .hosts import LATER
 from .linked import run
+from .option_lists import Logins as OverTCP
 from .revocation_calls import made_list
 from .security_key_calls import COUNTER, SecurityKey, certified
 
@@ -69,7 +71,7 @@ class Logins:
         # what a comment holds locks nobody out, nor do tabs
         second = keys["second"].replace(" ", "\t ")
         lines = [f"{me},nobody {keys['own']}", f"x{me},{me}\t{second} Z\xfcrich", f"x{me} {keys['strange']}"]
-        lines += [f"{me} {it}" for it in devices]
+        lines += [f"{me} {it}" for it in (*devices, LATER["later"])]
         with open(maker.path("authorities"), "w", encoding="latin-1") as file:
             file.write("# who may sign for whom\n" + "".join(f"{it}\n" for it in lines))
         maker.write("plain", CONFIGURATION.format(maker.folder))
@@ -81,6 +83,7 @@ class Logins:
             ("asking", "{0}", ""), ("lost", "{0}/none", ""), ("revoking", "{0}", "--revoked {0}/revoked "),
             ("unread", "{0}", "--revoked {0}/none "), ("by text", "{0}", "--revoked {0}/revoked.text "),
             ("by half a line", "{0}", "--revoked {0}/revoked.half "), ("by no bytes", "{0}", "--revoked {0}/revoked.empty "),
+            ("by two files", "{0}", "--revoked {0}/revoked.empty --revoked {0}/revoked "), ("by more bits", "{0}", "--least-rsa-bits 3072 "),
         ):  # fmt: skip
             command = COMMAND.format(folder.format(maker.folder), program, helper, more.format(maker.folder))
             maker.write(name, CONFIGURATION.format(maker.folder) + command)
@@ -123,6 +126,13 @@ class Logins:
         yield "another authority than a text revokes", me, "second", ["-n", me, *now], "by text", True
         yield "a text with half a key", me, "own", ["-n", me, *now], "by half a line", False
         yield "a revocation file of no bytes", me, "own", ["-n", me, *now], "by no bytes", True
+        yield "a number that the second file revokes", me, "own", ["-n", me, "-z", "5", *now], "by two files", False
+        yield "a number that neither file revokes", me, "own", ["-n", me, "-z", "6", *now], "by two files", True
+        yield "a key that is not RSA, where RSA has more bits", me, "own", ["-n", me, *now], "by more bits", True
+        yield "a command", me, "own", ["-n", me, "-O", "force-command=true", *now], "asking", True
+        yield "an option that sshd does not know", me, "own", ["-n", me, "-O", "critical:x@example.com=1", *now], "asking", False
+        yield "an extension that sshd does not know", me, "own", ["-n", me, "-O", "extension:x@example.com=1", *now], "asking", True
+        yield "data in an extension that is a flag", me, "own", ["-n", me, "-O", "clear", "-O", "extension:permit-pty=1", *now], "asking", False
         for kind in self.devices:
             device, turned = (kind, COUNTER), (kind, COUNTER + 1)
             yield f"its user, by a security key of {kind}", me, device, ["-n", me, *now], "asking", True
@@ -133,6 +143,20 @@ class Logins:
             yield "another user, by its own", "nobody", "own", ["-n", "nobody", *now], "asking", True
             yield "another user, by the first one's", "nobody", "own", ["-n", me, *now], "asking", False
             yield "another user, by an authority of the first", "nobody", "second", ["-n", "nobody", *now], "asking", False
+
+
+def check_addresses(count, folder, program, helper):
+    """The program is not told where the client is: sshd itself asks the certificate's addresses, of a client over TCP."""
+    os.mkdir(folder)
+    os.chmod(folder, 0o711)
+    clients, me = OverTCP(folder, CONFIGURATION + COMMAND.format("{0}", program, helper, "")), getpass.getuser()
+    for name, text in (("trusted", clients.fields["authority"]), ("authorities", f"{me} {clients.fields['authority']}")):
+        with open(clients.path(name), "w", encoding="ascii") as file:
+            file.write(f"{text}\n")
+    for number, (items, wanted) in enumerate((("127.0.0.0/8", True), ("192.0.2.0/24,127.0.0.1", True), ("192.0.2.0/24", False))):
+        clients.certify(f"bound{number}", "-n", me, "-O", f"source-address={items}")
+        is_let_in, _ = clients.log_in("127.0.0.1", "", f"bound{number}")
+        count.check(f"login by principals, from 127.0.0.1 by a certificate for {items}", is_let_in == wanted, is_let_in)
 
 
 def check_logins(count, built, folder, maker_in, helper):
@@ -152,3 +176,4 @@ def check_logins(count, built, folder, maker_in, helper):
             found = pool.map(lambda it: logins.is_let_in(it[0], *it[1][1:5]), list(enumerate(cases)))
             for (case, *_, wanted), is_let_in in zip(cases, found):
                 count.check(f"login by principals, {name}: {case}", is_let_in == wanted, is_let_in)
+    check_addresses(count, f"{folder}/logins-by-addresses", f"{built.plain}/sshkey-principals", helper)

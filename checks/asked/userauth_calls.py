@@ -71,9 +71,9 @@ def check_requests(judge):
             renamed = replace(request, algorithm=other)
             asked.append((f"{name}, under the name {other}", f"userauth {renamed.words()}", str(judge.number("OTHER_ALGORITHM"))))
         if b"-cert-" in request.algorithm:
-            # its signature has that name, and the certificate is no such key
+            # its signature has that name; a certificate is read as a key of a private-use name, and more
             renamed = replace(request, algorithm=plain.replace(b"ssh-rsa", b"rsa-sha2-512"))
-            asked.append((f"{name}, under the name of its key", f"userauth {renamed.words()}", str(judge.number("LABEL"))))
+            asked.append((f"{name}, under the name of its key", f"userauth {renamed.words()}", str(judge.number("TRAILING_DATA"))))
     judge.hold("what a client signs", asked)
     judge.hold("the bytes that a client has signed", of)
     judge.hold("a client's signature", whole)
