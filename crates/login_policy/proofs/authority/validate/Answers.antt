@@ -26,4 +26,4 @@ pub returns-in-None-clause-valid : goal.returns-in-None-clause-valid
 returns-in-None-clause-valid g c = valid_if_none c.refused_or_wanted.ensures _ _ _ _ _ _ c.in_ok-first_refusal_for.ensures c.in-None.is
 
 pub returns-in-Some-clause-refused : goal.returns-in-Some-clause-refused
-returns-in-Some-clause-refused g c = λ other. NotValid (sym (own_authority c.args.login.now.authorities.now (certificate_of c.args.certificate.now) _ c.in_ok-authority.authority _ _ c.signature_key.ensures.value c.in_ok-authority.ensures.gives c.as_bytes.ensures c.contains_digest.ensures) ∙ c.if-not-contains_digest.false) (sym c.in-Ok.ensures.said ∙ c.if-is_revoked.false) _ (found_wrong c.refused_or_wanted.ensures _ _ _ _ _ _ _ c.in_ok-first_refusal_for.ensures c.in-Some.is)
+returns-in-Some-clause-refused g c = λ other. NotValid (sym (own_authority c.args.login.now.authorities.now (certificate_of c.args.certificate.now) _ c.in_ok-authority.authority _ _ c.signature_key.ensures.value c.in_ok-authority.ensures.gives c.as_bytes.ensures c.contains_digest.ensures) ∙ c.if-not-contains_digest.false) (sym c.in-Ok.ensures.said ∙ c.if-is_revoked.false) _ (found_wrong _ _ _ c.in_ok-first_refusal_for.ensures c.in-Some.is)
