@@ -1,10 +1,12 @@
 //! A certificate of an authority that is trusted.
 
-ghost use Rattle.std.specs.Prelude.{◌≡◌, IfErr, IfOk};
+ghost use Rattle.std.specs.Prelude.{◌≡◌, List, true, IfErr, IfOk};
 ghost use Rattle.sshkey_base.specs.declared.error.Error.TheVariants as wide;
 ghost use Rattle.sshkey_keys.specs.Fingerprints.{IsShort};
+ghost use Rattle.sshkey_model.specs.Fingerprints.{Fingerprint as TheFingerprint};
+ghost use Rattle.sshkey_model.specs.Refusals.{first_refusal, first_refusal_for, has_trusted_authority};
 ghost use Rattle.sshkey_cert.specs.CertificateValues.{certificate_of};
-ghost use Rattle.sshkey_cert.specs.Validity.{FindsAuthority, FindsRefusal, fingerprints_of, first_refusal_by_authority, first_refusal_by_authority_for};
+ghost use Rattle.sshkey_cert.specs.Validity.{FindsAuthority, FindsRefusal, fingerprints_of};
 
 use super::Certificate;
 use super::refusal::{CertificateRefusal, refusal_with_principal};
@@ -56,8 +58,8 @@ impl CertificateByAuthority<'_> {
     }
 
     /// What is wrong with the certificate first, at that time: `Signature`, `Time`, `Window`, or
-    /// `Principal` if it does not allow the principal. `None` exactly if `validate_principal_at` is
-    /// `Ok` for the authorities. Fails only when out of memory.
+    /// `Principal` if it does not allow the principal. It is what `Certificate::first_refusal_for`
+    /// says for each list of authorities that has its own. Fails only when out of memory.
     pub fn first_refusal_for<V: RawVerifier>(
         &self,
         alloc: Global,
@@ -65,7 +67,9 @@ impl CertificateByAuthority<'_> {
         principal: &str,
         verifier: &V,
     ) -> Result<Option<CertificateRefusal>>
-        ensures { FindsRefusal (first_refusal_by_authority_for (V.accepts verifier.now) unix_timestamp
+        ensures { (authorities : List TheFingerprint)
+            → has_trusted_authority authorities (certificate_of self.now.certificate.now) ≡ true
+            → FindsRefusal (first_refusal_for (V.accepts verifier.now) authorities unix_timestamp
             principal.now (certificate_of self.now.certificate.now)) result }
     {
         let first = self.first_refusal(alloc, unix_timestamp, verifier)?;
@@ -80,7 +84,9 @@ impl CertificateByAuthority<'_> {
         unix_timestamp: u64,
         verifier: &V,
     ) -> Result<Option<CertificateRefusal>>
-        ensures { FindsRefusal (first_refusal_by_authority (V.accepts verifier.now) unix_timestamp
+        ensures { (authorities : List TheFingerprint)
+            → has_trusted_authority authorities (certificate_of self.now.certificate.now) ≡ true
+            → FindsRefusal (first_refusal (V.accepts verifier.now) authorities unix_timestamp
             (certificate_of self.now.certificate.now)) result }
     {
         let certificate = self.certificate;
