@@ -1,5 +1,5 @@
 -- What the validation of a certificate decides.
-use Rattle.std.proofs.Common.{◌≡◌, ◌≢◌, ◌⊎◌, ◌↔◌, ◌==◌, ◌++◌, ℕ, List, [], ◌∷◌, length, map, Bool, true, false, IsTrue, None, Option, Some, option_map, Bor, Ok, Err, ap, arith, inl, inr, refl, subst, sym, ◌∙◌}
+use Rattle.std.proofs.Common.{◌≡◌, ◌≢◌, ◌↔◌, ◌==◌, ◌++◌, ℕ, List, [], ◌∷◌, length, map, Bool, true, false, IsTrue, None, Option, Some, option_map, Bor, Ok, Err, ap, arith, inl, inr, refl, subst, sym, ◌∙◌}
 use Rattle.std.proofs.lemmas.Bool.Decides.{nat_tests}
 use Rattle.std.specs.List.{list_any}
 use Rattle.std.specs.Prelude.{Contains, String, is_some, not, string_bytes}
@@ -97,12 +97,13 @@ module _ (law : RefuseTheUnwanted) (accepts : Question → Bool) (authorities : 
       by_test true is = is
       by_test false is = absurd (by_another is valid)
 
-  -- what is found wrong is that refusal, and nothing wrong is valid
+  -- where nothing was found, it is valid
   pub valid_if_none : (found : Option CertificateRefusal) → option_map refusal_of found ≡ first_refusal_for accepts authorities t user c → found ≡ None → IsValidFor accepts authorities t user c
   valid_if_none found says none = (law accepts authorities t user c).0 (sym says ∙ ap (λ (f : Option CertificateRefusal). option_map refusal_of f) none)
 
-  pub found_wrong : (found : Option CertificateRefusal) (w : CertificateRefusal) → option_map refusal_of found ≡ first_refusal_for accepts authorities t user c → found ≡ Some w → first_refusal_for accepts authorities t user c ≡ Some (refusal_of w)
-  found_wrong found w says some = sym says ∙ ap (λ (f : Option CertificateRefusal). option_map refusal_of f) some
+-- what was found is the first refusal
+pub found_wrong : (first : Option model.Refusal) (found : Option CertificateRefusal) (w : CertificateRefusal) → option_map refusal_of found ≡ first → found ≡ Some w → first ≡ Some (refusal_of w)
+found_wrong first found w says some = sym says ∙ ap (λ (f : Option CertificateRefusal). option_map refusal_of f) some
 
 -- ---- where the client is
 

@@ -5,9 +5,7 @@ ghost use Rattle.sshkey_cert.specs.CertificateValues.{certificate_of};
 ghost use Rattle.sshkey_cert.specs.Validity.{fingerprints_of};
 ghost use Rattle.sshkey_keys.specs.Fingerprints.{IsFingerprint};
 ghost use Rattle.sshkey_krl.specs.Revocations.{is_certificate_revoked};
-ghost use Rattle.sshkey_model.specs.Keys.{normal_key};
 ghost use Rattle.sshkey_model.specs.Names.{Sha256};
-ghost use Rattle.sshkey_model.specs.Parts.{BoxesFit};
 ghost use Rattle.sshkey_model.specs.Principals.{IsValidFor};
 ghost use Rattle.login_policy.specs.Logins.{login_of};
 ghost use Rattle.login_policy.specs.Refusals.{IsUntrusted, NeedsJudging};
@@ -15,17 +13,15 @@ ghost use Rattle.login_policy.specs.declared.refusal.Refusal.TheVariants.{Memory
 
 use crate::login::Login;
 use crate::refusal::Refusal;
-use sshkey_base::HashAlg;
-use sshkey_cert::{Certificate, CertificateRefusal, contains_digest};
+use sshkey_cert::{Certificate, CertificateRefusal};
 use sshkey_keys::{Fingerprint, RawVerifier};
 use sshkey_krl::Revocations;
 use sshkey_model::laws::certificates::refused_or_wanted;
 use std::alloc::Global;
 
 /// Validates the certificate as `Certificate::first_refusal_for` does, and returns the SHA-256
-/// fingerprint of the key that signed it. Before the verifier it asks whether that is the key of one
-/// of the authorities, since anybody can sign with a key of their own, and then whether the
-/// certificate is revoked.
+/// fingerprint of the key that signed it. Before the verifier it asks whether one of the authorities
+/// signed it, and then whether it is revoked.
 pub(crate) fn validate<R: Revocations, V: RawVerifier>(
     alloc: Global,
     certificate: &Certificate,
@@ -33,7 +29,6 @@ pub(crate) fn validate<R: Revocations, V: RawVerifier>(
     revocations: &R,
     verifier: &V,
 ) -> Result<Fingerprint, Refusal>
-    requires { BoxesFit (normal_key (certificate_of certificate.now).signed.signature_key) }
     ensures valid { OnOk result (IsValidFor (V.accepts verifier.now)
         (fingerprints_of login.now.authorities.now) login.now.unix_timestamp login.now.user.now
         (certificate_of certificate.now)) }
@@ -48,26 +43,17 @@ pub(crate) fn validate<R: Revocations, V: RawVerifier>(
         (fingerprints_of login.now.authorities.now) (certificate_of certificate.now)) }
 {
     refused_or_wanted();
-    let authority = certificate
-        .signature_key()
-        .fingerprint(alloc, HashAlg::Sha256)?;
-    if !contains_digest(login.authorities, authority.as_bytes()) {
+    let Some(by) = certificate.by_authority(alloc, login.authorities)? else {
         return Err(Refusal::Invalid(CertificateRefusal::Authority));
-    }
+    };
     let Ok(is_revoked) = revocations.is_certificate_revoked(alloc, certificate) else {
         return Err(Refusal::Memory);
     };
     if is_revoked {
         return Err(Refusal::Revoked);
     }
-    match certificate.first_refusal_for(
-        alloc,
-        login.unix_timestamp,
-        login.user,
-        login.authorities,
-        verifier,
-    )? {
-        None => Ok(authority),
+    match by.first_refusal_for(alloc, login.unix_timestamp, login.user, verifier)? {
+        None => Ok(by.authority()),
         Some(refusal) => Err(Refusal::Invalid(refusal)),
     }
 }

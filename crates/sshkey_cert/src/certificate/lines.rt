@@ -60,7 +60,7 @@ impl Certificate {
     /// returns false, further lines are part of it, and were not read as certificates.
     ///
     /// ```rust
-    /// // as in crates/login_policy/src/login.rt
+    /// // as in crates/sshkey_cases/src/certificates.rt
     /// let certificate = Certificate::from_openssh(alloc, line)?;
     /// ```
     pub fn from_openssh(alloc: Global, text: &str) -> Result<Certificate>

@@ -21,7 +21,7 @@ returns-in_err-certificate-clause-refused g c =
 pub returns-in_err-certificate-clause-memory : goal.returns-in_err-certificate-clause-memory
 returns-in_err-certificate-clause-memory g c =
     let p = err_from_is_err_and c.from_residual.result c.from_residual.ensures.1 in
-    rw p.1 (λ memory. inl (c.in_err-certificate.ensures.asks (rw (memory_of _ p.0 p.2 memory) refl)))
+    rw p.1 (λ memory. inl (c.in_err-certificate.ensures.asks (rw (memory_of _ p.0 p.2 memory) refl) refl))
 
 pub returns-then-not-is_normal_form-clause-exactly : goal.returns-then-not-is_normal_form-clause-exactly
 returns-then-not-is_normal_form-clause-exactly g c = λ other. refused c.refused_or_wanted.ensures c.one_certificate.ensures _ (certificate_of c.in_ok-certificate.certificate) _ c.in_ok-certificate.ensures.accepts.spelled (inl ((λ same. let yes : c.is_normal_form.result ≡ true = c.is_normal_form.ensures.1 same in absurd cc), refl))
@@ -60,12 +60,12 @@ returns-in_err-authority-clause-refused g c =
 pub returns-in_err-authority-clause-memory : goal.returns-in_err-authority-clause-memory
 returns-in_err-authority-clause-memory g c =
     let p = err_from_is_err_and c.from_residual-in_err-authority.result c.from_residual-in_err-authority.ensures.1 in
-    rw (p.1, p.2) (λ memory. inr (certificate_of c.in_ok-certificate.certificate, c.in_ok-certificate.ensures.accepts.spelled, c.in_err-authority.ensures.memory memory)))
+    rw (p.1, p.2) (λ memory. inr (certificate_of c.in_ok-certificate.certificate, c.in_ok-certificate.ensures.accepts.spelled, c.in_err-authority.ensures.memory memory))
 
 pub returns-in_err-grant_of-clause-memory : goal.returns-in_err-grant_of-clause-memory
 returns-in_err-grant_of-clause-memory g c =
     let p = err_from_is_err_and c.from_residual-in_err-grant_of.result c.from_residual-in_err-grant_of.ensures.1 in
-    rw p.1 (λ memory. inr (certificate_of c.in_ok-certificate.certificate, c.in_ok-certificate.ensures.accepts.spelled, inr (trusted c.refused_or_wanted.ensures _ _ _ _ _ c.in_ok-authority.ensures.valid))))
+    rw p.1 (λ memory. inr (certificate_of c.in_ok-certificate.certificate, c.in_ok-certificate.ensures.accepts.spelled, inr (trusted c.refused_or_wanted.ensures _ _ _ _ _ c.in_ok-authority.ensures.valid)))
 
 pub returns-then-not-is_allowed_from-clause-exactly : goal.returns-then-not-is_allowed_from-clause-exactly
 returns-then-not-is_allowed_from-clause-exactly g c = λ other. refused c.refused_or_wanted.ensures c.one_certificate.ensures _ (certificate_of c.in_ok-certificate.certificate) _ c.in_ok-certificate.ensures.accepts.spelled (inr (
