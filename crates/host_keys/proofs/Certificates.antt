@@ -1,5 +1,5 @@
 -- What makes a host's certificate good.
-use Rattle.std.proofs.Common.{◌≡◌, ap, ℕ, List, [], ◌∷◌, Bool, Result, Option, Some, None, Ok, Err, option_map, refl, subst, sym, ◌∙◌}
+use Rattle.std.proofs.Common.{◌≡◌, ap, ℕ, List, [], ◌∷◌, Bool, Result, Option, Some, None, refl, subst, sym, ◌∙◌}
 use Rattle.sshkey_base.specs.declared.error.Error.{Error}
 use Rattle.sshkey_cert.specs.Validity.{FindsRefusal, fingerprint_of, fingerprints_of, refusal_of}
 use Rattle.sshkey_cert.specs.declared.certificate.refusal.CertificateRefusal.{CertificateRefusal}

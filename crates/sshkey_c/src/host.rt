@@ -8,11 +8,7 @@ use std::alloc::Global;
 
 /// Whether a key is a host's: `sshkey_host_calls::host_key_verdict`.
 #[unsafe(no_mangle)]
-pub extern "C" fn sshkey_host_key_verdict(
-    alloc: Global,
-    login: &HostLogin<'_>,
-    key: &[u8],
-) -> u32
+pub extern "C" fn sshkey_host_key_verdict(alloc: Global, login: &HostLogin<'_>, key: &[u8]) -> u32
     ensures verdict { are_texts login.now ≡ true → TellsHostKey login.now key.now result }
     ensures text { are_texts login.now ≡ false → result ≡ 4 }
 {

@@ -63,13 +63,16 @@ module _ (login : HostLogin) (accepts : Question → Bool) (revokes : List ℕ �
 
 pub told : (l : code.HostLogin) (bytes : List ℕ) (is_verified n : ℕ) (b : Bool) → b ≡ is_yes_number is_verified → JudgesCertificate l (λ _. b) bytes n → TellsCertificate l bytes is_verified n
 told l bytes is_verified n b same judges not_memory =
-    let j = subst (λ (y : Bool). JudgesCertificate l (λ _. y) bytes n) same judges not_memory in
-    (j.0, j.1, λ accepts v. record {
-      says = record {
-        yes_ = λ zero_. holds_there (login_of l) accepts (one_revokes j.0) bytes is_verified v (j.2.says.yes_ zero_);
-        no_ = λ some other holds. j.2.says.no_ some other (holds_back (login_of l) accepts (one_revokes j.0) bytes is_verified v holds);
-      };
-      first = λ some other.
-          let w = j.2.first some other in
-          (w.0, refuses_there (login_of l) accepts (one_revokes j.0) bytes is_verified v w.0 w.1, w.2);
-    })
+    let j = subst (λ (y : Bool). JudgesCertificate l (λ _. y) bytes n) same judges not_memory in (
+      j.0,
+      j.1,
+      λ accepts v. record {
+        says = record {
+          yes_ = λ zero_. holds_there (login_of l) accepts (one_revokes j.0) bytes is_verified v (j.2.says.yes_ zero_);
+          no_ = λ some other holds. j.2.says.no_ some other (holds_back (login_of l) accepts (one_revokes j.0) bytes is_verified v holds);
+        };
+        first = λ some other.
+            let w = j.2.first some other in
+            (w.0, refuses_there (login_of l) accepts (one_revokes j.0) bytes is_verified v w.0 w.1, w.2);
+      },
+    )

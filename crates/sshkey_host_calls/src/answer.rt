@@ -32,5 +32,9 @@ pub(crate) fn answer_number(answer: Result<(), Refusal>, are_read: bool) -> u32
 fn revoked_number(are_read: bool) -> u32
     ensures { result ≡ revoked_number are_read }
 {
-    if are_read { HOST_REVOKED } else { UNREADABLE_REVOCATIONS }
+    if are_read {
+        HOST_REVOKED
+    } else {
+        UNREADABLE_REVOCATIONS
+    }
 }

@@ -50,12 +50,7 @@ pub fn host_certificate_verdict(
 }
 
 /// The same of texts and a certificate.
-fn judge(
-    alloc: Global,
-    login: &HostLogin<'_>,
-    certificate: &[u8],
-    said: &Verification,
-) -> u32
+fn judge(alloc: Global, login: &HostLogin<'_>, certificate: &[u8], said: &Verification) -> u32
     requires { are_texts login.now ≡ true }
     ensures { JudgesCertificate login.now (λ _. said.now.is_yes) certificate.now result }
 {

@@ -52,5 +52,8 @@ fn judge(alloc: Global, login: &HostLogin<'_>, key: &KeyDataRef<'_>) -> u32
         return MEMORY;
     };
     let known = login.with_texts(&texts);
-    answer_number(check_key(alloc, &known, &key, &Hmac, &files), files.are_read())
+    answer_number(
+        check_key(alloc, &known, &key, &Hmac, &files),
+        files.are_read(),
+    )
 }

@@ -3,3 +3,4 @@ pub mod RequestTrees
 pub mod Lawful
 pub mod Measured
 pub mod Judging
+pub mod Once

@@ -129,5 +129,11 @@ pub record HasNoKey (r : UserauthRequest) (required : Requirements) (g : Signatu
   pub judged : judged r required g ≡ Ok form
   pub none : ReadsKey form r.public_key (Err e)
 
+-- The request is judged well, and there is no key in it, for that fault.
+pub record LacksKey (r : UserauthRequest) (required : Requirements) (g : Signature) (fault : Fault) : Type 0 where
+  pub form : KeyForm
+  pub judged : judged r required g ≡ Ok form
+  pub none : key_from form r.public_key ≡ Err fault
+
 abbrev pub IsRefused : UserauthRequest → Requirements → Signature → Refusal → Type 0
 IsRefused r required g e = (judged r required g ≡ Err e) ⊎ HasNoKey r required g e

@@ -1,11 +1,8 @@
 -- What is told of a client's signature.
-use Rattle.std.proofs.Common.{◌≡◌, ◌≢◌, ℕ, List, [], Option, Some, None, Result, Ok, Err, inl, inr, refl, sym, ap, subst, ◌∙◌}
-use Rattle.std.specs.Prelude.{IsErrAnd}
+use Rattle.std.proofs.Common.{◌≡◌, ◌≢◌, ℕ, List, [], Option, Some, None, Err, inl, inr, refl, ap, subst, ◌∙◌}
 use Rattle.sshkey_base.specs.Causes.{Faulty, cause}
 use Rattle.sshkey_base.specs.declared.error.Error.{Error}
 use Rattle.sshkey_keys.specs.SignatureReaders.{SpellsSignature, signature_grammar}
-use Rattle.sshkey_model.specs.Keys.{Key}
-use Rattle.sshkey_model.specs.Parts.{flat}
 use Rattle.sshkey_model.specs.Reading.{Fault}
 use Rattle.sshkey_model.specs.Signatures.{Signature}
 use Rattle.sshkey_model.specs.Verification as model
@@ -14,88 +11,67 @@ use Rattle.sshkey_calls.specs.Numbers.{fault_number}
 use Rattle.sshkey_calls.specs.Questions.{TellsQuestion}
 use Rattle.sshkey_calls.specs.declared.question.Question.{Question}
 use Rattle.sshkey_calls.proofs.Rooms.{no_memory, none_given, told_as}
-use Rattle.sshkey_userauth.specs.Judgements.{HasNoKey, IsAsked, IsRefused, judged, key_from}
+use Rattle.sshkey_userauth.specs.Judgements.{HasNoKey, IsAsked, IsRefused, LacksKey, judged}
 use Rattle.sshkey_userauth.specs.RequestFormats.{SpellsUserauthRequest}
-use Rattle.sshkey_userauth.specs.Requests.{UserauthRequest, userauth_request}
+use Rattle.sshkey_userauth.specs.Requests.{UserauthRequest}
 use Rattle.sshkey_userauth.specs.declared.judgement.Requirements.{Requirements}
-use Rattle.sshkey_userauth.specs.declared.judgement.name.KeyForm.{KeyForm}
 use Rattle.sshkey_userauth.specs.declared.refusal.Refusal.{Refusal}
 use Rattle.sshkey_userauth.specs.declared.refusal.Refusal.TheVariants as refusals
+use Rattle.sshkey_userauth.proofs.Once.{asked_keyed, lacks_key, one_asked, one_lack}
 use Rattle.sshkey_userauth_calls.specs.Userauths.{TellsAsked, TellsAskedWhere, refusal_number}
 
 -- the bytes spell one signature only
 pub one_signature : (g h : Signature) (bytes : List ℕ) → SpellsSignature g bytes → SpellsSignature h bytes → g ≡ h
 one_signature g h bytes made other = (one_front signature_grammar g h bytes bytes [] [] made other refl).0
 
-module _ (r : UserauthRequest) (required : Requirements) (g : Signature) where
-  -- only one question is asked
-  one_asked : (p q : Option model.Question) → IsAsked r required g p → IsAsked r required g q → p ≡ q
-  one_asked p q is other =
-      let form : is.form ≡ other.form = cc (is.judged, other.judged) in
-      let held : key_from is.form r.public_key ≡ Ok other.key = ap (λ (f : KeyForm). key_from f r.public_key) form ∙ other.held in
-      let key : is.key ≡ other.key = cc (is.held, held) in
-      is.question ∙ ap (λ (k : Key). model.question k (flat (userauth_request r)) g) key ∙ sym other.question
+module _ (r : UserauthRequest) (required : Requirements) (g : Signature) (n : ℕ) (was answer : Question) (before after : List ℕ) where
+  pub asked_told : (p : Option model.Question) → IsAsked r required g p → TellsQuestion p n was answer before after → TellsAsked r required g n was answer before after
+  asked_told p is tells = record {
+    raised = told_as n was answer before after (λ q e. subst (λ (o : Option model.Question). IsAsked r required g o) e is) (λ q other. one_asked r required g p (Some q) is other) tells.raised;
+    unsupported = λ none. tells.unsupported (one_asked r required g p None is none);
+    misjudged = λ e wrong. absurd (cc (is.judged, wrong));
+    no_key = λ fault lacks. absurd (asked_keyed r required g p fault is lacks);
+  }
 
-  module _ (n : ℕ) (was answer : Question) (before after : List ℕ) where
-    pub asked_told : (p : Option model.Question) → IsAsked r required g p → TellsQuestion p n was answer before after → TellsAsked r required g n was answer before after
-    asked_told p is tells = record {
-      raised = told_as n was answer before after (λ q e. subst (λ (o : Option model.Question). IsAsked r required g o) e is) (λ q other. one_asked p (Some q) is other) tells.raised;
-      unsupported = λ none. tells.unsupported (one_asked p None is none);
-      misjudged = λ e wrong. absurd (cc (is.judged, wrong));
-      no_key = λ form fault well none.
-          let same : is.form ≡ form = cc (is.judged, well) in
-          let held : key_from is.form r.public_key ≡ Err fault = ap (λ (f : KeyForm). key_from f r.public_key) same ∙ none in
-          absurd (cc (is.held, held));
+  pub memory_told : (answer ≡ was) × (after ≡ before) → n ≡ 1 → TellsAsked r required g n was answer before after
+  memory_told same one = record {
+    raised = no_memory n was answer before after same one;
+    unsupported = λ _ other. absurd (other one);
+    misjudged = λ _ _ other. absurd (other one);
+    no_key = λ _ _ other. absurd (other one);
+  }
+
+  module _ (same : (answer ≡ was) × (after ≡ before)) (some : n ≢ 0) (apart : n ≢ 2) where
+    misjudged_told : (e : Refusal) → n ≡ refusal_number e → judged r required g ≡ Err e → TellsAsked r required g n was answer before after
+    misjudged_told e number wrong = record {
+      raised = none_given n was answer before after same some apart (λ _ q is. absurd (cc (is.judged, wrong)));
+      unsupported = λ is. absurd (cc (is.judged, wrong));
+      misjudged = λ f other _. let which : e ≡ f = cc (wrong, other) in number ∙ ap refusal_number which;
+      no_key = λ fault lacks. absurd (cc (lacks.judged, wrong));
     }
 
-    pub memory_told : (answer ≡ was) × (after ≡ before) → n ≡ 1 → TellsAsked r required g n was answer before after
-    memory_told same one = record {
-      raised = no_memory n was answer before after same one;
-      unsupported = λ _ other. absurd (other one);
-      misjudged = λ _ _ other. absurd (other one);
-      no_key = λ _ _ _ _ other. absurd (other one);
+    keyless_told : (fault : Fault) → n ≡ fault_number fault → LacksKey r required g fault → TellsAsked r required g n was answer before after
+    keyless_told fault number lacks = record {
+      raised = none_given n was answer before after same some apart (λ _ q is. asked_keyed r required g (Some q) fault is lacks);
+      unsupported = λ is. absurd (asked_keyed r required g None fault is lacks);
+      misjudged = λ f wrong. absurd (cc (lacks.judged, wrong));
+      no_key = λ met also _. number ∙ ap fault_number (one_lack r required g fault met lacks also);
     }
 
-    module _ (same : (answer ≡ was) × (after ≡ before)) (some : n ≢ 0) (apart : n ≢ 2) where
-      misjudged_told : (e : Refusal) → n ≡ refusal_number e → judged r required g ≡ Err e → TellsAsked r required g n was answer before after
-      misjudged_told e number wrong = record {
-        raised = none_given n was answer before after same some apart (λ _ q is. absurd (cc (is.judged, wrong)));
-        unsupported = λ is. absurd (cc (is.judged, wrong));
-        misjudged = λ f other _. let which : e ≡ f = cc (wrong, other) in number ∙ ap refusal_number which;
-        no_key = λ form fault well. absurd (cc (well, wrong));
-      }
+    no_key_told : (e : Refusal) → n ≡ refusal_number e → ((x : Error) (fault : Fault) → e ≡ refusals.Key x → cause x ≡ Faulty fault → n ≡ fault_number fault) → HasNoKey r required g e → TellsAsked r required g n was answer before after
+    no_key_told (refusals.Key x) number key has =
+        let met = lacks_key r required g x has in
+        keyless_told met.0 (key x met.0 refl met.2) met.1
+    no_key_told refusals.Memory number key has = memory_told same number
+    no_key_told refusals.SignedBytes number key has = absurd has.none
+    no_key_told refusals.Service number key has = absurd has.none
+    no_key_told refusals.Algorithm number key has = absurd has.none
+    no_key_told refusals.Touch number key has = absurd has.none
+    no_key_told refusals.Verification number key has = absurd has.none
 
-      keyless : (form : KeyForm) → judged r required g ≡ Ok form → (found : Result Key Fault) → key_from form r.public_key ≡ found → (e : Error) → ((fault : Fault) → cause e ≡ Faulty fault → n ≡ fault_number fault) → IsErrAnd found (λ fault. cause e ≡ Faulty fault) → TellsAsked r required g n was answer before after
-      keyless form well (Ok key) found e number none = absurd none
-      keyless form well (Err fault) found e number none = record {
-        raised = none_given n was answer before after same some apart (λ _ q is. nothing (Some q) is);
-        unsupported = λ is. absurd (nothing None is);
-        misjudged = λ f wrong. absurd (cc (well, wrong));
-        no_key = λ other met also is _.
-            let form_is : form ≡ other = cc (well, also) in
-            let both : Err {Key} fault ≡ Err met = sym found ∙ ap (λ (f : KeyForm). key_from f r.public_key) form_is ∙ is in
-            let which : fault ≡ met = cc both in
-            number fault none ∙ ap fault_number which;
-      }
-        where
-          nothing : (q : Option model.Question) → IsAsked r required g q → ⊥
-          nothing q is =
-              let form_is : form ≡ is.form = cc (well, is.judged) in
-              let both : Err fault ≡ Ok is.key = sym found ∙ ap (λ (f : KeyForm). key_from f r.public_key) form_is ∙ is.held in
-              cc both
-
-      no_key_told : (e : Refusal) → n ≡ refusal_number e → ((x : Error) (fault : Fault) → e ≡ refusals.Key x → cause x ≡ Faulty fault → n ≡ fault_number fault) → (has : HasNoKey r required g e) → TellsAsked r required g n was answer before after
-      no_key_told (refusals.Key x) number key has = keyless has.form has.judged (key_from has.form r.public_key) refl x (λ fault. key x fault refl) has.none
-      no_key_told refusals.Memory number key has = memory_told same number
-      no_key_told refusals.SignedBytes number key has = absurd has.none
-      no_key_told refusals.Service number key has = absurd has.none
-      no_key_told refusals.Algorithm number key has = absurd has.none
-      no_key_told refusals.Touch number key has = absurd has.none
-      no_key_told refusals.Verification number key has = absurd has.none
-
-      pub refused_told : (e : Refusal) → n ≡ refusal_number e → ((x : Error) (fault : Fault) → e ≡ refusals.Key x → cause x ≡ Faulty fault → n ≡ fault_number fault) → IsRefused r required g e → TellsAsked r required g n was answer before after
-      refused_told e number key (inl wrong) = misjudged_told e number wrong
-      refused_told e number key (inr has) = no_key_told e number key has
+    pub refused_told : (e : Refusal) → n ≡ refusal_number e → ((x : Error) (fault : Fault) → e ≡ refusals.Key x → cause x ≡ Faulty fault → n ≡ fault_number fault) → IsRefused r required g e → TellsAsked r required g n was answer before after
+    refused_told e number key (inl wrong) = misjudged_told e number wrong
+    refused_told e number key (inr has) = no_key_told e number key has
 
 -- ---- where it is told
 

@@ -1,5 +1,5 @@
 -- What is answered of a client's signature for a login (RFC 4252, section 7).
-use Rattle.std.specs.Prelude.{◌≡◌, ◌≢◌, ◌==◌, ℕ, List, Option, Some, None, Ok, Err, bit_and, if◌then◌else◌}
+use Rattle.std.specs.Prelude.{◌≡◌, ◌≢◌, ◌==◌, ℕ, List, Option, Some, None, Err, bit_and, if◌then◌else◌}
 use Rattle.sshkey_keys.specs.SignatureReaders.{SpellsSignature}
 use Rattle.sshkey_model.specs.Parts.{BoxesFit}
 use Rattle.sshkey_model.specs.Reading.{Fault}
@@ -8,11 +8,10 @@ use Rattle.sshkey_calls.specs.Numbers.{error_number, fault_number}
 use Rattle.sshkey_calls.specs.Outcomes.{TellsOf}
 use Rattle.sshkey_calls.specs.Questions.{GivesQuestion}
 use Rattle.sshkey_calls.specs.declared.question.Question.{Question}
-use Rattle.sshkey_userauth.specs.Judgements.{IsAsked, connection, judged, key_from}
+use Rattle.sshkey_userauth.specs.Judgements.{IsAsked, LacksKey, connection, judged}
 use Rattle.sshkey_userauth.specs.RequestFormats.{SpellsUserauthRequest}
 use Rattle.sshkey_userauth.specs.Requests.{UserauthRequest, userauth_request}
 use Rattle.sshkey_userauth.specs.declared.judgement.Requirements.{Requirements}
-use Rattle.sshkey_userauth.specs.declared.judgement.name.KeyForm.{KeyForm}
 use Rattle.sshkey_userauth.specs.declared.refusal.Refusal.{Refusal}
 use Rattle.sshkey_userauth.specs.declared.refusal.Refusal.TheVariants as refusals
 use Rattle.sshkey_userauth_calls.specs.declared.signature.UserauthSignature.{UserauthSignature}
@@ -49,7 +48,7 @@ pub record TellsAsked (r : UserauthRequest) (required : Requirements) (g : Signa
   pub raised : GivesQuestion (λ q. IsAsked r required g (Some q)) n was answer before after
   pub unsupported : IsAsked r required g None → n ≢ 1 → n ≡ 40
   pub misjudged : (e : Refusal) → judged r required g ≡ Err e → n ≢ 1 → n ≡ refusal_number e
-  pub no_key : (form : KeyForm) (fault : Fault) → judged r required g ≡ Ok form → key_from form r.public_key ≡ Err fault → n ≢ 1 → n ≡ fault_number fault
+  pub no_key : (fault : Fault) → LacksKey r required g fault → n ≢ 1 → n ≡ fault_number fault
 
 -- It answers so where this holds. Else it answers that number, memory aside, and nothing changes.
 pub record TellsAskedWhere (Holds : Type 0) (otherwise : ℕ) (r : UserauthRequest) (required : Requirements) (g : Signature) (n : ℕ) (was answer : Question) (before after : List ℕ) : Type 0 where

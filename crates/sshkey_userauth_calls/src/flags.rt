@@ -46,12 +46,7 @@ fn flags_under(alloc: Global, permits: u32, signer: &KeyDataRef<'_>, signature: 
 }
 
 /// The same of a signature that was read too.
-fn flags_in(
-    alloc: Global,
-    permits: u32,
-    signer: &KeyDataRef<'_>,
-    made: &SignatureRef<'_>,
-) -> u32
+fn flags_in(alloc: Global, permits: u32, signer: &KeyDataRef<'_>, made: &SignatureRef<'_>) -> u32
     ensures { (k : Key) (g : Signature) → SpellsKey k (key_bytes signer.now)
         → SpellsSignature g (signature_bytes made.now) → result ≢ 1
         → result ≡ flags_number (requirements_of permits) k g }
@@ -62,10 +57,10 @@ fn flags_in(
     let Ok(signature) = made.to_signature(alloc) else {
         return MEMORY;
     };
-    if key.question(&[], &signature).is_none() {
-        return UNSUPPORTED;
+    match key.question(&[], &signature) {
+        Some(_) => checked_number(check_flags(&signature, requirements_of(permits))),
+        None => UNSUPPORTED,
     }
-    checked_number(check_flags(&signature, requirements_of(permits)))
 }
 
 /// The number of what the flags lack first, and 0 where they lack nothing.

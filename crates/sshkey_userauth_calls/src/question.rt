@@ -100,7 +100,10 @@ fn ask(
         return MEMORY;
     };
     let requirements = requirements_of(signed.permits);
-    match signed.expected().question(alloc, bytes, &signature, requirements) {
+    match signed
+        .expected()
+        .question(alloc, bytes, &signature, requirements)
+    {
         Ok(asked) => answer_question(alloc, asked.question(), room, answer),
         Err(refusal) => refusal_number(refusal),
     }

@@ -3,9 +3,12 @@ use Rattle.host_keys.specs.Hosts.{ForUsers, OtherKeyId, OtherPrincipals, SomeOpt
 use Rattle.host_keys.proofs.certificate.check_fields.Goals as goal
 
 pub returns-then-not-is_host-clause-exactly : goal.returns-then-not-is_host-clause-exactly
-returns-then-not-is_host-clause-exactly c = (λ never. cc never, λ is.
-    let yes : c.is_host.result ≡ true = c.is_host.ensures.1 (c.cert_type.ensures ∙ is.for_hosts) in
-    absurd cc)
+returns-then-not-is_host-clause-exactly c = (
+  λ never. cc never,
+  λ is.
+      let yes : c.is_host.result ≡ true = c.is_host.ensures.1 (c.cert_type.ensures ∙ is.for_hosts) in
+      absurd cc,
+)
 
 pub returns-then-not-is_host-clause-refused : goal.returns-then-not-is_host-clause-refused
 returns-then-not-is_host-clause-refused c = ForUsers (λ hosts.
@@ -13,9 +16,12 @@ returns-then-not-is_host-clause-refused c = ForUsers (λ hosts.
     absurd cc)
 
 pub returns-then-not-is_empty-clause-exactly : goal.returns-then-not-is_empty-clause-exactly
-returns-then-not-is_empty-clause-exactly c = (λ never. cc never, λ is.
-    let yes : c.is_empty.result ≡ true = c.is_empty.ensures.1 (c.critical_options.ensures ∙ is.no_options) in
-    absurd cc)
+returns-then-not-is_empty-clause-exactly c = (
+  λ never. cc never,
+  λ is.
+      let yes : c.is_empty.result ≡ true = c.is_empty.ensures.1 (c.critical_options.ensures ∙ is.no_options) in
+      absurd cc,
+)
 
 pub returns-then-not-is_empty-clause-refused : goal.returns-then-not-is_empty-clause-refused
 returns-then-not-is_empty-clause-refused c = SomeOption (sym c.cert_type.ensures ∙ c.is_host.ensures.0 c.if-not-is_host.false) (λ none.
@@ -23,9 +29,12 @@ returns-then-not-is_empty-clause-refused c = SomeOption (sym c.cert_type.ensures
     absurd cc)
 
 pub returns-then-not-is_read_text-clause-exactly : goal.returns-then-not-is_read_text-clause-exactly
-returns-then-not-is_read_text-clause-exactly c = (λ never. cc never, λ is.
-    let yes : c.is_read_text.result ≡ true = c.is_read_text.ensures.1 (rw c.key_id.ensures is.key_id) in
-    absurd cc)
+returns-then-not-is_read_text-clause-exactly c = (
+  λ never. cc never,
+  λ is.
+      let yes : c.is_read_text.result ≡ true = c.is_read_text.ensures.1 (rw c.key_id.ensures is.key_id) in
+      absurd cc,
+)
 
 pub returns-then-not-is_read_text-clause-refused : goal.returns-then-not-is_read_text-clause-refused
 returns-then-not-is_read_text-clause-refused c = OtherKeyId (sym c.cert_type.ensures ∙ c.is_host.ensures.0 c.if-not-is_host.false) (sym c.critical_options.ensures ∙ c.is_empty.ensures.0 c.if-not-is_empty.false) (λ none.
@@ -33,9 +42,12 @@ returns-then-not-is_read_text-clause-refused c = OtherKeyId (sym c.cert_type.ens
     absurd cc)
 
 pub returns-then-not-are_for_hosts-clause-exactly : goal.returns-then-not-are_for_hosts-clause-exactly
-returns-then-not-are_for_hosts-clause-exactly c = (λ never. cc never, λ is.
-    let yes : c.are_for_hosts.result ≡ true = c.are_for_hosts.ensures.1 (rw c.valid_principals.ensures is.principals) in
-    absurd cc)
+returns-then-not-are_for_hosts-clause-exactly c = (
+  λ never. cc never,
+  λ is.
+      let yes : c.are_for_hosts.result ≡ true = c.are_for_hosts.ensures.1 (rw c.valid_principals.ensures is.principals) in
+      absurd cc,
+)
 
 pub returns-then-not-are_for_hosts-clause-refused : goal.returns-then-not-are_for_hosts-clause-refused
 returns-then-not-are_for_hosts-clause-refused c = OtherPrincipals (sym c.cert_type.ensures ∙ c.is_host.ensures.0 c.if-not-is_host.false) (sym c.critical_options.ensures ∙ c.is_empty.ensures.0 c.if-not-is_empty.false) (rw c.key_id.ensures at (c.is_read_text.ensures.0 c.if-not-is_read_text.false)) (λ names.

@@ -21,10 +21,10 @@ returns-in-Ok-question c g made =
     same_where c.args.bytes.now r (expected c.args.signed.now) required (requirements_of c.args.signed.now.permits) signature g 80 c.answer_question.result _ _ _ _ c.expected.ensures c.requirements_of-requirements.ensures same
     (told_where r required signature _ _ _ _ (SpellsUserauthRequest r c.args.bytes.now) 80 c.answer_question.result
     (λ no. cc (c.in-Ok-question.ensures.other no))
-    (λ _. asked_told r required signature c.answer_question.result _ _ _ _ (asks c.in-Ok-question.asked) c.in-Ok-question.ensures.asked (rw c.question-2.ensures at c.answer_question.ensures)))
+    (λ _. asked_told r required signature c.answer_question.result _ _ _ _ (asks c.in-Ok-question.asked) c.in-Ok-question.ensures.asked (rw c.question-in-Ok-question.ensures at c.answer_question.ensures)))
 
-pub returns-in-Err : goal.returns-in-Err
-returns-in-Err c g made =
+pub returns : goal.returns
+returns c g made =
     let r = request_of c.expected.result in
     let required = c.requirements_of-requirements.result in
     let signature = signature_of c.in-Ok.signature in

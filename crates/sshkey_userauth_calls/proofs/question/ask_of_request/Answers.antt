@@ -1,12 +1,12 @@
-use Rattle.std.proofs.Common.{◌≡◌, List, ℕ, ap, inl, inr, refl, subst, sym, ◌∙◌}
+use Rattle.std.proofs.Common.{ap, inl, inr, refl, subst, sym, ◌∙◌}
 use Rattle.sshkey_base.specs.Causes.{cause}
-use Rattle.sshkey_model.specs.Parts.{BoxesFit, flat}
+use Rattle.sshkey_model.specs.Parts.{BoxesFit}
 use Rattle.sshkey_calls.specs.Numbers.{error_number}
 use Rattle.sshkey_userauth.specs.RequestFormats.{SpellsUserauthRequest}
 use Rattle.sshkey_userauth.specs.Requests.{UserauthRequest, userauth_request}
 use Rattle.sshkey_userauth.specs.Values.{request_of}
 use Rattle.sshkey_userauth.proofs.RequestTrees.{userauth_normal}
-use Rattle.sshkey_userauth_calls.specs.Userauths.{expected}
+use Rattle.sshkey_userauth_calls.specs.Userauths.{expected, requirements_of}
 use Rattle.sshkey_userauth_calls.proofs.Asked.{memory_where}
 use Rattle.sshkey_userauth_calls.proofs.question.ask_of_request.Goals as goal
 
@@ -25,9 +25,9 @@ returns-in-Ok c g made =
 pub returns-in-Err : goal.returns-in-Err
 returns-in-Err c g made = elim c.in-Err.ensures [
   | inl long ↦ record {
-      asked = λ fits. absurd (long.0 (subst (λ (x : UserauthRequest). BoxesFit (userauth_request x)) (sym c.expected.ensures) fits));
-      other = λ _ _. c.error_number.ensures.number ∙ ap error_number long.1;
-      stays = λ _. (refl, refl);
-    }
-  | inr out ↦ memory_where (expected c.args.signed.now) _ g _ _ _ _ (BoxesFit (userauth_request (expected c.args.signed.now))) 13 c.error_number.result (c.error_number.ensures.memory (ap cause out.1))
+    asked = λ fits. absurd (long.0 (subst (λ (x : UserauthRequest). BoxesFit (userauth_request x)) (sym c.expected.ensures) fits));
+    other = λ _ _. c.error_number.ensures.number ∙ ap error_number long.1;
+    stays = λ _. (refl, refl);
+  }
+  | inr out ↦ memory_where (expected c.args.signed.now) (requirements_of c.args.signed.now.permits) g c.args.answer.now c.args.answer.now c.args.room.now c.args.room.now (BoxesFit (userauth_request (expected c.args.signed.now))) 13 c.error_number.result (c.error_number.ensures.memory (ap cause out.1))
 ]

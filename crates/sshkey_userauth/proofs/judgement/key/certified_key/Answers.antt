@@ -7,5 +7,5 @@ use Rattle.sshkey_userauth.proofs.judgement.key.certified_key.Goals as goal
 pub returns-in-Ok-public_key : goal.returns-in-Ok-public_key
 returns-in-Ok-public_key c = certified_is c.args.bytes.now c.in-Ok.certificate (key_of c.in-Ok-public_key.key) c.in-Ok.ensures.keeps c.in-Ok-public_key.ensures.value
 
-pub returns-in-Err : goal.returns-in-Err
-returns-in-Err c = no_certified_key c.args.bytes.now (whole certificate_at c.args.bytes.now) c.in-Err.error c.in-Err.ensures.keeps
+pub returns : goal.returns
+returns c = no_certified_key c.args.bytes.now (whole certificate_at c.args.bytes.now) c.in-Err.error c.in-Err.ensures.keeps
