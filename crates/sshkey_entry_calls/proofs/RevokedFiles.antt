@@ -1,6 +1,7 @@
 -- What revocation files say, and where memory is asked for.
 use denote.Ref.{Bor}
-use Rattle.std.proofs.Common.{◌≡◌, ◌≢◌, ◌<◌, arith, ℕ, List, [], ◌∷◌, ◌++◌, length, Bool, true, false, Result, Ok, Err, refl, sym, ◌∙◌}
+use Rattle.std.proofs.Common.{◌≡◌, ◌≢◌, ◌<◌, arith, ℕ, ◌+◌, List, [], ◌∷◌, ◌++◌, get_or, length, take, Bool, true, false, Result, Ok, Err, refl, sym, ◌∙◌}
+use Rattle.std.proofs.lemmas.List.{take_more}
 use Rattle.std.specs.List.{AllZip}
 use Rattle.std.specs.Prelude.{IfErr, IsErrAnd, if◌then◌else◌}
 use Rattle.std.specs.Str.{is_utf8}
@@ -17,7 +18,7 @@ use Rattle.sshkey_model.specs.Parts.{flat}
 use Rattle.sshkey_model.specs.Reading.{Fault, whole}
 use Rattle.sshkey_revoked_keys.specs.RevokedKeys.{AsksText, ReadsKrl, ReadsRevokedKeys, begins_krl}
 use Rattle.sshkey_revoked_keys.specs.declared.revoked_keys.RevokedKeys.{RevokedKeys}
-use Rattle.sshkey_entry_calls.specs.RevocationFiles.{AreReadOf, IsReadOf, NeedsFile, NeedsFiles, are_read, revoked_number}
+use Rattle.sshkey_entry_calls.specs.RevocationFiles.{IsReadOf, NeedsFile, NeedsFiles, are_read, revoked_number}
 
 -- a list is refused for its fault alone
 no_list : (found : Result Krl Fault) (file : List ℕ) (e : Error) → ReadsKrl found file (Err e) → cause e ≢ NoMemory
@@ -41,19 +42,15 @@ module _ (file : List ℕ) where
 
 module _ {R : Type 0} (Q : Bor (List ℕ) → R → Type 0) where
   -- one more was read
-  pub read_more : (files : List (Bor (List ℕ))) (reads : List R) (file : Bor (List ℕ)) (read : R) → AllZip Q files reads → Q file read → AllZip Q (files ++ (file ∷ [])) (reads ++ (read ∷ []))
+  read_more : (files : List (Bor (List ℕ))) (reads : List R) (file : Bor (List ℕ)) (read : R) → AllZip Q files reads → Q file read → AllZip Q (files ++ (file ∷ [])) (reads ++ (read ∷ []))
   read_more [] [] file read all q = (q, tt)
   read_more [] (r ∷ reads) file read all q = absurd all
   read_more (f ∷ files) [] file read all q = absurd all
   read_more (f ∷ files) (r ∷ reads) file read all q = (all.0, read_more files reads file read all.1 q)
 
-pub needs_first : (file : Bor (List ℕ)) (rest : List (Bor (List ℕ))) → NeedsFile file.now → NeedsFiles (file ∷ rest)
-needs_first file [] needs = needs
-needs_first file (other ∷ rest) needs = tt
-
-pub needs_more : (file : Bor (List ℕ)) (rest : List (Bor (List ℕ))) → 0 < length rest → NeedsFiles (file ∷ rest)
-needs_more file [] some = absurd (omega (arith, some))
-needs_more file (other ∷ rest) some = tt
+  -- the file at that place was read
+  pub read_next : (files : List (Bor (List ℕ))) (i : ℕ) (d : Bor (List ℕ)) → i < length files → (reads now : List R) (read : R) → AllZip Q (take i files) reads → Q (get_or files i d) read → now ≡ reads ++ (read ∷ []) → AllZip Q (take (i + 1) files) now
+  read_next files i d l reads now read all q e = rw (take_more files i d l, e) (read_more (take i files) reads (get_or files i d) read all q)
 
 -- the number of what they revoke is none of those that say something else
 pub high_number : (reads : List (Result RevokedKeys Error)) → 1 < revoked_number reads

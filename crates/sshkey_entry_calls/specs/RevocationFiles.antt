@@ -2,7 +2,7 @@
 -- since OpenSSH 10.3).
 use denote.Ref.{Bor}
 use Rattle.std.specs.List.{AllZip, list_all, list_any}
-use Rattle.std.specs.Prelude.{◌≡◌, ◌≢◌, ℕ, List, [], ◌∷◌, Bool, true, false, Result, Ok, Err, IfErr, IsErrAnd, is_ok, if◌then◌else◌}
+use Rattle.std.specs.Prelude.{◌≡◌, ◌≢◌, ℕ, List, [], ◌∷◌, Bool, true, false, Result, Err, IfErr, IsErrAnd, is_ok, if◌then◌else◌}
 use Rattle.std.specs.Str.{is_utf8}
 use Rattle.sshkey_base.specs.Causes.{NoMemory, cause}
 use Rattle.sshkey_base.specs.declared.encoding.Error.TheVariants.{CharacterEncoding}

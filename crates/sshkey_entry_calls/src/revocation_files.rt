@@ -3,6 +3,7 @@
 ghost use Rattle.std.specs.List.{AllZip};
 ghost use Rattle.std.specs.Prelude.{◌≡◌, ◌<◌, IfErr, IfOk, false, length};
 ghost use Rattle.sshkey_base.specs.declared.error.Error.TheVariants as error;
+ghost use Rattle.sshkey_krl.specs.Revocation.{grant};
 ghost use Rattle.sshkey_entry_calls.specs.RevocationFiles as files;
 ghost use Rattle.sshkey_entry_calls.specs.RevocationFiles.{AreReadOf, IsReadOf, NeedsFile, NeedsFiles, are_read, files_whole, reads_of, revoked_number};
 
@@ -48,7 +49,7 @@ impl<'a> RevocationFiles<'a> {
     pub fn are_read(&self) -> bool
         ensures { result ≡ are_read (reads_of self.now) }
     {
-        self.first.is_ok() && self.more.iter().all(|read| read.is_ok())
+        self.first.is_ok() && are_all_read(&self.more)
     }
 
     /// Returns the number of what they revoke: 58 if one could not be read, or there is none, and
@@ -94,6 +95,34 @@ fn read_more<'a>(alloc: Global, files: &[&'a [u8]]) -> Result<Vec<Result<Revoked
     Ok(reads)
 }
 
+/// Whether each could be read.
+fn are_all_read(reads: &[Result<RevokedKeys<'_>>]) -> bool
+    ensures { result ≡ are_read reads.now }
+{
+    reads.iter().all(|read| read.is_ok())
+}
+
+/// Whether one of them revokes the key.
+fn one_revokes_key(reads: &[Result<RevokedKeys<'_>>], key: &[u8]) -> bool
+    ensures { result ≡ files.one_revokes_key reads.now key.now }
+{
+    reads.iter().any(|read| read.revokes_key(key))
+}
+
+/// Whether one of them revokes a certificate of the key.
+fn one_revokes(
+    reads: &[Result<RevokedKeys<'_>>],
+    key: &[u8],
+    signature_key: &[u8],
+    serial: u64,
+    key_id: &str,
+) -> bool
+    ensures { result ≡ files.one_revokes reads.now key.now
+        (grant signature_key.now serial key_id.now) }
+{
+    reads.iter().any(|read| read.revokes_certificate(key, signature_key, serial, key_id))
+}
+
 /// Revokes what one of them does.
 impl Revocations for RevocationFiles<'_> {
     ghost revokes = { λ it key asked. files.one_revokes (reads_of it) key asked };
@@ -109,7 +138,7 @@ impl Revocations for RevocationFiles<'_> {
     }
 
     fn revokes_key(&self, key: &[u8]) -> bool {
-        self.first.revokes_key(key) || self.more.as_slice().revokes_key(key)
+        self.first.revokes_key(key) || one_revokes_key(&self.more, key)
     }
 
     fn revokes_certificate(
@@ -121,9 +150,6 @@ impl Revocations for RevocationFiles<'_> {
     ) -> bool {
         self.first
             .revokes_certificate(key, signature_key, serial, key_id)
-            || self
-                .more
-                .as_slice()
-                .revokes_certificate(key, signature_key, serial, key_id)
+            || one_revokes(&self.more, key, signature_key, serial, key_id)
     }
 }

@@ -1,4 +1,4 @@
-use Rattle.std.proofs.Common.{◌∙◌, inl, inr, refl, sym}
+use Rattle.std.proofs.Common.{◌∙◌, refl, sym}
 use Rattle.sshkey_entry_calls.specs.RevocationFiles.{reads_of}
 use Rattle.sshkey_entry_calls.proofs.revocations.revoked_key.Goals as goal
 
