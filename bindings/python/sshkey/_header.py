@@ -240,129 +240,79 @@ WORDS = {
 class Span(Structure):
     """sshkey_span"""
 
-    _fields_ = [
-        ("bytes", c_char_p),
-        ("length", c_size_t),
-    ]
+    _fields_ = [("bytes", c_char_p), ("length", c_size_t)]
 
 
 class Spans(Structure):
     """sshkey_spans"""
 
-    _fields_ = [
-        ("items", POINTER(Span)),
-        ("count", c_size_t),
-    ]
+    _fields_ = [("items", POINTER(Span)), ("count", c_size_t)]
 
 
 class Part(Structure):
     """sshkey_part"""
 
-    _fields_ = [
-        ("start", c_size_t),
-        ("length", c_size_t),
-    ]
+    _fields_ = [("start", c_size_t), ("length", c_size_t)]
 
 
 class Sha256(Structure):
     """sshkey_sha256"""
 
-    _fields_ = [
-        ("bytes", c_uint8 * 32),
-    ]
+    _fields_ = [("bytes", c_uint8 * 32)]
 
 
 class Sha512(Structure):
     """sshkey_sha512"""
 
-    _fields_ = [
-        ("bytes", c_uint8 * 64),
-    ]
+    _fields_ = [("bytes", c_uint8 * 64)]
 
 
 class Digests(Structure):
     """sshkey_digests"""
 
-    _fields_ = [
-        ("items", POINTER(Sha256)),
-        ("count", c_size_t),
-    ]
+    _fields_ = [("items", POINTER(Sha256)), ("count", c_size_t)]
 
 
 class Question(Structure):
     """sshkey_question"""
 
-    _fields_ = [
-        ("key", Part),
-        ("message", Part),
-        ("signature", Part),
-        ("length", c_size_t),
-        ("algorithm", c_uint32),
-    ]
+    _fields_ = [("key", Part), ("message", Part), ("signature", Part), ("length", c_size_t), ("algorithm", c_uint32)]
 
 
 class Line(Structure):
     """sshkey_line"""
 
-    _fields_ = [
-        ("blob", Part),
-        ("comment", Part),
-        ("length", c_size_t),
-        ("kind", c_uint32),
-    ]
+    _fields_ = [("blob", Part), ("comment", Part), ("length", c_size_t), ("kind", c_uint32)]
 
 
 class Fields(Structure):
     """sshkey_fields"""
 
     _fields_ = [
-        ("serial", c_uint64),
-        ("valid_after", c_uint64),
-        ("valid_before", c_uint64),
-        ("certificate_type", c_uint32),
-        ("lists_principals", c_uint32),
-        ("has_critical_options", c_uint32),
+        ("serial", c_uint64), ("valid_after", c_uint64), ("valid_before", c_uint64), ("certificate_type", c_uint32),
+        ("lists_principals", c_uint32), ("has_critical_options", c_uint32)
     ]
 
 
 class Parts(Structure):
     """sshkey_parts"""
 
-    _fields_ = [
-        ("key_id", Part),
-        ("principals", Part),
-        ("critical_options", Part),
-        ("extensions", Part),
-        ("authority", Part),
-    ]
+    _fields_ = [("key_id", Part), ("principals", Part), ("critical_options", Part), ("extensions", Part), ("authority", Part)]
 
 
 class CertificateOptionParts(Structure):
     """sshkey_certificate_option_parts"""
 
-    _fields_ = [
-        ("name", Part),
-        ("value", Part),
-        ("next", c_size_t),
-    ]
+    _fields_ = [("name", Part), ("value", Part), ("next", c_size_t)]
 
 
 class Draft(Structure):
     """sshkey_draft"""
 
     _fields_ = [
-        ("key", Span),
-        ("nonce", Span),
-        ("key_id", Span),
-        ("principals", Span),
-        ("critical_options", Span),
-        ("extensions", Span),
-        ("authority", Span),
-        ("serial", c_uint64),
-        ("valid_after", c_uint64),
-        ("valid_before", c_uint64),
-        ("certificate_type", c_uint32),
-        ("all_principals", c_uint32),
+        ("key", Span), ("nonce", Span), ("key_id", Span), ("principals", Span), ("critical_options", Span), ("extensions", Span),
+        ("authority", Span), ("serial", c_uint64), ("valid_after", c_uint64), ("valid_before", c_uint64),
+        ("certificate_type", c_uint32), ("all_principals", c_uint32)
     ]
 
 
@@ -370,14 +320,8 @@ class Login(Structure):
     """sshkey_login"""
 
     _fields_ = [
-        ("certificate", Span),
-        ("user", Span),
-        ("key", Span),
-        ("client", Span),
-        ("authorities", Digests),
-        ("revoked", Spans),
-        ("unix_timestamp", c_uint64),
-        ("least_rsa_bits", c_uint32),
+        ("certificate", Span), ("user", Span), ("key", Span), ("client", Span), ("authorities", Digests), ("revoked", Spans),
+        ("unix_timestamp", c_uint64), ("least_rsa_bits", c_uint32)
     ]
 
 
@@ -385,12 +329,8 @@ class Grant(Structure):
     """sshkey_grant"""
 
     _fields_ = [
-        ("force_command", Part),
-        ("key_id", Part),
-        ("length", c_size_t),
-        ("serial", c_uint64),
-        ("authority", Sha256),
-        ("permits", c_uint32),
+        ("force_command", Part), ("key_id", Part), ("length", c_size_t), ("serial", c_uint64), ("authority", Sha256),
+        ("permits", c_uint32)
     ]
 
 
@@ -398,50 +338,29 @@ class Userauth(Structure):
     """sshkey_userauth"""
 
     _fields_ = [
-        ("session_id", Span),
-        ("user", Span),
-        ("algorithm", Span),
-        ("public_key", Span),
-        ("host_key", Span),
-        ("signature", Span),
-        ("has_host_key", c_uint32),
-        ("permits", c_uint32),
+        ("session_id", Span), ("user", Span), ("algorithm", Span), ("public_key", Span), ("host_key", Span), ("signature", Span),
+        ("has_host_key", c_uint32), ("permits", c_uint32)
     ]
 
 
 class Entry(Structure):
     """sshkey_entry"""
 
-    _fields_ = [
-        ("front", Part),
-        ("key", Part),
-        ("comment", Part),
-        ("length", c_size_t),
-        ("marker", c_uint32),
-    ]
+    _fields_ = [("front", Part), ("key", Part), ("comment", Part), ("length", c_size_t), ("marker", c_uint32)]
 
 
 class EntryOptionParts(Structure):
     """sshkey_entry_option_parts"""
 
-    _fields_ = [
-        ("name", Part),
-        ("value", Part),
-        ("length", c_size_t),
-        ("has_value", c_uint32),
-    ]
+    _fields_ = [("name", Part), ("value", Part), ("length", c_size_t), ("has_value", c_uint32)]
 
 
 class HostLogin(Structure):
     """sshkey_host_login"""
 
     _fields_ = [
-        ("known_hosts", Spans),
-        ("host", Span),
-        ("revoked", Spans),
-        ("unix_timestamp", c_uint64),
-        ("least_rsa_bits", c_uint32),
-        ("port", c_uint16),
+        ("known_hosts", Spans), ("host", Span), ("revoked", Spans), ("unix_timestamp", c_uint64), ("least_rsa_bits", c_uint32),
+        ("port", c_uint16)
     ]
 
 
