@@ -27,7 +27,7 @@ func fingerprints(path string) ([]sshkey.SHA256, error) {
 	}
 	for _, line := range otherLines {
 		why := "a later kind of key, which is passed over"
-		fmt.Fprintf(os.Stderr, "check: %s: line %d: %s\n", path, line, why)
+		fmt.Fprintf(os.Stderr, "check: %s:%d: %s\n", path, line, why)
 	}
 	return keys, nil
 }

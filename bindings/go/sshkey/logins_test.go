@@ -138,16 +138,6 @@ func TestUnreadableHostLine(t *testing.T) {
 	same(t, "no text", err, sshkey.ErrText)
 }
 
-// Where no file is given, no signature counts, and nothing is verified.
-func TestSigners(t *testing.T) {
-	by := sshkey.Signers{
-		Identity: "alice", Now: time.Unix(1704067200, 0),
-		Verify: func(sshkey.Question) bool { panic("a question") },
-	}
-	found := sshkey.ValidateSignerOfDigest(nil, "file", nil, by)
-	same(t, "no signature", found, sshkey.ErrLength)
-}
-
 func TestAuthorities(t *testing.T) {
 	authority, _ := sshkey.Fingerprint(blob(t, "authority.pub"))
 	user, _ := sshkey.Fingerprint(blob(t, "user.pub"))

@@ -7,24 +7,9 @@ import (
 	"rafendilo.example/go/sshkey"
 )
 
-// joined is the strings, one after the other (RFC 4251, section 5).
-func joined(t *testing.T, contents ...string) []byte {
-	t.Helper()
-	all := [][]byte{}
-	for _, content := range contents {
-		all = append(all, []byte(content))
-	}
-	found, err := sshkey.JoinStrings(all...)
-	if err != nil {
-		t.Fatal(err)
-	}
-	return found
-}
-
 // A client's signature is over this request, and no other one (RFC 4252, section 7).
 func TestCheckUserauth(t *testing.T) {
-	private := ed25519.NewKeyFromSeed(make([]byte, ed25519.SeedSize))
-	key := joined(t, "ssh-ed25519", string(private.Public().(ed25519.PublicKey)))
+	private, key := made(t)
 	signed := append(joined(t, "session"), 50)
 	signed = append(signed, joined(t, "alice", "ssh-connection", "publickey")...)
 	signed = append(signed, 1)
