@@ -51,7 +51,8 @@ fn fingerprints(path: &Path) -> Result<Vec<Sha256>, Untold> {
     let text = fs::read(path).map_err(|fault| of_file(path, fault))?;
     let found = sshkey::authorities(&text).map_err(|fault| no_key(path, fault))?;
     for line in found.other_lines {
-        writeln!(io::stderr(), "check: {}:{line}: a later kind of key", path.display())?;
+        let why = "a later kind of key, which is passed over";
+        writeln!(io::stderr(), "check: {}:{line}: {why}", path.display())?;
     }
     Ok(found.keys)
 }
