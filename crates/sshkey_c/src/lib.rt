@@ -1,8 +1,8 @@
 //! The library for programs in C, and for whoever calls C. `include/sshkey.h` declares what it
 //! exports.
 //!
-//! Each export, but for those of `version`, makes one call of `sshkey_calls` or of
-//! `sshkey_entry_calls`, whose contract it has too. In C a slice is a pointer and a length, and
+//! Each export, but for those of `version`, makes one call of `sshkey_calls`, `sshkey_entry_calls` or
+//! `sshkey_login_calls`, whose contract it has too. In C a slice is a pointer and a length, and
 //! an allocator is nothing.
 #![tactic(auto)]
 
@@ -13,6 +13,7 @@ mod entry;
 mod host;
 mod key;
 mod line;
+mod login;
 mod normal;
 mod parts;
 mod revocation;
