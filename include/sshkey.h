@@ -305,6 +305,16 @@ enum { SSHKEY_LINE_KEY = 1, SSHKEY_LINE_CERTIFICATE = 2 };
 uint32_t sshkey_read_line(const uint8_t *line, size_t line_length, uint8_t *room,
                           size_t room_length, sshkey_line *answer);
 
+/* Whether the line of a file of keys has a key of a later kind, as OpenSSH 10.6's
+ * ssh-mldsa44-ed25519: after spaces and tabs, and without options, a name that no key begins with
+ * that is read here, and Base64 of bytes that begin with that very name. In a file of authorities
+ * (TrustedUserCAKeys) such a line is an authority that signs nothing that is read here: pass over
+ * it, and say so. A line that is neither a key nor this refuses the file.
+ *
+ * SSHKEY_DONE exactly if it has; SSHKEY_LABEL if not, also for a key that is read here, and
+ * SSHKEY_TEXT for a line that is not UTF-8. Takes no memory. */
+uint32_t sshkey_is_other_key_line(const uint8_t *line, size_t line_length);
+
 /* ---- certificates (PROTOCOL.certkeys) -------------------------------------------------------- */
 
 /* What has to be verified of a certificate, given as its blob, which sshkey_read_line gives.
@@ -797,6 +807,17 @@ uint32_t sshkey_host_key_verdict(const sshkey_host_login *login, const uint8_t *
 uint32_t sshkey_host_certificate_verdict(const sshkey_host_login *login,
                                          const uint8_t *certificate, size_t certificate_length,
                                          uint32_t is_verified);
+
+/* The number of the first line, from 1, of a text of known_hosts that is no entry and may be one
+ * for the host at that port: by it the text is SSHKEY_HOST_UNREADABLE, whatever the key. Empty lines
+ * and comments are counted.
+ *
+ * SSHKEY_DONE exactly if there is one, and SSHKEY_END if there is none (SSHKEY_MEMORY aside);
+ * SSHKEY_TEXT where the text or the host is not UTF-8. A text that is empty or has comments alone
+ * takes no memory. */
+uint32_t sshkey_unreadable_host_line(const uint8_t *known_hosts, size_t known_hosts_length,
+                                     const uint8_t *host, size_t host_length, uint16_t port,
+                                     size_t *number);
 
 /* ---- where a client may come from ------------------------------------------------------------ */
 
