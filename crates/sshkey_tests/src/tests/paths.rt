@@ -22,9 +22,9 @@ pub mod authorized_keys {
 /// Certificates.
 pub mod certificate {
     pub use ssh_key::certificate::{
-        Builder, CertType, Certificate, CertificateQuestion, CertificateRef, CertificateRefusal,
-        EndTime, FOREVER, Field, KeyOrCertificate, MAX_SECS, Options, OptionsMap, OptionsRef,
-        Texts, TextsRef, ToBeSigned, UnixTime, contains_digest,
+        Builder, CertType, Certificate, CertificateByAuthority, CertificateQuestion,
+        CertificateRef, CertificateRefusal, EndTime, FOREVER, Field, KeyOrCertificate, MAX_SECS,
+        Options, OptionsMap, OptionsRef, Texts, TextsRef, ToBeSigned, UnixTime, contains_digest,
     };
 }
 
