@@ -147,7 +147,7 @@ PAGE = """\
 #include <string.h>
 #include <time.h>
 #include "judge.h"
-#include "verify.h"
+#include "verdict.h"
 static void go_on(void) {{ puts("go on"); }}
 int main(int count, char **words) {{
 judge_blob read;
