@@ -45,7 +45,7 @@ CRYPTO := -lcrypto
 HEADERS := $(ROOT)/include/sshkey.h $(wildcard $(ROOT)/helpers/*.h)
 PROGRAMS := $(OUT)/sshkey-check $(OUT)/sshkey-principals $(OUT)/sshkey-authorized-keys
 # what they are linked with, each with what it takes of it
-PARTS := $(addprefix $(OUT)/,program.o login.o memory.o show.o certificate.o sshsig.o judge.o sha1.o verify.o)
+PARTS := $(addprefix $(OUT)/,program.o login.o memory.o show.o certificate.o sshsig.o judge.o sha1.o verdict.o verify.o)
 PAGES := $(notdir $(wildcard $(ROOT)/helpers/*.[18]))
 
 ifeq ($(KIT),)

@@ -23,6 +23,7 @@
 #include "judge.h"
 #include "sshkey.h"
 #include "sshsig.h"
+#include "verdict.h"
 #include "verify.h"
 
 /* of words in a line */

@@ -1,4 +1,4 @@
-/* Calls each function of helpers/judge.h, sshsig.h and verify.h from threads at the same time, for
+/* Calls each function of helpers/judge.h, sshsig.h, verdict.h and verify.h from threads at the same time, for
  * checks/asked/threads.py: what a thread is answered has to be what the same call answers alone.
  *
  *     threads FOLDER..
@@ -12,6 +12,7 @@
 #include "judge.h"
 #include "sshkey.h"
 #include "sshsig.h"
+#include "verdict.h"
 #include "verify.h"
 
 #define ANSWERS 26

@@ -3,7 +3,7 @@
 #include <stdlib.h>
 #include <string.h>
 
-#include "verify.h"
+#include "verdict.h"
 
 /* The key that is certified: SSHKEY_DONE, or why there is none. */
 static uint32_t read_key(judge_blob certificate, judge_blob *answer) {

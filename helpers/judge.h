@@ -1,5 +1,5 @@
 /* What programs read, as the calls of sshkey.h take it: lines, words, streams and files; and the
- * words for what these calls answer. A login is judge_log_in (verify.h). */
+ * words for what these calls answer. A login is judge_log_in (verdict.h). */
 #ifndef JUDGE_H
 #define JUDGE_H
 #include <stdbool.h>

@@ -14,6 +14,7 @@
 #include "sha1.h"
 #include "show.h"
 #include "sshsig.h"
+#include "verdict.h"
 #include "verify.h"
 
 const char program_name[] = "sshkey-check";

@@ -80,8 +80,9 @@ static uint32_t judge_question(judge_blob signature, const char *name_space, jud
       signature.bytes, signature.length, (const uint8_t *)name_space, strlen(name_space),
       digest.bytes, digest.length, room, room_length, &question, &signer);
   if (answer == SSHKEY_DONE && keys) answer = judge_signer(&signer, *keys);
-  if (answer == SSHKEY_DONE &&
-      (string_of(signature, RESERVED).length || !judge_is_signature(&question, room)))
+  /* of a file of signers the verdict asks for reserved bytes */
+  bool is_refused = keys && string_of(signature, RESERVED).length;
+  if (answer == SSHKEY_DONE && (is_refused || !judge_is_signature(&question, room)))
     answer = SSHKEY_NOT_SIGNED;
   free(room);
   return answer;

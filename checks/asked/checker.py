@@ -297,7 +297,7 @@ def check_words(count, programs, maker):
     folder = os.path.dirname(programs[0])
     for name, status in (("sshkey-check", UNTOLD), ("sshkey-principals", 1), ("sshkey-authorized-keys", 1)):
         shown = run([f"{folder}/{name}", "--help"])
-        asks = name == "sshkey-check" or f"usage: {name} [--revoked FILE] " in shown.stdout
+        asks = name == "sshkey-check" or f"usage: {name} [--revoked FILE].. " in shown.stdout
         count.check(f"{name} --help names its list", asks and "--revoked FILE" in shown.stdout, shown)
         count.check(f"{name} --help", shown.returncode == 0 and shown.stdout.startswith(f"usage: {name} ") and not shown.stderr, shown)
         told = run([f"{folder}/{name}", "--version"])

@@ -153,7 +153,7 @@ def check_bits(count, program, maker, kind):
     """RequiredRSASize of sshd, which is 1,024 here unless it is given."""
     maker.key("short", "rsa -b 2048")
     offered = maker.certificate(kind.authority, "short", "-n", "alice", "-V", "-5m:+5m").split()[:2]
-    good = maker.write("helped", f"alice {maker.read(f'{kind.authority}.pub')}\n")
+    good = maker.write("bits", f"alice {maker.read(f'{kind.authority}.pub')}\n")
     for words, wanted in (([], "alice\n"), (["--least-rsa-bits", "2048"], "alice\n"), (["--least-rsa-bits", "2049"], "")):
         ran = run([program, "--insecure-modes", *words, good, "alice", *offered])
         same = (ran.returncode, ran.stdout) == (0, wanted) and ("(59)" in ran.stderr) == (not wanted)

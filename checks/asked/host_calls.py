@@ -147,7 +147,7 @@ PAGE = """\
 #include <string.h>
 #include <time.h>
 #include "judge.h"
-#include "verify.h"
+#include "verdict.h"
 static void go_on(void) {{ puts("go on"); }}
 int main(int count, char **words) {{
 judge_blob read;
@@ -171,7 +171,7 @@ def check_page(count, built, made):
     by, key = (maker.read(f"{it}.pub") for it in ("host-authority", "host-key"))
     for name, texts, *wanted in (
         ("its authority", ["", f"@cert-authority db.example.org {by}\n"], "go on", "go on"),
-        ("a revoked key", [f"@cert-authority db.example.org {by}\n", f"@revoked * {key}\n"], "refused: revoked for the host (50)", "refused: HOST_REVOKED"),
+        ("a revoked key", [f"@cert-authority db.example.org {by}\n", f"@revoked * {key}\n"], *["refused: revoked for the host (50)"] * 2),
     ):
         ran = run([path, line, *texts]) if page.returncode == 0 else page
         by_python = said_by_python(made, in_python[0], certificate=blob_of(line), texts=[it.encode() for it in texts])

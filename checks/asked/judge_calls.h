@@ -1,4 +1,4 @@
-/* Asks the functions of helpers/judge.h, verify.h and sshsig.h, for checks/foreign.c, which has the
+/* Asks the functions of helpers/judge.h, sshsig.h, verdict.h and verify.h, for checks/foreign.c, which has the
  * helpers. The verifier is linked with --wrap. */
 #ifndef JUDGE_CALLS_H
 #define JUDGE_CALLS_H

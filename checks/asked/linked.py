@@ -16,7 +16,7 @@ C = ["cc", "-std=c11", "-D_POSIX_C_SOURCE=200809L", *WARNINGS, f"-I{ROOT}/includ
 # under which a program that reads or writes where it may not, or gives no memory back, ends with 9
 VALGRIND = ["valgrind", "-q", "--leak-check=full", "--error-exitcode=9"]
 # the helpers' parts that are there to be copied
-COPIED = ("judge", "sha1", "sshsig", "verify")
+COPIED = ("judge", "sha1", "sshsig", "verdict", "verify")
 # what memory_calls.h and judge_calls.h wrap
 WRAPPED = "-Wl,--wrap=malloc,--wrap=realloc,--wrap=free,--wrap=judge_is_signature"
 # what the library may take of the C library
@@ -63,7 +63,7 @@ class Built:
 
     def make(self, out, flags):
         made = run(["make", "-C", ROOT, f"OUT={out}", f"CFLAGS={flags}", *self.given])
-        objects = [f"{out}/{it}" for it in ("sshsig.o", "judge.o", "sha1.o", "verify.o", "libsshkey.a")]
+        objects = [f"{out}/{it}" for it in ("sshsig.o", "judge.o", "sha1.o", "verdict.o", "verify.o", "libsshkey.a")]
         parts = [f"{ROOT}/checks/foreign.c", *objects, "-lcrypto", WRAPPED]
         asks = [*C, f"-I{HELPERS}", *flags.split(), *parts, "-o", f"{out}/foreign"]
         asking = run(asks) if made.returncode == 0 else made
@@ -189,7 +189,7 @@ def check_judge_names(count, built):
         with open(f"{HELPERS}/{part}.h", encoding="ascii") as file:
             names |= set(re.findall(r"^(?:\} |typedef \w+ )(\w+)[;(]", file.read(), re.M))
     other = {it for it in names if not it.startswith("judge_")}
-    count.check(f"{len(names)} names of judge.h, sha1.h, sshsig.h and verify.h begin with judge_", len(names) > 15 and not other, other)
+    count.check(f"{len(names)} names of the parts that programs copy begin with judge_", len(names) > 15 and not other, other)
 
 
 def check_writable(count, built):

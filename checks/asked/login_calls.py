@@ -268,8 +268,14 @@ PAGE = """\
 #include <string.h>
 #include <time.h>
 #include "judge.h"
+#include "verdict.h"
 #include "verify.h"
-static bool is_signature(const sshkey_question *question, const uint8_t *room) {{ return judge_is_signature(question, room); }}
+/* in place of libcrypto */
+static int verified;
+bool judge_is_signature(const sshkey_question *question, const uint8_t *room) {{
+(void)room;
+verified++;
+return question->algorithm == SSHKEY_ASK_ED25519; }}
 static void let_in(const sshkey_grant *grant, const uint8_t *room) {{
 (void)room;
 puts(grant->permits ? "let in" : "let in to nothing"); }}
@@ -281,26 +287,14 @@ static uint32_t signed_by(sshkey_grant grant, sshkey_span session_id, sshkey_spa
     sshkey_span host_key, sshkey_span signature, uint32_t has_host_key) {{
 uint32_t answer;
 {1}return answer; }}
-static uint32_t by_own_cryptography(sshkey_login login, uint8_t *room, size_t room_length) {{
-sshkey_grant grant = {{0}};
-{2}return answer; }}
 int main(int count, char **words) {{
-judge_authorities by = {{NULL, 0}};
-judge_blob certificate, key;
+judge_blob key;
 sshkey_grant none = {{0}};
-uint8_t room[8192];
-if (count != 4 || judge_read_line(words[3], strlen(words[3]), SSHKEY_LINE_KEY, &key) != SSHKEY_DONE) return 1;
-if (judge_read_line(words[2], strlen(words[2]), SSHKEY_LINE_CERTIFICATE, &certificate) != SSHKEY_DONE) return 1;
-if (judge_add_authority(&by, words[1], strlen(words[1])) != SSHKEY_DONE) return 1;
-log_in(words[1], words[2], key);
-sshkey_login login = {{judge_span(certificate), judge_text("alice"), judge_span(key), judge_text(""), judge_digests(by),
-  SSHKEY_NO_REVOCATIONS, (uint64_t)time(NULL), 0}};
 sshkey_span empty = judge_text("");
-printf("%" PRIu32 " %" PRIu32 "\\n", by_own_cryptography(login, room, sizeof room),
-  signed_by(none, empty, login.user, empty, login.key, empty, empty, 0));
+if (count != 4 || judge_read_line(words[3], strlen(words[3]), SSHKEY_LINE_KEY, &key) != SSHKEY_DONE) return 1;
+log_in(words[1], words[2], key);
+printf("%d %" PRIu32 "\\n", verified, signed_by(none, empty, judge_text("alice"), empty, judge_span(key), empty, empty, 0));
 free(key.bytes);
-free(certificate.bytes);
-free(by.keys);
 return 0;
 }}
 """
@@ -337,17 +331,17 @@ def built_page(built, maker, name, text):
 def check_page(count, built, made):
     """The lines that README and docs/FOREIGN.md show compile, and let the user in, and no other."""
     maker, code = made.maker, blocks("c")
-    path, page = built_page(built, maker, "page", PAGE.format(*code[:3]))
-    count.check("the C of docs/FOREIGN.md compiles", len(code) == 3 and page.returncode == 0, page.stderr[-2000:])
+    path, page = built_page(built, maker, "page", PAGE.format(*code[:2]))
+    count.check("the C of docs/FOREIGN.md compiles", len(code) == 2 and page.returncode == 0, page.stderr[-2000:])
     authority, own, other = (maker.read(f"{it}.pub") for it in ("authority0", "user0", "user1"))
     good, strange = (maker.certificate("authority0", "user0", "-V", "-5m:+5m", "-n", it) for it in ("alice", "eve"))
-    for name, words, wanted, number in (
-        ("its user", (authority, good, own), "let in", 0), ("another user's", (authority, strange, own), "refused: another principal (34)", 34),
-        ("another key", (authority, good, other), "refused: another key (72)", 72),
+    for name, words, wanted, verified in (
+        ("its user", (authority, good, own), "let in", 1), ("another user's", (authority, strange, own), "refused: another principal (34)", 1),
+        ("another key", (authority, good, other), "refused: another key (72)", 0),
     ):  # fmt: skip
         ran = run([path, *words]) if page.returncode == 0 else page
         # what the client signs is no signature there
-        by_c = [it for it in (*ran.stdout.splitlines(), *ran.stderr.splitlines()) if it != f"{number} 13"]
+        by_c = [it for it in (*ran.stdout.splitlines(), *ran.stderr.splitlines()) if it != f"{verified} 13"]
         given = {"authority_line": words[0], "line": words[1], "key": blob_of(words[2]), "address": "192.0.2.1"}
         by_python = said_by_python(made, blocks("python")[0], **given)
         same = by_c == by_python == [wanted]

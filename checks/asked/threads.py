@@ -10,7 +10,7 @@ from lib.signatures import signed
 from .linked import HELPERS, C, run
 from .revocation_calls import made_list
 
-TO_COPY = ("judge", "sshsig", "verify")
+TO_COPY = ("judge", "sshsig", "verdict", "verify")
 # a message of several rooms, so that one thread reads it while another does
 MESSAGE = "a line of the message\n" * 20_000
 

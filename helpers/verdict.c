@@ -1,0 +1,57 @@
+#include "verdict.h"
+
+#include <stdlib.h>
+#include <string.h>
+
+#include "verify.h"
+
+uint32_t judge_is_certified(sshkey_span certificate, uint32_t *is_verified) {
+  /* a room of this length is enough */
+  size_t room_length = 2 * certificate.length + 256;
+  uint8_t *room = calloc(1, room_length);
+  sshkey_question question;
+  memset(&question, 0, sizeof question);
+  if (!room) return SSHKEY_MEMORY;
+  uint32_t answer = sshkey_certificate_question(certificate.bytes, certificate.length, room,
+                                                room_length, &question);
+  /* of what raises no question the verdict says what it is */
+  *is_verified = answer == SSHKEY_DONE && judge_is_signature(&question, room);
+  free(room);
+  return answer == SSHKEY_MEMORY ? answer : SSHKEY_DONE;
+}
+
+uint32_t judge_log_in(const sshkey_login *login, uint8_t *room, size_t room_length,
+                      sshkey_grant *answer) {
+  uint32_t is_verified = 0;
+  uint32_t said = sshkey_login_verdict(login, is_verified, room, room_length, answer);
+  if (said != SSHKEY_NOT_SIGNED) return said;
+  said = judge_is_certified(login->certificate, &is_verified);
+  if (said != SSHKEY_DONE) return said;
+  return sshkey_login_verdict(login, is_verified, room, room_length, answer);
+}
+
+uint32_t judge_userauth(const sshkey_userauth *request) {
+  /* a room of this length is enough */
+  size_t room_length = 2 * (request->session_id.length + request->user.length +
+                            request->algorithm.length + request->public_key.length +
+                            request->host_key.length + request->signature.length) + 512;
+  uint8_t *room = calloc(1, room_length);
+  sshkey_question question;
+  memset(&question, 0, sizeof question);
+  if (!room) return SSHKEY_MEMORY;
+  uint32_t answer = sshkey_userauth_question(request, room, room_length, &question);
+  if (answer == SSHKEY_DONE && !judge_is_signature(&question, room)) answer = SSHKEY_NOT_SIGNED;
+  free(room);
+  return answer;
+}
+
+uint32_t judge_host_certificate(const sshkey_host_login *login, sshkey_span certificate) {
+  uint32_t is_verified = 0;
+  uint32_t said = sshkey_host_certificate_verdict(login, certificate.bytes, certificate.length,
+                                                  is_verified);
+  if (said != SSHKEY_NOT_SIGNED) return said;
+  said = judge_is_certified(certificate, &is_verified);
+  if (said != SSHKEY_DONE) return said;
+  return sshkey_host_certificate_verdict(login, certificate.bytes, certificate.length,
+                                         is_verified);
+}
