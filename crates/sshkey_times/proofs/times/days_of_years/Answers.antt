@@ -1,7 +1,7 @@
 use Rattle.std.proofs.Common.{arith, sym, ap, ◌∙◌}
-use Rattle.allowed_signers.specs.Times.{days_of_years}
-use Rattle.allowed_signers.proofs.Calendar.{no_years, years}
-use Rattle.allowed_signers.proofs.times.days_of_years.Goals as goal
+use Rattle.sshkey_times.specs.Times.{days_of_years}
+use Rattle.sshkey_times.proofs.Calendar.{no_years, years}
+use Rattle.sshkey_times.proofs.times.days_of_years.Goals as goal
 
 pub returns-then-count-eq0-clause-value : goal.returns-then-count-eq0-clause-value
 returns-then-count-eq0-clause-value c = sym (ap days_of_years c.if-count-eq0.true ∙ no_years)

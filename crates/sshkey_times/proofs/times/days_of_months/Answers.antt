@@ -1,6 +1,6 @@
 use Rattle.std.proofs.Common.{arith, sym}
-use Rattle.allowed_signers.proofs.Calendar.{no_months, one_month}
-use Rattle.allowed_signers.proofs.times.days_of_months.Goals as goal
+use Rattle.sshkey_times.proofs.Calendar.{no_months, one_month}
+use Rattle.sshkey_times.proofs.times.days_of_months.Goals as goal
 
 pub loop-month-init : goal.loop-month-init
 loop-month-init c = record { counted = sym (no_months c.args.year); short = omega arith }

@@ -3,7 +3,7 @@
 ghost use Rattle.std.specs.Prelude.{◌≡◌, ◌+◌, ◌-◌, ◌*◌, ◌^◌, ◌<◌, ◌≤◌, ◌↔◌, IsTrue, slice_index};
 ghost use Rattle.std.specs.Char.{is_ascii_digit};
 ghost use Rattle.std.specs.List.{prefix_len};
-ghost use Rattle.allowed_signers.specs.Times.{IsMoment, IsZone, ReadsTime, ahead, behind, days_of_months, days_of_years, digits, is_leap, moment, month_days, seconds_before, two_digits, zone};
+ghost use Rattle.sshkey_times.specs.Times.{IsMoment, IsZone, ReadsTime, ahead, behind, days_of_months, days_of_years, digits, is_leap, moment, month_days, seconds_before, two_digits, zone};
 
 const SECONDS_A_DAY: u64 = 86_400;
 
@@ -23,22 +23,25 @@ struct Moment {
 /// The first and the last second that a time may mean, from the start of 1970: the same one if it
 /// names its zone.
 #[derive(Clone, Copy)]
-pub(crate) struct Span {
+pub struct Span {
+    /// The first second; at least 1.
     pub first: u64,
+    /// The last second.
     pub last: u64,
 }
 
-/// The seconds from the start of 1970 that a time may mean which is written `YYYYMMDD`, `YYYYMMDDHHMM` or
+/// The seconds from the start of 1970 that a time may mean, written `YYYYMMDD`, `YYYYMMDDHHMM` or
 /// `YYYYMMDDHHMMSS`, alone or before `Z` or `UTC` in small or large letters (ssh-keygen(1),
-/// "ALLOWED SIGNERS"). `None` for any other text, and for a time that is not after the start of
-/// 1970. Does not allocate.
+/// "ALLOWED SIGNERS"; sshd(8), "expiry-time"). `None` for any other text, and for a time that may
+/// be no later than the start of 1970. Does not allocate.
 ///
 /// OpenSSH takes a time without a zone for one of the zone that the machine is set to: in standard
 /// time before 10.6, and by the clock on the wall since then. So it may mean any second from 14
 /// hours before the same time of UTC, in the easternmost zone, to 13 hours after it, in the
-/// westernmost with an hour of summer. As strptime(3) does, it takes each month for one of 31 days and each minute for one
-/// of 62 seconds: 20230230 is 2 March 2023. It takes no space for a leading 0, as strptime(3) does.
-pub(crate) fn read_time(text: &str) -> Option<Span>
+/// westernmost with an hour of summer. As strptime(3) does, it takes each month for one of 31 days
+/// and each minute for one of 62 seconds: 20230230 is 2 March 2023. It takes no space for a leading
+/// 0, as strptime(3) does.
+pub fn read_time(text: &str) -> Option<Span>
     ensures { ReadsTime text.now result }
 {
     let (digits, zone) = split_digits(text.as_bytes());

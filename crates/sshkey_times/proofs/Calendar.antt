@@ -1,7 +1,7 @@
 -- The sums of the calendar.
 use Rattle.std.proofs.Common.{◌≡◌, ℕ, zero, suc, ◌+◌, ◌-◌, ◌*◌, ◌/◌, ◌<◌, refl, arith}
 use Rattle.std.proofs.lemmas.Bool.Decides.{nat_tests}
-use Rattle.allowed_signers.specs.Times.{days_of_months, days_of_years, month_days, year_days}
+use Rattle.sshkey_times.specs.Times.{days_of_months, days_of_years, month_days, year_days}
 
 -- the days up to the end of a year
 abbrev through : ℕ → ℕ

@@ -1,11 +1,11 @@
--- The times of allowed signers (ssh-keygen(1), "ALLOWED SIGNERS": YYYYMMDD, YYYYMMDDHHMM or
--- YYYYMMDDHHMMSS, and Z), as OpenSSH reads them (strptime(3), timegm(3)).
+-- The times of allowed signers and of `expiry-time` (ssh-keygen(1), "ALLOWED SIGNERS": YYYYMMDD,
+-- YYYYMMDDHHMM or YYYYMMDDHHMMSS, and Z), as OpenSSH reads them (strptime(3), timegm(3)).
 use Rattle.std.specs.Prelude.{◌≡◌, ◌⊎◌, ℕ, zero, suc, ◌+◌, ◌-◌, ◌*◌, ◌%◌, ◌<◌, List, [], length, map, drop, slice_index, codes, Bool, not, Option, MatchOption, ◌&&◌, ◌||◌, ◌==◌, if◌then◌else◌}
 use Rattle.std.specs.Char.{is_ascii_digit, to_ascii_lowercase}
 use Rattle.std.specs.Int.{IsInRange}
 use Rattle.std.specs.List.{prefix_len, take_while}
-use Rattle.allowed_signers.specs.declared.times.Moment.{Moment}
-use Rattle.allowed_signers.specs.declared.times.Span.{Span}
+use Rattle.sshkey_times.specs.declared.times.Moment.{Moment}
+use Rattle.sshkey_times.specs.declared.times.Span.{Span}
 
 -- ---- the calendar
 

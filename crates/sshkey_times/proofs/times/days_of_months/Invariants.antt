@@ -1,6 +1,6 @@
 use Rattle.std.proofs.Common.{◌≡◌, ◌≤◌, ◌*◌}
-use Rattle.allowed_signers.specs.Times.{days_of_months}
-use Rattle.allowed_signers.proofs.times.days_of_months.Given as goal
+use Rattle.sshkey_times.specs.Times.{days_of_months}
+use Rattle.sshkey_times.proofs.times.days_of_months.Given as goal
 
 -- the days of the months so far
 abbrev pub invariant-loop-month : goal.invariant-loop-month
