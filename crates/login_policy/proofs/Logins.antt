@@ -1,7 +1,6 @@
 -- What the validation of a certificate decides.
-use Rattle.std.proofs.Common.{◌≡◌, ◌≢◌, ◌↔◌, ◌==◌, ◌++◌, ℕ, List, [], ◌∷◌, length, map, Bool, true, false, IsTrue, None, Option, Some, option_map, Bor, Ok, Err, ap, arith, inl, inr, refl, subst, sym, ◌∙◌}
+use Rattle.std.proofs.Common.{◌≡◌, ◌≢◌, ◌↔◌, ◌==◌, ◌++◌, ℕ, List, [], ◌∷◌, length, map, Bool, true, false, IsTrue, None, Option, Some, option_map, Bor, Ok, ap, arith, inl, inr, refl, subst, sym, ◌∙◌}
 use Rattle.std.proofs.lemmas.Bool.Decides.{nat_tests}
-use Rattle.std.specs.List.{list_any}
 use Rattle.std.specs.Prelude.{Contains, String, is_some, not, string_bytes}
 use Rattle.std.specs.declared.net.ip_addr.IpAddr.{IpAddr}
 use Rattle.sshkey_addresses.specs.SourceAddresses.{MayComeFrom}
@@ -9,21 +8,16 @@ use Rattle.sshkey_base.specs.Reading.{NoSpelling}
 use Rattle.sshkey_base.specs.declared.error.Error.{Error}
 use Rattle.sshkey_base.specs.declared.error.Error.TheVariants as error
 use Rattle.sshkey_cert.specs.CertificateReaders.{SpellsCertificate}
-use Rattle.sshkey_cert.specs.Validity.{fingerprints_of, refusal_of}
+use Rattle.sshkey_cert.specs.Validity.{refusal_of}
 use Rattle.sshkey_cert.specs.declared.certificate.refusal.CertificateRefusal.{CertificateRefusal}
-use Rattle.sshkey_cert.proofs.Given.{fingerprint_memory, signer_fits}
-use Rattle.sshkey_fingerprints.specs.Fingerprints.{digest_of}
 use Rattle.sshkey_cert.specs.CertificateValues.{certificate_of}
 use Rattle.sshkey_cert.specs.declared.certificate.Certificate as code
-use Rattle.sshkey_keys.specs.Fingerprints.{GivesFingerprint, IsFingerprint, IsShort}
 use Rattle.sshkey_krl.specs.Revocations.{is_certificate_revoked}
-use Rattle.sshkey_model.specs.Certificates.{Certificate, HasCertificatePlaces, IsCertificate, certificate, normal_certificate}
-use Rattle.sshkey_model.specs.Fingerprints.{Fingerprint, digest, same_fingerprint}
-use Rattle.sshkey_model.specs.Keys.{Key, normal_key}
-use Rattle.sshkey_model.specs.Laws.{NormalFits}
-use Rattle.sshkey_model.specs.Names.{Sha256}
+use Rattle.sshkey_model.specs.Certificates.{Certificate, normal_certificate}
+use Rattle.sshkey_model.specs.Fingerprints.{Fingerprint}
+use Rattle.sshkey_model.specs.Keys.{Key}
 use Rattle.sshkey_model.specs.OptionMaps.{value_of}
-use Rattle.sshkey_model.specs.Parts.{BoxesFit, flat}
+use Rattle.sshkey_model.specs.Parts.{flat}
 use Rattle.sshkey_model.specs.Principals.{Allows, IsValidFor}
 use Rattle.sshkey_model.specs.Refusals.{RefuseTheUnwanted, NotSigned, UntrustedAuthority, first_refusal_for, has_trusted_authority, is_signed}
 use Rattle.sshkey_model.specs.Refusals as model
@@ -166,9 +160,3 @@ no_login login none is = none is.certificate is.spelled
 
 pub granted : (login : Login) (c : Certificate) (g : Grant) → SpellsCertificate c login.blob → login.blob ≡ flat (normal_certificate c) → HasRightFields login.user login.offered login.least_rsa_bits c → is_certificate_revoked login.revokes c ≡ false → IsValidFor login.accepts login.authorities login.time login.user c → IsAllowedFrom (value_of source_address c.signed.critical_options) login.client → IsGrantOf c g → GrantsExactly login (Ok g)
 granted login c g spelled normal right unrevoked valid from is = (record { certificate = c; spelled = spelled; normal = normal; lets_in = record { fields = right; listed = listed c login.user right.principals valid.allowed; unrevoked = unrevoked; valid = valid.valid; from = from } }, is)
-
--- ---- the key that signed fits
-
-pub fits : NormalFits IsCertificate HasCertificatePlaces certificate normal_certificate → (blob : List ℕ) (c : Certificate) → SpellsCertificate c blob → BoxesFit (normal_key c.signed.signature_key)
-unfolding BoxesFit
-fits law blob c spelled = signer_fits c.signed (law c spelled.choices spelled.is spelled.place spelled.fits).boxes.0

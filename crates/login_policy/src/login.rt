@@ -24,7 +24,6 @@ use sshkey_cert::laws::one_certificate;
 use sshkey_cert_form::is_normal_form;
 use sshkey_keys::{Fingerprint, KeyData, RawVerifier};
 use sshkey_krl::Revocations;
-use sshkey_model::laws::certificate_fits;
 use sshkey_model::laws::certificates::refused_or_wanted;
 use std::alloc::Global;
 use std::net::IpAddr;
@@ -115,7 +114,6 @@ pub fn log_in<R: Revocations, V: RawVerifier>(
         → NeedsMemory (fingerprints_of login.now.authorities.now) login.now.certificate.now) }
 {
     one_certificate();
-    certificate_fits();
     refused_or_wanted();
     let certificate = Certificate::from_bytes(alloc, login.certificate)?;
     if !is_normal_form(&certificate, login.certificate) {

@@ -1,4 +1,4 @@
-use Rattle.std.proofs.Common.{Option, subst, sym, ◌∙◌}
+use Rattle.std.proofs.Common.{subst, sym, ◌∙◌}
 use Rattle.sshkey_cert.specs.Validity.{FindsAuthority, fingerprints_of}
 use Rattle.login_policy.specs.Refusals.{IsRevoked, NotValid, OtherAuthority}
 use Rattle.login_policy.proofs.Logins.{found_wrong, refusal_by_these, valid_if_none}

@@ -3,7 +3,7 @@ use Rattle.std.proofs.lemmas.Result.{err_from_is_err_and}
 use Rattle.sshkey_base.proofs.Acceptance.{other_cause}
 use Rattle.sshkey_cert.specs.CertificateValues.{certificate_of}
 use Rattle.login_policy.specs.Refusals.{FromElsewhere}
-use Rattle.login_policy.proofs.Logins.{field_not_memory, fits, granted, memory_of, no_login, other_of, refused, trusted}
+use Rattle.login_policy.proofs.Logins.{field_not_memory, granted, memory_of, no_login, other_of, refused, trusted}
 use Rattle.login_policy.proofs.login.log_in.Goals as goal
 
 pub returns-in_err-certificate-clause-exactly : goal.returns-in_err-certificate-clause-exactly
@@ -43,9 +43,6 @@ pub returns-in_err-check_fields-clause-memory : goal.returns-in_err-check_fields
 returns-in_err-check_fields-clause-memory g c =
     let p = err_from_is_err_and c.from_residual-in_err-check_fields.result c.from_residual-in_err-check_fields.ensures.1 in
     rw (p.1, p.2) (λ memory. absurd (field_not_memory _ _ _ _ _ c.in_err-check_fields.ensures.wrong memory))
-
-pub validate-requires : goal.validate-requires
-validate-requires g c = fits c.certificate_fits.ensures _ (certificate_of c.in_ok-certificate.certificate) c.in_ok-certificate.ensures.accepts.spelled
 
 pub returns-in_err-authority-clause-exactly : goal.returns-in_err-authority-clause-exactly
 returns-in_err-authority-clause-exactly g c =
