@@ -35,8 +35,8 @@
  * SSHKEY_ROOM, leaves the room as it was, and sets `length` to the number of bytes that are needed,
  * so a room of 0 bytes asks for that number; do not rely on the other fields of `*answer` then.
  * (The text of a fingerprint has a fixed length, so its calls set none.) Every other return value
- * but SSHKEY_DONE leaves the room, `*answer` and `*length` as they were. `*signer` is written with
- * SSHKEY_DONE alone.
+ * but SSHKEY_DONE leaves the room, `*answer` and `*length` as they were; but a grant is zero then.
+ * `*signer` is written with SSHKEY_DONE alone.
  */
 #ifndef SSHKEY_H
 #define SSHKEY_H
@@ -305,6 +305,16 @@ enum { SSHKEY_LINE_KEY = 1, SSHKEY_LINE_CERTIFICATE = 2 };
 uint32_t sshkey_read_line(const uint8_t *line, size_t line_length, uint8_t *room,
                           size_t room_length, sshkey_line *answer);
 
+/* Whether the line of a file of keys has a key of a later kind, as OpenSSH 10.6's
+ * ssh-mldsa44-ed25519: after spaces and tabs, and without options, a name that no key begins with
+ * that is read here, and Base64 of bytes that begin with that very name. In a file of authorities
+ * (TrustedUserCAKeys) such a line is an authority that signs nothing that is read here: pass over
+ * it, and say so. A line that is neither a key nor this refuses the file.
+ *
+ * SSHKEY_DONE exactly if it has; SSHKEY_LABEL if not, also for a key that is read here, and
+ * SSHKEY_TEXT for a line that is not UTF-8. Takes no memory. */
+uint32_t sshkey_is_other_key_line(const uint8_t *line, size_t line_length);
+
 /* ---- certificates (PROTOCOL.certkeys) -------------------------------------------------------- */
 
 /* What has to be verified of a certificate, given as its blob, which sshkey_read_line gives.
@@ -512,6 +522,28 @@ typedef struct {
   sshkey_sha256 authority;   /* of the key that signed it */
   uint32_t permits;          /* SSHKEY_PERMIT_* */
 } sshkey_grant;
+
+/* Whether a login is let in, as sshd would by these authorities, and what it may do. `is_verified`
+ * is 1 if the answer to the question of its certificate is yes; any other number is no. Ask with 0
+ * first: SSHKEY_NOT_SIGNED says "now verify" (sshkey_certificate_question), and with any other
+ * answer there is nothing to verify. So nothing is verified of a certificate that a stranger signed.
+ *
+ * SSHKEY_DONE exactly if the bytes are a certificate for users, in its normal form, of just that
+ * key, which OpenSSH lets in, that lists the user; with options and texts that sshd accepts, and a
+ * source-address that has the client's; valid at that second by one of the authorities; and no
+ * revocation file revokes it (memory and room aside). Else what is wrong first: SSHKEY_TEXT for the
+ * user, 10 to 29 for bytes that are no key, or else no certificate, 70 to 72, 59, 73 to 76, then
+ * SSHKEY_UNTRUSTED_AUTHORITY, SSHKEY_UNREADABLE_REVOCATIONS or SSHKEY_REVOKED, 30, 32 to 34, and
+ * SSHKEY_ELSEWHERE. A room as long as the certificate is enough. SSHKEY_MEMORY only where the user
+ * is UTF-8 and the key is one.
+ *
+ * With SSHKEY_ROOM `*answer` is zero but for its `length`, and with every other answer but
+ * SSHKEY_DONE all zero, which permits nothing; the room stays as it was.
+ *
+ * Yours: that the client signed under the key (sshkey_userauth_question asks), to run no other
+ * command than the grant's, and to allow nothing that it does not permit. */
+uint32_t sshkey_login_verdict(const sshkey_login *login, uint32_t is_verified, uint8_t *room,
+                              size_t room_length, sshkey_grant *answer);
 
 /* ---- what a client signs (RFC 4252, section 7; OpenSSH's PROTOCOL) --------------------------- */
 
@@ -775,6 +807,17 @@ uint32_t sshkey_host_key_verdict(const sshkey_host_login *login, const uint8_t *
 uint32_t sshkey_host_certificate_verdict(const sshkey_host_login *login,
                                          const uint8_t *certificate, size_t certificate_length,
                                          uint32_t is_verified);
+
+/* The number of the first line, from 1, of a text of known_hosts that is no entry and may be one
+ * for the host at that port: by it the text is SSHKEY_HOST_UNREADABLE, whatever the key. Empty lines
+ * and comments are counted.
+ *
+ * SSHKEY_DONE exactly if there is one, and SSHKEY_END if there is none (SSHKEY_MEMORY aside);
+ * SSHKEY_TEXT where the text or the host is not UTF-8. A text that is empty or has comments alone
+ * takes no memory. */
+uint32_t sshkey_unreadable_host_line(const uint8_t *known_hosts, size_t known_hosts_length,
+                                     const uint8_t *host, size_t host_length, uint16_t port,
+                                     size_t *number);
 
 /* ---- where a client may come from ------------------------------------------------------------ */
 

@@ -369,6 +369,7 @@ CALLS: dict[str, tuple[Any, ...]] = {
     "sshkey_version": (),
     "sshkey_abi": (),
     "sshkey_read_line": (c_char_p, c_size_t, POINTER(c_uint8), c_size_t, POINTER(Line)),
+    "sshkey_is_other_key_line": (c_char_p, c_size_t),
     "sshkey_certificate_question": (c_char_p, c_size_t, POINTER(c_uint8), c_size_t, POINTER(Question)),
     "sshkey_certificate_validate": (c_char_p, c_size_t, c_uint64, POINTER(Sha256), c_size_t, c_uint32),
     "sshkey_certificate_validate_for": (c_char_p, c_size_t, c_uint64, c_char_p, c_size_t, POINTER(Sha256), c_size_t, c_uint32),
@@ -385,6 +386,7 @@ CALLS: dict[str, tuple[Any, ...]] = {
     "sshkey_signature_question": (
         c_char_p, c_size_t, c_char_p, c_size_t, c_char_p, c_size_t, POINTER(c_uint8), c_size_t, POINTER(Question)
     ),
+    "sshkey_login_verdict": (POINTER(Login), c_uint32, POINTER(c_uint8), c_size_t, POINTER(Grant)),
     "sshkey_userauth_question": (POINTER(Userauth), POINTER(c_uint8), c_size_t, POINTER(Question)),
     "sshkey_userauth_question_of": (POINTER(Userauth), c_char_p, c_size_t, POINTER(c_uint8), c_size_t, POINTER(Question)),
     "sshkey_grant_flags": (c_uint32, c_char_p, c_size_t, c_char_p, c_size_t),
@@ -413,6 +415,7 @@ CALLS: dict[str, tuple[Any, ...]] = {
     "sshkey_nth_option": (c_char_p, c_size_t, c_size_t, POINTER(c_uint8), c_size_t, POINTER(EntryOptionParts)),
     "sshkey_host_key_verdict": (POINTER(HostLogin), c_char_p, c_size_t),
     "sshkey_host_certificate_verdict": (POINTER(HostLogin), c_char_p, c_size_t, c_uint32),
+    "sshkey_unreadable_host_line": (c_char_p, c_size_t, c_char_p, c_size_t, c_uint16, POINTER(c_size_t)),
     "sshkey_source_address_allows": (c_char_p, c_size_t, c_char_p, c_size_t),
     "sshkey_from_allows": (c_char_p, c_size_t, c_char_p, c_size_t, c_char_p, c_size_t),
 }

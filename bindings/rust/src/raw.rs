@@ -458,6 +458,7 @@ calls! {
 calls! {
     [expect_abi();]
     fn sshkey_read_line(line: &[u8], room: &mut [u8], answer: &mut Line);
+    fn sshkey_is_other_key_line(line: &[u8]);
     fn sshkey_certificate_question(certificate: &[u8], room: &mut [u8], answer: &mut Question);
     fn sshkey_certificate_validate(
         certificate: &[u8], unix_timestamp: u64, authorities: &[Sha256], is_verified: u32
@@ -480,6 +481,9 @@ calls! {
     fn sshkey_fingerprint_sha512_text(digest: &Sha512, room: &mut [u8]);
     fn sshkey_signature_question(
         key: &[u8], message: &[u8], signature: &[u8], room: &mut [u8], answer: &mut Question
+    );
+    fn sshkey_login_verdict(
+        login: &Login<'_>, is_verified: u32, room: &mut [u8], answer: &mut Grant
     );
     fn sshkey_userauth_question(request: &Userauth<'_>, room: &mut [u8], answer: &mut Question);
     fn sshkey_userauth_question_of(
@@ -515,6 +519,7 @@ calls! {
     );
     fn sshkey_host_key_verdict(login: &HostLogin<'_>, key: &[u8]);
     fn sshkey_host_certificate_verdict(login: &HostLogin<'_>, certificate: &[u8], is_verified: u32);
+    fn sshkey_unreadable_host_line(known_hosts: &[u8], host: &[u8], port: u16, number: &mut usize);
     fn sshkey_source_address_allows(list: &[u8], address: &[u8]);
     fn sshkey_from_allows(list: &[u8], host: &[u8], address: &[u8]);
 }

@@ -2,7 +2,8 @@
 
 pub use sshkey_base::certificate::Field;
 pub use sshkey_cert::{
-    Certificate, CertificateQuestion, CertificateRefusal, KeyOrCertificate, contains_digest,
+    Certificate, CertificateByAuthority, CertificateQuestion, CertificateRefusal, KeyOrCertificate,
+    contains_digest,
 };
 pub use sshkey_cert_builder::Builder;
 pub use sshkey_cert_fields::ToBeSigned;

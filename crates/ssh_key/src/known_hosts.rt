@@ -2,5 +2,5 @@
 
 pub use sshkey_known_hosts::{
     Entry, Hmac, HmacSha1, HostPatterns, KnownHosts, Marker, OpenSshKnownHosts, Verdict,
-    authorities, judge_key,
+    authorities, judge_key, unreadable_line,
 };

@@ -101,6 +101,7 @@ pub use sshkey_known_hosts::laws::equal_known_hosts;
 pub use sshkey_known_hosts::laws::equal_markers;
 pub use sshkey_known_hosts::laws::equal_verdicts;
 pub use sshkey_known_hosts::laws::one_verdict;
+pub use sshkey_known_hosts::laws::unreadable_lines;
 pub use sshkey_krl::laws::grown_krls;
 pub use sshkey_krl::laws::joined_krls;
 pub use sshkey_krl::laws::one_krl;

@@ -13,6 +13,7 @@ mod entry;
 mod host;
 mod key;
 mod line;
+mod login;
 mod normal;
 mod parts;
 mod revocation;

@@ -28,7 +28,7 @@ pub(crate) const BASE64: u32 = 10;
 /// A text is not UTF-8, or has a character that no name has.
 pub(crate) const CHARACTER_ENCODING: u32 = 11;
 /// A name is not allowed there.
-pub(crate) const LABEL: u32 = 12;
+pub const LABEL: u32 = 12;
 /// A length passes the bytes, or is not the one wanted.
 pub const LENGTH: u32 = 13;
 /// Bytes follow the end.

@@ -18,7 +18,7 @@ use Rattle.sshkey_model.specs.Parts.{flat}
 use Rattle.sshkey_model.specs.Reading.{Fault, whole}
 use Rattle.sshkey_revoked_keys.specs.RevokedKeys.{AsksText, ReadsKrl, ReadsRevokedKeys, begins_krl}
 use Rattle.sshkey_revoked_keys.specs.declared.revoked_keys.RevokedKeys.{RevokedKeys}
-use Rattle.sshkey_entry_calls.specs.RevocationFiles.{IsReadOf, NeedsFile, NeedsFiles, are_read, revoked_number}
+use Rattle.sshkey_entry_calls.specs.RevocationFiles.{IsReadOf, NeedsFile, are_read, revoked_number}
 
 -- a list is refused for its fault alone
 no_list : (found : Result Krl Fault) (file : List ℕ) (e : Error) → ReadsKrl found file (Err e) → cause e ≢ NoMemory

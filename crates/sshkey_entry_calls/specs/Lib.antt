@@ -5,3 +5,4 @@ pub mod RevocationFiles
 pub mod Signers
 pub mod Addresses
 pub mod Revocations
+pub mod UnreadableLines

@@ -11,14 +11,18 @@ mod addresses;
 mod entries;
 mod lines;
 mod options;
+mod other_key;
 mod revocation_files;
 mod revocations;
 mod signers;
+mod unreadable_line;
 
 pub use addresses::{address_of, from_allows, source_address_allows};
 pub use entries::{EntryParts, authorized_entry, known_host};
 pub use lines::next_line;
 pub use options::{OptionParts, nth_option};
+pub use other_key::is_other_key_line;
 pub use revocation_files::RevocationFiles;
 pub use revocations::{revoked_certificate, revoked_key};
 pub use signers::signer_verdict;
+pub use unreadable_line::unreadable_host_line;

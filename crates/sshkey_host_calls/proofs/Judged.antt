@@ -1,5 +1,5 @@
 -- From what is answered of a host to its number.
-use Rattle.std.proofs.Common.{◌≡◌, ◌≢◌, ℕ, Bool, Result, Ok, Err, IfErr, inl, inr, refl, ap, ◌⊎◌}
+use Rattle.std.proofs.Common.{◌≡◌, ◌≢◌, ℕ, Bool, Result, Ok, Err, IfErr, inl, inr, refl, ap, subst, sym, ◌⊎◌, ◌∙◌}
 use Rattle.host_keys.specs.Answers.{OkExactly}
 use Rattle.host_keys.specs.declared.refusal.Refusal.{Refusal}
 use Rattle.host_keys.specs.declared.refusal.Refusal.TheVariants as refusal
@@ -33,3 +33,13 @@ module _ (Holds : Type 0) (IsWhy : Refusal → Type 0) (are_read : Bool) where
     first = λ not_zero. absurd (not_zero refl);
   }
   judged (Err r) some none why = refused r (is_memory r) some none why
+
+  pub judged_as : (answer : Result (Unit {0}) Refusal) (n : ℕ) (b : Bool) → n ≡ answer_number b answer → b ≡ are_read → IfErr answer (λ r. n ≢ 0) → OkExactly Holds answer → IfErr answer (λ r. r ≢ refusal.Memory → IsWhy r) → IsJudged Holds IsWhy are_read n
+  judged_as answer n b number same some exactly why =
+      let is : n ≡ answer_number are_read answer = number ∙ ap (λ (x : Bool). answer_number x answer) same in
+      subst (IsJudged Holds IsWhy are_read) (sym is) (judged answer (subst (λ (x : ℕ). IfErr answer (λ r. x ≢ 0)) is some) exactly why)
+
+-- what holds anyway holds for something else than memory
+pub for_others : (IsWhy : Refusal → Type 0) (answer : Result (Unit {0}) Refusal) → IfErr answer IsWhy → IfErr answer (λ r. r ≢ refusal.Memory → IsWhy r)
+for_others IsWhy (Ok x) why = tt
+for_others IsWhy (Err r) why = λ _. why

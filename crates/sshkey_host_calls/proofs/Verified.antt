@@ -1,5 +1,5 @@
 -- The verifier that says to every question what was said to the one.
-use Rattle.std.proofs.Common.{◌≡◌, ℕ, List, Bool, Option, Some, None, inl, inr, subst, sym, ◌∙◌}
+use Rattle.std.proofs.Common.{◌≡◌, ℕ, List, Bool, Some, None, inl, inr, subst, sym, ◌∙◌}
 use Rattle.host_keys.specs.Answers.{IsWhyNoCertificate, RefusesHostCertificate}
 use Rattle.host_keys.specs.Hosts.{HostLogin, IsGoodFor, IsHostCertificate, IsTrustedCertificate, plain_name, signers}
 use Rattle.host_keys.specs.declared.refusal.Refusal.{Refusal}

@@ -1,5 +1,4 @@
 -- What is answered of the key or the certificate that a host shows (ssh(1), "VERIFYING HOST KEYS").
-use denote.Ref.{Bor}
 use Rattle.std.specs.List.{list_all}
 use Rattle.std.specs.Prelude.{◌≡◌, ◌≢◌, ◌&&◌, ℕ, List, Bool, Some, Result, Ok, Err, if◌then◌else◌}
 use Rattle.std.specs.Str.{is_utf8}

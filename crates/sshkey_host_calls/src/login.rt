@@ -1,5 +1,6 @@
 //! What is known of the host that a client connects to, as byte strings.
 
+ghost use Rattle.std.specs.List.{list_all};
 ghost use Rattle.std.specs.Prelude.{◌≡◌, IfOk, true};
 ghost use Rattle.std.specs.Str.{is_utf8};
 ghost use Rattle.host_keys.specs.Hosts.{lines_of, login_of};
@@ -34,7 +35,7 @@ impl<'a> HostLogin<'a> {
     pub(crate) fn are_texts(&self) -> bool
         ensures { result ≡ are_texts self.now }
     {
-        is_text(self.host) && self.known_hosts.iter().all(|text| is_text(text))
+        is_text(self.host) && are_all_texts(self.known_hosts)
     }
 
     /// The texts of known_hosts. Fails only when out of memory.
@@ -62,6 +63,13 @@ impl<'a> HostLogin<'a> {
             least_rsa_bits: self.least_rsa_bits,
         }
     }
+}
+
+/// Whether each of them is UTF-8.
+fn are_all_texts(texts: &[&[u8]]) -> bool
+    ensures { result ≡ list_all (λ text. is_utf8 text.now) texts.now }
+{
+    texts.iter().all(|text| is_text(text))
 }
 
 /// Whether the bytes are UTF-8.

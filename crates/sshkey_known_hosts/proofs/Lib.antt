@@ -10,3 +10,4 @@ pub mod OtherLines
 pub mod AuthorityKeys
 pub mod ContainedCharacters
 mod Wholes
+mod UnreadableLines

@@ -7,3 +7,4 @@ pub mod OtherLines
 pub mod MadeEntries
 pub mod Hmac
 pub mod HmacExamples
+pub mod UnreadableLines

@@ -2,6 +2,7 @@
 
 ghost use Rattle.sshkey_base.specs.Comparisons.{EqualMeanSame, IsEqualityAmong, IsEqualityOf};
 ghost use Rattle.sshkey_known_hosts.specs.HostEntries.{IsOfKey, hosts_of, known_host_of, marker_of};
+ghost use Rattle.sshkey_known_hosts.specs.UnreadableLines.{UnreadableHasLine};
 ghost use Rattle.sshkey_known_hosts.specs.Verdicts.{OneVerdict};
 
 use crate::entry::Entry;
@@ -40,4 +41,9 @@ pub fn equal_verdicts()
 /// Of the verdicts on a key of a host one at most holds of the lines of a text.
 pub fn one_verdict()
     ensures { OneVerdict }
+{}
+
+/// Where a text makes a verdict `Unreadable`, `unreadable_line` finds a line.
+pub fn unreadable_lines()
+    ensures { UnreadableHasLine }
 {}

@@ -15,6 +15,7 @@ mod marker;
 mod openssh;
 mod other_hosts;
 mod other_key;
+mod unreadable;
 mod verdict;
 
 pub use authority::authorities;
@@ -25,4 +26,5 @@ pub use host_patterns::HostPatterns;
 pub use known_hosts::KnownHosts;
 pub use marker::Marker;
 pub use openssh::OpenSshKnownHosts;
+pub use unreadable::unreadable_line;
 pub use verdict::{Verdict, judge_key};

@@ -1,2 +1,3 @@
+mod Digests
 mod Grants
 mod Logins

@@ -1,6 +1,6 @@
 -- What the policy decides for the verifier that says to every question what was said to the one, it
 -- decides for every verifier that says so to that one.
-use Rattle.std.proofs.Common.{◌≡◌, ◌≢◌, ℕ, List, Bool, Option, None, Some, Result, Ok, Err, IfErr, ap, arith, inl, inr, refl, subst, sym, ◌∙◌}
+use Rattle.std.proofs.Common.{◌≡◌, ◌≢◌, ◌<◌, ℕ, List, Bool, true, false, Option, None, Some, Result, Ok, Err, IfErr, ap, arith, inl, inr, refl, subst, sym, ◌∙◌}
 use Rattle.login_policy.specs.Logins.{GrantsExactly, IsGrantOf, IsLogin, Login}
 use Rattle.login_policy.specs.Refusals.{FromElsewhere, IsRevoked, IsUntrusted, NotValid, OtherAuthority, RefusesLogin}
 use Rattle.login_policy.specs.declared.grant.Grant.{Grant}
@@ -16,7 +16,10 @@ use Rattle.sshkey_model.specs.Refusals as model
 use Rattle.sshkey_model.specs.Refusals.{NotSigned, UnlistedPrincipal, allows, first_refusal_for, has_trusted_authority, is_signed, or_else, refusal_of_authority_or_time, unless}
 use Rattle.sshkey_model.specs.Validity.{IsValid}
 use Rattle.sshkey_model.specs.Verification.{Question}
-use Rattle.sshkey_entry_calls.specs.RevocationFiles.{one_revokes, revoked_number}
+use Rattle.sshkey_entry_calls.specs.RevocationFiles.{are_read, one_revokes, revoked_number}
+use Rattle.sshkey_base.specs.declared.error.Error.{Error}
+use Rattle.sshkey_revoked_keys.specs.declared.revoked_keys.RevokedKeys.{RevokedKeys}
+use Rattle.std.specs.Prelude.{if◌then◌else◌}
 use Rattle.sshkey_login_calls.specs.Logins.{DecidesLogin, IsReadingOf, Reading, TellsLogin, login_number, login_of}
 use Rattle.sshkey_login_calls.specs.declared.request.LoginRequest.{LoginRequest}
 
@@ -48,7 +51,7 @@ module _ (l : LoginRequest) (r : Reading) (n : ℕ) (accepts : Question → Bool
   untrusted : (c : Certificate) (e : Refusal) → SpellsCertificate c l.certificate.now → IsUntrusted (login_of l r (λ _. is_yes_number n)) c e → IsUntrusted (login_of l r accepts) c e
   untrusted c e spelled (OtherAuthority other) = OtherAuthority other
   untrusted c e spelled (IsRevoked by revoked) = IsRevoked by revoked
-  untrusted c e spelled (NotValid by unrevoked w refused) = NotValid by unrevoked w (sym (first c spelled _ _ _) ∙ refused)
+  untrusted c e spelled (NotValid by unrevoked w refused) = NotValid by unrevoked w (sym (first c spelled (authorities_of l.authorities.now) l.unix_timestamp l.user.now) ∙ refused)
   untrusted c e spelled (FromElsewhere unrevoked is elsewhere) = FromElsewhere unrevoked (record { valid = valid c spelled _ _ is.valid; allowed = is.allowed }) elsewhere
 
   pub refused : (e : Refusal) → RefusesLogin (login_of l r (λ _. is_yes_number n)) e → RefusesLogin (login_of l r accepts) e
@@ -57,28 +60,43 @@ module _ (l : LoginRequest) (r : Reading) (n : ℕ) (accepts : Question → Bool
   refused e (inr (c, spelled, inr (normal, inl wrong))) = inr (c, spelled, inr (normal, inl wrong))
   refused e (inr (c, spelled, inr (normal, inr (right, other)))) = inr (c, spelled, inr (normal, inr (right, untrusted c e spelled other)))
 
+-- the number for what is revoked is none of those that say something else
+pub some_revoked : (reads : List (Result RevokedKeys Error)) → 2 < revoked_number reads
+some_revoked reads = go (are_read reads)
+  where
+    go : (b : Bool) → 2 < (if b then 56 else 58)
+    go true = omega arith
+    go false = omega arith
+
 -- ---- the verdict
 
--- the login that the policy was asked about
-module _ (l : LoginRequest) (r : Reading) (n : ℕ) (yes : Bool) (authorities : List Fingerprint) (user : List ℕ) (said : yes ≡ is_yes_number n) (same : authorities ≡ authorities_of l.authorities.now) (named : user ≡ l.user.now) where
-  asked : Login
-  asked = record { accepts = λ _. yes; revokes = one_revokes r.files; authorities = authorities; time = l.unix_timestamp; user = user; offered = r.key; blob = l.certificate.now; least_rsa_bits = l.least_rsa_bits; client = r.client }
+-- a login that the policy is asked about
+abbrev pub asked_of : LoginRequest → Reading → Bool → List Fingerprint → List ℕ → Login
+asked_of l r says authorities user = record { accepts = λ _. says; revokes = one_revokes r.files; authorities = authorities; time = l.unix_timestamp; user = user; offered = r.key; blob = l.certificate.now; least_rsa_bits = l.least_rsa_bits; client = r.client }
 
-  is_asked : asked ≡ login_of l r (λ _. is_yes_number n)
-  is_asked = rw (said, same, named) refl
+module _ (l : LoginRequest) (r : Reading) (n : ℕ) (says : Bool) (authorities : List Fingerprint) (user : List ℕ) (said : says ≡ is_yes_number n) (same : authorities ≡ authorities_of l.authorities.now) (named : user ≡ l.user.now) where
+  is_asked : asked_of l r says authorities user ≡ login_of l r (λ _. is_yes_number n)
+  is_asked = ap (λ (b : Bool). asked_of l r b authorities user) said ∙ ap (λ (given : List Fingerprint). asked_of l r (is_yes_number n) given user) same ∙ ap (asked_of l r (is_yes_number n) (authorities_of l.authorities.now)) named
 
-  pub granted : IsLogin asked → IsReadingOf l r → TellsLogin l n 0
-  granted is reading not_memory = (r, reading, λ accepts v. record {
-    let_in = λ _. let_in l r n accepts v (subst IsLogin is_asked is);
-    kept_out = λ some. absurd (some refl);
-    first = λ some. absurd (some refl);
-  })
+  pub granted : IsLogin (asked_of l r says authorities user) → IsReadingOf l r → TellsLogin l n 0
+  granted is reading not_memory = (
+    r,
+    reading,
+    λ accepts v. record {
+      let_in = λ _. let_in l r n accepts v (subst IsLogin is_asked is);
+      kept_out = λ some. absurd (some refl);
+      first = λ some. absurd (some refl);
+    },
+  )
 
-  pub denied : (e : Refusal) (m : ℕ) → m ≡ login_number (revoked_number r.files) e → (m ≢ 1 → 2 < m) → (e ≢ refusal.Memory → IsLogin asked → ⊥) → (e ≢ refusal.Memory → RefusesLogin asked e) → IsReadingOf l r → TellsLogin l n m
+  pub denied : (e : Refusal) (m : ℕ) → m ≡ login_number (revoked_number r.files) e → (m ≢ 1 → 2 < m) → (e ≢ refusal.Memory → IsLogin (asked_of l r says authorities user) → ⊥) → (e ≢ refusal.Memory → RefusesLogin (asked_of l r says authorities user) e) → IsReadingOf l r → TellsLogin l n m
   denied e m is high out why reading not_memory =
-      let other : e ≢ refusal.Memory = λ memory. not_memory (is ∙ ap (login_number (revoked_number r.files)) memory) in
-      (r, reading, λ accepts v. record {
-    let_in = λ zero_or_two. absurd (elim zero_or_two [ inl none ↦ omega (arith, high not_memory, none) | inr two ↦ omega (arith, high not_memory, two) ]);
-    kept_out = λ _ _. kept_out l r n accepts v (λ (it : IsLogin (login_of l r (λ _. is_yes_number n))). out other (subst IsLogin (sym is_asked) it));
-    first = λ _ _. (e, refused l r n accepts v e (subst (λ (a : Login). RefusesLogin a e) is_asked (why other)), is);
-  })
+      let other : e ≢ refusal.Memory = λ memory. not_memory (is ∙ ap (login_number (revoked_number r.files)) memory) in (
+        r,
+        reading,
+        λ accepts v. record {
+          let_in = λ zero_or_two. absurd (elim zero_or_two [ inl none ↦ omega (arith, high not_memory, none) | inr two ↦ omega (arith, high not_memory, two) ]);
+          kept_out = λ _ _. kept_out l r n accepts v (λ (it : IsLogin (login_of l r (λ _. is_yes_number n))). out other (subst IsLogin (sym is_asked) it));
+          first = λ _ _. (e, refused l r n accepts v e (subst (λ (a : Login). RefusesLogin a e) is_asked (why other)), is);
+        },
+      )

@@ -27,16 +27,19 @@ bit number false = 0
 -- A terminal, the forwarding of ports, of the agent and of X11, and the user's rc file are what an
 -- extension permits. Any command may run where none is forced. A security key need not be touched
 -- by an extension, and need not verify its user unless a critical option says so.
+abbrev pub permitted : List CertificateOption → List CertificateOption → ℕ
+permitted critical_options extensions =
+    bit 1 (has (codes "permit-pty") extensions)
+    + bit 2 (has (codes "permit-port-forwarding") extensions)
+    + bit 4 (has (codes "permit-agent-forwarding") extensions)
+    + bit 8 (has (codes "permit-X11-forwarding") extensions)
+    + bit 16 (has (codes "permit-user-rc") extensions)
+    + bit 32 (not (has force_command critical_options))
+    + bit 64 (has no_touch_required extensions)
+    + bit 128 (not (has verify_required critical_options))
+
 abbrev pub permits_of : Certificate → ℕ
-permits_of c =
-    bit 1 (has (codes "permit-pty") c.signed.extensions)
-    + bit 2 (has (codes "permit-port-forwarding") c.signed.extensions)
-    + bit 4 (has (codes "permit-agent-forwarding") c.signed.extensions)
-    + bit 8 (has (codes "permit-X11-forwarding") c.signed.extensions)
-    + bit 16 (has (codes "permit-user-rc") c.signed.extensions)
-    + bit 32 (not (has force_command c.signed.critical_options))
-    + bit 64 (has no_touch_required c.signed.extensions)
-    + bit 128 (not (has verify_required c.signed.critical_options))
+permits_of c = permitted c.signed.critical_options c.signed.extensions
 
 -- ---- where it stands
 

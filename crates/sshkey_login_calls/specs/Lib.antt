@@ -1,2 +1,3 @@
+pub mod GrantExamples
 pub mod Grants
 pub mod Logins

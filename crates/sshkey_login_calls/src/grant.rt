@@ -141,9 +141,18 @@ fn permits(grant: &Grant) -> u32
 {
     let extensions = &grant.extensions;
     bit(PTY, extensions.contains_key("permit-pty"))
-        + bit(PORT_FORWARDING, extensions.contains_key("permit-port-forwarding"))
-        + bit(AGENT_FORWARDING, extensions.contains_key("permit-agent-forwarding"))
-        + bit(X11_FORWARDING, extensions.contains_key("permit-X11-forwarding"))
+        + bit(
+            PORT_FORWARDING,
+            extensions.contains_key("permit-port-forwarding"),
+        )
+        + bit(
+            AGENT_FORWARDING,
+            extensions.contains_key("permit-agent-forwarding"),
+        )
+        + bit(
+            X11_FORWARDING,
+            extensions.contains_key("permit-X11-forwarding"),
+        )
         + bit(USER_RC, extensions.contains_key("permit-user-rc"))
         + bit(ANY_COMMAND, grant.force_command.is_none())
         + bit(NO_TOUCH, !grant.touch_required)

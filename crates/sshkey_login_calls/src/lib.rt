@@ -5,6 +5,7 @@
 //! verified, and one that is told what the verification said.
 #![tactic(auto)]
 
+pub mod examples;
 mod grant;
 mod login;
 mod request;

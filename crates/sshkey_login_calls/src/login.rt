@@ -1,6 +1,6 @@
 //! Who is let in, given what the caller's verification said.
 
-ghost use Rattle.std.specs.Prelude.{◌≡◌, ◌≢◌, ◌<◌, Err, IfErr, IfOk};
+ghost use Rattle.std.specs.Prelude.{◌≡◌, ◌≢◌, ◌<◌, Err, IfErr, IfOk, IsErrAnd};
 ghost use Rattle.std.specs.Str.{IsUtf8};
 ghost use Rattle.sshkey_base.specs.Acceptance.{SpellsSome};
 ghost use Rattle.sshkey_calls.specs.Numbers.{fault_number};
@@ -82,7 +82,7 @@ fn judge(
     ensures refused { IfErr result (λ n. n ≢ 1 → 2 < n) }
     ensures fault { IsUtf8 login.now.user.now → (fault : Fault)
         → whole key_data_at login.now.key.now ≡ Err fault
-        → number_of result ≡ fault_number fault }
+        → IsErrAnd result (λ n. n ≡ fault_number fault) }
     ensures text { (IsUtf8 login.now.user.now → ⊥) → number_of result ≡ 4 }
     ensures memory { number_of result ≡ 1
         → IsUtf8 login.now.user.now × SpellsSome SpellsKey login.now.key.now }

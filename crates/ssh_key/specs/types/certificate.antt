@@ -1,6 +1,7 @@
 pub use Rattle.sshkey_base.specs.declared.certificate.field.Field
 pub use Rattle.sshkey_cert_builder.specs.declared.builder.Builder
 pub use Rattle.sshkey_cert.specs.declared.certificate.Certificate
+pub use Rattle.sshkey_cert.specs.declared.certificate.by_authority.CertificateByAuthority
 pub use Rattle.sshkey_cert.specs.declared.certificate.question.CertificateQuestion
 pub use Rattle.sshkey_cert.specs.declared.certificate.refusal.CertificateRefusal
 pub use Rattle.sshkey_cert.specs.declared.key_or_certificate.KeyOrCertificate

@@ -22,9 +22,9 @@ pub mod authorized_keys {
 /// Certificates.
 pub mod certificate {
     pub use ssh_key::certificate::{
-        Builder, CertType, Certificate, CertificateQuestion, CertificateRef, CertificateRefusal,
-        EndTime, FOREVER, Field, KeyOrCertificate, MAX_SECS, Options, OptionsMap, OptionsRef,
-        Texts, TextsRef, ToBeSigned, UnixTime, contains_digest,
+        Builder, CertType, Certificate, CertificateByAuthority, CertificateQuestion,
+        CertificateRef, CertificateRefusal, EndTime, FOREVER, Field, KeyOrCertificate, MAX_SECS,
+        Options, OptionsMap, OptionsRef, Texts, TextsRef, ToBeSigned, UnixTime, contains_digest,
     };
 }
 
@@ -43,7 +43,7 @@ pub mod encoding {
 pub mod known_hosts {
     pub use ssh_key::known_hosts::{
         Entry, Hmac, HmacSha1, HostPatterns, KnownHosts, Marker, OpenSshKnownHosts, Verdict,
-        authorities, judge_key,
+        authorities, judge_key, unreadable_line,
     };
 }
 
@@ -243,4 +243,5 @@ pub mod laws {
     pub use ssh_key::laws::spelled_private_key;
     pub use ssh_key::laws::spelled_ssh_signature;
     pub use ssh_key::laws::ssh_signature_fits;
+    pub use ssh_key::laws::unreadable_lines;
 }

@@ -1,0 +1,34 @@
+//! Who is let in.
+
+ghost use Rattle.std.specs.Prelude.{◌≡◌, Err};
+ghost use Rattle.std.specs.Str.{IsUtf8};
+ghost use Rattle.sshkey_base.specs.Acceptance.{SpellsSome};
+ghost use Rattle.sshkey_calls.specs.Numbers.{fault_number};
+ghost use Rattle.sshkey_keys.specs.Keys.{SpellsKey, key_data_at};
+ghost use Rattle.sshkey_login_calls.specs.Grants.{TellsGrant};
+ghost use Rattle.sshkey_login_calls.specs.Logins.{TellsLogin};
+ghost use Rattle.sshkey_model.specs.Reading.{Fault, whole};
+
+use sshkey_login_calls::{GrantParts, LoginRequest, login_verdict};
+use std::alloc::Global;
+
+/// Whether a login is let in, and what it is granted: `sshkey_login_calls::login_verdict`.
+#[unsafe(no_mangle)]
+pub extern "C" fn sshkey_login_verdict(
+    alloc: Global,
+    login: &LoginRequest<'_>,
+    is_verified: u32,
+    room: &mut [u8],
+    answer: &mut GrantParts,
+) -> u32
+    ensures verdict { IsUtf8 login.now.user.now → SpellsSome SpellsKey login.now.key.now
+        → TellsLogin login.now is_verified result }
+    ensures grant { TellsGrant login.now.certificate.now result answer.new room.old room.new }
+    ensures fault { IsUtf8 login.now.user.now → (fault : Fault)
+        → whole key_data_at login.now.key.now ≡ Err fault → result ≡ fault_number fault }
+    ensures text { (IsUtf8 login.now.user.now → ⊥) → result ≡ 4 }
+    ensures memory { result ≡ 1
+        → IsUtf8 login.now.user.now × SpellsSome SpellsKey login.now.key.now }
+{
+    login_verdict(alloc, login, is_verified, room, answer)
+}

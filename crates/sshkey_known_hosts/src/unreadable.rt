@@ -1,0 +1,65 @@
+//! Which line of a text of known_hosts cannot be read.
+
+ghost use Rattle.std.specs.Prelude.{◌≡◌, ◌<◌, ◌↔◌, IfErr, IfOk, IsTrue, length};
+ghost use Rattle.std.specs.Str.Lines.{lines};
+ghost use Rattle.sshkey_base.specs.declared.error.Error.TheVariants as wide;
+ghost use Rattle.sshkey_entries.specs.Fields.{filled_lines};
+ghost use Rattle.sshkey_entries.specs.HostNames.{known_name};
+ghost use Rattle.sshkey_known_hosts.specs.UnreadableLines.{HidesEntryIn, IsNumberOfFirst};
+
+use crate::hmac_sha1::HmacSha1;
+use crate::host_name::known_name;
+use crate::openssh::is_comment;
+use crate::other_hosts::is_for_others;
+use crate::other_key::read_other_line;
+use crate::verdict::{has_lines, read_entry};
+use sshkey_base::Result;
+use sshkey_entries::skip_blanks;
+use std::alloc::Global;
+
+/// Whether the line is neither empty nor a comment, and no entry, and could be one for the name.
+fn hides_entry<H: HmacSha1>(alloc: Global, line: &str, name: &str, hmac: &H) -> Result<bool>
+    ensures answer { IfOk result
+        (λ yes. IsTrue yes ↔ HidesEntryIn (H.hmac hmac.now) name.now line.now) }
+    ensures memory { IfErr result (λ e. e ≡ wide.Memory) }
+{
+    let text = skip_blanks(line);
+    if text.is_empty() || is_comment(text) || is_for_others(text, name, hmac) {
+        return Ok(false);
+    }
+    if read_entry(alloc, text)?.is_some() {
+        return Ok(false);
+    }
+    Ok(read_other_line(alloc, text)?.is_none())
+}
+
+/// The number of the first line, from 1, that is no entry and could be one for the host: the line
+/// by which `judge_key` says `Unreadable` of each key that no other line revokes. `None` if there
+/// is none, and then it never says so. Empty lines and comments are counted.
+///
+/// Fails only when out of memory, and never of a text that is empty or has comments alone.
+pub fn unreadable_line<H: HmacSha1>(
+    alloc: Global,
+    text: &str,
+    host: &str,
+    port: u16,
+    hmac: &H,
+) -> Result<Option<usize>>
+    ensures answer { IfOk result (IsNumberOfFirst
+        (HidesEntryIn (H.hmac hmac.now) (known_name host.now port)) (lines text.now)) }
+    ensures memory { IfErr result (λ e. e ≡ wide.Memory) }
+    ensures asks { IfErr result (λ _. 0 < length (filled_lines text.now)) }
+{
+    if !has_lines(text) {
+        return Ok(None);
+    }
+    let name = known_name(alloc, host, port)?;
+    let mut number = 0;
+    for line in text.lines() {
+        number += 1;
+        if hides_entry(alloc, line, name.as_str(), hmac)? {
+            return Ok(Some(number));
+        }
+    }
+    Ok(None)
+}
