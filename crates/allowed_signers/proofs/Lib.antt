@@ -1,4 +1,3 @@
-mod Calendar
 mod Decisions
 mod Fronts
 mod ReadOptions

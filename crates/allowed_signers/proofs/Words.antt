@@ -4,10 +4,10 @@ use Rattle.std.proofs.lemmas.List.{length-map}
 use Rattle.sshkey_entries.specs.OptionItems.{IsSameName, KeyOption}
 use Rattle.allowed_signers.specs.OneValue.{IsTheOne}
 use Rattle.allowed_signers.specs.SignerOptions.{AddsOption, AddsValue, IsTimeValue, Terms, terms_of, word_text}
-use Rattle.allowed_signers.specs.Times.{ReadsTime}
+use Rattle.sshkey_times.specs.Times.{ReadsTime}
 use Rattle.allowed_signers.specs.declared.options.SignerOptions.{SignerOptions}
 use Rattle.allowed_signers.specs.declared.options.Word.{Word}
-use Rattle.allowed_signers.specs.declared.times.Span.{Span}
+use Rattle.sshkey_times.specs.declared.times.Span.{Span}
 use Rattle.allowed_signers.specs.declared.options.Word.TheVariants.{CertAuthority, Namespaces, ValidAfter, ValidBefore}
 
 -- no two words have the same length

@@ -1,5 +1,4 @@
 pub mod OneValue
-pub mod Times
 pub mod SignerOptions
 pub mod Principals
 pub mod AllowedSigners

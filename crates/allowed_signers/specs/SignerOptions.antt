@@ -3,9 +3,9 @@ use Rattle.std.specs.Prelude.{◌≡◌, ◌≢◌, ◌<◌, ◌≤◌, ◌-◌,
 use Rattle.sshkey_entries.specs.KnownHosts.{comma}
 use Rattle.sshkey_entries.specs.OptionItems.{KeyOption, AreKeyOptions, IsSameName}
 use Rattle.sshkey_entries.specs.Patterns.{MatchesList}
-use Rattle.allowed_signers.specs.Times.{IsTimeText}
+use Rattle.sshkey_times.specs.Times.{IsTimeText}
 use Rattle.allowed_signers.specs.declared.options.SignerOptions.{SignerOptions}
-use Rattle.allowed_signers.specs.declared.times.Span.{Span}
+use Rattle.sshkey_times.specs.declared.times.Span.{Span}
 use Rattle.allowed_signers.specs.declared.options.Word.{Word}
 use Rattle.allowed_signers.specs.declared.options.Word.TheVariants.{CertAuthority, Namespaces, ValidAfter, ValidBefore}
 

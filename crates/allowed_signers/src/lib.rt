@@ -8,6 +8,5 @@
 mod line;
 mod options;
 mod signers;
-mod times;
 
 pub use signers::{Refusal, verify};

@@ -7,10 +7,10 @@ ghost use Rattle.sshkey_entries.specs.Patterns.{MatchesList};
 ghost use Rattle.allowed_signers.specs.OneValue.{IsTheOne, ReadsTheOne};
 ghost use Rattle.allowed_signers.specs.SignerOptions.{AddsOption, AddsValue, AreTerms, AreTimesInOrder, IsTimeValue, Permits, no_terms, terms_of, word_text};
 
-use crate::times::{Span, read_time};
 use sshkey_authorized_keys::{OpenSshOption, OpenSshOptions};
 use sshkey_base::Result;
 use sshkey_entries::{LetterCase, matches_pattern_list};
+use sshkey_times::{Span, read_time};
 use std::alloc::Global;
 
 /// The name of an option.

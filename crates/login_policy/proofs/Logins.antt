@@ -13,7 +13,8 @@ use Rattle.sshkey_cert.specs.Validity.{fingerprints_of, refusal_of}
 use Rattle.sshkey_cert.specs.declared.certificate.refusal.CertificateRefusal.{CertificateRefusal}
 use Rattle.sshkey_cert.proofs.Given.{fingerprint_memory, signer_fits}
 use Rattle.sshkey_fingerprints.specs.Fingerprints.{digest_of}
-use Rattle.sshkey_fingerprints.specs.declared.fingerprint.Fingerprint as code
+use Rattle.sshkey_cert.specs.CertificateValues.{certificate_of}
+use Rattle.sshkey_cert.specs.declared.certificate.Certificate as code
 use Rattle.sshkey_keys.specs.Fingerprints.{GivesFingerprint, IsFingerprint, IsShort}
 use Rattle.sshkey_krl.specs.Revocations.{is_certificate_revoked}
 use Rattle.sshkey_model.specs.Certificates.{Certificate, HasCertificatePlaces, IsCertificate, certificate, normal_certificate}
@@ -68,12 +69,9 @@ ran_out e r (inr is) memory = absurd (is.0 memory)
 
 -- ---- the authority
 
-pub own_authority : (given : List code.Fingerprint) (c : Certificate) (k : Key) (f : code.Fingerprint) (d : List ℕ) (found : Bool) → k ≡ c.signed.signature_key → IsFingerprint Sha256 k f → d ≡ digest_of f → found ≡ list_any (same_fingerprint (record { hash = Sha256; digest = d })) (fingerprints_of given) → found ≡ has_trusted_authority (fingerprints_of given) c
-own_authority given c k f d found key is of told = told ∙ ap (λ (x : List ℕ). list_any (same_fingerprint (record { hash = Sha256; digest = x })) (fingerprints_of given)) (of ∙ is.digest ∙ ap (λ (j : Key). digest Sha256 (flat (normal_key j))) key)
-
--- of a key that fits only memory is refused, and only if it is long
-pub long_key : (c : Certificate) (k : Key) (e : Error) → k ≡ c.signed.signature_key → BoxesFit (normal_key c.signed.signature_key) → GivesFingerprint Sha256 k (Err e) → (IsShort k → ⊥) → (e ≡ error.Memory) × (IsShort c.signed.signature_key → ⊥)
-long_key c k e key fits gives long = (fingerprint_memory Sha256 k (Err e) (subst (λ (j : Key). BoxesFit (normal_key j)) (sym key) fits) gives, subst (λ (j : Key). IsShort j → ⊥) key long)
+-- what is wrong with a certificate that is known to be by one of these, is what is wrong with it for all of them
+pub refusal_by_these : (accepts : Question → Bool) (given : List Fingerprint) (t : ℕ) (user : List ℕ) (by c : code.Certificate) (found : Option CertificateRefusal) → by ≡ c → has_trusted_authority given (certificate_of c) ≡ true → ((authorities : List Fingerprint) → has_trusted_authority authorities (certificate_of by) ≡ true → option_map refusal_of found ≡ first_refusal_for accepts authorities t user (certificate_of by)) → option_map refusal_of found ≡ first_refusal_for accepts given t user (certificate_of c)
+refusal_by_these accepts given t user by c found same trusted says = subst (λ (x : code.Certificate). option_map refusal_of found ≡ first_refusal_for accepts given t user (certificate_of x)) same (says given (subst (λ (x : code.Certificate). has_trusted_authority given (certificate_of x) ≡ true) (sym same) trusted))
 
 module _ (law : RefuseTheUnwanted) (accepts : Question → Bool) (authorities : List Fingerprint) (t : ℕ) (user : List ℕ) (c : Certificate) where
   pub invalid : (w : model.Refusal) → first_refusal_for accepts authorities t user c ≡ Some w → IsValidFor accepts authorities t user c → ⊥

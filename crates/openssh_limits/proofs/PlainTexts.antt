@@ -4,7 +4,7 @@ use Rattle.std.proofs.lemmas.Bool.{cases_lt, eqb-true}
 use Rattle.std.proofs.lemmas.Bool.Decides.{nat_tests}
 use Rattle.std.proofs.lemmas.List.{get_or_default, length-map}
 use Rattle.std.proofs.lemmas.List.Elements.{All-cons, All-head, All-map, All-nil, All-tail}
-use Rattle.std.specs.Prelude.{◌==◌, All, String, string_bytes}
+use Rattle.std.specs.Prelude.{◌==◌, All, String, replicate, string_bytes}
 use Rattle.sshkey_model.specs.Lines.{IsWithout}
 use Rattle.openssh_limits.specs.Keys.{is_read_text}
 use Rattle.openssh_limits.specs.Read.{AreReadPrincipals}
@@ -37,6 +37,10 @@ one_more P xs i x lt is one before k d l = elim (cases_lt k i) [
 ]
 
 -- ---- principals
+
+pub all_same : {X : Type 0} (P : X → Type 0) (x : X) → P x → (n : ℕ) → All P (replicate n x)
+all_same P x is zero = All-nil P
+all_same P x is (suc n) = All-cons P x (replicate n x) is (all_same P x is n)
 
 pub too_many : {Y : Type 0} (names : List (String Y)) → 256 < length names → AreReadPrincipals (map string_bytes names) → ⊥
 too_many names many read = omega (arith, many, read.few, length-map names string_bytes)

@@ -1,3 +1,4 @@
 pub mod Read
 pub mod Keys
 pub mod KeyExamples
+pub mod ReadExamples

@@ -3,11 +3,11 @@ use Rattle.std.specs.Prelude.{◌≡◌, ℕ, List, [], ◌∷◌, ◌-◌, ◌^
 use Rattle.sshkey_model.specs.HexText.{hex}
 use Rattle.sshkey_model.specs.Keys.{Key, Ecdsa, Ed25519, Rsa}
 use Rattle.sshkey_model.specs.Names.{Nistp256}
-use Rattle.sshkey_model.specs.Reading.{FormatEncoding, Version}
-use Rattle.sshkey_krl.specs.Krls.{version_from}
+use Rattle.sshkey_model.specs.Reading.{FormatEncoding, Version, whole}
+use Rattle.sshkey_krl.specs.Krls.{krl_format, version_from}
 use Rattle.sshkey_krl.specs.Parts as parts
 use Rattle.sshkey_krl.specs.Parts.{text_from}
-use Rattle.sshkey_krl.specs.Revocation.{KeyIds, Numbers, grant, has_grant, without_zero}
+use Rattle.sshkey_krl.specs.Revocation.{Certificates, Everybody, KeyIds, Numbers, grant, has_grant, without_zero}
 use Rattle.sshkey_krl.specs.Sections as sections
 use Rattle.sshkey_krl.specs.Sections.{is_read_signer}
 use Rattle.sshkey_krl.specs.Serials.{Bitmap, Listed, Range, fits, has_serial, is_bitmap, range_from, serial_from}
@@ -17,6 +17,13 @@ use Rattle.sshkey_krl.specs.declared.section.SectionKind.TheVariants as section
 -- the bitmap that `ssh-keygen -k` writes of `serial: 5-10`, 20, 22, 23 and 25, from 5 on
 abbrev bits : List ℕ
 bits = hex "16803f"
+
+-- what `ssh-keygen -k -s none -z 3` writes of these numbers and of `id: ab`
+abbrev listed : List ℕ
+listed = hex "5353484b524c0a00 00000001 0000000000000003 000000006b0ba513 0000000000000000 00000000 00000000 01 00000027 00000000 00000000 22 0000000f 0000000000000005 00000003 16803f 23 00000006 00000002 6162"
+
+abbrev pub WholeList : Type 0
+WholeList = whole krl_format.read listed ≡ Ok (record { number = 3; date = 0x6b0ba513; flags = 0; reserved = []; comment = []; sections = Certificates Everybody (Numbers (Bitmap 5 bits) ∷ KeyIds (codes "ab" ∷ []) ∷ []) ∷ [] })
 
 -- Both ends of a range and of the bits are in it, the numbers beside them are not.
 abbrev pub SerialEdges : Type 0

@@ -1,6 +1,11 @@
 //! Worked examples of key revocation lists, on both sides of each edge.
 
-ghost use Rattle.sshkey_krl.specs.KrlExamples.{Authorities, BitmapEdges, BitmapSizes, Kinds, NumberEdges, SerialEdges, TextEdges};
+ghost use Rattle.sshkey_krl.specs.KrlExamples.{Authorities, BitmapEdges, BitmapSizes, Kinds, NumberEdges, SerialEdges, TextEdges, WholeList};
+
+/// A list.
+pub fn whole_list()
+    ensures { WholeList }
+{}
 
 /// Both ends of ranges and bitmaps.
 pub fn serial_edges()

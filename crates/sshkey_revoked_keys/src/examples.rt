@@ -1,10 +1,15 @@
 //! Worked examples of revocation files, on both sides of each edge.
 
-ghost use Rattle.sshkey_revoked_keys.specs.LineExamples.{Beginnings, Lines, Returns};
+ghost use Rattle.sshkey_revoked_keys.specs.LineExamples.{Beginnings, CertificateNames, Lines, Returns};
 
 /// Lines of a text.
 pub fn lines()
     ensures { Lines }
+{}
+
+/// Names of certificates.
+pub fn certificate_names()
+    ensures { CertificateNames }
 {}
 
 /// Carriage returns.

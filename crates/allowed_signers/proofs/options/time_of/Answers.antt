@@ -2,7 +2,7 @@ use Rattle.std.proofs.Common.{◌≡◌, ◌∙◌, Global, List, Option, Some, 
 use Rattle.std.specs.Prelude.{String, option_map, string_bytes}
 use Rattle.allowed_signers.specs.OneValue.{IsTheOne}
 use Rattle.allowed_signers.specs.SignerOptions.{IsTimeValue}
-use Rattle.allowed_signers.specs.declared.times.Span.{Span}
+use Rattle.sshkey_times.specs.declared.times.Span.{Span}
 use Rattle.allowed_signers.proofs.Words.{time_read}
 use Rattle.allowed_signers.proofs.options.time_of.Goals as goal
 

@@ -1,0 +1,5 @@
+mod Added
+mod Hosts
+mod Tables
+pub mod Told
+mod Variables

@@ -1,0 +1,47 @@
+use Rattle.std.proofs.Common.{List, ◌∷◌, refl, inl, inr, ℕ}
+use Rattle.std.specs.Prelude.{codes}
+use Rattle.login_terms.specs.Words.{no_words}
+use Rattle.login_terms.specs.declared.words.Flag.TheVariants as flag
+use Rattle.login_terms.specs.declared.words.Word.{Word}
+use Rattle.login_terms.specs.declared.words.Word.TheVariants as word
+use Rattle.login_terms.proofs.Tables.{behind, not_so}
+use Rattle.login_terms.proofs.words.word_of.Goals as goal
+
+pub returns-then-is_same : goal.returns-then-is_same
+returns-then-is_same c = inl (c.is_same.ensures.0 c.if-is_same.true, refl)
+
+pub returns-then-is_same-2 : goal.returns-then-is_same-2
+returns-then-is_same-2 c = inr (not_so _ _ c.is_same.ensures c.if-is_same.false, inl (c.is_same-2.ensures.0 c.if-is_same-2.true, refl))
+
+pub returns-then-is_same-3 : goal.returns-then-is_same-3
+returns-then-is_same-3 c = inr (not_so _ _ c.is_same.ensures c.if-is_same.false, inr (not_so _ _ c.is_same-2.ensures c.if-is_same-2.false, inl (c.is_same-3.ensures.0 c.if-is_same-3.true, refl)))
+
+pub returns-then-is_same-4 : goal.returns-then-is_same-4
+returns-then-is_same-4 c = inr (not_so _ _ c.is_same.ensures c.if-is_same.false, inr (not_so _ _ c.is_same-2.ensures c.if-is_same-2.false, inr (not_so _ _ c.is_same-3.ensures c.if-is_same-3.false, inl (c.is_same-4.ensures.0 c.if-is_same-4.true, refl))))
+
+pub returns-then-is_same-5 : goal.returns-then-is_same-5
+returns-then-is_same-5 c = inr (not_so _ _ c.is_same.ensures c.if-is_same.false, inr (not_so _ _ c.is_same-2.ensures c.if-is_same-2.false, inr (not_so _ _ c.is_same-3.ensures c.if-is_same-3.false, inr (not_so _ _ c.is_same-4.ensures c.if-is_same-4.false, inl (c.is_same-5.ensures.0 c.if-is_same-5.true, refl)))))
+
+pub returns-then-is_same-6 : goal.returns-then-is_same-6
+returns-then-is_same-6 c = inr (not_so _ _ c.is_same.ensures c.if-is_same.false, inr (not_so _ _ c.is_same-2.ensures c.if-is_same-2.false, inr (not_so _ _ c.is_same-3.ensures c.if-is_same-3.false, inr (not_so _ _ c.is_same-4.ensures c.if-is_same-4.false, inr (not_so _ _ c.is_same-5.ensures c.if-is_same-5.false, inl (c.is_same-6.ensures.0 c.if-is_same-6.true, refl))))))
+
+pub returns-then-is_same-7 : goal.returns-then-is_same-7
+returns-then-is_same-7 c = inr (not_so _ _ c.is_same.ensures c.if-is_same.false, inr (not_so _ _ c.is_same-2.ensures c.if-is_same-2.false, inr (not_so _ _ c.is_same-3.ensures c.if-is_same-3.false, inr (not_so _ _ c.is_same-4.ensures c.if-is_same-4.false, inr (not_so _ _ c.is_same-5.ensures c.if-is_same-5.false, inr (not_so _ _ c.is_same-6.ensures c.if-is_same-6.false, inl (c.is_same-7.ensures.0 c.if-is_same-7.true, refl)))))))
+
+pub returns : goal.returns
+returns c =
+    let t7 : List (List ℕ × Word) = no_words in
+    let t6 : List (List ℕ × Word) = (codes "verify-required", (word.Allow flag.VerifyRequired)) ∷ t7 in
+    let t5 : List (List ℕ × Word) = (codes "touch-required", (word.Allow flag.TouchRequired)) ∷ t6 in
+    let t4 : List (List ℕ × Word) = (codes "user-rc", (word.Allow flag.UserRc)) ∷ t5 in
+    let t3 : List (List ℕ × Word) = (codes "pty", (word.Allow flag.Pty)) ∷ t4 in
+    let t2 : List (List ℕ × Word) = (codes "x11-forwarding", (word.Allow flag.X11Forwarding)) ∷ t3 in
+    let t1 : List (List ℕ × Word) = (codes "agent-forwarding", (word.Allow flag.AgentForwarding)) ∷ t2 in
+    behind (codes "port-forwarding", (word.Allow flag.PortForwarding)) t1 c.args.name.now c.denying_word_of.result (not_so _ _ c.is_same.ensures c.if-is_same.false)
+    (behind (codes "agent-forwarding", (word.Allow flag.AgentForwarding)) t2 c.args.name.now c.denying_word_of.result (not_so _ _ c.is_same-2.ensures c.if-is_same-2.false)
+    (behind (codes "x11-forwarding", (word.Allow flag.X11Forwarding)) t3 c.args.name.now c.denying_word_of.result (not_so _ _ c.is_same-3.ensures c.if-is_same-3.false)
+    (behind (codes "pty", (word.Allow flag.Pty)) t4 c.args.name.now c.denying_word_of.result (not_so _ _ c.is_same-4.ensures c.if-is_same-4.false)
+    (behind (codes "user-rc", (word.Allow flag.UserRc)) t5 c.args.name.now c.denying_word_of.result (not_so _ _ c.is_same-5.ensures c.if-is_same-5.false)
+    (behind (codes "touch-required", (word.Allow flag.TouchRequired)) t6 c.args.name.now c.denying_word_of.result (not_so _ _ c.is_same-6.ensures c.if-is_same-6.false)
+    (behind (codes "verify-required", (word.Allow flag.VerifyRequired)) t7 c.args.name.now c.denying_word_of.result (not_so _ _ c.is_same-7.ensures c.if-is_same-7.false)
+    (c.denying_word_of.ensures)))))))

@@ -1,0 +1,4 @@
+pub mod Readings
+pub mod Values
+pub mod Words
+pub mod Terms

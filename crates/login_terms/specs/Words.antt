@@ -1,0 +1,49 @@
+-- The names of options (sshd(8), "AUTHORIZED_KEYS FILE FORMAT").
+use Rattle.std.specs.Prelude.{◌≡◌, ◌⊎◌, ℕ, List, [], ◌∷◌, Option, Some, None, codes}
+use Rattle.sshkey_entries.specs.OptionItems.{IsSameName}
+use Rattle.login_terms.specs.declared.words.Flag.TheVariants as flag
+use Rattle.login_terms.specs.declared.words.Word.{Word}
+use Rattle.login_terms.specs.declared.words.Word.TheVariants as word
+
+abbrev pub other_words : List (List ℕ × Word)
+other_words = (codes "restrict", word.Restrict) ∷
+    (codes "cert-authority", word.CertAuthority) ∷
+    (codes "command", word.Command) ∷
+    (codes "principals", word.Principals) ∷
+    (codes "from", word.From) ∷
+    (codes "expiry-time", word.ExpiryTime) ∷
+    (codes "environment", word.Environment) ∷
+    (codes "permitopen", word.PermitOpen) ∷
+    (codes "permitlisten", word.PermitListen) ∷
+    (codes "tunnel", word.Tunnel) ∷
+    []
+
+-- a flag with `no-` in front turns it off
+abbrev pub no_words : List (List ℕ × Word)
+no_words = (codes "no-port-forwarding", word.Deny flag.PortForwarding) ∷
+    (codes "no-agent-forwarding", word.Deny flag.AgentForwarding) ∷
+    (codes "no-x11-forwarding", word.Deny flag.X11Forwarding) ∷
+    (codes "no-pty", word.Deny flag.Pty) ∷
+    (codes "no-user-rc", word.Deny flag.UserRc) ∷
+    (codes "no-touch-required", word.Deny flag.TouchRequired) ∷
+    (codes "no-verify-required", word.Deny flag.VerifyRequired) ∷
+    other_words
+
+abbrev pub words : List (List ℕ × Word)
+words = (codes "port-forwarding", word.Allow flag.PortForwarding) ∷
+    (codes "agent-forwarding", word.Allow flag.AgentForwarding) ∷
+    (codes "x11-forwarding", word.Allow flag.X11Forwarding) ∷
+    (codes "pty", word.Allow flag.Pty) ∷
+    (codes "user-rc", word.Allow flag.UserRc) ∷
+    (codes "touch-required", word.Allow flag.TouchRequired) ∷
+    (codes "verify-required", word.Allow flag.VerifyRequired) ∷
+    no_words
+
+-- The name is the first of these that is the same, letters in either case.
+abbrev pub Names : List (List ℕ × Word) → List ℕ → Word → Type 0
+Names [] name w = ⊥
+Names (row ∷ more) name w = (IsSameName name row.0 × (w ≡ row.1)) ⊎ ((IsSameName name row.0 → ⊥) × Names more name w)
+
+abbrev pub FindsWord : List (List ℕ × Word) → List ℕ → Option Word → Type 0
+FindsWord table name None = (w : Word) → Names table name w → ⊥
+FindsWord table name (Some w) = Names table name w

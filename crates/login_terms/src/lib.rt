@@ -1,0 +1,18 @@
+//! What the options of a line of authorized_keys bind a login to (sshd(8), "AUTHORIZED_KEYS FILE
+//! FORMAT"), and what a certificate's options say beside them.
+#![tactic(auto)]
+
+mod numbers;
+mod options;
+mod permissions;
+mod permits;
+mod reading;
+mod terms;
+mod values;
+mod words;
+
+pub use permissions::Permissions;
+pub use permits::Permit;
+pub use reading::Reading;
+pub use terms::Terms;
+pub use values::ANY_TUNNEL;

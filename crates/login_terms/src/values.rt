@@ -1,0 +1,78 @@
+//! Times, variables and devices.
+
+ghost use Rattle.std.specs.Prelude.{◌≡◌, ◌↔◌, IsTrue};
+ghost use Rattle.std.specs.List.{list_all};
+ghost use Rattle.login_terms.specs.Readings.{IsTheOne, Tells};
+ghost use Rattle.login_terms.specs.Values.{IsTunnel, IsVariable, IsVariableName, MayBeTime, MayBeTunnel, is_variable_character};
+ghost use Rattle.sshkey_times.specs.Times.{IsTimeText};
+
+use crate::numbers::read_number;
+use crate::reading::Reading;
+use sshkey_times::{Span, read_time};
+
+/// The number that stands for any device (SSH_TUNID_ANY).
+pub const ANY_TUNNEL: u32 = 0x7fff_ffff;
+
+/// The greatest number of a device (SSH_TUNID_MAX).
+const LAST_TUNNEL: u32 = 0x7fff_fffd;
+
+/// The value of `expiry-time`: the seconds that it may be.
+pub(crate) fn read_expiry(text: &str) -> Reading<Span>
+    ensures { Tells (λ s. s) (IsTimeText text.now) (MayBeTime text.now) result }
+{
+    match read_time(text) {
+        Some(span) => Reading::Is(span),
+        None => if text.contains(' ') {
+            Reading::Unclear
+        } else {
+            Reading::Rejected
+        },
+    }
+}
+
+/// The value of `tunnel`: a device's number, or any.
+pub(crate) fn read_tunnel(text: &str) -> Reading<u32>
+    ensures { Tells (λ n. n) (IsTunnel text.now) (MayBeTunnel text.now) result }
+{
+    if text.eq_ignore_ascii_case("any") {
+        return Reading::Is(ANY_TUNNEL);
+    }
+    let Some(number) = read_number(text) else {
+        return Reading::Unclear;
+    };
+    if number > LAST_TUNNEL {
+        return Reading::Rejected;
+    }
+    Reading::Is(number)
+}
+
+/// The name of a variable, of which `environment` gives the value: what stands before the `=`.
+pub(crate) fn variable_name(text: &str) -> Option<&str>
+    ensures { IsTheOne (λ name. name.now) (IsVariable text.now) result }
+{
+    let Some((name, _)) = text.split_once('=') else {
+        return None;
+    };
+    if !is_variable_name(name) {
+        return None;
+    }
+    Some(name)
+}
+
+fn is_variable_name(name: &str) -> bool
+    ensures { IsTrue result ↔ IsVariableName name.now }
+{
+    !name.is_empty() && are_variable_characters(name.as_bytes())
+}
+
+fn are_variable_characters(name: &[u8]) -> bool
+    ensures { result ≡ list_all is_variable_character name.now }
+{
+    name.iter().all(|byte| is_variable_character(*byte))
+}
+
+fn is_variable_character(byte: u8) -> bool
+    ensures { result ≡ is_variable_character byte }
+{
+    byte.is_ascii_alphanumeric() || byte == b'_'
+}
