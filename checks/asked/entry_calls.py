@@ -232,6 +232,13 @@ def check_example(count, folder):
         one = run([sys.executable, script, "--revoked", file.name, "h.example", "22", path], input=f"{keys['ED25519']}\n")
         same = (one.returncode, one.stdout) == wanted and bool(one.stderr) == (wanted[0] == 2)
         count.check(f"host.py, and a file revokes {name}", same, one)
+    with open(f"{folder}/more-revoked", "w", encoding="ascii") as file:
+        file.write(keys["ED25519"])
+    given = [f"{folder}/more-revoked", f"{folder}/revoked-hosts", os.devnull]
+    for files, wanted in ((given, (2, "")), (given[::2], (1, "revoked\n")), (given[::-2], (1, "revoked\n"))):
+        named = [word for it in files for word in ("--revoked", it)]
+        one = run([sys.executable, script, *named, "h.example", "22", path], input=f"{keys['ED25519']}\n")
+        count.check(f"host.py, and {len(files)} files", (one.returncode, one.stdout) == wanted, one)
     none = run([sys.executable, script, "h.example", "22", path], input="")
     count.check("and with 2 where there is no key", none.returncode == 2 and none.stderr and not none.stdout, none.stdout, none.stderr)
 
