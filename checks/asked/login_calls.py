@@ -301,8 +301,9 @@ return 0;
 
 
 def blocks(language, heading="The lines that matter"):
-    """The code that docs/FOREIGN.md shows under a heading; before its first lines come those of README."""
-    shown = {"README.md": "A login"} if heading == "The lines that matter" else {}
+    """The code that docs/FOREIGN.md shows under a heading; before its first lines come those of README, which has none in Rust: what
+    is marked so there is Rattle."""
+    shown = {"README.md": "A login"} if heading == "The lines that matter" and language != "rust" else {}
     found = []
     for path, wanted in {**shown, "docs/FOREIGN.md": heading}.items():
         with open(f"{ROOT}/{path}", encoding="utf-8") as file:
