@@ -31,9 +31,8 @@ use std::net::IpAddr;
 /// A login that is asked for, and whom the server trusts.
 #[derive(Debug, Clone, Copy)]
 pub struct Login<'a> {
-    /// The bytes of the certificate, as the client sent them. Do not write them anew after
-    /// `let certificate = Certificate::from_openssh(alloc, line)?;`: those of a `Certificate` are
-    /// always its normal form.
+    /// The bytes of the certificate, as the client sent them. Do not write them anew from a
+    /// `Certificate`, whose bytes are always its normal form.
     pub certificate: &'a [u8],
     /// The name of the user who is to be let in.
     pub user: &'a str,
