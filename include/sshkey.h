@@ -813,8 +813,8 @@ uint32_t sshkey_host_certificate_verdict(const sshkey_host_login *login,
  * and comments are counted.
  *
  * SSHKEY_DONE exactly if there is one, and SSHKEY_END if there is none (SSHKEY_MEMORY aside);
- * SSHKEY_TEXT where the text or the host is not UTF-8. A text that is empty or has comments alone
- * takes no memory. */
+ * SSHKEY_TEXT where the text or the host is not UTF-8. Memory is taken only for a line that is
+ * neither empty nor a comment. */
 uint32_t sshkey_unreadable_host_line(const uint8_t *known_hosts, size_t known_hosts_length,
                                      const uint8_t *host, size_t host_length, uint16_t port,
                                      size_t *number);

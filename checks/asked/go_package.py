@@ -26,17 +26,6 @@ func letIn(sshkey.Grant) {{ fmt.Println("let in") }}
 func logIn(authorities []sshkey.SHA256, peer netip.Addr, blob, key []byte) {{
 {0}}}
 
-func twoCalls(blob []byte, authorities []sshkey.SHA256) error {{
-{1}	return err
-}}
-
-func said(err error) string {{
-	if err == nil {{
-		return "valid"
-	}}
-	return "refused: " + err.Error()
-}}
-
 func blobOf(line string) []byte {{
 	found, err := sshkey.ReadLine(line)
 	if err != nil {{
@@ -50,9 +39,7 @@ func main() {{
 	if err != nil {{
 		panic(err)
 	}}
-	blob := blobOf(os.Args[2])
-	logIn(authorities, netip.MustParseAddr("192.0.2.1"), blob, blobOf(os.Args[3]))
-	fmt.Println(said(twoCalls(blob, authorities)))
+	logIn(authorities, netip.MustParseAddr("192.0.2.1"), blobOf(os.Args[2]), blobOf(os.Args[3]))
 }}
 """
 

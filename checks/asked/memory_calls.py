@@ -24,6 +24,8 @@ OF_OTHER_NAMES = {"key_normal", "fingerprint_sha512", "krl_revokes_key"}
 OTHER_NAME = "rsa-sha2-256"
 # those that do without the memory that they ask for, as the header says, where no authority's key is under another name
 DOING_WITHOUT = {"certificate_validate", "certificate_validate_for"}
+# those that need no more of it where a revocation file decides: revoked, or not read
+DECIDED = {("host_key_verdict", 50), ("host_key_verdict", 58), ("host_certificate_verdict", 50), ("host_certificate_verdict", 58)}
 
 
 def of_certificate(blob, authority, second, key):
@@ -293,4 +295,6 @@ def is_kept(call, wanted, answer):
     number, made, once, behind = answer.split() if answer.count(" ") == 3 else ("none", *"000")
     if call in DOING_WITHOUT:
         return number == str(int(wanted)) and once == behind == "0"
+    if (call, int(wanted)) in DECIDED:
+        return number == str(int(wanted)) and once == behind
     return number == str(int(wanted)) and made == behind and int(made) - int(once) in (0, 1)

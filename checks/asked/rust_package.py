@@ -79,21 +79,9 @@ fn log_in(
 {0}
     Ok(())
 }}
-fn two_calls(
-    certificate: Vec<u8>, authority: sshkey::Sha256, unix_timestamp: u64,
-) -> Result<(), sshkey::Status> {{
-    let authorities = [authority];
-{1}
-    valid
-}}
 fn main() {{
     let words: Vec<String> = std::env::args().collect();
     let blob = |at: usize| sshkey::read_line(&words[at]).unwrap().blob;
-    let second = SystemTime::now().duration_since(UNIX_EPOCH).unwrap().as_secs();
     log_in(&words[1], &words[2], &blob(3), Ipv4Addr::LOCALHOST.into()).unwrap();
-    match two_calls(blob(2), sshkey::fingerprint(&blob(1)).unwrap(), second) {{
-        Ok(()) => println!("valid"),
-        Err(status) => println!("refused: {{status}}"),
-    }}
 }}
 """
