@@ -66,7 +66,6 @@ class Rust:
 # ---- what docs/FOREIGN.md shows
 
 PAGE = """\
-use sshkey::is_signature;
 use std::net::{{IpAddr, Ipv4Addr}};
 use std::time::{{SystemTime, UNIX_EPOCH}};
 fn let_in(grant: &sshkey::Grant) {{

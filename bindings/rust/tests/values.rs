@@ -68,7 +68,8 @@ fn a_later_kind_of_key_is_passed_over() {
     let found = |lines: &[&str]| sshkey::authorities(lines.join("\n").as_bytes());
     let both = Authorities { keys: vec![key, key], other_lines: vec![4] };
     assert_eq!(found(&["# keys", line, "", later, line]), Ok(both));
-    let refused = found(&[later, "", "ssh-later AAAACXNzaC1sYXRlcg", line]).unwrap_err();
+    // the string "ssh-other" stands in the third line
+    let refused = found(&[later, "", "ssh-later AAAACXNzaC1vdGhlcgAAAAA=", line]).unwrap_err();
     assert_eq!((refused.line, refused.status), (3, Status::LABEL));
     assert_eq!(found(&[]), Ok(Authorities::default()));
 }
