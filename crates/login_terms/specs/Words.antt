@@ -4,9 +4,25 @@ use Rattle.sshkey_entries.specs.OptionItems.{IsSameName}
 use Rattle.login_terms.specs.declared.words.Flag.TheVariants as flag
 use Rattle.login_terms.specs.declared.words.Word.{Word}
 use Rattle.login_terms.specs.declared.words.Word.TheVariants as word
+use denote.Ref.{Bor}
 
-abbrev pub other_words : List (List ℕ × Word)
-other_words = (codes "restrict", word.Restrict) ∷
+-- `no-` in front of a flag turns it off
+abbrev pub words : List (List ℕ × Word)
+words = (codes "port-forwarding", word.Allow flag.PortForwarding) ∷
+    (codes "agent-forwarding", word.Allow flag.AgentForwarding) ∷
+    (codes "x11-forwarding", word.Allow flag.X11Forwarding) ∷
+    (codes "pty", word.Allow flag.Pty) ∷
+    (codes "user-rc", word.Allow flag.UserRc) ∷
+    (codes "touch-required", word.Allow flag.TouchRequired) ∷
+    (codes "verify-required", word.Allow flag.VerifyRequired) ∷
+    (codes "no-port-forwarding", word.Deny flag.PortForwarding) ∷
+    (codes "no-agent-forwarding", word.Deny flag.AgentForwarding) ∷
+    (codes "no-x11-forwarding", word.Deny flag.X11Forwarding) ∷
+    (codes "no-pty", word.Deny flag.Pty) ∷
+    (codes "no-user-rc", word.Deny flag.UserRc) ∷
+    (codes "no-touch-required", word.Deny flag.TouchRequired) ∷
+    (codes "no-verify-required", word.Deny flag.VerifyRequired) ∷
+    (codes "restrict", word.Restrict) ∷
     (codes "cert-authority", word.CertAuthority) ∷
     (codes "command", word.Command) ∷
     (codes "principals", word.Principals) ∷
@@ -18,26 +34,9 @@ other_words = (codes "restrict", word.Restrict) ∷
     (codes "tunnel", word.Tunnel) ∷
     []
 
--- a flag with `no-` in front turns it off
-abbrev pub no_words : List (List ℕ × Word)
-no_words = (codes "no-port-forwarding", word.Deny flag.PortForwarding) ∷
-    (codes "no-agent-forwarding", word.Deny flag.AgentForwarding) ∷
-    (codes "no-x11-forwarding", word.Deny flag.X11Forwarding) ∷
-    (codes "no-pty", word.Deny flag.Pty) ∷
-    (codes "no-user-rc", word.Deny flag.UserRc) ∷
-    (codes "no-touch-required", word.Deny flag.TouchRequired) ∷
-    (codes "no-verify-required", word.Deny flag.VerifyRequired) ∷
-    other_words
-
-abbrev pub words : List (List ℕ × Word)
-words = (codes "port-forwarding", word.Allow flag.PortForwarding) ∷
-    (codes "agent-forwarding", word.Allow flag.AgentForwarding) ∷
-    (codes "x11-forwarding", word.Allow flag.X11Forwarding) ∷
-    (codes "pty", word.Allow flag.Pty) ∷
-    (codes "user-rc", word.Allow flag.UserRc) ∷
-    (codes "touch-required", word.Allow flag.TouchRequired) ∷
-    (codes "verify-required", word.Allow flag.VerifyRequired) ∷
-    no_words
+-- a row of the table that the code has
+abbrev pub row_of : Bor (List ℕ) × Word → List ℕ × Word
+row_of row = (row.0.now, row.1)
 
 -- The name is the first of these that is the same, letters in either case.
 abbrev pub Names : List (List ℕ × Word) → List ℕ → Word → Type 0

@@ -1,8 +1,8 @@
 //! The names of options.
 
-ghost use Rattle.std.specs.Prelude.{◌↔◌, IsTrue};
+ghost use Rattle.std.specs.Prelude.{◌↔◌, IsTrue, map};
 ghost use Rattle.sshkey_entries.specs.OptionItems.{IsSameName};
-ghost use Rattle.login_terms.specs.Words.{FindsWord, no_words, other_words, words};
+ghost use Rattle.login_terms.specs.Words.{FindsWord, row_of, words};
 
 /// An option that is a flag.
 #[derive(Clone, Copy)]
@@ -33,6 +33,34 @@ pub(crate) enum Word {
     Tunnel,
 }
 
+/// The options, and what names them.
+const WORDS: [(&str, Word); 24] = [
+    ("port-forwarding", Word::Allow(Flag::PortForwarding)),
+    ("agent-forwarding", Word::Allow(Flag::AgentForwarding)),
+    ("x11-forwarding", Word::Allow(Flag::X11Forwarding)),
+    ("pty", Word::Allow(Flag::Pty)),
+    ("user-rc", Word::Allow(Flag::UserRc)),
+    ("touch-required", Word::Allow(Flag::TouchRequired)),
+    ("verify-required", Word::Allow(Flag::VerifyRequired)),
+    ("no-port-forwarding", Word::Deny(Flag::PortForwarding)),
+    ("no-agent-forwarding", Word::Deny(Flag::AgentForwarding)),
+    ("no-x11-forwarding", Word::Deny(Flag::X11Forwarding)),
+    ("no-pty", Word::Deny(Flag::Pty)),
+    ("no-user-rc", Word::Deny(Flag::UserRc)),
+    ("no-touch-required", Word::Deny(Flag::TouchRequired)),
+    ("no-verify-required", Word::Deny(Flag::VerifyRequired)),
+    ("restrict", Word::Restrict),
+    ("cert-authority", Word::CertAuthority),
+    ("command", Word::Command),
+    ("principals", Word::Principals),
+    ("from", Word::From),
+    ("expiry-time", Word::ExpiryTime),
+    ("environment", Word::Environment),
+    ("permitopen", Word::PermitOpen),
+    ("permitlisten", Word::PermitListen),
+    ("tunnel", Word::Tunnel),
+];
+
 fn is_same(name: &str, other: &str) -> bool
     ensures { IsTrue result ↔ IsSameName name.now other.now }
 {
@@ -43,91 +71,17 @@ fn is_same(name: &str, other: &str) -> bool
 pub(crate) fn word_of(name: &str) -> Option<Word>
     ensures { FindsWord words name.now result }
 {
-    if is_same(name, "port-forwarding") {
-        return Some(Word::Allow(Flag::PortForwarding));
-    }
-    if is_same(name, "agent-forwarding") {
-        return Some(Word::Allow(Flag::AgentForwarding));
-    }
-    if is_same(name, "x11-forwarding") {
-        return Some(Word::Allow(Flag::X11Forwarding));
-    }
-    if is_same(name, "pty") {
-        return Some(Word::Allow(Flag::Pty));
-    }
-    if is_same(name, "user-rc") {
-        return Some(Word::Allow(Flag::UserRc));
-    }
-    if is_same(name, "touch-required") {
-        return Some(Word::Allow(Flag::TouchRequired));
-    }
-    if is_same(name, "verify-required") {
-        return Some(Word::Allow(Flag::VerifyRequired));
-    }
-    denying_word_of(name)
+    find(&WORDS, name)
 }
 
-/// Which of those that turn a flag off, and of the others.
-fn denying_word_of(name: &str) -> Option<Word>
-    ensures { FindsWord no_words name.now result }
+/// What the first row of that name stands for.
+fn find(table: &[(&str, Word)], name: &str) -> Option<Word>
+    ensures { FindsWord (map row_of table.now) name.now result }
 {
-    if is_same(name, "no-port-forwarding") {
-        return Some(Word::Deny(Flag::PortForwarding));
-    }
-    if is_same(name, "no-agent-forwarding") {
-        return Some(Word::Deny(Flag::AgentForwarding));
-    }
-    if is_same(name, "no-x11-forwarding") {
-        return Some(Word::Deny(Flag::X11Forwarding));
-    }
-    if is_same(name, "no-pty") {
-        return Some(Word::Deny(Flag::Pty));
-    }
-    if is_same(name, "no-user-rc") {
-        return Some(Word::Deny(Flag::UserRc));
-    }
-    if is_same(name, "no-touch-required") {
-        return Some(Word::Deny(Flag::TouchRequired));
-    }
-    if is_same(name, "no-verify-required") {
-        return Some(Word::Deny(Flag::VerifyRequired));
-    }
-    other_word_of(name)
-}
-
-/// Which of those that are no flags.
-fn other_word_of(name: &str) -> Option<Word>
-    ensures { FindsWord other_words name.now result }
-{
-    if is_same(name, "restrict") {
-        return Some(Word::Restrict);
-    }
-    if is_same(name, "cert-authority") {
-        return Some(Word::CertAuthority);
-    }
-    if is_same(name, "command") {
-        return Some(Word::Command);
-    }
-    if is_same(name, "principals") {
-        return Some(Word::Principals);
-    }
-    if is_same(name, "from") {
-        return Some(Word::From);
-    }
-    if is_same(name, "expiry-time") {
-        return Some(Word::ExpiryTime);
-    }
-    if is_same(name, "environment") {
-        return Some(Word::Environment);
-    }
-    if is_same(name, "permitopen") {
-        return Some(Word::PermitOpen);
-    }
-    if is_same(name, "permitlisten") {
-        return Some(Word::PermitListen);
-    }
-    if is_same(name, "tunnel") {
-        return Some(Word::Tunnel);
+    for row in table {
+        if is_same(name, row.0) {
+            return Some(row.1);
+        }
     }
     None
 }
