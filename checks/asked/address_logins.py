@@ -3,11 +3,11 @@ import os
 import types
 from concurrent.futures import ThreadPoolExecutor
 
-from lib.harness import string
+from lib.harness import SSHD, string
 
 from .address_questions import CERTIFICATE, LINE, is_for_sshd
 from .login_options import certificate
-from .option_lists import SSHD, Logins, has_ipv6
+from .option_lists import Logins, has_ipv6
 
 # a shell that another one has started reads no file of the user's, which may take long
 CONFIGURATION = """\

@@ -5,10 +5,10 @@ import getpass
 import os
 from concurrent.futures import ThreadPoolExecutor
 
-from lib.harness import blob_of, line_of, string, take
+from lib.harness import SSHD, blob_of, line_of, string, take
 
 from .linked import run
-from .principals import SSHD, login, logs_in
+from .principals import login, logs_in
 from .security_key_agent import Agent
 from .security_key_calls import COUNTER, TOUCHED, SecurityKey, certified
 

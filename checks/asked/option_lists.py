@@ -7,9 +7,8 @@ import socket
 import subprocess
 from concurrent.futures import ThreadPoolExecutor
 
-from lib.harness import Count, new_key, ssh_keygen
+from lib.harness import SSHD, Count, new_key, ssh_keygen
 
-SSHD = "/usr/sbin/sshd"
 SECONDS = 60
 # lists of `principals` in the line of an authority, and whether one lets in by a certificate that lists a
 PRINCIPALS = {

@@ -6,7 +6,7 @@ import shlex
 import subprocess
 from concurrent.futures import ThreadPoolExecutor
 
-from lib.harness import line_of
+from lib.harness import SSHD, line_of
 
 from .hosts import LATER
 from .linked import run
@@ -14,7 +14,6 @@ from .option_lists import Logins as OverTCP
 from .revocation_calls import made_list
 from .security_key_calls import COUNTER, SecurityKey, certified
 
-SSHD = "/usr/sbin/sshd"
 # a shell that another one has started reads no file of the user's, which may take long
 CONFIGURATION = """\
 SetEnv SHLVL=2

@@ -1,11 +1,15 @@
 """What the checks share: how they count, what they make with ssh-keygen, and how they spell questions of the table."""
 import base64
+import functools
 import os
 import re
+import shutil
 import struct
 import subprocess
 
 ROOT = os.path.dirname(os.path.dirname(os.path.dirname(os.path.abspath(__file__))))
+# that of the system is on no user's PATH, and checks/with-openssh has another one there
+SSHD = shutil.which("sshd", path=f"{os.environ.get('PATH', os.defpath)}:/usr/sbin") or "/usr/sbin/sshd"
 # the built program that answers lines of questions
 BUILT_TABLE = os.path.join(ROOT, "crates", "sshkey_cases", "out", "sshkey_cases")
 
@@ -65,6 +69,18 @@ def line_of(blob):
 def unarmoured(text):
     """The bytes in a text of Base64 between a first and a last line."""
     return base64.b64decode("".join(text.splitlines()[1:-1]))
+
+
+@functools.cache
+def openssh():
+    """The version of the programs that are first in PATH, as 10 and 6: where versions differ, a row says since which."""
+    said = subprocess.run(["ssh", "-V"], capture_output=True, encoding="utf-8", check=True).stderr
+    return tuple(map(int, re.match(r"OpenSSH_(\d+)\.(\d+)", said).groups()))
+
+
+def reads_dsa():
+    """Whether OpenSSH reads DSA."""
+    return openssh() < (10, 0)
 
 
 def ssh_keygen(*words, **how):

@@ -3,10 +3,12 @@ import os
 import shutil
 import subprocess
 
+from lib.harness import SSHD
+
 # packages of Debian, and what shows that they are there: a command, or words that succeed
 BY_SOURCES = {
     "openssh-client": "ssh-keygen",
-    "openssh-server": "/usr/sbin/sshd",
+    "openssh-server": SSHD,
     "python3-cryptography": ["python3", "-c", "import cryptography"],
 }  # fmt: skip
 BY_PROOFS = {

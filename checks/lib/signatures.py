@@ -4,7 +4,7 @@ import base64
 import hashlib
 import sys
 
-from lib.harness import blob_of, string, take
+from lib.harness import blob_of, line_of, string, take
 
 try:
     from cryptography.exceptions import InvalidSignature
@@ -62,6 +62,29 @@ def signed(private, key, message):
         return string(b"rsa-sha2-512") + string(private.sign(message, padding.PKCS1v15(), hashes.SHA512()))
     r, s = utils.decode_dss_signature(private.sign(message, ec.ECDSA(HASHES[algorithm]())))
     return string(algorithm.encode()) + string(mpint(r) + mpint(s))
+
+
+# ---- certificates
+
+# the names that an authority's key begins with
+AUTHORITIES = [b"ssh-ed25519", b"ssh-rsa", *(f"ecdsa-sha2-nistp{it}".encode() for it in (256, 384, 521))]
+
+
+def told_of_certificate(line):
+    """The line that tells of a certificate's signature: it stands last, over all that stands before it, behind the key that
+    made it (PROTOCOL.certkeys)."""
+    blob = blob_of(line)
+    # the signature's own length tells where it begins
+    for start in range(len(blob) - 4):
+        if int.from_bytes(blob[start : start + 4], "big") == len(blob) - start - 4:
+            signature, message = blob[start + 4 :], blob[:start]
+            # a key has a name, and a number of eight bytes may look like no key and a length
+            for before in range(start - 8):
+                key = message[before + 4 :]
+                # a time may look like a length
+                if int.from_bytes(message[before : before + 4], "big") == len(key) and take(key)[0] in AUTHORITIES:
+                    return told(line_of(key), signature, message)
+    return None
 
 
 # ---- SSH signatures
