@@ -6,7 +6,9 @@ import tempfile
 from concurrent.futures import ThreadPoolExecutor
 
 from lib.asking import of_table, share
-from lib.harness import blob_of, new_key, ssh_keygen, string, take
+from lib.harness import blob_of, new_key, openssh, reads_dsa, ssh_keygen, string, take
+
+from .hosts import LATER
 
 # how many files are changed, and how often each answer has to come
 CHANGED, LEAST = 160, 60
@@ -20,7 +22,7 @@ BY_HAND = [
     "{name} {word},x\n", "ssh-rsa {word}\n", "SSH-ED25519 {word}\n", "ssh-ed25519-cert-v01@openssh.com {word}\n", "no-pty {key}\n",
     "* {key}\n", "@revoked * {key}\n", 'command="x" {key}\n', "{other}\n{key}\n", "{key}\nx\n", "x\n{key}\n", "{other}\nx\n", "{other}\n",
     "{certificate}\n", "{certificate} x\n", "{signer}\n", "{host}\n", "{name} {cert_word}\n", "{small}\n", "{small}\n{key}\n",
-    "{private}\n", "{large}\n", "{greatest}\n", "{greatest}\n{key}\n", "{negative}\n", "{negative_exponent}\n", "{dsa}\n", "{negative_dsa}\n",
+    "{private}\n", "{large}\n", "{greatest}\n", "{greatest}\n{key}\n", "{negative}\n", "{negative_exponent}\n", "{negative_dsa}\n",
     "{compressed}\n", "{held_compressed}\n", "{held}\n", "{zero_byte}\n", "{held_zero_byte}\n", "{by_private}\n", "{by_small}\n",
     "{by_point}\n", "{zero_in_id}\n", "{zero_in_name}\n", "{many_principals}\n", "{p256}\n", "{rsa}\n{key}\n", "SSHKRL\n", "SSHKRL", "{key}\n#", "{key}\n #\n", "{key}\n\f\n", "{key}\n\v{other}\n", "\ufeff{key}\n",
 ]  # fmt: skip
@@ -30,7 +32,13 @@ OTHERWISE = {
     "{name} {split}\n": False, "rsa-sha2-256 {rsa_word}\n": False, "{off_curve}\n": True, "{unsigned}\n": True, "{ended}\n": False,
     "{no_exponent}\n": False,
 }  # fmt: skip
+DSA, LATER_KIND = "{dsa}\n", "{later}\n"
 BASE = "# x\n\n \t{other}\n{name}\t{word} x\r\n{other} y\n"
+
+
+def otherwise():
+    """OTHERWISE, with what the version refuses, or reads, alone."""
+    return {**OTHERWISE, DSA: None if reads_dsa() else True, LATER_KIND: None if openssh() < (10, 6) else False}
 
 
 def made(folder):
@@ -51,7 +59,7 @@ def made(folder):
     unsigned = f"{lines['certificate'].split()[0]} {base64.b64encode(blob[:-1] + bytes([blob[-1] ^ 1])).decode()}"
     return lines | strange_lines(blob_of(lines["p256"]), blob_of(lines["certificate"])) | {
         "name": name, "word": word, "short": word[:-4], "cert_word": lines["certificate"].split()[1], "small": f"ssh-rsa {small}",
-        "unsigned": unsigned, "rsa_word": lines["rsa"].split()[1],
+        "unsigned": unsigned, "rsa_word": lines["rsa"].split()[1], "later": LATER["later"],
         "split": f"{lines['other'].split()[1][:20]}\r{lines['other'].split()[1][20:]}",
     }  # fmt: skip
 
@@ -129,13 +137,13 @@ def rows_of(draw, folder):
     lines = made(folder)
     with open(f"{folder}/of-files-allowed", "w", encoding="utf-8") as file:
         file.write("".join(f"me {lines[it]}\n" for it in ("key", "third")) + f"me cert-authority {lines['signer']}\n")
-    texts = [*BY_HAND, *OTHERWISE]
+    texts = [*BY_HAND, *otherwise()]
     files = [it.format(**lines) for it in texts] + list(changed(draw, BASE.format(**lines)))
     files = [it.encode("utf-8", "surrogateescape") for it in files]
     signatures = [signed(folder, it) for it in ("key", "key-cert.pub", "third")]
     with ThreadPoolExecutor() as pool:
         told = list(pool.map(lambda it: list(said(folder, *it, signatures)), enumerate(files)))
-    alone = [None] * len(BY_HAND) + list(OTHERWISE.values()) + [None] * share(CHANGED)
+    alone = [None] * len(BY_HAND) + list(otherwise().values()) + [None] * share(CHANGED)
     return [blob_of(lines[it]) for it in ("key", "signer", "third")], list(zip(files, told, alone))
 
 
