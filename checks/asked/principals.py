@@ -6,7 +6,7 @@ import shlex
 import subprocess
 from concurrent.futures import ThreadPoolExecutor
 
-from lib.harness import SSHD, line_of
+from lib.harness import SSHD, line_of, openssh
 
 from .hosts import LATER
 from .linked import run
@@ -66,7 +66,9 @@ class Logins:
         keys = {name: " ".join(maker.read(f"{name}.pub").split()[:2]) for name in ("own", "second", "strange")}
         self.devices = {kind: SecurityKey(kind, b"ssh:login") for kind in ("Ed25519", "ECDSA P-256")}
         devices = [it.line() for it in self.devices.values()]
-        maker.write("trusted", "".join(f"{it}\n" for it in (*keys.values(), *devices)))
+        # before 10.6 sshd reads no further than to a later kind
+        trusted = [LATER["later"], *keys.values(), *devices] if openssh() >= (10, 6) else [*keys.values(), *devices, LATER["later"]]
+        maker.write("trusted", "".join(f"{it}\n" for it in trusted))
         # what a comment holds locks nobody out, nor do tabs
         second = keys["second"].replace(" ", "\t ")
         lines = [f"{me},nobody {keys['own']}", f"x{me},{me}\t{second} Z\xfcrich", f"x{me} {keys['strange']}"]
