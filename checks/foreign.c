@@ -179,14 +179,15 @@ static void ask_entry(given_call *it, const char *name) {
 
 static void ask_options(given_call *it, const char *name) {
   uint32_t answer = ask(it, name, &it->entry_option.length);
-  printf("%" PRIu32, answer == SSHKEY_END ? SSHKEY_DONE : answer);
-  while (answer == SSHKEY_DONE) {
+  for (; answer == SSHKEY_DONE; answer = ask(it, name, &it->entry_option.length))
+    it->numbers[0] = it->entry_option.next;
+  it->numbers[0] = 0;
+  if (!is_done(answer == SSHKEY_END ? SSHKEY_DONE : answer)) return;
+  while (ask(it, name, &it->entry_option.length) == SSHKEY_DONE) {
     say_part(" ", it->room, it->entry_option.name);
     if (it->entry_option.has_value) say_part("=", it->room, it->entry_option.value);
-    it->numbers[0]++;
-    answer = ask(it, name, &it->entry_option.length);
+    it->numbers[0] = it->entry_option.next;
   }
-  if (it->numbers[0] && answer != SSHKEY_END) printf(" and then %" PRIu32, answer);
 }
 
 static void ask_counted(given_call *it, const char *name) {
@@ -346,7 +347,7 @@ static const struct {
     {"lines", ask_lines, "next_line", 1},
     {"entry", ask_entry, "authorized_entry", 1},
     {"host", ask_entry, "known_host", 1},
-    {"options", ask_options, "nth_option", 1},
+    {"options", ask_options, "next_entry_option", 1},
     {"log-in", ask_log_in, "login_verdict", 6},
     {"verifications", ask_verifications, "login_verdict", 6},
     {"host-key", ask_number, "host_key_verdict", 4},

@@ -84,7 +84,7 @@ typedef struct {
   CALL(next_line, BYTES(0), it->numbers[0], &it->part)                                           \
   CALL(authorized_entry, BYTES(0), ROOM, &it->entry)                                             \
   CALL(known_host, BYTES(0), ROOM, &it->entry)                                                   \
-  CALL(nth_option, BYTES(0), it->numbers[0], ROOM, &it->entry_option)                            \
+  CALL(next_entry_option, BYTES(0), it->numbers[0], ROOM, &it->entry_option)                     \
   CALL(login_verdict, &given->login, (uint32_t)it->numbers[2], ROOM, &it->grant)                 \
   CALL(host_key_verdict, &given->host, BYTES(2))                                                 \
   CALL(host_certificate_verdict, &given->host, BYTES(2), (uint32_t)it->numbers[3])               \

@@ -166,10 +166,10 @@ def of_files(maker, key):
     yield "next_line", [hashed], [0], "DONE"
     yield "next_line", [hashed], [len(hashed)], "END"
     options = b'no-pty,command="say \\"hi\\""'
-    for number, wanted in ((0, "DONE"), (1, "DONE"), (2, "END")):
-        yield "nth_option", [options], [number], wanted
-    yield "nth_option", [b"command=ls"], [0], "FORMAT"
-    yield "nth_option", [b"\xff"], [0], "TEXT"
+    for place, wanted in ((0, "DONE"), (6, "DONE"), (len(options), "END")):
+        yield "next_entry_option", [options], [place], wanted
+    yield "next_entry_option", [b"command=ls"], [0], "FORMAT"
+    yield "next_entry_option", [b"\xff"], [0], "TEXT"
 
 
 def of_lists(made, keys):

@@ -82,33 +82,37 @@ func KnownHost(line string) (HostEntry, error) {
 // as command alone, one with a value that takes none, as no-pty="x", and principals without
 // cert-authority. If the entry has the key, that refuses the login, and no later line counts. The
 // lists of from and of principals are read wrongly with ease: docs/CALLING.md says how sshd reads
-// them. Each option takes time for the whole text, so bound the length of lines that others write.
+// them.
 func EntryOptions(text string) ([]EntryOption, error) {
-	in, found := inputOf(text), []EntryOption{}
+	in, found, place := inputOf(text), []EntryOption{}, C.size_t(0)
 	for {
-		option, err := nthOption(in, len(found))
+		option, next, err := nextEntryOption(in, place)
 		if err == Status(C.SSHKEY_END) {
 			return found, nil
 		}
 		if err != nil {
 			return nil, err
 		}
-		found = append(found, option)
+		found, place = append(found, option), next
 	}
 }
 
-func nthOption(in input, number int) (EntryOption, error) {
+// ofOption is the bytes of a room for an option; a longer one is asked for again.
+const ofOption = 256
+
+// nextEntryOption is the option at that place, and the place of the next one.
+func nextEntryOption(in input, place C.size_t) (EntryOption, C.size_t, error) {
 	var answer C.sshkey_entry_option_parts
-	data, err := written(len(in), &answer.length, func(to room) C.uint32_t {
-		return C.sshkey_nth_option(in.pointer(), in.length(), C.size_t(number),
+	data, err := written(ofOption, &answer.length, func(to room) C.uint32_t {
+		return C.sshkey_next_entry_option(in.pointer(), in.length(), place,
 			to.at, to.length, &answer)
 	})
 	if err != nil {
-		return EntryOption{}, err
+		return EntryOption{}, 0, err
 	}
 	return EntryOption{
 		Name:     string(partOf(data, answer.name)),
 		Value:    string(partOf(data, answer.value)),
 		HasValue: answer.has_value != 0,
-	}, nil
+	}, answer.next, nil
 }

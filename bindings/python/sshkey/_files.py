@@ -3,10 +3,14 @@ from __future__ import annotations
 
 import ctypes
 from collections.abc import Callable
+from functools import partial
 
 from ._header import Entry, EntryOptionParts, Marker, Part, Status
 from ._library import LIBRARY, ask, bytes_of, done, parts_of
 from ._values import AuthorizedEntry, BytesLike, KnownHost, Refused
+
+# the bytes of a room for an option; a longer one is asked for again
+OF_OPTION = 256
 
 
 def entry_lines(text: BytesLike) -> list[bytes]:
@@ -49,15 +53,14 @@ def entry_options(text: BytesLike) -> list[tuple[bytes, bytes | None]]:
     an entry with an option that you do not know, one that comes twice (but for environment, permitlisten and permitopen), one
     without a value that needs one, as `command` alone, one with a value that takes none, as `no-pty="x"`, and one with
     `principals` and without `cert-authority`. If the entry has the key, that refuses the login, and no later line counts. The
-    list of `from` is for from_allows; docs/CALLING.md says how sshd reads that of `principals`. Each option takes time for the
-    whole text, so bound the length of lines that others write.
+    list of `from` is for from_allows; docs/CALLING.md says how sshd reads that of `principals`.
 
     Raises Refused where the text is no list of options, and MemoryError."""
     found: list[tuple[bytes, bytes | None]] = []
     given, answer = bytes_of(text), EntryOptionParts()
     while True:
         try:
-            room = ask(lambda *room: LIBRARY.sshkey_nth_option(*given, len(found), *room), answer, given[1])
+            room = ask(partial(LIBRARY.sshkey_next_entry_option, *given, answer.next), answer, OF_OPTION)
         except Refused as refused:
             if refused.status == Status.END:
                 return found

@@ -352,7 +352,7 @@ class Entry(Structure):
 class EntryOptionParts(Structure):
     """sshkey_entry_option_parts"""
 
-    _fields_ = [("name", Part), ("value", Part), ("length", c_size_t), ("has_value", c_uint32)]
+    _fields_ = [("name", Part), ("value", Part), ("length", c_size_t), ("next", c_size_t), ("has_value", c_uint32)]
 
 
 class HostLogin(Structure):
@@ -412,7 +412,7 @@ CALLS: dict[str, tuple[Any, ...]] = {
     "sshkey_next_line": (c_char_p, c_size_t, c_size_t, POINTER(Part)),
     "sshkey_authorized_entry": (c_char_p, c_size_t, POINTER(c_uint8), c_size_t, POINTER(Entry)),
     "sshkey_known_host": (c_char_p, c_size_t, POINTER(c_uint8), c_size_t, POINTER(Entry)),
-    "sshkey_nth_option": (c_char_p, c_size_t, c_size_t, POINTER(c_uint8), c_size_t, POINTER(EntryOptionParts)),
+    "sshkey_next_entry_option": (c_char_p, c_size_t, c_size_t, POINTER(c_uint8), c_size_t, POINTER(EntryOptionParts)),
     "sshkey_host_key_verdict": (POINTER(HostLogin), c_char_p, c_size_t),
     "sshkey_host_certificate_verdict": (POINTER(HostLogin), c_char_p, c_size_t, c_uint32),
     "sshkey_unreadable_host_line": (c_char_p, c_size_t, c_char_p, c_size_t, c_uint16, POINTER(c_size_t)),

@@ -118,54 +118,33 @@ pub struct EntryOption {
     pub value: Option<Vec<u8>>,
 }
 
-/// The options of an entry. Each takes time for the whole text: bound the length of lines that
-/// others write.
-#[derive(Clone, Debug)]
-#[must_use = "an iterator asks nothing until it is asked"]
-pub struct EntryOptions<'a> {
-    text: &'a [u8],
-    number: Option<usize>,
-}
+/// The bytes of a room for an option; a longer one is asked for again.
+const OF_OPTION: usize = 256;
 
-/// The options of an entry of authorized_keys. Where the text is no list of options, also after
-/// its first ones, the only item is [`Status::FORMAT`], or [`Status::TEXT`] where it is not UTF-8;
-/// the last may be [`Status::MEMORY`].
+/// The options of an entry of authorized_keys. Fails with [`Status::FORMAT`] where the text is no
+/// list of options, also after its first ones, with [`Status::TEXT`] where it is not UTF-8, and
+/// with [`Status::MEMORY`].
 ///
 /// Refuse an entry with an option that you do not know, one that comes twice, also with other
 /// capitals (but for environment, permitlisten and permitopen), one without a value that needs one,
 /// as `command` alone, one with a value that takes none, as `no-pty="x"`, and `principals` without
 /// `cert-authority`. If the entry has the key, that refuses the login, and no later line counts.
 /// The lists of `from` and of `principals` are read wrongly with ease: docs/CALLING.md says how
-/// sshd reads them. Do not `flatten()` the items: that passes over what fails, and so over options.
-pub fn entry_options(text: &[u8]) -> EntryOptions<'_> {
-    EntryOptions { text, number: Some(0) }
-}
-
-impl EntryOptions<'_> {
-    /// The option of that number. Fails with [`Status::END`] where there is none.
-    fn option(&self, number: usize) -> Result<EntryOption, Status> {
-        let (room, found) = ask(self.text.len(), |room, answer| {
-            raw::sshkey_nth_option(self.text, number, room, answer)
-        })?;
+/// sshd reads them.
+pub fn entry_options(text: &[u8]) -> Result<Vec<EntryOption>, Status> {
+    let (mut options, mut place) = (Vec::new(), 0);
+    loop {
+        let asked = ask(OF_OPTION, |room, answer| {
+            raw::sshkey_next_entry_option(text, place, room, answer)
+        });
+        let (room, found) = match asked {
+            Ok(it) => it,
+            Err(Status::END) => return Ok(options),
+            Err(status) => return Err(status),
+        };
         let value = found.value.of(&room);
         let name = found.name.of(&room).to_vec();
-        Ok(EntryOption { name, value: (found.has_value != 0).then(|| value.to_vec()) })
+        options.push(EntryOption { name, value: (found.has_value != 0).then(|| value.to_vec()) });
+        place = found.next;
     }
 }
-
-impl Iterator for EntryOptions<'_> {
-    type Item = Result<EntryOption, Status>;
-
-    fn next(&mut self) -> Option<Self::Item> {
-        let number = self.number.take()?;
-        match self.option(number) {
-            Err(Status::END) => None,
-            found => {
-                self.number = found.is_ok().then(|| number + 1);
-                Some(found)
-            }
-        }
-    }
-}
-
-impl FusedIterator for EntryOptions<'_> {}

@@ -80,7 +80,7 @@ pub use digests::{fingerprint, fingerprint_sha512, Sha256, Sha512};
 pub use drafts::{certificate_to_be_signed, join_certificate, make_certificate, Draft, Listed};
 pub use files::{
     authorized_entry, entry_lines, entry_options, known_host, AuthorizedEntry, EntryLines,
-    EntryOption, EntryOptions, KnownHost, Marker,
+    EntryOption, KnownHost, Marker,
 };
 pub use hosts::{check_host_certificate, check_host_key, unreadable_host_line, HostLogin};
 pub use keys::{

@@ -406,6 +406,8 @@ pub(crate) struct EntryOptionParts {
     pub value: Part,
     /// How many bytes of the room these take.
     pub length: usize,
+    /// The place of the next option.
+    pub next: usize,
     /// 0 where there is no value; else 1.
     pub has_value: u32,
 }
@@ -447,7 +449,7 @@ const _: () = assert!(size_of::<Draft>() == 144);
 const _: () = assert!(size_of::<Userauth>() == 104);
 const _: () = assert!(size_of::<HostLogin>() == 64);
 const _: () = assert!(size_of::<Entry>() == 64);
-const _: () = assert!(size_of::<EntryOptionParts>() == 48);
+const _: () = assert!(size_of::<EntryOptionParts>() == 56);
 
 calls! {
     []
@@ -514,8 +516,8 @@ calls! {
     fn sshkey_next_line(text: &[u8], place: usize, answer: &mut Part);
     fn sshkey_authorized_entry(line: &[u8], room: &mut [u8], answer: &mut Entry);
     fn sshkey_known_host(line: &[u8], room: &mut [u8], answer: &mut Entry);
-    fn sshkey_nth_option(
-        options: &[u8], number: usize, room: &mut [u8], answer: &mut EntryOptionParts
+    fn sshkey_next_entry_option(
+        options: &[u8], place: usize, room: &mut [u8], answer: &mut EntryOptionParts
     );
     fn sshkey_host_key_verdict(login: &HostLogin<'_>, key: &[u8]);
     fn sshkey_host_certificate_verdict(login: &HostLogin<'_>, certificate: &[u8], is_verified: u32);

@@ -30,7 +30,7 @@ fn values_go_from_thread_to_thread() {
     fn shared<T: Send + Sync + 'static>() {}
     shared::<Question>();
     shared::<sshkey::CertificateContents<'static>>();
-    shared::<sshkey::EntryOptions<'static>>();
+    shared::<sshkey::EntryOption>();
     shared::<Draft<'static>>();
     shared::<sshkey::Login<'static>>();
     shared::<HostLogin<'static>>();

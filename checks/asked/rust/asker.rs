@@ -308,8 +308,7 @@ fn options(bytes: &[u8]) -> Answer {
         None => word(it.name),
         Some(value) => format!("{}={}", word(it.name), word(value)),
     };
-    let found: Result<Vec<_>, _> = sshkey::entry_options(bytes).map(|it| it.map(shown)).collect();
-    words(found?)
+    words(sshkey::entry_options(bytes)?.into_iter().map(shown))
 }
 
 fn addresses(given: &[&str]) -> String {

@@ -11,7 +11,7 @@ ghost use Rattle.sshkey_entry_calls.specs.Options.{FindsKeyOption};
 
 use sshkey_calls::part::Part;
 use sshkey_entry_calls::{
-    EntryParts, OptionParts, authorized_entry, known_host, next_line, nth_option,
+    EntryParts, OptionParts, authorized_entry, known_host, next_entry_option, next_line,
 };
 use std::alloc::Global;
 
@@ -42,22 +42,18 @@ pub extern "C" fn sshkey_authorized_entry(
     authorized_entry(alloc, line, room, answer)
 }
 
-/// The option of that number: `sshkey_entry_calls::nth_option`.
+/// The option at a place: `sshkey_entry_calls::next_entry_option`.
 #[unsafe(no_mangle)]
-pub extern "C" fn sshkey_nth_option(
+pub extern "C" fn sshkey_next_entry_option(
     alloc: Global,
     options: &[u8],
-    number: usize,
+    place: usize,
     room: &mut [u8],
     answer: &mut OptionParts,
 ) -> u32
-    ensures option { IsUtf8 options.now → FindsKeyOption options.now number
-        result answer.old answer.new room.old room.new }
-    ensures text { (IsUtf8 options.now → ⊥) → result ≡ 4 }
-    ensures stays { result ≢ 0 → result ≢ 2
-        → (answer.new ≡ answer.old) × (room.new ≡ room.old) }
+    ensures { FindsKeyOption options.now place result answer.old answer.new room.old room.new }
 {
-    nth_option(alloc, options, number, room, answer)
+    next_entry_option(alloc, options, place, room, answer)
 }
 
 /// The entry of a line of known_hosts: `sshkey_entry_calls::known_host`.

@@ -1,5 +1,6 @@
 pub mod CutLines
 pub mod Found
-pub mod Counted
+pub mod OptionPlaces
+mod EntryOptions
 mod SignerVerdicts
 mod RevokedFiles

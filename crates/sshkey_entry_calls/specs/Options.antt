@@ -1,21 +1,21 @@
 -- What is answered of the options of an entry.
-use Rattle.std.specs.Prelude.{◌≡◌, ◌≢◌, ◌≤◌, ℕ, List, [], ◌∷◌, ◌++◌, length, Option, Some, None, Result, Ok, Err}
+use Rattle.std.specs.Prelude.{◌≡◌, ◌≢◌, ◌↔◌, ◌≤◌, ◌<◌, ℕ, List, [], ◌++◌, length, drop, slice_index, true, false, Option, Some, None}
+use Rattle.std.specs.Str.{IsUtf8}
 use Rattle.sshkey_authorized_keys.specs.OpenSshItems.{key_option_of}
 use Rattle.sshkey_authorized_keys.specs.declared.openssh_option.OpenSshOption.{OpenSshOption}
-use Rattle.sshkey_base.specs.declared.error.Error.{Error}
-use Rattle.sshkey_base.specs.declared.error.Error.TheVariants.{FormatEncoding}
-use Rattle.sshkey_entries.specs.OptionItems.{AreKeyOptions, HasKeyOptions, KeyOption}
+use Rattle.sshkey_entries.specs.Items.{is_comma}
+use Rattle.sshkey_entries.specs.OptionEnds.{is_inside}
+use Rattle.sshkey_entries.specs.OptionItems.{IsNoOption, IsOptionAt, KeyOption, without_commas}
 use Rattle.sshkey_calls.specs.Rooms.{GivesValue, IsAtFront, IsPlaced, LacksRoom}
 use Rattle.sshkey_entry_calls.specs.declared.options.OptionParts.{OptionParts}
 
--- the option with `number` others before it; or there are at most `number` options
-abbrev pub IsNthOption : ℕ → List KeyOption → Option KeyOption → Type 0
-IsNthOption number options (Some o) = (before : List KeyOption) × (after : List KeyOption) × (options ≡ before ++ (o ∷ after)) × (length before ≡ number)
-IsNthOption number options None = length options ≤ number
+-- ---- where an option ends
 
--- The text is options, and of these it is the one of that number.
-abbrev pub IsOptionOf : List ℕ → ℕ → Option KeyOption → Type 0
-IsOptionOf text number o = (options : List KeyOption) × AreKeyOptions text options × IsNthOption number options o
+-- The first comma that is not inside quotes; or there is none, and it is the end of the text.
+pub record EndsAt (text : List ℕ) (place : ℕ) : Type 0 where
+  pub within : place ≤ length text
+  pub ends : place < length text → (is_comma (slice_index text place) ≡ true) × (is_inside text place ≡ false)
+  pub first : (i : ℕ) → i < place → is_comma (slice_index text i) ≡ true → is_inside text i ≡ true
 
 -- ---- in the room
 
@@ -31,41 +31,48 @@ value_number (Some value) = 1
 abbrev pub option_bytes : KeyOption → List ℕ
 option_bytes o = o.name ++ value_bytes o.value
 
--- The answer says where each of them is, how many bytes they take, and whether there is a value.
-pub record ArePlaced (o : KeyOption) (answer : OptionParts) : Type 0 where
+-- The answer says where each of them is, how many bytes they take, that the next option is at that
+-- place, and whether there is a value.
+pub record ArePlaced (place : ℕ) (o : KeyOption) (answer : OptionParts) : Type 0 where
   pub name : IsPlaced 0 o.name answer.name
   pub value : IsPlaced (length o.name) (value_bytes o.value) answer.value
   pub length : answer.length ≡ length (option_bytes o)
+  pub next : answer.next ≡ place
   pub has_value : answer.has_value ≡ value_number o.value
 
 -- What a call answers that looks for the one option that `Wanted` tells.
-abbrev pub GivesOption : (KeyOption → Type 0) → ℕ → OptionParts → OptionParts → List ℕ → List ℕ → Type 0
-GivesOption Wanted = GivesValue Wanted option_bytes ArePlaced (λ (a : OptionParts). a.length)
+abbrev pub GivesOption : (KeyOption → Type 0) → ℕ → ℕ → OptionParts → OptionParts → List ℕ → List ℕ → Type 0
+GivesOption Wanted place = GivesValue Wanted option_bytes (ArePlaced place) (λ (a : OptionParts). a.length)
 
--- 0 and the option of that number, 2 where there is one, and the room is too short for it, 3 where
--- there are no more, 15 where the text is no list of options; and 1 is memory, and only where there
+-- ---- what stands at the front, and at a place
+
+-- The text begins with the option, after commas.
+abbrev pub BeginsWith : List ℕ → KeyOption → Type 0
+BeginsWith text o = (rest : List ℕ) × IsOptionAt (without_commas text) o rest
+
+-- The first one; or no option is there.
+abbrev pub FindsFirst : List ℕ → Option OpenSshOption → Type 0
+FindsFirst text (Some o) = BeginsWith text (key_option_of o)
+FindsFirst text None = IsNoOption (without_commas text)
+
+-- The option that the text begins with, and the place of the next one, which is known; or there is
+-- none, and it is 15. With 1 there is one.
+pub record TellsOption (text : List ℕ) (next n : ℕ) (was answer : OptionParts) (before after : List ℕ) : Type 0 where
+  pub gives : GivesOption (BeginsWith text) next n was answer before after
+  pub memory : n ≡ 1 → (o : KeyOption) × BeginsWith text o
+  pub others : n ≢ 0 → n ≢ 1 → n ≢ 2 → n ≡ 15
+
+-- 0 and the option that begins at the place, after commas, and where the next one begins; 2 where
+-- there is one, and the room is too short for it; 3 exactly where nothing but commas is left; 15
+-- where there is none; 4 only where what is left is not UTF-8; and 1 is memory, and only where there
 -- is one. But for 0 and 2, answer and room stay as they were.
-pub record FindsKeyOption (text : List ℕ) (number n : ℕ) (was answer : OptionParts) (before after : List ℕ) : Type 0 where
-  pub found : n ≡ 0 → (o : KeyOption) × IsOptionOf text number (Some o) × IsAtFront (option_bytes o) (ArePlaced o answer) before after
-  pub short : n ≡ 2 → (o : KeyOption) × IsOptionOf text number (Some o) × LacksRoom (option_bytes o) answer.length before after
-  pub memory : n ≡ 1 → (o : KeyOption) × IsOptionOf text number (Some o)
-  pub last : n ≡ 3 → IsOptionOf text number None
-  pub none : n ≡ 15 → HasKeyOptions text → ⊥
-  pub others : n ≢ 0 → n ≢ 1 → n ≢ 2 → n ≢ 3 → n ≡ 15
+pub record FindsKeyOption (options : List ℕ) (place n : ℕ) (was answer : OptionParts) (before after : List ℕ) : Type 0 where
+  pub found : n ≡ 0 → (o : KeyOption) × IsOptionAt (without_commas (drop place options)) o (drop answer.next options) × IsAtFront (option_bytes o) (ArePlaced answer.next o answer) before after
+  pub later : n ≡ 0 → (place < answer.next) × (answer.next ≤ length options)
+  pub short : n ≡ 2 → (o : KeyOption) × BeginsWith (drop place options) o × LacksRoom (option_bytes o) answer.length before after
+  pub memory : n ≡ 1 → (o : KeyOption) × BeginsWith (drop place options) o
+  pub last : (n ≡ 3) ↔ (without_commas (drop place options) ≡ [])
+  pub text : n ≡ 4 → IsUtf8 (drop place options) → ⊥
+  pub none : n ≡ 15 → IsNoOption (without_commas (drop place options))
+  pub others : n ≢ 0 → n ≢ 1 → n ≢ 2 → n ≢ 3 → n ≢ 4 → n ≡ 15
   pub stays : n ≢ 0 → n ≢ 2 → (answer ≡ was) × (after ≡ before)
-
--- The option that was found; or 3, for there is none, and nothing changed.
-abbrev pub TellsOption : Option KeyOption → ℕ → OptionParts → OptionParts → List ℕ → List ℕ → Type 0
-TellsOption (Some o) n was answer before after = GivesOption (λ x. x ≡ o) n was answer before after
-TellsOption None n was answer before after = (n ≡ 3) × (answer ≡ was) × (after ≡ before)
-
--- ---- found
-
-abbrev pub found_option : Option OpenSshOption → Option KeyOption
-found_option None = None
-found_option (Some o) = Some (key_option_of o)
-
--- The option of that number, or none; or the text is no list of options, `FormatEncoding`.
-abbrev pub FindsAt : List ℕ → ℕ → Result (Option OpenSshOption) Error → Type 0
-FindsAt text number (Ok found) = IsOptionOf text number (found_option found)
-FindsAt text number (Err e) = (e ≡ FormatEncoding) × (HasKeyOptions text → ⊥)

@@ -20,7 +20,7 @@ mod unreadable_line;
 pub use addresses::{address_of, from_allows, source_address_allows};
 pub use entries::{EntryParts, authorized_entry, known_host};
 pub use lines::next_line;
-pub use options::{OptionParts, nth_option};
+pub use options::{OptionParts, next_entry_option};
 pub use other_key::is_other_key_line;
 pub use revocation_files::RevocationFiles;
 pub use revocations::{revoked_certificate, revoked_key};

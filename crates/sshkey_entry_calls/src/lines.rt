@@ -68,7 +68,7 @@ fn split_line(text: &[u8]) -> (&[u8], &[u8])
 }
 
 /// The bytes from that place on.
-fn rest_from(text: &[u8], place: usize) -> &[u8]
+pub(crate) fn rest_from(text: &[u8], place: usize) -> &[u8]
     ensures { result.now ≡ drop place text.now }
 {
     if place < text.len() {

@@ -1,15 +1,17 @@
-//! The options of an entry of authorized_keys, one at a time.
+//! The options of an entry of authorized_keys, one after the other.
 
-ghost use Rattle.std.specs.Prelude.{◌≡◌, ◌≢◌, ◌+◌, IfOk, None, Some};
-ghost use Rattle.std.specs.Str.{IsUtf8};
+ghost use Rattle.std.specs.Prelude.{◌≡◌, ◌<◌, IfOk, length, not, position};
 ghost use Rattle.sshkey_authorized_keys.specs.OpenSshItems.{key_option_of};
-ghost use Rattle.sshkey_authorized_keys.specs.declared.openssh_option.OpenSshOption.{OpenSshOption};
+ghost use Rattle.sshkey_entries.specs.Items.{is_comma};
+ghost use Rattle.sshkey_entries.specs.OptionEnds.{is_mark};
+ghost use Rattle.sshkey_entries.specs.OptionItems.{without_commas};
 ghost use Rattle.sshkey_calls.specs.Rooms.{IsLaidOut};
-ghost use Rattle.sshkey_entry_calls.specs.Options.{ArePlaced, FindsAt, FindsKeyOption, TellsOption, found_option, option_bytes};
+ghost use Rattle.sshkey_entry_calls.specs.Options.{ArePlaced, EndsAt, FindsFirst, FindsKeyOption, TellsOption, option_bytes};
 
+use crate::lines::rest_from;
 use sshkey_authorized_keys::{OpenSshOption, OpenSshOptionsIter};
 use sshkey_base::Result;
-use sshkey_calls::number::{END, TEXT, error_number};
+use sshkey_calls::number::{END, FORMAT, TEXT};
 use sshkey_calls::part::{self, Part, add};
 use std::alloc::Global;
 use std::str;
@@ -25,115 +27,108 @@ pub struct OptionParts {
     pub value: Part,
     /// How many bytes of the room these take.
     pub length: usize,
+    /// The place of the next option, before its comma.
+    pub next: usize,
     /// 0 where there is no `=`, and else 1.
     pub has_value: u32,
 }
 
-/// The option of that number, from 0 on, of the options of an entry of authorized_keys (sshd(8),
-/// "AUTHORIZED_KEYS FILE FORMAT").
+/// The option of an entry of authorized_keys that stands at that place, after commas (sshd(8),
+/// "AUTHORIZED_KEYS FILE FORMAT"). The next one is found from `next` on; begin at 0.
 ///
-/// Returns 0 with the option in the room, 2 where the room is too short for it, 3 where there are
-/// no more than that number, 1 if memory ran out, 4 for bytes that are not UTF-8, and 15 where the
-/// text is no list of options, wherever the fault in it is. With 2 the answer says how much room is
-/// needed, and the room is as it was; with every other number but 0 answer and room are. All
-/// options are read at each call.
-pub fn nth_option(
+/// Returns 0 with the option in the room, 2 where the room is too short for it, 3 exactly where
+/// nothing but commas is left, 1 if memory ran out, 15 where no option stands there, and 4 where
+/// the bytes up to the next comma outside quotes are not UTF-8. With 2 the answer says how much
+/// room is needed, and the room is as it was; with every other number but 0 answer and room are.
+/// What follows the option is not read: where a fault is in it, a later call refuses.
+pub fn next_entry_option(
     alloc: Global,
     options: &[u8],
-    number: usize,
+    place: usize,
     room: &mut [u8],
     answer: &mut OptionParts,
 ) -> u32
-    ensures option { IsUtf8 options.now → FindsKeyOption options.now number
-        result answer.old answer.new room.old room.new }
-    ensures text { (IsUtf8 options.now → ⊥) → result ≡ 4 }
-    ensures stays { result ≢ 0 → result ≢ 2
-        → (answer.new ≡ answer.old) × (room.new ≡ room.old) }
+    ensures { FindsKeyOption options.now place result answer.old answer.new room.old room.new }
 {
-    match str::from_utf8(options) {
-        Ok(text) => nth_option_of(alloc, text, number, room, answer),
+    let left = skip_commas(rest_from(options, place));
+    if left.is_empty() {
+        return END;
+    }
+    let end = option_end(left);
+    let next = options.len() - (left.len() - end);
+    match str::from_utf8(&left[..end]) {
+        Ok(text) => tell_option(alloc, text, next, room, answer),
         Err(_) => TEXT,
     }
 }
 
-/// The same of a text.
-fn nth_option_of(
+/// Answers with the option that a text begins with, and with that place of the next one.
+fn tell_option(
     alloc: Global,
     text: &str,
-    number: usize,
+    next: usize,
     room: &mut [u8],
     answer: &mut OptionParts,
 ) -> u32
-    ensures { FindsKeyOption text.now number result answer.old answer.new room.old room.new }
+    ensures { TellsOption text.now next result answer.old answer.new room.old room.new }
 {
-    match option_at(text, number) {
-        Ok(found) => tell(alloc, found, room, answer),
-        Err(error) => error_number(error),
+    match first_option(text) {
+        Some(option) => part::answer_with(lay_out(alloc, &option, next), room, answer),
+        None => FORMAT,
     }
 }
 
-/// Answers with the option that was found, if one was.
-fn tell(
-    alloc: Global,
-    found: Option<OpenSshOption<'_>>,
-    room: &mut [u8],
-    answer: &mut OptionParts,
-) -> u32
-    ensures { TellsOption (found_option found.entry)
-        result answer.old answer.new room.old room.new }
+/// The option that a text begins with, after commas.
+fn first_option(text: &str) -> Option<OpenSshOption<'_>>
+    ensures { FindsFirst text.now result }
 {
-    match found {
-        Some(option) => part::answer_with(lay_out(alloc, &option), room, answer),
-        None => END,
+    OpenSshOptionsIter::new(text).next()?.ok()
+}
+
+fn other_place(bytes: &[u8]) -> Option<usize>
+    ensures { result ≡ position (λ c. not (is_comma c)) bytes.now }
+{
+    bytes.iter().position(|byte| *byte != b',')
+}
+
+/// The bytes without the commas at their front.
+fn skip_commas(bytes: &[u8]) -> &[u8]
+    ensures { result.now ≡ without_commas bytes.now }
+{
+    match other_place(bytes) {
+        Some(start) => &bytes[start..],
+        None => &[],
     }
 }
 
-/// What was found before, or this option where no more are to be passed over; and how many still
-/// are.
-fn count_on<'a>(
-    found: Option<OpenSshOption<'a>>,
-    passing: usize,
-    option: OpenSshOption<'a>,
-) -> (Option<OpenSshOption<'a>>, usize)
-    ensures before { (before : OpenSshOption) → found.entry ≡ Some before
-        → result.0 ≡ found.entry }
-    ensures now { found.entry ≡ None → passing ≡ 0 → result.0 ≡ Some option.entry }
-    ensures later { found.entry ≡ None → passing ≢ 0
-        → (result.0 ≡ None) × (result.1 + 1 ≡ passing) }
+/// Whether a quote stands at the place, with no backslash before it.
+fn is_mark(bytes: &[u8], place: usize) -> bool
+    requires { place < length bytes.now }
+    ensures { result ≡ is_mark bytes.now place }
 {
-    match found {
-        Some(_) => (found, passing),
-        None => if passing == 0 {
-            (Some(option), 0)
-        } else {
-            (None, passing - 1)
-        },
-    }
+    bytes[place] == b'"' && !(place > 0 && bytes[place - 1] == b'\\')
 }
 
-/// The option of that number of a text, or none where there are no more.
-fn option_at(text: &str, number: usize) -> Result<Option<OpenSshOption<'_>>>
-    ensures { FindsAt text.now number result }
+/// Where the option at the front ends: at the first comma outside quotes, or with the bytes.
+fn option_end(bytes: &[u8]) -> usize
+    ensures { EndsAt bytes.now result }
 {
-    let mut found = None;
-    let mut passing = number;
-    for option in OpenSshOptionsIter::new(text) {
-        match option {
-            Ok(option) => {
-                let counted = count_on(found, passing, option);
-                found = counted.0;
-                passing = counted.1;
-            }
-            Err(error) => return Err(error),
+    let mut is_inside = false;
+    for place in 0..bytes.len() {
+        if bytes[place] == b',' && !is_inside {
+            return place;
+        }
+        if is_mark(bytes, place) {
+            is_inside = !is_inside;
         }
     }
-    Ok(found)
+    bytes.len()
 }
 
 /// The bytes of an option's parts, one after the other, and where they are.
-fn lay_out(alloc: Global, option: &OpenSshOption<'_>) -> Result<(Vec<u8>, OptionParts)>
-    ensures { IfOk result (λ laid. IsLaidOut option_bytes ArePlaced (key_option_of option.now)
-        laid.0.items laid.1) }
+fn lay_out(alloc: Global, option: &OpenSshOption<'_>, next: usize) -> Result<(Vec<u8>, OptionParts)>
+    ensures { IfOk result (λ laid. IsLaidOut option_bytes (ArePlaced next)
+        (key_option_of option.now) laid.0.items laid.1) }
 {
     let mut content = Vec::new(alloc);
     let name = add(option.name().as_bytes(), &mut content)?;
@@ -148,6 +143,7 @@ fn lay_out(alloc: Global, option: &OpenSshOption<'_>) -> Result<(Vec<u8>, Option
             name,
             value,
             length,
+            next,
             has_value,
         },
     ))
