@@ -1,15 +1,16 @@
 -- The lines of a text, cut off one by one.
-use Rattle.std.proofs.Common.{◌≡◌, ◌⊎◌, ℕ, suc, ◌<◌, ◌≤◌, ◌+◌, ◌-◌, List, [], ◌∷◌, ◌++◌, length, get_or, take, drop, slice_index, filter, map, Bool, true, false, not, cond, eqb, None, Some, position, refl, sym, ap, lt-ltb, ne_eqb, zero, subst, ◌∙◌, arith, tests, inl, inr, append_assoc, append-nil, length-append, length-drop, take-append-drop}
+use Rattle.std.proofs.Common.{◌≡◌, ◌⊎◌, ℕ, suc, ◌<◌, ◌≤◌, ◌+◌, ◌-◌, List, [], ◌∷◌, ◌++◌, length, get_or, take, drop, slice_index, filter, map, Bool, true, false, not, cond, eqb, nat_lt, None, Option, Some, position, refl, sym, ap, lt-ltb, ne_eqb, zero, subst, ◌∙◌, arith, tests, inl, inr, append_assoc, append-nil, length-append, length-drop, take-append-drop}
 use Rattle.std.proofs.Math.ListN.{drop_of_length-le}
 use Rattle.std.proofs.Math.Seq.{drop-cons, drop-append-add, drop-append_seam, take-append_seam}
-use Rattle.std.proofs.lemmas.Bool.{cases_lt}
+use Rattle.std.proofs.lemmas.Bool.{cases_lt, le-ltb}
 use Rattle.std.proofs.lemmas.List.{get_or-take, length-take-le}
 use Rattle.std.proofs.lemmas.List.Elements.{All-cons, All-from_get_or, All-nil}
 use Rattle.std.proofs.lemmas.List.Quantifiers.{position-Some}
 use Rattle.std.proofs.lemmas.List.Splits.{slice_split_none, slice_split_at, length-slice_split}
-use Rattle.std.proofs.lemmas.List.Sums.{fails_before_first}
+use Rattle.std.proofs.lemmas.List.Sums.{fails_before_first, position_or_len_is}
 use Rattle.std.specs.List.{All, slice_split, position_or_len}
 use Rattle.std.specs.Str.Lines.{lines, lines_of_parts, strip_carriage_return}
+use Rattle.memchr.specs.Find.{IsFirstByte, is_byte}
 use Rattle.sshkey_entries.specs.Fields.{without_blanks, is_filled, filled_lines}
 use Rattle.sshkey_entries.specs.OptionEnds.{is_blank}
 use Rattle.sshkey_entries.proofs.Fronts as fronts
@@ -17,6 +18,21 @@ use Rattle.sshkey_entries.proofs.TextLines.{more_lines}
 use Rattle.sshkey_entry_calls.specs.Lines.{CutsLine, FindsLine, IsLineEnd, is_line_end}
 use Rattle.sshkey_calls.specs.declared.part.Part.{Part}
 use Rattle.sshkey_calls.proofs.Strings.{whole_slice}
+
+-- ---- where a line ends
+
+not_true : (b : Bool) → (b ≡ true → ⊥) → b ≡ false
+not_true true other = absurd (other refl)
+not_true false _ = refl
+
+-- a first place is where a test passes first
+pub first_place : (text : List ℕ) (found : Option ℕ) → IsFirstByte (is_byte 10) text found → found ≡ position is_line_end text
+first_place text None nowhere =
+    let none : position_or_len is_line_end text ≡ length text = position_or_len_is is_line_end text (length text) 0 (omega arith) (λ k l. not_true _ (nowhere k (omega arith) l)) (λ l. absurd (omega (arith, l))) in
+    sym (ap (λ (n : ℕ). cond (nat_lt n (length text)) (Some n) None) none ∙ ap (λ (b : Bool). cond b (Some (length text)) None) (le-ltb (length text) (length text) (omega arith)))
+first_place text (Some place) is =
+    let here : position_or_len is_line_end text ≡ place = position_or_len_is is_line_end text place 0 (omega (arith, is.0.high)) (λ k l. not_true _ (is.0.before k (omega arith) l)) (λ _. is.1) in
+    sym (ap (λ (n : ℕ). cond (nat_lt n (length text)) (Some n) None) here ∙ ap (λ (b : Bool). cond b (Some place) None) (lt-ltb place (length text) is.0.high))
 
 -- ---- blanks
 

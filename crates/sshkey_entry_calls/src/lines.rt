@@ -6,6 +6,7 @@ ghost use Rattle.sshkey_entries.specs.Fields.{without_blanks, is_filled};
 ghost use Rattle.sshkey_entries.specs.OptionEnds.{is_blank};
 ghost use Rattle.sshkey_entry_calls.specs.Lines.{CutsLine, FindsLine, is_line_end};
 
+use memchr::memchr;
 use sshkey_calls::number::{DONE, END};
 use sshkey_calls::part::Part;
 
@@ -18,7 +19,7 @@ fn is_blank(byte: u8) -> bool
 fn first_end(text: &[u8]) -> Option<usize>
     ensures { result ≡ position is_line_end text.now }
 {
-    text.iter().position(|byte| *byte == b'\n')
+    memchr(b'\n', text)
 }
 
 fn first_other(text: &[u8]) -> Option<usize>
