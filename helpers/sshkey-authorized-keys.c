@@ -28,8 +28,8 @@ static const char help[] =
 typedef struct {
   judge_blob blob; /* of malloc */
   bool is_certificate;
-  sshkey_sha256 digest; /* of the key, or of the one that signed the certificate */
-  size_t printed;       /* how many lines are */
+  judge_blob key; /* the normal form, of malloc, of the key or of the one that signed it */
+  size_t printed; /* how many lines are */
 } offered;
 
 static uint32_t read_offered(const login_request *asked, offered *answer) {
@@ -46,7 +46,15 @@ static uint32_t read_offered(const login_request *asked, offered *answer) {
     key = parts.authority;
   }
   if (status != SSHKEY_DONE) return status;
-  return sshkey_fingerprint(answer->blob.bytes + key.start, key.length, &answer->digest);
+  answer->key.bytes = calloc(1, key.length);
+  if (!answer->key.bytes) return SSHKEY_MEMORY;
+  return sshkey_key_normal(answer->blob.bytes + key.start, key.length, answer->key.bytes,
+                           key.length, &answer->key.length);
+}
+
+/* Whether that normal form is the key's. */
+static bool is_offered(const offered *wanted, const uint8_t *key, size_t length) {
+  return length == wanted->key.length && !memcmp(key, wanted->key.bytes, length);
 }
 
 /* Whether sshd reads the key as another one: the application of a security key, the last of its
@@ -61,17 +69,15 @@ static bool is_read_shorter(const uint8_t *key, size_t length) {
  * which binds it less. */
 static uint32_t judge_line(const uint8_t *line, size_t length, const offered *wanted) {
   sshkey_entry entry;
-  sshkey_sha256 digest = {{0}};
   memset(&entry, 0, sizeof entry);
   /* sshd reads no further, and so another entry */
   if (memchr(line, 0, length)) return SSHKEY_DONE;
   uint8_t *room = calloc(1, length + 1);
   if (!room) return SSHKEY_MEMORY;
   uint32_t answer = sshkey_authorized_entry(line, length, room, length, &entry);
-  if (answer == SSHKEY_DONE)
-    answer = sshkey_fingerprint(room + entry.key.start, entry.key.length, &digest);
-  bool is_other = answer == SSHKEY_DONE && memcmp(&digest, &wanted->digest, sizeof digest) &&
-                  !is_read_shorter(room + entry.key.start, entry.key.length);
+  const uint8_t *key = room + entry.key.start;
+  bool is_other = answer == SSHKEY_DONE && !is_offered(wanted, key, entry.key.length) &&
+                  !is_read_shorter(key, entry.key.length);
   free(room);
   if (answer == SSHKEY_MEMORY) return answer;
   return is_other ? SSHKEY_END : SSHKEY_DONE;
@@ -158,6 +164,7 @@ static int answer_request(login_request *asked) {
     }
   }
   free(wanted.blob.bytes);
+  free(wanted.key.bytes);
   return status;
 }
 
