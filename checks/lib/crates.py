@@ -4,6 +4,7 @@ import shutil
 import subprocess
 import sys
 
+ROOT = os.path.dirname(os.path.dirname(os.path.dirname(os.path.abspath(__file__))))
 PARTS = ("src", "specs", "proofs")
 
 
@@ -100,15 +101,14 @@ def crates_of(root):
 
 
 def build_libraries(crates):
-    """Has the libraries below the crates stand in out/: as rt ci left them, or else built here."""
-    needed = []
-    for crate in crates:
-        needed += [it for it in crate.below() if it not in needed]
-    if all(it.is_left_by_ci() for it in needed):
-        return
-    for crate in needed:
-        words = ["rt", "lib", "--jobs", "1"]
-        made = subprocess.run(words, cwd=crate.folder, capture_output=True, text=True, check=False)
-        if made.returncode:
-            print(made.stdout[-2000:], made.stderr[-2000:], sep="\n")
-            sys.exit(f"the library {crate.name} is not proved, so nothing above it was tried")
+    """Has the libraries below the crates stand in out/, and tells on standard error what is proved. Those that checks/lib/prove left
+    there of the present sources stay, and it makes the others; over libraries of rt lib or rt check that command goes on."""
+    needed = list(dict.fromkeys(it for crate in crates for it in crate.below()))
+    missing = [it for it in needed if not it.is_left_by_ci()]
+    if any(os.path.exists(f"{it.folder}/out/rlib/stamp") for it in missing):
+        runs = [(it.folder, ["rt", "lib", "--jobs", "1"]) for it in needed]
+    else:
+        runs = [(ROOT, ["checks/lib/prove", *(it.name for it in missing)])] if missing else []
+    for folder, words in runs:
+        if subprocess.run(words, cwd=folder, stdout=sys.stderr, check=False).returncode:
+            sys.exit(f"{folder}: {' '.join(words)} proved not all, so nothing above it was tried")
