@@ -99,14 +99,13 @@ $(OUT)/sshkey-authorized-keys: CRYPTO :=
 $(PROGRAMS): $(OUT)/%: $(OUT)/%.o $(OUT)/parts.a $(OUT)/libsshkey.a
 	$(CC) $(CFLAGS) -pie $(READONLY) -o $@ $^ $(CRYPTO)
 
-# Go does not see that the library is another, so the program is always linked
-go: $(OUT)/libsshkey.a
-	rm -f $(OUT)/check-go
-	cd $(ROOT)/examples/go && CGO_LDFLAGS=-L$(OUT) go build -o $(OUT)/check-go .
+# both packages read the text themselves
+go: $(TEXT)
+	cd $(ROOT)/examples/go && go build -o $(OUT)/check-go .
 
 # the program takes the verifier of the package
-rust: $(OUT)/libsshkey.a
-	cd $(ROOT)/bindings/rust && SSHKEY_LIB_DIR=$(OUT) CARGO_TARGET_DIR=$(OUT)/rust \
+rust: $(TEXT)
+	cd $(ROOT)/bindings/rust && CARGO_TARGET_DIR=$(OUT)/rust \
 		cargo build --offline --locked --release --features libcrypto --example check
 	cp $(OUT)/rust/release/examples/check $(OUT)/check-rust
 

@@ -55,7 +55,7 @@ def run(words, **how):
 class Built:
     """The libraries and programs, built in a folder: plain, and the C that calls the library with sanitizers."""
 
-    def __init__(self, folder, text):
+    def __init__(self, folder, text=None):
         self.plain, self.sanitized = f"{folder}/plain", f"{folder}/sanitized"
         self.given = [f"TEXT={os.path.abspath(text)}"] if text else []
         self.said = ""

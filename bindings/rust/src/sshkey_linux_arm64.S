@@ -1,0 +1,1 @@
+../../go/sshkey/sshkey_linux_arm64.S
