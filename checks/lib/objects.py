@@ -5,11 +5,12 @@ import struct
 import subprocess
 from dataclasses import dataclass, field
 
-HEADER, SECTION, SYMBOL, RELOCATION = struct.Struct("<16xHHIQQQIHHHHHH"), struct.Struct("<IIQQQQIIQQ"), struct.Struct("<IBBHQQ"), struct.Struct("<QQq")
+HEADER, SECTION = struct.Struct("<16xHHIQQQIHHHHHH"), struct.Struct("<IIQQQQIIQQ")
+SYMBOL, RELOCATION = struct.Struct("<IBBHQQ"), struct.Struct("<QQq")
 SYMBOLS, RELOCATIONS, NOTHING = 2, 4, 8
 # of a section: it is in memory when the program runs, and it is code
 ALLOCATED, CODE = 2, 4
-# of x86-64: a place is told as far from the end of an instruction, which these relocations tell from where they stand
+# of x86-64: these tell how far a place is, and from where they stand, while an instruction counts from its end
 RELATIVE = {2: "place", 4: "place", 9: "GOT", 41: "GOT", 42: "GOT"}
 X86_64 = 62
 # what only moves the next instruction to where it has to lie
