@@ -19,17 +19,18 @@ void rattle_dealloc(uint8_t *block);
 void *__real_malloc(size_t length);
 void *__real_realloc(void *block, size_t length);
 
-/* Requests: how many were made, and the number of the one that is refused. */
+/* Requests: how many were made, and the number of the one that is refused. One for no bytes is refused
+ * too, as a C library may do. */
 static struct {
   size_t made, refused;
 } requests;
 
-void *__wrap_malloc(size_t length) {
-  return ++requests.made == requests.refused ? NULL : __real_malloc(length);
-}
+static bool is_refused(size_t length) { return ++requests.made == requests.refused || !length; }
+
+void *__wrap_malloc(size_t length) { return is_refused(length) ? NULL : __real_malloc(length); }
 
 void *__wrap_realloc(void *block, size_t length) {
-  return ++requests.made == requests.refused ? NULL : __real_realloc(block, length);
+  return is_refused(length) ? NULL : __real_realloc(block, length);
 }
 
 static int failed;
@@ -40,7 +41,12 @@ static void check(bool holds, const char *what, size_t length, size_t alignment)
   failed = 1;
 }
 
-/* Whether the bytes are 0, 1, .., as far as that length. */
+/* Writes 0, 1, .. to a block; and whether they stand there, as far as that length. */
+static void count_up(uint8_t *block, size_t length) {
+  for (size_t at = 0; at < length; at++)
+    block[at] = (uint8_t)at;
+}
+
 static bool is_counted(const uint8_t *block, size_t length) {
   for (size_t at = 0; at < length; at++)
     if (block[at] != (uint8_t)at) return false;
@@ -56,21 +62,20 @@ static size_t ask(size_t length, size_t alignment, size_t refused) {
   check(now.is_there == (refused != 1), "whether there is a block", length, alignment);
   check(now.block != NULL, "null", length, alignment);
   if (!now.is_there) return requests.made;
-  size_t kept = 0, lengths[] = {length, 3 * length + 1, length / 2, 0, length};
+  count_up(now.block, length);
+  size_t kept = length, lengths[] = {3 * length + 1, length / 2, 0, length};
   for (size_t number = 0; number < sizeof lengths / sizeof *lengths; number++) {
     size_t next = lengths[number], common = kept < next ? kept : next;
     tried other = rattle_realloc(now.block, common, next, alignment);
-    check(other.is_there == (refused != number + 2), "whether it is another length", next, alignment);
-    check(other.block != NULL, "null for another length", next, alignment);
-    if (other.is_there)
+    check(other.is_there == (refused != number + 2), "whether it is made another", next, alignment);
+    check(other.block != NULL, "null for another", next, alignment);
+    if (other.is_there) {
       now = other;
-    else
-      next = kept;
-    check((uintptr_t)now.block % alignment == 0, "where it lies", next, alignment);
-    check(is_counted(now.block, common), "what it had", next, alignment);
-    for (size_t at = 0; at < next; at++)
-      now.block[at] = (uint8_t)at;
-    kept = next;
+      kept = next;
+    }
+    check((uintptr_t)now.block % alignment == 0, "where it lies", kept, alignment);
+    check(is_counted(now.block, other.is_there ? common : kept), "what it had", kept, alignment);
+    count_up(now.block, kept);
   }
   rattle_dealloc(now.block);
   return requests.made;
@@ -81,7 +86,7 @@ int main(void) {
   for (size_t number = 0; number < sizeof lengths / sizeof *lengths; number++)
     for (size_t alignment = 1; alignment <= 16; alignment *= 2) {
       size_t made = ask(lengths[number], alignment, 0);
-      check(made == 6, "how many requests were made", lengths[number], alignment);
+      check(made == 5, "how many requests were made", lengths[number], alignment);
       for (size_t refused = 1; refused <= made; refused++)
         ask(lengths[number], alignment, refused);
     }
