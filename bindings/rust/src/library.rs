@@ -68,4 +68,35 @@ mod heap {
         // SAFETY: likewise.
         unsafe { free(block) }
     }
+
+    #[cfg(test)]
+    mod tests {
+        use super::{rattle_alloc, rattle_dealloc, rattle_realloc};
+        use std::slice::from_raw_parts_mut;
+
+        /// More bytes than any machine gives.
+        const MOST: usize = isize::MAX as usize;
+
+        #[test]
+        fn memory_is_given_as_the_library_assumes() {
+            for length in [0, 1, 16, 100_000] {
+                let mut tried = rattle_alloc(length, 16);
+                assert!(tried.is_there && tried.block as usize % 16 == 0);
+                for other in [length + 1, 0, length, 2 * length] {
+                    tried = rattle_realloc(tried.block, 0, other, 16);
+                    assert!(tried.is_there && tried.block as usize % 16 == 0);
+                    // SAFETY: the block has that many bytes, and nothing else is at it.
+                    unsafe { from_raw_parts_mut(tried.block.cast::<u8>(), other) }.fill(7);
+                }
+                let refused = rattle_realloc(tried.block, 2 * length, MOST, 16);
+                assert!(!refused.is_there && !refused.block.is_null());
+                // SAFETY: likewise: a block that is not given another length stays.
+                let kept = unsafe { from_raw_parts_mut(tried.block.cast::<u8>(), 2 * length) };
+                assert!(kept.iter().all(|it| *it == 7));
+                rattle_dealloc(tried.block);
+            }
+            let refused = rattle_alloc(MOST, 1);
+            assert!(!refused.is_there && !refused.block.is_null());
+        }
+    }
 }
