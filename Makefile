@@ -73,7 +73,7 @@ $(OUT)/libsshkey.a: $(OUT)/library.o $(OUT)/heap.o
 	$(AR) rcs $@ $^
 
 $(OUT)/libsshkey.so: $(OUT)/libsshkey.a $(ROOT)/bindings/sshkey.map
-	$(CC) -shared -o $@ $(READONLY) -Wl,-soname,$(SONAME) \
+	$(CC) $(CFLAGS) -shared -o $@ $(LDFLAGS) $(READONLY) -Wl,-soname,$(SONAME) \
 		-Wl,--version-script=$(ROOT)/bindings/sshkey.map -Wl,--no-undefined \
 		-Wl,--whole-archive $(OUT)/libsshkey.a -Wl,--no-whole-archive
 
@@ -97,7 +97,7 @@ $(OUT)/parts.a: $(PARTS)
 $(OUT)/sshkey-authorized-keys: CRYPTO :=
 
 $(PROGRAMS): $(OUT)/%: $(OUT)/%.o $(OUT)/parts.a $(OUT)/libsshkey.a
-	$(CC) $(CFLAGS) -pie $(READONLY) -o $@ $^ $(CRYPTO)
+	$(CC) $(CFLAGS) -pie $(LDFLAGS) $(READONLY) -o $@ $^ $(CRYPTO)
 
 # both packages read the text themselves
 go: $(TEXT)
