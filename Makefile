@@ -101,6 +101,7 @@ $(PROGRAMS): $(OUT)/%: $(OUT)/%.o $(OUT)/parts.a $(OUT)/libsshkey.a
 
 # both packages read the text themselves
 go: $(TEXT)
+	@mkdir -p $(OUT)
 	cd $(ROOT)/examples/go && go build -o $(OUT)/check-go .
 
 # the program takes the verifier of the package
