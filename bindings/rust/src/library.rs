@@ -6,10 +6,13 @@
 extern "C" {}
 
 #[cfg(all(not(feature = "installed"), target_os = "linux", target_arch = "x86_64"))]
-std::arch::global_asm!(include_str!("sshkey_linux_amd64.S"), options(att_syntax, raw));
+std::arch::global_asm!(
+    include_str!("../../go/sshkey/sshkey_linux_amd64.S"),
+    options(att_syntax, raw)
+);
 
 #[cfg(all(not(feature = "installed"), target_os = "linux", target_arch = "aarch64"))]
-std::arch::global_asm!(include_str!("sshkey_linux_arm64.S"), options(raw));
+std::arch::global_asm!(include_str!("../../go/sshkey/sshkey_linux_arm64.S"), options(raw));
 
 #[cfg(not(any(
     feature = "installed",

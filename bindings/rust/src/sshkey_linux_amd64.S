@@ -1,1 +1,0 @@
-../../go/sshkey/sshkey_linux_amd64.S

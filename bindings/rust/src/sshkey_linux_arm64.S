@@ -1,1 +1,0 @@
-../../go/sshkey/sshkey_linux_arm64.S
