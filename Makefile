@@ -4,7 +4,8 @@
 #     out/sshkey-check  out/sshkey-principals  out/sshkey-authorized-keys
 #
 # and with `make go`, which takes Go (Debian: golang-go), the example in Go: out/check-go;
-# with `make rust`, which takes Rust (Debian: cargo), the one in Rust: out/check-rust.
+# with `make rust`, which takes Rust (Debian: cargo), the one in Rust: out/check-rust; and with
+# `make dist` packages, which need no toolchain: out/dist.
 #
 # Any C compiler for Linux on x86-64 or aarch64 does. The toolchain is asked for only where the text
 # is not there, or of other sources. The helpers take OpenSSL's libcrypto (Debian: libssl-dev), and
@@ -110,6 +111,10 @@ rust: $(TEXT)
 		cargo build --offline --locked --release --features libcrypto --example check
 	cp $(OUT)/rust/release/examples/check $(OUT)/check-rust
 
+# the packages, which need no toolchain
+dist: $(TEXT)
+	$(ROOT)/bindings/dist $(OUT)/dist
+
 check: lib
 	$(ROOT)/checks/foreign --calls
 
@@ -146,6 +151,6 @@ clean:
 	rm -rf $(OUT)
 
 .DEFAULT_GOAL := all
-.PHONY: all lib always check go rust install uninstall clean
+.PHONY: all lib always check go rust dist install uninstall clean
 .DELETE_ON_ERROR:
 .SECONDARY:
