@@ -21,7 +21,6 @@ COMPILERS = {it: f"{machine}-linux-gnu-gcc" for it, machine in MACHINES.items()}
 PYTHON = "/usr/bin/python3"
 # the glibc of this year or later
 MANYLINUX = "manylinux2014"
-MODULE = "rafendilo.example/go"
 
 
 def run(words, folder, **names):
@@ -137,7 +136,8 @@ def make_wheels(_release, folder, room, out):
 
 
 def make_go(release, folder, _room, out):
-    pack_zip(f"{folder}/bindings/go", f"{out}/sshkey-go-{release.version}.zip", release.second, f"{MODULE}@v{release.version}")
+    name = f"sshkey-go-{release.version}"
+    pack_zip(f"{folder}/bindings/go", f"{out}/{name}.zip", release.second, name)
 
 
 def make_rust(release, folder, room, out):
