@@ -65,18 +65,29 @@ def answer_lines(answer: Callable[[bytes], str]) -> bool:
     return is_good
 
 
+def answer_words(command: str, words: list[str]) -> bool:
+    """Answers the command, and returns whether nothing is refused."""
+    if sys.stdin is None or sys.stdout is None:
+        raise OSError("standard input or output is closed")
+    if command == "fingerprint" and not words:
+        is_good = answer_lines(fingerprint)
+    elif command == "check" and len(words) in (2, 3):
+        is_good = answer_lines(checker(*words))
+    else:
+        raise ValueError(f"not called as follows\n{__doc__}")
+    sys.stdout.flush()
+    return is_good
+
+
 def main() -> int:
     command, *words = sys.argv[1:] or [""]
     try:
-        if command == "fingerprint" and not words:
-            return 0 if answer_lines(fingerprint) else 1
-        if command == "check" and len(words) in (2, 3):
-            return 0 if answer_lines(checker(*words)) else 1
+        return 0 if answer_words(command, words) else 1
     except (ImportError, OSError, ValueError, MemoryError) as fault:
         print(f"sshkey: {fault or type(fault).__name__}", file=sys.stderr)
+        # or else Python writes what is left, and its status is that of this
+        sys.stdout = None  # type: ignore[assignment]
         return 2
-    print(__doc__, file=sys.stderr)
-    return 2
 
 
 if __name__ == "__main__":
