@@ -76,7 +76,8 @@ def stage_manifests(release, folder):
         write(manifest, text.replace("\n\n", "\n" + "".join(f'{it} = "{url}"\n' for it, url in known) + "\n", 1))
     for language in ("go", "python", "rust"):
         append(f"{folder}/bindings/{language}/README.md", f"\n{release.where()}\n")
-        os.symlink("../../PROVED-BY", f"{folder}/bindings/{language}/PROVED-BY")
+        for name in ("LICENSE-APACHE", "LICENSE-MIT", "NOTICE", "PROVED-BY"):
+            shutil.copy(f"{folder}/{name}", f"{folder}/bindings/{language}")
 
 
 def append(path, text):
@@ -141,9 +142,14 @@ def make_go(release, folder, _room, out):
 
 
 def make_rust(release, folder, room, out):
-    """cargo also builds what it has packed."""
-    at = copied(folder, room, "rust")
-    run(["cargo", "package", "--offline", "--locked", "--allow-dirty", "--target-dir", f"{room}/rust/target"], f"{at}/bindings/rust")
+    """With the texts, which elsewhere lie in Go's folder. cargo also builds what it has packed."""
+    at = f"{copied(folder, room, 'rust')}/bindings/rust"
+    for path in TEXTS:
+        shutil.copy(f"{folder}/{path}", f"{at}/src")
+    with open(f"{at}/src/library.rs", encoding="utf-8") as file:
+        text = file.read()
+    write(f"{at}/src/library.rs", text.replace("../../go/sshkey/", ""))
+    run(["cargo", "package", "--offline", "--locked", "--allow-dirty", "--target-dir", f"{room}/rust/target"], at)
     shutil.copy(f"{room}/rust/target/package/sshkey-{release.version}.crate", out)
 
 

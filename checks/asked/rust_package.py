@@ -4,7 +4,7 @@ import re
 
 from lib.harness import ROOT
 
-from .linked import BINDINGS, EXAMPLES, run
+from .linked import BINDINGS, run
 
 PACKAGE = os.path.join(BINDINGS, "rust")
 CARGO = ["--offline", "--locked"]
@@ -18,7 +18,7 @@ LINTS = ["-D", "warnings", "-A", "unknown_lints", *UNSAFE]
 class Rust:
     """The package of bindings/rust, and programs over it, with its verifier."""
 
-    language, example, asker = "Rust", f"{EXAMPLES}/check.rs", f"{ROOT}/checks/asked/rust/asker.rs"
+    language, example, asker = "Rust", f"{PACKAGE}/examples/check.rs", f"{ROOT}/checks/asked/rust/asker.rs"
 
     def __init__(self, maker, _out):
         self.maker, self.target, self.installed = maker, maker.path("rust"), maker.path("rust over what is installed")

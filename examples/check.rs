@@ -1,1 +1,0 @@
-../bindings/rust/examples/check.rs
