@@ -5,7 +5,7 @@ import shutil
 import subprocess
 import sys
 
-from .archives import files_below, pack_tar, pack_zip, write_sums
+from .archives import files_below, mode_of, pack_tar, pack_zip, write_sums
 from .papers import MACHINES, filled, indented, proved_by
 
 # what of the tree the source package has: nothing that takes the proofs or the toolchain; and what git does not keep, the texts
@@ -43,7 +43,9 @@ def stage(release, room, git):
     folder = f"{room}/sshkey-{release.version}"
     for path in [*git("ls-files", "--", *SOURCES).splitlines(), *TEXTS]:
         os.makedirs(os.path.dirname(f"{folder}/{path}"), exist_ok=True)
-        shutil.copy2(f"{release.root}/{path}", f"{folder}/{path}", follow_symlinks=False)
+        shutil.copyfile(f"{release.root}/{path}", f"{folder}/{path}")
+        # as git has it, whatever the clone's umask
+        os.chmod(f"{folder}/{path}", mode_of(f"{release.root}/{path}"))
     write(f"{folder}/PROVED-BY", proved_by(release))
     stage_debian(release, folder)
     stage_manifests(release, folder)
