@@ -1,14 +1,18 @@
-# Builds what other languages link, of the proved crate sshkey_c, and the programs of helpers/:
+# Builds what other languages link, of the text of the proved crate sshkey_c, and the programs of helpers/:
 #
 #     out/libsshkey.a  out/libsshkey.so  out/libsshkey.so.1  out/sshkey.pc
 #     out/sshkey-check  out/sshkey-principals  out/sshkey-authorized-keys
 #
 # and with `make go`, which takes Go (Debian: golang-go), the example in Go: out/check-go;
-# with `make rust`, which takes Rust (Debian: cargo), the one in Rust: out/check-rust.
+# with `make rust`, which takes Rust (Debian: cargo), the one in Rust: out/check-rust; and with
+# `make dist` packages, which need no toolchain: out/dist.
 #
-# The helpers take OpenSSL's libcrypto (Debian: libssl-dev). `make install PREFIX=/usr/local` copies
-# header, libraries, a sshkey.pc of their own, the helpers and their manual pages; `make uninstall`
-# removes them. docs/FOREIGN.md is the page to read.
+# Any C compiler for Linux on x86-64 or aarch64 does. The toolchain is asked for only where the text
+# is not there, or of other sources. The helpers take OpenSSL's libcrypto (Debian: libssl-dev), and
+# `make lib` is without them. `make check` asks the library's calls, and holds their answers against
+# ssh-keygen. `make install PREFIX=/usr/local` copies header, libraries, a sshkey.pc that goes with
+# them where they are moved, the helpers and their manual pages; `make uninstall` removes them.
+# docs/FOREIGN.md is the page to read.
 
 # make divides names at blanks
 ifneq ($(words $(MAKEFILE_LIST) $(CURDIR)),2)
@@ -17,13 +21,7 @@ endif
 ROOT := $(abspath $(dir $(lastword $(MAKEFILE_LIST))))
 OUT := $(ROOT)/out
 PREFIX := /usr/local
-# sshkey.pc says where they lie, so it can't be relative
-override PREFIX := $(abspath $(PREFIX))
-# the kit's folder, where rt is installed
-KIT := $(patsubst %/,%,$(dir $(shell rt doc)))
-# the library of the crate, which bindings/library builds; and rattle_alloc and its like, over malloc
-LIBRARY := $(ROOT)/crates/sshkey_c/out/libsshkey_c.a
-HEAP := $(KIT)/c/liblibc_c.a
+LIBDIR := $(PREFIX)/lib
 
 VERSION := $(shell cat $(ROOT)/VERSION)
 # of the header, whose # would begin a comment here
@@ -34,6 +32,10 @@ FILL := sed -e 's|@version@|$(VERSION)|'
 
 CC := cc
 CFLAGS := -O2
+# the processor that is compiled for, as Go calls it
+PROCESSOR := $(patsubst aarch64-%,arm64,$(patsubst x86_64-%,amd64,$(shell $(CC) -dumpmachine)))
+# the text of the crate for it, which lies where Go reads it; an archive does as well
+TEXT := $(ROOT)/bindings/go/sshkey/sshkey_linux_$(PROCESSOR).S
 # the flag, where the compiler takes it
 TAKEN = $(shell $(CC) -Werror $(1) -E -x c /dev/null >/dev/null 2>&1 && echo $(1))
 # sshd starts the helpers with what a client sent
@@ -48,26 +50,31 @@ PROGRAMS := $(OUT)/sshkey-check $(OUT)/sshkey-principals $(OUT)/sshkey-authorize
 PARTS := $(addprefix $(OUT)/,program.o login.o memory.o show.o certificate.o sshsig.o judge.o sha1.o verdict.o verify.o)
 PAGES := $(notdir $(wildcard $(ROOT)/helpers/*.[18]))
 
-ifeq ($(KIT),)
-ifneq ($(if $(MAKECMDGOALS),$(filter-out clean uninstall,$(MAKECMDGOALS)),all),)
-$(error the toolchain's command rt is not found)
+vpath %.c $(ROOT)/helpers $(ROOT)/bindings/go/sshkey
+
+lib: $(OUT)/libsshkey.a $(OUT)/libsshkey.so $(OUT)/$(SONAME) $(OUT)/sshkey.pc
+all: lib $(PROGRAMS)
+
+# it knows itself whether a text is of the sources; a package has none
+$(ROOT)/bindings/go/sshkey/sshkey_linux_$(PROCESSOR).S: always
+ifneq ($(wildcard $(ROOT)/crates.txt),)
+	@$(ROOT)/bindings/library
 endif
-endif
+	@test -f $@ || { echo "there is no library for this processor: $@"; exit 1; }
 
-all: $(OUT)/libsshkey.a $(OUT)/libsshkey.so $(OUT)/$(SONAME) $(OUT)/sshkey.pc $(PROGRAMS)
+$(OUT)/library.o: $(TEXT)
+	@mkdir -p $(OUT)
+	$(if $(filter %.a,$<),$(LD) -r --whole-archive,$(CC) -c) -o $@ $<
 
-# it knows itself whether the library is current
-$(ROOT)/crates/sshkey_c/out/libsshkey_c.a: always
-	@$(ROOT)/bindings/library >/dev/null
+# malloc and its like, as the crate asks for them
+$(OUT)/heap.o: HARDENED += -fPIC
 
-$(OUT)/libsshkey.a: $(LIBRARY) $(HEAP)
-	@mkdir -p $(OUT)/heap
-	cp $(LIBRARY) $@
-	rm -f $(OUT)/heap/*.o
-	cd $(OUT)/heap && $(AR) x $(HEAP) && $(AR) rcs $@ *.o
+$(OUT)/libsshkey.a: $(OUT)/library.o $(OUT)/heap.o
+	rm -f $@
+	$(AR) rcs $@ $^
 
 $(OUT)/libsshkey.so: $(OUT)/libsshkey.a $(ROOT)/bindings/sshkey.map
-	$(CC) -shared -o $@ $(READONLY) -Wl,-soname,$(SONAME) \
+	$(CC) $(CFLAGS) -shared -o $@ $(LDFLAGS) $(READONLY) -Wl,-soname,$(SONAME) \
 		-Wl,--version-script=$(ROOT)/bindings/sshkey.map -Wl,--no-undefined \
 		-Wl,--whole-archive $(OUT)/libsshkey.a -Wl,--no-whole-archive
 
@@ -77,9 +84,9 @@ $(OUT)/$(SONAME): $(OUT)/libsshkey.so
 # where header and libraries are: here, or where they are installed
 $(OUT)/sshkey.pc: $(ROOT)/bindings/sshkey.pc.in $(ROOT)/VERSION
 	@mkdir -p $(OUT)
-	$(FILL) -e 's|@include@|$(ROOT)/include|' -e 's|@lib@|$(OUT)|' $< >$@
+	$(FILL) -e 's|@include@|$(ROOT)/include|' -e 's|@lib@|$${pcfiledir}|' $< >$@
 
-$(OUT)/%.o: $(ROOT)/helpers/%.c $(HEADERS)
+$(OUT)/%.o: %.c $(HEADERS)
 	@mkdir -p $(OUT)
 	$(CC) $(WARNED) $(CFLAGS) $(HARDENED) -c -o $@ $<
 
@@ -91,21 +98,30 @@ $(OUT)/parts.a: $(PARTS)
 $(OUT)/sshkey-authorized-keys: CRYPTO :=
 
 $(PROGRAMS): $(OUT)/%: $(OUT)/%.o $(OUT)/parts.a $(OUT)/libsshkey.a
-	$(CC) $(CFLAGS) -pie $(READONLY) -o $@ $^ $(CRYPTO)
+	$(CC) $(CFLAGS) -pie $(LDFLAGS) $(READONLY) -o $@ $^ $(CRYPTO)
 
-# Go does not see that the library is another, so the program is always linked
-go: $(OUT)/libsshkey.a
-	rm -f $(OUT)/check-go
-	cd $(ROOT)/examples/go && CGO_LDFLAGS=-L$(OUT) go build -o $(OUT)/check-go .
+# both packages read the text themselves
+go: $(TEXT)
+	@mkdir -p $(OUT)
+	cd $(ROOT)/examples/go && go build -o $(OUT)/check-go .
 
 # the program takes the verifier of the package
-rust: $(OUT)/libsshkey.a
-	cd $(ROOT)/bindings/rust && SSHKEY_LIB_DIR=$(OUT) CARGO_TARGET_DIR=$(OUT)/rust \
+rust: $(TEXT)
+	cd $(ROOT)/bindings/rust && CARGO_TARGET_DIR=$(OUT)/rust \
 		cargo build --offline --locked --release --features libcrypto --example check
 	cp $(OUT)/rust/release/examples/check $(OUT)/check-rust
 
+# the packages, which need no toolchain
+dist: $(TEXT)
+	$(ROOT)/bindings/dist $(OUT)/dist
+
+check: lib
+	$(ROOT)/checks/foreign --calls
+
 INCLUDE := $(DESTDIR)$(PREFIX)/include
-LIB := $(DESTDIR)$(PREFIX)/lib
+LIB := $(DESTDIR)$(LIBDIR)
+# from where sshkey.pc is installed
+UP := $(subst $() ,/,$(patsubst %,..,$(subst /, ,$(LIBDIR:$(PREFIX)/%=%)/pkgconfig)))
 BIN := $(DESTDIR)$(PREFIX)/bin
 MAN := $(DESTDIR)$(PREFIX)/share/man
 # where the manual page is installed: sshkey-check.1 in man1
@@ -118,7 +134,7 @@ install: all
 	install -m 755 $(OUT)/libsshkey.so $(LIB)/libsshkey.so.$(VERSION)
 	ln -sf libsshkey.so.$(VERSION) $(LIB)/$(SONAME)
 	ln -sf $(SONAME) $(LIB)/libsshkey.so
-	$(FILL) -e 's|@include@|$(PREFIX)/include|' -e 's|@lib@|$(PREFIX)/lib|' \
+	$(FILL) -e 's|@include@|$${pcfiledir}/$(UP)/include|' -e 's|@lib@|$${pcfiledir}/..|' \
 		$(ROOT)/bindings/sshkey.pc.in >$(LIB)/pkgconfig/sshkey.pc
 	install -m 755 $(PROGRAMS) $(BIN)
 	$(foreach it,$(PAGES),install -m 644 $(ROOT)/helpers/$(it) $(call INSTALLED,$(it)) &&) true
@@ -134,6 +150,7 @@ uninstall:
 clean:
 	rm -rf $(OUT)
 
-.PHONY: all always go rust install uninstall clean
+.DEFAULT_GOAL := all
+.PHONY: all lib always check go rust dist install uninstall clean
 .DELETE_ON_ERROR:
 .SECONDARY:

@@ -857,7 +857,7 @@ static inline const uint8_t *sshkey_bytes(const void *bytes) {
   return (const uint8_t *)(bytes ? bytes : (const void *)"");
 }
 
-/* The layout that the library was built for: Linux on x86-64. */
+/* The layout that the library was built for: Linux on x86-64 and aarch64. */
 #ifdef __cplusplus
 #define SSHKEY_IS(fact) static_assert(fact, #fact)
 #else

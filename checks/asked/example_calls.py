@@ -9,7 +9,7 @@ from lib.signatures import armoured
 
 from .answers import WITHOUT_WORDS
 from .hosts import LATER
-from .linked import BINDINGS, EXAMPLES, enumerations, run
+from .linked import ABI, BINDINGS, EXAMPLES, enumerations, run
 from .revocation_calls import EMPTY, made_list
 from .stubs import OTHER_ABI, check_other_abi, stub_library
 
@@ -90,6 +90,26 @@ def check_certificates(count, built, maker, kind, middle):
     ran = run([f"{built.sanitized}/sshkey-check", "--ca", later, "--user", "alice", "--at", str(middle)], input=line)
     said = (ran.returncode, ran.stdout, ran.stderr)
     count.check("and passes over a later kind of key", said == (VALID, "valid\n", f"sshkey-check: {later}:1: {PASSED_OVER}\n"), ran)
+
+
+def check_module(count, built, maker, kind, middle):
+    """`python -m sshkey` has the same statuses, and tells the fingerprint that ssh-keygen shows."""
+    words = [*python(built, "")[:2], f"PYTHONPATH={BINDINGS}/python", sys.executable, "-m", "sshkey"]
+    cases = [(*it[:2], "alice", *it[2:]) for it in certificate_cases(maker, kind, middle)]
+    cases += [("another user", kind.path, "eve", str(middle), f"{kind.line}\n", INVALID)]
+    for name, authorities, user, second, given, wanted in cases:
+        ran = run([*words, "check", authorities, user, second], input=given)
+        told = bool(ran.stdout) == (wanted != UNTOLD) and bool(ran.stderr) == (wanted == UNTOLD)
+        count.check(f"python -m sshkey: {name}", ran.returncode == wanted and told, ran.returncode, ran.stdout, ran.stderr[-500:])
+    wanted = run(["ssh-keygen", "-lf", maker.path("user0.pub")]).stdout.split()[1]
+    ran = run([*words, "fingerprint"], input=f"{maker.read('user0.pub')}\n")
+    count.check("python -m sshkey tells the fingerprint", (ran.returncode, ran.stdout) == (VALID, f"{wanted}\n"), ran)
+    for name, given in (("no command", []), ("no user", ["check", kind.path]), ("an unknown command", ["sign"])):
+        ran = run([*words, *given], input="")
+        count.check(f"python -m sshkey with {name}", ran.returncode == UNTOLD and "python -m sshkey check" in ran.stderr, ran)
+    with open("/dev/full", "wb") as full:
+        ran = run([*words, "fingerprint"], input=maker.read("user0.pub"), capture_output=False, stdout=full, stderr=-1)
+    count.check("python -m sshkey: nothing is written", ran.returncode == UNTOLD and ran.stderr, ran)
 
 
 def check_revoked(count, out, maker, programs):
@@ -291,6 +311,15 @@ def check_copies(count, built, maker):
         ran = loaded(f"{above}/{top}/{inner}")
         taken = ran.stdout.strip() == os.path.realpath(f"{above}/out/libsshkey.so")
         count.check(f"a package in {top}/{inner}: the library above is taken: {is_taken}", taken == is_taken, ran.stdout, ran.stderr[-500:])
+    # where a wheel has the library, which the sources do not look at
+    for top, is_taken in (("site", True), ("bindings", False)):
+        inside = f"{maker.folder}/copied-{top}-python/{top}/python/sshkey/libsshkey.so.{ABI}"
+        shutil.copy(f"{built.plain}/libsshkey.so", inside)
+        ran = loaded(os.path.dirname(os.path.dirname(inside)))
+        taken = ran.stdout.strip() == os.path.realpath(inside)
+        count.check(f"a library inside the package in {top}/python: it is taken: {is_taken}", taken == is_taken, ran.stdout, ran.stderr[-500:])
+    ran = loaded(f"{maker.folder}/copied-bindings-site/bindings/site", LD_LIBRARY_PATH=built.plain)
+    count.check("else the loader finds it", ran.stdout.strip().endswith(f"libsshkey.so.{ABI}"), ran.stdout, ran.stderr[-500:])
     os.makedirs(f"{maker.folder}/linked-python/elsewhere")
     sources = f"{maker.folder}/copied-bindings-python"
     os.symlink(f"{sources}/bindings/python/sshkey", f"{maker.folder}/linked-python/elsewhere/sshkey")
@@ -329,6 +358,7 @@ def check_authorities(count, built, kind):
 
 def check_example_calls(count, built, maker, kind, middle):
     check_certificates(count, built, maker, kind, middle)
+    check_module(count, built, maker, kind, middle)
     check_helpers(count, built, maker, kind)
     check_issuing(count, built, maker)
     check_closed(count, built, maker)

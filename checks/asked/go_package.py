@@ -61,15 +61,21 @@ class Go:
     def __init__(self, maker, out):
         self.maker, self.out = maker, out
 
-    def run(self, at, *words, library=None, **environment):
-        """A run of go that asks no network, over the library in that folder."""
+    def run(self, at, *words, **environment):
+        """A run of go that asks no network."""
         kept = {**os.environ, "GOFLAGS": "", "GOPROXY": "off", "GOTOOLCHAIN": "local", "GOWORK": "off", "CGO_ENABLED": "1"}
-        return run(["go", *words], cwd=at, env={**kept, "CGO_LDFLAGS": f"-L{library or self.out}", **environment})
+        return run(["go", *words], cwd=at, env={**kept, **environment})
+
+    @staticmethod
+    def over(library):
+        """The words and the environment by which a program is linked with the library that is installed in the folder."""
+        return ["-tags", "sshkey_installed"], {"PKG_CONFIG_PATH": library, "CGO_LDFLAGS": f"-Wl,-rpath,{library}"}
 
     def built(self, count, at, name, library=None):
-        """The path of the program whose sources stand there."""
+        """The path of the program whose sources stand there, over the text in the package or the library in that folder."""
         path = self.maker.path(f"Go {name}")
-        made = self.run(at, "build", "-o", path, ".", library=library)
+        words, environment = self.over(library) if library else ([], {})
+        made = self.run(at, "build", *words, "-o", path, ".", **environment)
         count.check(f"Go: {name} is built", made.returncode == 0, made.stderr[-3000:])
         return path
 
@@ -127,6 +133,6 @@ class Go:
         """With the tag sshkey_installed the package is linked with what pkg-config finds; without cgo it says what it wants."""
         said = self.run(self.module, "build", "./sshkey", CGO_ENABLED="0")
         count.check("Go: without cgo the package says so", said.returncode and "wants_CGO_ENABLED_1" in said.stderr, said.stderr)
-        environment = {"PKG_CONFIG_PATH": self.out, "CGO_LDFLAGS": "", "LD_LIBRARY_PATH": self.out}
-        said = self.run(self.module, "test", "-count=1", "-tags", "sshkey_installed", "-run", "AtOnce|Copies", "./sshkey", **environment)
+        words, environment = self.over(self.out)
+        said = self.run(self.module, "test", "-count=1", *words, "-run", "AtOnce|Copies", "./sshkey", **environment)
         count.check("Go: the installed library is linked", said.returncode == 0 and "no tests" not in said.stdout, said.stdout, said.stderr)

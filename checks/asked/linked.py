@@ -55,9 +55,9 @@ def run(words, **how):
 class Built:
     """The libraries and programs, built in a folder: plain, and the C that calls the library with sanitizers."""
 
-    def __init__(self, folder, library):
+    def __init__(self, folder, text=None):
         self.plain, self.sanitized = f"{folder}/plain", f"{folder}/sanitized"
-        self.given = [f"LIBRARY={os.path.abspath(library)}"] if library else []
+        self.given = [f"TEXT={os.path.abspath(text)}"] if text else []
         self.said = ""
         self.made = self.make(self.plain, "-O2 -g") and self.make(self.sanitized, SANITIZED)
 

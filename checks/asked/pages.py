@@ -84,14 +84,14 @@ def built_c(folder, out):
 def built_go(folder, out):
     lines = re.search(GO_LINES, page()).groups()
     write(folder, main_go=GO_PROGRAM.format(blocks("go")[0]), go_mod=here("\n\n".join(("module login", "go 1.19", *lines)), out) + "\n")
-    kept = {**os.environ, "GOFLAGS": "", "GOPROXY": "off", "GOTOOLCHAIN": "local", "GOWORK": "off", "CGO_LDFLAGS": f"-L{out}"}
+    kept = {**os.environ, "GOFLAGS": "", "GOPROXY": "off", "GOTOOLCHAIN": "local", "GOWORK": "off"}
     return run(["go", "build", "-o", "login", "."], cwd=folder, env=kept)
 
 
 def built_rust(folder, out):
     program, line = RUST_PROGRAM.format(blocks("rust")[0]), re.search(RUST_LINE, page())[1]
     write(folder, Cargo_toml=PACKAGE.format(here(line, out)), src__main_rs=program)
-    kept = {**os.environ, "SSHKEY_LIB_DIR": out, "CARGO_TARGET_DIR": f"{folder}/target"}
+    kept = {**os.environ, "CARGO_TARGET_DIR": f"{folder}/target"}
     return run(["cargo", "build", "--offline"], cwd=folder, env=kept)
 
 

@@ -4,7 +4,7 @@ import re
 
 from lib.harness import ROOT
 
-from .linked import BINDINGS, EXAMPLES, run
+from .linked import BINDINGS, run
 
 PACKAGE = os.path.join(BINDINGS, "rust")
 CARGO = ["--offline", "--locked"]
@@ -16,30 +16,34 @@ LINTS = ["-D", "warnings", "-A", "unknown_lints", *UNSAFE]
 
 
 class Rust:
-    """The package of bindings/rust, and programs over it, with its verifier. The library stands in `out`."""
+    """The package of bindings/rust, and programs over it, with its verifier."""
 
-    language, example, asker = "Rust", f"{EXAMPLES}/check.rs", f"{ROOT}/checks/asked/rust/asker.rs"
+    language, example, asker = "Rust", f"{PACKAGE}/examples/check.rs", f"{ROOT}/checks/asked/rust/asker.rs"
 
-    def __init__(self, maker, out):
-        self.maker, self.target, self.out = maker, maker.path("rust"), out
-        names = {"SSHKEY_LIB_DIR": out, "CARGO_TARGET_DIR": self.target, "RUSTFLAGS": "-D warnings", "RUSTDOCFLAGS": "-D warnings"}
+    def __init__(self, maker, _out):
+        self.maker, self.target, self.installed = maker, maker.path("rust"), maker.path("rust over what is installed")
+        names = {"CARGO_TARGET_DIR": self.target, "RUSTFLAGS": "-D warnings", "RUSTDOCFLAGS": "-D warnings"}
         self.environment = {**os.environ, **names}
 
-    def cargo(self, *words):
-        return run(["cargo", *words], cwd=PACKAGE, env=self.environment)
+    def cargo(self, *words, **environment):
+        return run(["cargo", *words], cwd=PACKAGE, env={**self.environment, **environment})
 
     def built(self, count, source, name, library=None):
-        """The path of the program, linked with the library in that folder, by rustc."""
-        path, package = self.maker.path(f"Rust {name}"), f"sshkey={self.target}/debug/libsshkey.rlib"
-        linked = ["-L", f"native={library or self.out}", "--extern", package]
+        """The path of the program, over the text in the package or the library in that folder, by rustc."""
+        path, target = self.maker.path(f"Rust {name}"), self.installed if library else self.target
+        linked = ["-L", f"native={library}"] if library else []
+        linked += ["--extern", f"sshkey={target}/debug/libsshkey.rlib"]
         made = run(["rustc", "--edition", "2021", "-D", "warnings", *linked, "-o", path, source])
         count.check(f"Rust: {name} is built", made.returncode == 0, made.stderr[-3000:])
         return path
 
     def check_sources(self, count):
         """The package and its program are built without a warning, with its verifier and without it, and its own tests pass."""
-        for words in ([*CARGO, "--lib"], [*VERIFIES, "--lib", "--examples"]):
-            made = self.cargo("build", *words)
+        for words, target in (
+            ([*CARGO, "--lib"], self.target), ([*VERIFIES, "--lib", "--examples"], self.target),
+            ([*CARGO, "--features", "libcrypto,installed", "--lib"], self.installed),
+        ):  # fmt: skip
+            made = self.cargo("build", *words, CARGO_TARGET_DIR=target)
             count.check(f"Rust: {' '.join(words)} is built", made.returncode == 0, made.stderr[-3000:])
         tested = self.cargo("test", *VERIFIES)
         passed = sum(map(int, re.findall(r"^test result: ok\. (\d+) passed", tested.stdout, re.M)))

@@ -21,7 +21,13 @@ BY_PROOFS = {
     "binutils": "nm",
     "valgrind": "valgrind",
 }  # fmt: skip
-BY_ALL = {"golang-go": "go", "cargo": "cargo", "rustc": "rustc"}
+BY_ALL = {
+    "golang-go": "go",
+    "cargo": "cargo",
+    "rustc": "rustc",
+    "clang": "clang",
+    "gcc-aarch64-linux-gnu": "aarch64-linux-gnu-gcc",
+}  # fmt: skip
 # while the table is built, in kibibytes; and while other builds stand beside it
 MEMORY, MEMORY_SIDE_BY_SIDE = 4 << 20, 8 << 20
 

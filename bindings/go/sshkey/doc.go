@@ -25,10 +25,8 @@
 //
 // # The library
 //
-// In this tree the package links out/libsshkey.a, which `make` builds. With
-// the build tag sshkey_installed it links what pkg-config calls sshkey (`make
-// install`). It takes cgo, on Linux on x86-64. Go does not see that the library is another: after a
-// new one, delete the program before it is built (or `go build -a`), and test with -count=1. That
-// the library answers rightly is proved; this package is written by hand and tested
-// (checks/bindings).
+// The library lies in this package as assembly text, for Linux on x86-64 and aarch64. It takes cgo
+// and a C compiler, and no library or path. With the build tag sshkey_installed the package links
+// what pkg-config calls sshkey (`make install`) instead. That the library answers rightly is proved;
+// this package is written by hand and tested (checks/bindings).
 package sshkey

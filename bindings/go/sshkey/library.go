@@ -1,7 +1,5 @@
 package sshkey
 
-// #cgo !sshkey_installed CFLAGS: -I${SRCDIR}/../../../include
-// #cgo !sshkey_installed LDFLAGS: -L${SRCDIR}/../../../out -l:libsshkey.a
 // #cgo sshkey_installed pkg-config: sshkey
 // #include <stdlib.h>
 // #include "sshkey.h"

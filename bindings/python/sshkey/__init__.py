@@ -15,8 +15,8 @@ Each call says what it raises: Refused, which is a ValueError, where what is giv
 which nothing follows about it. All raise TypeError for a text in place of bytes and for a number that is not whole, and
 UnicodeEncodeError, a ValueError too, for a text that UTF-8 can't write.
 
-The library is the file that SSHKEY_LIBRARY names in the environment, or else out/libsshkey.so of the sources (`make`
-builds it), or else the system's. Whoever sets SSHKEY_LIBRARY has their code run: it is ignored where the effective and the real
+The library is the file that SSHKEY_LIBRARY names in the environment, or else the one that a wheel has, in the sources
+out/libsshkey.so (`make` builds it), or else the system's. Whoever sets SSHKEY_LIBRARY has their code run: it is ignored where the effective and the real
 user or group differ, and a helper that keeps its caller's environment in another way has to clear it. A library of another ABI, or
 without one of the calls, is refused: OSError, when this package is imported. Calls from several threads at once are fine.
 """

@@ -5,13 +5,15 @@ import ctypes
 import operator
 import os
 from collections.abc import Callable, Iterable
-from ctypes.util import find_library
 from typing import Any
 
 from ._header import ABI, CALLS, Part, Sha256, Span, Spans, Status
 from ._values import BytesLike, Refused
 
 HERE = os.path.dirname(os.path.realpath(__file__))
+# the name by which the system's loader finds the library, and by which it lies in the package of a wheel
+SONAME = f"libsshkey.so.{ABI}"
+INSIDE = os.path.join(HERE, SONAME)
 # where the sources have what is built; a copy of the package elsewhere has nothing there
 BUILT = os.path.join(HERE, "..", "..", "..", "out", "libsshkey.so")
 IS_IN_SOURCES = HERE.split(os.sep)[-3:-1] == ["bindings", "python"]
@@ -21,6 +23,12 @@ def _named() -> str | None:
     """The file that SSHKEY_LIBRARY names, unless another user may have set it than the one by whose rights the program runs."""
     is_own = (os.getuid(), os.getgid()) == (os.geteuid(), os.getegid())
     return os.environ.get("SSHKEY_LIBRARY") if is_own else None
+
+
+def _path() -> str:
+    """The file that is named, or else the one of the sources or of the wheel, or else what the system's loader finds."""
+    own = BUILT if IS_IN_SOURCES else INSIDE
+    return _named() or (own if os.path.exists(own) else SONAME)
 
 
 def _fault(library: ctypes.CDLL) -> str | None:
@@ -35,10 +43,7 @@ def _fault(library: ctypes.CDLL) -> str | None:
 
 
 def _loaded() -> ctypes.CDLL:
-    built = BUILT if IS_IN_SOURCES and os.path.exists(BUILT) else None
-    path = _named() or built or find_library("sshkey")
-    if not path:
-        raise OSError("libsshkey.so is not built: run make")
+    path = _path()
     library = ctypes.CDLL(path)
     fault = _fault(library)
     if fault:

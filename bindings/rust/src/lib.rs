@@ -34,8 +34,8 @@
 //! # assert_eq!(log_in("ssh-ed25519", &[], 0, &[]), Err(Status::LENGTH));
 //! ```
 //!
-//! The library is libsshkey.a of the folder that SSHKEY_LIB_DIR names when this crate is built, or
-//! else of out/, where `make` puts it.
+//! The library lies in this crate as text, for Linux on x86-64 and aarch64. With the feature
+//! `installed` libsshkey.a is linked instead, which the linker has to find.
 //!
 //! Each function says what it fails with: a [`Status`]; [`Status::MEMORY`] says nothing of
 //! the input; where Rust itself gets no memory for a copy, the process ends. What is lent of the
@@ -56,6 +56,7 @@ mod hosts;
 mod keys;
 #[cfg(feature = "libcrypto")]
 mod libcrypto;
+mod library;
 mod logins;
 mod permits;
 mod questions;

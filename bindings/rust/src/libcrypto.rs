@@ -22,6 +22,7 @@ struct Context([u8; 0]);
 type DigestCall = unsafe extern "C" fn() -> *const Digest;
 
 // d2i_X509(3), EVP_PKEY_new(3), EVP_DigestInit(3), EVP_DigestVerifyInit(3)
+#[link(name = "crypto")]
 extern "C" {
     fn d2i_PUBKEY(key: *mut *mut Key, der: *mut *const u8, length: c_long) -> *mut Key;
     fn EVP_PKEY_free(key: *mut Key);

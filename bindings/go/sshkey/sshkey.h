@@ -1,0 +1,968 @@
+/* sshkey.h: certificates, signatures, keys, revocation lists, authorized_keys and known_hosts of
+ * OpenSSH, for C and whoever calls C.
+ *
+ * Cryptography is yours. A check is two calls with your verification between them:
+ *
+ *   1. sshkey_certificate_question says what has to be verified: an algorithm, a key, a message and
+ *      a signature.
+ *   2. You verify that with a library of yours.
+ *   3. sshkey_certificate_validate and .._validate_for say whether the certificate is valid, given
+ *      what you found, or what is wrong with it first.
+ *
+ * An SSH signature (`ssh-keygen -Y sign`) is valid exactly if sshkey_sshsig_question answers
+ * SSHKEY_DONE, your verification says yes, and the signer's key is one that you trust for that
+ * namespace: sshkey_signer_verdict says so by a file of allowed signers. The digest of the message
+ * does in place of the message.
+ *
+ * What you owe, which nothing checks:
+ *
+ *  - Both calls get the SAME certificate or signature, with no byte changed in between, and
+ *    `is_verified` is what your verification said of the question of that one.
+ *  - No pointer is null, also where the length beside it is 0: sshkey_bytes(p) below gives one that
+ *    may be passed.
+ *  - A length is the true one: that many bytes, all initialised, lie at the pointer, in one
+ *    object, and at most PTRDIFF_MAX of them.
+ *  - What a call writes (room, answer, ..: the pointers without const) overlaps no other
+ *    argument of the call, is initialised (zero it once), and nobody else reads or writes it during
+ *    the call. What it only reads may overlap, and nobody writes it during the call.
+ *  - malloc, realloc and free come from one allocator, and no call is made from a signal handler or
+ *    from the forked child of a process with threads.
+ *
+ * In return no call keeps a pointer or hands one out, and there is no state: threads may call at
+ * once. No call writes more than `room_length` bytes to a room. All that a call tells lies in the
+ * room, from its front on, one part after the other in the order in which the answer names them,
+ * and a part is a place and a number of bytes. Where the room is too short, the call returns
+ * SSHKEY_ROOM, leaves the room as it was, and sets `length` to the number of bytes that are needed,
+ * so a room of 0 bytes asks for that number; do not rely on the other fields of `*answer` then.
+ * (The text of a fingerprint has a fixed length, so its calls set none.) Every other return value
+ * but SSHKEY_DONE leaves the room, `*answer` and `*length` as they were; but a grant is zero then.
+ * `*signer` is written with SSHKEY_DONE alone.
+ */
+#ifndef SSHKEY_H
+#define SSHKEY_H
+
+#include <stddef.h>
+#include <stdint.h>
+
+/* The version of this header, as sshkey_version tells that of the library: 200 is 0.2.0. */
+#define SSHKEY_VERSION 200
+
+/* What sshkey_abi answers where the library has the structs, the calls and the numbers below. */
+#define SSHKEY_ABI 1
+
+#ifdef __cplusplus
+extern "C" {
+#endif
+
+/* ---- which library it is --------------------------------------------------------------------- */
+
+/* The version of the library: the first of its three numbers by 10,000, the second by 100, and the
+ * third. Takes no memory. */
+uint32_t sshkey_version(void);
+
+/* The number of its ABI, with which its name ends: libsshkey.so.1. It stays while calls and numbers
+ * are only added; where it is not SSHKEY_ABI, make no other call. A program that is linked with the
+ * library need not ask: its linker and its loader do. Takes no memory. */
+uint32_t sshkey_abi(void);
+
+/* ---- what calls return ----------------------------------------------------------------------- */
+
+/* What a call returns. */
+enum {
+  SSHKEY_DONE = 0,   /* done; of a validation: it is valid; of a revocation file: it revokes; of a
+                        signer: the signature counts */
+  SSHKEY_MEMORY = 1, /* malloc refused; nothing is said of the input, and nothing is kept: the call
+                        may be made again */
+  SSHKEY_ROOM = 2,   /* the room is too short; `length` says how many bytes are needed */
+  SSHKEY_END = 3,    /* nothing is left: the place is the end, or there is no such line or option */
+  SSHKEY_TEXT = 4,   /* the principal is not UTF-8, or a line of authorized_keys or known_hosts,
+                        options, a text of known_hosts or of signers, a host's name, an identity or
+                        a namespace; nothing is said of the rest. sshkey_read_line returns 11 for
+                        such a line */
+
+  /* 10 to 29: the bytes are no certificate, key, signature or revocation list, which is the first
+   * fault from the left; or the line is none, which is a fault that it has. For logs: lines with
+   * one fault may answer different numbers */
+  SSHKEY_BASE64 = 10,             /* a word of a line is no Base64, or not the one of its bytes */
+  SSHKEY_CHARACTER_ENCODING = 11, /* a text is not UTF-8, or has a character that no name has */
+  SSHKEY_LABEL = 12,              /* a name that is none of those that may stand there */
+  SSHKEY_LENGTH = 13,             /* a stated length passes the bytes, or is not the one wanted; a
+                                     word of a line is missing; a digest is not as long as one by
+                                     the signature's hash */
+  SSHKEY_TRAILING_DATA = 14,      /* bytes follow the end */
+  SSHKEY_FORMAT = 15,             /* a value does not keep the form of its kind */
+  SSHKEY_ALGORITHM_UNKNOWN = 16,  /* two names differ that have to be one, or a point begins with 00
+                                     or 05 */
+  SSHKEY_CRYPTO = 17,             /* a number in a signature is not positive, or the curve of a
+                                     security key is not P-256 */
+  SSHKEY_ECDSA = 18,              /* no encoding of a point */
+  SSHKEY_TIME = 19,               /* a time above 2^63 - 1 in the certificate */
+  SSHKEY_NAMESPACE = 20,          /* an empty namespace in the SSH signature */
+  SSHKEY_PUBLIC_KEY = 21,         /* never returned: a fault of private keys */
+  SSHKEY_UNSUPPORTED_VERSION = 22, /* an SSH signature of a version above 1, or a revocation list
+                                      of another version than 1 */
+  SSHKEY_OTHER_FAULT = 23,        /* never returned */
+  SSHKEY_RSA_SHA1 = 24,           /* an RSA signature by SHA-1, which no call reads: to them it is
+                                     SSHKEY_LENGTH. judge_read_line of helpers/ tells it */
+
+  /* 30 to 34: what is wrong with a certificate that is not valid; the first of these */
+  SSHKEY_NOT_SIGNED = 30,          /* it raises no question, or `is_verified` is not 1; a signature
+                                      also where it is in another namespace, or has reserved bytes */
+  SSHKEY_UNTRUSTED_AUTHORITY = 31, /* the key that signed it is none of the authorities' */
+  SSHKEY_INVALID_TIME = 32,        /* the time is above 2^63 - 1 */
+  SSHKEY_OUT_OF_WINDOW = 33,       /* it is not yet valid, or no longer */
+  SSHKEY_UNLISTED_PRINCIPAL = 34,  /* it lists principals, and not this one */
+
+  /* there is nothing to verify */
+  SSHKEY_UNSUPPORTED = 40,    /* key and signature do not go together: it is not signed */
+  SSHKEY_OTHER_NAMESPACE = 41, /* the SSH signature is for another namespace */
+
+  /* a draft of a certificate contradicts itself */
+  SSHKEY_PRINCIPALS = 45,    /* it lists none and does not say so, or says so and lists some */
+  SSHKEY_EMPTY_WINDOW = 46,  /* its window has no second */
+
+  /* 50 to 53: a host's key is not trusted; the first of these that holds */
+  SSHKEY_HOST_REVOKED = 50,    /* a line for the host, or a revocation file, revokes it */
+  SSHKEY_HOST_UNREADABLE = 51, /* a line is no entry, and may be one for the host */
+  SSHKEY_HOST_CHANGED = 52,    /* a line for the host has another key, and none has this one */
+  SSHKEY_HOST_UNKNOWN = 53,    /* no line without a marker is for the host */
+
+  /* 55, 58, 56, and then 30: a signature does not count; the first of these that holds */
+  SSHKEY_SIGNER_NOT_ALLOWED = 55, /* no line lets its key sign for the identity, there and then */
+  SSHKEY_REVOKED = 56, /* a revocation file revokes the signer's key, or the certificate */
+
+  SSHKEY_ELSEWHERE = 57, /* the client's address is none of those that are allowed */
+
+  /* of revocation files */
+  SSHKEY_UNREADABLE_REVOCATIONS = 58, /* one can't be read, or there is none: so everything is
+                                         revoked */
+
+  SSHKEY_KEY_NOT_ACCEPTED = 59, /* a kind or a size of key that OpenSSH does not let in */
+
+  SSHKEY_NOT_REVOKED = 60, /* no revocation file revokes the key or the certificate */
+
+  /* 70 to 76, with 59 after 72: a certificate that lets nobody in, whoever signed it; the first of
+   * these */
+  SSHKEY_NOT_NORMAL_FORM = 70,  /* its bytes are not its normal form: not those that were signed */
+  SSHKEY_OTHER_TYPE = 71,       /* a user shows one for hosts, or a host one for users */
+  SSHKEY_OTHER_KEY = 72,        /* it certifies another key than the client's */
+  SSHKEY_CRITICAL_OPTIONS = 73, /* a critical option that is not known, or whose value sshd does
+                                   not read */
+  SSHKEY_EXTENSIONS = 74,       /* data in an extension that is a flag, or a zero byte in a name */
+  SSHKEY_KEY_ID = 75,           /* a zero byte in the key id */
+  SSHKEY_VALID_PRINCIPALS = 76, /* it lists no principal, more than 256 or one with a zero byte;
+                                   or the user's name is empty */
+
+  /* 80 to 83: a client's signature that does not count; the first of these */
+  SSHKEY_OTHER_REQUEST = 80,   /* the signed bytes are not those of this request, or its service is
+                                  not ssh-connection */
+  SSHKEY_OTHER_ALGORITHM = 81, /* the algorithm that the request names is not the signature's */
+  SSHKEY_UNTOUCHED = 82,       /* nobody touched the security key, and the grant wants it */
+  SSHKEY_UNVERIFIED = 83       /* the security key did not verify its user, and the grant wants it */
+};
+
+/* The name of an answer as it stands above, without SSHKEY_; for logs. */
+static inline const char *sshkey_answer_name(uint32_t answer) {
+#define SSHKEY_NAMED(name) case SSHKEY_##name: return #name
+  switch (answer) {
+    SSHKEY_NAMED(DONE); SSHKEY_NAMED(MEMORY); SSHKEY_NAMED(ROOM); SSHKEY_NAMED(END);
+    SSHKEY_NAMED(TEXT); SSHKEY_NAMED(BASE64); SSHKEY_NAMED(CHARACTER_ENCODING);
+    SSHKEY_NAMED(LABEL); SSHKEY_NAMED(LENGTH); SSHKEY_NAMED(TRAILING_DATA);
+    SSHKEY_NAMED(FORMAT); SSHKEY_NAMED(ALGORITHM_UNKNOWN); SSHKEY_NAMED(CRYPTO);
+    SSHKEY_NAMED(ECDSA); SSHKEY_NAMED(TIME); SSHKEY_NAMED(NAMESPACE);
+    SSHKEY_NAMED(PUBLIC_KEY); SSHKEY_NAMED(UNSUPPORTED_VERSION); SSHKEY_NAMED(OTHER_FAULT);
+    SSHKEY_NAMED(RSA_SHA1);
+    SSHKEY_NAMED(NOT_SIGNED); SSHKEY_NAMED(UNTRUSTED_AUTHORITY); SSHKEY_NAMED(INVALID_TIME);
+    SSHKEY_NAMED(OUT_OF_WINDOW); SSHKEY_NAMED(UNLISTED_PRINCIPAL);
+    SSHKEY_NAMED(UNSUPPORTED); SSHKEY_NAMED(OTHER_NAMESPACE);
+    SSHKEY_NAMED(PRINCIPALS); SSHKEY_NAMED(EMPTY_WINDOW);
+    SSHKEY_NAMED(HOST_REVOKED); SSHKEY_NAMED(HOST_UNREADABLE);
+    SSHKEY_NAMED(HOST_CHANGED); SSHKEY_NAMED(HOST_UNKNOWN);
+    SSHKEY_NAMED(SIGNER_NOT_ALLOWED); SSHKEY_NAMED(REVOKED); SSHKEY_NAMED(ELSEWHERE);
+    SSHKEY_NAMED(UNREADABLE_REVOCATIONS); SSHKEY_NAMED(KEY_NOT_ACCEPTED);
+    SSHKEY_NAMED(NOT_REVOKED);
+    SSHKEY_NAMED(NOT_NORMAL_FORM); SSHKEY_NAMED(OTHER_TYPE); SSHKEY_NAMED(OTHER_KEY);
+    SSHKEY_NAMED(CRITICAL_OPTIONS); SSHKEY_NAMED(EXTENSIONS); SSHKEY_NAMED(KEY_ID);
+    SSHKEY_NAMED(VALID_PRINCIPALS);
+    SSHKEY_NAMED(OTHER_REQUEST); SSHKEY_NAMED(OTHER_ALGORITHM); SSHKEY_NAMED(UNTOUCHED);
+    SSHKEY_NAMED(UNVERIFIED);
+    default: return "no answer";
+  }
+#undef SSHKEY_NAMED
+}
+
+/* ---- what is read ---------------------------------------------------------------------------- */
+
+/* Bytes that a call reads; no null pointer, also where the length is 0 (sshkey_bytes). */
+typedef struct {
+  const uint8_t *bytes;
+  size_t length;
+} sshkey_span;
+
+/* Byte strings that a call reads: `count` of them, at no null pointer. */
+typedef struct {
+  const sshkey_span *items;
+  size_t count;
+} sshkey_spans;
+
+/* The revocation files of who asks about no revocation: one file, the list of nothing (PROTOCOL.krl).
+ * No file at all would revoke everything, as one does that could not be read. */
+static inline sshkey_spans sshkey_no_revocations(void) {
+  static const uint8_t list[44] = "SSHKRL\n\0\0\0\0\1";
+  static const sshkey_span file = {list, sizeof list};
+  sshkey_spans files = {&file, 1};
+  return files;
+}
+#define SSHKEY_NO_REVOCATIONS sshkey_no_revocations()
+
+/* ---- what is written ------------------------------------------------------------------------- */
+
+/* A part of a room, or of other bytes: where it begins, and how many bytes it has. */
+typedef struct {
+  size_t start;  /* the place of its first byte */
+  size_t length; /* the number of its bytes */
+} sshkey_part;
+
+/* A SHA-256 digest. */
+typedef struct {
+  uint8_t bytes[32];
+} sshkey_sha256;
+
+/* A SHA-512 digest. */
+typedef struct {
+  uint8_t bytes[64];
+} sshkey_sha512;
+
+/* SHA-256 fingerprints of keys that a call reads: `count` of them, at no null pointer. */
+typedef struct {
+  const sshkey_sha256 *items;
+  size_t count;
+} sshkey_digests;
+
+/* ---- questions ------------------------------------------------------------------------------- */
+
+/* How a signature is made. A key's blob (RFC 4253, section 6.6) is strings, one after the other:
+ * four bytes of length, big-endian, and the bytes. The first is the name of the key's type. So
+ * are the signatures of ECDSA. sshkey_next_string goes over them.
+ *
+ * Numbers in strings are mpints (RFC 4251, section 5): two's complement, big-endian. Those of a DSA
+ * or RSA key may be zero (no bytes) or negative (the first bit is set): no such key is valid, so
+ * your verification says no. r and s of an ECDSA signature are positive. A point need not lie on
+ * its curve, and may be compressed, which OpenSSH does not read: say no to one that does not begin
+ * with 04, or else a key has two fingerprints. */
+enum {
+  /* with SHA-1; after the name p, q, g, y; signature: r and s, unsigned, 20 bytes each */
+  SSHKEY_ASK_DSA = 1,
+  /* ECDSA; after the name the curve's name, and the point as in SEC 1; signature: two strings, r
+   * and s */
+  SSHKEY_ASK_P256 = 2, /* with SHA-256 */
+  SSHKEY_ASK_P384 = 3, /* with SHA-384 */
+  SSHKEY_ASK_P521 = 4, /* with SHA-512 */
+  /* after the name the key, 32 bytes; signature: 64 bytes */
+  SSHKEY_ASK_ED25519 = 5,
+  /* PKCS#1 v1.5; after the name e and n; signature: an unsigned number, any bytes */
+  SSHKEY_ASK_RSA_SHA256 = 6, /* with SHA-256 */
+  SSHKEY_ASK_RSA_SHA512 = 7  /* with SHA-512 */
+};
+
+/* What has to be verified: that `signature` is one of `message` under `key`, made as `algorithm`
+ * says. A security key's question is already the one about the plain key within and about what the
+ * device signed (PROTOCOL.u2f): 32 bytes of digest, a byte of flags, four of the counter, and 32 of
+ * digest. Whether somebody touched it or was verified, sshkey_userauth_question and
+ * sshkey_grant_flags say of a client's signature. */
+typedef struct {
+  sshkey_part key;       /* its blob */
+  sshkey_part message;   /* what is signed */
+  sshkey_part signature; /* as the algorithm has it */
+  size_t length;         /* how many bytes of the room these take */
+  uint32_t algorithm;    /* SSHKEY_ASK_* */
+} sshkey_question;
+
+/* What stands in a line of a key file or of a certificate file: a blob, as the calls below take it,
+ * and the comment, which may be empty. */
+typedef struct {
+  sshkey_part blob;
+  sshkey_part comment;
+  size_t length; /* how many bytes of the room these take */
+  uint32_t kind; /* SSHKEY_LINE_* */
+} sshkey_line;
+
+/* What the blob of a line is. */
+enum { SSHKEY_LINE_KEY = 1, SSHKEY_LINE_CERTIFICATE = 2 };
+
+/* ---- lines ----------------------------------------------------------------------------------- */
+
+/* What stands in a line of a file of public keys (id_ed25519.pub) or of certificates
+ * (id_ed25519-cert.pub): a type, a blob in Base64 and a comment, with a space between. White space
+ * at the end is cut off; a line end before that is part of the comment. Lines of authorized_keys
+ * and known_hosts may have more, and are not read; nor are tabs or several spaces, which sshd takes
+ * in a file of authorities: sshkey_authorized_entry reads those, with an empty `front`.
+ *
+ * SSHKEY_DONE exactly if the line is that of a key or of a certificate (memory and room aside);
+ * else 11 for a line that is not UTF-8, and from 10 to 29 a fault that it has as the line of a
+ * certificate, or, where that is SSHKEY_LABEL, as the line of a key. A room of the line's length is
+ * enough. */
+uint32_t sshkey_read_line(const uint8_t *line, size_t line_length, uint8_t *room,
+                          size_t room_length, sshkey_line *answer);
+
+/* Whether the line of a file of keys has a key of a later kind, as OpenSSH 10.6's
+ * ssh-mldsa44-ed25519: after spaces and tabs, and without options, a name that no key begins with
+ * that is read here, and Base64 of bytes that begin with that very name. In a file of authorities
+ * (TrustedUserCAKeys) such a line is an authority that signs nothing that is read here: pass over
+ * it, and say so. A line that is neither a key nor this refuses the file.
+ *
+ * SSHKEY_DONE exactly if it has; SSHKEY_LABEL if not, also for a key that is read here, and
+ * SSHKEY_TEXT for a line that is not UTF-8. Takes no memory. */
+uint32_t sshkey_is_other_key_line(const uint8_t *line, size_t line_length);
+
+/* ---- certificates (PROTOCOL.certkeys) -------------------------------------------------------- */
+
+/* What has to be verified of a certificate, given as its blob, which sshkey_read_line gives.
+ *
+ * SSHKEY_DONE exactly if the bytes are a certificate and key and signature go together (memory and
+ * room aside); else SSHKEY_UNSUPPORTED, or 10 to 29 for bytes that are no certificate. A room of
+ * twice the certificate's length and 256 bytes is enough. */
+uint32_t sshkey_certificate_question(const uint8_t *certificate, size_t certificate_length,
+                                     uint8_t *room, size_t room_length, sshkey_question *answer);
+
+/* Whether a certificate is valid at that second (since 1970) for one of the authorities, which are
+ * named by the SHA-256 fingerprints of their keys. `is_verified` is 1 if the answer to the question
+ * of this certificate is yes; any other number is no.
+ *
+ * SSHKEY_DONE exactly if the bytes are a certificate that raises a question, `is_verified` is 1,
+ * the key that signed is one of the authorities', valid_after <= unix_timestamp < valid_before, and
+ * unix_timestamp <= 2^63 - 1; SSHKEY_MEMORY aside, which is answered only where the key that signed
+ * is not in its normal form: an RSA key under another name than ssh-rsa. Else 10 to 29 for bytes
+ * that are no certificate, and 30 to 33 for what is wrong first. Its type, its critical options and
+ * whether it is revoked are yours to judge: docs/CHECKLIST.md, "A login", "A host". */
+uint32_t sshkey_certificate_validate(const uint8_t *certificate, size_t certificate_length,
+                                     uint64_t unix_timestamp, const sshkey_sha256 *authorities,
+                                     size_t authority_count, uint32_t is_verified);
+
+/* The same, and the certificate lists the principal, or no principal at all; where it does not,
+ * SSHKEY_UNLISTED_PRINCIPAL, which is looked at last. SSHKEY_TEXT for a principal that is not
+ * UTF-8, whatever the certificate is. A certificate that lists none allows everybody here; for a
+ * user sshd refuses it by TrustedUserCAKeys, and by a line cert-authority sshd 9.2 takes it. */
+uint32_t sshkey_certificate_validate_for(const uint8_t *certificate, size_t certificate_length,
+                                         uint64_t unix_timestamp, const uint8_t *principal,
+                                         size_t principal_length, const sshkey_sha256 *authorities,
+                                         size_t authority_count, uint32_t is_verified);
+
+/* Whom a certificate is for. */
+enum { SSHKEY_USER = 1, SSHKEY_HOST = 2 };
+
+/* The end of a window that has none. */
+#define SSHKEY_FOREVER UINT64_MAX
+
+/* What a policy asks of a certificate. */
+typedef struct {
+  uint64_t serial;
+  uint64_t valid_after;          /* the first second of its window */
+  uint64_t valid_before;         /* the first second after its window, or SSHKEY_FOREVER */
+  uint32_t certificate_type;     /* SSHKEY_USER or SSHKEY_HOST */
+  uint32_t lists_principals;     /* 0 where it lists none, and so allows everybody; else 1 */
+  uint32_t has_critical_options; /* 0 where it has none; else 1: refuse it unless you know each */
+} sshkey_fields;
+
+/* The fields of a certificate, whether it is valid or not. SSHKEY_DONE exactly if the bytes are a
+ * certificate; else 10 to 29. Takes no memory. */
+uint32_t sshkey_certificate_fields(const uint8_t *certificate, size_t certificate_length,
+                                   sshkey_fields *answer);
+
+/* ---- what a certificate lists ---------------------------------------------------------------- */
+
+/* Where parts of a certificate stand in its bytes, in this order, each after its length of four
+ * bytes. Between principals and critical options stands the window, and before the authority a
+ * reserved string. */
+typedef struct {
+  sshkey_part key_id;           /* a text, for logs */
+  sshkey_part principals;       /* strings: sshkey_next_string goes over them */
+  sshkey_part critical_options; /* one after the other: sshkey_next_option goes over them */
+  sshkey_part extensions;       /* likewise */
+  sshkey_part authority;        /* the blob of the key that signed */
+} sshkey_parts;
+
+/* The parts of a certificate, whether it is valid or not. SSHKEY_DONE exactly if the bytes are a
+ * certificate; else 10 to 29. Takes no memory, and copies nothing. */
+uint32_t sshkey_certificate_parts(const uint8_t *certificate, size_t certificate_length,
+                                  sshkey_parts *answer);
+
+/* Where the name and the value of an option stand, and the place of the next one. The name stands
+ * after its length of four bytes, and the next one begins where the value ends. */
+typedef struct {
+  sshkey_part name;
+  sshkey_part value; /* of no bytes where the option has none */
+  size_t next;
+} sshkey_certificate_option_parts;
+
+/* The option that begins at that place of critical options or extensions: the string of a name, and
+ * a string that is empty or holds the string of a value. SSHKEY_DONE exactly if one stands there;
+ * SSHKEY_END at the end of the bytes, else SSHKEY_LENGTH. Takes no memory. */
+uint32_t sshkey_next_option(const uint8_t *bytes, size_t length, size_t place,
+                            sshkey_certificate_option_parts *answer);
+
+/* Writes the blob of the key that is certified to the front of the room, which does not stand whole
+ * in the certificate. SSHKEY_DONE exactly if the bytes are a certificate, memory and room aside;
+ * else 10 to 29. `length` says how many bytes the blob has. A room as long as the certificate is
+ * enough. */
+uint32_t sshkey_certificate_key(const uint8_t *certificate, size_t certificate_length,
+                                uint8_t *room, size_t room_length, size_t *length);
+
+/* ---- how a certificate is made --------------------------------------------------------------- */
+
+/* What a certificate is to say. */
+typedef struct {
+  sshkey_span key;              /* the blob of the key that is certified */
+  sshkey_span nonce;            /* random bytes of yours: 16 or 32 */
+  sshkey_span key_id;           /* a text, for logs */
+  sshkey_span principals;       /* strings, one after the other: refuse a zero byte in one, since
+                                   sshd takes the name to end there, and so for another user's */
+  sshkey_span critical_options; /* as sshkey_next_option reads them, with rising names */
+  sshkey_span extensions;       /* likewise */
+  sshkey_span authority;        /* the blob of the key that is to sign */
+  uint64_t serial;           /* not 0: to OpenSSH that is none, and no KRL can name it */
+  uint64_t valid_after;      /* the first second of its window, since 1970 */
+  uint64_t valid_before;     /* the first second after its window, or SSHKEY_FOREVER */
+  uint32_t certificate_type; /* SSHKEY_USER or SSHKEY_HOST */
+  uint32_t all_principals;   /* 1 where it lists no principals, and so allows everybody; else 0 */
+} sshkey_draft;
+
+/* Writes the bytes that are to be signed to the front of the room; `length` says how many they are.
+ * Sign them with the authority's key, and make the signature's blob (RFC 4253, section 6.6): the
+ * string of the algorithm's name, and the string of what it makes.
+ *
+ * SSHKEY_DONE exactly if the draft tells a certificate, memory and room aside. Else what is wrong,
+ * in this order: SSHKEY_FORMAT for another certificate_type, SSHKEY_TIME for a time above 2^63 - 1,
+ * SSHKEY_EMPTY_WINDOW, SSHKEY_PRINCIPALS; then 10 to 29 for a key, a text or a list that is none. A
+ * key to be certified that has a private-use name is rejected: SSHKEY_LABEL. Also ask:
+ * docs/CHECKLIST.md, "An authority". */
+uint32_t sshkey_certificate_to_be_signed(const sshkey_draft *draft, uint8_t *room,
+                                         size_t room_length, size_t *length);
+
+/* Writes the certificate that a signature makes of these bytes. SSHKEY_DONE exactly if that is a
+ * certificate, memory and room aside; else 10 to 29. Whether the signature is one of these bytes
+ * sshkey_certificate_question asks, and .._validate says. */
+uint32_t sshkey_certificate_make(const uint8_t *to_be_signed, size_t to_be_signed_length,
+                                 const uint8_t *signature, size_t signature_length, uint8_t *room,
+                                 size_t room_length, size_t *length);
+
+/* ---- keys ------------------------------------------------------------------------------------ */
+
+/* The SHA-256 fingerprint of the key of that blob, as sshkey_certificate_validate takes it.
+ * SSHKEY_DONE exactly if the bytes are a key, SSHKEY_MEMORY aside, which is answered only for one
+ * that is not its normal form; else 10 to 29. With any answer but SSHKEY_DONE the digest stays as
+ * it was. */
+uint32_t sshkey_fingerprint(const uint8_t *key, size_t key_length, sshkey_sha256 *answer);
+
+/* How many bytes the text of a SHA-256 fingerprint has, as ssh-keygen shows it: "SHA256:" and 43
+ * characters. */
+#define SSHKEY_FINGERPRINT_TEXT 50
+
+/* Writes that text to the front of the room, without a zero after it. SSHKEY_DONE, or SSHKEY_ROOM
+ * where the room has fewer bytes. Takes no memory. */
+uint32_t sshkey_fingerprint_text(const sshkey_sha256 *digest, uint8_t *room, size_t room_length);
+
+/* The same by SHA-512. */
+uint32_t sshkey_fingerprint_sha512(const uint8_t *key, size_t key_length, sshkey_sha512 *answer);
+
+/* "SHA512:" and 86 characters. */
+#define SSHKEY_FINGERPRINT_SHA512_TEXT 93
+
+/* Writes that text, as sshkey_fingerprint_text does. Takes no memory. */
+uint32_t sshkey_fingerprint_sha512_text(const sshkey_sha512 *digest, uint8_t *room,
+                                        size_t room_length);
+
+/* What has to be verified of a signature (RFC 4253, section 6.6) of the message under the key of
+ * that blob: as an agent gives it, or a client at a login (docs/CHECKLIST.md, "A login").
+ *
+ * SSHKEY_DONE exactly if the bytes are a key and a signature that go together (memory and room
+ * aside); else SSHKEY_UNSUPPORTED, or 10 to 29 for bytes that are no key, or else no signature.
+ * SSHKEY_MEMORY only where they are both. A room as long as the three together, and 256 bytes, is
+ * enough. */
+uint32_t sshkey_signature_question(const uint8_t *key, size_t key_length, const uint8_t *message,
+                                   size_t message_length, const uint8_t *signature,
+                                   size_t signature_length, uint8_t *room, size_t room_length,
+                                   sshkey_question *answer);
+
+/* ---- who is let in (sshd(8)) ------------------------------------------------------------------ */
+
+/* A login by a certificate, and whom the server trusts. */
+typedef struct {
+  sshkey_span certificate;    /* its blob, as the client sent it */
+  sshkey_span user;           /* UTF-8 */
+  sshkey_span key;            /* the blob of the key under which the client has signed */
+  sshkey_span client;         /* the address of its socket, of 4 or 16 bytes; with any other number
+                                 of bytes it has none: then source-address lets nobody in */
+  sshkey_digests authorities; /* of the keys that may sign logins */
+  sshkey_spans revoked;       /* revocation files, each a list or keys as text: any of them revokes.
+                                 Who asks none says so: SSHKEY_NO_REVOCATIONS */
+  uint64_t unix_timestamp;
+  uint32_t least_rsa_bits;    /* as RequiredRSASize; below 1,024, as 0, it is 1,024 */
+} sshkey_login;
+
+/* What a grant permits. Zero permits nothing. */
+enum {
+  SSHKEY_PERMIT_PTY = 1,
+  SSHKEY_PERMIT_PORT_FORWARDING = 2,
+  SSHKEY_PERMIT_AGENT_FORWARDING = 4,
+  SSHKEY_PERMIT_X11_FORWARDING = 8,
+  SSHKEY_PERMIT_USER_RC = 16,
+  SSHKEY_PERMIT_ANY_COMMAND = 32,     /* no force-command: what the client asks for, or a shell */
+  SSHKEY_PERMIT_NO_TOUCH = 64,        /* a security key that nobody touched */
+  SSHKEY_PERMIT_NO_VERIFICATION = 128 /* a security key that did not verify its user */
+};
+
+/* What a login may do, and by which certificate. */
+typedef struct {
+  sshkey_part force_command; /* the one command that may run; of no bytes with
+                                SSHKEY_PERMIT_ANY_COMMAND */
+  sshkey_part key_id;        /* a text, for logs */
+  size_t length;             /* how many bytes of the room these take */
+  uint64_t serial;           /* the certificate's */
+  sshkey_sha256 authority;   /* of the key that signed it */
+  uint32_t permits;          /* SSHKEY_PERMIT_* */
+} sshkey_grant;
+
+/* Whether a login is let in, as sshd would by these authorities, and what it may do. `is_verified`
+ * is 1 if the answer to the question of its certificate is yes; any other number is no. Ask with 0
+ * first: SSHKEY_NOT_SIGNED says "now verify" (sshkey_certificate_question), and with any other
+ * answer there is nothing to verify. So nothing is verified of a certificate that a stranger signed.
+ *
+ * SSHKEY_DONE exactly if the bytes are a certificate for users, in its normal form, of just that
+ * key, which OpenSSH lets in, that lists the user; with options and texts that sshd accepts, and a
+ * source-address that has the client's; valid at that second by one of the authorities; and no
+ * revocation file revokes it (memory and room aside). Else what is wrong first: SSHKEY_TEXT for the
+ * user, 10 to 29 for bytes that are no key, or else no certificate, 70 to 72, 59, 73 to 76, then
+ * SSHKEY_UNTRUSTED_AUTHORITY, SSHKEY_UNREADABLE_REVOCATIONS or SSHKEY_REVOKED, 30, 32 to 34, and
+ * SSHKEY_ELSEWHERE. A room as long as the certificate is enough. SSHKEY_MEMORY only where the user
+ * is UTF-8 and the key is one.
+ *
+ * With SSHKEY_ROOM `*answer` is zero but for its `length`, and with every other answer but
+ * SSHKEY_DONE all zero, which permits nothing; the room stays as it was.
+ *
+ * Yours: that the client signed under the key (sshkey_userauth_question asks), to run no other
+ * command than the grant's, and to allow nothing that it does not permit. */
+uint32_t sshkey_login_verdict(const sshkey_login *login, uint32_t is_verified, uint8_t *room,
+                              size_t room_length, sshkey_grant *answer);
+
+/* ---- what a client signs (RFC 4252, section 7; OpenSSH's PROTOCOL) --------------------------- */
+
+/* A client's signature for a login by public key, and the request that it has to be of. */
+typedef struct {
+  sshkey_span session_id; /* the server's own, and nothing that the client sent */
+  sshkey_span user;
+  sshkey_span algorithm;  /* the name of the public key algorithm in the request */
+  sshkey_span public_key; /* the blob of the key or the certificate that the grant came from */
+  sshkey_span host_key;   /* the blob of the server's host key, if has_host_key is not 0 */
+  sshkey_span signature;  /* the blob of the client's signature (RFC 4253, section 6.6) */
+  uint32_t has_host_key;  /* 0: the method is publickey; else publickey-hostbound-v00@openssh.com */
+  uint32_t permits;       /* the grant's: SSHKEY_PERMIT_NO_TOUCH, .._NO_VERIFICATION */
+} sshkey_userauth;
+
+/* What has to be verified of a client's signature for a login. The bytes that it signs are made
+ * here, for the service ssh-connection. The names of algorithms are compared as by sshd: that of a
+ * certificate stands for its plain one, and rsa-sha2-256 is not rsa-sha2-512.
+ *
+ * SSHKEY_DONE exactly if the signature is by the algorithm that the request names, public_key is a
+ * key of it, or a certificate where the name is one's, and the flags of a security key are what the
+ * grant wants (memory and room aside): then the signature is the client's exactly if your
+ * verification says yes. Else 10 to 29 for bytes that are no signature; SSHKEY_LENGTH for a part
+ * that no string can hold; 81 to 83; 10 to 29 for a public_key that is none; SSHKEY_UNSUPPORTED. A
+ * room of twice the length of all the parts, and 256 bytes, is enough. */
+uint32_t sshkey_userauth_question(const sshkey_userauth *request, uint8_t *room,
+                                  size_t room_length, sshkey_question *answer);
+
+/* The same where the server has the bytes that the client signed. Where they are not those of the
+ * request, SSHKEY_OTHER_REQUEST, in place of SSHKEY_LENGTH. */
+uint32_t sshkey_userauth_question_of(const sshkey_userauth *request, const uint8_t *signed_bytes,
+                                     size_t signed_length, uint8_t *room, size_t room_length,
+                                     sshkey_question *answer);
+
+/* Whether the flags in a client's signature are what a grant that permits this wants: for a server
+ * whose SSH library has verified the signature, under the key of that blob (no certificate).
+ *
+ * SSHKEY_DONE exactly if key and signature go together, and the key is no security key or its flags
+ * are what is wanted (memory aside); else SSHKEY_UNSUPPORTED, SSHKEY_UNTOUCHED,
+ * SSHKEY_UNVERIFIED, or 10 to 29 for bytes that are no key, or else no signature. SSHKEY_MEMORY
+ * only where they are both. */
+uint32_t sshkey_grant_flags(uint32_t permits, const uint8_t *key, size_t key_length,
+                            const uint8_t *signature, size_t signature_length);
+
+/* ---- SSH signatures (PROTOCOL.sshsig) -------------------------------------------------------- */
+
+/* What has to be verified of an SSH signature of the message in that namespace, and the SHA-256
+ * fingerprint of the key that signed: whether that key may sign is yours to judge
+ * (docs/CHECKLIST.md, "A signature"). The signature is what stands in the armour, Base64 decoded.
+ *
+ * SSHKEY_DONE exactly if the bytes are an SSH signature for that namespace whose key and signature
+ * go together (memory and room aside); else SSHKEY_OTHER_NAMESPACE, SSHKEY_UNSUPPORTED, or 10 to 29
+ * for bytes that are no signature. A room of twice its length and 256 bytes is enough. */
+uint32_t sshkey_sshsig_question(const uint8_t *signature, size_t signature_length,
+                                const uint8_t *name_space, size_t name_space_length,
+                                const uint8_t *message, size_t message_length, uint8_t *room,
+                                size_t room_length, sshkey_question *answer, sshkey_sha256 *signer);
+
+/* The same with the digest of the message in place of the message, so that a long one need not be
+ * in memory. The hash is the one that the signature names, in its fourth string from byte 10 on
+ * (sshkey_next_string): sha256 or sha512. Where a digest has not the 32 or 64 bytes of that hash,
+ * SSHKEY_LENGTH; else what sshkey_sshsig_question answers of each message with that digest. */
+uint32_t sshkey_sshsig_question_of_digest(const uint8_t *signature, size_t signature_length,
+                                          const uint8_t *name_space, size_t name_space_length,
+                                          const uint8_t *digest, size_t digest_length,
+                                          uint8_t *room, size_t room_length,
+                                          sshkey_question *answer, sshkey_sha256 *signer);
+
+/* Whether an SSH signature counts as the identity's in that namespace, by a text of allowed
+ * signers (ssh-keygen(1)), at that second (since 1970), as `ssh-keygen -Y verify` says, or more
+ * strictly (docs/CALLING.md): a time without Z, which is of the machine's zone there, has to hold
+ * in every zone here. `revoked` are revocation files, as sshkey_revoked_key takes them; who asks
+ * none passes SSHKEY_NO_REVOCATIONS, and never what is left where a file was not read.
+ * `is_verified` is 1 if the answer to the question of this signature, in the namespace and of the
+ * message, is yes; any other number is no. Ask with 0 first: SSHKEY_NOT_SIGNED says that its key
+ * may sign, and with any other answer there is nothing to verify.
+ *
+ * SSHKEY_DONE exactly if the bytes are a signature in the namespace that raises a question,
+ * without reserved bytes, `is_verified` is 1, a line lets its key sign for the identity in the
+ * namespace at that time, and the key is not revoked (memory aside). Else 55, 58, 56 or
+ * SSHKEY_NOT_SIGNED, 10 to 29 for bytes that are no signature, or SSHKEY_TEXT. SSHKEY_MEMORY only
+ * where a part of the signature is whole. Also ask: docs/CHECKLIST.md, "A signature". */
+uint32_t sshkey_signer_verdict(const uint8_t *signers, size_t signers_length,
+                               const uint8_t *identity, size_t identity_length,
+                               const uint8_t *name_space, size_t name_space_length,
+                               const uint8_t *signature, size_t signature_length,
+                               uint64_t unix_timestamp, const sshkey_span *revoked,
+                               size_t revoked_count, uint32_t is_verified);
+
+/* ---- normal forms ---------------------------------------------------------------------------- */
+
+/* A value may have more spellings than one: the name of an RSA key may be rsa-sha2-256, and an
+ * empty option of a certificate may be written in two ways. Bytes that spell one value have one
+ * normal form, which is what fingerprints digest: two keys are the same exactly if theirs are.
+ *
+ * Each call writes it to the front of the room, and its length to `length`, also with SSHKEY_ROOM.
+ * SSHKEY_DONE exactly if the bytes are a value of that kind (memory and room aside); else 10 to
+ * 29. A room of the bytes' length is enough. */
+
+/* Of a key. SSHKEY_MEMORY only where the bytes are a key, and not its normal form. */
+uint32_t sshkey_key_normal(const uint8_t *key, size_t key_length, uint8_t *room,
+                           size_t room_length, size_t *length);
+
+/* Of a certificate. SSHKEY_MEMORY only where the bytes are one. */
+uint32_t sshkey_certificate_normal(const uint8_t *certificate, size_t certificate_length,
+                                   uint8_t *room, size_t room_length, size_t *length);
+
+/* Of an SSH signature, as sshkey_sshsig_question takes it. */
+uint32_t sshkey_sshsig_normal(const uint8_t *signature, size_t signature_length, uint8_t *room,
+                              size_t room_length, size_t *length);
+
+/* Of a signature, as sshkey_signature_question takes it, which is its own normal form. Takes no
+ * memory. */
+uint32_t sshkey_signature_normal(const uint8_t *signature, size_t signature_length, uint8_t *room,
+                                 size_t room_length, size_t *length);
+
+/* ---- strings (RFC 4251, section 5) ----------------------------------------------------------- */
+
+/* The string that begins at that place: four bytes of length, and that many bytes, which are the
+ * answer. The next begins at answer.start + answer.length. SSHKEY_DONE exactly if one stands there;
+ * SSHKEY_END at the end of the bytes, else SSHKEY_LENGTH. Takes no memory. */
+uint32_t sshkey_next_string(const uint8_t *bytes, size_t length, size_t place, sshkey_part *answer);
+
+/* ---- revocation files (sshd_config(5), "RevokedKeys") ---------------------------------------- */
+
+/* Whether one of these files revokes the key of that blob: a list (PROTOCOL.krl), as
+ * `ssh-keygen -k` makes it, that has the key or its digest by SHA-1 or SHA-256; or a text with a key
+ * or a certificate a line, that has the key. A file of no bytes revokes nothing, as sshd's.
+ *
+ * Let in for SSHKEY_NOT_REVOKED alone: a caller that takes any other answer for "not revoked" is
+ * wrong (docs/CHECKLIST.md, "All of them"). SSHKEY_DONE exactly if all files can be read, and one
+ * revokes the key (memory aside); SSHKEY_UNREADABLE_REVOCATIONS without a file, or for one that
+ * can't be read, by which sshd lets nobody in either (docs/CALLING.md says what sshd refuses beyond
+ * that); else 10 to 29 for bytes that are no key. A text takes memory for its lines, several files
+ * do, and one list only for a key that is not its normal form. */
+uint32_t sshkey_revoked_key(const sshkey_span *revoked, size_t revoked_count, const uint8_t *key,
+                            size_t key_length);
+
+/* The same of a certificate: a file has its key or the key that signed it, or a list revokes its
+ * serial number or its key id among the certificates of that key or of every key. The serial number
+ * 0 revokes nothing. One list takes memory only where the bytes are a certificate. */
+uint32_t sshkey_revoked_certificate(const sshkey_span *revoked, size_t revoked_count,
+                                    const uint8_t *certificate, size_t certificate_length);
+
+/* Whether a key revocation list, as `ssh-keygen -k` makes it, revokes the key of that blob: it has
+ * the key, or its digest by SHA-1 or SHA-256.
+ *
+ * Let in for SSHKEY_NOT_REVOKED alone: a caller that takes any other answer for "not revoked" is
+ * wrong (docs/CHECKLIST.md, "All of them"). SSHKEY_DONE exactly if the list revokes the key (memory
+ * aside); else 10 to 29 for bytes that are no list, or else no key. An empty file is no list, nor
+ * is a text of keys, which sshd takes in place of one. SSHKEY_MEMORY only for a key that is not its
+ * normal form. */
+uint32_t sshkey_krl_revokes_key(const uint8_t *krl, size_t krl_length, const uint8_t *key,
+                                size_t key_length);
+
+/* The same of a certificate: the list has its key or the key that signed it, or revokes its serial
+ * number or its key id among the certificates of that key or of every key. The serial number 0
+ * revokes nothing. SSHKEY_MEMORY only where the bytes are a list and a certificate. */
+uint32_t sshkey_krl_revokes_certificate(const uint8_t *krl, size_t krl_length,
+                                        const uint8_t *certificate, size_t certificate_length);
+
+/* ---- authorized_keys and known_hosts (sshd(8)) ----------------------------------------------- */
+
+/* The next line from that place on that may be an entry: neither empty nor a comment, without the
+ * spaces and tabs at its front and without its end (a line feed, and a carriage return before it).
+ * SSHKEY_DONE exactly if there is one, else SSHKEY_END. Begin at 0, and go on at answer.start +
+ * answer.length: all lines take time in proportion to the text. Takes no memory. */
+uint32_t sshkey_next_line(const uint8_t *text, size_t length, size_t place, sshkey_part *answer);
+
+/* What stands before an entry of known_hosts: nothing, @cert-authority or @revoked. */
+enum { SSHKEY_MARKER_NONE = 0, SSHKEY_MARKER_CERT_AUTHORITY = 1, SSHKEY_MARKER_REVOKED = 2 };
+
+/* An entry of a line: where its parts stand in the room. */
+typedef struct {
+  sshkey_part front;   /* the options as they stand in the line, or the hosts */
+  sshkey_part key;     /* the key's blob in its normal form, which fingerprints are digests of */
+  sshkey_part comment; /* all that follows */
+  size_t length;       /* how many bytes of the room these take */
+  uint32_t marker;     /* SSHKEY_MARKER_*; of authorized_keys always SSHKEY_MARKER_NONE */
+} sshkey_entry;
+
+/* The entry of a line of authorized_keys, as sshd reads it. SSHKEY_DONE exactly if the line is one
+ * (memory and room aside); SSHKEY_TEXT for a line that is not UTF-8, else 10 to 29. A room of the
+ * line's length is enough. Which options there may be is yours to judge: sshkey_nth_option;
+ * docs/CHECKLIST.md, "A login".
+ *
+ * sshd takes the first line that lets a key in, and by that line the login is bound. So the first
+ * entry of the key decides. A line that is refused here, memory too, may be for the key as sshd
+ * reads it: it ends the search with a refusal, since a later line may bind the login less.
+ *
+ * An option cert-authority says that the key is an authority's, which signs certificates: whoever
+ * only has that key is not to be let in. And refuse the login by a line with a zero byte: here that
+ * is a byte like others, while sshd reads no further. */
+uint32_t sshkey_authorized_entry(const uint8_t *line, size_t line_length, uint8_t *room,
+                                 size_t room_length, sshkey_entry *answer);
+
+/* The same of a line of known_hosts, as ssh reads it; one with a zero byte is refused. A line that
+ * is refused may be a revocation: to judge a host's key, ask sshkey_host_key_verdict. */
+uint32_t sshkey_known_host(const uint8_t *line, size_t line_length, uint8_t *room,
+                           size_t room_length, sshkey_entry *answer);
+
+/* An option of an entry: where its parts stand in the room. */
+typedef struct {
+  sshkey_part name;   /* as it stands in the line: letters are compared without case */
+  sshkey_part value;  /* without its quotes, and without each backslash before a quote */
+  size_t length;      /* how many bytes of the room these take */
+  uint32_t has_value; /* 0 where there is no value; else 1 */
+} sshkey_entry_option_parts;
+
+/* The option of that number, the first being 0, of the options of an entry. SSHKEY_DONE exactly if
+ * they are a list of options, all of them, and have more than that number (memory and room aside);
+ * SSHKEY_END if they have no more, SSHKEY_FORMAT if they are no list of options, also after the
+ * option that is asked for, and SSHKEY_TEXT for bytes that are not UTF-8. A room of the options'
+ * length is enough. A `front` of no bytes has no options. Each call reads all of them, so do not go
+ * on for ever: refuse an entry with an option that you do not know, one that names an option twice,
+ * but for environment, permitlisten and permitopen, which may come more than once, one that has no
+ * value where sshd wants one, as command alone, or has one where it wants none, and one that has
+ * principals without cert-authority. If the entry has the key, that refuses the login: sshd may
+ * take the line, and a later one may bind the login less. The list of from is for
+ * sshkey_from_allows; docs/CALLING.md says how sshd reads that of principals. */
+uint32_t sshkey_nth_option(const uint8_t *options, size_t options_length, size_t number,
+                           uint8_t *room, size_t room_length, sshkey_entry_option_parts *answer);
+
+/* ---- whether a host is the known one (ssh(1)) ------------------------------------------------ */
+
+/* The host that a client connects to, and what is known of it. */
+typedef struct {
+  sshkey_spans known_hosts; /* the texts of all the files that count: one file alone may list a key
+                               that another one revokes */
+  sshkey_span host;         /* the name or address that was asked for, without brackets; UTF-8 */
+  sshkey_spans revoked;     /* revocation files (RevokedHostKeys), each a list or keys as text: any
+                               of them revokes. Who asks none says so: SSHKEY_NO_REVOCATIONS */
+  uint64_t unix_timestamp;  /* asked of certificates alone */
+  uint32_t least_rsa_bits;  /* as RequiredRSASize; below 1,024, as 0, it is 1,024 */
+  uint16_t port;
+} sshkey_host_login;
+
+/* Whether the key of that blob is the host's, as ssh(1) says with StrictHostKeyChecking. Hashed
+ * names are compared here, by HMAC-SHA1. Where no line is for the host at a port other than 22, the
+ * host's plain name is asked too.
+ *
+ * SSHKEY_DONE exactly if a line for the host has the key, no line for it and no revocation file
+ * revokes the key, no line that is no entry could be one for the host, as each with a zero byte
+ * could, and OpenSSH accepts its kind and size (memory aside). Else the first of these:
+ * SSHKEY_TEXT, 10 to 29 for bytes that are no key, SSHKEY_UNREADABLE_REVOCATIONS, 50 to 53,
+ * SSHKEY_KEY_NOT_ACCEPTED. SSHKEY_MEMORY only where the bytes are a key. */
+uint32_t sshkey_host_key_verdict(const sshkey_host_login *login, const uint8_t *key,
+                                 size_t key_length);
+
+/* Whether a certificate is the host's. `is_verified` is 1 if the answer to the question of this
+ * certificate is yes (sshkey_certificate_question); any other number is no. Ask with 0 first:
+ * SSHKEY_NOT_SIGNED says "now verify", and with any other answer there is nothing to verify.
+ *
+ * SSHKEY_DONE exactly if its bytes are its normal form; a line @cert-authority for the host has the
+ * key that signed it; no line for the host revokes one of its two keys, and no revocation file the
+ * certificate; no line that is no entry could be one for the host; OpenSSH accepts its key; it is
+ * for hosts, without critical options, of texts that ssh reads, and valid then for the host's name
+ * in small letters, which it lists; and `is_verified` is 1 (memory aside). Else the first of these:
+ * SSHKEY_TEXT, 10 to 29, SSHKEY_NOT_NORMAL_FORM, SSHKEY_UNREADABLE_REVOCATIONS, 50, 51, 53, 59, 71,
+ * 73, 75, 76, 30, 32 to 34. */
+uint32_t sshkey_host_certificate_verdict(const sshkey_host_login *login,
+                                         const uint8_t *certificate, size_t certificate_length,
+                                         uint32_t is_verified);
+
+/* The number of the first line, from 1, of a text of known_hosts that is no entry and may be one
+ * for the host at that port: by it the text is SSHKEY_HOST_UNREADABLE, whatever the key. Empty lines
+ * and comments are counted.
+ *
+ * SSHKEY_DONE exactly if there is one, and SSHKEY_END if there is none (SSHKEY_MEMORY aside);
+ * SSHKEY_TEXT where the text or the host is not UTF-8. Memory is taken only for a line that is
+ * neither empty nor a comment. */
+uint32_t sshkey_unreadable_host_line(const uint8_t *known_hosts, size_t known_hosts_length,
+                                     const uint8_t *host, size_t host_length, uint16_t port,
+                                     size_t *number);
+
+/* ---- where a client may come from ------------------------------------------------------------ */
+
+/* Whether the list, the value of a certificate's critical option source-address, lets a client in
+ * from the address: 4 or 16 bytes, those of struct in_addr or in6_addr. An IPv4 address as an IPv6
+ * socket shows it (::ffff:10.1.2.3) is that IPv4 address, and one of fe80::/10 is in no network, as
+ * to sshd. Let in for SSHKEY_DONE alone.
+ *
+ * SSHKEY_DONE exactly if each item of the list is a network and one of them has the address. Else
+ * the first of these: SSHKEY_LENGTH for another number of bytes, SSHKEY_TEXT for a list that is not
+ * UTF-8, SSHKEY_FORMAT for a malformed one, which sshd refuses too, and SSHKEY_ELSEWHERE. Takes no
+ * memory. */
+uint32_t sshkey_source_address_allows(const uint8_t *list, size_t list_length,
+                                      const uint8_t *address, size_t address_length);
+
+/* Whether the list, the value of the option from of a line of authorized_keys, lets a client in
+ * from the address, as above. The host is the client's name in the DNS, if it was looked up and
+ * looked up back (UseDNS of sshd), and else of length 0.
+ *
+ * SSHKEY_DONE exactly if an item of the list is for the client and none with a `!` is
+ * (SSHKEY_MEMORY aside), and SSHKEY_ELSEWHERE if not: then go on to the next line. Else refuse the
+ * login, since sshd may let in by this line: SSHKEY_LENGTH; SSHKEY_TEXT where list or host are not
+ * UTF-8, where the address is of fe80::/10, or of ::/96 beyond :: and ::1, whose text may be
+ * another to sshd, or where the host's name is like an address; SSHKEY_FORMAT for a malformed list.
+ */
+uint32_t sshkey_from_allows(const uint8_t *list, size_t list_length, const uint8_t *host,
+                            size_t host_length, const uint8_t *address, size_t address_length);
+
+/* ---------------------------------------------------------------------------------------------- */
+
+/* A pointer that may be passed beside the length 0, whatever `bytes` is. */
+static inline const uint8_t *sshkey_bytes(const void *bytes) {
+  return (const uint8_t *)(bytes ? bytes : (const void *)"");
+}
+
+/* The layout that the library was built for: Linux on x86-64 and aarch64. */
+#ifdef __cplusplus
+#define SSHKEY_IS(fact) static_assert(fact, #fact)
+#else
+#define SSHKEY_IS(fact) _Static_assert(fact, #fact)
+#endif
+SSHKEY_IS(sizeof(size_t) == 8);
+SSHKEY_IS(offsetof(sshkey_part, start) == 0);
+SSHKEY_IS(offsetof(sshkey_part, length) == 8);
+SSHKEY_IS(sizeof(sshkey_part) == 16);
+SSHKEY_IS(offsetof(sshkey_sha256, bytes) == 0);
+SSHKEY_IS(sizeof(sshkey_sha256) == 32);
+SSHKEY_IS(offsetof(sshkey_sha512, bytes) == 0);
+SSHKEY_IS(sizeof(sshkey_sha512) == 64);
+SSHKEY_IS(offsetof(sshkey_line, blob) == 0);
+SSHKEY_IS(offsetof(sshkey_line, comment) == 16);
+SSHKEY_IS(offsetof(sshkey_line, length) == 32);
+SSHKEY_IS(offsetof(sshkey_line, kind) == 40);
+SSHKEY_IS(sizeof(sshkey_line) == 48);
+SSHKEY_IS(offsetof(sshkey_question, key) == 0);
+SSHKEY_IS(offsetof(sshkey_question, message) == 16);
+SSHKEY_IS(offsetof(sshkey_question, signature) == 32);
+SSHKEY_IS(offsetof(sshkey_question, length) == 48);
+SSHKEY_IS(offsetof(sshkey_question, algorithm) == 56);
+SSHKEY_IS(sizeof(sshkey_question) == 64);
+SSHKEY_IS(offsetof(sshkey_fields, serial) == 0);
+SSHKEY_IS(offsetof(sshkey_fields, valid_after) == 8);
+SSHKEY_IS(offsetof(sshkey_fields, valid_before) == 16);
+SSHKEY_IS(offsetof(sshkey_fields, certificate_type) == 24);
+SSHKEY_IS(offsetof(sshkey_fields, lists_principals) == 28);
+SSHKEY_IS(offsetof(sshkey_fields, has_critical_options) == 32);
+SSHKEY_IS(sizeof(sshkey_fields) == 40);
+SSHKEY_IS(offsetof(sshkey_parts, key_id) == 0);
+SSHKEY_IS(offsetof(sshkey_parts, principals) == 16);
+SSHKEY_IS(offsetof(sshkey_parts, critical_options) == 32);
+SSHKEY_IS(offsetof(sshkey_parts, extensions) == 48);
+SSHKEY_IS(offsetof(sshkey_parts, authority) == 64);
+SSHKEY_IS(sizeof(sshkey_parts) == 80);
+SSHKEY_IS(offsetof(sshkey_certificate_option_parts, name) == 0);
+SSHKEY_IS(offsetof(sshkey_certificate_option_parts, value) == 16);
+SSHKEY_IS(offsetof(sshkey_certificate_option_parts, next) == 32);
+SSHKEY_IS(sizeof(sshkey_certificate_option_parts) == 40);
+SSHKEY_IS(offsetof(sshkey_span, bytes) == 0);
+SSHKEY_IS(offsetof(sshkey_span, length) == 8);
+SSHKEY_IS(sizeof(sshkey_span) == 16);
+SSHKEY_IS(offsetof(sshkey_spans, items) == 0);
+SSHKEY_IS(offsetof(sshkey_spans, count) == 8);
+SSHKEY_IS(sizeof(sshkey_spans) == 16);
+SSHKEY_IS(offsetof(sshkey_digests, items) == 0);
+SSHKEY_IS(offsetof(sshkey_digests, count) == 8);
+SSHKEY_IS(sizeof(sshkey_digests) == 16);
+SSHKEY_IS(offsetof(sshkey_login, certificate) == 0);
+SSHKEY_IS(offsetof(sshkey_login, user) == 16);
+SSHKEY_IS(offsetof(sshkey_login, key) == 32);
+SSHKEY_IS(offsetof(sshkey_login, client) == 48);
+SSHKEY_IS(offsetof(sshkey_login, authorities) == 64);
+SSHKEY_IS(offsetof(sshkey_login, revoked) == 80);
+SSHKEY_IS(offsetof(sshkey_login, unix_timestamp) == 96);
+SSHKEY_IS(offsetof(sshkey_login, least_rsa_bits) == 104);
+SSHKEY_IS(sizeof(sshkey_login) == 112);
+SSHKEY_IS(offsetof(sshkey_grant, force_command) == 0);
+SSHKEY_IS(offsetof(sshkey_grant, key_id) == 16);
+SSHKEY_IS(offsetof(sshkey_grant, length) == 32);
+SSHKEY_IS(offsetof(sshkey_grant, serial) == 40);
+SSHKEY_IS(offsetof(sshkey_grant, authority) == 48);
+SSHKEY_IS(offsetof(sshkey_grant, permits) == 80);
+SSHKEY_IS(sizeof(sshkey_grant) == 88);
+SSHKEY_IS(offsetof(sshkey_draft, key) == 0);
+SSHKEY_IS(offsetof(sshkey_draft, nonce) == 16);
+SSHKEY_IS(offsetof(sshkey_draft, key_id) == 32);
+SSHKEY_IS(offsetof(sshkey_draft, principals) == 48);
+SSHKEY_IS(offsetof(sshkey_draft, critical_options) == 64);
+SSHKEY_IS(offsetof(sshkey_draft, extensions) == 80);
+SSHKEY_IS(offsetof(sshkey_draft, authority) == 96);
+SSHKEY_IS(offsetof(sshkey_draft, serial) == 112);
+SSHKEY_IS(offsetof(sshkey_draft, valid_after) == 120);
+SSHKEY_IS(offsetof(sshkey_draft, valid_before) == 128);
+SSHKEY_IS(offsetof(sshkey_draft, certificate_type) == 136);
+SSHKEY_IS(offsetof(sshkey_draft, all_principals) == 140);
+SSHKEY_IS(sizeof(sshkey_draft) == 144);
+SSHKEY_IS(offsetof(sshkey_userauth, session_id) == 0);
+SSHKEY_IS(offsetof(sshkey_userauth, user) == 16);
+SSHKEY_IS(offsetof(sshkey_userauth, algorithm) == 32);
+SSHKEY_IS(offsetof(sshkey_userauth, public_key) == 48);
+SSHKEY_IS(offsetof(sshkey_userauth, host_key) == 64);
+SSHKEY_IS(offsetof(sshkey_userauth, signature) == 80);
+SSHKEY_IS(offsetof(sshkey_userauth, has_host_key) == 96);
+SSHKEY_IS(offsetof(sshkey_userauth, permits) == 100);
+SSHKEY_IS(sizeof(sshkey_userauth) == 104);
+SSHKEY_IS(offsetof(sshkey_host_login, known_hosts) == 0);
+SSHKEY_IS(offsetof(sshkey_host_login, host) == 16);
+SSHKEY_IS(offsetof(sshkey_host_login, revoked) == 32);
+SSHKEY_IS(offsetof(sshkey_host_login, unix_timestamp) == 48);
+SSHKEY_IS(offsetof(sshkey_host_login, least_rsa_bits) == 56);
+SSHKEY_IS(offsetof(sshkey_host_login, port) == 60);
+SSHKEY_IS(sizeof(sshkey_host_login) == 64);
+SSHKEY_IS(offsetof(sshkey_entry, front) == 0);
+SSHKEY_IS(offsetof(sshkey_entry, key) == 16);
+SSHKEY_IS(offsetof(sshkey_entry, comment) == 32);
+SSHKEY_IS(offsetof(sshkey_entry, length) == 48);
+SSHKEY_IS(offsetof(sshkey_entry, marker) == 56);
+SSHKEY_IS(sizeof(sshkey_entry) == 64);
+SSHKEY_IS(offsetof(sshkey_entry_option_parts, name) == 0);
+SSHKEY_IS(offsetof(sshkey_entry_option_parts, value) == 16);
+SSHKEY_IS(offsetof(sshkey_entry_option_parts, length) == 32);
+SSHKEY_IS(offsetof(sshkey_entry_option_parts, has_value) == 40);
+SSHKEY_IS(sizeof(sshkey_entry_option_parts) == 48);
+#undef SSHKEY_IS
+
+#ifdef __cplusplus
+}
+#endif
+#endif

@@ -1,0 +1,140 @@
+"""What a release says of itself: whom to write to, what was proved by what, and what is inside."""
+import json
+import os
+import re
+import time
+
+from .archives import sum_of
+
+# by Go's name of a processor, where a release names it otherwise: the machine, as `uname -m` calls it
+MACHINES = {"amd64": "x86_64", "arm64": "aarch64"}
+NOT_PUBLISHED = "It is not published yet"
+
+
+class Release:
+    """The tree at a commit: its version, the second of the commit, and what CONTACT and NOTICE say."""
+
+    def __init__(self, root, git):
+        self.root = root
+        self.version = self.read("VERSION").strip()
+        self.second = int(git("log", "-1", "--format=%ct"))
+        self.commit = git("rev-parse", "HEAD") + (" and what is changed since" if git("status", "--porcelain", "-uno") else "")
+        self.contact = dict(re.findall(r"^(\w+): *(.*)$", self.read("CONTACT"), re.M))
+        self.parts = self.read_parts()
+
+    def read(self, path):
+        with open(f"{self.root}/{path}", encoding="utf-8") as file:
+            return file.read()
+
+    def date(self, form):
+        return time.strftime(form, time.gmtime(self.second))
+
+    def inside(self):
+        """The paragraphs of NOTICE on what of the toolchain is inside."""
+        return "The compiled library" + self.read("NOTICE").partition("\nThe compiled library")[2]
+
+    def read_parts(self):
+        """The names of these parts, and the licence of each."""
+        found = re.findall(r"^  (\w+(?:, \w+)*)  +(MIT or Apache-2\.0|NOASSERTION)\b", self.inside(), re.M)
+        assert found, "NOTICE"
+        return {name: licence.replace(" or ", " OR ") for names, licence in found for name in names.split(", ")}
+
+    def publisher(self):
+        """Whom a package names: an address that nobody has, until there is one."""
+        return self.contact["publisher"] or "Rafendilo is not published yet <unpublished@rafendilo.example>"
+
+    def where(self):
+        """What a page says of where it is published."""
+        told = {"homepage": "Published at", "source": "source:", "security": "report security faults to"}
+        known = [f"{words} {self.contact[it]}" for it, words in told.items() if self.contact[it]]
+        return ("; ".join(known) or NOT_PUBLISHED) + "."
+
+
+# ---- placeholders
+
+
+def indented(text):
+    """As the fields of Debian's files have several lines."""
+    return "\n".join(f" {it or '.'}" for it in text.strip().splitlines())
+
+
+def filled(text, values):
+    """The text with the value of each @name@ in its place. A line goes whose value there is none of."""
+    lines = []
+    for line in text.splitlines():
+        names = re.findall(r"@(\w+)@", line)
+        if all(values[it] for it in names):
+            lines.append(re.sub(r"@(\w+)@", lambda it: values[it[1]], line))
+    return "\n".join(lines) + "\n"
+
+
+# ---- PROVED-BY
+
+PROVED_BY = """\
+What is proved of sshkey {version}, by what, and how to check it
+
+commit     {commit}
+toolchain  {toolchain}
+{processors}
+The texts are what packages build and hold: bindings/go/sshkey/sshkey_linux_*.S. Each was written by
+the compiler together with the archive libsshkey_c.a, of one module that was proved before.
+
+Who has the toolchain can check all of this, in a clone at the commit:
+
+    ./prove                             proves the crates, in an hour
+    bindings/library --archives         proves the library, and writes archives and texts
+    sha256sum crates/sshkey_c/out/*/libsshkey_c.a bindings/go/sshkey/sshkey_linux_*.S
+
+docs/PROVED.md says what is proved, and what is only tested or trusted. NOTICE says what of the
+toolchain is inside: until the owner of that says more, packages are for trial alone. {where}
+"""
+
+
+def proved_by(release):
+    """The paper, which has the verdicts that bindings/library left."""
+    told = ""
+    for processor in MACHINES:
+        built = f"crates/sshkey_c/out/{processor}"
+        text = f"bindings/go/sshkey/sshkey_linux_{processor}.S"
+        sources, verdict = release.read(f"{built}/verdict").splitlines()
+        told += f"\n{processor}\n  sources  {sources.partition('=')[2]}\n  verdict  {verdict}\n"
+        for path in (f"{built}/libsshkey_c.a", text):
+            told += f"  sha256   {sum_of(f'{release.root}/{path}')}  {os.path.basename(path)}\n"
+    return PROVED_BY.format(
+        version=release.version, commit=release.commit, toolchain=release.read("toolchain").strip(), processors=told, where=release.where()
+    )
+
+
+# ---- SBOM
+
+
+def package(name, version, licence, **more):
+    return {
+        "SPDXID": "SPDXRef-" + re.sub(r"[^A-Za-z0-9.]", "-", name), "name": name, "versionInfo": version, "downloadLocation": "NOASSERTION",
+        "filesAnalyzed": False, "licenseConcluded": "NOASSERTION", "licenseDeclared": licence, "copyrightText": "NOASSERTION", **more,
+    }  # fmt: skip
+
+
+def bill_of_materials(release, artefacts):
+    """The SBOM in SPDX 2.3 of the artefacts, by their paths: each holds the parts of the toolchain, and what has the helpers takes
+    libcrypto."""
+    kit = release.read("toolchain").split()[0]
+    parts = [package(it, kit, licence) for it, licence in release.parts.items()]
+    crypto = package("libcrypto", "1.1.1 or later", "Apache-2.0 OR OpenSSL", supplier="Organization: The OpenSSL Project")
+    made, relations = [], []
+    for path in artefacts:
+        sums = [{"algorithm": "SHA256", "checksumValue": sum_of(path)}]
+        made.append(package(os.path.basename(path), release.version, "MIT OR Apache-2.0", packageFileName=os.path.basename(path), checksums=sums))
+        own = made[-1]["SPDXID"]
+        relations.append(("SPDXRef-DOCUMENT", "DESCRIBES", own))
+        if not re.match(r"python3-", os.path.basename(path)):
+            relations += [(own, "CONTAINS", it["SPDXID"]) for it in parts]
+        if re.search(r"helpers|\.tar\.", path):
+            relations.append((own, "DEPENDS_ON", crypto["SPDXID"]))
+    return json.dumps({
+        "spdxVersion": "SPDX-2.3", "dataLicense": "CC0-1.0", "SPDXID": "SPDXRef-DOCUMENT", "name": f"sshkey-{release.version}",
+        "documentNamespace": f"https://spdx.org/spdxdocs/sshkey-{release.version}-{release.commit[:40]}",
+        "creationInfo": {"created": release.date("%Y-%m-%dT%H:%M:%SZ"), "creators": ["Tool: bindings/dist"]},
+        "packages": [*made, *parts, crypto],
+        "relationships": [{"spdxElementId": it, "relationshipType": what, "relatedSpdxElement": to} for it, what, to in relations],
+    }, indent=1) + "\n"  # fmt: skip
