@@ -727,8 +727,8 @@ typedef struct {
 
 /* The entry of a line of authorized_keys, as sshd reads it. SSHKEY_DONE exactly if the line is one
  * (memory and room aside); SSHKEY_TEXT for a line that is not UTF-8, else 10 to 29. A room of the
- * line's length is enough. Which options there may be is yours to judge: sshkey_nth_option;
- * docs/CHECKLIST.md, "A login".
+ * line's length is enough. Which options there may be is yours to judge:
+ * sshkey_next_entry_option; docs/CHECKLIST.md, "A login".
  *
  * sshd takes the first line that lets a key in, and by that line the login is bound. So the first
  * entry of the key decides. A line that is refused here, memory too, may be for the key as sshd
@@ -750,22 +750,26 @@ typedef struct {
   sshkey_part name;   /* as it stands in the line: letters are compared without case */
   sshkey_part value;  /* without its quotes, and without each backslash before a quote */
   size_t length;      /* how many bytes of the room these take */
+  size_t next;        /* the place of the next option */
   uint32_t has_value; /* 0 where there is no value; else 1 */
 } sshkey_entry_option_parts;
 
-/* The option of that number, the first being 0, of the options of an entry. SSHKEY_DONE exactly if
- * they are a list of options, all of them, and have more than that number (memory and room aside);
- * SSHKEY_END if they have no more, SSHKEY_FORMAT if they are no list of options, also after the
- * option that is asked for, and SSHKEY_TEXT for bytes that are not UTF-8. A room of the options'
- * length is enough. A `front` of no bytes has no options. Each call reads all of them, so do not go
- * on for ever: refuse an entry with an option that you do not know, one that names an option twice,
- * but for environment, permitlisten and permitopen, which may come more than once, one that has no
- * value where sshd wants one, as command alone, or has one where it wants none, and one that has
- * principals without cert-authority. If the entry has the key, that refuses the login: sshd may
- * take the line, and a later one may bind the login less. The list of from is for
- * sshkey_from_allows; docs/CALLING.md says how sshd reads that of principals. */
-uint32_t sshkey_nth_option(const uint8_t *options, size_t options_length, size_t number,
-                           uint8_t *room, size_t room_length, sshkey_entry_option_parts *answer);
+/* The option that begins at that place of the options of an entry, commas before it aside: begin at
+ * 0, and go on at answer.next. SSHKEY_DONE exactly if one stands there (memory and room aside);
+ * SSHKEY_END exactly where nothing but commas is left, SSHKEY_FORMAT if no option stands there, and
+ * SSHKEY_TEXT if it is not UTF-8. A room of the options' length is enough. All options take time in
+ * proportion to them.
+ *
+ * Go on to SSHKEY_END before you let anybody in, since what follows an option is not read with it.
+ * Refuse an entry whose options end otherwise, one with an option that you do not know, one that
+ * names an option twice, but for environment, permitlisten and permitopen, which may come more than
+ * once, one that has no value where sshd wants one, as command alone, or has one where it wants
+ * none, and one that has principals without cert-authority. If the entry has the key, that refuses
+ * the login: sshd may take the line, and a later one may bind the login less. The list of from is
+ * for sshkey_from_allows; docs/CALLING.md says how sshd reads that of principals. */
+uint32_t sshkey_next_entry_option(const uint8_t *options, size_t options_length, size_t place,
+                                  uint8_t *room, size_t room_length,
+                                  sshkey_entry_option_parts *answer);
 
 /* ---- whether a host is the known one (ssh(1)) ------------------------------------------------ */
 
@@ -958,8 +962,9 @@ SSHKEY_IS(sizeof(sshkey_entry) == 64);
 SSHKEY_IS(offsetof(sshkey_entry_option_parts, name) == 0);
 SSHKEY_IS(offsetof(sshkey_entry_option_parts, value) == 16);
 SSHKEY_IS(offsetof(sshkey_entry_option_parts, length) == 32);
-SSHKEY_IS(offsetof(sshkey_entry_option_parts, has_value) == 40);
-SSHKEY_IS(sizeof(sshkey_entry_option_parts) == 48);
+SSHKEY_IS(offsetof(sshkey_entry_option_parts, next) == 40);
+SSHKEY_IS(offsetof(sshkey_entry_option_parts, has_value) == 48);
+SSHKEY_IS(sizeof(sshkey_entry_option_parts) == 56);
 #undef SSHKEY_IS
 
 #ifdef __cplusplus
