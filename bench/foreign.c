@@ -1,9 +1,9 @@
 /* Makes a call of the library for C so many times, for bench/foreign:
  *
- *     foreign question|validate|verdict|log-in|fields|fingerprint|verify CALLS <FILE.pub
+ *     foreign question|validate|login-question|verdict|log-in|fields|fingerprint|verify CALLS <FILE.pub
  *
- * `verdict` is that of a login which lets in, and `log-in` all that judge_log_in asks, but that
- * nothing is verified; `verify` is what libcrypto takes to answer the question. It prints
+ * `login-question` and `verdict` are those of a login which lets in, and `log-in` both, which is all
+ * that judge_log_in asks but the verification; `verify` is what libcrypto takes to answer. It prints
  * nanoseconds of processor time a call. */
 #include <stdio.h>
 #include <stdlib.h>
@@ -18,12 +18,22 @@ static uint8_t room[1 << 16], key[1 << 16];
 static size_t key_length;
 static sshkey_sha256 authority;
 
-static uint32_t verdict(judge_blob given, uint32_t is_verified) {
-  sshkey_grant grant;
+static sshkey_login login_by(judge_blob given) {
   sshkey_login login = {judge_span(given), judge_text("user"), {key, key_length}, judge_text(""),
-                        {&authority, 1}, SSHKEY_NO_REVOCATIONS, 1, 0};
+                        {&authority, 1}, SSHKEY_NO_REVOCATIONS, 1, 0, 0};
+  return login;
+}
+
+static uint32_t login_question(judge_blob given) {
+  sshkey_login login = login_by(given);
+  return sshkey_login_question(&login, room, sizeof room, &question);
+}
+
+static uint32_t verdict(judge_blob given) {
+  sshkey_grant grant;
+  sshkey_login login = login_by(given);
   memset(&grant, 0, sizeof grant);
-  return sshkey_login_verdict(&login, is_verified, room, sizeof room, &grant);
+  return sshkey_login_verdict(&login, 1, room, sizeof room, &grant);
 }
 
 static uint32_t ask(judge_blob given) {
@@ -32,9 +42,8 @@ static uint32_t ask(judge_blob given) {
 
 /* The calls of judge_log_in. */
 static uint32_t log_in(judge_blob given) {
-  verdict(given, 0);
-  ask(given);
-  return verdict(given, 1);
+  login_question(given);
+  return verdict(given);
 }
 
 /* Reads the certified key and the authority that the verdict is given. */
@@ -50,7 +59,8 @@ static uint32_t call(const char *what, judge_blob given) {
   sshkey_sha256 digest = {{0}};
   sshkey_fields fields = {0, 0, 0, 0, 0, 0};
   if (!strcmp(what, "verify")) return judge_is_signature(&question, room);
-  if (!strcmp(what, "verdict")) return verdict(given, 1);
+  if (!strcmp(what, "login-question")) return login_question(given);
+  if (!strcmp(what, "verdict")) return verdict(given);
   if (!strcmp(what, "log-in")) return log_in(given);
   if (!strcmp(what, "validate"))
     return sshkey_certificate_validate_for(given.bytes, given.length, 1, (const uint8_t *)"user", 4,

@@ -88,10 +88,9 @@ static void ask_user(asked *it, uint64_t now, judge_authorities by, sshkey_spans
   judge_blob certificate = line_of(it, "user-cert.pub", SSHKEY_LINE_CERTIFICATE);
   judge_blob key = line_of(it, "user.pub", SSHKEY_LINE_KEY), again = {NULL, 0};
   sshkey_login login = {judge_span(certificate), judge_text("alice"), judge_span(key),
-                        judge_text(""), judge_digests(by), revoked, now, 0};
+                        judge_text(""), judge_digests(by), revoked, now, 0, 0};
   char *type = text_of(it, "user.pub"), *base64 = strchr(type, ' ');
   uint8_t *room = calloc(1, certificate.length);
-  uint32_t is_verified = 0;
   sshkey_grant grant;
   memset(&grant, 0, sizeof grant);
   if (!room) abort();
@@ -101,8 +100,6 @@ static void ask_user(asked *it, uint64_t now, judge_authorities by, sshkey_spans
   note(it, judge_log_in(&login, room, certificate.length, &grant));
   note_bytes(it, room, grant.length);
   note(it, grant.permits);
-  note(it, judge_is_certified(judge_span(certificate), &is_verified));
-  note(it, is_verified);
   ask_request(it, again);
   free(room);
   free(type);

@@ -20,7 +20,7 @@
 const char program_name[] = "sshkey-check";
 static const char help[] =
     "usage: sshkey-check [FILE]\n"
-    "       sshkey-check --ca FILE [--user NAME] [--at SECOND] [--revoked FILE].. [FILE]\n"
+    "       sshkey-check --ca FILE --user NAME [--at SECOND] [--revoked FILE].. [FILE]\n"
     "       sshkey-check --host NAME [--port NUMBER] --known-hosts FILE.. [--at SECOND]\n"
     "                    [--revoked FILE].. [FILE]\n"
     "       sshkey-check verify -k KEYS -n NAMESPACE -s SIGNATURE [FILE]\n"
@@ -28,11 +28,11 @@ static const char help[] =
     "                           [--at SECOND] [FILE]\n"
     "\n"
     "The first shows each certificate of FILE, or of standard input, as ssh-keygen -L does. The\n"
-    "second says of each whether it is valid by an authority of the file, for logins as NAME, at\n"
-    "that second since 1970, or else now. The third says of each, or of a key, whether it is that of\n"
-    "the host, by all the files of known_hosts. The fourth says whether the signature of ssh-keygen\n"
-    "-Y sign is one of FILE in the namespace by a key of the file KEYS, and the fifth whether it is\n"
-    "the identity's by the file of allowed signers, as ssh-keygen -Y verify does.\n"
+    "second says of each whether it logs NAME in by an authority of the file, at that second since\n"
+    "1970, or else now. The third says of each, or of a key, whether it is that of the host, by all\n"
+    "the files of known_hosts. The fourth says whether the signature of ssh-keygen -Y sign is one of\n"
+    "FILE in the namespace by a key of the file KEYS, and the fifth whether it is the identity's by\n"
+    "the file of allowed signers, as ssh-keygen -Y verify does.\n"
     "Status 0: all is shown, or valid; 1: not all, as standard error says; 2: it can't tell.\n";
 
 enum { VALID = 0, INVALID = 1, UNTOLD = 2 };
@@ -77,13 +77,11 @@ static uint32_t read_key(const char *line, size_t length, size_t number, void *g
 
 /* ---- certificates */
 
-/* Whether the certificate is valid, and logs the user in, if one is asked for. */
+/* Whether the certificate logs the user in. */
 static uint32_t judge_asked(judge_blob certificate, const request *asked) {
-  sshkey_spans revoked = program_revocations(&asked->revoked);
-  if (!asked->user) return certificate_validate(certificate, asked->second, asked->by, revoked);
   sshkey_login login = {.user = judge_text(asked->user),
                         .authorities = judge_digests(asked->by),
-                        .revoked = revoked,
+                        .revoked = program_revocations(&asked->revoked),
                         .unix_timestamp = asked->second};
   return certificate_log_in(certificate, login);
 }
@@ -312,7 +310,7 @@ static bool is_one_question(const request *asked) {
       asked->allowed.identity)
     return false;
   if (has_host) return is_host && !asked->authorities && !asked->user;
-  return asked->authorities || !(asked->user || is_bound);
+  return asked->authorities ? asked->user != NULL : !asked->user && !is_bound;
 }
 
 /* Reads the words; false where they ask nothing. */

@@ -9,7 +9,7 @@
 /* where the strings of a signature begin, after SSHSIG and the version: key, namespace, reserved
  * bytes, hash, signature (PROTOCOL.sshsig) */
 #define STRINGS 10
-enum { RESERVED = 2, HASH = 3, SIGNATURE = 4 };
+enum { HASH = 3, SIGNATURE = 4 };
 
 /* ---- armour */
 
@@ -59,16 +59,8 @@ static uint32_t told(uint32_t answer, judge_blob signature) {
   return memcmp(signature.bytes + own.start, sha1, sizeof sha1 - 1) ? answer : SSHKEY_RSA_SHA1;
 }
 
-/* SSHKEY_DONE where the fingerprint is that of one of the keys. */
-static uint32_t judge_signer(const sshkey_sha256 *signer, judge_authorities keys) {
-  for (size_t at = 0; at < keys.count; at++)
-    if (!memcmp(&keys.keys[at], signer, sizeof *signer)) return SSHKEY_DONE;
-  return SSHKEY_SIGNER_NOT_ALLOWED;
-}
-
-/* SSHKEY_DONE where the signature is verified, and by one of the keys, if some are given. */
-static uint32_t judge_question(judge_blob signature, const char *name_space, judge_blob digest,
-                               const judge_authorities *keys) {
+/* SSHKEY_DONE where the signature is one of the message with that digest. */
+static uint32_t judge_question(judge_blob signature, const char *name_space, judge_blob digest) {
   /* a room of this length is enough */
   size_t room_length = 2 * signature.length + 256;
   uint8_t *room = calloc(1, room_length);
@@ -79,21 +71,29 @@ static uint32_t judge_question(judge_blob signature, const char *name_space, jud
   uint32_t answer = sshkey_sshsig_question_of_digest(
       signature.bytes, signature.length, (const uint8_t *)name_space, strlen(name_space),
       digest.bytes, digest.length, room, room_length, &question, &signer);
-  if (answer == SSHKEY_DONE && keys) answer = judge_signer(&signer, *keys);
-  /* of a file of signers the verdict asks for reserved bytes */
-  bool is_refused = keys && string_of(signature, RESERVED).length;
-  if (answer == SSHKEY_DONE && (is_refused || !judge_is_signature(&question, room)))
-    answer = SSHKEY_NOT_SIGNED;
+  if (answer == SSHKEY_DONE && !judge_is_signature(&question, room)) answer = SSHKEY_NOT_SIGNED;
   free(room);
   return answer;
 }
 
-uint32_t judge_sshsig_of_digest(judge_blob signature, const char *name_space, judge_blob digest,
-                                judge_authorities keys) {
-  return told(judge_question(signature, name_space, digest, &keys), signature);
+/* Whether it counts by those keys, where that is what the verification said. */
+static uint32_t judge_by_keys(judge_blob signature, const char *name_space, judge_authorities keys,
+                              bool is_verified) {
+  sshkey_digests signers = judge_digests(keys);
+  return sshkey_sshsig_verdict(signature.bytes, signature.length, (const uint8_t *)name_space,
+                               strlen(name_space), signers.items, signers.count, is_verified);
 }
 
-/* Whether it counts, where that is what the verification said. */
+uint32_t judge_sshsig_of_digest(judge_blob signature, const char *name_space, judge_blob digest,
+                                judge_authorities keys) {
+  /* no cryptography runs over a key that may not sign */
+  uint32_t answer = judge_by_keys(signature, name_space, keys, false);
+  if (answer == SSHKEY_NOT_SIGNED) answer = judge_question(signature, name_space, digest);
+  return answer == SSHKEY_DONE ? judge_by_keys(signature, name_space, keys, true)
+                               : told(answer, signature);
+}
+
+/* Whether it counts by the file of allowed signers, likewise. */
 static uint32_t judge_allowed(judge_blob signature, const char *name_space,
                               const judge_signers *by, bool is_verified) {
   return sshkey_signer_verdict(
@@ -105,9 +105,8 @@ static uint32_t judge_allowed(judge_blob signature, const char *name_space,
 uint32_t judge_signer_of_digest(judge_blob signature, const char *name_space, judge_blob digest,
                                 const judge_signers *by) {
   if (!by->identity) return SSHKEY_SIGNER_NOT_ALLOWED;
-  /* no cryptography runs over a key that may not sign */
   uint32_t answer = judge_allowed(signature, name_space, by, false);
-  if (answer != SSHKEY_NOT_SIGNED) return told(answer, signature);
-  answer = judge_question(signature, name_space, digest, NULL);
-  return answer == SSHKEY_DONE ? judge_allowed(signature, name_space, by, true) : answer;
+  if (answer == SSHKEY_NOT_SIGNED) answer = judge_question(signature, name_space, digest);
+  return answer == SSHKEY_DONE ? judge_allowed(signature, name_space, by, true)
+                               : told(answer, signature);
 }

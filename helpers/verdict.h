@@ -10,8 +10,8 @@ extern "C" {
 #endif
 
 /* Whether a certificate lets a user in, and the grant: sshkey_login_verdict, with the verification
- * that it asks for. No cryptography runs over the key of an authority that is none of the login's,
- * nor where anything else is wrong. A room of the certificate's length is enough. */
+ * that sshkey_login_question asks for. So no cryptography runs over the key of an authority that is
+ * none of the login's. A room of the certificate's length is enough. */
 uint32_t judge_log_in(const sshkey_login *login, uint8_t *room, size_t room_length,
                       sshkey_grant *answer);
 
@@ -21,10 +21,6 @@ uint32_t judge_userauth(const sshkey_userauth *request);
 
 /* Whether a certificate is the host's: sshkey_host_certificate_verdict, likewise. */
 uint32_t judge_host_certificate(const sshkey_host_login *login, sshkey_span certificate);
-
-/* What sshkey_certificate_question asks of the certificate: SSHKEY_DONE, and what the verification
- * says; or SSHKEY_MEMORY. */
-uint32_t judge_is_certified(sshkey_span certificate, uint32_t *is_verified);
 
 #ifdef __cplusplus
 }

@@ -9,10 +9,10 @@
  *   3. sshkey_certificate_validate and .._validate_for say whether the certificate is valid, given
  *      what you found, or what is wrong with it first.
  *
- * An SSH signature (`ssh-keygen -Y sign`) is valid exactly if sshkey_sshsig_question answers
- * SSHKEY_DONE, your verification says yes, and the signer's key is one that you trust for that
- * namespace: sshkey_signer_verdict says so by a file of allowed signers. The digest of the message
- * does in place of the message.
+ * A login is such a check too: sshkey_login_question, and sshkey_login_verdict. Of an SSH signature
+ * (`ssh-keygen -Y sign`) sshkey_sshsig_question asks, or the same with the digest of the message.
+ * Whether it counts, sshkey_sshsig_verdict says by the keys that you trust for its namespace, and
+ * sshkey_signer_verdict by a file of allowed signers.
  *
  * What you owe, which nothing checks:
  *
@@ -128,7 +128,8 @@ enum {
   SSHKEY_HOST_UNKNOWN = 53,    /* no line without a marker is for the host */
 
   /* 55, 58, 56, and then 30: a signature does not count; the first of these that holds */
-  SSHKEY_SIGNER_NOT_ALLOWED = 55, /* no line lets its key sign for the identity, there and then */
+  SSHKEY_SIGNER_NOT_ALLOWED = 55, /* no line lets its key sign for the identity, there and then; or
+                                     it is none of the keys that may sign */
   SSHKEY_REVOKED = 56, /* a revocation file revokes the signer's key, or the certificate */
 
   SSHKEY_ELSEWHERE = 57, /* the client's address is none of those that are allowed */
@@ -498,6 +499,10 @@ typedef struct {
                                  Who asks none says so: SSHKEY_NO_REVOCATIONS */
   uint64_t unix_timestamp;
   uint32_t least_rsa_bits;    /* as RequiredRSASize; below 1,024, as 0, it is 1,024 */
+  uint32_t judges_address;    /* 1: you judge yourself whether source-address has the client's, and
+                                 `client` is not looked at: so does sshd with a certificate whose
+                                 principals a program tells it, and before 9.4 it tells that program
+                                 no address. With any other number, as 0, it is judged here */
 } sshkey_login;
 
 /* What a grant permits. Zero permits nothing. */
@@ -523,14 +528,25 @@ typedef struct {
   uint32_t permits;          /* SSHKEY_PERMIT_* */
 } sshkey_grant;
 
+/* What has to be verified before a login is let in: the question of its certificate. So nothing is
+ * verified of a certificate that a stranger signed.
+ *
+ * SSHKEY_DONE, or SSHKEY_ROOM, only where sshkey_login_verdict, asked with 0, says
+ * SSHKEY_NOT_SIGNED: all that is looked at before is right. Else what that says; SSHKEY_NOT_SIGNED
+ * is said of a certificate that raises no question. With no answer but SSHKEY_DONE there is
+ * something to verify. A room of twice the certificate's length and 256 bytes is enough.
+ * SSHKEY_MEMORY only where the user is UTF-8 and the key is one. */
+uint32_t sshkey_login_question(const sshkey_login *login, uint8_t *room, size_t room_length,
+                               sshkey_question *answer);
+
 /* Whether a login is let in, as sshd would by these authorities, and what it may do. `is_verified`
- * is 1 if the answer to the question of its certificate is yes; any other number is no. Ask with 0
- * first: SSHKEY_NOT_SIGNED says "now verify" (sshkey_certificate_question), and with any other
- * answer there is nothing to verify. So nothing is verified of a certificate that a stranger signed.
+ * is 1 if the answer to the question of its certificate is yes (sshkey_login_question); any other
+ * number is no.
  *
  * SSHKEY_DONE exactly if the bytes are a certificate for users, in its normal form, of just that
  * key, which OpenSSH lets in, that lists the user; with options and texts that sshd accepts, and a
- * source-address that has the client's; valid at that second by one of the authorities; and no
+ * source-address that has the client's, unless you judge it; valid at that second by one of the
+ * authorities; `is_verified` is 1; and no
  * revocation file revokes it (memory and room aside). Else what is wrong first: SSHKEY_TEXT for the
  * user, 10 to 29 for bytes that are no key, or else no certificate, 70 to 72, 59, 73 to 76, then
  * SSHKEY_UNTRUSTED_AUTHORITY, SSHKEY_UNREADABLE_REVOCATIONS or SSHKEY_REVOKED, 30, 32 to 34, and
@@ -611,6 +627,20 @@ uint32_t sshkey_sshsig_question_of_digest(const uint8_t *signature, size_t signa
                                           const uint8_t *digest, size_t digest_length,
                                           uint8_t *room, size_t room_length,
                                           sshkey_question *answer, sshkey_sha256 *signer);
+
+/* Whether an SSH signature counts in that namespace, where the keys with these SHA-256 fingerprints
+ * may sign. `is_verified` is 1 if the answer to the question of this signature, in the namespace
+ * and of the message, is yes; any other number is no. Ask with 0 first: SSHKEY_NOT_SIGNED says that its
+ * key may sign, and with any other answer there is nothing to verify.
+ *
+ * SSHKEY_DONE exactly if the bytes are a signature in the namespace that raises a question, without
+ * reserved bytes, `is_verified` is 1, and its key is one of those (memory aside). Else 10 to 29 for
+ * bytes that are no signature, SSHKEY_SIGNER_NOT_ALLOWED, or SSHKEY_NOT_SIGNED. SSHKEY_MEMORY only
+ * where a part of the signature is whole. */
+uint32_t sshkey_sshsig_verdict(const uint8_t *signature, size_t signature_length,
+                               const uint8_t *name_space, size_t name_space_length,
+                               const sshkey_sha256 *signers, size_t signer_count,
+                               uint32_t is_verified);
 
 /* Whether an SSH signature counts as the identity's in that namespace, by a text of allowed
  * signers (ssh-keygen(1)), at that second (since 1970), as `ssh-keygen -Y verify` says, or more
@@ -916,6 +946,7 @@ SSHKEY_IS(offsetof(sshkey_login, authorities) == 64);
 SSHKEY_IS(offsetof(sshkey_login, revoked) == 80);
 SSHKEY_IS(offsetof(sshkey_login, unix_timestamp) == 96);
 SSHKEY_IS(offsetof(sshkey_login, least_rsa_bits) == 104);
+SSHKEY_IS(offsetof(sshkey_login, judges_address) == 108);
 SSHKEY_IS(sizeof(sshkey_login) == 112);
 SSHKEY_IS(offsetof(sshkey_grant, force_command) == 0);
 SSHKEY_IS(offsetof(sshkey_grant, key_id) == 16);

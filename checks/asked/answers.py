@@ -12,9 +12,9 @@ them: FILES, which are revocation files, and TEXTS), numbers and names:
     sshsig BYTES NAMESPACE MESSAGE                           the same, and the SIGNER
     sshsig-of-digest BYTES NAMESPACE DIGEST
     is-signature KEY MESSAGE SIGNATURE                       0 and 1 if it verifies, else 0
-    log-in BYTES USER KEY CLIENT AUTHORITIES FILES SECOND BITS
+    log-in BYTES USER KEY CLIENT AUTHORITIES FILES SECOND BITS 0|1
                                                              0 PERMITS SERIAL AUTHORITY COMMAND KEY-ID; a CLIENT of another number of
-                                                             bytes than 4 or 16 has no address
+                                                             bytes than 4 or 16 has no address; 1 where the address is not judged
     host-key TEXTS HOST KEY FILES PORT BITS                  0
     host-certificate TEXTS HOST BYTES FILES PORT BITS SECOND
     unreadable-line TEXT HOST PORT                           0 NUMBER, or 3

@@ -70,6 +70,7 @@ typedef struct {
   CALL(sshsig_question, BYTES(0), BYTES(1), BYTES(2), ROOM, &it->question, &it->sha256)          \
   CALL(sshsig_question_of_digest, BYTES(0), BYTES(1), BYTES(2), ROOM, &it->question,             \
        &it->sha256)                                                                              \
+  CALL(sshsig_verdict, BYTES(0), BYTES(1), BY, (uint32_t)it->numbers[0])                         \
   CALL(signer_verdict, BYTES(0), BYTES(1), BYTES(2), BYTES(3), it->numbers[0], SEVERAL(4),       \
        (uint32_t)it->numbers[1])                                                                 \
   CALL(key_normal, BYTES(0), ROOM, &it->length)                                                  \
@@ -85,7 +86,8 @@ typedef struct {
   CALL(authorized_entry, BYTES(0), ROOM, &it->entry)                                             \
   CALL(known_host, BYTES(0), ROOM, &it->entry)                                                   \
   CALL(next_entry_option, BYTES(0), it->numbers[0], ROOM, &it->entry_option)                     \
-  CALL(login_verdict, &given->login, (uint32_t)it->numbers[2], ROOM, &it->grant)                 \
+  CALL(login_question, &given->login, ROOM, &it->question)                                       \
+  CALL(login_verdict, &given->login, (uint32_t)it->numbers[3], ROOM, &it->grant)                 \
   CALL(host_key_verdict, &given->host, BYTES(2))                                                 \
   CALL(host_certificate_verdict, &given->host, BYTES(2), (uint32_t)it->numbers[3])               \
   CALL(unreadable_host_line, BYTES(0), BYTES(1), PORT, &it->length)                              \
@@ -113,7 +115,7 @@ static uint32_t called(given_call *it, int filling) {
        numbers[1], numbers[2], (uint32_t)numbers[3], (uint32_t)numbers[4]},
       {DRAWN(0), DRAWN(1), DRAWN(2), DRAWN(3),
        {(const sshkey_sha256 *)by->bytes, by->length / sizeof(sshkey_sha256)}, {SEVERAL(5)},
-       numbers[0], (uint32_t)numbers[1]},
+       numbers[0], (uint32_t)numbers[1], (uint32_t)numbers[2]},
       {{SEVERAL(0)}, DRAWN(1), {SEVERAL(3)}, numbers[2], (uint32_t)numbers[1], PORT},
       {DRAWN(0), DRAWN(1), DRAWN(2), DRAWN(3), DRAWN(4), DRAWN(5), (uint32_t)numbers[0],
        (uint32_t)numbers[1]}};

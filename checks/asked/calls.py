@@ -26,7 +26,7 @@ KEY = word(string(b"ssh-ed25519") + string(bytes(32)))
 OF_KINDS = {
     "certificate": [
         "certificate {}", "fields {}", "lists {}", "normal certificate {}", f"revokes-certificate {NONE} {{}}", "revoked-certificate - {}",
-        f"log-in {{}} {ALICE} {KEY} - {DIGEST[:64]} {NONE} {MIDDLE} 0", f"host-certificate - {HOST} {{}} {NONE} 22 0 {MIDDLE}",
+        f"log-in {{}} {ALICE} {KEY} - {DIGEST[:64]} {NONE} {MIDDLE} 0 0", f"host-certificate - {HOST} {{}} {NONE} 22 0 {MIDDLE}",
     ],
     "key": ["key {}", "normal key {}", f"revokes-key {NONE} {{}}", "revoked-key - {}", f"host-key - {HOST} {{}} {NONE} 22 0"],
     "ssh-signature": [f"sshsig {{}} {FILE} {b'message'.hex()}", "normal sshsig {}", f"signer - {FILE} {FILE} {{}} - {MIDDLE} 1"],

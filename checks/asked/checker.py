@@ -155,7 +155,7 @@ def check_key_files(count, programs, maker):
     """What a comment in a file of keys holds is nothing to it, and each line that is no key is told."""
     signature = maker.write("armour.sig", armoured(maker.signature("shown0", "a text", SPACE)))
     certificate = maker.certificate("shower0", "shown0", "-n", "alice", "-V", "-5m:+60m")
-    for key, words in (("shown0", ["verify", "-n", SPACE, "-s", signature, "-k"]), ("shower0", ["--ca"])):
+    for key, words in (("shown0", ["verify", "-n", SPACE, "-s", signature, "-k"]), ("shower0", ["--user", "alice", "--ca"])):
         line = maker.read(f"{key}.pub").encode().split()
         good = b"# keys\n\t" + b" \t".join(line[:2]) + b"\tZ\xfcrich\0\r\n"
         wrong = good + b"ssh-ed25519 AAAA\n" + good + b"\xff\n"
@@ -163,7 +163,7 @@ def check_key_files(count, programs, maker):
             with open(maker.path("keys-of-any-bytes"), "wb") as file:
                 file.write(text)
             for program in programs:
-                ran = run([program, *words, file.name], input=certificate if words == ["--ca"] else "a text")
+                ran = run([program, *words, file.name], input=certificate if key == "shower0" else "a text")
                 lines = [it.split(":")[2] for it in ran.stderr.splitlines()]
                 count.check(f"sshkey-check {words[0]} by a file of keys, {told or 'whole'}", ((ran.returncode, ran.stdout), lines) == (wanted, told), ran)
 
@@ -314,7 +314,8 @@ def check_words(count, programs, maker):
         ["verify", *signed, "-r", key], ["verify", *signed, "--at", "1"], ["--host", "h"], ["--known-hosts", key], ["--port", "22"],
         ["--host", "h", "--known-hosts", key, "--ca", ca], ["--host", "h", "--known-hosts", key, "--user", "alice"], ["--host", "h", "--port", "22"],
         ["--host", "h", "--host", "h", "--known-hosts", key], ["verify", *signed, "--host", "h", "--known-hosts", key],
-        [key, key], ["--user", "alice"], ["--at", "1"], ["--ca"], ["--ca", ca, "--ca", ca], ["--ca", ca, "--keys", key], signed,
+        [key, key], ["--user", "alice"], ["--at", "1"], ["--ca"], ["--ca", ca], ["--ca", ca, "--user", "alice", "--ca", ca],
+        ["--ca", ca, "--user", "alice", "--keys", key], signed,
         ["verify"], ["verify", *signed[:4]], ["verify", *signed, "--ca", ca], ["verify", *signed, key, key], ["verify", "--help"],
     ):  # fmt: skip
         ran = run([programs[0], *words], input="")

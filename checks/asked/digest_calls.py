@@ -84,7 +84,7 @@ def check_verifications(judge, name, signature, digest, own):
     asked, strange, wrong = [], bytes(32), turned(signature)[-1]
     for case, given, by, wanted, count in (
         ("its signer", signature, own, "DONE", 1), ("one of two signers", signature, strange + own, "DONE", 1),
-        ("turned", wrong, own, "NOT_SIGNED", 1), ("over reserved bytes", with_reserved(signature, b"reserved"), own, "NOT_SIGNED", 0),
+        ("turned", wrong, own, "NOT_SIGNED", 1), ("over reserved bytes", with_reserved(signature, b"reserved"), own, "NOT_SIGNED", 1),
         ("another signer", signature, strange, "SIGNER_NOT_ALLOWED", 0), ("no signer", signature, b"", "SIGNER_NOT_ALLOWED", 0),
         ("another signer, turned", wrong, strange, "SIGNER_NOT_ALLOWED", 0),
     ):  # fmt: skip

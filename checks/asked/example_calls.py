@@ -84,7 +84,7 @@ def check_certificates(count, built, maker, kind, middle):
         ran = run([*words, good, "--at", str(middle), "--revoked", maker.path("none")], input=line)
         count.check(f"{program}: no file of revocations", ran.returncode == UNTOLD and ran.stderr and not ran.stdout, ran.stdout)
     os.close(folder)
-    ran = run([f"{built.plain}/sshkey-check", "--ca", wrong], input=line)
+    ran = run([f"{built.plain}/sshkey-check", "--ca", wrong, "--user", "alice"], input=line)
     count.check("sshkey-check names the line that is no key", f"{wrong}:4: no key" in ran.stderr, ran.stderr)
     later = maker.write("later", f"{LATER['later']} a comment\n{maker.read(f'{kind.authority}.pub')}\n")
     ran = run([f"{built.sanitized}/sshkey-check", "--ca", later, "--user", "alice", "--at", str(middle)], input=line)

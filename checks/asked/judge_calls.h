@@ -49,7 +49,7 @@ static uint32_t log_in(given_call *it, const char *name) {
                         {(const sshkey_sha256 *)it->spans[4].bytes,
                          it->spans[4].length / sizeof(sshkey_sha256)},
                         {it->several[5].items, it->several[5].count}, numbers[0],
-                        (uint32_t)numbers[1]};
+                        (uint32_t)numbers[1], (uint32_t)numbers[2]};
   free(it->room.bytes);
   it->room = made(it->spans[0].length);
   memset(&it->grant, FILLED, sizeof it->grant);

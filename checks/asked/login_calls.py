@@ -46,10 +46,12 @@ class Login:
     revoked: tuple = (EMPTY,)
     second: int = MIDDLE
     bits: int = 0
+    # the client's address is not judged
+    judges: bool = False
 
     def words(self):
         given = [*map(word, (self.certificate, self.user, self.key, self.client, self.authorities)), several(self.revoked)]
-        return " ".join([*given, str(self.second), str(self.bits)])
+        return " ".join([*given, str(self.second), str(self.bits), str(int(self.judges))])
 
 
 @dataclass(frozen=True)
@@ -154,12 +156,16 @@ def options(maker):
         ("one without an address", b"", "ELSEWHERE"), ("one with half an address", INSIDE[:2], "ELSEWHERE"), ("one with more", INSIDE + b"\0", "ELSEWHERE"),
     ):  # fmt: skip
         yield f"addresses, and {name}", replace(bound, client=client), wanted
+        yield f"addresses, and {name}, which the caller judges", replace(bound, client=client, judges=True), moved
         yield f"no addresses, and {name}", replace(made(), client=client), Granted(FREE)
     for name, changes, wanted in (
         ("another user", {"user": b"eve"}, "UNLISTED_PRINCIPAL"), ("too late", {"second": 1706745600}, "OUT_OF_WINDOW"),
         ("a turned bit", {"certificate": turned(bound.certificate)}, "NOT_SIGNED"),
     ):  # fmt: skip
         yield f"from elsewhere, and {name}", replace(bound, client=OUTSIDE, **changes), wanted
+        yield f"from where the caller judges, and {name}", replace(bound, client=OUTSIDE, judges=True, **changes), wanted
+    other = certificates.put_together(critical={"source-address": string(b"10.0.0.1/40")})
+    yield "no list of addresses, which the caller judges", replace(other, judges=True), "CRITICAL_OPTIONS"
 
 
 def rows(maker):

@@ -53,15 +53,17 @@ def of_logins(good, second):
     """Calls about the login of a good one by what they are given, and by others."""
     strange, revoked = bytes(32), EMPTY + b"\2" + string(string(good[2]))
     for is_verified, wanted in ((1, "DONE"), (0, "NOT_SIGNED")):
-        yield "login_verdict", good, [second, 0, is_verified], wanted
-        yield "login_verdict", [*good[:5], [b"# a comment\n"]], [second, 0, is_verified], wanted
+        yield "login_verdict", good, [second, 0, 0, is_verified], wanted
+        yield "login_verdict", [*good[:5], [b"# a comment\n"]], [second, 0, 0, is_verified], wanted
+    yield "login_question", good, [second, 0], "DONE"
     for at, other, wanted in (
         (0, good[0][:-1], "LENGTH"), (1, b"\xff", "TEXT"), (1, b"eve", "UNLISTED_PRINCIPAL"), (1, b"", "VALID_PRINCIPALS"), (2, good[2][:-1], "LENGTH"),
         (4, strange, "UNTRUSTED_AUTHORITY"), (5, [EMPTY, revoked], "REVOKED"), (5, [revoked], "REVOKED"), (5, [], "UNREADABLE_REVOCATIONS"),
         (5, [revoked[:-1]], "UNREADABLE_REVOCATIONS"), (5, [b"", b"x"], "UNREADABLE_REVOCATIONS"),
     ):  # fmt: skip
-        yield "login_verdict", [*good[:at], other, *good[at + 1 :]], [second, 0, 1], wanted
-    yield "login_verdict", good, [0, 0, 1], "OUT_OF_WINDOW"
+        yield "login_verdict", [*good[:at], other, *good[at + 1 :]], [second, 0, 0, 1], wanted
+        yield "login_question", [*good[:at], other, *good[at + 1 :]], [second, 0], "DONE" if wanted == "UNLISTED_PRINCIPAL" else wanted
+    yield "login_verdict", good, [0, 0, 0, 1], "OUT_OF_WINDOW"
 
 
 def of_hosts(maker, second):
@@ -134,6 +136,11 @@ def of_signature(maker, key):
     yield "sshsig_question_of_digest", [file, b"git", digest], [], "OTHER_NAMESPACE"
     yield "sshsig_question_of_digest", [file, b"file", digest[:32]], [], "LENGTH"
     yield "sshsig_question_of_digest", [file[:-1], b"file", digest], [], "LENGTH"
+    own_digest = hashlib.sha256(maker.blob(key)).digest()
+    for by, is_verified, wanted in ((own_digest, 1, "DONE"), (bytes(32) + own_digest, 0, "NOT_SIGNED"), (bytes(32), 1, "SIGNER_NOT_ALLOWED"), (b"", 1, "SIGNER_NOT_ALLOWED")):
+        yield "sshsig_verdict", [file, b"file", by], [is_verified], wanted
+    yield "sshsig_verdict", [file, b"git", own_digest], [1], "NOT_SIGNED"
+    yield "sshsig_verdict", [file[:-1], b"file", own_digest], [1], "LENGTH"
     signers, who = b"# a comment\nbob x\nalice " + maker.read(f"{key}.pub").encode(), b"alice"
     text, own = b"# a comment\n" + maker.read("authority0.pub").encode(), maker.read(f"{key}.pub").encode()
     for revoked in ([b""], [text], [EMPTY], [EMPTY, text]):

@@ -43,7 +43,7 @@ def check_stub(count, asker, made, number):
         f"certificate-options {blob}", f"strings {blob}", f"key {key}", f"line {name}", f"normal key {key}",
         f"normal certificate {blob}", f"normal sshsig {key}", f"normal signature {key}", f"join {blob} {key}", f"entry {name}",
         f"host {name}", f"options {name}", f"draft {key} 00 {name} - - - {key} 0 0 9 1 1",
-        f"make {key} 00 {name} - - - {key} 0 0 9 1 1 {key}", f"log-in {blob} {name} {key} - {by} - 7 0",
+        f"make {key} 00 {name} - - - {key} 0 0 9 1 1 {key}", f"log-in {blob} {name} {key} - {by} - 7 0 0",
         f"host-key {name} {name} {key} - 22 0", f"host-certificate {name} {name} {blob} - 22 0 7", f"unreadable-line {name} {name} 22",
         f"userauth {request} 0 0", f"userauth-of {request} 00 0 0", f"is-userauth {request} 1 0", f"flags {key} {key} 0", f"other-key-line {name}",
         f"revokes-key {key} {key}", f"revokes-certificate {key} {blob}", f"signer {name} {name} {name} {key} - 7 1",
@@ -72,6 +72,6 @@ def check_refused_questions(count, asker, made):
     blob, key = made.kinds[0].blob.hex(), made.key().hex()
     by, name = "00" * 32, b"alice".hex()
     questions = [f"validate {blob} 7 {whom} {by} 1" for whom in ("*", name)] + [
-        f"log-in {blob} {name} {key} - {by} - 7 0", f"host-certificate {name} {name} {blob} - 22 0 7",
+        f"log-in {blob} {name} {key} - {by} - 7 0 0", f"host-certificate {name} {name} {blob} - 22 0 7",
     ]  # fmt: skip
     check_answered(count, asker, "where a question is refused memory, that is answered", questions, 1)

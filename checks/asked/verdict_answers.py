@@ -7,11 +7,12 @@ from .linked import data_of, datas_of, word
 class VerdictAnswers:
     """The answers about verdicts, each as the words after 0, and as Refused where it is a refusal."""
 
-    def login_of(self, data, user, key, client, by, files, second, bits):
+    def login_of(self, data, user, key, client, by, files, second, bits, judges):
         address = data_of(client)
         return self.sshkey.Login(
             certificate=data_of(data), user=data_of(user), key=data_of(key), authorities=self.digests(by), revoked=datas_of(files),
             client=ipaddress.ip_address(address) if len(address) in (4, 16) else None, unix_timestamp=int(second), least_rsa_bits=int(bits),
+            judges_address=judges == "1",
         )  # fmt: skip
 
     def log_in(self, *given):

@@ -29,7 +29,7 @@ def said_by_checker(words, authority, user, second, lines):
 
 
 def said_by_python(sshkey, by, user, second, lines):
-    """What the package says of each line, of a client whose address is one that its certificate allows."""
+    """What the package says of each line, where the address of the client is not judged."""
 
     def judged(line):
         try:
@@ -39,7 +39,7 @@ def said_by_python(sshkey, by, user, second, lines):
         if not found.is_certificate:
             return sshkey.Status.LABEL
         key = sshkey.certificate_contents(found.blob).key
-        status = status_of(sshkey, sshkey.log_in, sshkey.Login(found.blob, user, key, second, by, sshkey.NO_REVOCATIONS))
-        return sshkey.Status.DONE if status == sshkey.Status.ELSEWHERE else status
+        login = sshkey.Login(found.blob, user, key, second, by, sshkey.NO_REVOCATIONS, judges_address=True)
+        return status_of(sshkey, sshkey.log_in, login)
 
     return [said(sshkey, judged(it)) for it in lines]

@@ -102,6 +102,14 @@ func (digest *SHA512) pointer() *C.sshkey_sha512 {
 	return (*C.sshkey_sha512)(unsafe.Pointer(digest))
 }
 
+// numberOf is 1 for yes.
+func numberOf(is bool) C.uint32_t {
+	if is {
+		return 1
+	}
+	return 0
+}
+
 // errorOf is nil exactly for SSHKEY_DONE.
 func errorOf(status C.uint32_t) error {
 	if status == C.SSHKEY_DONE {

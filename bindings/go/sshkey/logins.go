@@ -28,6 +28,9 @@ type Login struct {
 	Revoked [][]byte
 	// LeastRSABits is sshd's RequiredRSASize. Below 1,024, as 0, it is 1,024.
 	LeastRSABits uint32
+	// JudgesAddress says that the caller judges whether source-address has the client's address:
+	// then Client is not looked at.
+	JudgesAddress bool
 	// Verify is IsSignature where it is nil.
 	Verify Verifier
 }
@@ -83,19 +86,20 @@ type Grant struct {
 func LogIn(login Login) (Grant, error) {
 	var memory held
 	defer memory.free()
-	certificate, grant := inputOf(login.Certificate), Grant{}
-	asked := login.held(&memory, certificate)
-	err := decided(login.Verify, certificate, func(isVerified C.uint32_t) error {
-		var err error
-		grant, err = grantOf(&asked, isVerified)
-		return err
+	asked := login.held(&memory)
+	space := 2*len(login.Certificate) + 256
+	put, err := question(space, func(to room, answer *C.sshkey_question) C.uint32_t {
+		return C.sshkey_login_question(&asked, to.at, to.length, answer)
 	})
-	return grant, err
+	if err != nil {
+		return Grant{}, err
+	}
+	return grantOf(&asked, numberOf(login.Verify.says(put)))
 }
 
-func (login Login) held(memory *held, certificate input) C.sshkey_login {
+func (login Login) held(memory *held) C.sshkey_login {
 	return C.sshkey_login{
-		certificate:    spanOf(memory, []byte(certificate)),
+		certificate:    spanOf(memory, login.Certificate),
 		user:           spanOf(memory, login.User),
 		key:            spanOf(memory, login.Key),
 		client:         spanOf(memory, login.Client.AsSlice()),
@@ -103,6 +107,7 @@ func (login Login) held(memory *held, certificate input) C.sshkey_login {
 		revoked:        filesOf(memory, login.Revoked),
 		unix_timestamp: C.uint64_t(SecondOf(login.Now)),
 		least_rsa_bits: C.uint32_t(login.LeastRSABits),
+		judges_address: numberOf(login.JudgesAddress),
 	}
 }
 

@@ -11,9 +11,9 @@ import (
 
 // SSHSigQuestion gives what has to be verified of an SSH signature (what stands in the armour,
 // Base64 decoded) of the message in that namespace, and the fingerprint of the key that signed:
-// whether that key may sign is the caller's to judge, as ValidateSSHSig does. It fails with a
-// Status for bytes that are none, with ErrOtherNamespace, with ErrUnsupported where key and
-// signature do not go together, and with ErrMemory.
+// whether that key may sign ValidateSSHSig asks. It fails with a Status for bytes that are none,
+// with ErrOtherNamespace, with ErrUnsupported where key and signature do not go together, and with
+// ErrMemory.
 func SSHSigQuestion(signature []byte, namespace string, message []byte) (Question, SHA256, error) {
 	var signer SHA256
 	in, space, of := inputOf(signature), inputOf(namespace), inputOf(message)
@@ -42,16 +42,15 @@ func SSHSigQuestionOfDigest(
 // ValidateSSHSig gives nil exactly if the bytes, as they stand in the armour, are an SSH signature
 // (`ssh-keygen -Y sign`) of the message in that namespace by one of the signers, which are the
 // fingerprints of the keys that may sign for that namespace; else what is wrong first: as
-// SSHSigQuestion fails, or ErrSignerNotAllowed for another signer, about whose key the verifier is
-// not asked, or ErrNotSigned. One with reserved bytes is ErrNotSigned: ssh-keygen verifies it as if
-// these were empty. It fails with ErrMemory, which says nothing of the signature.
+// SSHSigVerdict says, or, of a key that may sign, SSHSigQuestion. The verifier is not asked about
+// another signer's key. It fails with ErrMemory, which says nothing of the signature.
 func ValidateSSHSig(
 	signature []byte, namespace string, message []byte, signers []SHA256, verify Verifier,
 ) error {
-	// nobody changes it between the calls
-	signature = append([]byte(nil), signature...)
-	asked, signer, err := SSHSigQuestion(signature, namespace, message)
-	return judgeSSHSig(signature, asked, signer, err, signers, verify)
+	in := inputOf(signature)
+	return judgeSSHSig(in, namespace, signers, verify, func() (Question, SHA256, error) {
+		return SSHSigQuestion(in, namespace, message)
+	})
 }
 
 // ValidateSSHSigOfDigest does the same with the digest of the message in place of the message, by
@@ -59,40 +58,40 @@ func ValidateSSHSig(
 func ValidateSSHSigOfDigest(
 	signature []byte, namespace string, digest []byte, signers []SHA256, verify Verifier,
 ) error {
-	// nobody changes it between the calls
-	signature = append([]byte(nil), signature...)
-	asked, signer, err := SSHSigQuestionOfDigest(signature, namespace, digest)
-	return judgeSSHSig(signature, asked, signer, err, signers, verify)
+	in := inputOf(signature)
+	return judgeSSHSig(in, namespace, signers, verify, func() (Question, SHA256, error) {
+		return SSHSigQuestionOfDigest(in, namespace, digest)
+	})
 }
 
-// judgeSSHSig gives nil where the question was asked, the signer is one of those, nothing is
-// reserved, and the verifier says yes.
+// judgeSSHSig is the library's verdict about a signature, once the verifier has answered its
+// question. It is asked none where the verdict is another one already.
 func judgeSSHSig(
-	signature []byte, asked Question, signer SHA256, err error, signers []SHA256, verify Verifier,
+	in input, namespace string, signers []SHA256, verify Verifier,
+	ask func() (Question, SHA256, error),
 ) error {
-	if err != nil {
+	if err := SSHSigVerdict(in, namespace, signers, false); err != ErrNotSigned {
 		return err
 	}
-	if !isOneOf(signer, signers) {
-		return ErrSignerNotAllowed
-	}
-	reserved, err := SSHSigReserved(signature)
-	if err != nil {
+	asked, _, err := ask()
+	if err := verify.check(asked, err); err != nil {
 		return err
 	}
-	if len(reserved) > 0 {
-		return ErrNotSigned
-	}
-	return verify.check(asked, nil)
+	return SSHSigVerdict(in, namespace, signers, true)
 }
 
-func isOneOf(signer SHA256, keys []SHA256) bool {
-	for _, one := range keys {
-		if one == signer {
-			return true
-		}
-	}
-	return false
+// SSHSigVerdict gives nil exactly if an SSH signature counts in that namespace, where the keys with
+// these fingerprints may sign. isVerified is what a verifier said of the question of this signature,
+// in the namespace and of the message.
+//
+// It fails with ErrSignerNotAllowed or ErrNotSigned, the first that holds; the last also for another
+// namespace, and for reserved bytes: ssh-keygen verifies such a signature as if these were empty.
+// Ask with false first, and verify only where it fails with the last; ValidateSSHSig does so. It
+// fails with a Status for bytes that are no signature, and with ErrMemory.
+func SSHSigVerdict(signature []byte, namespace string, signers []SHA256, isVerified bool) error {
+	in, space, by := inputOf(signature), inputOf(namespace), digestsOf(signers)
+	return errorOf(C.sshkey_sshsig_verdict(in.pointer(), in.length(), space.pointer(),
+		space.length(), by.pointer(), by.count(), numberOf(isVerified)))
 }
 
 // sshsigFront is the length of what stands in front of the strings of an SSH signature: SSHSIG and

@@ -109,11 +109,16 @@ func (verify Verifier) check(asked Question, err error) error {
 	if err != nil {
 		return err
 	}
-	if verify == nil {
-		verify = IsSignature
-	}
-	if !verify(asked) {
+	if !verify.says(asked) {
 		return ErrNotSigned
 	}
 	return nil
+}
+
+// says is what the verifier answers.
+func (verify Verifier) says(asked Question) bool {
+	if verify == nil {
+		verify = IsSignature
+	}
+	return verify(asked)
 }

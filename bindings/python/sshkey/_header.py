@@ -91,7 +91,7 @@ class Status(Answer):
     HOST_CHANGED = 52
     # No line without a marker is for the host.
     HOST_UNKNOWN = 53
-    # No line lets its key sign for the identity, there and then.
+    # No line lets its key sign for the identity, there and then; or it is none of the keys that may sign.
     SIGNER_NOT_ALLOWED = 55
     # A revocation file revokes the signer's key, or the certificate.
     REVOKED = 56
@@ -321,7 +321,7 @@ class Login(Structure):
 
     _fields_ = [
         ("certificate", Span), ("user", Span), ("key", Span), ("client", Span), ("authorities", Digests), ("revoked", Spans),
-        ("unix_timestamp", c_uint64), ("least_rsa_bits", c_uint32)
+        ("unix_timestamp", c_uint64), ("least_rsa_bits", c_uint32), ("judges_address", c_uint32)
     ]
 
 
@@ -386,6 +386,7 @@ CALLS: dict[str, tuple[Any, ...]] = {
     "sshkey_signature_question": (
         c_char_p, c_size_t, c_char_p, c_size_t, c_char_p, c_size_t, POINTER(c_uint8), c_size_t, POINTER(Question)
     ),
+    "sshkey_login_question": (POINTER(Login), POINTER(c_uint8), c_size_t, POINTER(Question)),
     "sshkey_login_verdict": (POINTER(Login), c_uint32, POINTER(c_uint8), c_size_t, POINTER(Grant)),
     "sshkey_userauth_question": (POINTER(Userauth), POINTER(c_uint8), c_size_t, POINTER(Question)),
     "sshkey_userauth_question_of": (POINTER(Userauth), c_char_p, c_size_t, POINTER(c_uint8), c_size_t, POINTER(Question)),
@@ -396,6 +397,7 @@ CALLS: dict[str, tuple[Any, ...]] = {
     "sshkey_sshsig_question_of_digest": (
         c_char_p, c_size_t, c_char_p, c_size_t, c_char_p, c_size_t, POINTER(c_uint8), c_size_t, POINTER(Question), POINTER(Sha256)
     ),
+    "sshkey_sshsig_verdict": (c_char_p, c_size_t, c_char_p, c_size_t, POINTER(Sha256), c_size_t, c_uint32),
     "sshkey_signer_verdict": (
         c_char_p, c_size_t, c_char_p, c_size_t, c_char_p, c_size_t, c_char_p, c_size_t, c_uint64, POINTER(Span), c_size_t,
         c_uint32

@@ -7,11 +7,11 @@ from dataclasses import dataclass
 
 from . import _header
 from ._addresses import Address, packed
-from ._certificates import is_certified
 from ._header import Permits
+from ._keys import question_of
 from ._library import LIBRARY, ask, bytes_of, digests_of, number_of, parts_of, span_of, spans_of, text_of
 from ._values import BytesLike
-from ._verify import Verifier, decided, is_signature
+from ._verify import Verifier, is_signature
 
 
 @dataclass(frozen=True)
@@ -26,6 +26,7 @@ class Login:
     revoked: Iterable[BytesLike]  # what the files of sshd's RevokedKeys have, or NO_REVOCATIONS; without a file nobody is let in
     client: Address | None = None  # that of its socket; without one, a certificate with a source-address is refused
     least_rsa_bits: int = 0  # sshd's RequiredRSASize; below 1,024, as 0, it is 1,024
+    judges_address: bool = False  # True where you judge yourself whether source-address has the client's: client is not looked at
 
 
 @dataclass(frozen=True)
@@ -54,14 +55,12 @@ def log_in(login: Login, verifier: Verifier = is_signature) -> Grant:
         client=span_of(b"" if login.client is None else packed(login.client)),
         authorities=_header.Digests(*digests_of(login.authorities)), revoked=spans_of(login.revoked),
         unix_timestamp=number_of(login.unix_timestamp, 64), least_rsa_bits=number_of(login.least_rsa_bits, 32),
+        judges_address=login.judges_address is True,
     )  # fmt: skip
-
-    def verdict(is_verified: bool) -> Grant:
-        answer = _header.Grant()
-        room = ask(lambda *room: LIBRARY.sshkey_login_verdict(ctypes.byref(asked), is_verified, *room), answer, length)
-        return _grant_of(answer, room)
-
-    return decided(verdict, lambda: is_certified(given, verifier))
+    question = question_of(lambda *room: LIBRARY.sshkey_login_question(ctypes.byref(asked), *room), 2 * length + 256)
+    is_verified, answer = verifier(question) is True, _header.Grant()
+    room = ask(lambda *room: LIBRARY.sshkey_login_verdict(ctypes.byref(asked), is_verified, *room), answer, length)
+    return _grant_of(answer, room)
 
 
 def _grant_of(answer: _header.Grant, room: bytes) -> Grant:

@@ -1,13 +1,13 @@
 """Whether an SSH signature counts: by the keys that are trusted for its namespace, or by a text of allowed signers."""
 from __future__ import annotations
 
-from collections.abc import Collection, Iterable
+from collections.abc import Callable, Collection, Iterable
 from dataclasses import dataclass
 
 from ._header import Status
-from ._keys import sshsig_question, sshsig_question_of_digest, sshsig_reserved
-from ._library import LIBRARY, bytes_of, done, number_of, spans_of, text_of
-from ._values import BytesLike, Question, Refused
+from ._keys import sshsig_question, sshsig_question_of_digest
+from ._library import LIBRARY, bytes_of, digests_of, done, number_of, spans_of, text_of
+from ._values import BytesLike
 from ._verify import Verifier, decided, is_signature
 
 
@@ -52,15 +52,28 @@ def judge_signer_of_digest(
     decided(lambda yes: done(signer_verdict(given, namespace, by, yes)), is_verified)
 
 
+def sshsig_verdict(signature: BytesLike, namespace: str | BytesLike, signers: Iterable[BytesLike], is_verified: bool) -> Status:
+    """Status.DONE exactly if an SSH signature (what stands in its armour, decoded) counts in that namespace, where the keys with these
+    fingerprints may sign. `is_verified` is your answer to the question of this signature, in the namespace and of the message.
+
+    Else SIGNER_NOT_ALLOWED or NOT_SIGNED, the first that holds. That is also one in another namespace, and one with reserved bytes,
+    which ssh-keygen verifies as if these were empty. Ask with False first: only where that is NOT_SIGNED there is something to verify
+    (judge_sshsig does both). Raises Refused where the bytes are no signature, and MemoryError."""
+    texts = (*bytes_of(signature), *text_of(namespace), *digests_of(signers))
+    status = Status(LIBRARY.sshkey_sshsig_verdict(*texts, is_verified is True))
+    if status < Status.NOT_SIGNED:
+        done(status)
+    return status
+
+
 def judge_sshsig(
     signature: BytesLike, namespace: str | BytesLike, message: BytesLike, signers: Collection[bytes], verifier: Verifier = is_signature
 ) -> None:  # fmt: skip
     """Returns exactly if an SSH signature is one of the message in that namespace by one of the signers, which are the fingerprints of
-    the keys that you trust for it. Else raises Refused: as sshsig_question does, SIGNER_NOT_ALLOWED for another signer, about whose
-    key the verifier is not asked, or NOT_SIGNED. That is also one with reserved bytes, which ssh-keygen verifies as if these were
-    empty."""
+    the keys that you trust for it. Else raises Refused: as sshsig_verdict answers, or, of a key that may sign, as sshsig_question
+    does. The verifier is not asked about another signer's key."""
     given, _ = bytes_of(signature)
-    _judge(given, sshsig_question(given, namespace, message), signers, verifier)
+    _judge(given, namespace, signers, lambda: verifier(sshsig_question(given, namespace, message)[0]) is True)
 
 
 def judge_sshsig_of_digest(
@@ -68,12 +81,8 @@ def judge_sshsig_of_digest(
 ) -> None:  # fmt: skip
     """The same of a message with that digest, by the hash that sshsig_hash names."""
     given, _ = bytes_of(signature)
-    _judge(given, sshsig_question_of_digest(given, namespace, digest), signers, verifier)
+    _judge(given, namespace, signers, lambda: verifier(sshsig_question_of_digest(given, namespace, digest)[0]) is True)
 
 
-def _judge(signature: bytes, asked: tuple[Question, bytes], signers: Collection[bytes], verifier: Verifier) -> None:
-    question, signer = asked
-    if signer not in signers:
-        raise Refused(Status.SIGNER_NOT_ALLOWED)
-    if sshsig_reserved(signature) or verifier(question) is not True:
-        raise Refused(Status.NOT_SIGNED)
+def _judge(signature: bytes, namespace: str | BytesLike, signers: Collection[bytes], is_verified: Callable[[], bool]) -> None:
+    decided(lambda yes: done(sshsig_verdict(signature, namespace, signers, yes)), is_verified)

@@ -100,7 +100,7 @@ pub use revocations::{
 pub use signers::{judge_signer_of_digest, signer_verdict, Signers};
 pub use sshsigs::{
     judge_sshsig, judge_sshsig_of_digest, sshsig_hash, sshsig_question, sshsig_question_of_digest,
-    sshsig_reserved, HashAlgorithm,
+    sshsig_reserved, sshsig_verdict, HashAlgorithm,
 };
 pub use status::Status;
 pub use strings::{string, strings, Strings};

@@ -3,10 +3,10 @@
 use std::net::IpAddr;
 
 use crate::addresses::octets;
-use crate::certificates::{is_verified, text};
+use crate::certificates::text;
 use crate::digests::Sha256;
 use crate::permits::Permits;
-use crate::questions::{decide, Question};
+use crate::questions::Question;
 use crate::raw;
 use crate::rooms::{ask, spans};
 use crate::status::Status;
@@ -33,6 +33,9 @@ pub struct Login<'a> {
     pub revoked: &'a [&'a [u8]],
     /// How many bits an RSA key has at least (`RequiredRSASize`). Below 1,024, as 0, it is 1,024.
     pub least_rsa_bits: u32,
+    /// Whether the caller judges itself if `source-address` has the client's address: then `client`
+    /// is not looked at.
+    pub judges_address: bool,
 }
 
 /// What a login is bound to, and what it may do.
@@ -65,11 +68,6 @@ pub struct Grant {
 /// Whether the client has signed this session under the key asks
 /// [`check_userauth`](crate::check_userauth).
 pub fn log_in(login: &Login<'_>, verify: impl FnOnce(&Question) -> bool) -> Result<Grant, Status> {
-    decide(|yes| verdict(login, yes), || is_verified(login.certificate, verify))
-}
-
-/// What the library says of the login, where the verification says yes or no.
-fn verdict(login: &Login<'_>, is_verified: bool) -> Result<Grant, Status> {
     let (client, revoked) = (octets(login.client), spans(login.revoked));
     let asked = raw::Login {
         certificate: login.certificate.into(),
@@ -80,10 +78,23 @@ fn verdict(login: &Login<'_>, is_verified: bool) -> Result<Grant, Status> {
         revoked: revoked.as_slice().into(),
         unix_timestamp: login.unix_timestamp,
         least_rsa_bits: login.least_rsa_bits,
+        judges_address: u32::from(login.judges_address),
     };
-    let (room, found) = ask(login.certificate.len(), |room, answer| {
-        raw::sshkey_login_verdict(&asked, u32::from(is_verified), room, answer)
-    })?;
+    let enough = login.certificate.len().saturating_mul(2).saturating_add(256);
+    let question =
+        Question::of_call(enough, |room, answer| raw::sshkey_login_question(&asked, room, answer))?;
+    let is_verified = u32::from(verify(&question));
+    grant_of(login.certificate.len(), |room, answer| {
+        raw::sshkey_login_verdict(&asked, is_verified, room, answer)
+    })
+}
+
+/// The grant that a verdict writes, which is given a room of that length.
+fn grant_of(
+    length: usize,
+    verdict: impl FnMut(&mut [u8], &mut raw::Grant) -> u32,
+) -> Result<Grant, Status> {
+    let (room, found) = ask(length, verdict)?;
     let permits = Permits::from_bits(found.permits);
     let command = text(found.force_command.of(&room))?;
     Ok(Grant {

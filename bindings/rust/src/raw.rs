@@ -159,7 +159,8 @@ statuses! {
     HOST_CHANGED = 52, "another key than the one known for the host";
     /// No line without a marker is for the host.
     HOST_UNKNOWN = 53, "no key or authority is known for the host";
-    /// No line lets its key sign for the identity, there and then.
+    /// No line lets its key sign for the identity, there and then; or it is none of the keys that
+    /// may sign.
     SIGNER_NOT_ALLOWED = 55, "no allowed signer";
     /// A revocation file revokes the signer's key, or the certificate.
     REVOKED = 56, "revoked";
@@ -339,6 +340,10 @@ pub(crate) struct Login<'a> {
     pub unix_timestamp: u64,
     /// As RequiredRSASize; below 1,024, as 0, it is 1,024.
     pub least_rsa_bits: u32,
+    /// 1: you judge yourself whether source-address has the client's, and `client` is not looked
+    /// at: so does sshd with a certificate whose principals a program tells it, and before 9.4 it
+    /// tells that program no address.
+    pub judges_address: u32,
 }
 
 /// What a login may do, and by which certificate.
@@ -484,6 +489,7 @@ calls! {
     fn sshkey_signature_question(
         key: &[u8], message: &[u8], signature: &[u8], room: &mut [u8], answer: &mut Question
     );
+    fn sshkey_login_question(login: &Login<'_>, room: &mut [u8], answer: &mut Question);
     fn sshkey_login_verdict(
         login: &Login<'_>, is_verified: u32, room: &mut [u8], answer: &mut Grant
     );
@@ -499,6 +505,9 @@ calls! {
     fn sshkey_sshsig_question_of_digest(
         signature: &[u8], name_space: &[u8], digest: &[u8], room: &mut [u8], answer: &mut Question,
         signer: &mut Sha256
+    );
+    fn sshkey_sshsig_verdict(
+        signature: &[u8], name_space: &[u8], signers: &[Sha256], is_verified: u32
     );
     fn sshkey_signer_verdict(
         signers: &[u8], identity: &[u8], name_space: &[u8], signature: &[u8], unix_timestamp: u64,

@@ -2,7 +2,7 @@
 
 use crate::digests::Sha256;
 use crate::keys::normal_sshsig;
-use crate::questions::Question;
+use crate::questions::{decide, Question};
 use crate::raw;
 use crate::status::Status;
 use crate::strings::strings;
@@ -53,10 +53,9 @@ pub fn sshsig_question_of_digest(
 }
 
 /// Whether an SSH signature is one of the message in that namespace, by one of the signers, which
-/// are those that you trust for it: `verify` answers its question. Fails as [`sshsig_question`]
-/// does, with [`Status::SIGNER_NOT_ALLOWED`] where another signed, of which `verify` is not asked, and
-/// with [`Status::NOT_SIGNED`] where `verify` says no and where it has reserved bytes, which
-/// ssh-keygen takes to be empty.
+/// are those that you trust for it: `verify` answers its question. Fails as [`sshsig_verdict`] does,
+/// and of a key that may sign as [`sshsig_question`] does. `verify` is not asked about another
+/// signer's key.
 pub fn judge_sshsig(
     signature: &[u8],
     namespace: impl AsRef<[u8]>,
@@ -64,8 +63,9 @@ pub fn judge_sshsig(
     signers: &[Sha256],
     verify: impl FnOnce(&Question) -> bool,
 ) -> Result<(), Status> {
-    let question = sshsig_question(signature, namespace, message)?;
-    judge(signature, question, signers, verify)
+    let namespace = namespace.as_ref();
+    let verdict = |yes| sshsig_verdict(signature, namespace, signers, yes);
+    decide(verdict, || Ok(verify(&sshsig_question(signature, namespace, message)?.0)))
 }
 
 /// The same of a message with that digest. Fails as [`sshsig_question_of_digest`] and
@@ -77,24 +77,27 @@ pub fn judge_sshsig_of_digest(
     signers: &[Sha256],
     verify: impl FnOnce(&Question) -> bool,
 ) -> Result<(), Status> {
-    let question = sshsig_question_of_digest(signature, namespace, digest)?;
-    judge(signature, question, signers, verify)
+    let namespace = namespace.as_ref();
+    let verdict = |yes| sshsig_verdict(signature, namespace, signers, yes);
+    decide(verdict, || Ok(verify(&sshsig_question_of_digest(signature, namespace, digest)?.0)))
 }
 
-/// Whether the signer is one of those, nothing is reserved, and the question is answered with yes.
-fn judge(
+/// Whether an SSH signature counts in that namespace, where the keys with these fingerprints may
+/// sign. `is_verified` is your answer to the question of this signature, in the namespace and of the
+/// message.
+///
+/// Fails with [`Status::SIGNER_NOT_ALLOWED`] or [`Status::NOT_SIGNED`], the first that holds; the
+/// last also for another namespace, and for reserved bytes, which ssh-keygen takes to be empty. Ask
+/// with `false` first, and verify only where it fails with the last, as [`judge_sshsig`] does. Fails
+/// with a number from 10 to 29 where the bytes are no signature, and with [`Status::MEMORY`].
+pub fn sshsig_verdict(
     signature: &[u8],
-    (question, signer): (Question, Sha256),
+    namespace: impl AsRef<[u8]>,
     signers: &[Sha256],
-    verify: impl FnOnce(&Question) -> bool,
+    is_verified: bool,
 ) -> Result<(), Status> {
-    if !signers.contains(&signer) {
-        return Err(Status::SIGNER_NOT_ALLOWED);
-    }
-    if !sshsig_reserved(signature)?.is_empty() {
-        return Err(Status::NOT_SIGNED);
-    }
-    question.check(verify)
+    let (namespace, is_verified) = (namespace.as_ref(), u32::from(is_verified));
+    Status::of(raw::sshkey_sshsig_verdict(signature, namespace, signers, is_verified))
 }
 
 /// A hash by which SSH signatures digest their messages.

@@ -317,7 +317,7 @@ func logIn(of []string) ([]string, error) {
 	grant, err := sshkey.LogIn(sshkey.Login{
 		Certificate: data(of[0]), User: text(of[1]), Key: data(of[2]), Client: client,
 		Authorities: digests(of[4]), Revoked: files(of[5]), Now: at(of[6]),
-		LeastRSABits: uint32(number(of[7])),
+		LeastRSABits: uint32(number(of[7])), JudgesAddress: of[8] == "1",
 	})
 	numbers := fmt.Sprint(uint32(grant.Permits), grant.Serial)
 	return []string{numbers, word(grant.Authority[:]), word(grant.ForceCommand), word(grant.KeyID)}, err

@@ -128,6 +128,7 @@ fn log_in(given: &[&str]) -> Answer {
         authorities: &authorities,
         revoked: &lent(&revoked),
         least_rsa_bits: number(given[7]).try_into().expect("a number of bits"),
+        judges_address: given[8] == "1",
     };
     let grant = sshkey::log_in(&login, is_signature)?;
     let command = grant.force_command.as_deref();

@@ -3,7 +3,7 @@
 use crate::revoked::read_lists;
 use crate::verified::Told;
 use crate::words::{NO_LINE, blob, fingerprints, number};
-use login_policy::{Grant, Login, Refusal, log_in};
+use login_policy::{Client, Grant, Login, Refusal, log_in};
 use ssh_key::certificate::CertificateRefusal;
 use ssh_key::{Certificate, Error, PublicKey, Result};
 use std::alloc::{AllocError, Global};
@@ -20,7 +20,7 @@ pub(crate) fn answer_from(
         return Err(NO_LINE);
     };
     let client = client.parse::<IpAddr>().map_err(|_| NO_LINE)?;
-    answer(alloc, words, least_rsa_bits, Some(client), told)
+    answer(alloc, words, least_rsa_bits, Client::At(client), told)
 }
 
 /// Whether the user is let in from there, where an RSA key has so many bits at least. The words are
@@ -30,7 +30,7 @@ pub(crate) fn answer(
     alloc: Global,
     words: &[&str],
     least_rsa_bits: u32,
-    client: Option<IpAddr>,
+    client: Client,
     told: &Told,
 ) -> Result<String> {
     let [

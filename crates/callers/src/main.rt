@@ -22,6 +22,7 @@ mod verified;
 mod words;
 
 use hashes::{Hashes, read_hashed};
+use login_policy::Client;
 use ssh_key::{Error, Result};
 use std::alloc::Global;
 use std::io::{self, BufRead, BufReader, Write};
@@ -107,7 +108,7 @@ fn reply(
         "host-key" => host::key(alloc, words, least_rsa_bits, hashes),
         "host-certificate" => host::certificate(alloc, words, least_rsa_bits, hashes, told),
         "issue" => issue::answer(alloc, words, told),
-        "login" => login::answer(alloc, words, least_rsa_bits, None, told),
+        "login" => login::answer(alloc, words, least_rsa_bits, Client::Unknown, told),
         "login-from" => login::answer_from(alloc, words, least_rsa_bits, told),
         _ => Err(NO_LINE),
     }

@@ -26,6 +26,7 @@ use Rattle.login_policy.specs.KnownOptions.{source_address}
 use Rattle.login_policy.specs.Logins.{GrantsExactly, HasRightFields, IsAllowedFrom, IsGrantOf, IsLogin, LetsIn, Login}
 use Rattle.login_policy.specs.Principals.{AreForUser}
 use Rattle.login_policy.specs.Refusals.{ForHosts, HasWrongField, FromElsewhere, IsRefusalFor, IsRevoked, IsUntrusted, NotValid, OtherAuthority, OtherExtension, OtherKey, OtherKeyId, OtherPrincipals, RefusesSpelling, Unaccepted, UnknownOption}
+use Rattle.login_policy.specs.declared.client.Client.TheVariants.{At, LeftToCaller, Unknown}
 use Rattle.login_policy.specs.declared.grant.Grant.{Grant}
 use Rattle.login_policy.specs.declared.refusal.Refusal.{Refusal}
 use Rattle.login_policy.specs.declared.refusal.Refusal.TheVariants.{Certificate as of_certificate, Memory}
@@ -99,15 +100,19 @@ found_wrong first found w says some = sym says ∙ ap (λ (f : Option Certificat
 
 -- ---- where the client is
 
-pub allowed : (list : Option (Bor (List ℕ))) (value : Option (List ℕ)) (a : IpAddr) (r : Bool) → option_map (λ v. v.now) list ≡ value → (IsTrue r ↔ MayComeFrom list a) → IsTrue r ↔ IsAllowedFrom value (Some a)
-allowed None value a r is judged = subst (λ (v : Option (List ℕ)). IsTrue r ↔ IsAllowedFrom v (Some a)) is judged
-allowed (Some list) value a r is judged = subst (λ (v : Option (List ℕ)). IsTrue r ↔ IsAllowedFrom v (Some a)) is judged
+pub allowed : (list : Option (Bor (List ℕ))) (value : Option (List ℕ)) (a : IpAddr) (r : Bool) → option_map (λ v. v.now) list ≡ value → (IsTrue r ↔ MayComeFrom list a) → IsTrue r ↔ IsAllowedFrom value (At a)
+allowed None value a r is judged = subst (λ (v : Option (List ℕ)). IsTrue r ↔ IsAllowedFrom v (At a)) is judged
+allowed (Some list) value a r is judged = subst (λ (v : Option (List ℕ)). IsTrue r ↔ IsAllowedFrom v (At a)) is judged
 
-pub nowhere : (list : Option (Bor (List ℕ))) (value : Option (List ℕ)) (r : Bool) → option_map (λ v. v.now) list ≡ value → is_some list ≡ not r → IsTrue r ↔ IsAllowedFrom value None
-nowhere None value true is none = subst (λ (v : Option (List ℕ)). IsTrue true ↔ IsAllowedFrom v None) is (λ yes. tt, λ any. refl)
+pub nowhere : (list : Option (Bor (List ℕ))) (value : Option (List ℕ)) (r : Bool) → option_map (λ v. v.now) list ≡ value → is_some list ≡ not r → IsTrue r ↔ IsAllowedFrom value Unknown
+nowhere None value true is none = subst (λ (v : Option (List ℕ)). IsTrue true ↔ IsAllowedFrom v Unknown) is (λ yes. tt, λ any. refl)
 nowhere None value false is none = absurd cc
 nowhere (Some list) value true is none = absurd cc
-nowhere (Some list) value false is none = subst (λ (v : Option (List ℕ)). IsTrue false ↔ IsAllowedFrom v None) is (λ yes. absurd cc, λ never. absurd never)
+nowhere (Some list) value false is none = subst (λ (v : Option (List ℕ)). IsTrue false ↔ IsAllowedFrom v Unknown) is (λ yes. absurd cc, λ never. absurd never)
+
+pub anywhere : (value : Option (List ℕ)) → IsTrue true ↔ IsAllowedFrom value LeftToCaller
+anywhere None = (λ yes. tt, λ any. refl)
+anywhere (Some list) = (λ yes. tt, λ any. refl)
 
 -- ---- what is refused lets nobody in
 

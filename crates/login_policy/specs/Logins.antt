@@ -1,7 +1,6 @@
 -- Who may log in with a certificate, and what the login is bound to (PROTOCOL.certkeys;
 -- sshd_config(5), TrustedUserCAKeys and RevokedKeys).
 use Rattle.std.specs.Prelude.{◌≡◌, ◌≢◌, ℕ, List, Bool, not, All, Contains, IsTrue, Result, Ok, Err, Option, Some, None, false, is_some, option_map, string_bytes}
-use Rattle.std.specs.declared.net.ip_addr.IpAddr.{IpAddr}
 use Rattle.sshkey_addresses.specs.SourceAddresses.{ComesFrom, IsNetworks}
 use Rattle.sshkey_cert.specs.CertificateReaders.{SpellsCertificate}
 use Rattle.sshkey_cert.specs.Validity.{fingerprints_of}
@@ -23,14 +22,16 @@ use Rattle.openssh_limits.specs.Keys.{is_let_in}
 use Rattle.login_policy.specs.KnownOptions.{IsKnownOption, IsPlainExtension}
 use Rattle.login_policy.specs.KnownOptions as options
 use Rattle.login_policy.specs.Principals.{AreForUser}
+use Rattle.login_policy.specs.declared.client.Client.{Client}
+use Rattle.login_policy.specs.declared.client.Client.TheVariants.{At, LeftToCaller, Unknown}
 use Rattle.login_policy.specs.declared.grant.Grant.{Grant}
 use Rattle.login_policy.specs.declared.login.Login as code
 use Rattle.login_policy.specs.declared.refusal.Refusal.{Refusal}
 use Rattle.login_policy.specs.declared.refusal.Refusal.TheVariants.{Memory}
 
 -- A login that is asked for, and what decides it: whom the verifier accepts, what is revoked, which
--- authorities are trusted, and where the client is, if it is at an address. The blob is that of its
--- certificate. An RSA key has to have so many bits.
+-- authorities are trusted, and where the client is. The blob is that of its certificate. An RSA key
+-- has to have so many bits.
 pub record Login : Type 0 where
   pub accepts : Question → Bool
   pub revokes : List ℕ → krl.Grant → Bool
@@ -40,7 +41,7 @@ pub record Login : Type 0 where
   pub offered : Key
   pub blob : List ℕ
   pub least_rsa_bits : ℕ
-  pub client : Option IpAddr
+  pub client : Client
 
 -- the login of a call, of its verifier and of who says what is revoked
 abbrev pub login_of : code.Login → (Question → Bool) → (List ℕ → krl.Grant → Bool) → Login
@@ -58,11 +59,12 @@ pub record HasRightFields (user : List ℕ) (offered : Key) (least_rsa_bits : �
   pub principals : AreForUser user c.signed.valid_principals
 
 -- A certificate without a list lets in from anywhere; and one with a list from where it says, at an
--- address that is known.
-abbrev pub IsAllowedFrom : Option (List ℕ) → Option IpAddr → Type 0
+-- address that is known, or where the caller judges.
+abbrev pub IsAllowedFrom : Option (List ℕ) → Client → Type 0
 IsAllowedFrom None client = Unit {0}
-IsAllowedFrom (Some list) None = ⊥
-IsAllowedFrom (Some list) (Some address) = IsNetworks list × ComesFrom list address
+IsAllowedFrom (Some list) (At address) = IsNetworks list × ComesFrom list address
+IsAllowedFrom (Some list) Unknown = ⊥
+IsAllowedFrom (Some list) LeftToCaller = Unit {0}
 
 -- The certificate lets the user in who holds the offered key: it has the right fields, lists the
 -- user, is not revoked, is valid at that time by one of the authorities, and lets the client in from

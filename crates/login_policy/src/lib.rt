@@ -5,6 +5,7 @@
 #![tactic(auto)]
 
 mod authority;
+mod client;
 mod grant;
 mod key;
 mod login;
@@ -12,6 +13,7 @@ mod options;
 mod principals;
 mod refusal;
 
+pub use client::Client;
 pub use grant::Grant;
 pub use login::{Login, log_in};
 pub use refusal::Refusal;

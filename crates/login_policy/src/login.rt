@@ -11,6 +11,7 @@ ghost use Rattle.login_policy.specs.Refusals.{HasWrongField, NeedsMemory, Refuse
 ghost use Rattle.login_policy.specs.declared.refusal.Refusal.TheVariants.{Memory};
 
 use crate::authority::validate;
+use crate::client::Client;
 use crate::grant::{Grant, grant_of};
 use crate::key::is_key_of;
 use crate::options::{are_known, are_plain, is_allowed_from};
@@ -26,7 +27,6 @@ use sshkey_keys::{Fingerprint, KeyData, RawVerifier};
 use sshkey_krl::Revocations;
 use sshkey_model::laws::certificates::refused_or_wanted;
 use std::alloc::Global;
-use std::net::IpAddr;
 
 /// A login that is asked for, and whom the server trusts.
 #[derive(Debug, Clone, Copy)]
@@ -45,9 +45,8 @@ pub struct Login<'a> {
     /// How many bits an RSA key has at least, as `RequiredRSASize` in sshd_config(5). Below 1,024,
     /// as 0, it is 1,024, which is sshd's own.
     pub least_rsa_bits: u32,
-    /// The address of the client's socket, and no header of a proxy's. `None` if it has none: then a
-    /// certificate with `source-address` lets nobody in.
-    pub client: Option<IpAddr>,
+    /// Where the client is.
+    pub client: Client,
 }
 
 /// Lets a user in who holds the offered key, if the bytes are a certificate for users of just that

@@ -7,10 +7,10 @@ ghost use Rattle.sshkey_cert_values.specs.OptionMaps.{options_of};
 ghost use Rattle.login_policy.specs.KnownOptions.{IsArgument, IsEmptyIfFlag, IsKnownOption, IsPlainExtension, flags, source_address};
 ghost use Rattle.login_policy.specs.Logins.{IsAllowedFrom};
 
+use crate::client::Client;
 use openssh_limits::is_read_text;
 use sshkey_addresses::{is_source_list, may_come_from};
 use sshkey_cert_values::OptionsMap;
-use std::net::IpAddr;
 
 /// The one command that may run, whatever the client asks for.
 pub(crate) const FORCE_COMMAND: &str = "force-command";
@@ -38,15 +38,17 @@ pub(crate) fn are_known(options: &OptionsMap) -> bool
 }
 
 /// Whether the critical options let a client in from there: from anywhere if they list no
-/// addresses, and else from one that is known and in the list. Does not allocate.
-pub(crate) fn is_allowed_from(options: &OptionsMap, client: Option<IpAddr>) -> bool
+/// addresses or the caller judges, and else from one that is known and in the list. Does not
+/// allocate.
+pub(crate) fn is_allowed_from(options: &OptionsMap, client: Client) -> bool
     ensures { IsTrue result
         ↔ IsAllowedFrom (value_of source_address (options_of options.now)) client }
 {
     let list = options.get(SOURCE_ADDRESS);
     match client {
-        Some(address) => may_come_from(list, address),
-        None => list.is_none(),
+        Client::At(address) => may_come_from(list, address),
+        Client::Unknown => list.is_none(),
+        Client::LeftToCaller => true,
     }
 }
 

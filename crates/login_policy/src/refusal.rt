@@ -27,7 +27,7 @@ pub enum Refusal {
     #[error("certificate is not valid: {0:?}")]
     Invalid(CertificateRefusal),
     /// The certificate lets its user in from other addresses alone, or the client's is not known. It
-    /// is valid otherwise.
+    /// is valid otherwise. Not where the caller judges the address.
     #[error("certificate is for other addresses")]
     Elsewhere,
     /// Memory ran out.

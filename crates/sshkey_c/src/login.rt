@@ -1,16 +1,39 @@
 //! Who is let in.
 
-ghost use Rattle.std.specs.Prelude.{◌≡◌, Err};
+ghost use Rattle.std.specs.Prelude.{◌≡◌, ◌≢◌, Err};
 ghost use Rattle.std.specs.Str.{IsUtf8};
 ghost use Rattle.sshkey_base.specs.Acceptance.{SpellsSome};
 ghost use Rattle.sshkey_calls.specs.Numbers.{fault_number};
 ghost use Rattle.sshkey_keys.specs.Keys.{SpellsKey, key_data_at};
 ghost use Rattle.sshkey_login_calls.specs.Grants.{TellsGrant};
 ghost use Rattle.sshkey_login_calls.specs.Logins.{TellsLogin};
+ghost use Rattle.sshkey_login_calls.specs.Questions.{TellsLoginQuestion};
 ghost use Rattle.sshkey_model.specs.Reading.{Fault, whole};
 
-use sshkey_login_calls::{GrantParts, LoginRequest, login_verdict};
+use sshkey_calls::Question;
+use sshkey_login_calls::{GrantParts, LoginRequest, login_question, login_verdict};
 use std::alloc::Global;
+
+/// What has to be verified of a login: `sshkey_login_calls::login_question`.
+#[unsafe(no_mangle)]
+pub extern "C" fn sshkey_login_question(
+    alloc: Global,
+    login: &LoginRequest<'_>,
+    room: &mut [u8],
+    answer: &mut Question,
+) -> u32
+    ensures question { IsUtf8 login.now.user.now → SpellsSome SpellsKey login.now.key.now
+        → TellsLoginQuestion login.now result answer.new room.old room.new }
+    ensures stays { result ≢ 0 → result ≢ 2
+        → (answer.new ≡ answer.old) × (room.new ≡ room.old) }
+    ensures fault { IsUtf8 login.now.user.now → (fault : Fault)
+        → whole key_data_at login.now.key.now ≡ Err fault → result ≡ fault_number fault }
+    ensures text { (IsUtf8 login.now.user.now → ⊥) → result ≡ 4 }
+    ensures memory { result ≡ 1
+        → IsUtf8 login.now.user.now × SpellsSome SpellsKey login.now.key.now }
+{
+    login_question(alloc, login, room, answer)
+}
 
 /// Whether a login is let in, and what it is granted: `sshkey_login_calls::login_verdict`.
 #[unsafe(no_mangle)]

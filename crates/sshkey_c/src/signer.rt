@@ -1,4 +1,4 @@
-//! Whether an SSH signature counts, by a text of allowed signers.
+//! Whether an SSH signature counts, by a text of allowed signers or by a list of keys.
 
 ghost use Rattle.std.specs.Prelude.{◌≡◌, ◌≢◌, Err};
 ghost use Rattle.std.specs.Str.{IsUtf8};
@@ -6,9 +6,12 @@ ghost use Rattle.allowed_signers.specs.AllowedSigners.{NeedsMemory};
 ghost use Rattle.sshkey_model.specs.Reading.{Fault, whole};
 ghost use Rattle.sshkey_sshsig.specs.SshSignatureReaders.{ssh_signature_value_at};
 ghost use Rattle.sshkey_calls.specs.Numbers.{fault_number};
+ghost use Rattle.sshkey_calls.specs.Validations.{authorities_of};
 ghost use Rattle.sshkey_entry_calls.specs.Signers.{TellsSigner};
+ghost use Rattle.sshkey_entry_calls.specs.SshSignatures.{TellsByKeys};
 
-use sshkey_entry_calls::signer_verdict;
+use sshkey_calls::Sha256Digest;
+use sshkey_entry_calls::{signer_verdict, sshsig_verdict};
 use std::alloc::Global;
 
 /// Whether an SSH signature counts as an identity's: `sshkey_entry_calls::signer_verdict`.
@@ -43,4 +46,22 @@ pub extern "C" fn sshkey_signer_verdict(
         revoked,
         is_verified,
     )
+}
+
+/// Whether an SSH signature is by one of some keys: `sshkey_entry_calls::sshsig_verdict`.
+#[unsafe(no_mangle)]
+pub extern "C" fn sshkey_sshsig_verdict(
+    alloc: Global,
+    signature: &[u8],
+    namespace: &[u8],
+    signers: &[Sha256Digest],
+    is_verified: u32,
+) -> u32
+    ensures verdict { TellsByKeys (authorities_of signers.now) namespace.now is_verified
+        signature.now result }
+    ensures fault { (fault : Fault) → whole ssh_signature_value_at signature.now ≡ Err fault
+        → result ≢ 1 → result ≡ fault_number fault }
+    ensures memory { result ≡ 1 → NeedsMemory signature.now }
+{
+    sshsig_verdict(alloc, signature, namespace, signers, is_verified)
 }

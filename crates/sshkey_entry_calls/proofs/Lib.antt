@@ -3,4 +3,6 @@ pub mod Found
 pub mod OptionPlaces
 mod EntryOptions
 mod SignerVerdicts
+mod ByKeys
+mod Nothing
 mod RevokedFiles

@@ -47,10 +47,10 @@ module _ (accepts : Question → Bool) (bytes message : List ℕ) (is_verified :
   same f spelled = same_asking (is_yes_number is_verified) f.signature.algorithm f.key (signed_by f []) (signed_by f message) f.signature ∙ same_answer f spelled (question f.key (signed_by f message) f.signature) refl
 
   module _ (namespace : List ℕ) (f : SshSignature) (spelled : SpellsSshSignature f bytes) where
-    there : HasSigned (λ _. is_yes_number is_verified) namespace [] f → HasSigned accepts namespace message f
+    pub there : HasSigned (λ _. is_yes_number is_verified) namespace [] f → HasSigned accepts namespace message f
     there has = record { verified = record { same_key = refl; same_namespace = has.verified.same_namespace; accepted = sym (same f spelled) ∙ has.verified.accepted }; nothing_reserved = has.nothing_reserved }
 
-    back : HasSigned accepts namespace message f → HasSigned (λ _. is_yes_number is_verified) namespace [] f
+    pub back : HasSigned accepts namespace message f → HasSigned (λ _. is_yes_number is_verified) namespace [] f
     back has = record { verified = record { same_key = refl; same_namespace = has.verified.same_namespace; accepted = same f spelled ∙ has.verified.accepted }; nothing_reserved = has.nothing_reserved }
 
   module _ (revokes : List ℕ → Bool) (of_revoked : ℕ) (signers identity namespace : List ℕ) (time : ℕ) where

@@ -3,6 +3,7 @@ pub mod Entries
 pub mod Options
 pub mod RevocationFiles
 pub mod Signers
+pub mod SshSignatures
 pub mod Addresses
 pub mod Revocations
 pub mod UnreadableLines

@@ -2,14 +2,15 @@
 -- since OpenSSH 10.3).
 use denote.Ref.{Bor}
 use Rattle.std.specs.List.{AllZip, list_all, list_any}
-use Rattle.std.specs.Prelude.{◌≡◌, ◌≢◌, ℕ, List, [], ◌∷◌, Bool, true, false, Result, Err, IfErr, IsErrAnd, is_ok, if◌then◌else◌}
+use Rattle.std.specs.Prelude.{◌≡◌, ◌≢◌, ℕ, List, [], ◌∷◌, ◌++◌, replicate, bytes_eq, Bool, true, false, Result, Ok, Err, IfErr, IsErrAnd, is_ok, if◌then◌else◌}
 use Rattle.std.specs.Str.{is_utf8}
 use Rattle.sshkey_base.specs.Causes.{NoMemory, cause}
 use Rattle.sshkey_base.specs.declared.encoding.Error.TheVariants.{CharacterEncoding}
 use Rattle.sshkey_base.specs.declared.error.Error.{Error}
 use Rattle.sshkey_base.specs.declared.error.Error.TheVariants.{Encoding}
 use Rattle.sshkey_entries.specs.Answers.{NeedsFirstLine}
-use Rattle.sshkey_krl.specs.Krls.{krl_format}
+use Rattle.sshkey_krl.specs.KrlRef.{krl_bytes}
+use Rattle.sshkey_krl.specs.Krls.{krl_format, magic}
 use Rattle.sshkey_krl.specs.Revocation.{Grant}
 use Rattle.sshkey_krl.specs.Revocations.{unless_read}
 use Rattle.sshkey_krl.specs.Wholeness.{any_whole, read_whole}
@@ -17,6 +18,7 @@ use Rattle.sshkey_model.specs.Reading.{whole}
 use Rattle.sshkey_revoked_keys.specs.RevokedKeys.{ReadsKrl, ReadsRevokedKeys, begins_krl, file_whole, revokes, revokes_key}
 use Rattle.sshkey_revoked_keys.specs.RevokedLines.{NeedsLine, RevokesKey, revoked_lines}
 use Rattle.sshkey_revoked_keys.specs.declared.revoked_keys.RevokedKeys.{RevokedKeys}
+use Rattle.sshkey_revoked_keys.specs.declared.revoked_keys.RevokedKeys.TheVariants.{Keys, Krl}
 use Rattle.sshkey_entry_calls.specs.declared.revocation_files.RevocationFiles.{RevocationFiles}
 
 -- ---- what reading gives
@@ -52,6 +54,21 @@ one_revokes reads key asked = list_any (λ read. unless_read (λ file. revokes f
 -- What revokes a key revokes each certificate of it.
 pub files_whole : (reads : List (Result RevokedKeys Error)) (key : List ℕ) (asked : Grant) → one_revokes_key reads key ≡ true → one_revokes reads key asked ≡ true
 files_whole reads key asked = any_whole (λ read. unless_read (λ file. revokes_key file key) read) (λ read. unless_read (λ file. revokes file key asked) read) (λ read. read_whole (λ file. revokes_key file key) (λ file. revokes file key asked) (λ file. file_whole file key asked) read) reads
+
+-- the list of nothing: a header, and no section
+abbrev pub nothing : List ℕ
+nothing = magic ++ 0 ∷ 0 ∷ 0 ∷ 1 ∷ replicate 32 0
+
+abbrev pub is_nothing : Result RevokedKeys Error → Bool
+is_nothing (Ok (Krl k)) = bytes_eq (krl_bytes k) nothing
+is_nothing (Ok (Keys keys)) = false
+is_nothing (Err e) = false
+
+-- it is the only file, so no key and no certificate is revoked
+abbrev pub is_only_nothing : List (Result RevokedKeys Error) → Bool
+is_only_nothing [] = false
+is_only_nothing (read ∷ []) = is_nothing read
+is_only_nothing (read ∷ other ∷ reads) = false
 
 -- the number of what they revoke: by a file that cannot be read, which revokes all, it is another one
 abbrev pub revoked_number : List (Result RevokedKeys Error) → ℕ

@@ -1,7 +1,7 @@
 //! The calls of the library for C about authorized_keys, known_hosts, allowed signers, revocation
 //! files and addresses, as an ordinary library: the lines of a text, the entry of a line, the options
-//! of an entry, what a text says of a signature, or files of a key or a certificate, and whether a
-//! list of addresses lets a client in.
+//! of an entry, what a text or a list of keys says of a signature, or files of a key or a
+//! certificate, and whether a list of addresses lets a client in.
 //!
 //! As those of `sshkey_calls`, each call answers with a number, and the bytes that it answers with
 //! are in the caller's room.
@@ -15,6 +15,7 @@ mod other_key;
 mod revocation_files;
 mod revocations;
 mod signers;
+mod sshsig;
 mod unreadable_line;
 
 pub use addresses::{address_of, from_allows, source_address_allows};
@@ -25,4 +26,5 @@ pub use other_key::is_other_key_line;
 pub use revocation_files::RevocationFiles;
 pub use revocations::{revoked_certificate, revoked_key};
 pub use signers::signer_verdict;
+pub use sshsig::sshsig_verdict;
 pub use unreadable_line::unreadable_host_line;

@@ -5,13 +5,17 @@ ghost use Rattle.std.specs.Prelude.{◌≡◌, ◌<◌, IfErr, IfOk, false, leng
 ghost use Rattle.sshkey_base.specs.declared.error.Error.TheVariants as error;
 ghost use Rattle.sshkey_krl.specs.Revocation.{grant};
 ghost use Rattle.sshkey_entry_calls.specs.RevocationFiles as files;
-ghost use Rattle.sshkey_entry_calls.specs.RevocationFiles.{AreReadOf, IsReadOf, NeedsFile, NeedsFiles, are_read, files_whole, reads_of, revoked_number};
+ghost use Rattle.sshkey_entry_calls.specs.RevocationFiles.{AreReadOf, IsReadOf, NeedsFile, NeedsFiles, are_read, files_whole, is_nothing, is_only_nothing, reads_of, revoked_number};
 
 use sshkey_base::{Error, Result, encoding};
 use sshkey_calls::number::{REVOKED, UNREADABLE_REVOCATIONS};
 use sshkey_krl::Revocations;
 use sshkey_revoked_keys::RevokedKeys;
 use std::alloc::Global;
+
+/// The list of nothing (PROTOCOL.krl), by which a caller says that it asks about no revocation.
+const NOTHING: &[u8] =
+    b"SSHKRL\n\0\0\0\0\x01\0\0\0\0\0\0\0\0\0\0\0\0\0\0\0\0\0\0\0\0\0\0\0\0\0\0\0\0\0\0\0\0";
 
 /// What several revocation files say, as sshd(8) reads them (sshd_config(5), RevokedKeys, which may
 /// name several since OpenSSH 10.3): any of them revokes. A file that cannot be read revokes
@@ -95,6 +99,16 @@ fn read_more<'a>(alloc: Global, files: &[&'a [u8]]) -> Result<Vec<Result<Revoked
     Ok(reads)
 }
 
+/// Whether it is the list of nothing: then no digest of a key has to be made.
+fn is_nothing(read: &Result<RevokedKeys<'_>>) -> bool
+    ensures { result ≡ is_nothing read.now }
+{
+    match read {
+        Ok(RevokedKeys::Krl(list)) => list.as_bytes() == NOTHING,
+        Ok(RevokedKeys::Keys(_)) | Err(_) => false,
+    }
+}
+
 /// Whether each could be read.
 fn are_all_read(reads: &[Result<RevokedKeys<'_>>]) -> bool
     ensures { result ≡ are_read reads.now }
@@ -131,10 +145,10 @@ impl Revocations for RevocationFiles<'_> {
 
     ghost whole = { λ it key asked. files_whole (reads_of it) key asked };
 
-    ghost revokes_none = { λ _. false };
+    ghost revokes_none = { λ it. is_only_nothing (reads_of it) };
 
     fn revokes_none(&self) -> bool {
-        false
+        self.more.is_empty() && is_nothing(&self.first)
     }
 
     fn revokes_key(&self, key: &[u8]) -> bool {

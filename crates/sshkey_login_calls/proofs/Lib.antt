@@ -1,3 +1,4 @@
 mod Digests
 mod Grants
 mod Logins
+mod Questions

@@ -1,9 +1,8 @@
 -- What the policy decides for the verifier that says to every question what was said to the one, it
 -- decides for every verifier that says so to that one.
-use Rattle.std.proofs.Common.{◌≡◌, ◌≢◌, ◌<◌, ℕ, List, Bool, true, false, Option, None, Some, Result, Ok, Err, IfErr, ap, arith, inl, inr, refl, subst, sym, ◌∙◌}
-use Rattle.login_policy.specs.Logins.{GrantsExactly, IsGrantOf, IsLogin, Login}
+use Rattle.std.proofs.Common.{◌≡◌, ◌≢◌, ◌<◌, ℕ, List, Bool, true, false, None, Result, ap, arith, inl, inr, refl, subst, sym, ◌∙◌}
+use Rattle.login_policy.specs.Logins.{IsLogin, Login}
 use Rattle.login_policy.specs.Refusals.{FromElsewhere, IsRevoked, IsUntrusted, NotValid, OtherAuthority, RefusesLogin}
-use Rattle.login_policy.specs.declared.grant.Grant.{Grant}
 use Rattle.login_policy.specs.declared.refusal.Refusal.{Refusal}
 use Rattle.login_policy.specs.declared.refusal.Refusal.TheVariants as refusal
 use Rattle.sshkey_calls.proofs.Validations.{same_signed}
@@ -11,8 +10,6 @@ use Rattle.sshkey_calls.specs.Validations.{Verified, authorities_of, is_yes_numb
 use Rattle.sshkey_cert.specs.CertificateReaders.{SpellsCertificate}
 use Rattle.sshkey_model.specs.Certificates.{Certificate}
 use Rattle.sshkey_model.specs.Fingerprints.{Fingerprint}
-use Rattle.sshkey_model.specs.Principals.{IsValidFor}
-use Rattle.sshkey_model.specs.Refusals as model
 use Rattle.sshkey_model.specs.Refusals.{NotSigned, UnlistedPrincipal, allows, first_refusal_for, has_trusted_authority, is_signed, or_else, refusal_of_authority_or_time, unless}
 use Rattle.sshkey_model.specs.Validity.{IsValid}
 use Rattle.sshkey_model.specs.Verification.{Question}
@@ -20,7 +17,7 @@ use Rattle.sshkey_entry_calls.specs.RevocationFiles.{are_read, one_revokes, revo
 use Rattle.sshkey_base.specs.declared.error.Error.{Error}
 use Rattle.sshkey_revoked_keys.specs.declared.revoked_keys.RevokedKeys.{RevokedKeys}
 use Rattle.std.specs.Prelude.{if◌then◌else◌}
-use Rattle.sshkey_login_calls.specs.Logins.{DecidesLogin, IsReadingOf, Reading, TellsLogin, login_number, login_of}
+use Rattle.sshkey_login_calls.specs.Logins.{IsReadingOf, Reading, TellsLogin, login_number, login_of}
 use Rattle.sshkey_login_calls.specs.declared.request.LoginRequest.{LoginRequest}
 
 -- ---- one verifier for another

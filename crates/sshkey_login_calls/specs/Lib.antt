@@ -1,3 +1,4 @@
 pub mod GrantExamples
 pub mod Grants
 pub mod Logins
+pub mod Questions

@@ -1,8 +1,10 @@
 -- What is answered of a login by a certificate.
-use Rattle.std.specs.Prelude.{◌≡◌, ◌≢◌, ◌⊎◌, ℕ, List, Bool, MatchOption, Option, Some, Result, Ok, Err}
+use Rattle.std.specs.Prelude.{◌≡◌, ◌≢◌, ◌⊎◌, ℕ, List, Bool, Some, Result, Ok, Err}
 use Rattle.std.specs.declared.net.ip_addr.IpAddr.{IpAddr}
 use Rattle.login_policy.specs.Logins.{IsLogin, Login}
 use Rattle.login_policy.specs.Refusals.{RefusesLogin}
+use Rattle.login_policy.specs.declared.client.Client.{Client}
+use Rattle.login_policy.specs.declared.client.Client.TheVariants as client
 use Rattle.login_policy.specs.declared.refusal.Refusal.{Refusal}
 use Rattle.login_policy.specs.declared.refusal.Refusal.TheVariants as refusal
 use Rattle.sshkey_base.specs.declared.error.Error.{Error}
@@ -29,17 +31,22 @@ login_number of_revoked refusal.Memory = 1
 
 -- ---- the login
 
--- What is read of a login: the key, what each revocation file gives, and the client's address, if it
--- has one.
+-- Where the client is: where the caller judges, at the address of the bytes, or at none.
+abbrev pub IsClientOf : LoginRequest → Client → Type 0
+IsClientOf l client.LeftToCaller = l.judges_address ≡ 1
+IsClientOf l (client.At a) = (l.judges_address ≢ 1) × IsAddressOf l.client.now a
+IsClientOf l client.Unknown = (l.judges_address ≢ 1) × ((a : IpAddr) → IsAddressOf l.client.now a → ⊥)
+
+-- What is read of a login: the key, what each revocation file gives, and where the client is.
 pub record Reading : Type 0 where
   pub key : Key
   pub files : List (Result RevokedKeys Error)
-  pub client : Option IpAddr
+  pub client : Client
 
 pub record IsReadingOf (l : LoginRequest) (r : Reading) : Type 0 where
   pub key : SpellsKey r.key l.key.now
   pub files : AreReadOf l.revoked.now r.files
-  pub client : MatchOption r.client ((a : IpAddr) → IsAddressOf l.client.now a → ⊥) (λ a. IsAddressOf l.client.now a)
+  pub client : IsClientOf l r.client
 
 -- the login of the policy, for that verifier
 abbrev pub login_of : LoginRequest → Reading → (Question → Bool) → Login

@@ -8,8 +8,10 @@
 pub mod examples;
 mod grant;
 mod login;
+mod question;
 mod request;
 
 pub use grant::GrantParts;
 pub use login::login_verdict;
+pub use question::login_question;
 pub use request::LoginRequest;

@@ -13,14 +13,14 @@ ghost use Rattle.sshkey_login_calls.specs.Grants.{IsGranted, TellsGrant};
 ghost use Rattle.sshkey_login_calls.specs.Logins.{TellsLogin, login_number, number_of};
 
 use crate::grant::{GrantParts, give, lay_out, nothing};
-use crate::request::LoginRequest;
+use crate::request::{LoginRequest, client_of};
 use login_policy::{Login, Refusal, log_in};
 use sshkey_calls::number::{
     ELSEWHERE, KEY_NOT_ACCEPTED, MEMORY, NOT_NORMAL_FORM, TEXT, certificate_error_number,
     error_number, refusal_number,
 };
 use sshkey_calls::{Sha256Digest, Verification};
-use sshkey_entry_calls::{RevocationFiles, address_of};
+use sshkey_entry_calls::RevocationFiles;
 use sshkey_keys::Fingerprint;
 use sshkey_keys_ref::KeyDataRef;
 use std::alloc::Global;
@@ -37,11 +37,12 @@ use std::str;
 /// bytes that are not the certificate's normal form, 71 to 76 for a field and 59, after 72, for the
 /// kind or the size of the key, 31 for another authority, 58 where a revocation file cannot be read
 /// or there is none, which revokes everything, 56 for a certificate that is revoked, 30 where it was
-/// not verified, 32 to 34 for the time and the user, and 57 for the client's address.
+/// not verified, 32 to 34 for the time and the user, and 57 for the client's address, unless the
+/// caller judges that.
 ///
 /// So 30, before anything is verified, says that an authority's certificate, which is not revoked,
-/// is to be verified, and nothing else has to be. With any number but 0 nothing is granted. Memory
-/// is taken only where the user is UTF-8 and the key is one.
+/// is to be verified, and nothing else has to be: `login_question` asks so, and says what. With any
+/// number but 0 nothing is granted. Memory is taken only where the user is UTF-8 and the key is one.
 ///
 /// What is left to the caller: that the client has signed under the key, that a security key's flags
 /// are those that the grant asks for, and to run no other command than the grant says.
@@ -97,7 +98,7 @@ fn judge(
 }
 
 /// The same of a user's name and a key that was read.
-fn judge_of(
+pub(crate) fn judge_of(
     alloc: Global,
     login: &LoginRequest<'_>,
     user: &str,
@@ -125,7 +126,7 @@ fn judge_of(
         unix_timestamp: login.unix_timestamp,
         authorities: &authorities,
         least_rsa_bits: login.least_rsa_bits,
-        client: address_of(login.client),
+        client: client_of(login),
     };
     let said = Verification::of(is_verified);
     match log_in(alloc, &asked, &files, &said) {

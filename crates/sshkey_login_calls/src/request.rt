@@ -1,6 +1,10 @@
 //! A login that is asked for.
 
+ghost use Rattle.sshkey_login_calls.specs.Logins.{IsClientOf};
+
+use login_policy::Client;
 use sshkey_calls::Sha256Digest;
+use sshkey_entry_calls::address_of;
 
 /// A login by a certificate, and whom the server trusts.
 #[repr(C)]
@@ -24,4 +28,21 @@ pub struct LoginRequest<'a> {
     pub unix_timestamp: u64,
     /// How many bits an RSA key has at least (`login_policy::Login::least_rsa_bits`).
     pub least_rsa_bits: u32,
+    /// 1 where the caller judges itself whether `source-address` has the client's address
+    /// (`login_policy::Client::LeftToCaller`), and `client` is not looked at. With any other number
+    /// it is judged here.
+    pub judges_address: u32,
+}
+
+/// Where the client of the login is.
+pub(crate) fn client_of(login: &LoginRequest<'_>) -> Client
+    ensures { IsClientOf login.now result }
+{
+    if login.judges_address == 1 {
+        return Client::LeftToCaller;
+    }
+    match address_of(login.client) {
+        Some(address) => Client::At(address),
+        None => Client::Unknown,
+    }
 }

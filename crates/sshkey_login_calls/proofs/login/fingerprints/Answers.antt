@@ -1,4 +1,4 @@
-use Rattle.std.proofs.Common.{ap, sym, ◌∙◌}
+use Rattle.std.proofs.Common.{ap, ◌∙◌}
 use Rattle.std.proofs.lemmas.List.{take_all}
 use Rattle.sshkey_calls.specs.Validations.{authorities_of}
 use Rattle.sshkey_login_calls.proofs.Digests.{one_more}

@@ -8,16 +8,16 @@ use Rattle.sshkey_login_calls.proofs.login.judge_of.Goals as goal
 
 pub returns-in-Ok-lay_out-clause-verdict : goal.returns-in-Ok-lay_out-clause-verdict
 returns-in-Ok-lay_out-clause-verdict c named same_key =
-    granted c.args.login.now (record { key = key_of c.in-Ok.offered; files = reads_of c.in-Ok-read.files; client = c.address_of.result }) c.args.is_verified c.of-said.result.is_yes (fingerprints_of c.deref.result.now) c.args.user.now
+    granted c.args.login.now (record { key = key_of c.in-Ok.offered; files = reads_of c.in-Ok-read.files; client = c.client_of.result }) c.args.is_verified c.of-said.result.is_yes (fingerprints_of c.deref.result.now) c.args.user.now
     c.of-said.ensures (ap fingerprints_of c.deref.ensures.value ∙ c.in-Ok-fingerprints.ensures) named c.in-Ok-log_in.ensures.exactly.0
-    (record { key = subst (SpellsKey (key_of c.in-Ok.offered)) same_key c.in-Ok.ensures.spelled; files = c.in-Ok-read.ensures.read; client = c.address_of.ensures })
+    (record { key = subst (SpellsKey (key_of c.in-Ok.offered)) same_key c.in-Ok.ensures.spelled; files = c.in-Ok-read.ensures.read; client = c.client_of.ensures })
 
 pub login_number-requires : goal.login_number-requires
 login_number-requires c = rw c.revoked_number.ensures (some_revoked (reads_of c.in-Ok-read.files))
 
 pub returns-clause-verdict : goal.returns-clause-verdict
 returns-clause-verdict c named same_key =
-    denied c.args.login.now (record { key = key_of c.in-Ok.offered; files = reads_of c.in-Ok-read.files; client = c.address_of.result }) c.args.is_verified c.of-said.result.is_yes (fingerprints_of c.deref.result.now) c.args.user.now
+    denied c.args.login.now (record { key = key_of c.in-Ok.offered; files = reads_of c.in-Ok-read.files; client = c.client_of.result }) c.args.is_verified c.of-said.result.is_yes (fingerprints_of c.deref.result.now) c.args.user.now
     c.of-said.ensures (ap fingerprints_of c.deref.ensures.value ∙ c.in-Ok-fingerprints.ensures) named c.in-Err.refusal c.login_number.result
     (c.login_number.ensures.number ∙ ap (λ of_revoked. login_number of_revoked c.in-Err.refusal) c.revoked_number.ensures) c.login_number.ensures.refused c.in-Err.ensures.exactly c.in-Err.ensures.refused
-    (record { key = subst (SpellsKey (key_of c.in-Ok.offered)) same_key c.in-Ok.ensures.spelled; files = c.in-Ok-read.ensures.read; client = c.address_of.ensures })
+    (record { key = subst (SpellsKey (key_of c.in-Ok.offered)) same_key c.in-Ok.ensures.spelled; files = c.in-Ok-read.ensures.read; client = c.client_of.ensures })
