@@ -134,9 +134,8 @@ const OF_OPTION: usize = 256;
 pub fn entry_options(text: &[u8]) -> Result<Vec<EntryOption>, Status> {
     let (mut options, mut place) = (Vec::new(), 0);
     loop {
-        let asked = ask(OF_OPTION, |room, answer| {
-            raw::sshkey_next_entry_option(text, place, room, answer)
-        });
+        let asked =
+            ask(OF_OPTION, |room, answer| raw::sshkey_next_entry_option(text, place, room, answer));
         let (room, found) = match asked {
             Ok(it) => it,
             Err(Status::END) => return Ok(options),
