@@ -50,6 +50,7 @@ def stage(release, room, git):
     write(f"{folder}/PROVED-BY", proved_by(release))
     stage_debian(release, folder)
     stage_manifests(release, folder)
+    stage_licences(release, folder)
     write_sums(folder, f"{folder}/SHA256SUMS")
     return folder
 
@@ -81,6 +82,31 @@ def stage_manifests(release, folder):
         append(f"{folder}/bindings/{language}/README.md", f"\n{release.where()}\n")
         for name in ("LICENSE-APACHE", "LICENSE-MIT", "NOTICE", "PROVED-BY"):
             shutil.copy(f"{folder}/{name}", f"{folder}/bindings/{language}")
+
+
+# which files stand under which licence, for `reuse lint`
+LICENCES = """\
+Format: https://www.debian.org/doc/packaging-manuals/copyright-format/1.0/
+Upstream-Name: Rafendilo
+
+Files: *
+Copyright: 2026 The Rafendilo authors
+License: MIT OR Apache-2.0
+
+Files: */sshkey_linux_*.S
+Copyright: 2026 The Rafendilo authors, and those that NOTICE names
+License: (MIT OR Apache-2.0) AND LicenseRef-Toolchain
+"""
+
+
+def stage_licences(release, folder):
+    """The licences under the names by which SPDX calls them. What NOTICE says of the toolchain has no such name."""
+    os.makedirs(f"{folder}/.reuse")
+    os.makedirs(f"{folder}/LICENSES")
+    write(f"{folder}/.reuse/dep5", LICENCES)
+    shutil.copy(f"{folder}/LICENSE-MIT", f"{folder}/LICENSES/MIT.txt")
+    shutil.copy(f"{folder}/LICENSE-APACHE", f"{folder}/LICENSES/Apache-2.0.txt")
+    write(f"{folder}/LICENSES/LicenseRef-Toolchain.txt", release.inside())
 
 
 def append(path, text):
