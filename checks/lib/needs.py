@@ -27,6 +27,17 @@ BY_ALL = {
     "rustc": "rustc",
     "clang": "clang",
     "gcc-aarch64-linux-gnu": "aarch64-linux-gnu-gcc",
+    "musl-tools": "musl-gcc",
+    "qemu-user": "qemu-aarch64",
+    "debhelper": "dh",
+    "dh-python": "dh_python3",
+    "lintian": "lintian",
+    "mandoc": "mandoc",
+    "reuse": "reuse",
+    "mypy": "mypy",
+    "rust-clippy": "cargo-clippy",
+    "python3-venv": ["/usr/bin/python3", "-c", "import ensurepip"],
+    "python3-wheel": ["/usr/bin/python3", "-c", "import setuptools, wheel"],
 }  # fmt: skip
 # while the table is built, in kibibytes; and while other builds stand beside it
 MEMORY, MEMORY_SIDE_BY_SIDE = 4 << 20, 8 << 20
