@@ -35,7 +35,7 @@ class Release:
 
     def read_parts(self):
         """The names of these parts, and the licence of each."""
-        found = re.findall(r"^  (\w+(?:, \w+)*)  +(MIT or Apache-2\.0|NOASSERTION)\b", self.inside(), re.M)
+        found = re.findall(r"^  (\w+(?:, \w+)*)  +(MIT or Apache-2\.0|MIT|NOASSERTION)\b", self.inside(), re.M)
         assert found, "NOTICE"
         return {name: licence.replace(" or ", " OR ") for names, licence in found for name in names.split(", ")}
 
