@@ -2,6 +2,7 @@
 import json
 import os
 import re
+import sys
 import time
 
 from .archives import sum_of
@@ -97,6 +98,8 @@ def proved_by(release):
         built = f"crates/sshkey_c/out/{processor}"
         text = f"bindings/go/sshkey/sshkey_linux_{processor}.S"
         sources, verdict = release.read(f"{built}/verdict").splitlines()
+        if sources.partition("=")[2] not in release.read(text)[:400]:
+            sys.exit(f"{built} has the verdict on another text: run bindings/library --archives")
         told += f"\n{processor}\n  sources  {sources.partition('=')[2]}\n  verdict  {verdict}\n"
         for path in (f"{built}/libsshkey_c.a", text):
             told += f"  sha256   {sum_of(f'{release.root}/{path}')}  {os.path.basename(path)}\n"
