@@ -1,0 +1,161 @@
+-- The first of some lines that lets a key in, or refuses it.
+use Rattle.std.proofs.Common.{◌≡◌, ◌∙◌, ◌⊎◌, ◌+◌, ◌-◌, ◌<◌, ℕ, zero, suc, List, [], ◌∷◌, ◌++◌, Bool, false, IsTrue, Option, Some, None, IfErr, Result, Ok, Err, ap, append_assoc, arith, get_or, inl, inr, length, refl, subst, sym}
+use Rattle.std.proofs.lemmas.Bool.{cases_lt}
+use Rattle.std.proofs.lemmas.List.{get_or_append_left, get_or-append_right, length-append}
+use Rattle.std.proofs.Math.Seq.{get_or-append_seam}
+use Rattle.std.specs.List.{Any}
+use Rattle.std.specs.Prelude.{IsErrAnd, IsSome}
+use Rattle.openssh_limits.specs.Keys.{is_let_in}
+use Rattle.sshkey_krl.specs.Revocations.{is_key_revoked}
+use Rattle.login_terms.specs.Terms.{Terms, terms_of}
+use Rattle.user_keys.specs.Answers.{AsksOfLines, GrantsExactly, IsWhyNoLine, SaysOf, first_refused, refusal_for}
+use Rattle.user_keys.specs.Spellings.{MaySpell, own_part}
+use Rattle.user_keys.specs.UserLogins.{Admits, Ends, GrantsFirst, IsAsStrict, IsFirst, IsListedBy, MayLet, RefusesFor, UserLogin}
+use Rattle.user_keys.specs.declared.answer.LineVerdict.TheVariants as verdict
+use Rattle.user_keys.specs.declared.grant.Grant.{Grant}
+use Rattle.user_keys.specs.declared.refusal.Reason.{Reason}
+use Rattle.user_keys.specs.declared.refusal.Refusal.{Refusal}
+use Rattle.user_keys.specs.declared.refusal.Refusal.TheVariants as refusal
+
+-- ---- some of a list
+
+module _ {X : Type 0} (P : X → Type 0) where
+  either : (xs ys : List X) → Any P (xs ++ ys) → Any P xs ⊎ Any P ys
+  either xs ys s = elim (cases_lt s.0 (length xs)) [
+    | inl less ↦ inl (s.0, s.1, less, sym (get_or_append_left xs ys s.1 s.0 less) ∙ s.3, s.4)
+    | inr above ↦ inr (s.0 - length xs, s.1, omega (arith, s.2, above, length-append xs ys), sym (get_or-append_right xs ys (length xs) s.0 s.1 refl above) ∙ s.3, s.4)
+  ]
+
+  only : (x : X) → Any P (x ∷ []) → P x
+  only x (zero, y, l, is, p) = subst P (sym is) p
+  only x (suc k, y, l, is, p) = absurd (omega (arith, l))
+
+  pub none_more : (before : List X) (x : X) → (Any P before → ⊥) → (P x → ⊥) → Any P (before ++ (x ∷ [])) → ⊥
+  none_more before x none not s = elim (either before (x ∷ []) s) [
+    | inl a ↦ none a
+    | inr b ↦ not (only x b)
+  ]
+
+  pub here : (before : List X) (x : X) (after : List X) → P x → Any P (before ++ (x ∷ after))
+  here before x after p = (length before, x, omega (arith, length-append before (x ∷ after)), get_or-append_seam before x after x, p)
+
+  pub each : {Q : X → Type 0} → ((x : X) → Q x → P x) → (xs : List X) → Any Q xs → Any P xs
+  each there xs s = (s.0, s.1, s.2, s.3, there _ s.4)
+
+-- where this holds, it holds of each error
+pub of_error : {X E : Type 0} {Q : Type 0} (r : Result X E) → Q → IfErr r (λ e. Q)
+of_error (Ok x) q = tt
+of_error (Err e) q = q
+
+pub no_items : {X : Type 0} (xs : List X) → length xs ≡ 0 → xs ≡ []
+no_items [] none = refl
+no_items (x ∷ xs) none = absurd (omega (arith, none))
+
+-- ---- out of memory
+
+pub out_of_memory : (P : Grant → Type 0) (r : Result Grant Refusal) → IsErrAnd r (λ e. e ≡ refusal.Memory) → GrantsExactly P r
+out_of_memory P (Ok g) is = absurd is
+out_of_memory P (Err e) is = λ other. absurd (other is)
+
+pub asked : (login : UserLogin) (r : Result Grant Refusal) → Any (MaySpell (own_part login.offered)) login.lines → AsksOfLines login r
+asked login (Ok g) some = tt
+asked login (Err e) some = λ memory. some
+
+-- ---- the first
+
+module _ (P : List ℕ → Type 0) where
+  -- one before another would be among those that are none
+  not_before : (all : List (List ℕ)) (x y : List ℕ) (n m : ℕ) (f : IsFirst P all x n) (g : IsFirst P all y m) → length f.before < length g.before → ⊥
+  not_before all x y n m f g less =
+      let there : get_or g.before (length f.before) x ≡ x = sym (get_or_append_left g.before (y ∷ g.after) x (length f.before) less) ∙ ap (λ (l : List (List ℕ)). get_or l (length f.before) x) (sym g.is ∙ f.is) ∙ get_or-append_seam f.before x f.after x in
+      g.none (length f.before, x, less, there, f.holds)
+
+  pub one_first : (all : List (List ℕ)) (x y : List ℕ) (n m : ℕ) → IsFirst P all x n → IsFirst P all y m → x ≡ y
+  one_first all x y n m f g = elim (cases_lt (length f.before) (length g.before)) [
+    | inl less ↦ absurd (not_before all x y n m f g less)
+    | inr above ↦ elim (cases_lt (length g.before) (length f.before)) [
+      | inl more ↦ absurd (not_before all y x m n g f more)
+      | inr below ↦ (
+          let same : length f.before ≡ length g.before = omega (arith, above, below) in
+          sym (get_or-append_seam f.before x f.after y) ∙ ap (λ (l : List (List ℕ)). get_or l (length f.before) y) (sym f.is ∙ g.is) ∙ ap (λ (k : ℕ). get_or (g.before ++ (y ∷ g.after)) k y) same ∙ get_or-append_seam g.before y g.after y)
+    ]
+  ]
+
+  pub some_first : (all : List (List ℕ)) (x : List ℕ) (n : ℕ) → IsFirst P all x n → Any P all
+  some_first all x n f = subst (Any P) (sym f.is) (here P f.before x f.after f.holds)
+
+  pub more_first : (all more : List (List ℕ)) (x : List ℕ) (n : ℕ) → IsFirst P all x n → IsFirst P (all ++ more) x n
+  more_first all more x n f = record {
+    before = f.before;
+    after = f.after ++ more;
+    is = ap (λ (l : List (List ℕ)). l ++ more) f.is ∙ append_assoc f.before (x ∷ f.after) more;
+    none = f.none;
+    holds = f.holds;
+    counted = f.counted;
+  }
+
+-- ---- the line that lets in
+
+is_some_of : (o : Option Terms) → IsSome o → (t : Terms) × (o ≡ Some t)
+is_some_of (Some t) some = (t, refl)
+is_some_of None some = absurd cc
+
+module _ (login : UserLogin) where
+  pub granted : (g : Grant) (line : List ℕ) → IsFirst (Ends login) login.lines line g.line → SaysOf login line (verdict.Lets g.terms) → GrantsFirst login g
+  granted g line first says = record { line = line; first = first; lets = says.0; told = says.2 }
+
+  pub strict : (g : Grant) (line : List ℕ) → IsFirst (Ends login) login.lines line g.line → SaysOf login line (verdict.Lets g.terms) → IsAsStrict login g
+  strict g line first says = λ takes as_told.
+      let taken : takes line ≡ Some (terms_of g.terms) = as_told.told line (terms_of g.terms) says.0 in
+      record {
+        line = line;
+        first = record {
+          before = first.before;
+          after = first.after;
+          is = first.is;
+          none = λ some. first.none (each (Ends login) (λ l is. let u = is_some_of (takes l) is in elim (as_told.only l u.0 u.1) [
+            | inl lets ↦ inl (u.0, lets)
+            | inr may ↦ inr may
+          ]) first.before some);
+          holds = subst (λ (o : Option Terms). IsSome o) (sym taken) refl;
+          counted = first.counted;
+        };
+        terms = taken;
+      }
+
+  -- none is granted where a line may let in before any that does
+  pub none_granted : (n : ℕ) (line : List ℕ) → IsFirst (Ends login) login.lines line n → MayLet login line → (g : Grant) → GrantsFirst login g → ⊥
+  none_granted n line first may g is = is.told (subst (MayLet login) (one_first (Ends login) login.lines line is.line n g.line first is.first) may)
+
+  -- nor where no line does
+  pub nothing_granted : (Any (Ends login) login.lines → ⊥) → (g : Grant) → GrantsFirst login g → ⊥
+  nothing_granted none g is = none (some_first (Ends login) login.lines is.line g.line is.first)
+
+  -- ---- the line that refuses
+
+  -- of some lines the first that is for the key refuses it for that
+  abbrev pub RefusedBy : List (List ℕ) → Option (ℕ × Reason) → Type 0
+  RefusedBy before None = ¬ Any (IsListedBy login) before
+  RefusedBy before (Some x) = (line : List ℕ) × IsFirst (IsListedBy login) before line x.0 × RefusesFor login line x.1
+
+  pub passed : (before : List (List ℕ)) (line : List ℕ) (refused : Option (ℕ × Reason)) → RefusedBy before refused → (IsListedBy login line → ⊥) → RefusedBy (before ++ (line ∷ [])) refused
+  passed before line None none not = none_more (IsListedBy login) before line none not
+  passed before line (Some x) is not = (is.0, more_first (IsListedBy login) before (line ∷ []) is.0 x.0 is.1, is.2)
+
+  pub refused_also : (before : List (List ℕ)) (line : List ℕ) (n : ℕ) (r : Reason) (refused : Option (ℕ × Reason)) → n ≡ length before + 1 → RefusedBy before refused → RefusesFor login line r → RefusedBy (before ++ (line ∷ [])) (first_refused refused n r)
+  refused_also before line n r None counted none refuses = (
+    line,
+    record { before = before; after = []; is = refl; none = none; holds = (refuses.terms, refuses.own); counted = counted },
+    refuses,
+  )
+  refused_also before line n r (Some x) counted is refuses = (is.0, more_first (IsListedBy login) before (line ∷ []) is.0 x.0 is.1, is.2)
+
+  pub why : (refused : Option (ℕ × Reason)) → (Any (Ends login) login.lines → ⊥) → RefusedBy login.lines refused → IsWhyNoLine login (refusal_for refused)
+  why None none not = (none, not)
+  why (Some x) none is = (none, is)
+
+-- ---- the whole
+
+pub admitted : (login : UserLogin) (revokes_key : List ℕ → Bool) → IsTrue (is_let_in login.least_rsa_bits login.offered) → is_key_revoked revokes_key login.offered ≡ false → (r : Result Grant Refusal) → GrantsExactly (GrantsFirst login) r → GrantsExactly (Admits login revokes_key) r
+admitted login revokes_key accepted unrevoked (Ok g) is = record { accepted = accepted; unrevoked = unrevoked; granted = is }
+admitted login revokes_key accepted unrevoked (Err r) none = λ other g is. none other g is.granted

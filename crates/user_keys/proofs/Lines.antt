@@ -1,0 +1,124 @@
+-- Which key a line is for.
+use Rattle.std.proofs.Common.{◌≡◌, ◌∙◌, ◌≤◌, ℕ, List, Bool, true, false, not, IfOk, Result, Ok, Err, ap, inl, inr, length, refl, subst, sym}
+use Rattle.std.proofs.Math.Bool.{beq}
+use Rattle.std.specs.Prelude.{slice_index}
+use Rattle.sshkey_entries.specs.AuthorizedKeys.{AuthorizedKey}
+use Rattle.sshkey_entries.specs.Entries.{IsNoEntry, hash_sign}
+use Rattle.sshkey_entries.specs.Fields.{without_blanks}
+use Rattle.sshkey_entries.specs.Laws.{EntriesDetermineValues}
+use Rattle.sshkey_entries.specs.OpenSshLines.{IsAuthorizedLine}
+use Rattle.sshkey_model.specs.Keys.{Key}
+use Rattle.login_terms.proofs.Told.{told_as}
+use Rattle.login_terms.specs.Readings.{Tells}
+use Rattle.login_terms.specs.Terms.{Terms, terms_of}
+use Rattle.login_terms.specs.declared.reading.Reading.{Reading}
+use Rattle.login_terms.specs.declared.reading.Reading.TheVariants.{Is, Rejected, Unclear}
+use Rattle.login_terms.specs.declared.terms.Terms as code
+use Rattle.user_keys.specs.Lines.{IsEntryFor, IsFor, MayBeEntryFor, MayBeFor, before_zero, is_zero}
+use Rattle.user_keys.specs.Options.{AreTerms, MayBeTerms}
+use Rattle.user_keys.specs.Spellings.{AreMarks, HasMark, MaySpell, StandIn, own_part}
+use Rattle.user_keys.specs.declared.marks.Marks.{Marks}
+use Rattle.user_keys.proofs.Blobs.{entry_spells, spelled_before}
+
+-- ---- marks
+
+pub marks_are : (part text : List ℕ) (m : Marks) → AreMarks part m → HasMark m text → MaySpell part text
+marks_are part text m are (inl x) = inl (subst (λ (s : List ℕ). StandIn s text) are.0 x)
+marks_are part text m are (inr (inl y)) = inr (inl (subst (λ (s : List ℕ). StandIn s text) are.1 y))
+marks_are part text m are (inr (inr z)) = inr (inr (subst (λ (s : List ℕ). StandIn s text) are.2 z))
+
+pub are_marks : (part text : List ℕ) (m : Marks) → AreMarks part m → MaySpell part text → HasMark m text
+are_marks part text m are (inl x) = inl (subst (λ (s : List ℕ). StandIn s text) (sym are.0) x)
+are_marks part text m are (inr (inl y)) = inr (inl (subst (λ (s : List ℕ). StandIn s text) (sym are.1) y))
+are_marks part text m are (inr (inr z)) = inr (inr (subst (λ (s : List ℕ). StandIn s text) (sym are.2) z))
+
+-- ---- bits
+
+pub same_bit : (a b : Bool) → not (beq a b) ≡ false → a ≡ b
+same_bit true true e = refl
+same_bit true false e = absurd cc
+same_bit false true e = absurd cc
+same_bit false false e = refl
+
+pub other_bit : (a b : Bool) → not (beq a b) ≡ true → a ≡ b → ⊥
+other_bit true true e same = cc
+other_bit true false e same = cc
+other_bit false true e same = cc
+other_bit false false e same = cc
+
+-- ---- an entry of the key
+
+module _ (authority : Bool) (key : Key) (entry : AuthorizedKey) (same : entry.key ≡ key) where
+  may_own : MayBeEntryFor key entry → MayBeTerms entry.options
+  may_own (inl own) = own.1
+  may_own (inr other) = absurd (other.0 same)
+
+  pub is_own : (t : code.Terms) → Tells terms_of (AreTerms entry.options) (MayBeTerms entry.options) (Is t) → (terms_of t).is_authority ≡ authority → Tells terms_of (IsEntryFor authority key entry) (MayBeEntryFor key entry) (Is t)
+  is_own t told of = (record { own_key = same; said = told.0; of_authority = of }, (λ y f. told.1 y f.said), λ m. told.2 (may_own m))
+
+  pub of_other : (t : code.Terms) → Tells terms_of (AreTerms entry.options) (MayBeTerms entry.options) (Is t) → ((terms_of t).is_authority ≡ authority → ⊥) → Tells terms_of (IsEntryFor authority key entry) (MayBeEntryFor key entry) Rejected
+  of_other t told other = ((λ y f. other (ap (λ (u : Terms). u.is_authority) (sym (told.1 y f.said)) ∙ f.of_authority)), λ m. told.2 (may_own m))
+
+  pub is_rejected : Tells {X = code.Terms} terms_of (AreTerms entry.options) (MayBeTerms entry.options) Rejected → Tells {X = code.Terms} terms_of (IsEntryFor authority key entry) (MayBeEntryFor key entry) Rejected
+  is_rejected told = ((λ y f. told.0 y f.said), λ m. told.1 (may_own m))
+
+  pub is_unclear : Tells {X = code.Terms} terms_of (AreTerms entry.options) (MayBeTerms entry.options) Unclear → Tells {X = code.Terms} terms_of (IsEntryFor authority key entry) (MayBeEntryFor key entry) Unclear
+  is_unclear told = ((λ y f. told.0 y f.said), inl (same, told.1))
+
+-- ---- a line
+
+module _ (authority : Bool) (key : Key) (line : List ℕ) where
+  -- what an entry says its line does
+  pub of_entry : EntriesDetermineValues IsAuthorizedLine → (entry : AuthorizedKey) → IsAuthorizedLine (before_zero line) entry → (r : Reading code.Terms) → Tells terms_of (IsEntryFor authority key entry) (MayBeEntryFor key entry) r → Tells terms_of (IsFor authority key line) (MayBeFor key line) r
+  of_entry one entry read = told_as terms_of (IsEntryFor authority key entry) (IsFor authority key line) (MayBeEntryFor key entry) (MayBeFor key line)
+      (λ t own. (entry, read, own))
+      (λ t own. subst (λ (e : AuthorizedKey). IsEntryFor authority key e t) (one (before_zero line) own.0 entry own.1 read) own.2)
+      (λ may. inl (entry, read, may))
+      (λ may. elim may [
+        | inl other ↦ subst (λ (e : AuthorizedKey). MayBeEntryFor key e) (one (before_zero line) other.0 entry other.1 read) other.2
+        | inr odd ↦ absurd (odd.no_entry entry read)
+      ])
+
+  pub of_entry_read : {E : Type 0} → EntriesDetermineValues IsAuthorizedLine → (entry : AuthorizedKey) → IsAuthorizedLine (before_zero line) entry → (r : Result (Reading code.Terms) E) → IfOk r (Tells terms_of (IsEntryFor authority key entry) (MayBeEntryFor key entry)) → IfOk r (Tells terms_of (IsFor authority key line) (MayBeFor key line))
+  of_entry_read one entry read (Ok r) told = of_entry one entry read r told
+  of_entry_read one entry read (Err e) told = tt
+
+  same_part : (entry : AuthorizedKey) → MayBeEntryFor key entry → own_part entry.key ≡ own_part key
+  same_part entry (inl own) = ap own_part own.0
+  same_part entry (inr other) = other.1
+
+  module _ (long : 17 ≤ length (own_part key)) (unmarked : MaySpell (own_part key) line → ⊥) where
+    no_mark : (entry : AuthorizedKey) → IsAuthorizedLine (before_zero line) entry → own_part entry.key ≡ own_part key → ⊥
+    no_mark entry read same = unmarked (spelled_before is_zero (own_part key) line (subst (λ (p : List ℕ). MaySpell p (before_zero line)) same (entry_spells (before_zero line) entry read (subst (λ (p : List ℕ). 17 ≤ length p) (sym same) long))))
+
+    pub not_marked : ((t : Terms) → IsFor authority key line t → ⊥) × (MayBeFor key line → ⊥)
+    not_marked = (
+      λ t own. no_mark own.0 own.1 (ap own_part own.2.own_key),
+      λ may. elim may [
+        | inl other ↦ no_mark other.0 other.1 (same_part other.0 other.2)
+        | inr odd ↦ unmarked (spelled_before is_zero (own_part key) line odd.spelled)
+      ],
+    )
+
+  -- a line of the key spells it
+  pub own_spells : 17 ≤ length (own_part key) → (t : Terms) → IsFor authority key line t → MaySpell (own_part key) line
+  own_spells long t own =
+      let same : own_part own.0.key ≡ own_part key = ap own_part own.2.own_key in
+      spelled_before is_zero (own_part key) line (subst (λ (p : List ℕ). MaySpell p (before_zero line)) same (entry_spells (before_zero line) own.0 own.1 (subst (λ (p : List ℕ). 17 ≤ length p) (sym same) long)))
+
+  pub a_comment : slice_index (without_blanks (before_zero line)) 0 ≡ hash_sign → ((t : Terms) → IsFor authority key line t → ⊥) × (MayBeFor key line → ⊥)
+  a_comment hash = (
+    λ t own. own.1.no_comment hash,
+    λ may. elim may [
+      | inl other ↦ other.1.no_comment hash
+      | inr odd ↦ odd.no_comment hash
+    ],
+  )
+
+  module _ (none : IsNoEntry IsAuthorizedLine (before_zero line)) where
+    pub no_terms : (t : Terms) → IsFor authority key line t → ⊥
+    no_terms t own = none own.0 own.1
+
+    pub not_odd : (MaySpell (own_part key) (before_zero line) → ⊥) → MayBeFor key line → ⊥
+    not_odd unspelled (inl other) = none other.0 other.1
+    not_odd unspelled (inr odd) = unspelled odd.spelled

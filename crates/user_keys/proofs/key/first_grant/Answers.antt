@@ -1,0 +1,134 @@
+use Rattle.std.proofs.Common.{◌≡◌, ◌∙◌, arith, List, ℕ, [], ◌∷◌, ◌++◌, ◌+◌, ap, append-nil, append_assoc, inl, inr, subst, sym}
+use Rattle.std.proofs.lemmas.List.{length-append}
+use Rattle.std.specs.List.{Any}
+use Rattle.std.specs.Str.Iter.{lines_rest}
+use Rattle.std.specs.Str.Lines.{lines}
+use Rattle.sshkey_entries.proofs.TextLines.{lines_first}
+use Rattle.login_terms.specs.Terms.{terms_of}
+use Rattle.user_keys.specs.Answers.{IsWhyNoLine, SaysOf}
+use Rattle.user_keys.specs.Spellings.{MaySpell, own_part}
+use Rattle.user_keys.specs.UserLogins.{Ends, GrantsFirst, login_of}
+use Rattle.user_keys.proofs.FirstLines.{RefusedBy, asked, granted, here, no_items, none_granted, none_more, nothing_granted, out_of_memory, passed, refused_also, strict, why}
+use Rattle.user_keys.proofs.key.first_grant.Goals as goal
+
+pub returns-in_err-terms-clause-exactly : goal.returns-in_err-terms-clause-exactly
+returns-in_err-terms-clause-exactly c = out_of_memory (GrantsFirst (login_of c.args.login.now)) c.from_residual.result c.from_residual.ensures.1
+
+pub returns-in_err-terms-clause-asks : goal.returns-in_err-terms-clause-asks
+returns-in_err-terms-clause-asks c =
+    let was = c.loop-text.invariant.2 in
+    let login = login_of c.args.login.now in
+    let step = c.in-Some.ensures.steps.0 in
+    let line = c.in-Some.text.now in
+    let left = lines_rest c.next.new.self in
+    let first = lines_first (lines_rest c.loop-text.text-iterator) line left step.0 step.2 in
+    let all = was.1 ∙ ap (λ (l : List (List ℕ)). was.0 ++ l) first in
+    let Spelled : List ℕ → Type 0 = MaySpell (own_part login.offered) in
+    asked login c.from_residual.result (subst (Any Spelled) (sym all) (here Spelled was.0 line (lines left) c.in_err-terms.ensures.asks))
+
+pub returns-in-Lets-clause-exactly : goal.returns-in-Lets-clause-exactly
+returns-in-Lets-clause-exactly c =
+    let was = c.loop-text.invariant.2 in
+    let login = login_of c.args.login.now in
+    let step = c.in-Some.ensures.steps.0 in
+    let line = c.in-Some.text.now in
+    let left = lines_rest c.next.new.self in
+    let first = lines_first (lines_rest c.loop-text.text-iterator) line left step.0 step.2 in
+    let all = was.1 ∙ ap (λ (l : List (List ℕ)). was.0 ++ l) first in
+    let says = subst (SaysOf login line) c.in-Lets.is c.in_ok-terms.ensures.answer in
+    granted login (record { line = c.loop-text.line + 1; terms = c.in-Lets.terms }) line (record { before = was.0; after = lines left; is = all; none = was.2; holds = inl (terms_of c.in-Lets.terms, says.0); counted = omega (arith, was.4) }) says
+
+pub returns-in-Lets-clause-as_strict : goal.returns-in-Lets-clause-as_strict
+returns-in-Lets-clause-as_strict c =
+    let was = c.loop-text.invariant.2 in
+    let login = login_of c.args.login.now in
+    let step = c.in-Some.ensures.steps.0 in
+    let line = c.in-Some.text.now in
+    let left = lines_rest c.next.new.self in
+    let first = lines_first (lines_rest c.loop-text.text-iterator) line left step.0 step.2 in
+    let all = was.1 ∙ ap (λ (l : List (List ℕ)). was.0 ++ l) first in
+    let says = subst (SaysOf login line) c.in-Lets.is c.in_ok-terms.ensures.answer in
+    strict login (record { line = c.loop-text.line + 1; terms = c.in-Lets.terms }) line (record { before = was.0; after = lines left; is = all; none = was.2; holds = inl (terms_of c.in-Lets.terms, says.0); counted = omega (arith, was.4) }) says
+
+pub returns-in-Unclear-clause-exactly : goal.returns-in-Unclear-clause-exactly
+returns-in-Unclear-clause-exactly c =
+    let was = c.loop-text.invariant.2 in
+    let login = login_of c.args.login.now in
+    let step = c.in-Some.ensures.steps.0 in
+    let line = c.in-Some.text.now in
+    let left = lines_rest c.next.new.self in
+    let first = lines_first (lines_rest c.loop-text.text-iterator) line left step.0 step.2 in
+    let all = was.1 ∙ ap (λ (l : List (List ℕ)). was.0 ++ l) first in
+    let says = subst (SaysOf login line) c.in-Unclear.is c.in_ok-terms.ensures.answer in
+    λ other. none_granted login (c.loop-text.line + 1) line (record { before = was.0; after = lines left; is = all; none = was.2; holds = inr says.0; counted = omega (arith, was.4) }) says.0
+
+pub returns-in-Unclear-clause-refused : goal.returns-in-Unclear-clause-refused
+returns-in-Unclear-clause-refused c =
+    let was = c.loop-text.invariant.2 in
+    let login = login_of c.args.login.now in
+    let step = c.in-Some.ensures.steps.0 in
+    let line = c.in-Some.text.now in
+    let left = lines_rest c.next.new.self in
+    let first = lines_first (lines_rest c.loop-text.text-iterator) line left step.0 step.2 in
+    let all = was.1 ∙ ap (λ (l : List (List ℕ)). was.0 ++ l) first in
+    let says = subst (SaysOf login line) c.in-Unclear.is c.in_ok-terms.ensures.answer in
+    λ other. (line, record { before = was.0; after = lines left; is = all; none = was.2; holds = inr says.0; counted = omega (arith, was.4) }, says.0)
+
+pub loop-text-preserved-in-Refuses : goal.loop-text-preserved-in-Refuses
+loop-text-preserved-in-Refuses c =
+    let was = c.loop-text.invariant.2 in
+    let login = login_of c.args.login.now in
+    let step = c.in-Some.ensures.steps.0 in
+    let line = c.in-Some.text.now in
+    let left = lines_rest c.next.new.self in
+    let first = lines_first (lines_rest c.loop-text.text-iterator) line left step.0 step.2 in
+    let all = was.1 ∙ ap (λ (l : List (List ℕ)). was.0 ++ l) first in
+    let says = subst (SaysOf login line) c.in-Refuses.is c.in_ok-terms.ensures.answer in
+    let also = refused_also login was.0 line (c.loop-text.line + 1) c.in-Refuses.reason c.loop-text.refused (omega (arith, was.4)) was.3 says.0 in (
+      tt,
+      tt,
+      (
+        was.0 ++ (line ∷ []),
+        all ∙ sym (append_assoc was.0 (line ∷ []) (lines left)),
+        none_more (Ends login) was.0 line was.2 says.1,
+        subst (RefusedBy login (was.0 ++ (line ∷ []))) (sym c.first_refused-refused.ensures) also,
+        omega (arith, was.4, length-append was.0 (line ∷ [])),
+        omega (arith, was.5, c.in-Some.ensures.goes.on tt),
+      ),
+    )
+
+pub loop-text-preserved : goal.loop-text-preserved
+loop-text-preserved c =
+    let was = c.loop-text.invariant.2 in
+    let login = login_of c.args.login.now in
+    let step = c.in-Some.ensures.steps.0 in
+    let line = c.in-Some.text.now in
+    let left = lines_rest c.next.new.self in
+    let first = lines_first (lines_rest c.loop-text.text-iterator) line left step.0 step.2 in
+    let all = was.1 ∙ ap (λ (l : List (List ℕ)). was.0 ++ l) first in
+    let says = subst (SaysOf login line) c.in-Passes.is c.in_ok-terms.ensures.answer in (
+      tt,
+      tt,
+      (
+        was.0 ++ (line ∷ []),
+        all ∙ sym (append_assoc was.0 (line ∷ []) (lines left)),
+        none_more (Ends login) was.0 line was.2 says.1,
+        passed login was.0 line c.loop-text.refused was.3 says.0,
+        omega (arith, was.4, length-append was.0 (line ∷ [])),
+        omega (arith, was.5, c.in-Some.ensures.goes.on tt),
+      ),
+    )
+
+pub returns-clause-exactly : goal.returns-clause-exactly
+returns-clause-exactly c =
+    let was = c.loop-text.invariant.2 in
+    let login = login_of c.args.login.now in
+    let all : login.lines ≡ was.0 = was.1 ∙ ap (λ (t : List ℕ). was.0 ++ lines t) (no_items (lines_rest c.loop-text.text-iterator) c.in-None.ensures.steps.0.0) ∙ append-nil was.0 in
+    λ other. nothing_granted login (λ some. was.2 (subst (Any (Ends login)) all some))
+
+pub returns-clause-refused : goal.returns-clause-refused
+returns-clause-refused c =
+    let was = c.loop-text.invariant.2 in
+    let login = login_of c.args.login.now in
+    let all : login.lines ≡ was.0 = was.1 ∙ ap (λ (t : List ℕ). was.0 ++ lines t) (no_items (lines_rest c.loop-text.text-iterator) c.in-None.ensures.steps.0.0) ∙ append-nil was.0 in
+    λ other. subst (IsWhyNoLine login) (sym c.refusal_for.ensures) (why login c.loop-text.refused (λ some. was.2 (subst (Any (Ends login)) all some)) (subst (λ (l : List (List ℕ)). RefusedBy login l c.loop-text.refused) (sym all) was.3))

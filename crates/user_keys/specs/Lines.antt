@@ -1,0 +1,47 @@
+-- Which key a line of authorized_keys is for, and on which terms (sshd(8), "AUTHORIZED_KEYS FILE
+-- FORMAT").
+use Rattle.std.specs.Prelude.{◌≡◌, ◌≢◌, ◌⊎◌, ℕ, List, Bool, ◌==◌, slice_index}
+use Rattle.std.specs.List.{before_first}
+use Rattle.sshkey_entries.specs.AuthorizedKeys.{AuthorizedKey}
+use Rattle.sshkey_entries.specs.Entries.{IsNoEntry, hash_sign}
+use Rattle.sshkey_entries.specs.Fields.{without_blanks}
+use Rattle.sshkey_entries.specs.OpenSshLines.{IsAuthorizedLine}
+use Rattle.sshkey_model.specs.Keys.{Key}
+use Rattle.login_terms.specs.Terms.{Terms}
+use Rattle.user_keys.specs.Options.{AreTerms, MayBeTerms}
+use Rattle.user_keys.specs.Spellings.{MaySpell, own_part}
+
+abbrev pub is_zero : ℕ → Bool
+is_zero c = c == 0
+
+-- the line up to its first zero byte, where sshd takes it to end
+abbrev pub before_zero : List ℕ → List ℕ
+before_zero line = before_first is_zero line
+
+-- ---- entries
+
+-- The entry is of the key, as that of an authority or of none, on those terms.
+pub record IsEntryFor (authority : Bool) (key : Key) (entry : AuthorizedKey) (t : Terms) : Type 0 where
+  pub own_key : entry.key ≡ key
+  pub said : AreTerms entry.options t
+  pub of_authority : t.is_authority ≡ authority
+
+-- sshd may take it for one of the key: it is, with options that sshd may read; or it is of another with
+-- the same part, since sshd takes an application to end at a zero byte.
+abbrev pub MayBeEntryFor : Key → AuthorizedKey → Type 0
+MayBeEntryFor key entry = ((entry.key ≡ key) × MayBeTerms entry.options) ⊎ ((entry.key ≢ key) × (own_part entry.key ≡ own_part key))
+
+-- ---- lines
+
+abbrev pub IsFor : Bool → Key → List ℕ → Terms → Type 0
+IsFor authority key line t = (entry : AuthorizedKey) × IsAuthorizedLine (before_zero line) entry × IsEntryFor authority key entry t
+
+-- It is no entry, nor a comment, and the key may be spelled in it.
+pub record IsOddlySpelled (key : Key) (line : List ℕ) : Type 0 where
+  pub no_comment : slice_index (without_blanks (before_zero line)) 0 ≢ hash_sign
+  pub no_entry : IsNoEntry IsAuthorizedLine (before_zero line)
+  pub spelled : MaySpell (own_part key) (before_zero line)
+
+-- sshd may take the line for one of the key.
+abbrev pub MayBeFor : Key → List ℕ → Type 0
+MayBeFor key line = ((entry : AuthorizedKey) × IsAuthorizedLine (before_zero line) entry × MayBeEntryFor key entry) ⊎ IsOddlySpelled key line

@@ -1,0 +1,65 @@
+-- In which lines of authorized_keys a key may be spelled for sshd(8). It passes over white space
+-- within Base64, and reads needless zeros and other names in front of a key, or did so.
+use Rattle.std.specs.Prelude.{◌≡◌, ◌⊎◌, ℕ, ◌+◌, ◌-◌, ◌<◌, List, [], ◌∷◌, Bool, ◌||◌, ◌==◌, drop, length, slice_index, slice_range, Option, Some, None}
+use Rattle.base64.specs.Engines.{standard}
+use Rattle.base64.specs.GeneralPurpose.{encode_of}
+use Rattle.sshkey_entries.specs.Fronts.{without_front}
+use Rattle.user_keys.specs.declared.marks.Marks.{Marks}
+use Rattle.sshkey_model.specs.Keys.{Key, Dsa, Ecdsa, Ed25519, Rsa, SkEcdsa, SkEd25519, Opaque}
+use denote.Ref.{Bor}
+
+-- ---- the part of a key that no other has
+
+-- its point, or its last number
+abbrev pub own_part : Key → List ℕ
+own_part (Dsa k) = k.y
+own_part (Ecdsa c point) = point
+own_part (Ed25519 k) = k
+own_part (Rsa k) = k.n
+own_part (SkEcdsa k) = k.key
+own_part (SkEd25519 k) = k.key
+own_part (Opaque name k) = k
+
+-- The Base64 of 15 of its last 17 bytes, behind which so many stand. One of three such texts stands in
+-- the Base64 of any bytes that have these 17, wherever they stand in them.
+abbrev pub mark : List ℕ → ℕ → List ℕ
+mark part behind = encode_of standard (slice_range part (length part - (15 + behind)) (length part - behind))
+
+-- ---- where it stands
+
+-- a vertical tab, a form feed or a carriage return: white space that ends no word
+abbrev pub is_white : ℕ → Bool
+is_white c = c == 0x0b || c == 0x0c || c == 0x0d
+
+-- The symbols come first in the text, white space before each aside.
+abbrev pub Follow : List ℕ → List ℕ → Type 0
+Follow [] text = Unit {0}
+Follow (symbol ∷ symbols) text = (rest : List ℕ) × (without_front is_white text ≡ symbol ∷ rest) × Follow symbols rest
+
+-- They stand in the text from that place on, white space between them aside.
+abbrev pub StandAt : List ℕ → List ℕ → ℕ → Type 0
+StandAt [] text place = ⊥
+StandAt (symbol ∷ symbols) text place = (slice_index text place ≡ symbol) × Follow symbols (drop (place + 1) text)
+
+abbrev pub StandIn : List ℕ → List ℕ → Type 0
+StandIn symbols text = (place : ℕ) × (place < length text) × StandAt symbols text place
+
+-- A key with that part may be spelled in the line.
+abbrev pub MaySpell : List ℕ → List ℕ → Type 0
+MaySpell part line = StandIn (mark part 2) line ⊎ StandIn (mark part 1) line ⊎ StandIn (mark part 0) line
+
+-- ---- the marks of a key
+
+abbrev pub AreMarks : List ℕ → Marks → Type 0
+AreMarks part m = (m.first.symbols ≡ mark part 2) × (m.second.symbols ≡ mark part 1) × (m.third.symbols ≡ mark part 0)
+
+abbrev pub HasMark : Marks → List ℕ → Type 0
+HasMark m text = StandIn m.first.symbols text ⊎ StandIn m.second.symbols text ⊎ StandIn m.third.symbols text
+
+abbrev pub HasMarkAt : Marks → List ℕ → ℕ → Type 0
+HasMarkAt m text place = StandAt m.first.symbols text place ⊎ StandAt m.second.symbols text place ⊎ StandAt m.third.symbols text place
+
+-- What follows the symbol, if it comes first.
+abbrev pub FindsBehind : List ℕ → ℕ → Option (Bor (List ℕ)) → Type 0
+FindsBehind text symbol None = (rest : List ℕ) → without_front is_white text ≡ symbol ∷ rest → ⊥
+FindsBehind text symbol (Some rest) = without_front is_white text ≡ symbol ∷ rest.now

@@ -1,0 +1,103 @@
+-- Who may log in by a text of authorized_keys, and what the login is bound to (sshd(8),
+-- "AUTHORIZED_KEYS FILE FORMAT"): by the first line that is for the key and allows the place and the
+-- time, whatever later lines say, and on the terms of that line.
+use Rattle.std.specs.Prelude.{◌≡◌, ◌⊎◌, ◌+◌, ℕ, List, ◌∷◌, ◌++◌, Bool, false, IsTrue, Option, Some, IsSome, length}
+use Rattle.std.specs.List.{Any}
+use Rattle.std.specs.Str.Lines.{lines}
+use Rattle.std.specs.declared.net.ip_addr.IpAddr.{IpAddr}
+use Rattle.openssh_limits.specs.Keys.{is_let_in}
+use Rattle.sshkey_keys.specs.Keys.{key_of}
+use Rattle.sshkey_krl.specs.Revocations.{is_key_revoked}
+use Rattle.sshkey_model.specs.Keys.{Key}
+use Rattle.login_terms.specs.Terms.{Terms, terms_of}
+use Rattle.user_keys.specs.Judgements.{Judges}
+use Rattle.user_keys.specs.Lines.{IsFor, MayBeFor}
+use Rattle.user_keys.specs.declared.answer.Judgement.TheVariants.{Allows, Refuses as Refuses, Unclear}
+use Rattle.user_keys.specs.declared.grant.Grant.{Grant}
+use Rattle.user_keys.specs.declared.login.UserLogin as code
+use Rattle.user_keys.specs.declared.refusal.Reason.{Reason}
+use denote.Ref.{Bor}
+
+-- A login that is asked for, and what is known of it.
+pub record UserLogin : Type 0 where
+  pub lines : List (List ℕ)
+  pub offered : Key
+  pub client : Option IpAddr
+  pub host : Option (Bor (List ℕ))
+  pub time : ℕ
+  pub least_rsa_bits : ℕ
+
+-- that of a call
+abbrev pub login_of : code.UserLogin → UserLogin
+login_of l = record { lines = lines l.text.now; offered = key_of l.offered.now; client = l.client; host = l.host; time = l.unix_timestamp; least_rsa_bits = l.least_rsa_bits }
+
+-- ---- a line
+
+-- The line lets the key in on those terms.
+pub record Lets (login : UserLogin) (line : List ℕ) (t : Terms) : Type 0 where
+  pub own : IsFor false login.offered line t
+  pub allowed : Judges t login.time login.client login.host Allows
+
+-- It is for the key, and refuses it for that.
+pub record RefusesFor (login : UserLogin) (line : List ℕ) (r : Reason) : Type 0 where
+  pub terms : Terms
+  pub own : IsFor false login.offered line terms
+  pub refused : Judges terms login.time login.client login.host (Refuses r)
+
+-- It is for the key, and may allow the place and the time.
+pub record MayAllow (login : UserLogin) (line : List ℕ) : Type 0 where
+  pub terms : Terms
+  pub own : IsFor false login.offered line terms
+  pub may : Judges terms login.time login.client login.host Unclear
+
+-- sshd may let the key in by it, on terms that cannot be told.
+abbrev pub MayLet : UserLogin → List ℕ → Type 0
+MayLet login line = MayBeFor login.offered line ⊎ MayAllow login line
+
+-- It lets the key in or may do so: no line behind such a one is asked.
+abbrev pub Ends : UserLogin → List ℕ → Type 0
+Ends login line = ((t : Terms) × Lets login line t) ⊎ MayLet login line
+
+abbrev pub IsListedBy : UserLogin → List ℕ → Type 0
+IsListedBy login line = (t : Terms) × IsFor false login.offered line t
+
+-- ---- all lines
+
+-- It is the first line of which that holds, and the number is its own, from 1.
+pub record IsFirst (Holds : List ℕ → Type 0) (all : List (List ℕ)) (line : List ℕ) (number : ℕ) : Type 0 where
+  pub before : List (List ℕ)
+  pub after : List (List ℕ)
+  pub is : all ≡ before ++ (line ∷ after)
+  pub none : ¬ Any Holds before
+  pub holds : Holds line
+  pub counted : number ≡ length before + 1
+
+-- The first line that lets the key in or may do so lets it in for sure, and on the grant's terms.
+pub record GrantsFirst (login : UserLogin) (g : Grant) : Type 0 where
+  pub line : List ℕ
+  pub first : IsFirst (Ends login) login.lines line g.line
+  pub lets : Lets login line (terms_of g.terms)
+  pub told : ¬ MayLet login line
+
+-- Who holds the key is let in, and the login is bound to what the grant says.
+pub record Admits (login : UserLogin) (revokes_key : List ℕ → Bool) (g : Grant) : Type 0 where
+  pub accepted : IsTrue (is_let_in login.least_rsa_bits login.offered)
+  pub unrevoked : is_key_revoked revokes_key login.offered ≡ false
+  pub granted : GrantsFirst login g
+
+-- ---- sshd, of whatever version and on whatever machine
+
+-- It takes a line for one by which the key is let in on some terms, or passes over it. It does so
+-- where that is told here, and else only where it may.
+pub record TakesAsTold (login : UserLogin) (takes : List ℕ → Option Terms) : Type 0 where
+  pub told : (line : List ℕ) (t : Terms) → Lets login line t → takes line ≡ Some t
+  pub only : (line : List ℕ) (t : Terms) → takes line ≡ Some t → Lets login line t ⊎ MayLet login line
+
+-- The first line that it takes is that of the grant, and it takes that on the grant's terms.
+pub record TakesFirst (login : UserLogin) (takes : List ℕ → Option Terms) (g : Grant) : Type 0 where
+  pub line : List ℕ
+  pub first : IsFirst (λ l. IsSome (takes l)) login.lines line g.line
+  pub terms : takes line ≡ Some (terms_of g.terms)
+
+abbrev pub IsAsStrict : UserLogin → Grant → Type 0
+IsAsStrict login g = (takes : List ℕ → Option Terms) → TakesAsTold login takes → TakesFirst login takes g

@@ -1,0 +1,166 @@
+//! A line of authorized_keys.
+
+ghost use Rattle.std.specs.Prelude.{◌≡◌, ◌↔◌, ◌≤◌, IfErr, IfOk, IsTrue, length, slice_index};
+ghost use Rattle.sshkey_authorized_keys.specs.OpenSshEntries.{openssh_entry_of};
+ghost use Rattle.sshkey_entries.specs.Entries.{hash_sign};
+ghost use Rattle.sshkey_entries.specs.Fields.{without_blanks};
+ghost use Rattle.sshkey_keys.specs.Keys.{key_of};
+ghost use Rattle.sshkey_model.specs.Keys.{IsKey};
+ghost use Rattle.login_terms.specs.Readings.{Tells};
+ghost use Rattle.login_terms.specs.Terms.{terms_of};
+ghost use Rattle.user_keys.specs.Judgements.{Judges, NamesInVain, joined};
+ghost use Rattle.user_keys.specs.Lines.{IsEntryFor, IsFor, MayBeEntryFor, MayBeFor, before_zero};
+ghost use Rattle.user_keys.specs.Spellings.{AreMarks, MaySpell, own_part};
+
+use crate::answer::{Answer, Judgement};
+use crate::login::UserLogin;
+use crate::marks::{Marks, own_part};
+use crate::options::read_terms;
+use crate::place::lets_from;
+use crate::refusal::Reason;
+use crate::time::counts_at;
+use login_terms::{Reading, Terms};
+use sshkey_authorized_keys::{Entry, OpenSshEntry};
+use sshkey_entries::laws::one_authorized_line;
+use sshkey_entries::skip_blanks;
+use sshkey_keys::KeyData;
+use sshkey_keys::laws::compared_keys;
+use std::alloc::{AllocError, Global};
+
+/// What a line says that is for the key: as that of an authority, or of none. `Rejected` where it is
+/// for others or for nobody, and `Unclear` where sshd(8) may take it for one of the key. The marks
+/// are those of the key. Asks for no memory where none of them stands in the line.
+pub(crate) fn terms_for(
+    alloc: Global,
+    line: &str,
+    key: &KeyData,
+    marks: &Marks,
+    is_authority: bool,
+) -> Result<Reading<Terms>, AllocError>
+    requires part { 17 ≤ length (own_part (key_of key.now)) }
+    requires marks { AreMarks (own_part (key_of key.now)) marks.now }
+    ensures answer { IfOk result (Tells terms_of (IsFor is_authority (key_of key.now) line.now)
+        (MayBeFor (key_of key.now) line.now)) }
+    ensures asks { IfErr result (λ _. MaySpell (own_part (key_of key.now)) line.now) }
+{
+    if !marks.stand_in(line.as_bytes()) {
+        return Ok(Reading::Rejected);
+    }
+    let line = before_zero(line);
+    if is_comment(line) {
+        return Ok(Reading::Rejected);
+    }
+    one_authorized_line();
+    match Entry::from_line_openssh(alloc, line) {
+        Ok(entry) => terms_of_entry(alloc, &entry, key, is_authority),
+        Err(error) => {
+            if error.is_memory() {
+                return Err(AllocError);
+            }
+            if marks.stand_in(line.as_bytes()) {
+                return Ok(Reading::Unclear);
+            }
+            Ok(Reading::Rejected)
+        }
+    }
+}
+
+/// The text up to its first byte 0, where sshd(8) takes a line to end.
+pub(crate) fn before_zero(text: &str) -> &str
+    ensures { result.now ≡ before_zero text.now }
+{
+    match text.split_once('\0') {
+        Some((front, _)) => front,
+        None => text,
+    }
+}
+
+fn is_comment(line: &str) -> bool
+    ensures { IsTrue result ↔ (slice_index (without_blanks line.now) 0 ≡ hash_sign) }
+{
+    skip_blanks(line).starts_with('#')
+}
+
+/// What an entry says that is for the key.
+fn terms_of_entry(
+    alloc: Global,
+    entry: &OpenSshEntry,
+    key: &KeyData,
+    is_authority: bool,
+) -> Result<Reading<Terms>, AllocError>
+    requires { IsKey (openssh_entry_of entry.now).key }
+    ensures { IfOk result (Tells terms_of
+        (IsEntryFor is_authority (key_of key.now) (openssh_entry_of entry.now))
+        (MayBeEntryFor (key_of key.now) (openssh_entry_of entry.now))) }
+{
+    let listed = entry.public_key().key_data();
+    if !is_same(listed, key) {
+        return Ok(other_terms(listed, key));
+    }
+    match read_terms(alloc, entry.options().as_str())? {
+        Reading::Is(terms) => {
+            if terms.is_authority != is_authority {
+                return Ok(Reading::Rejected);
+            }
+            Ok(Reading::Is(terms))
+        }
+        Reading::Rejected => Ok(Reading::Rejected),
+        Reading::Unclear => Ok(Reading::Unclear),
+    }
+}
+
+/// Whether a key, which is well-formed, is the same as another.
+fn is_same(key: &KeyData, other: &KeyData) -> bool
+    requires { IsKey (key_of key.now) }
+    ensures { IsTrue result ↔ (key_of key.now ≡ key_of other.now) }
+{
+    compared_keys();
+    key == other
+}
+
+/// What an entry of another key says: sshd(8) may take it for one of the key where both have the
+/// same part.
+fn other_terms(listed: &KeyData, key: &KeyData) -> Reading<Terms>
+    ensures { Tells terms_of (λ _. ⊥)
+        (own_part (key_of listed.now) ≡ own_part (key_of key.now)) result }
+{
+    if own_part(listed) == own_part(key) {
+        return Reading::Unclear;
+    }
+    Reading::Rejected
+}
+
+/// What a line that says this says of the login.
+pub(crate) fn judge(
+    alloc: Global,
+    terms: &Terms,
+    login: &UserLogin,
+) -> Result<Judgement, AllocError>
+    ensures { IfOk result (Judges (terms_of terms.now) login.now.unix_timestamp login.now.client
+        login.now.host) }
+{
+    let in_time = counts_at(terms.expires, login.unix_timestamp);
+    let in_place = lets_from(alloc, &terms.from, login.client, login.host)?;
+    Ok(joined(in_time, names_in_vain(terms), in_place))
+}
+
+/// Whether principals are named for a key that is no authority's.
+fn names_in_vain(terms: &Terms) -> bool
+    ensures { IsTrue result ↔ NamesInVain (terms_of terms.now) }
+{
+    !terms.is_authority && terms.principals.is_some()
+}
+
+/// What follows from whether the line counts at the time, whether it names principals in vain, and
+/// whether it is for the place.
+fn joined(in_time: Answer, in_vain: bool, in_place: Answer) -> Judgement
+    ensures { result ≡ joined in_time in_vain in_place }
+{
+    match (in_time, in_vain, in_place) {
+        (Answer::No, _, _) => Judgement::Refuses(Reason::Expired),
+        (_, true, _) => Judgement::Refuses(Reason::Authority),
+        (_, false, Answer::No) => Judgement::Refuses(Reason::Elsewhere),
+        (Answer::Yes, false, Answer::Yes) => Judgement::Allows,
+        (Answer::Unclear, false, _) | (_, false, Answer::Unclear) => Judgement::Unclear,
+    }
+}

@@ -1,0 +1,25 @@
+//! What is known of a login that is asked for.
+
+use sshkey_keys::KeyData;
+use std::net::IpAddr;
+
+/// A login that is asked for, and what is known of it.
+#[derive(Debug, Clone, Copy)]
+pub struct UserLogin<'a> {
+    /// The text of authorized_keys, of one file: ask about one file after the other, as long as the
+    /// answer is `NotListed` or `NotAllowed`.
+    pub text: &'a str,
+    /// The key under which the client has signed.
+    pub offered: &'a KeyData,
+    /// The address of the client's socket, and no header of a proxy's. `None` if it has none: what
+    /// `from` says then cannot be told.
+    pub client: Option<IpAddr>,
+    /// The name that was found for that address (sshd_config(5), `UseDNS`). With `None` the address
+    /// stands for it, as in sshd(8) by its defaults.
+    pub host: Option<&'a str>,
+    /// The time, in seconds since 1970.
+    pub unix_timestamp: u64,
+    /// How many bits an RSA key has at least, as `RequiredRSASize` in sshd_config(5). Below 1,024,
+    /// as 0, it is 1,024, which is sshd's own.
+    pub least_rsa_bits: u32,
+}

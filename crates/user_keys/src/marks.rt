@@ -1,0 +1,147 @@
+//! What stands in each line that may spell a key.
+
+ghost use Rattle.std.specs.Prelude.{◌≡◌, ◌↔◌, ◌<◌, ◌≤◌, IsTrue, length, not, position};
+ghost use Rattle.base64.specs.Engines.{standard};
+ghost use Rattle.base64.specs.GeneralPurpose.{encode_of};
+ghost use Rattle.sshkey_entries.specs.Fronts.{without_front};
+ghost use Rattle.sshkey_keys.specs.Keys.{key_of};
+ghost use Rattle.user_keys.specs.Spellings.{AreMarks, FindsBehind, Follow, HasMark, HasMarkAt, StandAt, is_white, own_part};
+
+use base64::engine::general_purpose::STANDARD;
+use sshkey_keys::KeyData;
+
+/// How many symbols of Base64 a mark has.
+const SYMBOLS: usize = 20;
+
+/// The part of a key that no other has: its point, or its last number.
+pub(crate) fn own_part(key: &KeyData) -> &[u8]
+    ensures { result.now ≡ own_part (key_of key.now) }
+{
+    match key {
+        KeyData::Dsa(key) => key.y.as_bytes(),
+        KeyData::Ecdsa(key) => key.as_sec1_bytes(),
+        KeyData::Ed25519(key) => &key.0,
+        KeyData::Rsa(key) => key.n.as_bytes(),
+        KeyData::SkEcdsaSha2NistP256(key) => key.ec_point().as_bytes(),
+        KeyData::SkEd25519(key) => &key.public_key().0,
+        KeyData::Other(key) => key.key.as_bytes(),
+    }
+}
+
+/// Whether sshd(8) passes over the byte in Base64. Spaces and tabs end a word.
+fn is_white(byte: u8) -> bool
+    ensures { result ≡ is_white byte }
+{
+    byte == 0x0b || byte == 0x0c || byte == 0x0d
+}
+
+fn first_other(text: &[u8]) -> Option<usize>
+    ensures { result ≡ position (λ c. not (is_white c)) text.now }
+{
+    text.iter().position(|byte| !is_white(*byte))
+}
+
+fn skip_white(text: &[u8]) -> &[u8]
+    ensures { result.now ≡ without_front is_white text.now }
+{
+    match first_other(text) {
+        Some(start) => &text[start..],
+        None => &[],
+    }
+}
+
+/// What follows the symbol, if it comes first, white space before it aside.
+fn behind_symbol(text: &[u8], symbol: u8) -> Option<&[u8]>
+    ensures { FindsBehind text.now symbol result }
+{
+    match skip_white(text) {
+        [first, rest @ ..] if *first == symbol => Some(rest),
+        _ => None,
+    }
+}
+
+/// Whether the symbols come first, white space before each aside.
+fn follow(text: &[u8], symbols: &[u8]) -> bool
+    ensures { IsTrue result ↔ Follow symbols.now text.now }
+{
+    let mut rest = text;
+    for symbol in symbols {
+        let Some(behind) = behind_symbol(rest, *symbol) else {
+            return false;
+        };
+        rest = behind;
+    }
+    true
+}
+
+/// Symbols of Base64 that stand in a line one after the other, white space between them aside.
+#[derive(Clone, Copy)]
+struct Mark {
+    symbols: [u8; SYMBOLS],
+}
+
+impl Mark {
+    /// The Base64 of 15 bytes.
+    fn of(bytes: &[u8]) -> Mark
+        requires { length bytes.now ≡ 15 }
+        ensures { result.symbols ≡ encode_of standard bytes.now }
+    {
+        let mut symbols = [0; SYMBOLS];
+        let _count = STANDARD.encode_slice(bytes, &mut symbols);
+        Mark { symbols }
+    }
+
+    /// Whether it stands in the text from that place on.
+    fn stands_at(&self, text: &[u8], place: usize) -> bool
+        requires { place < length text.now }
+        ensures { IsTrue result ↔ StandAt self.now.symbols text.now place }
+    {
+        text[place] == self.symbols[0] && follow(&text[place + 1..], &self.symbols[1..])
+    }
+}
+
+/// The marks of a key, one of which stands in each line that spells it for sshd(8), whatever stands
+/// before its own part. Each is the Base64 of 15 of the part's last 17 bytes.
+#[derive(Clone, Copy)]
+pub(crate) struct Marks {
+    first: Mark,
+    second: Mark,
+    third: Mark,
+}
+
+impl Marks {
+    /// The marks of a key.
+    pub(crate) fn of(key: &KeyData) -> Marks
+        requires { 17 ≤ length (own_part (key_of key.now)) }
+        ensures { AreMarks (own_part (key_of key.now)) result }
+    {
+        let part = own_part(key);
+        let end = part.len();
+        Marks {
+            first: Mark::of(&part[end - 17..end - 2]),
+            second: Mark::of(&part[end - 16..end - 1]),
+            third: Mark::of(&part[end - 15..end]),
+        }
+    }
+
+    /// Whether one of the marks stands in the text. Does not allocate.
+    pub(crate) fn stand_in(&self, text: &[u8]) -> bool
+        ensures { IsTrue result ↔ HasMark self.now text.now }
+    {
+        for place in 0..text.len() {
+            if self.stand_at(text, place) {
+                return true;
+            }
+        }
+        false
+    }
+
+    fn stand_at(&self, text: &[u8], place: usize) -> bool
+        requires { place < length text.now }
+        ensures { IsTrue result ↔ HasMarkAt self.now text.now place }
+    {
+        self.first.stands_at(text, place)
+            || self.second.stands_at(text, place)
+            || self.third.stands_at(text, place)
+    }
+}
