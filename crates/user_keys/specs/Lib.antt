@@ -4,3 +4,5 @@ pub mod Judgements
 pub mod Lines
 pub mod UserLogins
 pub mod Answers
+pub mod Computed
+pub mod Examples

@@ -6,6 +6,7 @@
 #![tactic(auto)]
 
 mod answer;
+pub mod examples;
 mod grant;
 mod key;
 mod line;

@@ -1,0 +1,40 @@
+-- Worked examples, on both sides of each edge.
+use Rattle.std.specs.Prelude.{◌≡◌, ℕ, List, [], ◌∷◌, ◌++◌, true, false, None, Some, codes}
+use Rattle.sshkey_model.specs.HexText.{hex}
+use Rattle.sshkey_times.specs.declared.times.Span.{Span}
+use Rattle.user_keys.specs.Judgements.{CountsAt, joined}
+use Rattle.user_keys.specs.Spellings.{Follow, mark}
+use Rattle.user_keys.specs.declared.answer.Answer.TheVariants.{Yes, No, Unclear}
+use Rattle.user_keys.specs.declared.answer.Judgement.TheVariants as judgement
+use Rattle.user_keys.specs.declared.refusal.Reason.TheVariants as reason
+
+abbrev until : Span
+until = record { first = 10; last = 20 }
+
+-- A line counts through its last second. Between the first and the last that it may be nothing can
+-- be told.
+abbrev pub Times : Type 0
+Times = CountsAt None 5 Yes × CountsAt (Some until) 10 Yes × CountsAt (Some until) 11 Unclear × CountsAt (Some until) 20 Unclear × CountsAt (Some until) 21 No
+
+-- What is told refuses, whatever cannot be told.
+abbrev pub Together : Type 0
+Together = (joined Yes false Yes ≡ judgement.Allows)
+    × (joined No true No ≡ judgement.Refuses reason.Expired)
+    × (joined Unclear true No ≡ judgement.Refuses reason.Authority)
+    × (joined Unclear false No ≡ judgement.Refuses reason.Elsewhere)
+    × (joined Unclear false Yes ≡ judgement.Unclear)
+    × (joined Yes false Unclear ≡ judgement.Unclear)
+
+-- an Ed25519 key
+abbrev part : List ℕ
+part = hex "b33eaef37ea2df7caa010defdea34e241f65f1b529a4f43ed14327f5c54aab62"
+
+-- One of its marks stands in its Base64 behind the name `ssh-ed25519`, and another behind the short name
+-- `ED25519`.
+abbrev pub Marks : Type 0
+Marks = (codes "AAAAC3NzaC1lZDI1NTE5AAAAILM+rvN+ot98qgEN796jTiQfZfG1KaT0PtFDJ/XFSqti" ≡ codes "AAAAC3NzaC1lZDI1NTE5AAAAILM+rvN+ot98qgEN796jTiQf" ++ mark part 0)
+    × (codes "AAAAB0VEMjU1MTkAAAAgsz6u836i33yqAQ3v3qNOJB9l8bUppPQ+0UMn9cVKq2I=" ≡ codes "AAAAB0VEMjU1MTkAAAAgsz6u836i33yqAQ3v3qNO" ++ mark part 2 ++ codes "q2I=")
+
+-- A carriage return may stand between symbols, and a space may not.
+abbrev pub White : Type 0
+White = Follow (codes "ab") (codes "a" ++ (0x0d ∷ codes "bc")) × ¬ Follow (codes "ab") (codes "a bc")
