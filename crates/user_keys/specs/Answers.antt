@@ -38,8 +38,8 @@ abbrev pub GrantsExactly : (Grant → Type 0) → Result Grant Refusal → Type 
 GrantsExactly Holds (Ok g) = Holds g
 GrantsExactly Holds (Err r) = r ≢ refusal.Memory → (g : Grant) → Holds g → ⊥
 
--- Of the lines none lets the key in or may do so, and none is for it, or the first that is refuses it
--- for that; or one may let it in, before any that does.
+-- Of the lines none lets the key in or may do so, and none is for it, or the first that is refuses
+-- it for that; or one may let it in, before any that does.
 abbrev pub IsWhyNoLine : UserLogin → Refusal → Type 0
 IsWhyNoLine login refusal.NotListed = ¬ Any (Ends login) login.lines × ¬ Any (IsListedBy login) login.lines
 IsWhyNoLine login (refusal.NotAllowed n reason) = ¬ Any (Ends login) login.lines × ((line : List ℕ) × IsFirst (IsListedBy login) login.lines line n × RefusesFor login line reason)
@@ -48,7 +48,8 @@ IsWhyNoLine login refusal.UnacceptedKey = ⊥
 IsWhyNoLine login refusal.Revoked = ⊥
 IsWhyNoLine login refusal.Memory = ⊥
 
--- sshd does not accept the key; or it does, and the key is revoked, or is not, and the lines refuse it.
+-- sshd does not accept the key; or it does, and the key is revoked, or is not, and the lines refuse
+-- it.
 abbrev pub IsWhyNoKey : UserLogin → (List ℕ → Bool) → Refusal → Type 0
 IsWhyNoKey login revokes_key r = ((is_let_in login.least_rsa_bits login.offered ≡ false) × (r ≡ refusal.UnacceptedKey))
     ⊎ (IsTrue (is_let_in login.least_rsa_bits login.offered) × (is_key_revoked revokes_key login.offered ≡ true) × (r ≡ refusal.Revoked))

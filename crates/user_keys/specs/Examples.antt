@@ -29,8 +29,8 @@ Together = (joined Yes false Yes ≡ judgement.Allows)
 abbrev part : List ℕ
 part = hex "b33eaef37ea2df7caa010defdea34e241f65f1b529a4f43ed14327f5c54aab62"
 
--- One of its marks stands in its Base64 behind the name `ssh-ed25519`, and another behind the short name
--- `ED25519`.
+-- One of its marks stands in its Base64 behind the name `ssh-ed25519`, and another behind the short
+-- name `ED25519`.
 abbrev pub Marks : Type 0
 Marks = (codes "AAAAC3NzaC1lZDI1NTE5AAAAILM+rvN+ot98qgEN796jTiQfZfG1KaT0PtFDJ/XFSqti" ≡ codes "AAAAC3NzaC1lZDI1NTE5AAAAILM+rvN+ot98qgEN796jTiQf" ++ mark part 0)
     × (codes "AAAAB0VEMjU1MTkAAAAgsz6u836i33yqAQ3v3qNOJB9l8bUppPQ+0UMn9cVKq2I=" ≡ codes "AAAAB0VEMjU1MTkAAAAgsz6u836i33yqAQ3v3qNO" ++ mark part 2 ++ codes "q2I=")

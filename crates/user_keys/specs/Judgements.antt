@@ -30,7 +30,8 @@ CountsAt (Some last) time Unclear = (last.first < time) × (time ≤ last.last)
 
 -- ---- the place
 
--- The list decides that of a client at the address, as sshd sees it, whose host has that name or none.
+-- The list decides that of a client at the address, as sshd sees it, whose host has that name or
+-- none.
 abbrev pub Decides : List ℕ → Option (Bor (List ℕ)) → IpAddr → Result Bool FromFault → Type 0
 Decides list host address r = (seen : IpAddr) × IsSeenAs address seen × DecidesFrom list host (ip_text seen) r
 

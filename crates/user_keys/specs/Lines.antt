@@ -26,8 +26,8 @@ pub record IsEntryFor (authority : Bool) (key : Key) (entry : AuthorizedKey) (t 
   pub said : AreTerms entry.options t
   pub of_authority : t.is_authority ≡ authority
 
--- sshd may take it for one of the key: it is, with options that sshd may read; or it is of another with
--- the same part, since sshd takes an application to end at a zero byte.
+-- sshd may take it for one of the key: it is, with options that sshd may read; or it is of another
+-- with the same part, since sshd takes an application to end at a zero byte.
 abbrev pub MayBeEntryFor : Key → AuthorizedKey → Type 0
 MayBeEntryFor key entry = ((entry.key ≡ key) × MayBeTerms entry.options) ⊎ ((entry.key ≢ key) × (own_part entry.key ≡ own_part key))
 

@@ -20,8 +20,8 @@ own_part (SkEcdsa k) = k.key
 own_part (SkEd25519 k) = k.key
 own_part (Opaque name k) = k
 
--- The Base64 of 15 of its last 17 bytes, behind which so many stand. One of three such texts stands in
--- the Base64 of any bytes that have these 17, wherever they stand in them.
+-- The Base64 of 15 of its last 17 bytes, behind which so many stand. One of three such texts stands
+-- in the Base64 of any bytes that have these 17, wherever they stand in them.
 abbrev pub mark : List ℕ → ℕ → List ℕ
 mark part behind = encode_of standard (slice_range part (length part - (15 + behind)) (length part - behind))
 

@@ -1,6 +1,6 @@
 -- Who may log in by a text of authorized_keys, and what the login is bound to (sshd(8),
--- "AUTHORIZED_KEYS FILE FORMAT"): by the first line that is for the key and allows the place and the
--- time, whatever later lines say, and on the terms of that line.
+-- "AUTHORIZED_KEYS FILE FORMAT"): by the first line that is for the key and allows the place and
+-- the time, whatever later lines say, and on the terms of that line.
 use Rattle.std.specs.Prelude.{◌≡◌, ◌⊎◌, ◌+◌, ℕ, List, ◌∷◌, ◌++◌, Bool, false, IsTrue, Option, Some, IsSome, length}
 use Rattle.std.specs.List.{Any}
 use Rattle.std.specs.Str.Lines.{lines}

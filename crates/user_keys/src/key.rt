@@ -38,10 +38,10 @@ use std::alloc::{AllocError, Global};
 /// So whatever sshd makes of what cannot be told here, it lets the key in by the line of the grant,
 /// and on its terms.
 ///
-/// A time without `Z` cannot be told from 14 hours before the same time of UTC to 13 hours after it.
-/// Where `from` has a fault (`sshkey_addresses::FromFault`), its line cannot be told. A line may be
-/// for the key, though it is no entry of it, where the key may be spelled in it: white space within
-/// its Base64, or other names and needless zeros before its point or its last number.
+/// A time without `Z` cannot be told from 14 hours before the same time of UTC to 13 hours after
+/// it. Where `from` has a fault (`sshkey_addresses::FromFault`), its line cannot be told. A line may
+/// be for the key, though it is no entry of it, where the key may be spelled in it: with white space
+/// within its Base64, or other names and needless zeros before its point or its last number.
 ///
 /// `Memory` means that a line may have the key, or that `revocations` had to be asked
 /// (`Revocations::revokes_none`): other lines ask for none.

@@ -1,8 +1,8 @@
-//! Whether the key that a user shows lets them in, by authorized_keys, and what such a login is bound
-//! to.
+//! Whether the key that a user shows lets them in, by authorized_keys, and what such a login is
+//! bound to.
 //!
-//! It names the crates for keys, entries, revocations and addresses, and nothing of private keys, and
-//! is proved from their contracts. Copy it and change it.
+//! It names the crates for keys, entries, revocations and addresses, and nothing of private keys,
+//! and is proved from their contracts. Copy it and change it.
 #![tactic(auto)]
 
 mod answer;

@@ -27,9 +27,9 @@ use sshkey_keys::KeyData;
 use sshkey_keys::laws::compared_keys;
 use std::alloc::{AllocError, Global};
 
-/// What a line says that is for the key: as that of an authority, or of none. `Rejected` where it is
-/// for others or for nobody, and `Unclear` where sshd(8) may take it for one of the key. The marks
-/// are those of the key. Asks for no memory where none of them stands in the line.
+/// What a line says that is for the key: as that of an authority, or of none. `Rejected` where it
+/// is for others or for nobody, and `Unclear` where sshd(8) may take it for one of the key. The
+/// marks are those of the key. Asks for no memory where none of them stands in the line.
 pub(crate) fn terms_for(
     alloc: Global,
     line: &str,
