@@ -1,7 +1,7 @@
 -- A line of a key has one of the marks of the key's own part.
-use Rattle.std.proofs.Common.{◌≡◌, ◌∙◌, ◌⊎◌, ◌+◌, ◌-◌, ◌%◌, ◌<◌, ◌≤◌, ℕ, List, [], ◌∷◌, ◌++◌, Bool, true, false, ap, append-nil, append_assoc, arith, drop, get_or, inl, inr, length, refl, replicate, subst, sym, take, take-append-drop, tests}
+use Rattle.std.proofs.Common.{◌≡◌, ◌∙◌, ◌⊎◌, ◌+◌, ◌-◌, ◌%◌, ◌<◌, ◌≤◌, ℕ, List, [], ◌∷◌, ◌++◌, Bool, true, false, not, filter, cond, ap, append-nil, append_assoc, arith, drop, get_or, inl, inr, length, refl, replicate, subst, sym, take, take-append-drop, tests}
 use Rattle.std.proofs.lemmas.Bool.{cases_lt}
-use Rattle.std.proofs.lemmas.List.{drop-append-le, get_or_append_left, length-append, length-drop, length-take-le}
+use Rattle.std.proofs.lemmas.List.{drop-append-le, get_or-append-add, get_or_append_left, length-append, length-drop, length-take-le}
 use Rattle.std.proofs.lemmas.List.Elements.{All-head, All-tail}
 use Rattle.std.proofs.lemmas.List.Folds.{drop_split}
 use Rattle.std.proofs.Math.Seq.{drop-append-add, get_or-append_seam}
@@ -232,3 +232,69 @@ spelled_before p part line may = elim may [
   where
     whole : (symbols : List ℕ) → StandIn symbols (before_first p line) → StandIn symbols line
     whole symbols x = subst (StandIn symbols) (take-append-drop (position_or_len p line) line) (stands_with symbols (before_first p line) (drop (position_or_len p line) line) x)
+
+-- ---- white space within a word
+
+abbrev dark : List ℕ → List ℕ
+dark text = filter (λ c. not (is_white c)) text
+
+follow_dark : (text symbols rest : List ℕ) → dark text ≡ symbols ++ rest → Follow symbols text
+follow_dark text [] rest e = tt
+follow_dark [] (s ∷ symbols) rest e = absurd cc
+follow_dark (c ∷ text) (s ∷ symbols) rest e = go (is_white c) refl (follow_dark text (s ∷ symbols) rest) (follow_dark text symbols rest)
+  where
+    shown : (b : Bool) → is_white c ≡ b → cond (not b) (c ∷ dark text) (dark text) ≡ s ∷ (symbols ++ rest)
+    shown b is = subst (λ (d : Bool). cond (not d) (c ∷ dark text) (dark text) ≡ s ∷ (symbols ++ rest)) is e
+
+    go : (b : Bool) → is_white c ≡ b → (dark text ≡ s ∷ (symbols ++ rest) → Follow (s ∷ symbols) text) → (dark text ≡ symbols ++ rest → Follow symbols text) → Follow (s ∷ symbols) (c ∷ text)
+    go true is again next = let f = again (shown true is) in (f.0, skipped is_white c text is ∙ f.1, f.2)
+    go false is again next =
+        let same = shown false is in
+        (text, stays is_white c text is ∙ ap (λ (l : List ℕ). slice_index l 0 ∷ text) same, next (ap (drop 1) same))
+
+one_on : (c : ℕ) (symbols text : List ℕ) → StandIn symbols text → StandIn symbols (c ∷ text)
+one_on c [] text x = absurd x.2
+one_on c (s ∷ symbols) text x =
+    let left : drop (x.0 + 1 + 1) (c ∷ text) ≡ drop (x.0 + 1) text = ap (λ (n : ℕ). drop n (c ∷ text)) (let e : x.0 + 1 + 1 ≡ 1 + (x.0 + 1) = omega arith in e) ∙ drop-append-add (c ∷ []) text (x.0 + 1) in
+    let here : slice_index (c ∷ text) (x.0 + 1) ≡ slice_index text x.0 = ap (λ (n : ℕ). slice_index (c ∷ text) n) (let e : x.0 + 1 ≡ 1 + x.0 = omega arith in e) ∙ get_or-append-add (c ∷ []) text x.0 0 in
+    (x.0 + 1, omega (arith, x.1), (here ∙ x.2.0, subst (Follow symbols) (sym left) x.2.1))
+
+stand_dark : (text front symbols rest : List ℕ) → 0 < length symbols → dark text ≡ front ++ (symbols ++ rest) → StandIn symbols text
+stand_dark text front [] rest some e = absurd (omega (arith, some))
+stand_dark [] [] (s ∷ symbols) rest some e = absurd cc
+stand_dark [] (d ∷ front) (s ∷ symbols) rest some e = absurd cc
+stand_dark (c ∷ text) [] (s ∷ symbols) rest some e = go (is_white c) refl (stand_dark text [] (s ∷ symbols) rest some)
+  where
+    shown : (b : Bool) → is_white c ≡ b → cond (not b) (c ∷ dark text) (dark text) ≡ s ∷ (symbols ++ rest)
+    shown b is = subst (λ (d : Bool). cond (not d) (c ∷ dark text) (dark text) ≡ s ∷ (symbols ++ rest)) is e
+
+    go : (b : Bool) → is_white c ≡ b → (dark text ≡ s ∷ (symbols ++ rest) → StandIn (s ∷ symbols) text) → StandIn (s ∷ symbols) (c ∷ text)
+    go true is again = one_on c (s ∷ symbols) text (again (shown true is))
+    go false is again =
+        let same = shown false is in
+        (0, omega arith, (ap (λ (l : List ℕ). slice_index l 0) same, follow_dark text symbols rest (ap (drop 1) same)))
+stand_dark (c ∷ text) (d ∷ front) (s ∷ symbols) rest some e = go (is_white c) refl (stand_dark text (d ∷ front) (s ∷ symbols) rest some) (stand_dark text front (s ∷ symbols) rest some)
+  where
+    shown : (b : Bool) → is_white c ≡ b → cond (not b) (c ∷ dark text) (dark text) ≡ d ∷ (front ++ (s ∷ (symbols ++ rest)))
+    shown b is = subst (λ (w : Bool). cond (not w) (c ∷ dark text) (dark text) ≡ d ∷ (front ++ (s ∷ (symbols ++ rest)))) is e
+
+    go : (b : Bool) → is_white c ≡ b → (dark text ≡ d ∷ (front ++ (s ∷ (symbols ++ rest))) → StandIn (s ∷ symbols) text) → (dark text ≡ front ++ (s ∷ (symbols ++ rest)) → StandIn (s ∷ symbols) text) → StandIn (s ∷ symbols) (c ∷ text)
+    go true is again next = one_on c (s ∷ symbols) text (again (shown true is))
+    go false is again next = one_on c (s ∷ symbols) text (next (ap (drop 1) (shown false is)))
+
+on_front : (front symbols text : List ℕ) → StandIn symbols text → StandIn symbols (front ++ text)
+on_front [] symbols text x = x
+on_front (c ∷ front) symbols text x = one_on c symbols (front ++ text) (on_front front symbols text x)
+
+pub words_marked : (part blob before behind front word back : List ℕ) → 17 ≤ length part → blob ≡ before ++ (part ++ behind) → dark word ≡ encode_of standard blob → MaySpell part (front ++ (word ++ back))
+words_marked part blob before behind front word back long is dark_is = elim (thirds (length before + (length part - 15))) [
+  | inl none ↦ inr (inr (one 0 (omega arith) none))
+  | inr (inl one_more) ↦ inr (inl (one 1 (omega arith) one_more))
+  | inr (inr two) ↦ inl (one 2 (omega arith) two)
+]
+  where
+    one : (n : ℕ) → n ≤ 2 → (length before + (length part - 15)) % 3 ≡ n → StandIn (mark part n) (front ++ (word ++ back))
+    one n few third =
+        let m = marked part long before behind n few third in
+        let e : dark word ≡ m.0 ++ (mark part n ++ m.1) = dark_is ∙ ap (encode_of standard) is ∙ m.2 in
+        on_front front (mark part n) (word ++ back) (stands_with (mark part n) word back (stand_dark word m.0 (mark part n) m.1 (some_symbols part long n few) e))

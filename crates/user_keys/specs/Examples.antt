@@ -1,5 +1,5 @@
 -- Worked examples, on both sides of each edge.
-use Rattle.std.specs.Prelude.{◌≡◌, ℕ, List, [], ◌∷◌, ◌++◌, true, false, None, Some, codes}
+use Rattle.std.specs.Prelude.{◌≡◌, ℕ, List, ◌∷◌, ◌++◌, true, false, None, Some, codes}
 use Rattle.sshkey_model.specs.HexText.{hex}
 use Rattle.sshkey_times.specs.declared.times.Span.{Span}
 use Rattle.user_keys.specs.Judgements.{CountsAt, joined}

@@ -1,6 +1,7 @@
 pub mod Spellings
 pub mod Options
 pub mod Judgements
+pub mod Laws
 pub mod Lines
 pub mod UserLogins
 pub mod Answers

@@ -9,6 +9,7 @@ mod answer;
 pub mod examples;
 mod grant;
 mod key;
+pub mod laws;
 mod line;
 mod login;
 mod marks;
