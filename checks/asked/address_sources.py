@@ -1,10 +1,9 @@
 """Builds a program of OpenSSH's own code for addresses, from the sources of Debian's package, for checks/addresses."""
-import glob
 import os
 import shutil
 import subprocess
 
-from lib import apt
+from lib.apt import sources
 from lib.harness import ROOT
 
 FILES = ["addr.c", "addr.h", "addrmatch.c", "match.c", "match.h", "openbsd-compat/strlcpy.c", "openbsd-compat/strlcat.c"]
@@ -21,25 +20,9 @@ INCLUDED = {
 }  # fmt: skip
 
 
-def sources(folder):
-    """The folder of the sources and their version. apt-get reads a list of its own and keeps what it fetches below the folder."""
-    places = {"Dir::Etc::sourcelist": "sources.list", "Dir::State": "state", "Dir::State::lists": "lists", "Dir::Cache": "cache"}
-    for name in ("state", "lists/partial", "cache/archives/partial"):
-        os.makedirs(f"{folder}/{name}")
-    with open(f"{folder}/sources.list", "w", encoding="ascii") as file:
-        file.write(apt.line("deb-src"))
-    words = [it for name, place in places.items() for it in ("-o", f"{name}={folder}/{place}")]
-    words += ["-o", "Dir::Etc::sourceparts=-", "-o", "APT::Sandbox::User="]
-    for command in (["update"], ["source", "openssh"]):
-        subprocess.run(["apt-get", "-q", *words, *command], cwd=folder, stdout=subprocess.DEVNULL, check=True)
-    (description,) = glob.glob(f"{folder}/openssh_*.dsc")
-    (unpacked,) = glob.glob(f"{folder}/openssh-*/")
-    return unpacked, os.path.basename(description).removeprefix("openssh_").removesuffix(".dsc")
-
-
 def built(folder):
     """The program, and the version of the sources."""
-    unpacked, version = sources(folder)
+    unpacked, version = sources(folder, "openssh")
     room = f"{folder}/built"
     os.mkdir(room)
     for name in FILES:

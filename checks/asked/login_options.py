@@ -93,14 +93,15 @@ def certified_name(name):
     return base + b"-cert-v01@" + (domain or b"openssh.com")
 
 
-def certificate(maker, authority, key, users, critical, extensions, key_id=b"id", kind=1):
-    """The line of a certificate of that kind for these users, or hosts, with these options, valid now, put together here
-    (PROTOCOL.certkeys)."""
+def certificate(maker, authority, key, users, critical, extensions, key_id=b"id", kind=1, serial=1, window=None):
+    """The line of a certificate of that kind for these users, or hosts, with these options, valid in that window or now, put together
+    here (PROTOCOL.certkeys)."""
     signer, now = maker.read(f"{authority}.pub"), int(time.time())
+    window = window or (now - 300, now + 300)
     name, body = take(base64.b64decode(key.split()[1]))
     fields = [string(certified_name(name)), string(os.urandom(16)), body]
-    fields += [(1).to_bytes(8, "big"), kind.to_bytes(4, "big"), string(key_id), string(users)]
-    fields += [(now - 300).to_bytes(8, "big"), (now + 300).to_bytes(8, "big"), pairs(critical), pairs(extensions), string(b"")]
+    fields += [serial.to_bytes(8, "big"), kind.to_bytes(4, "big"), string(key_id), string(users)]
+    fields += [*(it.to_bytes(8, "big") for it in window), pairs(critical), pairs(extensions), string(b"")]
     message = b"".join([*fields, string(base64.b64decode(signer.split()[1]))])
     blob = message + string(signed(maker.path(authority), signer, message))
     return f"{certified_name(name).decode()} {base64.b64encode(blob).decode()}"

@@ -36,10 +36,11 @@ def listening(address):
 
 
 class Logins:
-    """Logins of the key in the folder, and of another with a certificate, each over TCP at an sshd of its own."""
+    """Logins of the key in the folder, and of another with a certificate, each over TCP at an sshd of its own. Its options name the
+    file of the lines by which they are let in."""
 
-    def __init__(self, folder, configuration):
-        self.folder, self.numbers = folder, itertools.count()
+    def __init__(self, folder, configuration, options=("AuthorizedKeysFile={}",)):
+        self.folder, self.options, self.numbers = folder, options, itertools.count()
         self.fields = {}
         for name in ("host", "own", "authority"):
             self.fields[name] = self.new(name)
@@ -63,16 +64,17 @@ class Logins:
         """Serves one client; sshd hangs up where it refuses, or when the command has ended."""
         server.settimeout(SECONDS)
         with server, server.accept()[0] as client:
-            words = ["-i", "-f", self.path("conf"), "-E", self.path(f"{name}.log"), "-o", f"AuthorizedKeysFile={self.path(name)}"]
+            words = ["-i", "-f", self.path("conf"), "-E", self.path(f"{name}.log")]
+            words += [word for option in self.options for word in ("-o", option.format(self.path(name)))]
             subprocess.run([SSHD, *words], stdin=client, stdout=client, stderr=subprocess.DEVNULL, check=False, timeout=SECONDS)
 
-    def log_in(self, address, line, key="own", command="true"):
-        """Whether the key is let in by the line from the address, and what the command writes."""
+    def log_in(self, address, line, key="own", command="true", terminal="-T"):
+        """Whether the key is let in by the line from the address, and what the command writes, at a terminal where ssh is told so."""
         name = f"keys{next(self.numbers)}"
         with open(self.path(name), "w", encoding="ascii") as file:
             file.write(line + "\n")
         server = listening(address)
-        words = ["ssh", "-F", "none", "-T", "-i", self.path(key), "-p", str(server.getsockname()[1])]
+        words = ["ssh", "-F", "none", terminal, "-i", self.path(key), "-p", str(server.getsockname()[1])]
         for option in (
             "StrictHostKeyChecking=no", "UserKnownHostsFile=/dev/null", "BatchMode=yes", "IdentitiesOnly=yes", "IdentityAgent=none",
             "LogLevel=ERROR",
