@@ -6,10 +6,10 @@ import re
 import time
 from concurrent.futures import ThreadPoolExecutor
 
-from lib.harness import string
+from lib.harness import SSHD, string
 
 from .login_options import certificate
-from .option_lists import SSHD, Logins
+from .option_lists import Logins
 from .user_key_questions import Question
 
 # a shell that another one has started reads no file of the user's, which may take long
@@ -135,5 +135,5 @@ def wanted(grant):
     if not command:
         return []
     word = re.match(r"echo (\w+);", command)[1]
-    variables = dict(bytes.fromhex(it).decode().split("=", 1) for it in grant["environment"].split(",") if it)
-    return [word, *["terminal"] * ("t" in grant["may"]), *[variables[VARIABLE]] * (VARIABLE in variables)]
+    variables = [bytes.fromhex(it).decode().split("=", 1) for it in grant["environment"].split(",") if it]
+    return [word, *["terminal"] * ("t" in grant["may"]), *(value for name, value in variables if name == VARIABLE)]

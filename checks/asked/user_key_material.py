@@ -2,7 +2,7 @@
 import hashlib
 import itertools
 
-from lib.harness import blob_of, line_of, string
+from lib.harness import blob_of, line_of, reads_dsa, string
 
 from .login_options import certificate
 from .made import Maker
@@ -72,7 +72,8 @@ class Made(Maker):
 def made(folder, seed):
     """New keys, and certificates that are drawn from the seed."""
     maker = Made(folder, seed)
-    keys, authorities, others = ([maker.new(it) for it in kinds] for kinds in (KEYS, AUTHORITIES, OTHERS))
+    kinds = [it for it in KEYS if it != "dsa" or reads_dsa()]
+    keys, authorities, others = ([maker.new(it) for it in each] for each in (kinds, AUTHORITIES, OTHERS))
     keys, others = ([line for _, line in it] for it in (keys, others))
     certificates = [maker.certificate_by(*maker.draw.pick(authorities), maker.draw.pick(keys)) for _ in range(CERTIFICATES)]
     return Material(keys, [line for _, line in authorities], others, certificates)

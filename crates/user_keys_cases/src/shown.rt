@@ -1,0 +1,111 @@
+//! How an answer is written.
+
+use crate::ask::Admission;
+use login_terms::{Permissions, Permit};
+use std::io::{self, Write};
+use user_keys::{Grant, Reason, Refusal};
+
+/// Writes what a login is bound to, or why it is refused.
+pub(crate) fn show<W: Write>(output: &mut W, admission: &Admission) -> io::Result<()> {
+    match admission {
+        Ok(grant) => {
+            show_grant(output, grant)?;
+            writeln!(output)
+        }
+        Err(refusal) => show_refusal(output, refusal),
+    }
+}
+
+fn show_grant<W: Write>(output: &mut W, grant: &Grant) -> io::Result<()> {
+    let terms = &grant.terms;
+    write!(output, "{} command=", grant.line)?;
+    if let Some(command) = &terms.command {
+        write!(output, "x")?;
+        show_text(output, command)?;
+    }
+    show_permissions(output, &terms.permissions)?;
+    write!(output, " open=")?;
+    show_permits(output, &terms.permit_open)?;
+    write!(output, " listen=")?;
+    show_permits(output, &terms.permit_listen)?;
+    write!(output, " environment=")?;
+    show_texts(output, &terms.environment)?;
+    write!(output, " tunnel=")?;
+    if let Some(device) = terms.tunnel {
+        write!(output, "{device}")?;
+    }
+    let touch = if terms.touch_required { "t" } else { "" };
+    let verify = if terms.verify_required { "v" } else { "" };
+    write!(output, " asks={touch}{verify} until=")?;
+    if let Some(last) = terms.expires {
+        write!(output, "{}-{}", last.first, last.last)?;
+    }
+    Ok(())
+}
+
+/// A letter for each thing that is permitted.
+fn show_permissions<W: Write>(output: &mut W, may: &Permissions) -> io::Result<()> {
+    let ports = if may.port_forwarding { "p" } else { "" };
+    let agent = if may.agent_forwarding { "a" } else { "" };
+    let x11 = if may.x11_forwarding { "x" } else { "" };
+    let pty = if may.pty { "t" } else { "" };
+    let user_rc = if may.user_rc { "r" } else { "" };
+    let tunnels = if may.tunnels { "yes" } else { "no" };
+    write!(
+        output,
+        " tunnels={tunnels} may={ports}{agent}{x11}{pty}{user_rc}"
+    )
+}
+
+fn show_permits<W: Write>(output: &mut W, permits: &[Permit]) -> io::Result<()> {
+    let mut between = "";
+    for permit in permits {
+        write!(output, "{between}")?;
+        show_text(output, &permit.host)?;
+        match permit.port {
+            Some(port) => write!(output, "/{port}")?,
+            None => write!(output, "/*")?,
+        }
+        between = ",";
+    }
+    Ok(())
+}
+
+fn show_texts<W: Write>(output: &mut W, texts: &[String]) -> io::Result<()> {
+    let mut between = "";
+    for text in texts {
+        write!(output, "{between}")?;
+        show_text(output, text)?;
+        between = ",";
+    }
+    Ok(())
+}
+
+/// The text in hexadecimal digits.
+fn show_text<W: Write>(output: &mut W, text: &str) -> io::Result<()> {
+    for byte in text.as_bytes() {
+        write!(output, "{byte:02x}")?;
+    }
+    Ok(())
+}
+
+fn show_refusal<W: Write>(output: &mut W, refusal: &Refusal) -> io::Result<()> {
+    match refusal {
+        Refusal::NotListed => writeln!(output, "no: not listed"),
+        Refusal::NotAllowed { line, reason } => {
+            writeln!(output, "no: not allowed by line {line}, {}", why(*reason))
+        }
+        Refusal::Unclear { line } => writeln!(output, "no: line {line} cannot be told"),
+        Refusal::UnacceptedKey => writeln!(output, "no: unaccepted key"),
+        Refusal::Revoked => writeln!(output, "no: revoked"),
+        Refusal::Memory => writeln!(output, "out of memory"),
+    }
+}
+
+fn why(reason: Reason) -> &'static str {
+    match reason {
+        Reason::Expired => "expired",
+        Reason::Authority => "authority",
+        Reason::Elsewhere => "elsewhere",
+    }
+}
