@@ -28,6 +28,7 @@
 //!         authorities,
 //!         revoked: NO_REVOCATIONS, // or what the files of sshd's RevokedKeys have
 //!         least_rsa_bits: 0,
+//!         judges_address: false,
 //!     };
 //!     sshkey::log_in(&login, is_signature)
 //! }
