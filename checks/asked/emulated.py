@@ -3,13 +3,13 @@ from lib.harness import Count
 
 from .answers import Asker, Judge
 from .calls import check_calls
-from .linked import HELPERS, ROOT, WRAPPED
+from .linked import COPIED, HELPERS, ROOT, WRAPPED
 from .made import Made
 from .packages import Wrong
 
 # what the program is made of beside the library, without libcrypto
 PARTS = [f"{ROOT}/checks/{it}.c" for it in ("foreign", "asked/any_verifier")]
-PARTS += [f"{HELPERS}/{it}.c" for it in ("judge", "sha1", "sshsig", "verdict")]
+PARTS += [f"{HELPERS}/{it}.c" for it in COPIED if it != "verify"]
 # questions that name the call after them
 OF_CALLS = ("call", "rooms", "memory", "normal")
 # How many are asked about each call.
@@ -33,10 +33,10 @@ class Asking(Judge):
         return self.said(name, [question for _, question, _ in cases])
 
 
-def questions_of(library, program, folder):
-    """The questions of checks/foreign, as that program's answers lead from one to the next: so many about each call, of those that
-    there are from the first to the last."""
-    judge = Asking(Silent(), Asker("C", [program]), Made(folder, library))
+def questions_of(out, folder):
+    """The questions of checks/foreign, as the answers of the program that is built in `out` lead from one to the next: so many about
+    each call, of those that there are from the first to the last."""
+    judge = Asking(Silent(), Asker("C", [f"{out}/foreign"]), Made(folder, f"{out}/libsshkey.so"))
     check_calls(judge)
     about = {}
     for asked in judge.asked:

@@ -52,6 +52,12 @@ def run(words, **how):
     return subprocess.run(words, **{"check": False, "capture_output": True, "text": True, **how})
 
 
+def asker_words(out, flags):
+    """The words that compile checks/foreign.c over what is built in that folder, with libcrypto: the program `foreign` there."""
+    parts = [*(f"{out}/{it}.o" for it in COPIED), f"{out}/libsshkey.a", "-lcrypto", WRAPPED]
+    return [*C, f"-I{HELPERS}", *flags, f"{ROOT}/checks/foreign.c", *parts, "-o", f"{out}/foreign"]
+
+
 class Built:
     """The libraries and programs, built in a folder: plain, and the C that calls the library with sanitizers."""
 
@@ -63,10 +69,7 @@ class Built:
 
     def make(self, out, flags):
         made = run(["make", "-C", ROOT, f"OUT={out}", f"CFLAGS={flags}", *self.given])
-        objects = [f"{out}/{it}" for it in ("sshsig.o", "judge.o", "sha1.o", "verdict.o", "verify.o", "libsshkey.a")]
-        parts = [f"{ROOT}/checks/foreign.c", *objects, "-lcrypto", WRAPPED]
-        asks = [*C, f"-I{HELPERS}", *flags.split(), *parts, "-o", f"{out}/foreign"]
-        asking = run(asks) if made.returncode == 0 else made
+        asking = run(asker_words(out, flags.split())) if made.returncode == 0 else made
         self.said += made.stderr + asking.stderr
         return made.returncode == 0 and asking.returncode == 0
 
