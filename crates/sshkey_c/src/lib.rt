@@ -21,6 +21,7 @@ mod sha512;
 mod signature;
 mod signer;
 mod sshsig;
+mod time;
 mod userauth;
 mod version;
 mod walk;

@@ -5,5 +5,6 @@ pub mod RevocationFiles
 pub mod Signers
 pub mod SshSignatures
 pub mod Addresses
+pub mod Times
 pub mod Revocations
 pub mod UnreadableLines

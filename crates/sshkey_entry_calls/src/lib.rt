@@ -1,7 +1,7 @@
 //! The calls of the library for C about authorized_keys, known_hosts, allowed signers, revocation
-//! files and addresses, as an ordinary library: the lines of a text, the entry of a line, the options
-//! of an entry, what a text or a list of keys says of a signature, or files of a key or a
-//! certificate, and whether a list of addresses lets a client in.
+//! files, addresses and times, as an ordinary library: the lines of a text, the entry of a line, the
+//! options of an entry, what a text or a list of keys says of a signature, or files of a key or a
+//! certificate, whether a list of addresses lets a client in, and which seconds a time means.
 //!
 //! As those of `sshkey_calls`, each call answers with a number, and the bytes that it answers with
 //! are in the caller's room.
@@ -16,6 +16,7 @@ mod revocation_files;
 mod revocations;
 mod signers;
 mod sshsig;
+mod times;
 mod unreadable_line;
 
 pub use addresses::{address_of, from_allows, source_address_allows};
@@ -27,4 +28,5 @@ pub use revocation_files::RevocationFiles;
 pub use revocations::{revoked_certificate, revoked_key};
 pub use signers::signer_verdict;
 pub use sshsig::sshsig_verdict;
+pub use times::{TimeSpan, read_time};
 pub use unreadable_line::unreadable_host_line;
