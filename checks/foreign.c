@@ -194,6 +194,10 @@ static void ask_counted(given_call *it, const char *name) {
   if (is_done(ask(it, name, NULL))) printf(" %zu", it->length);
 }
 
+static void ask_time(given_call *it, const char *name) {
+  if (is_done(ask(it, name, NULL))) printf(" %" PRIu64 " %" PRIu64, it->time.first, it->time.last);
+}
+
 static void ask_addresses(given_call *it, const char *name) {
   printf("%" PRIu32 " ", ask(it, name, NULL));
   printf("%" PRIu32, ask(it, "from_allows", NULL));
@@ -359,6 +363,7 @@ static const struct {
     {"flags", ask_number, "grant_flags", 2},
     {"other-key-line", ask_number, "is_other_key_line", 1},
     {"addresses", ask_addresses, "source_address_allows", 3},
+    {"time", ask_time, "read_time", 1},
     {"signer", ask_number, "signer_verdict", 5},
     {"revokes-key", ask_revoked, "krl_revokes_key", 2},
     {"revokes-certificate", ask_revoked, "krl_revokes_certificate", 2},

@@ -20,16 +20,16 @@
 const char program_name[] = "sshkey-check";
 static const char help[] =
     "usage: sshkey-check [FILE]\n"
-    "       sshkey-check --ca FILE --user NAME [--at SECOND] [--revoked FILE].. [FILE]\n"
-    "       sshkey-check --host NAME [--port NUMBER] --known-hosts FILE.. [--at SECOND]\n"
+    "       sshkey-check --ca FILE --user NAME [--at TIME] [--revoked FILE].. [FILE]\n"
+    "       sshkey-check --host NAME [--port NUMBER] --known-hosts FILE.. [--at TIME]\n"
     "                    [--revoked FILE].. [FILE]\n"
     "       sshkey-check verify -k KEYS -n NAMESPACE -s SIGNATURE [FILE]\n"
     "       sshkey-check verify -f SIGNERS -I IDENTITY -n NAMESPACE -s SIGNATURE [-r REVOKED]..\n"
-    "                           [--at SECOND] [FILE]\n"
+    "                           [--at TIME] [FILE]\n"
     "\n"
     "The first shows each certificate of FILE, or of standard input, as ssh-keygen -L does. The\n"
     "second says of each whether it logs NAME in by an authority of the file, at that second since\n"
-    "1970, or else now. The third says of each, or of a key, whether it is that of the host, by all\n"
+    "1970 or date (YYYYMMDD[HHMM[SS]]Z), or else now. The third says of each, or of a key, whether it is that of the host, by all\n"
     "the files of known_hosts. The fourth says whether the signature of ssh-keygen -Y sign is one of\n"
     "FILE in the namespace by a key of the file KEYS, and the fifth whether it is the identity's by\n"
     "the file of allowed signers, as ssh-keygen -Y verify does.\n"
@@ -260,13 +260,23 @@ static bool read_files(program_files *files) {
   return true;
 }
 
+/* Reads a second since 1970, or a date of one second, likewise. ssh-keygen takes 12 and 14 digits for
+ * a date. */
+static bool read_second(const char *word, uint64_t *answer) {
+  sshkey_time_span span = {0, 0};
+  size_t length = strlen(word);
+  if (length != 12 && length != 14 && program_read_number(word, answer)) return true;
+  bool is_date = sshkey_read_time((const uint8_t *)word, length, &span) == SSHKEY_DONE;
+  *answer = span.first;
+  if (is_date && span.first == span.last) return true;
+  program_complain(is_date ? "%s has no zone: write a Z behind it" : "%s is no time", word);
+  return false;
+}
+
 /* Reads the numbers of the words; false, with a word to standard error, where one is none. */
 static bool read_numbers(request *asked) {
   asked->port_number = 22;
-  if (asked->at && !program_read_number(asked->at, &asked->second)) {
-    program_complain("%s is no second", asked->at);
-    return false;
-  }
+  if (asked->at && !read_second(asked->at, &asked->second)) return false;
   if (!asked->port) return true;
   if (program_read_number(asked->port, &asked->port_number) && asked->port_number <= UINT16_MAX)
     return true;

@@ -44,6 +44,7 @@ them: FILES, which are revocation files, and TEXTS), numbers and names:
     entry LINE | host LINE                                   0 MARKER FRONT KEY COMMENT
     options TEXT                                             0 NAME=VALUE, or NAME where there is none, ..
     addresses LIST ADDRESS HOST                              NUMBER NUMBER: of the list as source-address, and as from
+    time TEXT                                                0 FIRST LAST
 
 and a package also
 
@@ -264,6 +265,9 @@ class Answers(VerdictAnswers):
 
         given = data_of(items), ipaddress.ip_address(data_of(address))
         return [said(self.sshkey.source_address_allows, *given), said(self.sshkey.from_allows, *given, data_of(host))]
+
+    def time(self, text):
+        return ["0", *map(str, self.sshkey.read_time(data_of(text)))]
 
 
 # ---- how the answers are judged

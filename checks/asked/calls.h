@@ -32,6 +32,7 @@ typedef struct {
   sshkey_entry entry;
   sshkey_entry_option_parts entry_option;
   sshkey_grant grant;
+  sshkey_time_span time;
 } given_call;
 
 /* The structs that calls are given. */
@@ -96,7 +97,8 @@ typedef struct {
   CALL(grant_flags, (uint32_t)it->numbers[0], BYTES(0), BYTES(1))                                \
   CALL(is_other_key_line, BYTES(0))                                                              \
   CALL(source_address_allows, BYTES(0), BYTES(1))                                                \
-  CALL(from_allows, BYTES(0), BYTES(2), BYTES(1))
+  CALL(from_allows, BYTES(0), BYTES(2), BYTES(1))                                                \
+  CALL(read_time, BYTES(0), &it->time)
 
 static uint32_t call_by_name(given_call *it, const given_structs *given) {
 #define CALL(call, ...) \

@@ -14,6 +14,7 @@ from .memory_calls import question_of
 from .revocation_calls import EMPTY, check_revocations
 from .security_key_calls import check_signatures
 from .signer_calls import check_signers
+from .time_calls import check_times
 from .userauth_calls import check_userauths
 
 # of how many hostile byte strings a package is asked about one
@@ -32,7 +33,7 @@ OF_KINDS = {
     "ssh-signature": [f"sshsig {{}} {FILE} {b'message'.hex()}", "normal sshsig {}", f"signer - {FILE} {FILE} {{}} - {MIDDLE} 1"],
 }  # fmt: skip
 OF_OTHERS = [
-    "normal signature {}", "lines {}", "entry {}", "host {}", "options {}", "line {}", "revokes-key {} -", "revoked-key {} -", "other-key-line {}",
+    "normal signature {}", "lines {}", "entry {}", "host {}", "options {}", "line {}", "revokes-key {} -", "revoked-key {} -", "other-key-line {}", "time {}",
     f"unreadable-line {{}} {HOST} 22", f"host-key {{}} {HOST} {KEY} {NONE} 22 0", f"flags {KEY} {{}} 0", f"userauth {FILE} {ALICE} {FILE} {KEY} - {{}} 0 0",
 ]  # fmt: skip
 # those that a package is asked too
@@ -122,3 +123,4 @@ def check_calls(judge):
     check_userauths(judge)
     check_signers(judge)
     check_addresses(judge)
+    check_times(judge)

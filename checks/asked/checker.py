@@ -189,7 +189,7 @@ def check_allowed(count, programs, maker):
     """A signature counts as an identity's exactly where ssh-keygen says so, by a text of revoked keys and by a list of them."""
     keys = {"key": maker.read("shown0.pub"), "other": maker.read("shown1.pub")}
     path = maker.write("armour.sig", armoured(maker.signature("shown0", "a text", SPACE)))
-    at = time.strftime("verify-time=%Y%m%d%H%M%SZ", time.gmtime(MIDDLE))
+    date = time.strftime("%Y%m%d%H%M%SZ", time.gmtime(MIDDLE))
     for name, line, asked, revoked, wanted in ALLOWED:
         words = ["-f", maker.write("signers", line.format(**keys) + "\n"), "-I", asked.get("who", "alice")]
         words += ["-n", asked.get("space", SPACE), "-s", path]
@@ -201,12 +201,12 @@ def check_allowed(count, programs, maker):
             ssh_keygen("-q", "-k", "-f", maker.path("revoked.krl"), file)
             files += [["-r", maker.path("revoked.krl")]]
         for more in files:
-            judged = run(["ssh-keygen", "-Y", "verify", "-O", at, *words, *more], input=text).returncode == 0
+            judged = run(["ssh-keygen", "-Y", "verify", "-O", f"verify-time={date}", *words, *more], input=text).returncode == 0
             count.check(f"ssh-keygen, a signature {name}, by {more or 'no file'}", judged == is_valid, judged)
             said = ("valid\n", "") if is_valid else ("" if wanted == UNREAD else "refused\n", f"sshkey-check: {path}: {wanted}\n")
             status = VALID if is_valid else UNTOLD if wanted == UNREAD else INVALID
-            for program in programs:
-                ran = run([program, "verify", *words, *more, "--at", str(MIDDLE)], input=text)
+            for program, second in zip(programs, (date, str(MIDDLE))):
+                ran = run([program, "verify", *words, *more, "--at", second], input=text)
                 same = (ran.returncode, (ran.stdout, ran.stderr)) == (status, said)
                 count.check(f"sshkey-check, a signature {name}", same, ran)
 

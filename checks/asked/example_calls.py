@@ -21,6 +21,12 @@ SECONDS = [
     ("abc", UNTOLD), ("", UNTOLD), ("-1", UNTOLD), ("+1", UNTOLD), (" 1", UNTOLD), ("1 ", UNTOLD), ("1x", UNTOLD), ("0x1", UNTOLD),
     ("1_0", UNTOLD), ("18446744073709551616", UNTOLD), ("18446744073709551615", INVALID), ("0", INVALID),
 ]  # fmt: skip
+# dates as ssh-keygen takes them, of a certificate for January 2024: without a zone they are none, or a second
+DATES = [
+    ("20240116Z", VALID), ("202401161200utc", VALID), ("20240116120000z", VALID), ("20231231235959Z", INVALID), ("20240101Z", VALID),
+    ("20240131235959UTC", VALID), ("20240201Z", INVALID), ("20240116", INVALID), ("202401161200", UNTOLD), ("20240116120000", UNTOLD),
+    ("20241301Z", UNTOLD), ("20240116GMT", UNTOLD), ("2024011612Z", UNTOLD), ("999999999999", UNTOLD), ("2024-01-16", UNTOLD), ("Z", UNTOLD),
+]  # fmt: skip
 
 
 def python(built, name):
@@ -57,7 +63,7 @@ def revoked_words(maker, files):
 def check_certificates(count, built, maker, kind, middle):
     """sshkey-check has the status 2 where it can't tell."""
     good, line, wrong = kind.path, f"{kind.line}\n", maker.path("wrong")
-    cases = list(certificate_cases(maker, kind, middle))
+    cases = [*certificate_cases(maker, kind, middle), *((f"the date {word!r}", good, word, line, status) for word, status in DATES)]
     programs = {"sshkey-check": built.plain, "sshkey-check with sanitizers": built.sanitized}
     folder = os.open(maker.folder, os.O_RDONLY)
     for program, out in programs.items():

@@ -170,6 +170,8 @@ def of_files(maker, key):
         yield "source_address_allows", [b"10.0.0.0/8", address], [], wanted
         yield "from_allows", [b"10.0.0.0/8", address, b""], [], wanted
     yield "from_allows", [b"*,", bytes(16), b"host"], [], "FORMAT"
+    for text, wanted in ((b"20270101Z", "DONE"), (b"20270101", "DONE"), (b"2027", "FORMAT"), (b"\xff", "TEXT")):
+        yield "read_time", [text], [], wanted
     yield "next_line", [hashed], [0], "DONE"
     yield "next_line", [hashed], [len(hashed)], "END"
     options = b'no-pty,command="say \\"hi\\""'

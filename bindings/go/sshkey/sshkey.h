@@ -76,9 +76,9 @@ enum {
   SSHKEY_ROOM = 2,   /* the room is too short; `length` says how many bytes are needed */
   SSHKEY_END = 3,    /* nothing is left: the place is the end, or there is no such line or option */
   SSHKEY_TEXT = 4,   /* the principal is not UTF-8, or a line of authorized_keys or known_hosts,
-                        options, a text of known_hosts or of signers, a host's name, an identity or
-                        a namespace; nothing is said of the rest. sshkey_read_line returns 11 for
-                        such a line */
+                        options, a text of known_hosts or of signers, a host's name, an identity, a
+                        namespace or a time; nothing is said of the rest. sshkey_read_line returns
+                        11 for such a line */
 
   /* 10 to 29: the bytes are no certificate, key, signature or revocation list, which is the first
    * fault from the left; or the line is none, which is a fault that it has. For logs: lines with
@@ -880,6 +880,23 @@ uint32_t sshkey_source_address_allows(const uint8_t *list, size_t list_length,
 uint32_t sshkey_from_allows(const uint8_t *list, size_t list_length, const uint8_t *host,
                             size_t host_length, const uint8_t *address, size_t address_length);
 
+/* ---- times (ssh-keygen(1), "ALLOWED SIGNERS") ------------------------------------------------- */
+
+/* The seconds since 1970 that a time may mean: from one to the other. */
+typedef struct {
+  uint64_t first; /* at least 1 */
+  uint64_t last;  /* the first one if the time names its zone */
+} sshkey_time_span;
+
+/* The seconds that a time may mean, which is YYYYMMDD, YYYYMMDDHHMM or YYYYMMDDHHMMSS, alone or
+ * before Z or UTC in small or large letters. Alone it is of the zone of the machine to OpenSSH, and
+ * here it may be of any. Each month is taken for one of 31 days, as by strptime(3): 20230230 is 2
+ * March 2023.
+ *
+ * SSHKEY_DONE exactly if the text is such a time and later than the start of 1970, of whatever zone
+ * it may be; else SSHKEY_TEXT where it is not UTF-8, and SSHKEY_FORMAT. Takes no memory. */
+uint32_t sshkey_read_time(const uint8_t *text, size_t length, sshkey_time_span *answer);
+
 /* ---------------------------------------------------------------------------------------------- */
 
 /* A pointer that may be passed beside the length 0, whatever `bytes` is. */
@@ -996,6 +1013,9 @@ SSHKEY_IS(offsetof(sshkey_entry_option_parts, length) == 32);
 SSHKEY_IS(offsetof(sshkey_entry_option_parts, next) == 40);
 SSHKEY_IS(offsetof(sshkey_entry_option_parts, has_value) == 48);
 SSHKEY_IS(sizeof(sshkey_entry_option_parts) == 56);
+SSHKEY_IS(offsetof(sshkey_time_span, first) == 0);
+SSHKEY_IS(offsetof(sshkey_time_span, last) == 8);
+SSHKEY_IS(sizeof(sshkey_time_span) == 16);
 #undef SSHKEY_IS
 
 #ifdef __cplusplus

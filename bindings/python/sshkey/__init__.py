@@ -57,6 +57,7 @@ from ._keys import (
 from ._logins import Grant, Login, log_in
 from ._revocations import krl_revokes_certificate, krl_revokes_key, revoked_certificate, revoked_key
 from ._signers import Signers, judge_signer_of_digest, judge_sshsig, judge_sshsig_of_digest, signer_verdict, sshsig_verdict
+from ._times import read_time
 from ._userauth import Userauth, check_userauth, grant_flags, userauth_question
 from ._values import (
     ALL_PRINCIPALS,
@@ -84,7 +85,7 @@ __all__ = [
     "fingerprint_sha512_text", "fingerprint_text", "from_allows", "grant_flags", "is_other_key_line", "is_signature",
     "join_certificate", "judge_certificate", "judge_signer_of_digest", "judge_sshsig", "judge_sshsig_of_digest", "known_host",
     "krl_revokes_certificate", "krl_revokes_key", "log_in", "make_certificate", "normal_certificate", "normal_key",
-    "normal_signature", "normal_sshsig", "options", "read_line", "revoked_certificate", "revoked_key", "signature_question",
+    "normal_signature", "normal_sshsig", "options", "read_line", "read_time", "revoked_certificate", "revoked_key", "signature_question",
     "signer_verdict", "source_address_allows", "sshsig_hash", "sshsig_question", "sshsig_question_of_digest", "sshsig_reserved",
     "sshsig_verdict", "string", "strings", "unreadable_host_line", "userauth_question", "validate_certificate",
 ]  # fmt: skip

@@ -32,7 +32,7 @@ class Status(Answer):
     # Nothing is left: the place is the end, or there is no such line or option.
     END = 3
     # The principal is not UTF-8, or a line of authorized_keys or known_hosts, options, a text of known_hosts or of signers, a
-    # host's name, an identity or a namespace; nothing is said of the rest. sshkey_read_line returns 11 for such a line.
+    # host's name, an identity, a namespace or a time; nothing is said of the rest. sshkey_read_line returns 11 for such a line.
     TEXT = 4
     # A word of a line is no Base64, or not the one of its bytes.
     BASE64 = 10
@@ -364,6 +364,12 @@ class HostLogin(Structure):
     ]
 
 
+class TimeSpan(Structure):
+    """sshkey_time_span"""
+
+    _fields_ = [("first", c_uint64), ("last", c_uint64)]
+
+
 # what each call takes
 CALLS: dict[str, tuple[Any, ...]] = {
     "sshkey_version": (),
@@ -420,4 +426,5 @@ CALLS: dict[str, tuple[Any, ...]] = {
     "sshkey_unreadable_host_line": (c_char_p, c_size_t, c_char_p, c_size_t, c_uint16, POINTER(c_size_t)),
     "sshkey_source_address_allows": (c_char_p, c_size_t, c_char_p, c_size_t),
     "sshkey_from_allows": (c_char_p, c_size_t, c_char_p, c_size_t, c_char_p, c_size_t),
+    "sshkey_read_time": (c_char_p, c_size_t, POINTER(TimeSpan)),
 }

@@ -68,6 +68,7 @@ mod signers;
 mod sshsigs;
 mod status;
 mod strings;
+mod times;
 mod userauth;
 
 pub use addresses::{from_allows, source_address_allows};
@@ -105,4 +106,5 @@ pub use sshsigs::{
 };
 pub use status::Status;
 pub use strings::{string, strings, Strings};
+pub use times::read_time;
 pub use userauth::{check_userauth, grant_flags, userauth_question, Userauth};

@@ -97,8 +97,8 @@ statuses! {
     /// Nothing is left: the place is the end, or there is no such line or option.
     END = 3, "nothing is left";
     /// The principal is not UTF-8, or a line of authorized_keys or known_hosts, options, a text of
-    /// known_hosts or of signers, a host's name, an identity or a namespace; nothing is said of the
-    /// rest. sshkey_read_line returns 11 for such a line.
+    /// known_hosts or of signers, a host's name, an identity, a namespace or a time; nothing is
+    /// said of the rest. sshkey_read_line returns 11 for such a line.
     TEXT = 4, "a name or a text that is given is not UTF-8";
     /// A word of a line is no Base64, or not the one of its bytes.
     BASE64 = 10, "not Base64";
@@ -435,6 +435,16 @@ pub(crate) struct HostLogin<'a> {
     pub port: u16,
 }
 
+/// The seconds since 1970 that a time may mean: from one to the other.
+#[repr(C)]
+#[derive(Clone, Copy, Debug, Default)]
+pub(crate) struct TimeSpan {
+    /// At least 1.
+    pub first: u64,
+    /// The first one if the time names its zone.
+    pub last: u64,
+}
+
 // the layout that the library was built for
 const _: () = assert!(size_of::<usize>() == 8);
 const _: () = assert!(size_of::<Part>() == 16);
@@ -455,6 +465,7 @@ const _: () = assert!(size_of::<Userauth>() == 104);
 const _: () = assert!(size_of::<HostLogin>() == 64);
 const _: () = assert!(size_of::<Entry>() == 64);
 const _: () = assert!(size_of::<EntryOptionParts>() == 56);
+const _: () = assert!(size_of::<TimeSpan>() == 16);
 
 calls! {
     []
@@ -533,4 +544,5 @@ calls! {
     fn sshkey_unreadable_host_line(known_hosts: &[u8], host: &[u8], port: u16, number: &mut usize);
     fn sshkey_source_address_allows(list: &[u8], address: &[u8]);
     fn sshkey_from_allows(list: &[u8], host: &[u8], address: &[u8]);
+    fn sshkey_read_time(text: &[u8], answer: &mut TimeSpan);
 }

@@ -129,6 +129,11 @@ var answers = map[string]func(of []string) ([]string, error){
 		}
 		return nil, err
 	},
+	"time": func(of []string) ([]string, error) {
+		first, last, err := sshkey.ReadTime(text(of[0]))
+		seconds := []string{fmt.Sprint(first.Unix()), fmt.Sprint(last.Unix())}
+		return seconds, err
+	},
 	"signer": func(of []string) ([]string, error) {
 		return nil, sshkey.SignerVerdict(data(of[3]), text(of[2]), signers(of), of[6] == "1")
 	},

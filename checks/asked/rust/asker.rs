@@ -319,6 +319,11 @@ fn addresses(given: &[&str]) -> String {
     format!("{by_certificate} {}", number_of(sshkey::from_allows(&list, &host, address)))
 }
 
+fn time(text: &[u8]) -> Answer {
+    let (first, last) = sshkey::read_time(text)?.into_inner();
+    words([first.to_string(), last.to_string()])
+}
+
 /// What a text of allowed signers says of a signature, where a verification says no or yes, or of
 /// one of a message with a digest.
 fn signer(what: &str, given: &[&str]) -> String {
@@ -375,6 +380,7 @@ fn answer(question: &str) -> Answer {
         "host" => host(&at(0)),
         "options" => options(&at(0)),
         "addresses" => Ok(addresses(given)),
+        "time" => time(&at(0)),
         "signer" | "is-signer" => Ok(signer(what, given)),
         "revoked-key" => revoked(sshkey::revoked_key(&lent(&several(given[0])), &at(1))),
         "revoked-certificate" => {
