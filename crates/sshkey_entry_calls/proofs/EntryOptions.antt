@@ -1,6 +1,7 @@
 -- What is answered of the option at a place.
 use Rattle.std.proofs.Common.{◌≡◌, ◌<◌, ◌-◌, ℕ, List, [], length, Some, Result, Ok, Err, take, drop, refl, sym, ap, subst, ◌∙◌, arith, length-drop}
 use Rattle.std.specs.Str.{IsUtf8}
+use Rattle.std.proofs.lemmas.Str.{IsUtf8-nil}
 use Rattle.std.specs.Result.{result_ok}
 use Rattle.sshkey_base.specs.declared.error.Error.{Error}
 use Rattle.sshkey_authorized_keys.specs.OpenSshItems.{YieldsOption}
@@ -9,9 +10,9 @@ use Rattle.sshkey_authorized_keys.proofs.OptionCuts.{shorter}
 use Rattle.sshkey_entries.specs.OptionItems.{IsNoOption, IsOptionAt, KeyOption, without_commas}
 use Rattle.sshkey_calls.specs.Rooms.{IsAtFront}
 use Rattle.sshkey_calls.proofs.Rooms.{give_one, none_given}
-use Rattle.sshkey_entry_calls.specs.Options.{ArePlaced, EndsAt, FindsFirst, FindsKeyOption, GivesOption, TellsOption, option_bytes}
+use Rattle.sshkey_entry_calls.specs.Options.{ArePlaced, EndsAt, FindsFirst, FindsKeyOption, GivesOption, IsNoText, TellsOption, option_bytes}
 use Rattle.sshkey_entry_calls.specs.declared.options.OptionParts.{OptionParts}
-use Rattle.sshkey_entry_calls.proofs.OptionPlaces.{behind_place, found, only, utf8_piece}
+use Rattle.sshkey_entry_calls.proofs.OptionPlaces.{behind_place, found, one_end, only}
 
 -- ---- of a text
 
@@ -33,6 +34,14 @@ told_none text place was before none = record {
   others = λ _ _ _. refl;
 }
 
+-- ---- where the option at the front ends
+
+is_text : (left : List ℕ) (a : ℕ) → EndsAt left a → IsUtf8 (take a left) → IsNoText left → ⊥
+is_text left a ends utf8 other = other.2 (subst (λ (k : ℕ). IsUtf8 (take k left)) (one_end left a other.0 ends other.1) utf8)
+
+no_bytes : (left : List ℕ) → left ≡ [] → IsNoText left → ⊥
+no_bytes left none other = let nothing : 0 ≡ other.0 = omega (arith, ap length none, other.1.within) in other.2 (subst (λ (k : ℕ). IsUtf8 (take k left)) nothing IsUtf8-nil)
+
 -- ---- of the options from a place on
 
 module _ (options : List ℕ) (place : ℕ) where
@@ -43,7 +52,7 @@ module _ (options : List ℕ) (place : ℕ) where
     short = λ z. absurd (cc z);
     memory = λ z. absurd (cc z);
     last = (λ _. nothing, λ _. refl);
-    text = λ z. absurd (cc z);
+    text = (λ z. absurd (cc z), λ other. absurd (no_bytes (without_commas (drop place options)) nothing other));
     none = λ z. absurd (cc z);
     others = λ _ _ _ not_three _. absurd (not_three refl);
     stays = λ _ _. (refl, refl);
@@ -60,7 +69,7 @@ module _ (options : List ℕ) (place : ℕ) where
       short = λ z. absurd (cc z);
       memory = λ z. absurd (cc z);
       last = (λ z. absurd (cc z), λ nothing. absurd (something nothing));
-      text = λ _ utf8. other (utf8_piece (drop place options) left skips end_ ends utf8);
+      text = (λ _. subst IsNoText skips (end_, ends, other), λ _. refl);
       none = λ z. absurd (cc z);
       others = λ _ _ _ _ not_four. absurd (not_four refl);
       stays = λ _ _. (refl, refl);
@@ -72,8 +81,8 @@ module _ (options : List ℕ) (place : ℕ) where
     abbrev next : ℕ
     next = length options - (length left - end_)
 
-    pub finds : (n : ℕ) (was answer : OptionParts) (before after : List ℕ) → TellsOption (take end_ left) next n was answer before after → FindsKeyOption options place n was answer before after
-    finds n was answer before after tells = record {
+    pub finds : IsUtf8 (take end_ left) → (n : ℕ) (was answer : OptionParts) (before after : List ℕ) → TellsOption (take end_ left) next n was answer before after → FindsKeyOption options place n was answer before after
+    finds utf8 n was answer before after tells = record {
       found = λ z.
           let g = tells.gives.given z in
           let there : drop end_ left ≡ drop answer.next options = sym (behind_place options left place end_ skips ends.within) ∙ ap (λ (k : ℕ). drop k options) (sym g.2.placed.next) in
@@ -86,7 +95,7 @@ module _ (options : List ℕ) (place : ℕ) where
       short = λ two. let g = tells.gives.short two in (g.0, (drop end_ left, first g.0 g.1.0 g.1.1), g.2);
       memory = λ one. let m = tells.memory one in (m.0, (drop end_ left, first m.0 m.1.0 m.1.1));
       last = (λ three. absurd (no_other 3 three (omega arith, omega arith)), λ nothing. absurd (something nothing));
-      text = λ four. absurd (no_other 4 four (omega arith, omega arith));
+      text = (λ four. absurd (no_other 4 four (omega arith, omega arith)), λ other. absurd (is_text left end_ ends utf8 (subst IsNoText (sym skips) other)));
       none = λ fifteen o rest is. tells.gives.none (λ z. omega (arith, fifteen, z)) (λ z. omega (arith, fifteen, z)) (λ z. omega (arith, fifteen, z)) o ([], only (drop place options) left skips end_ ends o rest is);
       others = λ not_zero not_one not_two _ _. tells.others not_zero not_one not_two;
       stays = tells.gives.stays;

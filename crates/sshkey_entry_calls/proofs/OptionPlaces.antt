@@ -1,11 +1,9 @@
 -- Where the option at a place begins and ends.
-use Rattle.std.proofs.Common.{◌≡◌, ◌≤◌, ◌<◌, ◌+◌, ◌-◌, ◌&&◌, ◌==◌, ℕ, zero, suc, List, [], ◌∷◌, ◌++◌, length, take, drop, slice_index, Bool, true, false, not, cond, nat_lt, lt-ltb, Option, None, Some, refl, sym, ap, subst, ◌∙◌, arith, tests, inl, inr, eqb-true, append_assoc, append-nil, take-append-drop, length-append}
+use Rattle.std.proofs.Common.{◌≡◌, ◌≤◌, ◌<◌, ◌+◌, ◌-◌, ◌&&◌, ◌==◌, ℕ, zero, suc, List, [], ◌∷◌, ◌++◌, length, take, drop, slice_index, Bool, true, false, not, cond, nat_lt, lt-ltb, Option, None, Some, refl, sym, ap, subst, ◌∙◌, arith, tests, inl, inr, append_assoc, append-nil, take-append-drop, length-append}
 use Rattle.std.proofs.lemmas.Bool.{cases_lt}
 use Rattle.std.proofs.lemmas.List.{get_or-append-add, get_or_append_left, get_or-drop, get_or-take, length-drop, nil_from_length}
 use Rattle.std.proofs.Math.ListN.{drop_of_length-le}
 use Rattle.std.proofs.Math.Seq.{drop-append_seam, take-append_seam}
-use Rattle.std.proofs.lemmas.Str.{IsCharBoundary-after_ascii, IsCharBoundary-before_ascii, IsCharBoundary-end, IsUtf8-drop, IsUtf8-take}
-use Rattle.std.specs.Str.{IsUtf8, IsCharBoundary}
 use Rattle.sshkey_entries.specs.Items.{is_comma, is_quote}
 use Rattle.sshkey_entries.specs.OptionEnds.{is_inside, is_mark}
 use Rattle.sshkey_entries.specs.OptionItems.{AreNameCharacters, EndsOption, IsOptionAt, IsQuoted, IsValueAt, KeyOption, equals_sign, is_name_character, quote, without_commas}
@@ -263,16 +261,6 @@ commas_before (c ∷ text) = by (is_comma c) refl (commas_before text)
     by true e more = (c ∷ more.0, ap (λ (t : List ℕ). c ∷ t) more.1 ∙ ap (λ (t : List ℕ). (c ∷ more.0) ++ t) (sym (skipped is_comma c text e)))
     by false e _ = ([], sym (stays is_comma c text e))
 
-utf8_left : (text : List ℕ) → IsUtf8 text → IsUtf8 (without_commas text)
-utf8_left [] utf8 = subst IsUtf8 (sym (nothing_stays is_comma)) utf8
-utf8_left (c ∷ text) utf8 = by (is_comma c) refl (utf8_left text)
-  where
-    by : (b : Bool) → is_comma c ≡ b → (IsUtf8 text → IsUtf8 (without_commas text)) → IsUtf8 (without_commas (c ∷ text))
-    by true e more =
-        let ascii : c < 128 = omega (arith, eqb-true c 0x2c e) in
-        subst IsUtf8 (sym (skipped is_comma c text e)) (more (IsUtf8-drop (c ∷ text) 1 utf8 (IsCharBoundary-after_ascii (c ∷ text) 0 utf8 (omega arith) ascii)))
-    by false e _ = subst IsUtf8 (sym (stays is_comma c text e)) utf8
-
 -- ---- the piece of the text up to where an option ends
 
 module _ (text left : List ℕ) (skips : left ≡ without_commas text) (end_ : ℕ) (ends : EndsAt left end_) where
@@ -317,15 +305,6 @@ module _ (text left : List ℕ) (skips : left ≡ without_commas text) (end_ : �
       let same : end_ ≡ length first.front = one_end left end_ (length first.front) ends first.ends in
       let front : take end_ left ≡ first.front = (λ j. take (same j) (first.is j)) ∙ take-append_seam first.front rest in
       subst (λ (t : List ℕ). IsOptionAt t o []) (sym (same_piece ∙ front)) first.alone
-
-  pub utf8_piece : IsUtf8 text → IsUtf8 (take end_ left)
-  utf8_piece utf8 = IsUtf8-take left end_ (subst IsUtf8 (sym skips) (utf8_left text utf8)) boundary
-    where
-      boundary : IsCharBoundary left end_
-      boundary = elim (cases_lt end_ (length left)) [
-        | inl less ↦ IsCharBoundary-before_ascii left end_ less (omega (arith, eqb-true (slice_index left end_) 0x2c (ends.ends less).0))
-        | inr above ↦ let e : length left ≡ end_ = omega (arith, above, ends.within) in subst (IsCharBoundary left) e (IsCharBoundary-end left)
-      ]
 
 -- ---- its place in all options
 

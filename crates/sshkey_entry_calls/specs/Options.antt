@@ -1,5 +1,5 @@
 -- What is answered of the options of an entry.
-use Rattle.std.specs.Prelude.{◌≡◌, ◌≢◌, ◌↔◌, ◌≤◌, ◌<◌, ℕ, List, [], ◌++◌, length, drop, slice_index, true, false, Option, Some, None}
+use Rattle.std.specs.Prelude.{◌≡◌, ◌≢◌, ◌↔◌, ◌≤◌, ◌<◌, ℕ, List, [], ◌++◌, length, drop, take, slice_index, true, false, Option, Some, None}
 use Rattle.std.specs.Str.{IsUtf8}
 use Rattle.sshkey_authorized_keys.specs.OpenSshItems.{key_option_of}
 use Rattle.sshkey_authorized_keys.specs.declared.openssh_option.OpenSshOption.{OpenSshOption}
@@ -62,17 +62,21 @@ pub record TellsOption (text : List ℕ) (next n : ℕ) (was answer : OptionPart
   pub memory : n ≡ 1 → (o : KeyOption) × BeginsWith text o
   pub others : n ≢ 0 → n ≢ 1 → n ≢ 2 → n ≡ 15
 
+-- The bytes up to where the option at their front ends are not UTF-8.
+abbrev pub IsNoText : List ℕ → Type 0
+IsNoText left = (end : ℕ) × EndsAt left end × (IsUtf8 (take end left) → ⊥)
+
 -- 0 and the option that begins at the place, after commas, and where the next one begins; 2 where
--- there is one, and the room is too short for it; 3 exactly where nothing but commas is left; 15
--- where there is none; 4 only where what is left is not UTF-8; and 1 is memory, and only where there
--- is one. But for 0 and 2, answer and room stay as they were.
+-- there is one, and the room is too short for it; 3 exactly where nothing but commas is left; 4
+-- exactly where what stands there is not UTF-8; 15 where it is no option; and 1 is memory, and only
+-- where there is one. But for 0 and 2, answer and room stay as they were.
 pub record FindsKeyOption (options : List ℕ) (place n : ℕ) (was answer : OptionParts) (before after : List ℕ) : Type 0 where
   pub found : n ≡ 0 → (o : KeyOption) × IsOptionAt (without_commas (drop place options)) o (drop answer.next options) × IsAtFront (option_bytes o) (ArePlaced answer.next o answer) before after
   pub later : n ≡ 0 → (place < answer.next) × (answer.next ≤ length options)
   pub short : n ≡ 2 → (o : KeyOption) × BeginsWith (drop place options) o × LacksRoom (option_bytes o) answer.length before after
   pub memory : n ≡ 1 → (o : KeyOption) × BeginsWith (drop place options) o
   pub last : (n ≡ 3) ↔ (without_commas (drop place options) ≡ [])
-  pub text : n ≡ 4 → IsUtf8 (drop place options) → ⊥
+  pub text : (n ≡ 4) ↔ IsNoText (without_commas (drop place options))
   pub none : n ≡ 15 → IsNoOption (without_commas (drop place options))
   pub others : n ≢ 0 → n ≢ 1 → n ≢ 2 → n ≢ 3 → n ≢ 4 → n ≡ 15
   pub stays : n ≢ 0 → n ≢ 2 → (answer ≡ was) × (after ≡ before)

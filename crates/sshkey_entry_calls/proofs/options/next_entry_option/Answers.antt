@@ -20,7 +20,7 @@ pub returns-in-Ok : goal.returns-in-Ok
 returns-in-Ok c =
     let left = c.skip_commas-left.result.now in
     let some : 0 < length left = search rules in
-    finds c.args.options.now c.args.place left (c.skip_commas-left.ensures ∙ ap without_commas c.rest_from.ensures) some c.option_end-end.result c.option_end-end.ensures _ _ _ _ _
+    finds c.args.options.now c.args.place left (c.skip_commas-left.ensures ∙ ap without_commas c.rest_from.ensures) some c.option_end-end.result c.option_end-end.ensures c.in-Ok.ensures.cases.1 _ _ _ _ _
     (subst (λ (t : List ℕ). TellsOption t (length c.args.options.now - (length left - c.option_end-end.result)) c.tell_option.result c.args.answer.now c.tell_option.new.answer c.args.room.now c.tell_option.new.room) c.in-Ok.ensures.cases.0 c.tell_option.ensures)
 
 pub returns-in-Err : goal.returns-in-Err
