@@ -123,7 +123,7 @@ def bill_of_materials(release, artefacts):
     libcrypto."""
     kit = release.read("toolchain").split()[0]
     parts = [package(it, kit, licence) for it, licence in release.parts.items()]
-    crypto = package("libcrypto", "1.1.1 or later", "Apache-2.0 OR OpenSSL", supplier="Organization: The OpenSSL Project")
+    crypto = package("libcrypto", "3.0 or later", "Apache-2.0", supplier="Organization: The OpenSSL Project")
     made, relations = [], []
     for path in artefacts:
         sums = [{"algorithm": "SHA256", "checksumValue": sum_of(path)}]
