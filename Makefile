@@ -120,8 +120,9 @@ check: lib
 
 INCLUDE := $(DESTDIR)$(PREFIX)/include
 LIB := $(DESTDIR)$(LIBDIR)
-# from where sshkey.pc is installed
+# the prefix, from where sshkey.pc is installed if that is below it
 UP := $(subst $() ,/,$(patsubst %,..,$(subst /, ,$(LIBDIR:$(PREFIX)/%=%)/pkgconfig)))
+FROM_LIB := $(if $(filter $(PREFIX)/%,$(LIBDIR)),$${pcfiledir}/$(UP),$(PREFIX))
 BIN := $(DESTDIR)$(PREFIX)/bin
 MAN := $(DESTDIR)$(PREFIX)/share/man
 # where the manual page is installed: sshkey-check.1 in man1
@@ -134,8 +135,9 @@ install: all
 	install -m 755 $(OUT)/libsshkey.so $(LIB)/libsshkey.so.$(VERSION)
 	ln -sf libsshkey.so.$(VERSION) $(LIB)/$(SONAME)
 	ln -sf $(SONAME) $(LIB)/libsshkey.so
-	$(FILL) -e 's|@include@|$${pcfiledir}/$(UP)/include|' -e 's|@lib@|$${pcfiledir}/..|' \
+	$(FILL) -e 's|@include@|$(FROM_LIB)/include|' -e 's|@lib@|$${pcfiledir}/..|' \
 		$(ROOT)/bindings/sshkey.pc.in >$(LIB)/pkgconfig/sshkey.pc
+	chmod 644 $(LIB)/pkgconfig/sshkey.pc
 	install -m 755 $(PROGRAMS) $(BIN)
 	$(foreach it,$(PAGES),install -m 644 $(ROOT)/helpers/$(it) $(call INSTALLED,$(it)) &&) true
 	@echo "sshd has to run sshkey-principals and sshkey-authorized-keys as a user that nothing else"
