@@ -16,9 +16,10 @@ which nothing follows about it. All raise TypeError for a text in place of bytes
 UnicodeEncodeError, a ValueError too, for a text that UTF-8 can't write.
 
 The library is the file that SSHKEY_LIBRARY names in the environment, or else the one that a wheel has, in the sources
-out/libsshkey.so (`make` builds it), or else the system's. Whoever sets SSHKEY_LIBRARY has their code run: it is ignored where the effective and the real
-user or group differ, and a helper that keeps its caller's environment in another way has to clear it. A library of another ABI, or
-without one of the calls, is refused: OSError, when this package is imported. Calls from several threads at once are fine.
+out/libsshkey.so (`make` builds it), or else the system's. Whoever sets SSHKEY_LIBRARY has their code run: it is ignored where
+the effective and the real user or group differ, and a helper that keeps its caller's environment in another way has to clear it.
+A library of another ABI, or without one of the calls, is refused: OSError, when this package is imported. Calls from several
+threads at once are fine.
 """
 from ._addresses import Address, from_allows, source_address_allows
 from ._authorities import Authorities, NoKey, authorities, is_other_key_line
