@@ -38,8 +38,9 @@ PROCESSOR := $(patsubst aarch64-%,arm64,$(patsubst x86_64-%,amd64,$(shell $(CC) 
 TEXT := $(ROOT)/bindings/go/sshkey/sshkey_linux_$(PROCESSOR).S
 # the flag, where the compiler takes it
 TAKEN = $(shell $(CC) -Werror $(1) -E -x c /dev/null >/dev/null 2>&1 && echo $(1))
-# sshd starts the helpers with what a client sent
-HARDENED := -fstack-protector-strong $(call TAKEN,-fstack-clash-protection) -D_FORTIFY_SOURCE=2 -fPIE
+# sshd starts the helpers with what a client sent; some compilers define the last themselves
+HARDENED := -fstack-protector-strong $(call TAKEN,-fstack-clash-protection) \
+	-U_FORTIFY_SOURCE -D_FORTIFY_SOURCE=2 -fPIE
 # nothing that is linked later can be written
 READONLY := -Wl,-z,relro,-z,now
 WARNED := -std=c11 -D_POSIX_C_SOURCE=200809L -Wall -Wextra -pedantic -I$(ROOT)/include
