@@ -11,9 +11,9 @@ from .papers import MACHINES, filled, indented, proved_by
 # what of the tree the source package has: nothing that takes the proofs or the toolchain; and what git does not keep, the texts
 SOURCES = [
     "CHANGELOG.md", "CONTACT", "CONTRIBUTING.md", "LICENSE-APACHE", "LICENSE-MIT", "Makefile", "NOTICE", "README.md", "SECURITY.md",
-    "VERSION", "bindings", ":!bindings/dist", ":!bindings/library", ":!bindings/release", "checks/asked", "checks/callers",
-    "checks/entry-lines", "checks/foreign", "checks/foreign.c", "checks/hostile", "checks/hosts", "checks/lib/*.py", "checks/threads.c",
-    "docs/*.md", "docs/*.svg", "examples", "helpers", "include", "toolchain",
+    "VERSION", "bindings", ":!bindings/dist", ":!bindings/library", ":!bindings/release", "checks/asked", ":!checks/asked/user_key*",
+    ":!checks/asked/openssh_*", "checks/callers", "checks/entry-lines", "checks/foreign", "checks/foreign.c", "checks/hostile",
+    "checks/hosts", "checks/lib/*.py", "checks/threads.c", "docs/*.md", "docs/*.svg", "examples", "helpers", "include", "toolchain",
 ]  # fmt: skip
 TEXTS = [f"bindings/go/sshkey/sshkey_linux_{it}.S" for it in MACHINES]
 # what makes a compiler for the machine's libraries of each processor
