@@ -533,9 +533,9 @@ typedef struct {
  *
  * SSHKEY_DONE, or SSHKEY_ROOM, only where sshkey_login_verdict, asked with 0, says
  * SSHKEY_NOT_SIGNED: all that is looked at before is right. Else what that says; SSHKEY_NOT_SIGNED
- * is said of a certificate that raises no question. With no answer but SSHKEY_DONE there is
- * something to verify. A room of twice the certificate's length and 256 bytes is enough.
- * SSHKEY_MEMORY only where the user is UTF-8 and the key is one. */
+ * is said of a certificate that raises no question. Only with SSHKEY_DONE is there something to
+ * verify. A room of twice the certificate's length and 256 bytes is enough. SSHKEY_MEMORY only where
+ * the user is UTF-8 and the key is one. */
 uint32_t sshkey_login_question(const sshkey_login *login, uint8_t *room, size_t room_length,
                                sshkey_question *answer);
 
@@ -546,12 +546,11 @@ uint32_t sshkey_login_question(const sshkey_login *login, uint8_t *room, size_t 
  * SSHKEY_DONE exactly if the bytes are a certificate for users, in its normal form, of just that
  * key, which OpenSSH lets in, that lists the user; with options and texts that sshd accepts, and a
  * source-address that has the client's, unless you judge it; valid at that second by one of the
- * authorities; `is_verified` is 1; and no
- * revocation file revokes it (memory and room aside). Else what is wrong first: SSHKEY_TEXT for the
- * user, 10 to 29 for bytes that are no key, or else no certificate, 70 to 72, 59, 73 to 76, then
- * SSHKEY_UNTRUSTED_AUTHORITY, SSHKEY_UNREADABLE_REVOCATIONS or SSHKEY_REVOKED, 30, 32 to 34, and
- * SSHKEY_ELSEWHERE. A room as long as the certificate is enough. SSHKEY_MEMORY only where the user
- * is UTF-8 and the key is one.
+ * authorities; `is_verified` is 1; and no revocation file revokes it (memory and room aside). Else
+ * what is wrong first: SSHKEY_TEXT for the user, 10 to 29 for bytes that are no key, or else no
+ * certificate, 70 to 72, 59, 73 to 76, then SSHKEY_UNTRUSTED_AUTHORITY,
+ * SSHKEY_UNREADABLE_REVOCATIONS or SSHKEY_REVOKED, 30, 32 to 34, and SSHKEY_ELSEWHERE. A room as
+ * long as the certificate is enough. SSHKEY_MEMORY only where the user is UTF-8 and the key is one.
  *
  * With SSHKEY_ROOM `*answer` is zero but for its `length`, and with every other answer but
  * SSHKEY_DONE all zero, which permits nothing; the room stays as it was.
@@ -630,8 +629,8 @@ uint32_t sshkey_sshsig_question_of_digest(const uint8_t *signature, size_t signa
 
 /* Whether an SSH signature counts in that namespace, where the keys with these SHA-256 fingerprints
  * may sign. `is_verified` is 1 if the answer to the question of this signature, in the namespace
- * and of the message, is yes; any other number is no. Ask with 0 first: SSHKEY_NOT_SIGNED says that its
- * key may sign, and with any other answer there is nothing to verify.
+ * and of the message, is yes; any other number is no. Ask with 0 first: SSHKEY_NOT_SIGNED says that
+ * its key may sign, and with any other answer there is nothing to verify.
  *
  * SSHKEY_DONE exactly if the bytes are a signature in the namespace that raises a question, without
  * reserved bytes, `is_verified` is 1, and its key is one of those (memory aside). Else 10 to 29 for
@@ -785,10 +784,10 @@ typedef struct {
 } sshkey_entry_option_parts;
 
 /* The option that begins at that place of the options of an entry, commas before it aside: begin at
- * 0, and go on at answer.next. SSHKEY_DONE exactly if one stands there (memory and room aside);
- * SSHKEY_END exactly where nothing but commas is left, SSHKEY_FORMAT if no option stands there, and
- * SSHKEY_TEXT if it is not UTF-8. A room of the options' length is enough. All options take time in
- * proportion to them.
+ * 0, and go on at answer.next. SSHKEY_DONE exactly if one stands there that is UTF-8 (memory and
+ * room aside); SSHKEY_END exactly where nothing but commas is left, SSHKEY_TEXT if what stands before
+ * the next comma outside quotes is not UTF-8, and SSHKEY_FORMAT if it is no option. A room of the
+ * options' length is enough. All options take time in proportion to them.
  *
  * Go on to SSHKEY_END before you let anybody in, since what follows an option is not read with it.
  * Refuse an entry whose options end otherwise, one with an option that you do not know, one that
