@@ -28,7 +28,7 @@ static const char help[] =
 typedef struct {
   judge_blob blob; /* of malloc */
   bool is_certificate;
-  judge_blob key; /* the normal form, of malloc, of the key or of the one that signed it */
+  judge_blob key; /* of malloc: the normal form of the key, or of the certificate's signer */
   size_t printed; /* how many lines are */
 } offered;
 
