@@ -499,10 +499,11 @@ typedef struct {
                                  Who asks none says so: SSHKEY_NO_REVOCATIONS */
   uint64_t unix_timestamp;
   uint32_t least_rsa_bits;    /* as RequiredRSASize; below 1,024, as 0, it is 1,024 */
-  uint32_t judges_address;    /* 1: you judge yourself whether source-address has the client's, and
-                                 `client` is not looked at: so does sshd with a certificate whose
-                                 principals a program tells it, and before 9.4 it tells that program
-                                 no address. With any other number, as 0, it is judged here */
+  uint32_t judges_address;    /* 1: you judge yourself whether source-address, which no grant tells,
+                                 has the client's, and `client` is not looked at: so does sshd with
+                                 a certificate whose principals a program tells it, and before 9.4
+                                 it tells that program no address. With any other number, as 0, it
+                                 is judged here */
 } sshkey_login;
 
 /* What a grant permits. Zero permits nothing. */
@@ -534,8 +535,8 @@ typedef struct {
  * SSHKEY_DONE, or SSHKEY_ROOM, only where sshkey_login_verdict, asked with 0, says
  * SSHKEY_NOT_SIGNED: all that is looked at before is right. Else what that says; SSHKEY_NOT_SIGNED
  * is said of a certificate that raises no question. Only with SSHKEY_DONE is there something to
- * verify. A room of twice the certificate's length and 256 bytes is enough. SSHKEY_MEMORY only where
- * the user is UTF-8 and the key is one. */
+ * verify. A room of twice the certificate's length and 256 bytes is enough. SSHKEY_MEMORY only
+ * where the user is UTF-8 and the key is one. */
 uint32_t sshkey_login_question(const sshkey_login *login, uint8_t *room, size_t room_length,
                                sshkey_question *answer);
 
@@ -785,9 +786,9 @@ typedef struct {
 
 /* The option that begins at that place of the options of an entry, commas before it aside: begin at
  * 0, and go on at answer.next. SSHKEY_DONE exactly if one stands there that is UTF-8 (memory and
- * room aside); SSHKEY_END exactly where nothing but commas is left, SSHKEY_TEXT if what stands before
- * the next comma outside quotes is not UTF-8, and SSHKEY_FORMAT if it is no option. A room of the
- * options' length is enough. All options take time in proportion to them.
+ * room aside); SSHKEY_END exactly where nothing but commas is left, SSHKEY_TEXT if what stands
+ * before the next comma outside quotes is not UTF-8, and SSHKEY_FORMAT if it is no option. A room of
+ * the options' length is enough. All options take time in proportion to them.
  *
  * Go on to SSHKEY_END before you let anybody in, since what follows an option is not read with it.
  * Refuse an entry whose options end otherwise, one with an option that you do not know, one that

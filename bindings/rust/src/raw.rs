@@ -340,9 +340,9 @@ pub(crate) struct Login<'a> {
     pub unix_timestamp: u64,
     /// As RequiredRSASize; below 1,024, as 0, it is 1,024.
     pub least_rsa_bits: u32,
-    /// 1: you judge yourself whether source-address has the client's, and `client` is not looked
-    /// at: so does sshd with a certificate whose principals a program tells it, and before 9.4 it
-    /// tells that program no address.
+    /// 1: you judge yourself whether source-address, which no grant tells, has the client's, and
+    /// `client` is not looked at: so does sshd with a certificate whose principals a program tells
+    /// it, and before 9.4 it tells that program no address.
     pub judges_address: u32,
 }
 
