@@ -787,8 +787,8 @@ typedef struct {
 /* The option that begins at that place of the options of an entry, commas before it aside: begin at
  * 0, and go on at answer.next. SSHKEY_DONE exactly if one stands there that is UTF-8 (memory and
  * room aside); SSHKEY_END exactly where nothing but commas is left, SSHKEY_TEXT if what stands
- * before the next comma outside quotes is not UTF-8, and SSHKEY_FORMAT if it is no option. A room of
- * the options' length is enough. All options take time in proportion to them.
+ * before the next comma outside quotes is not UTF-8, and SSHKEY_FORMAT if it is no option. A room
+ * of the options' length is enough. All options take time in proportion to them.
  *
  * Go on to SSHKEY_END before you let anybody in, since what follows an option is not read with it.
  * Refuse an entry whose options end otherwise, one with an option that you do not know, one that
