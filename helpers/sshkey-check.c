@@ -265,7 +265,8 @@ static bool read_files(program_files *files) {
 static bool read_second(const char *word, uint64_t *answer) {
   sshkey_time_span span = {0, 0};
   size_t length = strlen(word);
-  if (length != 12 && length != 14 && program_read_number(word, answer)) return true;
+  bool has_length = length == 8 || length == 12 || length == 14; /* of a date */
+  if (!has_length && program_read_number(word, answer)) return true;
   bool is_date = sshkey_read_time((const uint8_t *)word, length, &span) == SSHKEY_DONE;
   *answer = span.first;
   if (is_date && span.first == span.last) return true;
