@@ -1,5 +1,5 @@
 //! What the options of a line of authorized_keys bind a login to (sshd(8), "AUTHORIZED_KEYS FILE
-//! FORMAT"), and what a certificate's options say beside them.
+//! FORMAT").
 #![tactic(auto)]
 
 mod numbers;

@@ -23,8 +23,9 @@ use std::alloc::Global;
 ///
 /// Returns 0 if it does, 1 if memory ran out, from 10 to 29 the fault of bytes that are no SSH
 /// signature, and else what is wrong first: 55 for another key, and 30 where it was not verified, is
-/// in another namespace or has reserved bytes. So 30, before anything is verified, says that its key
-/// may sign. Memory is taken only for a part of the signature that is whole.
+/// in another namespace, has reserved bytes or raises no question. So 30, before anything is
+/// verified, says that its key may sign. Memory is taken only for a part of the signature that is
+/// whole.
 pub fn sshsig_verdict(
     alloc: Global,
     signature: &[u8],

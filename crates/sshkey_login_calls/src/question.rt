@@ -27,7 +27,8 @@ use std::str;
 /// said of a certificate that raises no question, and so is not signed.
 ///
 /// So nobody verifies a certificate that a stranger signed, or a revoked one. Memory is taken only
-/// where the user is UTF-8 and the key is one. But with 0 and 2, answer and room stay as they were.
+/// where the user is UTF-8 and the key is one. With 2 the room stays as it was, and with every other
+/// number but 0 the answer too.
 pub fn login_question(
     alloc: Global,
     login: &LoginRequest<'_>,

@@ -8,7 +8,7 @@ use Rattle.user_keys.specs.declared.marks.Marks.{Marks}
 use Rattle.sshkey_model.specs.Keys.{Key, Dsa, Ecdsa, Ed25519, Rsa, SkEcdsa, SkEd25519, Opaque}
 use denote.Ref.{Bor}
 
--- ---- the part of a key that no other has
+-- ---- the part by which a key is sought
 
 -- its point, or its last number
 abbrev pub own_part : Key → List ℕ

@@ -12,7 +12,7 @@ use Rattle.sshkey_model.specs.Keys.{Key}
 use Rattle.login_terms.specs.Terms.{Terms, terms_of}
 use Rattle.user_keys.specs.Judgements.{Judges}
 use Rattle.user_keys.specs.Lines.{IsFor, MayBeFor}
-use Rattle.user_keys.specs.declared.answer.Judgement.TheVariants.{Allows, Refuses as Refuses, Unclear}
+use Rattle.user_keys.specs.declared.answer.Judgement.TheVariants.{Allows, Refuses, Unclear}
 use Rattle.user_keys.specs.declared.grant.Grant.{Grant}
 use Rattle.user_keys.specs.declared.login.UserLogin as code
 use Rattle.user_keys.specs.declared.refusal.Reason.{Reason}
@@ -85,7 +85,7 @@ pub record Admits (login : UserLogin) (revokes_key : List ℕ → Bool) (g : Gra
   pub unrevoked : is_key_revoked revokes_key login.offered ≡ false
   pub granted : GrantsFirst login g
 
--- ---- sshd, of whatever version and on whatever machine
+-- ---- sshd, since 10.5 and on whatever machine: before, `restrict` left tunnels
 
 -- It takes a line for one by which the key is let in on some terms, or passes over it. It does so
 -- where that is told here, and else only where it may.

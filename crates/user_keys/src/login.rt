@@ -7,7 +7,7 @@ use std::net::IpAddr;
 #[derive(Debug, Clone, Copy)]
 pub struct UserLogin<'a> {
     /// The text of authorized_keys, of one file: ask about one file after the other, as long as the
-    /// answer is `NotListed` or `NotAllowed`.
+    /// answer is `NotListed` or `NotAllowed`. sshd also reads lines that are not UTF-8.
     pub text: &'a str,
     /// The key under which the client has signed.
     pub offered: &'a KeyData,

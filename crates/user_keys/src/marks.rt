@@ -13,7 +13,7 @@ use sshkey_keys::KeyData;
 /// How many symbols of Base64 a mark has.
 const SYMBOLS: usize = 20;
 
-/// The part of a key that no other has: its point, or its last number.
+/// The part by which a key is sought: its point, or its last number.
 pub(crate) fn own_part(key: &KeyData) -> &[u8]
     ensures { result.now ≡ own_part (key_of key.now) }
 {
