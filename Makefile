@@ -63,8 +63,12 @@ ifneq ($(wildcard $(ROOT)/crates.txt),)
 endif
 	@test -f $@ || { echo "there is no library for this processor: $@"; exit 1; }
 
-$(OUT)/library.o: $(TEXT)
+# of another processor all is compiled anew
+$(OUT)/processor: always
 	@mkdir -p $(OUT)
+	@echo $(PROCESSOR) | cmp -s - $@ || echo $(PROCESSOR) >$@
+
+$(OUT)/library.o: $(TEXT) $(OUT)/processor
 	$(if $(filter %.a,$<),$(LD) -r --whole-archive,$(CC) -c) -o $@ $<
 
 # malloc and its like, as the crate asks for them
@@ -87,8 +91,7 @@ $(OUT)/sshkey.pc: $(ROOT)/bindings/sshkey.pc.in $(ROOT)/VERSION
 	@mkdir -p $(OUT)
 	$(FILL) -e 's|@include@|$(ROOT)/include|' -e 's|@lib@|$${pcfiledir}|' $< >$@
 
-$(OUT)/%.o: %.c $(HEADERS)
-	@mkdir -p $(OUT)
+$(OUT)/%.o: %.c $(HEADERS) $(OUT)/processor
 	$(CC) $(WARNED) $(CFLAGS) $(HARDENED) -c -o $@ $<
 
 $(OUT)/parts.a: $(PARTS)
