@@ -1,5 +1,5 @@
 -- The first of some lines that lets a key in, or refuses it.
-use Rattle.std.proofs.Common.{◌≡◌, ◌∙◌, ◌⊎◌, ◌+◌, ◌-◌, ◌<◌, ℕ, zero, suc, List, [], ◌∷◌, ◌++◌, Bool, false, IsTrue, Option, Some, None, IfErr, Result, Ok, Err, ap, append_assoc, arith, get_or, inl, inr, length, refl, subst, sym}
+use Rattle.std.proofs.Common.{◌≡◌, ◌∙◌, ◌⊎◌, ◌+◌, ◌-◌, ◌<◌, ℕ, zero, suc, List, [], ◌∷◌, ◌++◌, Bool, false, IsTrue, Option, Some, None, IfErr, IfOk, Result, Ok, Err, ap, append_assoc, arith, get_or, inl, inr, length, refl, subst, sym}
 use Rattle.std.proofs.lemmas.Bool.{cases_lt}
 use Rattle.std.proofs.lemmas.List.{get_or_append_left, get_or-append_right, length-append}
 use Rattle.std.proofs.Math.Seq.{get_or-append_seam}
@@ -10,7 +10,7 @@ use Rattle.sshkey_krl.specs.Revocations.{is_key_revoked}
 use Rattle.login_terms.specs.Terms.{Terms, terms_of}
 use Rattle.user_keys.specs.Answers.{AsksOfLines, GrantsExactly, IsWhyNoLine, SaysOf, first_refused, refusal_for}
 use Rattle.user_keys.specs.Spellings.{MaySpell, own_part}
-use Rattle.user_keys.specs.UserLogins.{Admits, Ends, GrantsFirst, IsAsStrict, IsFirst, IsListedBy, MayLet, RefusesFor, UserLogin}
+use Rattle.user_keys.specs.UserLogins.{Admits, Ends, GrantsFirst, IsAsStrict, IsFirst, IsListedBy, MayLet, RefusesFor, UserLogin, listed_key}
 use Rattle.user_keys.specs.declared.answer.LineVerdict.TheVariants as verdict
 use Rattle.user_keys.specs.declared.grant.Grant.{Grant}
 use Rattle.user_keys.specs.declared.refusal.Reason.{Reason}
@@ -57,7 +57,7 @@ pub out_of_memory : (P : Grant → Type 0) (r : Result Grant Refusal) → IsErrA
 out_of_memory P (Ok g) is = absurd is
 out_of_memory P (Err e) is = λ other. absurd (other is)
 
-pub asked : (login : UserLogin) (r : Result Grant Refusal) → Any (MaySpell (own_part login.offered)) login.lines → AsksOfLines login r
+pub asked : (login : UserLogin) (r : Result Grant Refusal) → Any (MaySpell (own_part (listed_key login))) login.lines → AsksOfLines login r
 asked login (Ok g) some = tt
 asked login (Err e) some = λ memory. some
 
@@ -102,7 +102,7 @@ is_some_of None some = absurd cc
 
 module _ (login : UserLogin) where
   pub granted : (g : Grant) (line : List ℕ) → IsFirst (Ends login) login.lines line g.line → SaysOf login line (verdict.Lets g.terms) → GrantsFirst login g
-  granted g line first says = record { line = line; first = first; lets = says.0; told = says.2 }
+  granted g line first says = record { line = line; first = first; lets = says.0; alone = says.1; told = says.2 }
 
   pub strict : (g : Grant) (line : List ℕ) → IsFirst (Ends login) login.lines line g.line → SaysOf login line (verdict.Lets g.terms) → IsAsStrict login g
   strict g line first says = λ takes as_told.
@@ -156,6 +156,6 @@ module _ (login : UserLogin) where
 
 -- ---- the whole
 
-pub admitted : (login : UserLogin) (revokes_key : List ℕ → Bool) → IsTrue (is_let_in login.least_rsa_bits login.offered) → is_key_revoked revokes_key login.offered ≡ false → (r : Result Grant Refusal) → GrantsExactly (GrantsFirst login) r → GrantsExactly (Admits login revokes_key) r
-admitted login revokes_key accepted unrevoked (Ok g) is = record { accepted = accepted; unrevoked = unrevoked; granted = is }
-admitted login revokes_key accepted unrevoked (Err r) none = λ other g is. none other g is.granted
+pub admitted : (login : UserLogin) (revokes_key : List ℕ → Bool) → IsTrue (is_let_in login.least_rsa_bits login.offered) → is_key_revoked revokes_key login.offered ≡ false → (r : Result Grant Refusal) → IfOk r (λ g. g.certified ≡ None) → GrantsExactly (GrantsFirst login) r → GrantsExactly (Admits login revokes_key) r
+admitted login revokes_key accepted unrevoked (Ok g) by_key is = record { accepted = accepted; unrevoked = unrevoked; granted = is; by_key = by_key }
+admitted login revokes_key accepted unrevoked (Err r) by_key none = λ other g is. none other g is.granted

@@ -1,13 +1,15 @@
 -- What a line says of a login is one thing.
 use denote.Ref.{Bor}
-use Rattle.std.proofs.Common.{◌≡◌, ℕ, List, Bool, true, false, Option, inl, inr, refl, subst, sym}
+use Rattle.std.proofs.Common.{◌≡◌, ◌∙◌, ℕ, List, Bool, true, false, Option, Some, None, ap, inl, inr, refl, subst, sym}
 use Rattle.std.specs.declared.net.ip_addr.IpAddr.{IpAddr}
 use Rattle.login_terms.specs.Terms.{Terms, terms_of}
+use Rattle.sshkey_model.specs.Certificates.{Certificate}
 use Rattle.login_terms.specs.declared.terms.Terms as code
 use Rattle.user_keys.specs.Answers.{FollowsFrom, SaysOf}
 use Rattle.user_keys.specs.Judgements.{CountsAt, Judges, LetsFrom, NamesInVain, joined}
-use Rattle.user_keys.specs.Lines.{IsFor, MayBeFor}
-use Rattle.user_keys.specs.UserLogins.{Ends, IsListedBy, Lets, MayLet, UserLogin}
+use Rattle.user_keys.specs.Certificates.{judged_with}
+use Rattle.user_keys.specs.Lines.{MayBeFor}
+use Rattle.user_keys.specs.UserLogins.{Ends, IsListedBy, IsOwn, JudgesLogin, JudgesWith, Lets, MayLet, UserLogin, listed_key}
 use Rattle.user_keys.specs.declared.answer.Answer.{Answer}
 use Rattle.user_keys.specs.declared.answer.Answer.TheVariants.{Yes, No, Unclear}
 use Rattle.user_keys.specs.declared.answer.Judgement.{Judgement}
@@ -58,6 +60,8 @@ module _ (t : Terms) (time : ℕ) (client : Option IpAddr) (host : Option (Bor (
   allows_refuses reason.Expired allows refused = later Yes yes_no allows.0 refused
   allows_refuses reason.Authority allows refused = allows.1 refused.1
   allows_refuses reason.Elsewhere allows refused = elsewhere Yes yes_no allows.2 refused.2
+  allows_refuses reason.Command allows refused = elim refused [ ]
+  allows_refuses reason.Principals allows refused = elim refused [ ]
 
   allows_unclear : Judges t time client host judgement.Allows → Judges t time client host judgement.Unclear → ⊥
   allows_unclear allows may = elim may.3 [
@@ -69,15 +73,65 @@ module _ (t : Terms) (time : ℕ) (client : Option IpAddr) (host : Option (Bor (
   refuses_unclear reason.Expired refused may = may.0 refused
   refuses_unclear reason.Authority refused may = may.1 refused.1
   refuses_unclear reason.Elsewhere refused may = may.2 refused.2
+  refuses_unclear reason.Command refused may = elim refused [ ]
+  refuses_unclear reason.Principals refused may = elim refused [ ]
+
+  one_reason : (r s : Reason) → Judges t time client host (judgement.Refuses r) → Judges t time client host (judgement.Refuses s) → r ≡ s
+  one_reason reason.Expired reason.Expired p q = refl
+  one_reason reason.Expired reason.Authority p q = absurd (q.0 p)
+  one_reason reason.Expired reason.Elsewhere p q = absurd (q.0 p)
+  one_reason reason.Expired reason.Command p q = absurd q
+  one_reason reason.Expired reason.Principals p q = absurd q
+  one_reason reason.Authority reason.Expired p q = absurd (p.0 q)
+  one_reason reason.Authority reason.Authority p q = refl
+  one_reason reason.Authority reason.Elsewhere p q = absurd (q.1 p.1)
+  one_reason reason.Authority reason.Command p q = absurd q
+  one_reason reason.Authority reason.Principals p q = absurd q
+  one_reason reason.Elsewhere reason.Expired p q = absurd (p.0 q)
+  one_reason reason.Elsewhere reason.Authority p q = absurd (p.1 q.1)
+  one_reason reason.Elsewhere reason.Elsewhere p q = refl
+  one_reason reason.Elsewhere reason.Command p q = absurd q
+  one_reason reason.Elsewhere reason.Principals p q = absurd q
+  one_reason reason.Command s p q = absurd p
+  one_reason reason.Principals s p q = absurd p
+
+  pub one_judgement : (a b : Judgement) → Judges t time client host a → Judges t time client host b → a ≡ b
+  one_judgement judgement.Allows judgement.Allows p q = refl
+  one_judgement judgement.Allows (judgement.Refuses r) p q = absurd (allows_refuses r p q)
+  one_judgement judgement.Allows judgement.Unclear p q = absurd (allows_unclear p q)
+  one_judgement (judgement.Refuses r) judgement.Allows p q = absurd (allows_refuses r q p)
+  one_judgement (judgement.Refuses r) (judgement.Refuses s) p q = ap (λ (x : Reason). judgement.Refuses x) (one_reason r s p q)
+  one_judgement (judgement.Refuses r) judgement.Unclear p q = absurd (refuses_unclear r p q)
+  one_judgement judgement.Unclear judgement.Allows p q = absurd (allows_unclear q p)
+  one_judgement judgement.Unclear (judgement.Refuses r) p q = absurd (refuses_unclear r q p)
+  one_judgement judgement.Unclear judgement.Unclear p q = refl
+
+-- with a certificate too
+one_with : (certificate : Option Certificate) (user : List ℕ) (t : Terms) (Says : Judgement → Type 0) → ((a b : Judgement) → Says a → Says b → a ≡ b) → (a b : Judgement) → JudgesWith certificate user t Says a → JudgesWith certificate user t Says b → a ≡ b
+one_with None user t Says one a b p q = one a b p q
+one_with (Some c) user t Says one a b p q = p.2 ∙ ap (λ (j : Judgement). judged_with c user t j) (one p.0 q.0 p.1 q.1) ∙ sym q.2
+
+one_of_login : (login : UserLogin) (t : Terms) (a b : Judgement) → JudgesLogin login t a → JudgesLogin login t b → a ≡ b
+one_of_login login t = one_with login.certificate login.user t (λ j. Judges t login.time login.client login.host j) (one_judgement t login.time login.client login.host)
+
+allows_no_refusal : (r : Reason) → judgement.Allows ≡ judgement.Refuses r → ⊥
+allows_no_refusal r e = cc
+
+allows_no_doubt : judgement.Allows ≡ judgement.Unclear → ⊥
+allows_no_doubt e = cc
+
+refuses_no_doubt : (r : Reason) → judgement.Refuses r ≡ judgement.Unclear → ⊥
+refuses_no_doubt r e = cc
 
 -- ---- a line
 
-module _ (login : UserLogin) (line : List ℕ) (terms : code.Terms) (own : IsFor false login.offered line (terms_of terms)) (one : (u : Terms) → IsFor false login.offered line u → u ≡ terms_of terms) (told : MayBeFor login.offered line → ⊥) where
+module _ (login : UserLogin) (line : List ℕ) (terms : code.Terms) (own : IsOwn login line (terms_of terms)) (one : (u : Terms) → IsOwn login line u → u ≡ terms_of terms) (told : MayBeFor (listed_key login) line → ⊥) where
   abbrev Here : Terms → Judgement → Type 0
-  Here t j = Judges t login.time login.client login.host j
+  Here t j = JudgesLogin login t j
 
-  same : (u : Terms) (j : Judgement) → IsFor false login.offered line u → Here u j → Here (terms_of terms) j
-  same u j for says = subst (λ (t : Terms). Here t j) (one u for) says
+  -- what is said of others is said of these
+  same : (u : Terms) (a b : Judgement) → Here (terms_of terms) a → IsOwn login line u → Here u b → a ≡ b
+  same u a b here for says = one_of_login login (terms_of terms) a b here (subst (λ (t : Terms). Here t b) (one u for) says)
 
   pub says : (j : Judgement) → Here (terms_of terms) j → (v : LineVerdict) → FollowsFrom terms j v → SaysOf login line v
   says judgement.Allows allows v is = subst (SaysOf login line) (sym is) (
@@ -85,26 +139,26 @@ module _ (login : UserLogin) (line : List ℕ) (terms : code.Terms) (own : IsFor
     (λ u lets. one u lets.own),
     λ may. elim may [
       | inl be ↦ told be
-      | inr other ↦ allows_unclear (terms_of terms) login.time login.client login.host allows (same other.terms judgement.Unclear other.own other.may)
+      | inr other ↦ allows_no_doubt (same other.terms judgement.Allows judgement.Unclear allows other.own other.may)
     ],
   )
   says (judgement.Refuses r) refused v is = subst (SaysOf login line) (sym is) (
     record { terms = terms_of terms; own = own; refused = refused },
     λ ends. elim ends [
-      | inl lets ↦ allows_refuses (terms_of terms) login.time login.client login.host r (same lets.0 judgement.Allows lets.1.own lets.1.allowed) refused
+      | inl lets ↦ allows_no_refusal r (sym (same lets.0 (judgement.Refuses r) judgement.Allows refused lets.1.own lets.1.allowed))
       | inr (inl be) ↦ told be
-      | inr (inr other) ↦ refuses_unclear (terms_of terms) login.time login.client login.host r refused (same other.terms judgement.Unclear other.own other.may)
+      | inr (inr other) ↦ refuses_no_doubt r (same other.terms (judgement.Refuses r) judgement.Unclear refused other.own other.may)
     ],
   )
   says judgement.Unclear may v is = subst (SaysOf login line) (sym is) (
     inr (record { terms = terms_of terms; own = own; may = may }),
-    λ u lets. allows_unclear (terms_of terms) login.time login.client login.host (same u judgement.Allows lets.own lets.allowed) may,
+    λ u lets. allows_no_doubt (sym (same u judgement.Unclear judgement.Allows may lets.own lets.allowed)),
   )
 
 -- ---- a line without told terms
 
-module _ (login : UserLogin) (line : List ℕ) (none : (t : Terms) → IsFor false login.offered line t → ⊥) where
-  pub passes : (MayBeFor login.offered line → ⊥) → ¬ IsListedBy login line × ¬ Ends login line
+module _ (login : UserLogin) (line : List ℕ) (none : (t : Terms) → IsOwn login line t → ⊥) where
+  pub passes : (MayBeFor (listed_key login) line → ⊥) → ¬ IsListedBy login line × ¬ Ends login line
   passes told = (
     λ listed. none listed.0 listed.1,
     λ ends. elim ends [
@@ -114,5 +168,5 @@ module _ (login : UserLogin) (line : List ℕ) (none : (t : Terms) → IsFor fal
     ],
   )
 
-  pub may_let : MayBeFor login.offered line → MayLet login line × ((t : Terms) → Lets login line t → ⊥)
+  pub may_let : MayBeFor (listed_key login) line → MayLet login line × ((t : Terms) → Lets login line t → ⊥)
   may_let be = (inl be, λ t lets. none t lets.own)

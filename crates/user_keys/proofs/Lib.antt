@@ -6,3 +6,6 @@ mod LongParts
 mod Places
 mod ReadOptions
 mod Spelled
+mod Shown
+mod ListedNames
+mod CertificateLogins

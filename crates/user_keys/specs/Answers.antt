@@ -5,7 +5,7 @@ use Rattle.openssh_limits.specs.Keys.{is_let_in}
 use Rattle.sshkey_krl.specs.Revocations.{is_key_revoked}
 use Rattle.login_terms.specs.Terms.{Terms, terms_of}
 use Rattle.user_keys.specs.Spellings.{MaySpell, own_part}
-use Rattle.user_keys.specs.UserLogins.{Ends, IsFirst, IsListedBy, Lets, MayLet, RefusesFor, UserLogin}
+use Rattle.user_keys.specs.UserLogins.{Ends, IsFirst, IsListedBy, Lets, MayLet, RefusesFor, UserLogin, listed_key}
 use Rattle.login_terms.specs.declared.terms.Terms as code
 use Rattle.user_keys.specs.declared.answer.Judgement.{Judgement}
 use Rattle.user_keys.specs.declared.answer.Judgement.TheVariants as judgement
@@ -46,6 +46,7 @@ IsWhyNoLine login (refusal.NotAllowed n reason) = ¬ Any (Ends login) login.line
 IsWhyNoLine login (refusal.Unclear n) = (line : List ℕ) × IsFirst (Ends login) login.lines line n × MayLet login line
 IsWhyNoLine login refusal.UnacceptedKey = ⊥
 IsWhyNoLine login refusal.Revoked = ⊥
+IsWhyNoLine login (refusal.Certificate r) = ⊥
 IsWhyNoLine login refusal.Memory = ⊥
 
 -- sshd does not accept the key; or it does, and the key is revoked, or is not, and the lines refuse
@@ -70,7 +71,7 @@ refusal_for (Some x) = refusal.NotAllowed x.0 x.1
 -- Memory was refused only where the key may be spelled in a line.
 abbrev pub AsksOfLines : UserLogin → Result Grant Refusal → Type 0
 AsksOfLines login (Ok g) = Unit {0}
-AsksOfLines login (Err r) = r ≡ refusal.Memory → Any (MaySpell (own_part login.offered)) login.lines
+AsksOfLines login (Err r) = r ≡ refusal.Memory → Any (MaySpell (own_part (listed_key login))) login.lines
 
 -- The same, or where somebody says what is revoked.
 abbrev pub AsksOfKey : UserLogin → Bool → Result Grant Refusal → Type 0

@@ -60,6 +60,8 @@ abbrev pub Judges : Terms → ℕ → Option IpAddr → Option (Bor (List ℕ)) 
 Judges t time client host judgement.Allows = CountsAt t.expires time Yes × ¬ NamesInVain t × LetsFrom t.from client host Yes
 Judges t time client host (judgement.Refuses reason.Expired) = CountsAt t.expires time No
 Judges t time client host (judgement.Refuses reason.Authority) = ¬ CountsAt t.expires time No × NamesInVain t
+Judges t time client host (judgement.Refuses reason.Command) = ⊥
+Judges t time client host (judgement.Refuses reason.Principals) = ⊥
 Judges t time client host (judgement.Refuses reason.Elsewhere) = ¬ CountsAt t.expires time No × ¬ NamesInVain t × LetsFrom t.from client host No
 Judges t time client host judgement.Unclear = ¬ CountsAt t.expires time No × ¬ NamesInVain t × ¬ LetsFrom t.from client host No × (CountsAt t.expires time Unclear ⊎ LetsFrom t.from client host Unclear)
 

@@ -1,9 +1,11 @@
 pub mod Spellings
 pub mod Options
 pub mod Judgements
+pub mod Certificates
 pub mod Laws
 pub mod Lines
 pub mod UserLogins
 pub mod Answers
+pub mod CertificateLogins
 pub mod Computed
 pub mod Examples

@@ -9,6 +9,8 @@ pub struct UserLogin<'a> {
     /// The text of authorized_keys, of one file: ask about one file after the other, as long as the
     /// answer is `NotListed` or `NotAllowed`. sshd also reads lines that are not UTF-8.
     pub text: &'a str,
+    /// The name of the user who is to be let in. Only a certificate is asked about it.
+    pub user: &'a str,
     /// The key under which the client has signed.
     pub offered: &'a KeyData,
     /// The address of the client's socket, and no header of a proxy's. `None` if it has none: what

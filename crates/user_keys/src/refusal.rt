@@ -1,14 +1,16 @@
 //! Why a login is refused.
 
 ghost use Rattle.std.specs.Prelude.{◌≡◌};
+ghost use Rattle.user_keys.specs.CertificateLogins.{IsRefusalOf};
 ghost use Rattle.user_keys.specs.declared.refusal.Refusal.TheVariants.{Memory};
 
 use std::alloc::AllocError;
 
 /// Why a login is refused.
-#[derive(Clone, Copy, Debug, PartialEq, Eq)]
+#[derive(Debug, Drop)]
 pub enum Refusal {
-    /// No line is for the key. A line whose options sshd(8) rejects is for nobody.
+    /// No line is for the key; or, of a certificate, no line `cert-authority` for the key that
+    /// signed it. A line whose options sshd(8) rejects is for nobody.
     NotListed,
     /// Lines are for the key, and each refuses it.
     NotAllowed {
@@ -24,10 +26,14 @@ pub enum Refusal {
         /// The number of that line, from 1.
         line: usize,
     },
-    /// sshd(8) accepts no such key, by its kind or its size (`openssh_limits::is_let_in`).
+    /// sshd(8) accepts no such key, by its kind or its size (`openssh_limits::is_let_in`); or, of a
+    /// certificate, no such key as signed it.
     UnacceptedKey,
     /// The key is revoked.
     Revoked,
+    /// It is no certificate, or a line allows it, and it is refused for that
+    /// (`login_policy::log_in`). It is never `login_policy::Refusal::Memory`.
+    Certificate(login_policy::Refusal),
     /// Memory ran out.
     Memory,
 }
@@ -41,6 +47,11 @@ pub enum Reason {
     Authority,
     /// It is for other places (`from`).
     Elsewhere,
+    /// The certificate has a command (`force-command`), and the line another.
+    Command,
+    /// The certificate lists none of the names that count: the user's, or those of the line's
+    /// `principals`.
+    Principals,
 }
 
 impl From<AllocError> for Refusal {
@@ -48,5 +59,16 @@ impl From<AllocError> for Refusal {
 
     fn from(_error: AllocError) -> Refusal {
         Refusal::Memory
+    }
+}
+
+impl From<login_policy::Refusal> for Refusal {
+    ghost from_gives = { IsRefusalOf };
+
+    fn from(refusal: login_policy::Refusal) -> Refusal {
+        if matches!(refusal, login_policy::Refusal::Memory) {
+            return Refusal::Memory;
+        }
+        Refusal::Certificate(refusal)
     }
 }

@@ -1,4 +1,4 @@
-use Rattle.std.proofs.Common.{◌∙◌, sym}
+use Rattle.std.proofs.Common.{◌∙◌, None, sym}
 use Rattle.sshkey_keys.specs.Keys.{key_of}
 use Rattle.user_keys.specs.UserLogins.{login_of}
 use Rattle.user_keys.proofs.FirstLines.{admitted}
@@ -10,5 +10,5 @@ first_grant-requires g c = long_part c.args.login.now.least_rsa_bits (key_of c.a
 
 pub returns-clause-exactly : goal.returns-clause-exactly
 returns-clause-exactly g c =
-    admitted (login_of c.args.login.now) (g.R.Revocations.revokes_key c.args.revocations.now) (sym c.is_let_in.ensures ∙ c.if-not-is_let_in.false)
-    (sym c.in-Ok.ensures.said ∙ c.if-is_revoked.false) c.first_grant.result c.first_grant.ensures.exactly
+    admitted (login_of c.args.login.now None) (g.R.Revocations.revokes_key c.args.revocations.now) (sym c.is_let_in.ensures ∙ c.if-not-is_let_in.false)
+    (sym c.in-Ok.ensures.said ∙ c.if-is_revoked.false) c.first_grant.result c.first_grant.ensures.by_key c.first_grant.ensures.exactly

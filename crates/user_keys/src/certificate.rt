@@ -1,0 +1,176 @@
+//! Whether a certificate lets its holder in, by an authority that authorized_keys lists.
+
+ghost use Rattle.std.specs.Prelude.{◌≡◌, ◌≢◌, IfErr, IfOk, None};
+ghost use Rattle.login_terms.specs.Terms.{terms_of};
+ghost use Rattle.sshkey_cert.specs.CertificateValues.{certificate_of};
+ghost use Rattle.sshkey_keys.specs.Keys.{key_of};
+ghost use Rattle.sshkey_model.specs.Keys.{IsKey};
+ghost use Rattle.user_keys.specs.Answers.{GrantsExactly};
+ghost use Rattle.user_keys.specs.CertificateLogins.{AdmitsCertificate, IsAsStrictWith, IsWhyNoCertificate, NeedsMemory, PolicyGrants, RefusesByPolicy, client_of, login_with, policy_login};
+ghost use Rattle.user_keys.specs.Certificates.{judged_by, judged_with};
+ghost use Rattle.user_keys.specs.declared.refusal.Refusal.TheVariants as refusal;
+
+use crate::answer::Judgement;
+use crate::first_line::first_grant;
+use crate::grant::Grant;
+use crate::login::UserLogin;
+use crate::merge::{agree, merged};
+use crate::names::name_listed;
+use crate::refusal::{Reason, Refusal};
+use login_policy::{Client, Login, log_in};
+use login_terms::Terms;
+use openssh_limits::is_let_in;
+use sshkey_base::HashAlg;
+use sshkey_cert::Certificate;
+use sshkey_cert::laws::one_certificate;
+use sshkey_keys::{KeyData, RawVerifier};
+use sshkey_krl::Revocations;
+use std::alloc::Global;
+use std::net::IpAddr;
+
+/// Lets in who holds the offered key, if the bytes are its certificate, and a line `cert-authority`
+/// of the text of authorized_keys, as sshd(8) reads it, has the key that signed it, and allows the
+/// certificate, the place and the time. The first such line counts. The certificate is judged as by
+/// `login_policy::log_in`, with that authority alone, for the user, or for the first of the names
+/// in the line's `principals` that it lists. The grant is what both say: a command of either, and
+/// where there are two the same; what both permit; and a touch or a verified user where one of them
+/// asks for it.
+///
+/// A line that refuses is passed over, as is one that sshd rejects (`admit_key`).
+///
+/// Unless memory runs out, it fails with the first of these that fits:
+/// - `Certificate` with `login_policy::Refusal::Certificate`: the bytes are no certificate;
+/// - `UnacceptedKey`: sshd accepts no key of the kind or the size of that which signed it;
+/// - `Unclear`: a line may be for the authority, or may allow the certificate, and none before it
+///   lets it in;
+/// - `NotAllowed`: lines are for the authority, and each refuses the certificate;
+/// - `NotListed`;
+/// - `Certificate`: a line lets the certificate in, and `log_in` refuses it. No later line counts.
+///
+/// So whatever sshd makes of what cannot be told here, it lets the certificate in by the line of the
+/// grant, and on its terms.
+///
+/// `Memory` means that the bytes need memory to be read (`Certificate::from_bytes`), or that a line
+/// may have the key that signed the certificate: other lines ask for none.
+pub fn admit_certificate<R: Revocations, V: RawVerifier>(
+    alloc: Global,
+    login: &UserLogin,
+    certificate: &[u8],
+    revocations: &R,
+    verifier: &V,
+) -> Result<Grant, Refusal>
+    requires { IsKey (key_of login.now.offered.now) }
+    ensures exactly { GrantsExactly (AdmitsCertificate (login_with login.now certificate.now
+        (V.accepts verifier.now) (R.revokes revocations.now))) result }
+    ensures as_strict { IfOk result (IsAsStrictWith (login_with login.now certificate.now
+        (V.accepts verifier.now) (R.revokes revocations.now))) }
+    ensures refused { IfErr result (λ r. r ≢ refusal.Memory
+        → IsWhyNoCertificate (login_with login.now certificate.now (V.accepts verifier.now)
+        (R.revokes revocations.now)) r) }
+    ensures asks { IfErr result (λ r. r ≡ refusal.Memory → NeedsMemory (login_with login.now
+        certificate.now (V.accepts verifier.now) (R.revokes revocations.now))) }
+{
+    one_certificate();
+    let read = match Certificate::from_bytes(alloc, certificate) {
+        Ok(read) => read,
+        Err(error) => return Err(Refusal::from(login_policy::Refusal::from(error))),
+    };
+    if !is_let_in(read.signature_key(), 0) {
+        return Err(Refusal::UnacceptedKey);
+    }
+    let first = first_grant(alloc, login, Some(&read))?;
+    let Some(name) = name_listed(read.valid_principals(), login.user, &first.terms.principals)
+    else {
+        return Err(Refusal::NotListed);
+    };
+    let granted = log_in_as(
+        alloc,
+        login,
+        certificate,
+        name,
+        read.signature_key(),
+        revocations,
+        verifier,
+    )?;
+    Ok(merged(first, granted))
+}
+
+/// What the policy of certificates says of a login for that name, by the authority with that key
+/// alone.
+fn log_in_as<R: Revocations, V: RawVerifier>(
+    alloc: Global,
+    login: &UserLogin,
+    certificate: &[u8],
+    name: &str,
+    authority: &KeyData,
+    revocations: &R,
+    verifier: &V,
+) -> Result<login_policy::Grant, Refusal>
+    requires { IsKey (key_of login.now.offered.now) }
+    ensures exactly { PolicyGrants (policy_login (login_with login.now certificate.now
+        (V.accepts verifier.now) (R.revokes revocations.now)) (key_of authority.now) name.now)
+        result }
+    ensures refused { IfErr result (λ r. r ≢ refusal.Memory → RefusesByPolicy (policy_login
+        (login_with login.now certificate.now (V.accepts verifier.now) (R.revokes revocations.now))
+        (key_of authority.now) name.now) r) }
+{
+    let Ok(authority) = authority.fingerprint(alloc, HashAlg::Sha256) else {
+        return Err(Refusal::Memory);
+    };
+    let granted = log_in(
+        alloc,
+        &Login {
+            certificate,
+            user: name,
+            offered: login.offered,
+            unix_timestamp: login.unix_timestamp,
+            authorities: &[authority],
+            least_rsa_bits: login.least_rsa_bits,
+            client: client_of(login.client),
+        },
+        revocations,
+        verifier,
+    )?;
+    Ok(granted)
+}
+
+fn client_of(address: Option<IpAddr>) -> Client
+    ensures { result ≡ client_of address }
+{
+    match address {
+        Some(address) => Client::At(address),
+        None => Client::Unknown,
+    }
+}
+
+/// What the terms of an authority's line say of a login by the certificate, of which they say that
+/// alone. What they refuse the certificate does not change.
+pub(crate) fn judgement_with(
+    terms: &Terms,
+    certificate: &Certificate,
+    user: &str,
+    alone: Judgement,
+) -> Judgement
+    ensures { result ≡ judged_with (certificate_of certificate.now) user.now (terms_of terms.now)
+        alone }
+{
+    let agreed = agree(
+        &terms.command,
+        certificate.critical_options().get("force-command"),
+    );
+    let name = name_listed(certificate.valid_principals(), user, &terms.principals);
+    judged_by(agreed, name.is_some(), alone)
+}
+
+/// What follows from whether the commands agree, and from whether the certificate is for somebody.
+fn judged_by(agreed: bool, named: bool, alone: Judgement) -> Judgement
+    ensures { result ≡ judged_by agreed named alone }
+{
+    match (alone, agreed, named) {
+        (Judgement::Refuses(reason), _, _) => Judgement::Refuses(reason),
+        (_, false, _) => Judgement::Refuses(Reason::Command),
+        (_, true, false) => Judgement::Refuses(Reason::Principals),
+        (Judgement::Allows, true, true) => Judgement::Allows,
+        (Judgement::Unclear, true, true) => Judgement::Unclear,
+    }
+}

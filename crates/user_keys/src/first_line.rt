@@ -1,0 +1,119 @@
+//! The first line of authorized_keys that lets in.
+
+ghost use Rattle.std.specs.Prelude.{◌≡◌, ◌≢◌, ◌≤◌, IfErr, IfOk, length, option_map};
+ghost use Rattle.login_terms.specs.Terms.{terms_of};
+ghost use Rattle.sshkey_cert.specs.CertificateValues.{certificate_of};
+ghost use Rattle.sshkey_keys.specs.Keys.{key_of};
+ghost use Rattle.user_keys.specs.Answers.{AsksOfLines, GrantsExactly, IsWhyNoLine, SaysOf};
+ghost use Rattle.user_keys.specs.Spellings.{AreMarks, MaySpell, own_part};
+ghost use Rattle.user_keys.specs.UserLogins.{GrantsFirst, IsAsStrict, JudgesLogin, key_listed, listed_key, login_of};
+ghost use Rattle.user_keys.specs.declared.refusal.Refusal.TheVariants as refusal;
+
+use crate::answer::{Judgement, LineVerdict, first_refused, refusal_for, verdict_of};
+use crate::certificate::judgement_with;
+use crate::grant::Grant;
+use crate::line::{judge, terms_for};
+use crate::login::UserLogin;
+use crate::marks::Marks;
+use crate::refusal::Refusal;
+use login_terms::{Reading, Terms};
+use sshkey_cert::Certificate;
+use sshkey_keys::KeyData;
+use std::alloc::{AllocError, Global};
+
+/// The first line that lets the key in, and its terms alone; or, with a certificate, the first of
+/// its authority that lets the certificate in.
+pub(crate) fn first_grant(
+    alloc: Global,
+    login: &UserLogin,
+    certificate: Option<&Certificate>,
+) -> Result<Grant, Refusal>
+    requires { 17 ≤ length (own_part (key_listed (key_of login.now.offered.now)
+        (option_map (λ c. certificate_of c.now) certificate))) }
+    ensures exactly { GrantsExactly (GrantsFirst (login_of login.now
+        (option_map (λ c. certificate_of c.now) certificate.entry))) result }
+    ensures by_key { IfOk result (λ g. g.certified ≡ None) }
+    ensures as_strict { IfOk result (IsAsStrict (login_of login.now
+        (option_map (λ c. certificate_of c.now) certificate.entry))) }
+    ensures refused { IfErr result (λ r. r ≢ refusal.Memory → IsWhyNoLine (login_of login.now
+        (option_map (λ c. certificate_of c.now) certificate.entry)) r) }
+    ensures asks { AsksOfLines (login_of login.now
+        (option_map (λ c. certificate_of c.now) certificate.entry)) result }
+{
+    let key = listed_key(login.offered, certificate);
+    let marks = Marks::of(key);
+    let mut refused = None;
+    let mut line = 0;
+    for text in login.text.lines() {
+        line += 1;
+        match judge_line(alloc, text, login, certificate, &marks)? {
+            LineVerdict::Lets(terms) => {
+                return Ok(Grant {
+                    line,
+                    terms,
+                    certified: None,
+                });
+            }
+            LineVerdict::Unclear => return Err(Refusal::Unclear { line }),
+            LineVerdict::Refuses(reason) => refused = first_refused(refused, line, reason),
+            LineVerdict::Passes => {}
+        }
+    }
+    Err(refusal_for(refused))
+}
+
+/// Whose lines they are: the key's, or the authority's that signed the certificate.
+fn listed_key<'a>(offered: &'a KeyData, certificate: Option<&'a Certificate>) -> &'a KeyData
+    ensures { key_of result.now ≡ key_listed (key_of offered.now)
+        (option_map (λ c. certificate_of c.now) certificate.entry) }
+{
+    match certificate {
+        Some(certificate) => certificate.signature_key(),
+        None => offered,
+    }
+}
+
+/// What a line says of the login. The marks are those of the key whose lines they are.
+fn judge_line(
+    alloc: Global,
+    line: &str,
+    login: &UserLogin,
+    certificate: Option<&Certificate>,
+    marks: &Marks,
+) -> Result<LineVerdict, AllocError>
+    requires part { 17 ≤ length (own_part (key_listed (key_of login.now.offered.now)
+        (option_map (λ c. certificate_of c.now) certificate))) }
+    requires marks { AreMarks (own_part (key_listed (key_of login.now.offered.now)
+        (option_map (λ c. certificate_of c.now) certificate))) marks.now }
+    ensures answer { IfOk result (SaysOf (login_of login.now
+        (option_map (λ c. certificate_of c.now) certificate.entry)) line.now) }
+    ensures asks { IfErr result (λ _. MaySpell (own_part (key_listed (key_of login.now.offered.now)
+        (option_map (λ c. certificate_of c.now) certificate.entry))) line.now) }
+{
+    let key = listed_key(login.offered, certificate);
+    match terms_for(alloc, line, key, marks, certificate.is_some())? {
+        Reading::Is(terms) => {
+            let judgement = judge_login(alloc, &terms, login, certificate)?;
+            Ok(verdict_of(terms, judgement))
+        }
+        Reading::Rejected => Ok(LineVerdict::Passes),
+        Reading::Unclear => Ok(LineVerdict::Unclear),
+    }
+}
+
+/// What the terms of a line say of the login.
+fn judge_login(
+    alloc: Global,
+    terms: &Terms,
+    login: &UserLogin,
+    certificate: Option<&Certificate>,
+) -> Result<Judgement, AllocError>
+    ensures { IfOk result (JudgesLogin (login_of login.now
+        (option_map (λ c. certificate_of c.now) certificate.entry)) (terms_of terms.now)) }
+{
+    let alone = judge(alloc, terms, login)?;
+    match certificate {
+        Some(certificate) => Ok(judgement_with(terms, certificate, login.user, alone)),
+        None => Ok(alone),
+    }
+}
