@@ -1,7 +1,9 @@
 -- Worked examples, on both sides of each edge.
-use Rattle.std.specs.Prelude.{◌≡◌, ℕ, List, ◌∷◌, ◌++◌, true, false, None, Some, codes}
+use Rattle.std.specs.Prelude.{◌≡◌, ℕ, List, [], ◌∷◌, ◌++◌, true, false, None, Some, codes}
 use Rattle.sshkey_model.specs.HexText.{hex}
 use Rattle.sshkey_times.specs.declared.times.Span.{Span}
+use Rattle.login_terms.specs.Terms.{all_permitted, none_permitted}
+use Rattle.user_keys.specs.Certificates.{agree, both_permit, first_listed, judged_by}
 use Rattle.user_keys.specs.Judgements.{CountsAt, joined}
 use Rattle.user_keys.specs.Spellings.{Follow, mark}
 use Rattle.user_keys.specs.declared.answer.Answer.TheVariants.{Yes, No, Unclear}
@@ -38,3 +40,17 @@ Marks = (codes "AAAAC3NzaC1lZDI1NTE5AAAAILM+rvN+ot98qgEN796jTiQfZfG1KaT0PtFDJ/XF
 -- A carriage return may stand between symbols, and a space may not.
 abbrev pub White : Type 0
 White = Follow (codes "ab") (codes "a" ++ (0x0d ∷ codes "bc")) × ¬ Follow (codes "ab") (codes "a bc")
+
+-- Of the names that a line lists the first counts that the certificate has, and none past an empty
+-- one.
+abbrev pub Listed : Type 0
+Listed = (first_listed (codes "alice" ∷ codes "bob" ∷ []) (codes "carol" ∷ codes "bob" ∷ codes "alice" ∷ []) ≡ Some (codes "bob"))
+    × (first_listed (codes "alice" ∷ []) (codes "bob" ∷ [] ∷ codes "alice" ∷ []) ≡ None)
+
+-- Two commands have to be one, and a login may do what both permit.
+abbrev pub Merged : Type 0
+Merged = (judged_by (agree (Some (codes "ls")) (Some (codes "ls -l"))) true judgement.Allows ≡ judgement.Refuses reason.Command)
+    × (judged_by (agree None (Some (codes "ls"))) true judgement.Unclear ≡ judgement.Unclear)
+    × (judged_by true false judgement.Allows ≡ judgement.Refuses reason.Principals)
+    × (judged_by false false (judgement.Refuses reason.Expired) ≡ judgement.Refuses reason.Expired)
+    × (both_permit all_permitted (record { name = codes "permit-pty"; value = [] } ∷ []) ≡ record none_permitted { pty = true; tunnels = true })

@@ -47,8 +47,8 @@ use std::net::IpAddr;
 /// - `NotListed`;
 /// - `Certificate`: a line lets the certificate in, and `log_in` refuses it. No later line counts.
 ///
-/// So whatever sshd makes of what cannot be told here, it lets the certificate in by the line of the
-/// grant, and on its terms.
+/// So whatever sshd makes of what cannot be told here, it lets the certificate in by the line of
+/// the grant, and on its terms.
 ///
 /// `Memory` means that the bytes need memory to be read (`Certificate::from_bytes`), or that a line
 /// may have the key that signed the certificate: other lines ask for none.
@@ -79,6 +79,7 @@ pub fn admit_certificate<R: Revocations, V: RawVerifier>(
         return Err(Refusal::UnacceptedKey);
     }
     let first = first_grant(alloc, login, Some(&read))?;
+    // a line that lets the certificate in does so for a name
     let Some(name) = name_listed(read.valid_principals(), login.user, &first.terms.principals)
     else {
         return Err(Refusal::NotListed);

@@ -1,7 +1,7 @@
 //! Worked examples of the definitions, on both sides of each edge.
 #![tactic(auto, unfolding(crate::specs::Computed::encode_symbols, crate::specs::Computed::without_front))]
 
-ghost use Rattle.user_keys.specs.Examples.{Marks, Times, Together, White};
+ghost use Rattle.user_keys.specs.Examples.{Listed, Marks, Merged, Times, Together, White};
 
 /// Until when a line counts.
 pub fn times()
@@ -21,4 +21,14 @@ pub fn marks()
 /// White space within Base64.
 pub fn white()
     ensures { White }
+{}
+
+/// Names that a certificate lists.
+pub fn listed()
+    ensures { Listed }
+{}
+
+/// What a line and a certificate say together.
+pub fn merged()
+    ensures { Merged }
 {}

@@ -47,8 +47,8 @@ pub fn admit_key<R: Revocations>(
     revocations: &R,
 ) -> Result<Grant, Refusal>
     requires { IsKey (key_of login.now.offered.now) }
-    ensures exactly { GrantsExactly (Admits (login_of login.now None) (R.revokes_key revocations.now))
-        result }
+    ensures exactly { GrantsExactly
+        (Admits (login_of login.now None) (R.revokes_key revocations.now)) result }
     ensures as_strict { IfOk result (IsAsStrict (login_of login.now None)) }
     ensures refused { IfErr result (λ r. r ≢ refusal.Memory
         → IsWhyNoKey (login_of login.now None) (R.revokes_key revocations.now) r) }
