@@ -1,11 +1,13 @@
 //! Asks about a login.
 
+use crate::verified::Verified;
 use crate::words::{NO_LINE, Words};
 use sshkey_base::Result;
+use sshkey_cert::Certificate;
 use sshkey_public::PublicKey;
 use sshkey_revoked_keys::RevokedKeys;
 use std::alloc::Global;
-use user_keys::{Grant, Refusal, UserLogin, admit_key};
+use user_keys::{Grant, Refusal, admit_certificate, admit_key};
 
 /// Whether a login is let in, and to what.
 pub(crate) type Admission = std::result::Result<Grant, Refusal>;
@@ -15,23 +17,38 @@ pub(crate) fn ask(alloc: Global, line: &str) -> Result<Admission> {
     let words = line.split('\t').collect::<Vec<&str>>(alloc)?;
     match words.as_slice() {
         ["key", words @ ..] => key(alloc, &Words::read(alloc, words)?),
+        ["certificate", signed, words @ ..] => {
+            certificate(alloc, &verified(signed)?, &Words::read(alloc, words)?)
+        }
+        _ => Err(NO_LINE),
+    }
+}
+
+/// A verifier for a certificate that is signed, or is not.
+fn verified(word: &str) -> Result<Verified> {
+    match word {
+        "signed" => Ok(Verified { is_good: true }),
+        "forged" => Ok(Verified { is_good: false }),
         _ => Err(NO_LINE),
     }
 }
 
 fn key(alloc: Global, words: &Words) -> Result<Admission> {
     let offered = PublicKey::from_bytes(alloc, &words.shown)?;
-    let login = UserLogin {
-        text: &words.text,
-        offered: offered.key_data(),
-        client: Some(words.client),
-        host: words.host.as_deref(),
-        unix_timestamp: words.unix_timestamp,
-        least_rsa_bits: 0,
-    };
     Ok(admit_key(
         alloc,
-        &login,
+        &words.login(offered.key_data()),
         &RevokedKeys::from_bytes(alloc, &words.revoked),
+    ))
+}
+
+fn certificate(alloc: Global, verifier: &Verified, words: &Words) -> Result<Admission> {
+    let certificate = Certificate::from_bytes(alloc, &words.shown)?;
+    Ok(admit_certificate(
+        alloc,
+        &words.login(certificate.public_key()),
+        &words.shown,
+        &RevokedKeys::from_bytes(alloc, &words.revoked),
+        verifier,
     ))
 }

@@ -6,6 +6,7 @@
 
 mod ask;
 mod shown;
+mod verified;
 mod words;
 
 use ask::ask;

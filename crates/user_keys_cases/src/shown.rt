@@ -3,7 +3,7 @@
 use crate::ask::Admission;
 use login_terms::{Permissions, Permit};
 use std::io::{self, Write};
-use user_keys::{Grant, Reason, Refusal};
+use user_keys::{Certified, Grant, Reason, Refusal};
 
 /// Writes what a login is bound to, or why it is refused.
 pub(crate) fn show<W: Write>(output: &mut W, admission: &Admission) -> io::Result<()> {
@@ -40,7 +40,16 @@ fn show_grant<W: Write>(output: &mut W, grant: &Grant) -> io::Result<()> {
     if let Some(last) = terms.expires {
         write!(output, "{}-{}", last.first, last.last)?;
     }
-    Ok(())
+    match &grant.certified {
+        Some(certified) => show_certified(output, certified),
+        None => Ok(()),
+    }
+}
+
+fn show_certified<W: Write>(output: &mut W, certified: &Certified) -> io::Result<()> {
+    write!(output, " serial={} id=", certified.serial)?;
+    show_text(output, &certified.key_id)?;
+    write!(output, " authority={}", certified.authority)
 }
 
 /// A letter for each thing that is permitted.
@@ -98,6 +107,7 @@ fn show_refusal<W: Write>(output: &mut W, refusal: &Refusal) -> io::Result<()> {
         Refusal::Unclear { line } => writeln!(output, "no: line {line} cannot be told"),
         Refusal::UnacceptedKey => writeln!(output, "no: unaccepted key"),
         Refusal::Revoked => writeln!(output, "no: revoked"),
+        Refusal::Certificate(refusal) => writeln!(output, "no: certificate, {refusal:?}"),
         Refusal::Memory => writeln!(output, "out of memory"),
     }
 }
@@ -107,5 +117,7 @@ fn why(reason: Reason) -> &'static str {
         Reason::Expired => "expired",
         Reason::Authority => "authority",
         Reason::Elsewhere => "elsewhere",
+        Reason::Command => "command",
+        Reason::Principals => "principals",
     }
 }

@@ -2,9 +2,11 @@
 
 use hex::FromHexError;
 use sshkey_base::{Error, Result};
+use sshkey_keys::KeyData;
 use std::alloc::Global;
 use std::io::ErrorKind;
 use std::net::IpAddr;
+use user_keys::UserLogin;
 
 /// The answer to a line that is no question.
 pub(crate) const NO_LINE: Error = Error::Io(ErrorKind::InvalidInput);
@@ -12,16 +14,13 @@ pub(crate) const NO_LINE: Error = Error::Io(ErrorKind::InvalidInput);
 /// What is asked about.
 #[derive(Drop)]
 pub(crate) struct Words {
-    /// The second.
-    pub unix_timestamp: u64,
-    /// The text of authorized_keys.
-    pub text: String,
-    /// The bytes of the key that the client shows.
+    unix_timestamp: u64,
+    text: String,
+    user: String,
+    /// The bytes of the key or of the certificate that the client shows.
     pub shown: Vec<u8>,
-    /// The client's address.
-    pub client: IpAddr,
-    /// The name that was found for it.
-    pub host: Option<String>,
+    client: IpAddr,
+    host: Option<String>,
     /// The bytes of a file of what is revoked.
     pub revoked: Vec<u8>,
 }
@@ -29,17 +28,31 @@ pub(crate) struct Words {
 impl Words {
     /// Reads the words of a line behind those that say what it asks.
     pub(crate) fn read(alloc: Global, words: &[&str]) -> Result<Words> {
-        let [second, keys, shown, client, host, revoked] = words else {
+        let [second, keys, user, shown, client, host, revoked] = words else {
             return Err(NO_LINE);
         };
         Ok(Words {
             unix_timestamp: second.parse::<u64>().map_err(|_| NO_LINE)?,
             text: text(alloc, keys)?,
+            user: text(alloc, user)?,
             shown: bytes(alloc, shown)?,
             client: client.parse::<IpAddr>().map_err(|_| NO_LINE)?,
             host: name(alloc, host)?,
             revoked: bytes(alloc, revoked)?,
         })
+    }
+
+    /// The login under that key.
+    pub(crate) fn login<'a>(&'a self, offered: &'a KeyData) -> UserLogin<'a> {
+        UserLogin {
+            text: &self.text,
+            user: &self.user,
+            offered,
+            client: Some(self.client),
+            host: self.host.as_deref(),
+            unix_timestamp: self.unix_timestamp,
+            least_rsa_bits: 0,
+        }
     }
 }
 
@@ -52,7 +65,7 @@ fn name(alloc: Global, word: &str) -> Result<Option<String>> {
 }
 
 /// The bytes that the digits spell.
-pub(crate) fn bytes(alloc: Global, digits: &str) -> Result<Vec<u8>> {
+fn bytes(alloc: Global, digits: &str) -> Result<Vec<u8>> {
     match hex::decode(alloc, digits) {
         Ok(bytes) => Ok(bytes),
         Err(FromHexError::OutOfMemory) => Err(Error::Memory),
