@@ -1,5 +1,7 @@
 //! How a line spells what a question is about.
 
+ghost use Rattle.std.specs.Prelude.{◌≡◌};
+
 use hex::FromHexError;
 use sshkey_base::{Error, Result};
 use sshkey_keys::KeyData;
@@ -43,7 +45,9 @@ impl Words {
     }
 
     /// The login under that key.
-    pub(crate) fn login<'a>(&'a self, offered: &'a KeyData) -> UserLogin<'a> {
+    pub(crate) fn login<'a>(&'a self, offered: &'a KeyData) -> UserLogin<'a>
+        ensures { result.offered.now ≡ offered.now }
+    {
         UserLogin {
             text: &self.text,
             user: &self.user,
