@@ -98,7 +98,7 @@ pub record AdmitsCertificate (l : CertificateLogin) (g : Grant) : Type 0 where
   pub merges : terms_of g.terms ≡ merged terms certificate
   pub certified : IsCertified certificate g.certified
 
--- ---- sshd, of whatever version and on whatever machine
+-- ---- sshd, since 10.5 and on whatever machine: before, `restrict` left tunnels
 
 -- The first line that it takes is that of the grant, and the grant is what that line and the
 -- certificate say together, whatever terms it takes it on.
