@@ -7,9 +7,9 @@
 # with `make rust`, which takes Rust (Debian: cargo), the one in Rust: out/check-rust; and with
 # `make dist` packages, which need no toolchain: out/dist.
 #
-# Any C compiler for Linux on x86-64 or aarch64 does. The toolchain is asked for only where the text
-# is not there, or of other sources. The helpers take OpenSSL's libcrypto (Debian: libssl-dev), and
-# `make lib` is without them. `make check` asks the library's calls, and holds their answers against
+# Any C compiler for Linux on x86-64 or aarch64 does: the text stands in the tree, as bindings/library
+# last wrote it. The helpers take OpenSSL's libcrypto (Debian: libssl-dev), and `make lib` is without
+# them. `make check` asks the library's calls, and holds their answers against
 # ssh-keygen. `make install PREFIX=/usr/local` copies header, libraries, a sshkey.pc that goes with
 # them where they are moved, the helpers and their manual pages; `make uninstall` removes them.
 # docs/FOREIGN.md is the page to read.
@@ -34,7 +34,7 @@ CC := cc
 CFLAGS := -O2
 # the processor that is compiled for, as Go calls it
 PROCESSOR := $(patsubst aarch64-%,arm64,$(patsubst x86_64-%,amd64,$(shell $(CC) -dumpmachine)))
-# the text of the crate for it, which lies where Go reads it; an archive does as well
+# the text of the crate for it, which stands where Go reads it; an archive does as well
 TEXT := $(ROOT)/bindings/go/sshkey/sshkey_linux_$(PROCESSOR).S
 # the flag, where the compiler takes it
 TAKEN = $(shell $(CC) -Werror $(1) -E -x c /dev/null >/dev/null 2>&1 && echo $(1))
@@ -56,12 +56,12 @@ vpath %.c $(ROOT)/helpers $(ROOT)/bindings/go/sshkey
 lib: $(OUT)/libsshkey.a $(OUT)/libsshkey.so $(OUT)/$(SONAME) $(OUT)/sshkey.pc
 all: lib $(PROGRAMS)
 
-# it knows itself whether a text is of the sources; a package has none
+# where it is of other sources than stand here, that is said, and no more; a package has none
 $(ROOT)/bindings/go/sshkey/sshkey_linux_$(PROCESSOR).S: always
 ifneq ($(wildcard $(ROOT)/crates.txt),)
-	@$(ROOT)/bindings/library
+	@! command -v python3 >/dev/null || $(ROOT)/bindings/library --is-current || true
 endif
-	@test -f $@ || { echo "there is no library for this processor: $@"; exit 1; }
+	@test -f $@ || { echo "there is no library for this processor: $@" >&2; exit 1; }
 
 # of another processor all is compiled anew
 $(OUT)/processor: always
@@ -143,7 +143,8 @@ install: all
 		$(ROOT)/bindings/sshkey.pc.in >$(LIB)/pkgconfig/sshkey.pc
 	chmod 644 $(LIB)/pkgconfig/sshkey.pc
 	install -m 755 $(PROGRAMS) $(BIN)
-	$(foreach it,$(PAGES),install -m 644 $(ROOT)/helpers/$(it) $(call INSTALLED,$(it)) &&) true
+	$(foreach it,$(PAGES),sed 's|/usr/local/bin|$(abspath $(PREFIX))/bin|' $(ROOT)/helpers/$(it) \
+		>$(call INSTALLED,$(it)) && chmod 644 $(call INSTALLED,$(it)) &&) true
 	@echo "sshd has to run sshkey-principals and sshkey-authorized-keys as a user that nothing else"
 	@echo "runs as, not as nobody: any process of the same user can answer sshd in their place."
 	@echo "    useradd -r -M -s /usr/sbin/nologin sshkey"

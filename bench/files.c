@@ -54,6 +54,17 @@ static uint32_t judge_host(judge_blob file, judge_blob key) {
   return sshkey_host_key_verdict(&login, key.bytes, key.length);
 }
 
+static uint32_t judge_user(judge_blob file, judge_blob key) {
+  sshkey_span empty = judge_text(""), client = {address, sizeof address};
+  sshkey_login login = {empty, judge_text("user"), judge_span(key), client, {NULL, 0},
+                        SSHKEY_NO_REVOCATIONS, AT, 0, 0};
+  sshkey_sha256 none = {{0}};
+  login.authorities.items = &none;
+  sshkey_user_grant grant;
+  memset(&grant, 0, sizeof grant);
+  return sshkey_user_keys_verdict(&login, file.bytes, file.length, empty.bytes, 0, 0, ROOM, &grant);
+}
+
 static uint32_t call(const char *kind, judge_blob file, judge_blob second) {
   sshkey_span revoked[] = {judge_span(file)};
   if (!strcmp(kind, "lines")) return find_lines(file);
@@ -62,6 +73,7 @@ static uint32_t call(const char *kind, judge_blob file, judge_blob second) {
   if (!strcmp(kind, "addresses"))
     return sshkey_source_address_allows(file.bytes, file.length, address, sizeof address);
   if (!strcmp(kind, "hosts")) return judge_host(file, second);
+  if (!strcmp(kind, "users")) return judge_user(file, second);
   if (!strcmp(kind, "revoked-key"))
     return sshkey_revoked_key(revoked, 1, second.bytes, second.length);
   if (!strcmp(kind, "revoked-certificate"))

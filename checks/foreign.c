@@ -215,6 +215,12 @@ static void ask_revoked(given_call *it, const char *name) {
     printf(" 1");
 }
 
+static void ask_digest(given_call *it, const char *name) {
+  if (!is_done(ask(it, name, NULL))) return;
+  putchar(' ');
+  say_word(it->sha256.bytes, sizeof it->sha256.bytes);
+}
+
 static void ask_key(given_call *it, const char *name) {
   uint8_t text[SSHKEY_FINGERPRINT_TEXT], longer[SSHKEY_FINGERPRINT_SHA512_TEXT];
   if (!is_done(ask(it, name, NULL))) return;
@@ -309,7 +315,7 @@ static void ask_places(given_call *it, const char *name) {
 /* How many bytes of the room a call tells that it takes: one of these is not 0. */
 static size_t told(const given_call *it) {
   return it->length + it->question.length + it->line.length + it->entry.length
-         + it->entry_option.length + it->grant.length;
+         + it->entry_option.length + it->grant.length + it->user_grant.grant.length;
 }
 
 static void ask_rooms(given_call *it) {
@@ -321,8 +327,10 @@ static void ask_rooms(given_call *it) {
     answer = called(it, 0);
     is_kept = answer == SSHKEY_ROOM && is_filled(it->room, 0) && (!length || told(it) == needed);
     needed = told(it);
-    it->grant.length = 0;
-    if (answer == SSHKEY_ROOM && !is_zero(&it->grant, sizeof it->grant)) printf("and a grant ");
+    it->grant.length = it->user_grant.grant.length = 0;
+    bool is_none = is_zero(&it->grant, sizeof it->grant);
+    is_none &= is_zero(&it->user_grant, sizeof it->user_grant);
+    if (answer == SSHKEY_ROOM && !is_none) printf("and a grant ");
   }
   printf("%" PRIu32 " %zu %zu", answer, length, needed);
 }
@@ -353,6 +361,8 @@ static const struct {
     {"host", ask_entry, "known_host", 1},
     {"options", ask_options, "next_entry_option", 1},
     {"log-in", ask_log_in, "login_verdict", 6},
+    {"log-in-by-keys", ask_log_in_by_keys, "user_keys_verdict", 8},
+    {"log-in-by-principals", ask_log_in_by_keys, "principals_verdict", 8},
     {"verifications", ask_verifications, "login_verdict", 6},
     {"host-key", ask_number, "host_key_verdict", 4},
     {"host-certificate", ask_host_certificate, "host_certificate_verdict", 4},
@@ -362,6 +372,12 @@ static const struct {
     {"is-userauth", ask_userauth, "userauth_question", 6},
     {"flags", ask_number, "grant_flags", 2},
     {"other-key-line", ask_number, "is_other_key_line", 1},
+    {"line-authority", ask_digest, "authority", 1},
+    {"user-authority", ask_digest, "user_authority", 2},
+    {"for-key", ask_number, "may_be_for_key", 2},
+    {"for-certificate", ask_number, "may_be_for_certificate", 2},
+    {"may-verify", ask_number, "may_verify", 1},
+    {"strict-mode", ask_number, "strict_mode", 0},
     {"addresses", ask_addresses, "source_address_allows", 3},
     {"time", ask_time, "read_time", 1},
     {"signer", ask_number, "signer_verdict", 5},

@@ -15,7 +15,7 @@
 #include "verdict.h"
 #include "verify.h"
 
-#define ANSWERS 26
+#define ANSWERS 31
 #define MOST 8
 #define ROUNDS 12
 
@@ -84,6 +84,50 @@ static void ask_request(asked *it, judge_blob key) {
   free(signature.bytes);
 }
 
+/* The user's key alone, by a text that lists it. */
+static void ask_key(asked *it, judge_blob key, uint64_t now, sshkey_spans revoked) {
+  judge_authorities none = {NULL, 0};
+  judge_blob text = file_of(it, "user.pub");
+  sshkey_login login = {judge_text(""), judge_text("alice"), judge_span(key), judge_text(""),
+                        judge_digests(none), revoked, now, 0, 0};
+  uint8_t *room = calloc(1, text.length);
+  sshkey_user_grant grant;
+  memset(&grant, 0, sizeof grant);
+  if (!room) abort();
+  note(it, judge_user_keys(&login, judge_span(text), judge_text(""), room, text.length, &grant));
+  note(it, grant.line);
+  note(it, grant.grant.permits);
+  free(room);
+  free(text.bytes);
+}
+
+/* The user's certificate, by a text that names its principal. */
+static void ask_principals(asked *it, const sshkey_login *login) {
+  sshkey_span text = judge_text("alice\n");
+  size_t length = text.length + 2 * login->certificate.length;
+  uint8_t *room = calloc(1, length);
+  sshkey_user_grant grant;
+  memset(&grant, 0, sizeof grant);
+  if (!room) abort();
+  note(it, judge_principals(login, text, judge_text(""), room, length, &grant));
+  note(it, grant.line);
+  note(it, grant.grant.permits);
+  free(room);
+}
+
+/* A line that says for whom an authority may sign. */
+static void ask_user_authority(asked *it, const char *line) {
+  judge_authorities by = {NULL, 0};
+  size_t length = strlen("bob,alice ") + strlen(line);
+  char *named = calloc(1, length + 1);
+  if (!named) abort();
+  snprintf(named, length + 1, "bob,alice %s", line);
+  note(it, judge_add_user_authority(&by, named, length, "alice"));
+  note(it, by.count);
+  free(named);
+  free(by.keys);
+}
+
 static void ask_user(asked *it, uint64_t now, judge_authorities by, sshkey_spans revoked) {
   judge_blob certificate = line_of(it, "user-cert.pub", SSHKEY_LINE_CERTIFICATE);
   judge_blob key = line_of(it, "user.pub", SSHKEY_LINE_KEY), again = {NULL, 0};
@@ -101,6 +145,8 @@ static void ask_user(asked *it, uint64_t now, judge_authorities by, sshkey_spans
   note_bytes(it, room, grant.length);
   note(it, grant.permits);
   ask_request(it, again);
+  ask_key(it, again, now, revoked);
+  ask_principals(it, &login);
   free(room);
   free(type);
   free(again.bytes);
@@ -159,6 +205,7 @@ static void ask(asked *it) {
   line[strcspn(line, "\n")] = 0;
   uint32_t added = judge_add_authority(&by, line, strlen(line));
   note_bytes(it, (const uint8_t *)judge_meaning(added), strlen(judge_meaning(added)));
+  ask_user_authority(it, line);
   ask_user(it, strtoull(now, NULL, 10), by, files);
   ask_host(it, strtoull(now, NULL, 10), files);
   ask_signature(it, strtoull(now, NULL, 10), by, files);

@@ -5,8 +5,7 @@
 
 #include "verdict.h"
 
-/* The key that is certified: SSHKEY_DONE, or why there is none. */
-static uint32_t read_key(judge_blob certificate, judge_blob *answer) {
+uint32_t certificate_read_key(judge_blob certificate, judge_blob *answer) {
   /* a room as long as the certificate is enough */
   judge_blob key = {calloc(1, certificate.length), 0};
   if (!key.bytes) return SSHKEY_MEMORY;
@@ -22,7 +21,7 @@ static uint32_t read_key(judge_blob certificate, judge_blob *answer) {
 uint32_t certificate_log_in(judge_blob certificate, sshkey_login login) {
   judge_blob key = {NULL, 0};
   sshkey_grant grant;
-  uint32_t answer = read_key(certificate, &key);
+  uint32_t answer = certificate_read_key(certificate, &key);
   if (answer != SSHKEY_DONE) return answer;
   uint8_t *room = calloc(1, certificate.length);
   login.certificate = judge_span(certificate);

@@ -82,19 +82,29 @@ bool judge_read_file(const char *path, judge_blob *answer) {
   return good;
 }
 
-uint32_t judge_add_authority(judge_authorities *to, const char *line, size_t length) {
-  judge_blob key;
-  sshkey_sha256 digest = {{0}};
-  uint32_t answer = judge_read_line(line, length, SSHKEY_LINE_KEY, &key);
-  if (answer != SSHKEY_DONE) return answer;
-  answer = sshkey_fingerprint(key.bytes, key.length, &digest);
-  free(key.bytes);
+/* Adds the authority where one was found. */
+static uint32_t add_found(judge_authorities *to, uint32_t answer, sshkey_sha256 found) {
   if (answer != SSHKEY_DONE) return answer;
   sshkey_sha256 *more = realloc(to->keys, (to->count + 1) * sizeof *more);
   if (!more) return SSHKEY_MEMORY;
-  more[to->count++] = digest;
+  more[to->count++] = found;
   to->keys = more;
   return SSHKEY_DONE;
+}
+
+uint32_t judge_add_authority(judge_authorities *to, const char *line, size_t length) {
+  sshkey_sha256 found = {{0}};
+  uint32_t answer = sshkey_authority((const uint8_t *)line, length, &found);
+  return add_found(to, answer, found);
+}
+
+uint32_t judge_add_user_authority(judge_authorities *to, const char *line, size_t length,
+                                  const char *user) {
+  sshkey_sha256 found = {{0}};
+  sshkey_span name = judge_text(user);
+  uint32_t answer =
+      sshkey_user_authority((const uint8_t *)line, length, name.bytes, name.length, &found);
+  return add_found(to, answer, found);
 }
 
 /* ---- words */
@@ -142,6 +152,8 @@ static const struct {
     {SSHKEY_UNREADABLE_REVOCATIONS, "the revocation file can't be read"},
     {SSHKEY_KEY_NOT_ACCEPTED, "a kind or a size of key that OpenSSH does not let in"},
     {SSHKEY_NOT_REVOKED, "not revoked"},
+    {SSHKEY_LATER_KEY, "a later kind of key, which is passed over"},
+    {SSHKEY_UNSAFE_MODE, "another's, or others may write it"},
     {SSHKEY_NOT_NORMAL_FORM, "not in its normal form"},
     {SSHKEY_OTHER_TYPE, "for hosts in place of users, or for users in place of hosts"},
     {SSHKEY_OTHER_KEY, "another key"},
@@ -153,6 +165,13 @@ static const struct {
     {SSHKEY_OTHER_ALGORITHM, "another algorithm than the request's"},
     {SSHKEY_UNTOUCHED, "a security key that nobody touched"},
     {SSHKEY_UNVERIFIED, "a security key that did not verify its user"},
+    {SSHKEY_USER_NOT_LISTED, "no line is for the key"},
+    {SSHKEY_LINE_EXPIRED, "a line whose time is over"},
+    {SSHKEY_LINE_OPTION, "a line with principals and without cert-authority"},
+    {SSHKEY_LINE_ELSEWHERE, "a line for other places"},
+    {SSHKEY_LINE_COMMAND, "a line with another command than the certificate's"},
+    {SSHKEY_LINE_PRINCIPALS, "a line for nobody whom the certificate lists"},
+    {SSHKEY_LINE_UNCLEAR, "a line that can't be told"},
 };
 
 const char *judge_meaning(uint32_t answer) {

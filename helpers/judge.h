@@ -44,9 +44,14 @@ bool judge_read_stream(FILE *file, judge_blob *answer);
 /* Reads a file of that path, likewise. */
 bool judge_read_file(const char *path, judge_blob *answer);
 
-/* Adds the key of the line to the authorities: SSHKEY_DONE, or why not. A line of a later kind of
- * key is one to pass over: sshkey_is_other_key_line. */
+/* Adds the key of the line to the authorities: SSHKEY_DONE, or what sshkey_authority answers: with
+ * SSHKEY_LATER_KEY pass over the line, and else refuse the file. */
 uint32_t judge_add_authority(judge_authorities *to, const char *line, size_t length);
+
+/* The same of a line that says for whom it may sign (sshkey_user_authority): with SSHKEY_END pass
+ * over it, too. */
+uint32_t judge_add_user_authority(judge_authorities *to, const char *line, size_t length,
+                                  const char *user);
 
 /* What an answer means, in words: each has its own. */
 const char *judge_meaning(uint32_t answer);

@@ -185,7 +185,7 @@ bool login_may_run(const login_request *asked) {
 }
 
 static bool is_safe(const struct stat *it, uid_t owner) {
-  return (it->st_uid == 0 || it->st_uid == owner) && !(it->st_mode & (S_IWGRP | S_IWOTH));
+  return sshkey_strict_mode(it->st_uid, owner, it->st_mode) == SSHKEY_DONE;
 }
 
 /* Whether each folder above the file is safe, up to that home or else to the root. */
@@ -219,7 +219,7 @@ static bool is_believed(const login_request *asked, FILE *file, const char *path
   }
   if (asked->is_insecure) return true;
   if (is_safe(&it, uid)) return has_safe_folders(asked, path, uid, user ? user->pw_dir : NULL);
-  login_complain(asked, "%s: another's, or others may write it", path);
+  login_complain(asked, "%s: %s", path, judge_meaning(SSHKEY_UNSAFE_MODE));
   return false;
 }
 

@@ -53,31 +53,6 @@ uint32_t program_each_line(judge_blob text, program_line *each, void *given, siz
   return answer;
 }
 
-size_t program_run_of(bool are_blanks, const char *line, size_t length, size_t place) {
-  size_t at = place;
-  while (at < length && (line[at] == ' ' || line[at] == '\t') == are_blanks) at++;
-  return at - place;
-}
-
-uint32_t program_add_authority(judge_authorities *to, const char *line, size_t length) {
-  size_t type = program_run_of(false, line, length, 0);
-  size_t base64 = type + program_run_of(true, line, length, type);
-  size_t rest = program_run_of(false, line, length, base64);
-  char *key = malloc(type + 1 + rest);
-  if (!key) return SSHKEY_MEMORY;
-  memcpy(key, line, type);
-  key[type] = ' ';
-  memcpy(key + type + 1, line + base64, rest);
-  uint32_t answer = judge_add_authority(to, key, type + 1 + rest);
-  if (answer != SSHKEY_DONE && answer != SSHKEY_MEMORY &&
-      sshkey_is_other_key_line((const uint8_t *)key, type + 1 + rest) == SSHKEY_DONE)
-    answer = SSHKEY_END;
-  free(key);
-  return answer;
-}
-
-const char program_later_key[] = "a later kind of key, which is passed over";
-
 /* ---- files of which there may be several */
 
 bool program_add_path(program_files *to, const char *path) {

@@ -35,17 +35,6 @@ typedef uint32_t program_line(const char *line, size_t length, size_t number, vo
  * else it is the answer, and `number` that of the line. */
 uint32_t program_each_line(judge_blob text, program_line *each, void *given, size_t *number);
 
-/* How many bytes from that place on are blanks, or are none. */
-size_t program_run_of(bool are_blanks, const char *line, size_t length, size_t place);
-
-/* Adds the key of a line to the authorities: SSHKEY_DONE; SSHKEY_END for a line of a later kind of
- * key, which signs nothing that is read, and is one to pass over; or why not. Any blanks may stand
- * between its type and its Base64, and any bytes behind: what a comment holds decides nothing. */
-uint32_t program_add_authority(judge_authorities *to, const char *line, size_t length);
-
-/* What is said of a line that such a key stands in. */
-extern const char program_later_key[];
-
 /* Files of which a word may name several: what they hold, once they are read, as calls take it, and
  * of malloc. */
 typedef struct {

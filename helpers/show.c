@@ -6,6 +6,8 @@
 #include <string.h>
 
 #define INDENT "                "
+/* of tun(4), by which a grant is bound to no device alone */
+#define ANY_DEVICE 0x7fffffff
 
 /* A part of other bytes. */
 typedef struct {
@@ -195,4 +197,105 @@ uint32_t show_certificate(judge_blob certificate, const char *signed_by) {
   print_options("Critical Options", true, slice_of(bytes, parts.critical_options));
   print_options("Extensions", false, slice_of(bytes, parts.extensions));
   return SSHKEY_DONE;
+}
+
+/* ---- grants */
+
+static void print_permissions(uint32_t permits) {
+  static const struct {
+    const char *words;
+    uint32_t bit;
+  } all[] = {{"any command", SSHKEY_PERMIT_ANY_COMMAND},
+             {"pty", SSHKEY_PERMIT_PTY},
+             {"port forwarding", SSHKEY_PERMIT_PORT_FORWARDING},
+             {"agent forwarding", SSHKEY_PERMIT_AGENT_FORWARDING},
+             {"X11 forwarding", SSHKEY_PERMIT_X11_FORWARDING},
+             {"user rc", SSHKEY_PERMIT_USER_RC},
+             {"tunnels", SSHKEY_PERMIT_TUNNELS}};
+  const char *before = "        Permits: ";
+  for (size_t at = 0; at < sizeof all / sizeof *all; at++) {
+    if (!(permits & all[at].bit)) continue;
+    printf("%s%s", before, all[at].words);
+    before = ", ";
+  }
+  puts(*before == ',' ? "" : "        Permits: (nothing)");
+}
+
+/* Prints a host, in brackets where a colon stands in it. */
+static void print_host(slice host) {
+  bool is_bare = !host.length || !memchr(host.bytes, ':', host.length);
+  if (!is_bare) putchar('[');
+  print_text(host);
+  if (!is_bare) putchar(']');
+}
+
+/* Prints each host and its port, which is two bytes, or none for any. */
+static void print_ports(const char *title, slice list) {
+  sshkey_part host = {0, 0}, port = {0, 0};
+  for (size_t place = 0;
+       sshkey_next_string(list.bytes, list.length, place, &host) == SSHKEY_DONE &&
+       sshkey_next_string(list.bytes, list.length, host.start + host.length, &port) == SSHKEY_DONE;
+       place = port.start + port.length) {
+    const uint8_t *number = list.bytes + port.start;
+    printf("        %s: ", title);
+    print_host(slice_of(list.bytes, host));
+    if (port.length)
+      printf(":%d\n", number[0] << 8 | number[1]);
+    else
+      puts(":*");
+  }
+}
+
+static void print_strings(const char *title, slice list) {
+  sshkey_part part = {0, 0};
+  for (size_t place = 0;
+       sshkey_next_string(list.bytes, list.length, place, &part) == SSHKEY_DONE;
+       place = part.start + part.length) {
+    printf("        %s: ", title);
+    print_text(slice_of(list.bytes, part));
+    putchar('\n');
+  }
+}
+
+/* The last second, or the first and the last that it may be. */
+static void print_expiry(sshkey_time_span expires) {
+  if (expires.first == UINT64_MAX) return;
+  printf("        Valid until: ");
+  print_time(expires.first);
+  if (expires.first != expires.last) {
+    printf(", or as late as ");
+    print_time(expires.last);
+  }
+  putchar('\n');
+}
+
+static void print_certified(const sshkey_grant *grant, const uint8_t *room) {
+  uint8_t text[SSHKEY_FINGERPRINT_TEXT] = {0};
+  printf("        Key ID: \"");
+  print_text(slice_of(room, grant->key_id));
+  printf("\"\n        Serial: %" PRIu64 "\n", grant->serial);
+  if (sshkey_fingerprint_text(&grant->authority, text, sizeof text) == SSHKEY_DONE)
+    printf("        Signing CA: %.*s\n", (int)sizeof text, (const char *)text);
+}
+
+void show_grant(const sshkey_user_grant *grant, const uint8_t *room, bool is_certified) {
+  uint32_t permits = grant->grant.permits;
+  printf("        Line: %zu\n", grant->line);
+  if (!(permits & SSHKEY_PERMIT_ANY_COMMAND)) {
+    printf("        Command: ");
+    print_text(slice_of(room, grant->grant.force_command));
+    putchar('\n');
+  }
+  print_permissions(permits);
+  print_ports("Forwards to", slice_of(room, grant->permit_open));
+  print_ports("Listens at", slice_of(room, grant->permit_listen));
+  if (!(permits & SSHKEY_PERMIT_ANY_TUNNEL) && grant->tunnel == ANY_DEVICE)
+    puts("        Tunnel: any");
+  else if (!(permits & SSHKEY_PERMIT_ANY_TUNNEL))
+    printf("        Tunnel: %" PRIu32 "\n", grant->tunnel);
+  print_strings("Environment", slice_of(room, grant->environment));
+  if (permits & SSHKEY_PERMIT_NO_TOUCH) puts("        Touch: not required");
+  if (!(permits & SSHKEY_PERMIT_NO_VERIFICATION)) puts("        Verification: required");
+  print_expiry(grant->expires);
+  if (is_certified) print_certified(&grant->grant, room);
 }

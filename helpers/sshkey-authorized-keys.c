@@ -28,80 +28,45 @@ static const char help[] =
 typedef struct {
   judge_blob blob; /* of malloc */
   bool is_certificate;
-  judge_blob key; /* of malloc: the normal form of the key, or of the certificate's signer */
   size_t printed; /* how many lines are */
 } offered;
 
 static uint32_t read_offered(const login_request *asked, offered *answer) {
-  sshkey_part key = {0, 0};
   uint32_t status = judge_read_words(asked->type, asked->base64, SSHKEY_LINE_KEY, &answer->blob);
-  key.length = answer->blob.length;
-  if (status != SSHKEY_DONE) {
-    sshkey_parts parts;
-    memset(&parts, 0, sizeof parts);
-    answer->is_certificate = true;
-    status = judge_read_words(asked->type, asked->base64, SSHKEY_LINE_CERTIFICATE, &answer->blob);
-    if (status == SSHKEY_DONE)
-      status = sshkey_certificate_parts(answer->blob.bytes, answer->blob.length, &parts);
-    key = parts.authority;
-  }
-  if (status != SSHKEY_DONE) return status;
-  answer->key.bytes = calloc(1, key.length);
-  if (!answer->key.bytes) return SSHKEY_MEMORY;
-  return sshkey_key_normal(answer->blob.bytes + key.start, key.length, answer->key.bytes,
-                           key.length, &answer->key.length);
+  answer->is_certificate = status != SSHKEY_DONE;
+  return answer->is_certificate ? judge_read_words(asked->type, asked->base64,
+                                                   SSHKEY_LINE_CERTIFICATE, &answer->blob)
+                                : status;
 }
 
-/* Whether that normal form is the key's. */
-static bool is_offered(const offered *wanted, const uint8_t *key, size_t length) {
-  return length == wanted->key.length && !memcmp(key, wanted->key.bytes, length);
-}
-
-/* Whether sshd reads the key as another one: the application of a security key, the last of its
- * strings, without a zero byte at its end. */
-static bool is_read_shorter(const uint8_t *key, size_t length) {
-  return length > 7 && !memcmp(key + 4, "sk-", 3) && !key[length - 1];
-}
-
-/* SSHKEY_END where the line is surely not one for what is offered: it is an entry of another key,
- * as sshd reads it too. Any other is sshd's to judge, also one that is no entry here: sshd takes
- * the first line that lets a key in, so one that is left out may hand the login to a later line,
- * which binds it less. */
+/* SSHKEY_END where the line is surely not one for what is offered. Any other is sshd's to judge, also
+ * one that is no entry here. */
 static uint32_t judge_line(const uint8_t *line, size_t length, const offered *wanted) {
-  sshkey_entry entry;
-  memset(&entry, 0, sizeof entry);
-  /* sshd reads no further, and so another entry */
-  if (memchr(line, 0, length)) return SSHKEY_DONE;
-  uint8_t *room = calloc(1, length + 1);
-  if (!room) return SSHKEY_MEMORY;
-  uint32_t answer = sshkey_authorized_entry(line, length, room, length, &entry);
-  const uint8_t *key = room + entry.key.start;
-  bool is_other = answer == SSHKEY_DONE && !is_offered(wanted, key, entry.key.length) &&
-                  !is_read_shorter(key, entry.key.length);
-  free(room);
-  if (answer == SSHKEY_MEMORY) return answer;
-  return is_other ? SSHKEY_END : SSHKEY_DONE;
+  judge_blob blob = wanted->blob;
+  return wanted->is_certificate
+             ? sshkey_may_be_for_certificate(line, length, blob.bytes, blob.length)
+             : sshkey_may_be_for_key(line, length, blob.bytes, blob.length);
 }
 
-/* Prints the line unless it is surely another key's; SSHKEY_MEMORY where it can't tell. */
+/* Prints the line unless it is surely none for what is offered; why it can't tell else. */
 static uint32_t print_line(const char *line, size_t length, size_t number, void *given) {
   offered *wanted = given;
   (void)number;
   uint32_t answer = judge_line((const uint8_t *)line, length, wanted);
-  if (answer == SSHKEY_MEMORY) return answer;
-  if (answer == SSHKEY_DONE) {
-    fwrite(line, 1, length, stdout);
-    putchar('\n');
-    wanted->printed++;
-  }
+  if (answer == SSHKEY_END) return SSHKEY_DONE;
+  if (answer != SSHKEY_DONE) return answer;
+  fwrite(line, 1, length, stdout);
+  putchar('\n');
+  wanted->printed++;
   return SSHKEY_DONE;
 }
 
 /* Prints what lines of the text there are for what is offered, and returns the status. */
 static int print_lines(const login_request *asked, judge_blob text, offered *wanted) {
   size_t number;
-  if (program_each_line(text, print_line, wanted, &number) != SSHKEY_DONE) {
-    login_complain(asked, "line %zu: no memory", number);
+  uint32_t answer = program_each_line(text, print_line, wanted, &number);
+  if (answer != SSHKEY_DONE) {
+    login_complain(asked, "line %zu: %s", number, judge_meaning(answer));
     return program_untold;
   }
   if (!wanted->printed) login_complain(asked, "refused: no line is for it");
@@ -137,15 +102,14 @@ static int answer_offered(const login_request *asked, offered *wanted) {
   return status;
 }
 
-/* SSHKEY_NOT_REVOKED where no revocation file revokes what is offered; else why it is refused. */
+/* SSHKEY_DONE where no revocation file revokes what is offered; else why it is refused. */
 static uint32_t judge_revoked(const login_request *asked, const offered *wanted) {
   sshkey_spans revoked = program_revocations(&asked->revoked);
   judge_blob blob = wanted->blob;
-  uint32_t answer =
+  return sshkey_unrevoked(
       wanted->is_certificate
           ? sshkey_revoked_certificate(revoked.items, revoked.count, blob.bytes, blob.length)
-          : sshkey_revoked_key(revoked.items, revoked.count, blob.bytes, blob.length);
-  return answer == SSHKEY_DONE ? SSHKEY_REVOKED : answer;
+          : sshkey_revoked_key(revoked.items, revoked.count, blob.bytes, blob.length));
 }
 
 static int answer_request(login_request *asked) {
@@ -159,12 +123,11 @@ static int answer_request(login_request *asked) {
     login_note(asked, wanted.blob, wanted.is_certificate);
     if (login_read_revoked(asked)) {
       answer = judge_revoked(asked, &wanted);
-      status = answer == SSHKEY_NOT_REVOKED ? answer_offered(asked, &wanted)
-                                            : login_refuse(asked, answer);
+      status = answer == SSHKEY_DONE ? answer_offered(asked, &wanted)
+                                     : login_refuse(asked, answer);
     }
   }
   free(wanted.blob.bytes);
-  free(wanted.key.bytes);
   return status;
 }
 

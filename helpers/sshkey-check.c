@@ -1,5 +1,6 @@
-/* Shows certificates, and says whether certificates and SSH signatures are valid. See
- * sshkey-check(1). */
+/* Shows certificates, and says whether certificates and SSH signatures are valid, and who may log
+ * in. See sshkey-check(1). */
+#include <arpa/inet.h>
 #include <errno.h>
 #include <getopt.h>
 #include <inttypes.h>
@@ -23,16 +24,21 @@ static const char help[] =
     "       sshkey-check --ca FILE --user NAME [--at TIME] [--revoked FILE].. [FILE]\n"
     "       sshkey-check --host NAME [--port NUMBER] --known-hosts FILE.. [--at TIME]\n"
     "                    [--revoked FILE].. [FILE]\n"
+    "       sshkey-check login FILE NAME KEY --from ADDRESS [--ca FILE] [--host NAME] [--at TIME]\n"
+    "                    [--revoked FILE]..\n"
     "       sshkey-check verify -k KEYS -n NAMESPACE -s SIGNATURE [FILE]\n"
     "       sshkey-check verify -f SIGNERS -I IDENTITY -n NAMESPACE -s SIGNATURE [-r REVOKED]..\n"
     "                           [--at TIME] [FILE]\n"
     "\n"
     "The first shows each certificate of FILE, or of standard input, as ssh-keygen -L does. The\n"
     "second says of each whether it logs NAME in by an authority of the file, at that second since\n"
-    "1970 or date (YYYYMMDD[HHMM[SS]]Z), or else now. The third says of each, or of a key, whether it is that of the host, by all\n"
-    "the files of known_hosts. The fourth says whether the signature of ssh-keygen -Y sign is one of\n"
-    "FILE in the namespace by a key of the file KEYS, and the fifth whether it is the identity's by\n"
-    "the file of allowed signers, as ssh-keygen -Y verify does.\n"
+    "1970 or date (YYYYMMDD[HHMM[SS]]Z), or else now. The third says of each, or of a key, whether\n"
+    "it is that of the host, by all the files of known_hosts. The fourth says whether the key or the\n"
+    "certificate of the file KEY logs NAME in from that address, and to what, or which line of FILE\n"
+    "refuses it: authorized_keys, or with --ca the principals of these authorities. The fifth says\n"
+    "whether the signature of ssh-keygen -Y sign is one of FILE in the namespace by a key of the file\n"
+    "KEYS, and the sixth whether it is the identity's by the file of allowed signers, as ssh-keygen\n"
+    "-Y verify does.\n"
     "Status 0: all is shown, or valid; 1: not all, as standard error says; 2: it can't tell.\n";
 
 enum { VALID = 0, INVALID = 1, UNTOLD = 2 };
@@ -40,13 +46,16 @@ const int program_untold = UNTOLD;
 
 /* What is asked. */
 typedef struct {
-  const char *path; /* of certificates or of what is signed; null for standard input */
+  const char *path; /* of certificates, keys or what is signed; null for standard input */
   const char *authorities, *user, *at;       /* null where they are not given */
   const char *host, *port;                   /* likewise */
   const char *keys, *name_space, *signature; /* likewise */
-  const char *signers;                       /* likewise */
+  const char *signers, *lines, *from;        /* likewise */
   judge_signers allowed;
-  bool is_verify;
+  judge_blob listing;    /* the text of `lines` */
+  uint8_t address[16];   /* of `from` */
+  size_t address_length;
+  bool is_verify, is_login;
   judge_authorities by;
   program_files known_hosts, revoked;
   uint64_t second, port_number;
@@ -64,14 +73,11 @@ static bool can_not_tell(uint32_t answer) {
 static uint32_t read_key(const char *line, size_t length, size_t number, void *given) {
   request *asked = given;
   const char *path = asked->is_verify ? asked->keys : asked->authorities;
-  uint32_t answer = program_add_authority(&asked->by, line, length);
+  uint32_t answer = judge_add_authority(&asked->by, line, length);
   if (answer == SSHKEY_DONE || answer == SSHKEY_MEMORY) return answer;
-  if (answer == SSHKEY_END) {
-    program_complain("%s:%zu: %s", path, number, program_later_key);
-    return SSHKEY_DONE;
-  }
-  asked->is_untold = true;
-  program_complain("%s:%zu: no key: %s", path, number, judge_meaning(answer));
+  bool is_later = answer == SSHKEY_LATER_KEY;
+  if (!is_later) asked->is_untold = true;
+  program_complain("%s:%zu: %s%s", path, number, is_later ? "" : "no key: ", judge_meaning(answer));
   return SSHKEY_DONE;
 }
 
@@ -103,20 +109,26 @@ static bool name_unreadable(const request *asked, uint16_t port) {
   return is_named;
 }
 
+/* Reads the certificate of a line, or else its key, which it says: SSHKEY_DONE, or why there is
+ * none. */
+static uint32_t read_shown(const char *line, size_t length, judge_blob *shown,
+                           bool *is_certificate) {
+  uint32_t answer = judge_read_line(line, length, SSHKEY_LINE_CERTIFICATE, shown);
+  *is_certificate = answer != SSHKEY_LABEL;
+  return *is_certificate ? answer : judge_read_line(line, length, SSHKEY_LINE_KEY, shown);
+}
+
 /* Whether the key or the certificate of a line is the host's. */
 static uint32_t judge_host(const char *line, size_t length, const request *asked) {
   uint16_t port = (uint16_t)asked->port_number;
   sshkey_host_login login = {program_texts(&asked->known_hosts), judge_text(asked->host),
                              program_revocations(&asked->revoked), asked->second, 0, port};
   judge_blob shown = {NULL, 0};
-  uint32_t answer = judge_read_line(line, length, SSHKEY_LINE_CERTIFICATE, &shown);
-  if (answer == SSHKEY_DONE) {
-    answer = judge_host_certificate(&login, judge_span(shown));
-  } else if (answer == SSHKEY_LABEL) {
-    answer = judge_read_line(line, length, SSHKEY_LINE_KEY, &shown);
-    if (answer == SSHKEY_DONE)
-      answer = sshkey_host_key_verdict(&login, shown.bytes, shown.length);
-  }
+  bool is_certificate;
+  uint32_t answer = read_shown(line, length, &shown, &is_certificate);
+  if (answer == SSHKEY_DONE)
+    answer = is_certificate ? judge_host_certificate(&login, judge_span(shown))
+                            : sshkey_host_key_verdict(&login, shown.bytes, shown.length);
   free(shown.bytes);
   /* ssh asks about the plain name where nothing is known at the port */
   if (answer == SSHKEY_HOST_UNREADABLE && !name_unreadable(asked, port)) name_unreadable(asked, 22);
@@ -176,15 +188,78 @@ static uint32_t answer_line(const char *line, size_t length, size_t number, void
   return SSHKEY_DONE;
 }
 
+/* ---- logins by authorized_keys or by principals */
+
+/* What is asked of who holds that key, with that certificate or none. */
+static sshkey_login login_of(judge_blob key, judge_blob certificate, const request *asked) {
+  return (sshkey_login){.certificate = judge_span(certificate),
+                        .user = judge_text(asked->user),
+                        .key = judge_span(key),
+                        .client = {asked->address, asked->address_length},
+                        .authorities = judge_digests(asked->by),
+                        .revoked = program_revocations(&asked->revoked),
+                        .unix_timestamp = asked->second};
+}
+
+/* Whether that logs the user in: prints to what, or says which line refuses, or 0. */
+static uint32_t print_login(const sshkey_login *login, const request *asked, size_t *refusing) {
+  /* a room of this length is enough, and one of no bytes may be null */
+  size_t length = asked->listing.length + 2 * login->certificate.length + 1;
+  uint8_t *room = calloc(1, length);
+  sshkey_user_grant grant;
+  if (!room) return SSHKEY_MEMORY;
+  sshkey_span host = judge_text(asked->host ? asked->host : ""), text = judge_span(asked->listing);
+  uint32_t answer = (asked->authorities ? judge_principals : judge_user_keys)(
+      login, text, host, room, length, &grant);
+  if (answer == SSHKEY_DONE) {
+    puts("valid");
+    show_grant(&grant, room, login->certificate.length > 0);
+  }
+  *refusing = grant.line;
+  free(room);
+  return answer;
+}
+
+/* Answers whether the key or the certificate of a line logs the user in: SSHKEY_DONE, or why it
+ * can't tell. */
+static uint32_t answer_login(const char *line, size_t length, size_t number, void *given) {
+  request *asked = given;
+  judge_blob certificate = {NULL, 0}, key = {NULL, 0}, shown = {NULL, 0};
+  bool is_certificate;
+  size_t refusing = 0;
+  uint32_t answer = read_shown(line, length, &shown, &is_certificate);
+  *(is_certificate ? &certificate : &key) = shown;
+  if (answer == SSHKEY_DONE && is_certificate) answer = certificate_read_key(certificate, &key);
+  /* authorities sign certificates */
+  if (answer == SSHKEY_DONE && asked->authorities && !is_certificate) answer = SSHKEY_LABEL;
+  if (answer == SSHKEY_DONE) {
+    sshkey_login login = login_of(key, certificate, asked);
+    answer = print_login(&login, asked, &refusing);
+  }
+  free(certificate.bytes);
+  free(key.bytes);
+  asked->count++;
+  /* of names that are not UTF-8 nothing follows */
+  if (answer == SSHKEY_DONE || answer == SSHKEY_TEXT || can_not_tell(answer)) return answer;
+  puts("refused");
+  asked->is_valid = false;
+  program_complain("%s:%zu: %s (%" PRIu32 ")", refusing ? asked->lines : path_of(asked),
+                   refusing ? refusing : number, judge_meaning(answer), answer);
+  return SSHKEY_DONE;
+}
+
+/* ---- lines */
+
 /* Answers about each line of the text, and returns the program's status. */
 static int answer_text(judge_blob text, request *asked) {
   size_t number;
-  uint32_t answer = program_each_line(text, answer_line, asked, &number);
+  program_line *each = asked->is_login ? answer_login : answer_line;
+  uint32_t answer = program_each_line(text, each, asked, &number);
   if (answer != SSHKEY_DONE)
     program_complain("%s:%zu: %s", path_of(asked), number, judge_meaning(answer));
   else if (!asked->count)
     program_complain("%s: no %s was given", path_of(asked),
-                     asked->host ? "key or certificate" : "certificate");
+                     asked->host || asked->is_login ? "key or certificate" : "certificate");
   if (!program_is_written() || answer != SSHKEY_DONE || !asked->count) return UNTOLD;
   return asked->is_valid ? VALID : INVALID;
 }
@@ -274,10 +349,20 @@ static bool read_second(const char *word, uint64_t *answer) {
   return false;
 }
 
+/* Reads the address of the client, likewise. */
+static bool read_address(request *asked) {
+  bool is_short = inet_pton(AF_INET, asked->from, asked->address) == 1;
+  asked->address_length = is_short ? 4 : 16;
+  if (is_short || inet_pton(AF_INET6, asked->from, asked->address) == 1) return true;
+  program_complain("%s is no address", asked->from);
+  return false;
+}
+
 /* Reads the numbers of the words; false, with a word to standard error, where one is none. */
 static bool read_numbers(request *asked) {
   asked->port_number = 22;
   if (asked->at && !read_second(asked->at, &asked->second)) return false;
+  if (asked->from && !read_address(asked)) return false;
   if (!asked->port) return true;
   if (program_read_number(asked->port, &asked->port_number) && asked->port_number <= UINT16_MAX)
     return true;
@@ -291,6 +376,7 @@ static int answer_request(request *asked) {
   if (!read_numbers(asked) || !read_keys(keys, asked)) return UNTOLD;
   if (!read_files(&asked->revoked) || !read_files(&asked->known_hosts)) return UNTOLD;
   if (!read_named(asked->signers, &asked->allowed.text)) return UNTOLD;
+  if (!read_named(asked->lines, &asked->listing)) return UNTOLD;
   asked->allowed.unix_timestamp = asked->second;
   asked->allowed.revoked = program_revocations(&asked->revoked);
   FILE *file = asked->path ? fopen(asked->path, "rb") : stdin;
@@ -313,6 +399,7 @@ static bool is_one_question(const request *asked) {
   bool is_signers = asked->signers && asked->allowed.identity;
   bool is_host = asked->host && asked->known_hosts.count;
   bool has_host = asked->host || asked->port || asked->known_hosts.count;
+  if (!asked->is_login && asked->from) return false;
   if (asked->is_verify)
     return asked->name_space && asked->signature && !asked->authorities && !asked->user &&
            !has_host &&
@@ -320,6 +407,8 @@ static bool is_one_question(const request *asked) {
   if (asked->keys || asked->name_space || asked->signature || asked->signers ||
       asked->allowed.identity)
     return false;
+  if (asked->is_login)
+    return asked->from && !asked->port && !asked->known_hosts.count;
   if (has_host) return is_host && !asked->authorities && !asked->user;
   return asked->authorities ? asked->user != NULL : !asked->user && !is_bound;
 }
@@ -333,9 +422,11 @@ static bool read_words(int count, char **words, request *asked) {
       {"host", required_argument, NULL, 'H'},      {"port", required_argument, NULL, 'p'},
       {"namespace", required_argument, NULL, 'n'}, {"signature", required_argument, NULL, 's'},
       {"signers", required_argument, NULL, 'f'},   {"identity", required_argument, NULL, 'I'},
+      {"from", required_argument, NULL, 'F'},
       {NULL, 0, NULL, 0}};
   asked->is_verify = count > 1 && !strcmp(words[1], "verify");
-  optind = asked->is_verify ? 2 : 1;
+  asked->is_login = count > 1 && !strcmp(words[1], "login");
+  optind = asked->is_verify || asked->is_login ? 2 : 1;
   opterr = 0;
   const char *letters = asked->is_verify ? "k:n:s:f:I:r:" : "";
   for (int letter; (letter = getopt_long(count, words, letters, options, NULL)) != -1;) {
@@ -353,9 +444,15 @@ static bool read_words(int count, char **words, request *asked) {
                       : letter == 'n' ? &asked->name_space
                       : letter == 'f' ? &asked->signers
                       : letter == 'I' ? &asked->allowed.identity
+                      : letter == 'F' ? &asked->from
                                       : &asked->signature;
     if (letter == '?' || *to) return false;
     *to = optarg;
+  }
+  if (asked->is_login) {
+    if (count - optind != 3 || asked->user) return false;
+    asked->lines = words[optind++];
+    asked->user = words[optind++];
   }
   if (optind < count && strcmp(words[optind], "-")) asked->path = words[optind];
   if (count - optind > 1) return false;
@@ -377,6 +474,7 @@ int main(int count, char **words) {
     fputs(help, stderr);
   free(asked.by.keys);
   free(asked.allowed.text.bytes);
+  free(asked.listing.bytes);
   program_forget(&asked.known_hosts);
   program_forget(&asked.revoked);
   return status;

@@ -25,18 +25,6 @@ static const char help[] =
     "It does not run as nobody.\n"
     "Status 0: printed, or not let in; 1: it can't tell, as standard error says.\n";
 
-/* Whether the list, whose names are apart by commas, has the user. */
-static bool has_user(const char *list, size_t length, const char *user) {
-  size_t wanted = strlen(user);
-  for (const char *end = list + length; wanted && list < end;) {
-    const char *comma = memchr(list, ',', (size_t)(end - list));
-    size_t name = (size_t)((comma ? comma : end) - list);
-    if (name == wanted && !memcmp(list, user, name)) return true;
-    list += name + 1;
-  }
-  return false;
-}
-
 /* Whose authorities are read, and to where. */
 typedef struct {
   const login_request *asked;
@@ -47,17 +35,14 @@ typedef struct {
 /* Adds the authority of a line if the line has the user, or says that it has no key, or a later one. */
 static uint32_t read_authority(const char *line, size_t length, size_t number, void *given) {
   wanted *to = given;
-  size_t list = program_run_of(false, line, length, 0);
-  size_t key = list + program_run_of(true, line, length, list);
-  if (!has_user(line, list, to->asked->user)) return SSHKEY_DONE;
-  uint32_t answer = program_add_authority(&to->by, line + key, length - key);
+  uint32_t answer = judge_add_user_authority(&to->by, line, length, to->asked->user);
   if (answer == SSHKEY_DONE || answer == SSHKEY_MEMORY) return answer;
-  if (answer == SSHKEY_END) {
-    login_complain(to->asked, "%s:%zu: %s", to->asked->path, number, program_later_key);
-    return SSHKEY_DONE;
-  }
-  to->is_whole = false;
-  login_complain(to->asked, "%s:%zu: no key: %s", to->asked->path, number, judge_meaning(answer));
+  /* another user's line */
+  if (answer == SSHKEY_END) return SSHKEY_DONE;
+  bool is_later = answer == SSHKEY_LATER_KEY;
+  if (!is_later) to->is_whole = false;
+  login_complain(to->asked, "%s:%zu: %s%s", to->asked->path, number, is_later ? "" : "no key: ",
+                 judge_meaning(answer));
   return SSHKEY_DONE;
 }
 

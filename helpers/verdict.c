@@ -71,3 +71,33 @@ uint32_t judge_host_certificate(const sshkey_host_login *login, sshkey_span cert
   return sshkey_host_certificate_verdict(login, certificate.bytes, certificate.length,
                                          is_verified);
 }
+
+/* A call that judges a login by a text. */
+typedef uint32_t judge_verdict(const sshkey_login *login, const uint8_t *text, size_t text_length,
+                               const uint8_t *host, size_t host_length, uint32_t is_verified,
+                               uint8_t *room, size_t room_length, sshkey_user_grant *answer);
+
+/* What that call says, and the verification that it asks for. */
+static uint32_t judge_by(judge_verdict *verdict, const sshkey_login *login, sshkey_span text,
+                         sshkey_span host, uint8_t *room, size_t room_length,
+                         sshkey_user_grant *answer) {
+  uint32_t is_verified = 0;
+  memset(answer, 0, sizeof *answer);
+  uint32_t said = verdict(login, text.bytes, text.length, host.bytes, host.length, is_verified,
+                          room, room_length, answer);
+  if (said != SSHKEY_NOT_SIGNED) return said;
+  said = judge_is_certified(login->certificate, &is_verified);
+  if (said != SSHKEY_DONE) return said;
+  return verdict(login, text.bytes, text.length, host.bytes, host.length, is_verified, room,
+                 room_length, answer);
+}
+
+uint32_t judge_user_keys(const sshkey_login *login, sshkey_span text, sshkey_span host,
+                         uint8_t *room, size_t room_length, sshkey_user_grant *answer) {
+  return judge_by(sshkey_user_keys_verdict, login, text, host, room, room_length, answer);
+}
+
+uint32_t judge_principals(const sshkey_login *login, sshkey_span text, sshkey_span host,
+                          uint8_t *room, size_t room_length, sshkey_user_grant *answer) {
+  return judge_by(sshkey_principals_verdict, login, text, host, room, room_length, answer);
+}

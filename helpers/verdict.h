@@ -22,6 +22,16 @@ uint32_t judge_userauth(const sshkey_userauth *request);
 /* Whether a certificate is the host's: sshkey_host_certificate_verdict, likewise. */
 uint32_t judge_host_certificate(const sshkey_host_login *login, sshkey_span certificate);
 
+/* Whether a text of authorized_keys lets a user in, and the grant: sshkey_user_keys_verdict,
+ * likewise. */
+uint32_t judge_user_keys(const sshkey_login *login, sshkey_span text, sshkey_span host,
+                         uint8_t *room, size_t room_length, sshkey_user_grant *answer);
+
+/* Whether a text in the form of AuthorizedPrincipalsFile does: sshkey_principals_verdict,
+ * likewise. */
+uint32_t judge_principals(const sshkey_login *login, sshkey_span text, sshkey_span host,
+                          uint8_t *room, size_t room_length, sshkey_user_grant *answer);
+
 #ifdef __cplusplus
 }
 #endif

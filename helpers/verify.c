@@ -30,9 +30,10 @@ static slice take(slice *from) {
   return string;
 }
 
-/* The number of an mpint; null where it is not positive: no key and no signature has such a one. */
+/* The number of an mpint, which is positive: in keys by sshkey_may_verify, and in signatures of
+ * ECDSA anyway. */
 static BIGNUM *number(slice digits) {
-  if (digits.length == 0 || digits.length > INT_MAX || digits.bytes[0] & 0x80) return NULL;
+  if (digits.length > INT_MAX) return NULL;
   return BN_bin2bn(digits.bytes, (int)digits.length, NULL);
 }
 
@@ -48,12 +49,10 @@ static EVP_PKEY *key_of(const char *type, OSSL_PARAM_BLD *parts) {
   return key;
 }
 
-/* OpenSSH reads no compressed point, so a key has one fingerprint: its point begins with 04. */
 static EVP_PKEY *ecdsa_key(const char *curve, slice point) {
   OSSL_PARAM_BLD *parts = OSSL_PARAM_BLD_new();
   EVP_PKEY *key = NULL;
-  if (parts && point.length > 0 && point.bytes[0] == 4 &&
-      OSSL_PARAM_BLD_push_utf8_string(parts, OSSL_PKEY_PARAM_GROUP_NAME, curve, 0) &&
+  if (parts && OSSL_PARAM_BLD_push_utf8_string(parts, OSSL_PKEY_PARAM_GROUP_NAME, curve, 0) &&
       OSSL_PARAM_BLD_push_octet_string(parts, OSSL_PKEY_PARAM_PUB_KEY, point.bytes, point.length))
     key = key_of("EC", parts);
   OSSL_PARAM_BLD_free(parts);
@@ -113,8 +112,7 @@ static bool is_ecdsa(const char *curve, const EVP_MD *digest, slice key, slice m
 static bool is_rsa(const EVP_MD *digest, slice key, slice message, slice signature) {
   slice exponent = take(&key);
   EVP_PKEY *made = rsa_key(exponent, take(&key));
-  /* a shorter key is too weak to count */
-  bool yes = made && EVP_PKEY_get_bits(made) >= 2048 && verifies(made, digest, message, signature);
+  bool yes = verifies(made, digest, message, signature);
   EVP_PKEY_free(made);
   return yes;
 }
@@ -131,6 +129,7 @@ bool judge_is_signature(const sshkey_question *question, const uint8_t *room) {
   slice key = slice_of(room, question->key);
   slice message = slice_of(room, question->message);
   slice signature = slice_of(room, question->signature);
+  if (sshkey_may_verify(key.bytes, key.length) != SSHKEY_DONE) return false;
   take(&key); /* the name of the key's type */
   switch (question->algorithm) {
   case SSHKEY_ASK_P256:
@@ -145,7 +144,7 @@ bool judge_is_signature(const sshkey_question *question, const uint8_t *room) {
     return is_rsa(EVP_sha256(), key, message, signature);
   case SSHKEY_ASK_RSA_SHA512:
     return is_rsa(EVP_sha512(), key, message, signature);
-  default: /* DSA: too weak to count */
+  default: /* DSA, which sshkey_may_verify takes no key of */
     return false;
   }
 }

@@ -9,10 +9,11 @@
  *   3. sshkey_certificate_validate and .._validate_for say whether the certificate is valid, given
  *      what you found, or what is wrong with it first.
  *
- * A login is such a check too: sshkey_login_question, and sshkey_login_verdict. Of an SSH signature
- * (`ssh-keygen -Y sign`) sshkey_sshsig_question asks, or the same with the digest of the message.
- * Whether it counts, sshkey_sshsig_verdict says by the keys that you trust for its namespace, and
- * sshkey_signer_verdict by a file of allowed signers.
+ * A login is such a check too: sshkey_login_question, and sshkey_login_verdict; by authorized_keys,
+ * sshkey_user_keys_verdict, and by a file of principals, sshkey_principals_verdict. Of an SSH
+ * signature (`ssh-keygen -Y sign`) sshkey_sshsig_question asks, or the same with the digest of the
+ * message. Whether it counts, sshkey_sshsig_verdict says by the keys that you trust for its
+ * namespace, and sshkey_signer_verdict by a file of allowed signers.
  *
  * What you owe, which nothing checks:
  *
@@ -142,6 +143,10 @@ enum {
 
   SSHKEY_NOT_REVOKED = 60, /* no revocation file revokes the key or the certificate */
 
+  SSHKEY_LATER_KEY = 61,   /* the line has a key of a later kind, which signs nothing that is read:
+                              pass over it, and say so */
+  SSHKEY_UNSAFE_MODE = 62, /* another's, or others may write it */
+
   /* 70 to 76, with 59 after 72: a certificate that lets nobody in, whoever signed it; the first of
    * these */
   SSHKEY_NOT_NORMAL_FORM = 70,  /* its bytes are not its normal form: not those that were signed */
@@ -159,7 +164,21 @@ enum {
                                   not ssh-connection */
   SSHKEY_OTHER_ALGORITHM = 81, /* the algorithm that the request names is not the signature's */
   SSHKEY_UNTOUCHED = 82,       /* nobody touched the security key, and the grant wants it */
-  SSHKEY_UNVERIFIED = 83       /* the security key did not verify its user, and the grant wants it */
+  SSHKEY_UNVERIFIED = 83,      /* the security key did not verify its user, and the grant wants it */
+
+  /* 90 to 96: authorized_keys lets nobody in. 91 to 95 is why the first line for the key, or for
+   * the certificate's authority, refuses: each such line does. After 90 to 95 ask about the next
+   * file */
+  SSHKEY_USER_NOT_LISTED = 90,  /* no line is for the key, for the certificate's authority, or for a
+                                   principal of it */
+  SSHKEY_LINE_EXPIRED = 91,     /* its expiry-time is over */
+  SSHKEY_LINE_OPTION = 92,      /* it has principals, and no cert-authority; of a file of principals,
+                                   one of both */
+  SSHKEY_LINE_ELSEWHERE = 93,   /* its from is for other places */
+  SSHKEY_LINE_COMMAND = 94,     /* its command is another than the certificate's */
+  SSHKEY_LINE_PRINCIPALS = 95,  /* the certificate lists nobody whom it lets in */
+  SSHKEY_LINE_UNCLEAR = 96      /* a line may let in, and how sshd reads it cannot be told: so no
+                                   other line and no other file may */
 };
 
 /* The name of an answer as it stands above, without SSHKEY_; for logs. */
@@ -182,11 +201,15 @@ static inline const char *sshkey_answer_name(uint32_t answer) {
     SSHKEY_NAMED(SIGNER_NOT_ALLOWED); SSHKEY_NAMED(REVOKED); SSHKEY_NAMED(ELSEWHERE);
     SSHKEY_NAMED(UNREADABLE_REVOCATIONS); SSHKEY_NAMED(KEY_NOT_ACCEPTED);
     SSHKEY_NAMED(NOT_REVOKED);
+    SSHKEY_NAMED(LATER_KEY); SSHKEY_NAMED(UNSAFE_MODE);
     SSHKEY_NAMED(NOT_NORMAL_FORM); SSHKEY_NAMED(OTHER_TYPE); SSHKEY_NAMED(OTHER_KEY);
     SSHKEY_NAMED(CRITICAL_OPTIONS); SSHKEY_NAMED(EXTENSIONS); SSHKEY_NAMED(KEY_ID);
     SSHKEY_NAMED(VALID_PRINCIPALS);
     SSHKEY_NAMED(OTHER_REQUEST); SSHKEY_NAMED(OTHER_ALGORITHM); SSHKEY_NAMED(UNTOUCHED);
     SSHKEY_NAMED(UNVERIFIED);
+    SSHKEY_NAMED(USER_NOT_LISTED); SSHKEY_NAMED(LINE_EXPIRED); SSHKEY_NAMED(LINE_OPTION);
+    SSHKEY_NAMED(LINE_ELSEWHERE); SSHKEY_NAMED(LINE_COMMAND); SSHKEY_NAMED(LINE_PRINCIPALS);
+    SSHKEY_NAMED(LINE_UNCLEAR);
     default: return "no answer";
   }
 #undef SSHKEY_NAMED
@@ -250,7 +273,7 @@ typedef struct {
  * or RSA key may be zero (no bytes) or negative (the first bit is set): no such key is valid, so
  * your verification says no. r and s of an ECDSA signature are positive. A point need not lie on
  * its curve, and may be compressed, which OpenSSH does not read: say no to one that does not begin
- * with 04, or else a key has two fingerprints. */
+ * with 04, or else a key has two fingerprints. sshkey_may_verify says all of this of a key. */
 enum {
   /* with SHA-1; after the name p, q, g, y; signature: r and s, unsigned, 20 bytes each */
   SSHKEY_ASK_DSA = 1,
@@ -315,6 +338,42 @@ uint32_t sshkey_read_line(const uint8_t *line, size_t line_length, uint8_t *room
  * SSHKEY_DONE exactly if it has; SSHKEY_LABEL if not, also for a key that is read here, and
  * SSHKEY_TEXT for a line that is not UTF-8. Takes no memory. */
 uint32_t sshkey_is_other_key_line(const uint8_t *line, size_t line_length);
+
+/* ---- what may be believed -------------------------------------------------------------------- */
+
+/* The SHA-256 fingerprint of the key in a line of a file of authorities (TrustedUserCAKeys): the
+ * name of its type and its Base64, after spaces or tabs and with some between. What follows is a
+ * comment, and decides nothing.
+ *
+ * SSHKEY_DONE exactly if the line has a key (memory aside), and SSHKEY_LATER_KEY if it has one of a
+ * later kind (sshkey_is_other_key_line). Else refuse the file: SSHKEY_TEXT where these two words
+ * are not UTF-8, or 10 to 29. */
+uint32_t sshkey_authority(const uint8_t *line, size_t line_length, sshkey_sha256 *answer);
+
+/* The same of a file that says which authority may sign for whom: in its lines names of users, with
+ * commas between, stand before the key.
+ *
+ * SSHKEY_END exactly if the user is none of the names, which are compared byte by byte, or has no
+ * byte: pass over the line, whatever follows. Else what sshkey_authority answers of what follows
+ * the names. */
+uint32_t sshkey_user_authority(const uint8_t *line, size_t line_length, const uint8_t *user,
+                               size_t user_length, sshkey_sha256 *answer);
+
+/* Whether your verification may say yes to a signature under the key of that blob, as of that of a
+ * question. Ask it first, and make the key then.
+ *
+ * SSHKEY_DONE exactly if OpenSSH lets somebody in by the key, and one of RSA has 2,048 bits or more,
+ * where OpenSSH is content with 1,024: so it is none of DSA, each number in it is positive and has
+ * at most 16,384 bits, and a point begins with 04. Else SSHKEY_KEY_NOT_ACCEPTED, or 10 to 29 for
+ * bytes that are no key. Takes no memory. */
+uint32_t sshkey_may_verify(const uint8_t *key, size_t key_length);
+
+/* Whether a file or a folder may be believed about a user, as by sshd's StrictModes; owner, user and
+ * mode as of stat(2). The user 0 is root.
+ *
+ * SSHKEY_DONE exactly if root or the user owns it, and neither group nor others may write; else
+ * SSHKEY_UNSAFE_MODE. Takes no memory. */
+uint32_t sshkey_strict_mode(uint64_t owner, uint64_t user, uint32_t mode);
 
 /* ---- certificates (PROTOCOL.certkeys) -------------------------------------------------------- */
 
@@ -514,8 +573,13 @@ enum {
   SSHKEY_PERMIT_X11_FORWARDING = 8,
   SSHKEY_PERMIT_USER_RC = 16,
   SSHKEY_PERMIT_ANY_COMMAND = 32,     /* no force-command: what the client asks for, or a shell */
-  SSHKEY_PERMIT_NO_TOUCH = 64,        /* a security key that nobody touched */
-  SSHKEY_PERMIT_NO_VERIFICATION = 128 /* a security key that did not verify its user */
+  SSHKEY_PERMIT_NO_TOUCH = 64,         /* a security key that nobody touched */
+  SSHKEY_PERMIT_NO_VERIFICATION = 128, /* a security key that did not verify its user */
+  /* by authorized_keys alone (sshkey_user_grant) */
+  SSHKEY_PERMIT_TUNNELS = 256,         /* tunnels (tun(4)) */
+  SSHKEY_PERMIT_ANY_TUNNEL = 512,      /* whichever device of them */
+  SSHKEY_PERMIT_OPEN_ANYWHERE = 1024,  /* ports may be forwarded to anywhere, if at all */
+  SSHKEY_PERMIT_LISTEN_ANYWHERE = 2048 /* ports may be listened at anywhere, if at all */
 };
 
 /* What a login may do, and by which certificate. */
@@ -735,6 +799,13 @@ uint32_t sshkey_krl_revokes_key(const uint8_t *krl, size_t krl_length, const uin
 uint32_t sshkey_krl_revokes_certificate(const uint8_t *krl, size_t krl_length,
                                         const uint8_t *certificate, size_t certificate_length);
 
+/* The answer of one of these four calls with SSHKEY_DONE for what is not revoked, and SSHKEY_REVOKED
+ * for what is: so here, as of other calls, only SSHKEY_DONE is good. */
+static inline uint32_t sshkey_unrevoked(uint32_t answer) {
+  if (answer == SSHKEY_DONE) return SSHKEY_REVOKED;
+  return answer == SSHKEY_NOT_REVOKED ? (uint32_t)SSHKEY_DONE : answer;
+}
+
 /* ---- authorized_keys and known_hosts (sshd(8)) ----------------------------------------------- */
 
 /* The next line from that place on that may be an entry: neither empty nor a comment, without the
@@ -757,16 +828,9 @@ typedef struct {
 
 /* The entry of a line of authorized_keys, as sshd reads it. SSHKEY_DONE exactly if the line is one
  * (memory and room aside); SSHKEY_TEXT for a line that is not UTF-8, else 10 to 29. A room of the
- * line's length is enough. Which options there may be is yours to judge:
- * sshkey_next_entry_option; docs/CHECKLIST.md, "A login".
+ * line's length is enough. Here a zero byte is a byte like others, while sshd reads no further.
  *
- * sshd takes the first line that lets a key in, and by that line the login is bound. So the first
- * entry of the key decides. A line that is refused here, memory too, may be for the key as sshd
- * reads it: it ends the search with a refusal, since a later line may bind the login less.
- *
- * An option cert-authority says that the key is an authority's, which signs certificates: whoever
- * only has that key is not to be let in. And refuse the login by a line with a zero byte: here that
- * is a byte like others, while sshd reads no further. */
+ * It shows a line, and decides nothing: whom a text lets in, sshkey_user_keys_verdict says. */
 uint32_t sshkey_authorized_entry(const uint8_t *line, size_t line_length, uint8_t *room,
                                  size_t room_length, sshkey_entry *answer);
 
@@ -790,16 +854,27 @@ typedef struct {
  * before the next comma outside quotes is not UTF-8, and SSHKEY_FORMAT if it is no option. A room
  * of the options' length is enough. All options take time in proportion to them.
  *
- * Go on to SSHKEY_END before you let anybody in, since what follows an option is not read with it.
- * Refuse an entry whose options end otherwise, one with an option that you do not know, one that
- * names an option twice, but for environment, permitlisten and permitopen, which may come more than
- * once, one that has no value where sshd wants one, as command alone, or has one where it wants
- * none, and one that has principals without cert-authority. If the entry has the key, that refuses
- * the login: sshd may take the line, and a later one may bind the login less. The list of from is
- * for sshkey_from_allows; docs/CALLING.md says how sshd reads that of principals. */
+ * Go on to SSHKEY_END, since what follows an option is not read with it. What the options of a line
+ * say of a login, sshkey_user_keys_verdict decides. */
 uint32_t sshkey_next_entry_option(const uint8_t *options, size_t options_length, size_t place,
                                   uint8_t *room, size_t room_length,
                                   sshkey_entry_option_parts *answer);
+
+/* Whether sshd may take a line of authorized_keys for one of the key of that blob, whatever it makes
+ * of the line's options: for a program that has sshd judge lines, as AuthorizedKeysCommand. It takes
+ * the first that lets a key in, so leave out none but those for which this is SSHKEY_END: a line that
+ * is left out may hand the login to a later one, which binds it less.
+ *
+ * SSHKEY_DONE where the key may be spelled in the line, as sshd reads Base64 (or is too short for
+ * that to be told), SSHKEY_END where the line is surely none of the key's (memory aside), and 10 to
+ * 29 for bytes that are no key. SSHKEY_MEMORY only where they are one. */
+uint32_t sshkey_may_be_for_key(const uint8_t *line, size_t line_length, const uint8_t *key,
+                               size_t key_length);
+
+/* The same of the authority that signed the certificate: by its lines cert-authority sshd lets the
+ * certificate in. */
+uint32_t sshkey_may_be_for_certificate(const uint8_t *line, size_t line_length,
+                                       const uint8_t *certificate, size_t certificate_length);
 
 /* ---- whether a host is the known one (ssh(1)) ------------------------------------------------ */
 
@@ -896,6 +971,75 @@ typedef struct {
  * SSHKEY_DONE exactly if the text is such a time and later than the start of 1970, of whatever zone
  * it may be; else SSHKEY_TEXT where it is not UTF-8, and SSHKEY_FORMAT. Takes no memory. */
 uint32_t sshkey_read_time(const uint8_t *text, size_t length, sshkey_time_span *answer);
+
+/* ---- whom authorized_keys lets in (sshd(8)) -------------------------------------------------- */
+
+/* What a login by a line of authorized_keys may do. */
+typedef struct {
+  sshkey_grant grant;        /* with the command of the line or of the certificate; of a plain key
+                                key_id has no bytes, serial and authority are zero */
+  sshkey_part permit_open;   /* without SSHKEY_PERMIT_OPEN_ANYWHERE the only places to which ports
+                                may be forwarded: strings (sshkey_next_string), two each: a host,
+                                and a port of two bytes, big-endian, or of none for any port */
+  sshkey_part permit_listen; /* likewise where may be listened; the host may be "*" */
+  sshkey_part environment;   /* strings NAME=VALUE; by its defaults sshd sets none */
+  sshkey_time_span expires;  /* the last second at which the line counts; UINT64_MAX at any */
+  size_t line;               /* the number of the line, from 1; of a refusal 91 to 96, of the line
+                                that refuses */
+  uint32_t tunnel;           /* without SSHKEY_PERMIT_ANY_TUNNEL the only device of tun(4);
+                                0x7fffffff is the "any" that a client asks for */
+} sshkey_user_grant;
+
+/* Whether a text of authorized_keys, of one file, lets a login in, as sshd would by the first line
+ * that does, and what that line leaves it. Where the login's certificate has no bytes, the client
+ * shows the plain key, and `is_verified` does not count. Else it shows that certificate of the key,
+ * for which lines cert-authority are asked: `is_verified` is 1 if the answer to its question is yes
+ * (sshkey_certificate_question); any other number is no. Ask with 0 first: SSHKEY_NOT_SIGNED says
+ * "now verify", and with any other answer there is nothing to verify.
+ *
+ * `host` is the name that was found for the client's address (UseDNS), or of no bytes. The login's
+ * authorities are not looked at. Without an address (judges_address is 1, too) a line with from
+ * cannot be told; nor can one that is not UTF-8 and may be for the key or its authority.
+ *
+ * SSHKEY_DONE exactly if OpenSSH accepts the key, no revocation file revokes it, the first line for
+ * it that allows place and time comes before each that cannot be told, and the line is of no
+ * authority; or, of a certificate, if that line is of the authority that signed it, whose key
+ * OpenSSH accepts, allows its names and its command, and sshkey_login_verdict lets it in by that
+ * authority, for the name (memory and room aside). Else what is wrong first: SSHKEY_TEXT where the
+ * user or the host is not UTF-8, 10 to 29 for bytes that are no key, or else no certificate,
+ * SSHKEY_KEY_NOT_ACCEPTED, of a key SSHKEY_UNREADABLE_REVOCATIONS or SSHKEY_REVOKED, 90 to 96, and
+ * of a certificate that a line lets in what sshkey_login_verdict says. A room as long as the text
+ * and twice the certificate is enough. SSHKEY_MEMORY only where these are UTF-8 and the key is one.
+ *
+ * After 90 to 95 ask about the next file; after every other answer let no other one count. With
+ * SSHKEY_ROOM `*answer` is zero but for grant.length, and with every other answer but SSHKEY_DONE
+ * zero but for `line`: it permits nothing; the room stays as it was.
+ *
+ * Yours: that the client signed under the key (sshkey_userauth_question asks, with grant.permits),
+ * to run no other command than the grant's, and to allow nothing that it does not permit. */
+uint32_t sshkey_user_keys_verdict(const sshkey_login *login, const uint8_t *text,
+                                  size_t text_length, const uint8_t *host, size_t host_length,
+                                  uint32_t is_verified, uint8_t *room, size_t room_length,
+                                  sshkey_user_grant *answer);
+
+/* Whether a text in the form of AuthorizedPrincipalsFile (sshd_config(5)), of one file, lets a login
+ * in by its certificate, as sshd would by the first line for a principal that this lists, and what
+ * that line leaves it. login->authorities are those of TrustedUserCAKeys, and login->user is not
+ * asked about. The answer, the numbers, the room and what is yours are those of
+ * sshkey_user_keys_verdict, but for these:
+ *
+ * SSHKEY_DONE exactly if that line comes before each that cannot be told, and allows the
+ * certificate, place and time, OpenSSH accepts the key that signed it, and sshkey_login_verdict lets
+ * it in by login->authorities for that principal (memory and room aside). No bytes are no
+ * certificate: 10 to 29. SSHKEY_LINE_PRINCIPALS never comes. A line for a principal cannot be told
+ * where it is not UTF-8 up to a #.
+ *
+ * A line that refuses ends it: after SSHKEY_USER_NOT_LISTED alone ask about the next file, and after
+ * every other answer, 91 to 96 too, let no other one count. */
+uint32_t sshkey_principals_verdict(const sshkey_login *login, const uint8_t *text,
+                                   size_t text_length, const uint8_t *host, size_t host_length,
+                                   uint32_t is_verified, uint8_t *room, size_t room_length,
+                                   sshkey_user_grant *answer);
 
 /* ---------------------------------------------------------------------------------------------- */
 
@@ -1016,6 +1160,14 @@ SSHKEY_IS(sizeof(sshkey_entry_option_parts) == 56);
 SSHKEY_IS(offsetof(sshkey_time_span, first) == 0);
 SSHKEY_IS(offsetof(sshkey_time_span, last) == 8);
 SSHKEY_IS(sizeof(sshkey_time_span) == 16);
+SSHKEY_IS(offsetof(sshkey_user_grant, grant) == 0);
+SSHKEY_IS(offsetof(sshkey_user_grant, permit_open) == 88);
+SSHKEY_IS(offsetof(sshkey_user_grant, permit_listen) == 104);
+SSHKEY_IS(offsetof(sshkey_user_grant, environment) == 120);
+SSHKEY_IS(offsetof(sshkey_user_grant, expires) == 136);
+SSHKEY_IS(offsetof(sshkey_user_grant, line) == 152);
+SSHKEY_IS(offsetof(sshkey_user_grant, tunnel) == 160);
+SSHKEY_IS(sizeof(sshkey_user_grant) == 168);
 #undef SSHKEY_IS
 
 #ifdef __cplusplus

@@ -6,16 +6,17 @@ import subprocess
 import sys
 
 from .archives import files_below, mode_of, pack_tar, pack_zip, write_sums
-from .papers import MACHINES, filled, indented, proved_by
+from .papers import MACHINES, PACKAGE, filled, indented, proved_by
 
-# what of the tree the source package has: nothing that takes the proofs or the toolchain; and what git does not keep, the texts
+# what of the tree the source package has: nothing that takes the proofs or the toolchain; PROVED-BY stands at its top
 SOURCES = [
     "CHANGELOG.md", "CONTACT", "CONTRIBUTING.md", "LICENSE-APACHE", "LICENSE-MIT", "Makefile", "NOTICE", "README.md", "SECURITY.md",
-    "VERSION", "bindings", ":!bindings/dist", ":!bindings/library", ":!bindings/release", "checks/asked", ":!checks/asked/user_key*",
-    ":!checks/asked/openssh_*", "checks/callers", "checks/entry-lines", "checks/foreign", "checks/foreign.c", "checks/hostile",
-    "checks/hosts", "checks/lib/*.py", "checks/threads.c", "docs/*.md", "docs/*.svg", "examples", "helpers", "include", "toolchain",
+    "VERSION", "bindings", ":!bindings/dist", ":!bindings/library", ":!bindings/release", f":!{PACKAGE}/PROVED-BY", "checks/asked",
+    ":!checks/asked/user_key_logins.py", ":!checks/asked/user_key_sources.py", ":!checks/asked/openssh_*", "checks/callers",
+    "checks/entry-lines", "checks/foreign", "checks/foreign.c", "checks/hostile", "checks/hosts", "checks/lib/*.py", "checks/threads.c",
+    "docs/*.md", "docs/*.svg", "examples", "helpers", "include", "sshkey-check", "toolchain",
 ]  # fmt: skip
-TEXTS = [f"bindings/go/sshkey/sshkey_linux_{it}.S" for it in MACHINES]
+TEXTS = [f"{PACKAGE}/sshkey_linux_{it}.S" for it in MACHINES]
 # what makes a compiler for the machine's libraries of each processor
 COMPILERS = {it: f"{machine}-linux-gnu-gcc" for it, machine in MACHINES.items()}
 # Debian's Python, which has setuptools and wheel by Debian's packages
@@ -42,7 +43,7 @@ def write(path, text):
 def stage(release, room, git):
     """The folder that is the source package, in that room."""
     folder = f"{room}/sshkey-{release.version}"
-    for path in [*git("ls-files", "--", *SOURCES).splitlines(), *TEXTS]:
+    for path in git("ls-files", "--", *SOURCES).splitlines():
         os.makedirs(os.path.dirname(f"{folder}/{path}"), exist_ok=True)
         shutil.copyfile(f"{release.root}/{path}", f"{folder}/{path}")
         # as git has it, whatever the clone's umask

@@ -2,13 +2,14 @@
 import json
 import os
 import re
-import sys
 import time
 
 from .archives import sum_of
 
 # by Go's name of a processor, where a release names it otherwise: the machine, as `uname -m` calls it
 MACHINES = {"amd64": "x86_64", "arm64": "aarch64"}
+# where the texts stand
+PACKAGE = "bindings/go/sshkey"
 NOT_PUBLISHED = "It is not published yet"
 
 
@@ -71,41 +72,12 @@ def filled(text, values):
 
 # ---- PROVED-BY
 
-PROVED_BY = """\
-What is proved of sshkey {version}, by what, and how to check it
-
-commit     {commit}
-toolchain  {toolchain}
-{processors}
-The texts are what packages build and hold: bindings/go/sshkey/sshkey_linux_*.S. Each was written by
-the compiler together with the archive libsshkey_c.a, of one module that was proved before.
-
-Who has the toolchain can check all of this, in a clone at the commit:
-
-    ./prove                             proves the crates, in an hour
-    bindings/library --archives         proves the library, and writes archives and texts
-    sha256sum crates/sshkey_c/out/*/libsshkey_c.a bindings/go/sshkey/sshkey_linux_*.S
-
-docs/PROVED.md says what is proved, and what is only tested or trusted. NOTICE says what of the
-toolchain is inside: until the owner of that says more, packages are for trial alone. {where}
-"""
-
 
 def proved_by(release):
-    """The paper, which has the verdicts that bindings/library left."""
-    told = ""
-    for processor in MACHINES:
-        built = f"crates/sshkey_c/out/{processor}"
-        text = f"bindings/go/sshkey/sshkey_linux_{processor}.S"
-        sources, verdict = release.read(f"{built}/verdict").splitlines()
-        if sources.partition("=")[2] not in release.read(text)[:400]:
-            sys.exit(f"{built} has the verdict on another text: run bindings/library --archives")
-        told += f"\n{processor}\n  sources  {sources.partition('=')[2]}\n  verdict  {verdict}\n"
-        for path in (f"{built}/libsshkey_c.a", text):
-            told += f"  sha256   {sum_of(f'{release.root}/{path}')}  {os.path.basename(path)}\n"
-    return PROVED_BY.format(
-        version=release.version, commit=release.commit, toolchain=release.read("toolchain").strip(), processors=told, where=release.where()
-    )
+    """The paper that stands beside the texts, and of which release it is here."""
+    title, rest = release.read(f"{PACKAGE}/PROVED-BY").split("\n\n", 1)
+    told = f"release    sshkey {release.version}, whose sources are the commit\n           {release.commit}\n"
+    return f"{title}\n\n{told}{rest}\n{release.where()}\n"
 
 
 # ---- SBOM

@@ -15,6 +15,11 @@ them: FILES, which are revocation files, and TEXTS), numbers and names:
     log-in BYTES USER KEY CLIENT AUTHORITIES FILES SECOND BITS 0|1
                                                              0 PERMITS SERIAL AUTHORITY COMMAND KEY-ID; a CLIENT of another number of
                                                              bytes than 4 or 16 has no address; 1 where the address is not judged
+    log-in-by-keys BYTES USER KEY CLIENT - FILES TEXT HOST SECOND BITS 0
+                                                             0 LINE PERMITS SERIAL AUTHORITY COMMAND KEY-ID OPEN LISTEN ENVIRONMENT FIRST
+                                                             LAST TUNNEL, or NUMBER LINE; without BYTES by the key
+    log-in-by-principals BYTES - KEY CLIENT AUTHORITIES FILES TEXT HOST SECOND BITS 0
+                                                             likewise
     host-key TEXTS HOST KEY FILES PORT BITS                  0
     host-certificate TEXTS HOST BYTES FILES PORT BITS SECOND
     unreadable-line TEXT HOST PORT                           0 NUMBER, or 3
@@ -25,6 +30,9 @@ them: FILES, which are revocation files, and TEXTS), numbers and names:
     is-userauth .. as userauth                               0 where it is verified too, else also 30
     flags KEY SIGNATURE PERMITS                              0
     other-key-line LINE                                      0, or 12
+    line-authority LINE | user-authority LINE USER           0 SHA-256; 61 for a later kind of key, 3 for other users
+    for-key LINE KEY | for-certificate LINE BYTES            0, or 3
+    may-verify KEY | strict-mode OWNER USER MODE             0, or 59, or 62
     signer-by TEXT IDENTITY NAMESPACE BYTES FILES SECOND DIGEST          what judge_signer_of_digest says, and how often it verifies
     sshsig-by BYTES NAMESPACE DIGEST SIGNERS                 in C: likewise judge_sshsig_of_digest
     fields BYTES                                             0 SERIAL AFTER BEFORE TYPE 0|1 0|1

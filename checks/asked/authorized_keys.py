@@ -44,7 +44,6 @@ DEVICES = {"device": "Ed25519", "other-device": "ECDSA P-256", "strange-device":
 KINDS = {"rsa": "rsa -b 2048", "ecdsa": "ecdsa -b 256"}
 AUTHORITIES = ("authority", "listing", "both")
 # lines that may be for any key: they are no entry, or have a zero byte
-ALWAYS = ("no-options", "zero")
 LET_IN = {
     "alone", "rsa", "ecdsa", "command", "plain", "twice", "both", "by-authority", "by-both", "for-a-listed", "device",
     "other-device", "untouched-other-device", "certified-device",
@@ -133,10 +132,10 @@ class Files:
 
 
 def check_printed(count, name, files):
-    """What is printed of each line: the line as it stands, unless it is an entry of another key."""
+    """What is printed of each line: the line as it stands, if the key is in it."""
     folder, me = files.maker.path("keys"), files.me
     for key in files.lines:
-        wanted = [it.lstrip() for other, lines in files.lines.items() if other in (key, *ALWAYS) for it in lines if it[0] != "#"]
+        wanted = [it.lstrip() for other, lines in files.lines.items() if other == key for it in lines if it[0] != "#"]
         certificate = files.maker.read(f"{files.certified('printed', key, '-n', me)}-cert.pub")
         for offered in (files.fields(key), certificate):
             type_and_key = offered.split()[:2]

@@ -3,7 +3,7 @@
 #ifndef CALLS_H
 #define CALLS_H
 
-#define SPANS 7
+#define SPANS 8
 #define NUMBERS 5
 
 /* Byte strings, each in memory of its own. */
@@ -32,6 +32,7 @@ typedef struct {
   sshkey_entry entry;
   sshkey_entry_option_parts entry_option;
   sshkey_grant grant;
+  sshkey_user_grant user_grant;
   sshkey_time_span time;
 } given_call;
 
@@ -89,6 +90,10 @@ typedef struct {
   CALL(next_entry_option, BYTES(0), it->numbers[0], ROOM, &it->entry_option)                     \
   CALL(login_question, &given->login, ROOM, &it->question)                                       \
   CALL(login_verdict, &given->login, (uint32_t)it->numbers[3], ROOM, &it->grant)                 \
+  CALL(user_keys_verdict, &given->login, BYTES(6), BYTES(7), (uint32_t)it->numbers[3], ROOM,     \
+       &it->user_grant)                                                                          \
+  CALL(principals_verdict, &given->login, BYTES(6), BYTES(7), (uint32_t)it->numbers[3], ROOM,    \
+       &it->user_grant)                                                                          \
   CALL(host_key_verdict, &given->host, BYTES(2))                                                 \
   CALL(host_certificate_verdict, &given->host, BYTES(2), (uint32_t)it->numbers[3])               \
   CALL(unreadable_host_line, BYTES(0), BYTES(1), PORT, &it->length)                              \
@@ -96,6 +101,12 @@ typedef struct {
   CALL(userauth_question_of, &given->request, BYTES(6), ROOM, &it->question)                     \
   CALL(grant_flags, (uint32_t)it->numbers[0], BYTES(0), BYTES(1))                                \
   CALL(is_other_key_line, BYTES(0))                                                              \
+  CALL(authority, BYTES(0), &it->sha256)                                                         \
+  CALL(user_authority, BYTES(0), BYTES(1), &it->sha256)                                          \
+  CALL(may_be_for_key, BYTES(0), BYTES(1))                                                       \
+  CALL(may_be_for_certificate, BYTES(0), BYTES(1))                                               \
+  CALL(may_verify, BYTES(0))                                                                     \
+  CALL(strict_mode, it->numbers[0], it->numbers[1], (uint32_t)it->numbers[2])                    \
   CALL(source_address_allows, BYTES(0), BYTES(1))                                                \
   CALL(from_allows, BYTES(0), BYTES(2), BYTES(1))                                                \
   CALL(read_time, BYTES(0), &it->time)

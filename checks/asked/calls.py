@@ -15,6 +15,8 @@ from .revocation_calls import EMPTY, check_revocations
 from .security_key_calls import check_signatures
 from .signer_calls import check_signers
 from .time_calls import check_times
+from .trust_calls import check_trust
+from .user_key_calls import check_user_keys
 from .userauth_calls import check_userauths
 
 # of how many hostile byte strings a package is asked about one
@@ -34,6 +36,7 @@ OF_KINDS = {
 }  # fmt: skip
 OF_OTHERS = [
     "normal signature {}", "lines {}", "entry {}", "host {}", "options {}", "line {}", "revokes-key {} -", "revoked-key {} -", "other-key-line {}", "time {}",
+    "may-verify {}", f"for-key {{}} {KEY}", f"for-key {KEY} {{}}", f"for-certificate {KEY} {{}}",
     f"unreadable-line {{}} {HOST} 22", f"host-key {{}} {HOST} {KEY} {NONE} 22 0", f"flags {KEY} {{}} 0", f"userauth {FILE} {ALICE} {FILE} {KEY} - {{}} 0 0",
 ]  # fmt: skip
 # those that a package is asked too
@@ -56,9 +59,9 @@ def is_as_wanted(judge, wanted, answer):
     return number in read or wanted != "read" and 10 <= number < 30
 
 
-def check_hostile(judge):
+def check_hostile(judge, is_short):
     """Byte strings of checks/hostile, by each call that reads their kind, and by the others."""
-    every, more = (SAMPLED, OF_PACKAGES) if judge.asker.is_package else (1, {})
+    every, more = SAMPLED if judge.asker.is_package or is_short else 1, OF_PACKAGES if judge.asker.is_package else {}
     hostile = judge.made.hostile
     for kind, calls in OF_KINDS.items():
         some = [it for it in hostile if it[0] == kind][::every]
@@ -109,8 +112,9 @@ def check_validations(judge):
         judge.check(f"validation: {name}", answer == str(judge.number(wanted)), answer, wanted)
 
 
-def check_calls(judge):
-    check_hostile(judge)
+def check_calls(judge, is_short=False):
+    """Where it is to be short, of the hostile byte strings those that a package is asked about."""
+    check_hostile(judge, is_short)
     check_certificates(judge)
     check_validations(judge)
     check_keys(judge)
@@ -119,8 +123,10 @@ def check_calls(judge):
     check_revocations(judge)
     check_entry_calls(judge)
     check_users(judge)
+    check_user_keys(judge)
     check_hosts(judge)
     check_userauths(judge)
     check_signers(judge)
+    check_trust(judge)
     check_addresses(judge)
     check_times(judge)

@@ -17,6 +17,7 @@ from .hosts import (
     BROKEN, CERTIFICATES, CERTIFICATES_AND_LATER, CERTIFICATES_OF_FILES, HOST, KEYS, KEYS_AND_LATER, KEYS_OF_FILES, LATER, field, in_one_file, written,
 )  # fmt: skip
 from .hosts import INVALID as INVALID_TIME
+from .login_checker import asked_of, check_login_checker, granted
 from .login_options import certificate
 from .made import MIDDLE, is_verified
 
@@ -330,18 +331,20 @@ def check_words(count, programs, maker):
 
 def check_refused_memory(count, built, maker):
     """Where one request for memory is refused, or all from there on, the programs can't tell: no answer is a refusal. The first ones are
-    each tried, which are the programs' own, and of libcrypto's some."""
+    each tried, which are the programs' own, and of libcrypto's some: a login by a key asks it nothing."""
     refusing, me = maker.path("refusing.so"), "alice"
     made = run(["cc", "-shared", "-fPIC", "-fno-builtin", "-o", refusing, f"{ROOT}/checks/asked/refusing.c"])
     count.check("what refuses memory is built", made.returncode == 0, made)
     ca, line = maker.path("shower0.pub"), maker.certificate("shower0", "shown0", "-n", me, "-V", "-5m:+60m")
     authorities = maker.write("authorities", f"{me} {maker.read('shower0.pub')}\n")
     signature = maker.write("armour.sig", armoured(maker.signature("shown0", "a text", SPACE)))
-    for name, words, said, untold in (
-        ("sshkey-check of a certificate", ["sshkey-check", "--ca", ca, "--user", me, maker.path("shown0-cert.pub")], "valid\n", UNTOLD),
+    for name, words, said, untold, least in (
+        ("sshkey-check of a certificate", ["sshkey-check", "--ca", ca, "--user", me, maker.path("shown0-cert.pub")], "valid\n", UNTOLD, 100),
         ("sshkey-check of a signature", ["sshkey-check", "verify", "-k", maker.path("shown0.pub"), "-n", SPACE, "-s", signature, maker.path("signed")],
-         "valid\n", UNTOLD),
-        ("sshkey-principals", ["sshkey-principals", "--insecure-modes", authorities, me, *line.split()[:2]], f"{me}\n", 1),
+         "valid\n", UNTOLD, 100),
+        ("sshkey-check of a login", ["sshkey-check", "login", *asked_of(maker, "{key}", None, [])],
+         "".join(f"{it}\n" for it in ["valid", *(f"        {it}" for it in granted())]), UNTOLD, 20),
+        ("sshkey-principals", ["sshkey-principals", "--insecure-modes", authorities, me, *line.split()[:2]], f"{me}\n", 1, 100),
     ):  # fmt: skip
         asked = [f"{it}{more}" for it in (*range(1, 70), *range(70, 1500, 71)) for more in ("", "+")]
 
@@ -354,7 +357,7 @@ def check_refused_memory(count, built, maker):
         # the C library itself may end a program by a signal
         wrong = [it for it in zip(asked, found[1:]) if it[1][:2] not in ((VALID, said), (untold, "")) and it[1][0] >= 0]
         untold_count = sum(it[:2] == (untold, "") for it in found)
-        count.check(f"{name} can't tell without memory, of {len(asked)} requests", not wrong and untold_count > 100, untold_count, *wrong[:3])
+        count.check(f"{name} can't tell without memory, of {len(asked)} requests", not wrong and untold_count > least, untold_count, *wrong[:3])
 
 
 def check_checker(count, built, made):
@@ -366,6 +369,7 @@ def check_checker(count, built, made):
     check_key_files(count, programs, maker)
     check_allowed(count, programs, maker)
     check_hosts(count, programs, maker)
+    check_login_checker(count, programs, maker)
     check_hostile_signatures(count, programs, maker)
     check_hostile_words(count, built, made)
     check_refused_memory(count, built, maker)

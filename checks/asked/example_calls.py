@@ -354,7 +354,7 @@ def check_meanings(count, built):
 def check_authorities(count, built, kind):
     """judge_add_authority tells refused memory from a line that is no key."""
     line = kind.maker.read(f"{kind.authority}.pub").encode()
-    asked = [("a key", line, 0), ("no key", line[:20], 13), ("a certificate", kind.line.encode(), 12)]
+    asked = [("a key", line, 0), ("no key", line[:20], 13), ("a certificate", kind.line.encode(), 14)]
     ran = run([f"{built.sanitized}/foreign"], input="".join(f"authority {it.hex()}\n" for _, it, _ in asked))
     for (name, _, wanted), answer in zip(asked, ran.stdout.splitlines()):
         first, *refused = map(int, answer.split())

@@ -72,6 +72,33 @@ static void ask_log_in(given_call *it, const char *name) {
   say_part(" ", it->room, of->key_id);
 }
 
+/* Asks sshkey_user_keys_verdict or sshkey_principals_verdict, again where it says "now verify": the
+ * number, the line, and the grant. */
+static void ask_log_in_by_keys(given_call *it, const char *name) {
+  uint32_t answer = ask(it, name, NULL);
+  if (answer == SSHKEY_NOT_SIGNED) {
+    uint32_t asked = ask(it, "certificate_question", &it->question.length);
+    it->numbers[3] = asked == SSHKEY_DONE && judge_is_signature(&it->question, it->room.bytes);
+    answer = ask(it, name, NULL);
+  }
+  sshkey_user_grant *of = &it->user_grant;
+  printf("%" PRIu32 " %zu", answer, of->line);
+  if (answer != SSHKEY_DONE) {
+    of->line = 0;
+    if (!is_zero(of, sizeof *of) || !is_filled(it->room, 0)) printf(" and a grant");
+    return;
+  }
+  if (!is_filled(it->room, of->grant.length)) printf(" more is written");
+  printf(" %" PRIu32 " %" PRIu64 " ", of->grant.permits, of->grant.serial);
+  say_word(of->grant.authority.bytes, sizeof of->grant.authority.bytes);
+  say_part(" ", it->room, of->grant.force_command);
+  say_part(" ", it->room, of->grant.key_id);
+  say_part(" ", it->room, of->permit_open);
+  say_part(" ", it->room, of->permit_listen);
+  say_part(" ", it->room, of->environment);
+  printf(" %" PRIu64 " %" PRIu64 " %" PRIu32, of->expires.first, of->expires.last, of->tunnel);
+}
+
 static void ask_verifications(given_call *it, const char *name) {
   log_in(it, name);
   printf("%zu", verifications);

@@ -273,6 +273,9 @@ def check_installed(count, built, folder):
         last = made.stdout.splitlines()[-3:]
         said = "not as nobody" in last[1] and last[2] == "    useradd -r -M -s /usr/sbin/nologin sshkey" if len(last) == 3 else False
         count.check("and its last words are as whom the helpers run", said, last)
+        with open(f"{at}/share/man/man8/sshkey-principals.8", encoding="ascii") as page:
+            named = re.findall(r"\S+/bin/\S+", page.read())
+        count.check("and its page names it there", named == [f"{prefix if staged else os.path.abspath(at)}/bin/sshkey-principals"], named)
         if not staged:
             count.check("pkg-config finds it there", is_found(folder, f"{at}/lib/pkgconfig", f"{at}/lib"))
         for helper in (it for it in sorted(INSTALLED) if it.startswith("bin/")):

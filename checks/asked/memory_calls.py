@@ -12,7 +12,7 @@ from .linked import ABI, VERSION, declared, header, several, word
 from .revocation_calls import EMPTY
 from .userauth_calls import by_keys
 
-SPANS, NUMBERS = 7, 5
+SPANS, NUMBERS = 8, 5
 # how many bytes the texts of fingerprints have, which no call tells
 TEXTS = {"fingerprint_text": 50, "fingerprint_sha512_text": 93}
 # with a room, and so with one that is too short
@@ -47,6 +47,7 @@ def of_certificate(blob, authority, second, key):
     yield "certificate_validate_for", [blob, b"eve", by], [second, 1], "UNLISTED_PRINCIPAL"
     yield "certificate_validate_for", [blob, b"\xff", by], [second, 1], "TEXT"
     yield from of_logins([blob, alice, key, bytes(4), by, [EMPTY, b""]], second)
+    yield from of_user_keys([blob, alice, key, bytes(4), b"", [EMPTY, b""]], authority, second)
 
 
 def of_logins(good, second):
@@ -64,6 +65,30 @@ def of_logins(good, second):
         yield "login_verdict", [*good[:at], other, *good[at + 1 :]], [second, 0, 0, 1], wanted
         yield "login_question", [*good[:at], other, *good[at + 1 :]], [second, 0], "DONE" if wanted == "UNLISTED_PRINCIPAL" else wanted
     yield "login_verdict", good, [0, 0, 0, 1], "OUT_OF_WINDOW"
+
+
+def of_user_keys(given, authority, second):
+    """Calls about the login of a good one by a text of authorized_keys, of its key alone, and by a file of principals."""
+    own, by = (all_of(it)[0] + b" " + encoded(it).encode() + b"\n" for it in (given[2], authority))
+    options = b'command="ls",permitopen="h:80",permitlisten="*:90",environment="A=b",expiry-time="20990101Z",tunnel="1",from="0.0.0.0" '
+    text, plain, numbers = b"# a comment\n" + own + b"cert-authority " + by + options + own, [b"", *given[1:]], [second, 0, 0]
+    for spans, is_verified, wanted in (
+        ([*given, text, b"host"], 1, "DONE"), ([*given, text, b""], 0, "NOT_SIGNED"),
+        ([*plain, options + own, b""], 0, "DONE"), ([*plain, b"# a comment\n", b""], 0, "USER_NOT_LISTED"), ([*plain, b"cert-authority " + own, b""], 0, "USER_NOT_LISTED"),
+        ([*plain, b'expiry-time="20010101Z" ' + own, b""], 0, "LINE_EXPIRED"), ([*plain, b'from="*," ' + own, b""], 0, "LINE_UNCLEAR"),
+        ([*given, b"cert-authority " + own, b""], 1, "USER_NOT_LISTED"), ([*plain, b"\xff " + own, b""], 0, "LINE_UNCLEAR"), ([*plain, text, b"\xff"], 0, "TEXT"),
+        ([given[0][:-1], *given[1:], text, b""], 1, "LENGTH"), ([*plain[:2], given[2][:-1], *plain[3:], text, b""], 0, "LENGTH"),
+        ([*plain[:5], [], text, b""], 0, "UNREADABLE_REVOCATIONS"),
+    ):  # fmt: skip
+        yield "user_keys_verdict", spans, [*numbers, is_verified], wanted
+    signed = [*given[:4], hashlib.sha256(authority).digest(), given[5]]
+    for spans, is_verified, wanted in (
+        ([*signed, b"# a comment\nalice", b""], 1, "DONE"), ([*signed, options + b"alice\n", b"host"], 1, "DONE"), ([*signed, b"alice", b""], 0, "NOT_SIGNED"),
+        ([*signed, b"eve\n", b""], 1, "USER_NOT_LISTED"), ([*signed, b"cert-authority alice\nalice\n", b""], 1, "LINE_OPTION"),
+        ([*signed, b'from="*," alice', b""], 1, "LINE_UNCLEAR"), ([*given, b"alice", b""], 1, "UNTRUSTED_AUTHORITY"),
+        ([b"", *signed[1:], b"alice", b""], 1, "LENGTH"), ([*signed, b"\xff alice", b""], 1, "LINE_UNCLEAR"),
+    ):  # fmt: skip
+        yield "principals_verdict", spans, [*numbers, is_verified], wanted
 
 
 def of_hosts(maker, second):
@@ -92,6 +117,18 @@ def of_hosts(maker, second):
         yield "unreadable_host_line", [text, b"host"], [22], wanted
     for line, wanted in ((LATER["later"].encode(), "DONE"), (LATER["cut"].encode(), "LABEL"), (b"", "LABEL"), (b"\xff", "TEXT")):
         yield "is_other_key_line", [line], [], wanted
+    key, key_line = f"ssh-ed25519 {by}".encode(), f"ssh-ed25519 {encoded(own)}"
+    for line, wanted in ((key, "DONE"), (LATER["later"].encode(), "LATER_KEY"), (key[:-1], "BASE64"), (b"\xff", "TEXT")):
+        yield "authority", [line], [], wanted
+        yield "user_authority", [b"bob,alice " + line, b"alice"], [], wanted
+        yield "user_authority", [b"bob,alice " + line, b"eve"], [], "END"
+    for line, of_key, of_certificate_ in ((f"restrict {key_line}".encode(), "DONE", "END"), (f"cert-authority ssh-ed25519 {by} x".encode(), "END", "DONE"), (b"", "END", "END")):
+        yield "may_be_for_key", [line, own], [], of_key
+        yield "may_be_for_certificate", [line, certificate], [], of_certificate_
+    yield from (("may_be_for_key", [key, own[:-1]], [], "LENGTH"), ("may_be_for_certificate", [key, own], [], "LABEL"))
+    for key, wanted in ((own, "DONE"), (other, "DONE"), (own[:-1], "LENGTH")):
+        yield "may_verify", [key], [], wanted
+    yield from (("strict_mode", [], [0, 7, 0o755], "DONE"), ("strict_mode", [], [8, 7, 0o755], "UNSAFE_MODE"))
 
 
 def of_requests(maker):
@@ -160,6 +197,14 @@ def of_signature(maker, key):
     yield "signature_normal", [signature[:-1]], [], "LENGTH"
 
 
+def of_key_lines(key):
+    """Calls about lines with an RSA key, whose numbers are kept."""
+    line = f"ssh-rsa {encoded(key)}".encode()
+    yield "authority", [line], [], "DONE"
+    yield "user_authority", [b"alice " + line, b"alice"], [], "DONE"
+    yield "may_be_for_key", [line, key], [], "DONE"
+
+
 def of_files(maker, key):
     """Calls about files with the key, names of which are hashed."""
     path = maker.write("hashed", f"host,192.0.2.1 ssh-ed25519 {encoded(key)}\n")
@@ -222,6 +267,7 @@ def cases(made):
     for number, kind in enumerate(made.kinds):
         yield from of_certificate(kind.blob, maker.blob(kind.authority), made.middle, made.key(number))
         yield "read_line", [kind.line.encode()], [], "DONE"
+        yield "may_be_for_certificate", [b"", kind.blob], [], "END"
         yield from of_signature(maker, f"user{number}")
     for blob in keys.values():
         yield from of_key(blob)
@@ -234,6 +280,7 @@ def cases(made):
     yield "version", [], [], VERSION
     yield "abi", [], [], ABI
     yield from of_files(maker, keys["ed25519"])
+    yield from of_key_lines(keys["rsa -b 2048"])
     yield from of_lists(made, keys)
     yield from of_hosts(maker, made.middle)
     yield from of_requests(maker)

@@ -60,7 +60,7 @@ fn main() -> Result<(), sshkey::Status> {
     Ok(())
 }
 """
-# The modules of these in Go and in Rust, by the folder of the package.
+# The modules of these in Go and in Rust, by where the package is found.
 GO_MODULE = """\
 module first
 
@@ -77,7 +77,7 @@ version = "0.1.0"
 edition = "2021"
 
 [dependencies]
-sshkey = {{ path = "{}" }}
+sshkey = {{ {} }}
 
 [profile.release]
 lto = "fat"

@@ -46,6 +46,7 @@ def check_stub(count, asker, made, number):
         f"make {key} 00 {name} - - - {key} 0 0 9 1 1 {key}", f"log-in {blob} {name} {key} - {by} - 7 0 0",
         f"host-key {name} {name} {key} - 22 0", f"host-certificate {name} {name} {blob} - 22 0 7", f"unreadable-line {name} {name} 22",
         f"userauth {request} 0 0", f"userauth-of {request} 00 0 0", f"is-userauth {request} 1 0", f"flags {key} {key} 0", f"other-key-line {name}", f"time {name}",
+        f"may-verify {key}", f"for-key {name} {key}", f"for-certificate {name} {blob}",
         f"revokes-key {key} {key}", f"revokes-certificate {key} {blob}", f"signer {name} {name} {name} {key} - 7 1",
         f"revoked-key {key} {key}", f"revoked-certificate {key} {blob}", f"is-signer {name} {name} {name} {key} - 7 {by}",
     ]  # fmt: skip

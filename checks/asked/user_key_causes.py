@@ -27,6 +27,16 @@ def is_no_entry(it, line):
     return not re.match(rb"[ \t]*" + OPTIONS + re.escape(name) + rb"[ \t]+" + re.escape(word) + rb"(?:[ \t]|\Z)", line.split(b"\0")[0])
 
 
+def is_no_text(it, line):
+    """Whether the line is no UTF-8 up to where sshd takes it to end."""
+    line = line.split(b"\0")[0]
+    try:
+        (line.split(b"#")[0] if it.by == "principals" else line).decode()
+    except UnicodeDecodeError:
+        return True
+    return False
+
+
 # of each cause what is answered, and whether it is the cause, given the question and the line that the answer names
 CAUSES = {
     "a time without Z, within 14 hours": (UNTOLD, lambda it, line: bool(re.search(rb'(?i)expiry-time="\d{8,14}"', line))),
@@ -35,6 +45,7 @@ CAUSES = {
     "a tunnel that is no digits": (UNTOLD, has_value(UNTOLD_TUNNELS, "tunnel")),
     "a list of addresses that is malformed here": (UNTOLD, has_value(UNTOLD_FROM, "from")),
     "the key in a line that is no entry here": (UNTOLD, is_no_entry),
+    "a line that is no UTF-8": (UNTOLD, is_no_text),
     "a certificate that lists nobody": ("no: not allowed by line ", lambda it, line: bool(LISTS_NOBODY.search(blob_of(it.offered)))),
     "an empty command": ("no: certificate", lambda it, line: string(b"force-command") + string(string(b"")) in blob_of(it.offered)),
 }  # fmt: skip

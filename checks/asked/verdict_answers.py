@@ -20,6 +20,29 @@ class VerdictAnswers:
         command = b"" if of.force_command is None else of.force_command.encode()
         return ["0", str(int(of.permits)), str(of.serial), word(of.authority), word(command), word(of.key_id.encode())]
 
+    def log_in_by_keys(self, *given):
+        return self.log_in_by(self.sshkey.log_in_by_keys, *given)
+
+    def log_in_by_principals(self, *given):
+        return self.log_in_by(self.sshkey.log_in_by_principals, *given)
+
+    def log_in_by(self, call, *given):
+        *front, text, host, second, bits, judges = given
+        try:
+            of = call(self.login_of(*front, second, bits, judges), data_of(text), data_of(host))
+        except self.sshkey.Refused as refused:
+            return [str(int(refused.status)), str(refused.line)]
+        command = b"" if of.force_command is None else of.force_command.encode()
+        first, last = of.expires or [self.sshkey.FOREVER] * 2
+        parts = [self.places(of.permit_open), self.places(of.permit_listen), b"".join(map(self.sshkey.string, of.environment))]
+        words = [of.authority, command, of.key_id.encode(), *parts]
+        return ["0", str(of.line), str(int(of.permits)), str(of.serial), *map(word, words), str(first), str(last), str(of.tunnel or 0)]
+
+    def places(self, found):
+        """The hosts and ports as the library lays them out."""
+        pairs = [it for host, port in found or [] for it in (host, b"" if port is None else port.to_bytes(2, "big"))]
+        return b"".join(map(self.sshkey.string, pairs))
+
     def verifications(self, *given):
         return self.counted(self.sshkey.log_in, self.login_of(*given))[1:]
 
@@ -64,6 +87,31 @@ class VerdictAnswers:
     def other_key_line(self, line):
         # 12 is SSHKEY_LABEL
         return ["0" if self.sshkey.is_other_key_line(data_of(line)) else "12"]
+
+    def authority(self, found):
+        # 61 is SSHKEY_LATER_KEY, and 3 SSHKEY_END
+        return ["0", word(found.keys[0])] if found.keys else ["61" if found.other_lines else "3"]
+
+    def line_authority(self, line):
+        return self.authority(self.sshkey.authorities(data_of(line)))
+
+    def user_authority(self, line, user):
+        return self.authority(self.sshkey.user_authorities(data_of(line), data_of(user)))
+
+    def for_key(self, line, key):
+        # 3 is SSHKEY_END
+        return ["0" if self.sshkey.may_be_for_key(data_of(line), data_of(key)) else "3"]
+
+    def for_certificate(self, line, data):
+        return ["0" if self.sshkey.may_be_for_certificate(data_of(line), data_of(data)) else "3"]
+
+    def may_verify(self, key):
+        # 59 is SSHKEY_KEY_NOT_ACCEPTED
+        return ["0" if self.sshkey.may_verify(data_of(key)) else "59"]
+
+    def strict_mode(self, *numbers):
+        # 62 is SSHKEY_UNSAFE_MODE
+        return ["0" if self.sshkey.strict_mode(*map(int, numbers)) else "62"]
 
     def revoked_key(self, files, key):
         return ["0", str(int(self.sshkey.revoked_key(datas_of(files), data_of(key))))]

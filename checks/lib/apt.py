@@ -3,14 +3,17 @@ import glob
 import os
 import platform
 import subprocess
+import sys
 
 
 def line(kind, suite=None):
     """A line of apt's sources.list for a suite, or that of this machine: main, from where the machine gets it."""
     own = platform.freedesktop_os_release()["VERSION_CODENAME"]
     words = ["apt-get", "indextargets", "--format", "$(REPO_URI)", "Created-By: Packages", f"Release: {own}", "Component: main"]
-    place = subprocess.run(words, capture_output=True, encoding="utf-8", check=True).stdout.split()[0]
-    return f"{kind} {place} {suite or own} main\n"
+    places = subprocess.run(words, capture_output=True, encoding="utf-8", check=True).stdout.split()
+    if not places:
+        sys.exit("No list of packages was fetched on this machine: run apt-get update.")
+    return f"{kind} {places[0]} {suite or own} main\n"
 
 
 def sources(folder, package, suite=None):

@@ -15,6 +15,8 @@ from dataclasses import dataclass
 from lib.harness import ROOT
 from lib.processes import adopt, end_below, ended_children
 
+# the words of checks/gate.txt for what ./test runs
+BY_TEST = {"clone", "text", "sources"}
 COUNTS = re.compile(r"(\d+) passed, (\d+) failed$")
 SIGNALS = signal.SIGHUP, signal.SIGINT, signal.SIGTERM
 
@@ -36,9 +38,13 @@ class Line:
         """The crate that has to be proved for it, if there is one."""
         return next((it.partition("=")[2] for it in self.when if it.startswith("proved=")), None)
 
+    def is_of_test(self):
+        """Whether ./test may run it."""
+        return self.crate() is not None or not BY_TEST.isdisjoint(self.when)
+
     def crates(self):
         """The crates whose programs it is given."""
-        return next((it.split(",") for it in self.when if it not in ("unproved", "sources", "once") and "=" not in it), [])
+        return next((it.split(",") for it in self.when if it not in {"unproved", "once", *BY_TEST} and "=" not in it), [])
 
 
 def lines():

@@ -1,4 +1,4 @@
-"""What checks/wrong-bodies has passed: on this machine, and as the file checks/tried has it."""
+"""What checks/wrong-bodies has passed: on this machine, and as the file checks/tried.txt has it."""
 import hashlib
 import os
 
@@ -68,13 +68,15 @@ class Kept:
 
 
 class Tried:
-    """The file checks/tried: of each crate a sum of the sources and of the wrong bodies, those of wrong/more too, of which all
-    were refused when they were last tried."""
+    """The file checks/tried.txt: of each crate with bodies in wrong/more a sum of the sources and of all wrong bodies, which were
+    all refused when they were last tried."""
+
+    HEAD = "# What checks/wrong-bodies wrote: by what sources and wrong bodies of a crate those of wrong/more were refused, too.\n"
 
     def __init__(self, root):
-        self.path = f"{root}/checks/tried"
+        self.path = f"{root}/checks/tried.txt"
         with open(self.path, encoding="utf-8") as file:
-            self.sums = dict(line.split() for line in file)
+            self.sums = dict(line.split() for line in file if not line.startswith("#"))
 
     def has(self, trial):
         return self.sums.get(trial.crate.name) == trial.sum
@@ -84,5 +86,5 @@ class Tried:
         found = {**self.sums, **{it.crate.name: it.sum for it in trials}}
         if found != self.sums:
             with open(self.path, "w", encoding="utf-8") as file:
-                file.writelines(f"{name} {found[name]}\n" for name in sorted(found))
-            print("checks/tried says what was tried: it lands with the change", flush=True)
+                file.writelines([self.HEAD, *(f"{name} {found[name]}\n" for name in sorted(found))])
+            print("checks/tried.txt says what was tried: it lands with the change", flush=True)

@@ -11,22 +11,23 @@ BY_SOURCES = {
     "openssh-server": SSHD,
     "python3-cryptography": ["python3", "-c", "import cryptography"],
 }  # fmt: skip
-BY_PROOFS = {
+BY_TEXT = {
     "make": "make",
     "gcc": ["sh", "-c", "cc -print-file-name=libasan.so | grep /"],
-    "g++": "c++",
     "libc6-dev": ["sh", "-c", "echo '#include <stdio.h>' | cc -E -"],
     "pkg-config": "pkg-config",
     "libssl-dev": ["pkg-config", "--exists", "libcrypto"],
-    "binutils": "nm",
-    "valgrind": "valgrind",
 }  # fmt: skip
 BY_ALL = {
+    "g++": "c++",
+    "binutils": "nm",
+    "valgrind": "valgrind",
     "golang-go": "go",
     "cargo": "cargo",
     "rustc": "rustc",
     "clang": "clang",
     "gcc-aarch64-linux-gnu": "aarch64-linux-gnu-gcc",
+    "libc6-dev-arm64-cross": ["sh", "-c", "echo '#include <stdlib.h>' | aarch64-linux-gnu-gcc -E -"],
     "musl-tools": "musl-gcc",
     "qemu-user": "qemu-aarch64",
     "debhelper": "dh",

@@ -13,6 +13,23 @@ import (
 // should tell: those of keys of a later kind (IsOtherKeyLine). It fails where another line is no
 // key, with its number and a Status, and with ErrMemory: use none of the keys then.
 func Authorities(text string) (keys []SHA256, otherLines []int, err error) {
+	return authoritiesOf(text, func(line input, key *SHA256) C.uint32_t {
+		return C.sshkey_authority(line.pointer(), line.length(), key.pointer())
+	})
+}
+
+// UserAuthorities gives those that may sign for the user, by a text that says which may for whom:
+// in its lines names of users, with commas between, stand before a key. Lines without the user's
+// name are passed over, whatever follows. It fails as Authorities does.
+func UserAuthorities(text, user string) (keys []SHA256, otherLines []int, err error) {
+	name := inputOf(user)
+	return authoritiesOf(text, func(line input, key *SHA256) C.uint32_t {
+		return C.sshkey_user_authority(line.pointer(), line.length(),
+			name.pointer(), name.length(), key.pointer())
+	})
+}
+
+func authoritiesOf(text string, call func(input, *SHA256) C.uint32_t) (keys []SHA256, otherLines []int, err error) {
 	in, number := inputOf(text), 1
 	for place := C.size_t(0); ; {
 		part, isThere := nextLine(in, place)
@@ -21,29 +38,17 @@ func Authorities(text string) (keys []SHA256, otherLines []int, err error) {
 		}
 		number += bytes.Count(in[place:part.start], []byte("\n"))
 		place = part.start + part.length
-		line := string(partOf(in, part))
-		if isOther, err := IsOtherKeyLine(line); err == nil && isOther {
+		var key SHA256
+		switch status := call(inputOf(partOf(in, part)), &key); status {
+		case C.SSHKEY_DONE:
+			keys = append(keys, key)
+		case C.SSHKEY_LATER_KEY:
 			otherLines = append(otherLines, number)
-			continue
+		case C.SSHKEY_END: // a line of other users
+		default:
+			return nil, nil, fmt.Errorf("line %d: no key: %w", number, errorOf(status))
 		}
-		key, err := fingerprintOf(line)
-		if err != nil {
-			return nil, nil, fmt.Errorf("line %d: no key: %w", number, err)
-		}
-		keys = append(keys, key)
 	}
-}
-
-// fingerprintOf is that of the key of the line.
-func fingerprintOf(line string) (SHA256, error) {
-	found, err := ReadLine(line)
-	if err != nil {
-		return SHA256{}, err
-	}
-	if found.IsCertificate {
-		return SHA256{}, ErrLabel
-	}
-	return Fingerprint(found.Blob)
 }
 
 // IsOtherKeyLine tells whether a line of a text of authorities is that of a key of a kind that is
@@ -58,4 +63,11 @@ func IsOtherKeyLine(line string) (bool, error) {
 	}
 	err := errorOf(status)
 	return err == nil, err
+}
+
+// StrictMode tells whether a file or a folder may be believed about a user, as by sshd's
+// StrictModes: root or the user owns it, and neither group nor others may write. The numbers are
+// those of stat(2); the user 0 is root.
+func StrictMode(owner, user uint64, mode uint32) bool {
+	return C.sshkey_strict_mode(C.uint64_t(owner), C.uint64_t(user), C.uint32_t(mode)) == C.SSHKEY_DONE
 }

@@ -50,11 +50,7 @@ func entry(
 // AuthorizedEntry gives the entry of a line of authorized_keys, as sshd reads it. It fails with a
 // Status where the line is none, and with ErrMemory.
 //
-// Which options there may be is the caller's to judge (EntryOptions). Let nobody in by an entry
-// with the option cert-authority who only has that key, and refuse the login by a line with a zero
-// byte, where sshd ends it. sshd takes the first line that lets the key in: so the first entry of
-// the key decides, and a line that is refused here ends the search, since a later line may bind the
-// login less.
+// It shows a line, and decides nothing: whom a text lets in, LogInByKeys says.
 func AuthorizedEntry(line string) (Entry, error) {
 	in := inputOf(line)
 	found, err := entry(in, func(to room, answer *C.sshkey_entry) C.uint32_t {
@@ -77,12 +73,7 @@ func KnownHost(line string) (HostEntry, error) {
 // It fails with ErrFormat where the text is no list of options, with ErrText where it is not UTF-8,
 // and with ErrMemory.
 //
-// Refuse an entry with an option that you do not know, one that comes twice, also with other
-// capitals (but for environment, permitlisten and permitopen), one without a value that needs one,
-// as command alone, one with a value that takes none, as no-pty="x", and principals without
-// cert-authority. If the entry has the key, that refuses the login, and no later line counts. The
-// lists of from and of principals are read wrongly with ease: docs/CALLING.md says how sshd reads
-// them.
+// What they say of a login, LogInByKeys decides.
 func EntryOptions(text string) ([]EntryOption, error) {
 	in, found, place := inputOf(text), []EntryOption{}, C.size_t(0)
 	for {
@@ -115,4 +106,28 @@ func nextEntryOption(in input, place C.size_t) (EntryOption, C.size_t, error) {
 		Value:    string(partOf(data, answer.value)),
 		HasValue: answer.has_value != 0,
 	}, answer.next, nil
+}
+
+// MayBeForKey tells whether sshd may take a line of authorized_keys for one of the key, given as its
+// blob, whatever it makes of the line's options: for a program that has sshd judge lines. Leave out
+// none but those for which it is false. It fails with a Status for bytes that are no key, and with
+// ErrMemory; then it is true.
+func MayBeForKey(line string, key []byte) (bool, error) {
+	in, of := inputOf(line), inputOf(key)
+	return mayBe(C.sshkey_may_be_for_key(in.pointer(), in.length(), of.pointer(), of.length()))
+}
+
+// MayBeForCertificate tells the same of the authority that signed the certificate, given as its
+// blob.
+func MayBeForCertificate(line string, certificate []byte) (bool, error) {
+	in, of := inputOf(line), inputOf(certificate)
+	return mayBe(C.sshkey_may_be_for_certificate(in.pointer(), in.length(),
+		of.pointer(), of.length()))
+}
+
+func mayBe(status C.uint32_t) (bool, error) {
+	if status == C.SSHKEY_END {
+		return false, nil
+	}
+	return true, errorOf(status)
 }

@@ -172,3 +172,16 @@ func joined[T string | []byte](contents ...T) ([]byte, error) {
 	}
 	return found, nil
 }
+
+// MayVerify tells whether a verifier may say yes to a signature under the key, given as its blob:
+// OpenSSH lets somebody in by it, and one of RSA has 2,048 bits or more. It fails with a Status for
+// bytes that are no key.
+func MayVerify(key []byte) (bool, error) {
+	in := inputOf(key)
+	status := C.sshkey_may_verify(in.pointer(), in.length())
+	if status == C.SSHKEY_KEY_NOT_ACCEPTED {
+		return false, nil
+	}
+	err := errorOf(status)
+	return err == nil, err
+}

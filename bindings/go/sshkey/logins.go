@@ -56,6 +56,15 @@ const (
 	PermitNoTouch Permits = C.SSHKEY_PERMIT_NO_TOUCH
 	// PermitNoVerification permits one by a security key that did not verify its user.
 	PermitNoVerification Permits = C.SSHKEY_PERMIT_NO_VERIFICATION
+	// PermitTunnels permits tunnels (tun(4)). It and those below are in a UserGrant alone.
+	PermitTunnels Permits = C.SSHKEY_PERMIT_TUNNELS
+	// PermitAnyTunnel permits whichever device of them. Without it UserGrant.Tunnel is the only one.
+	PermitAnyTunnel Permits = C.SSHKEY_PERMIT_ANY_TUNNEL
+	// PermitOpenAnywhere permits ports, if they may be forwarded, to be so to anywhere. Without it
+	// UserGrant.PermitOpen has the only places.
+	PermitOpenAnywhere Permits = C.SSHKEY_PERMIT_OPEN_ANYWHERE
+	// PermitListenAnywhere is the same of where may be listened, and of UserGrant.PermitListen.
+	PermitListenAnywhere Permits = C.SSHKEY_PERMIT_LISTEN_ANYWHERE
 )
 
 // Has says whether all of these are permitted.
@@ -121,6 +130,10 @@ func grantOf(asked *C.sshkey_login, isVerified C.uint32_t) (Grant, error) {
 	if err != nil {
 		return Grant{}, err
 	}
+	return grantIn(data, answer), nil
+}
+
+func grantIn(data []byte, answer C.sshkey_grant) Grant {
 	grant := Grant{
 		ForceCommand: string(partOf(data, answer.force_command)),
 		Permits:      Permits(answer.permits),
@@ -128,7 +141,7 @@ func grantOf(asked *C.sshkey_login, isVerified C.uint32_t) (Grant, error) {
 		KeyID:        string(partOf(data, answer.key_id)),
 	}
 	*grant.Authority.pointer() = answer.authority
-	return grant, nil
+	return grant
 }
 
 // decided is a verdict about a certificate, once the verifier has answered its question. It is

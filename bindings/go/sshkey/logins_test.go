@@ -90,6 +90,53 @@ func TestLogInTurns(t *testing.T) {
 	same(t, "questions", asked, 1)
 }
 
+// A line lets in by the key alone, a line cert-authority by the certificate, and one that refuses is
+// told.
+func TestLogInByKeys(t *testing.T) {
+	certified, own, by := user(t), read(t, "user.pub"), read(t, "authority.pub")
+	login := certified
+	login.Certificate = nil
+	grant, err := sshkey.LogInByKeys(login, []byte("# x\n"+`permitopen="h:80",tunnel="7" `+own), "")
+	same(t, "its key", err, nil)
+	same(t, "its line", grant.Line, 2)
+	same(t, "its places", grant.PermitOpen, []sshkey.Place{{Host: "h", Port: 80}})
+	same(t, "its tunnel", grant.Tunnel, uint32(7))
+	same(t, "one place", grant.Permits.Has(sshkey.PermitOpenAnywhere), false)
+	same(t, "any command", grant.Permits.Has(sshkey.PermitAnyCommand|sshkey.PermitTunnels), true)
+	grant, err = sshkey.LogInByKeys(certified, []byte("cert-authority,restrict "+by), "")
+	same(t, "its certificate", err, nil)
+	same(t, "its id", grant.KeyID, "alice's laptop")
+	same(t, "no terminal", grant.Permits.Has(sshkey.PermitPTY), false)
+	grant, err = sshkey.LogInByKeys(login, []byte(`expiry-time="20010101Z" `+own), "")
+	same(t, "a time that is over", err, error(sshkey.ErrLineExpired))
+	same(t, "its line", grant, sshkey.UserGrant{Line: 1})
+	certified.Verify = func(sshkey.Question) bool { return false }
+	_, err = sshkey.LogInByKeys(certified, []byte("cert-authority "+by), "")
+	same(t, "one that is not signed", err, error(sshkey.ErrNotSigned))
+	_, err = sshkey.LogInByKeys(sshkey.Login{}, []byte(own), "")
+	same(t, "nobody", err, error(sshkey.ErrLength))
+}
+
+// A line lets in by the certificate that lists its name, and the first for one that refuses ends it.
+func TestLogInByPrincipals(t *testing.T) {
+	login := user(t)
+	grant, err := sshkey.LogInByPrincipals(login, []byte("eve\nrestrict alice\n"), "")
+	same(t, "its certificate", err, nil)
+	same(t, "its line", grant.Line, 2)
+	same(t, "no terminal", grant.Permits.Has(sshkey.PermitPTY), false)
+	grant, err = sshkey.LogInByPrincipals(login, []byte("cert-authority alice\nalice\n"), "")
+	same(t, "an option that has no place there", err, error(sshkey.ErrLineOption))
+	same(t, "its line", grant, sshkey.UserGrant{Line: 1})
+	_, err = sshkey.LogInByPrincipals(login, []byte("eve"), "")
+	same(t, "another name", err, error(sshkey.ErrUserNotListed))
+	login.Authorities = nil
+	_, err = sshkey.LogInByPrincipals(login, []byte("alice"), "")
+	same(t, "no authority", err, error(sshkey.ErrUntrustedAuthority))
+	login.Certificate = nil
+	_, err = sshkey.LogInByPrincipals(login, []byte("alice"), "")
+	same(t, "no certificate", err, error(sshkey.ErrLength))
+}
+
 func TestPermits(t *testing.T) {
 	two := sshkey.PermitPTY | sshkey.PermitUserRC
 	same(t, "one of two", two.Has(sshkey.PermitPTY), true)

@@ -84,6 +84,11 @@ const (
 	ErrUnreadableRevocations Status = C.SSHKEY_UNREADABLE_REVOCATIONS
 	// ErrKeyNotAccepted is for a kind or a size of key that OpenSSH does not let in.
 	ErrKeyNotAccepted Status = C.SSHKEY_KEY_NOT_ACCEPTED
+	// ErrLaterKey is for a line with a key of a later kind, which signs nothing that is read. No call
+	// here fails with it: Authorities passes over such lines.
+	ErrLaterKey Status = C.SSHKEY_LATER_KEY
+	// ErrUnsafeMode is for a file that is another's, or that others may write: StrictMode denies it.
+	ErrUnsafeMode Status = C.SSHKEY_UNSAFE_MODE
 	// ErrOtherNamespace is for an SSH signature that is for another namespace.
 	ErrOtherNamespace Status = C.SSHKEY_OTHER_NAMESPACE
 )
@@ -122,6 +127,27 @@ const (
 	ErrUntouched Status = C.SSHKEY_UNTOUCHED
 	// ErrUnverified is for one that did not verify its user.
 	ErrUnverified Status = C.SSHKEY_UNVERIFIED
+)
+
+// Nobody is let in by authorized_keys, of which all but the last let another file be asked about, or
+// by a file of principals, of which the first alone does.
+const (
+	// ErrUserNotListed is for a text without a line for the key, for the certificate's authority or for
+	// a principal of it.
+	ErrUserNotListed Status = C.SSHKEY_USER_NOT_LISTED
+	// ErrLineExpired is for a line whose expiry-time is over.
+	ErrLineExpired Status = C.SSHKEY_LINE_EXPIRED
+	// ErrLineOption is for a line that has principals, and no cert-authority; of a file of principals,
+	// for one that has either.
+	ErrLineOption Status = C.SSHKEY_LINE_OPTION
+	// ErrLineElsewhere is for a line whose from is for other places.
+	ErrLineElsewhere Status = C.SSHKEY_LINE_ELSEWHERE
+	// ErrLineCommand is for a line with another command than the certificate's.
+	ErrLineCommand Status = C.SSHKEY_LINE_COMMAND
+	// ErrLinePrincipals is for a line that lets in nobody whom the certificate lists.
+	ErrLinePrincipals Status = C.SSHKEY_LINE_PRINCIPALS
+	// ErrLineUnclear is for a line that may let in: sshd may take it, so no other one may count.
+	ErrLineUnclear Status = C.SSHKEY_LINE_UNCLEAR
 )
 
 // A draft of a certificate contradicts itself.

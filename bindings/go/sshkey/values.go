@@ -9,15 +9,15 @@ import (
 )
 
 // Algorithm is how a signature is made. Beside each stands what is in [Question.Key] after the
-// name of its type, and what [Question.Signature] is; numbers are two's complement, big-endian, and
-// those of a key may be zero or negative: there is no such key, so a verifier says no.
+// name of its type, and what [Question.Signature] is; numbers are two's complement, big-endian. A
+// verifier says no under a key that MayVerify does not take.
 type Algorithm uint32
 
 const (
 	// DSA is with SHA-1. Key: p, q, g, y; signature: r and s, unsigned, 20 bytes each.
 	DSA Algorithm = C.SSHKEY_ASK_DSA
-	// P256 is ECDSA with SHA-256. Key: the curve's name and the point as in SEC 1, which may be
-	// compressed (a verifier says no then); signature: two strings, r and s.
+	// P256 is ECDSA with SHA-256. Key: the curve's name and the point as in SEC 1; signature: two
+	// strings, r and s.
 	P256 Algorithm = C.SSHKEY_ASK_P256
 	// P384 is ECDSA with SHA-384, likewise.
 	P384 Algorithm = C.SSHKEY_ASK_P384
@@ -39,8 +39,8 @@ type Question struct {
 	Key, Message, Signature []byte
 }
 
-// Verifier says whether the signature of a question is one, and no to what is too weak to count. A
-// nil Verifier is taken for IsSignature.
+// Verifier says whether the signature of a question is one, and no under a key that MayVerify does
+// not take. A nil Verifier is taken for IsSignature.
 type Verifier func(Question) bool
 
 // SHA256 is the SHA-256 fingerprint of a key. The zero value is that of no key.

@@ -12,10 +12,6 @@ import (
 	"math/big"
 )
 
-// leastBits and mostBits are those of an RSA key that counts: a shorter one is too weak, and
-// OpenSSH reads no longer one: each verification would take minutes.
-const leastBits, mostBits = 2048, 16384
-
 var curves = map[Algorithm]struct {
 	curve elliptic.Curve
 	hash  crypto.Hash
@@ -26,14 +22,13 @@ var curves = map[Algorithm]struct {
 }
 
 // IsSignature says whether the question's signature is one, by Go's standard library: the Verifier
-// of who names none. It says no to what is too weak to count: DSA, and RSA keys of fewer than 2,048
-// bits; to a number of a key that is zero or negative, and to a point that does not begin with 04,
-// which OpenSSH does not read; and to what crypto/rsa does not take: an exponent above 2^31 - 1,
-// which no tool makes, and a signature shorter than the modulus, which OpenSSH reads as if zeros
-// stood before it.
+// of who names none. It says no under a key that MayVerify does not take, and to what crypto/rsa
+// does not: an exponent above 2^31 - 1, which no tool makes, and a signature shorter than the
+// modulus, which OpenSSH reads as if zeros stood before it.
 func IsSignature(question Question) bool {
+	mayVerify, _ := MayVerify(question.Key)
 	parts, err := Strings(question.Key)
-	if err != nil {
+	if err != nil || !mayVerify {
 		return false
 	}
 	switch question.Algorithm {
@@ -46,21 +41,14 @@ func IsSignature(question Question) bool {
 		return len(parts) == 3 && isRSA(parts[1], parts[2], crypto.SHA256, question)
 	case RSASHA512:
 		return len(parts) == 3 && isRSA(parts[1], parts[2], crypto.SHA512, question)
-	default: // DSA: too weak to count
+	default: // DSA, of which MayVerify takes no key
 		return false
 	}
 }
 
-// number is that of an mpint, nil where it is not positive: no key and no signature has such a one.
+// number is that of an mpint, which is positive: in keys by MayVerify, and in signatures anyway.
 func number(digits []byte) *big.Int {
-	if len(digits) == 0 || digits[0]&0x80 != 0 {
-		return nil
-	}
-	found := new(big.Int).SetBytes(digits)
-	if found.Sign() <= 0 {
-		return nil
-	}
-	return found
+	return new(big.Int).SetBytes(digits)
 }
 
 func digestOf(hash crypto.Hash, message []byte) []byte {
@@ -71,28 +59,19 @@ func digestOf(hash crypto.Hash, message []byte) []byte {
 
 func isECDSA(point []byte, question Question) bool {
 	of := curves[question.Algorithm]
-	if len(point) == 0 || point[0] != 4 {
-		return false
-	}
 	x, y := elliptic.Unmarshal(of.curve, point)
 	numbers, err := Strings(question.Signature)
 	if x == nil || err != nil || len(numbers) != 2 {
 		return false
 	}
 	r, s := number(numbers[0]), number(numbers[1])
-	if r == nil || s == nil {
-		return false
-	}
 	key := ecdsa.PublicKey{Curve: of.curve, X: x, Y: y}
 	return ecdsa.Verify(&key, digestOf(of.hash, question.Message), r, s)
 }
 
 func isRSA(exponent, modulus []byte, hash crypto.Hash, question Question) bool {
-	if len(modulus) > mostBits/8+1 {
-		return false
-	}
 	e, n := number(exponent), number(modulus)
-	if e == nil || n == nil || n.BitLen() < leastBits || n.BitLen() > mostBits || n.Bit(0) == 0 {
+	if n.Bit(0) == 0 {
 		return false
 	}
 	if !e.IsInt64() || e.Int64() > math.MaxInt32 || e.Int64() < 3 || e.Bit(0) == 0 {

@@ -9,7 +9,8 @@ A login by a certificate is one call, which decides as sshd does:
 
 It asks the library what has to be verified, a verifier whether that is a signature, and the library again, over copies that nobody
 changes. The verifier is a function that you may give; else the package `cryptography` is it, which nothing else here imports.
-check_userauth says whether the client has signed, check_host_key and check_host_certificate whether a host is trusted.
+log_in_by_keys decides likewise by a text of authorized_keys, and log_in_by_principals by a file of principals. check_userauth says
+whether the client has signed, check_host_key and check_host_certificate whether a host is trusted.
 
 Each call says what it raises: Refused, which is a ValueError, where what is given is not what it has to be, and MemoryError, of
 which nothing follows about it. All raise TypeError for a text in place of bytes and for a number that is not whole, and
@@ -22,7 +23,7 @@ A library of another ABI, or without one of the calls, is refused: OSError, when
 threads at once are fine.
 """
 from ._addresses import Address, from_allows, source_address_allows
-from ._authorities import Authorities, NoKey, authorities, is_other_key_line
+from ._authorities import Authorities, NoKey, authorities, is_other_key_line, user_authorities
 from ._certificates import (
     certificate_contents,
     certificate_fields,
@@ -34,7 +35,15 @@ from ._certificates import (
     options,
     validate_certificate,
 )
-from ._files import authorized_entry, entry_lines, entry_options, known_host
+from ._files import (
+    authorized_entry,
+    entry_lines,
+    entry_options,
+    known_host,
+    may_be_for_certificate,
+    may_be_for_key,
+    strict_mode,
+)
 from ._header import FOREVER, Algorithm, CertificateType, Marker, Permits, Status
 from ._hosts import HostLogin, check_host_certificate, check_host_key, unreadable_host_line
 from ._keys import (
@@ -42,6 +51,7 @@ from ._keys import (
     fingerprint_sha512,
     fingerprint_sha512_text,
     fingerprint_text,
+    may_verify,
     normal_certificate,
     normal_key,
     normal_signature,
@@ -55,7 +65,7 @@ from ._keys import (
     string,
     strings,
 )
-from ._logins import Grant, Login, log_in
+from ._logins import Grant, Login, UserGrant, log_in, log_in_by_keys, log_in_by_principals
 from ._revocations import krl_revokes_certificate, krl_revokes_key, revoked_certificate, revoked_key
 from ._signers import Signers, judge_signer_of_digest, judge_sshsig, judge_sshsig_of_digest, signer_verdict, sshsig_verdict
 from ._times import read_time
@@ -80,13 +90,15 @@ __version__ = "0.2.0"
 __all__ = [
     "ALL_PRINCIPALS", "FOREVER", "NO_REVOCATIONS", "Address", "Algorithm", "AllPrincipals", "Authorities", "AuthorizedEntry",
     "BytesLike", "CertificateFields", "CertificateType", "Contents", "Grant", "HostLogin", "KnownHost", "Line", "Login", "Marker",
-    "NoKey", "Permits", "Question", "Refused", "Signers", "Status", "Userauth", "Verifier", "authorities", "authorized_entry",
+    "NoKey", "Permits", "Question", "Refused", "Signers", "Status", "UserGrant", "Userauth", "Verifier", "authorities", "authorized_entry",
     "certificate_contents", "certificate_fields", "certificate_question", "certificate_to_be_signed", "check_host_certificate",
     "check_host_key", "check_userauth", "entry_lines", "entry_options", "fingerprint", "fingerprint_sha512",
     "fingerprint_sha512_text", "fingerprint_text", "from_allows", "grant_flags", "is_other_key_line", "is_signature",
     "join_certificate", "judge_certificate", "judge_signer_of_digest", "judge_sshsig", "judge_sshsig_of_digest", "known_host",
-    "krl_revokes_certificate", "krl_revokes_key", "log_in", "make_certificate", "normal_certificate", "normal_key",
-    "normal_signature", "normal_sshsig", "options", "read_line", "read_time", "revoked_certificate", "revoked_key", "signature_question",
+    "krl_revokes_certificate", "krl_revokes_key", "log_in", "log_in_by_keys", "log_in_by_principals", "make_certificate", "may_be_for_certificate",
+    "may_be_for_key", "may_verify", "normal_certificate", "normal_key", "normal_signature", "normal_sshsig", "options", "read_line",
+    "read_time", "revoked_certificate", "revoked_key", "signature_question",
     "signer_verdict", "source_address_allows", "sshsig_hash", "sshsig_question", "sshsig_question_of_digest", "sshsig_reserved",
-    "sshsig_verdict", "string", "strings", "unreadable_host_line", "userauth_question", "validate_certificate",
+    "sshsig_verdict", "strict_mode", "string", "strings", "unreadable_host_line", "user_authorities", "userauth_question",
+    "validate_certificate",
 ]  # fmt: skip

@@ -1,12 +1,13 @@
 """Texts of keys that sign certificates, as sshd's TrustedUserCAKeys."""
 from __future__ import annotations
 
+import ctypes
+from collections.abc import Callable
 from dataclasses import dataclass
 from typing import Any
 
 from ._files import entry_lines
-from ._header import Status
-from ._keys import fingerprint, read_line
+from ._header import Sha256, Status
 from ._library import LIBRARY, bytes_of, done, text_of
 from ._values import BytesLike, Refused
 
@@ -36,32 +37,35 @@ class NoKey(Refused):
 def authorities(text: str | BytesLike) -> Authorities:
     """The keys of a text, a line each, between empty lines and comments. Lines of a later kind of key (is_other_key_line) are passed
     over. Raises NoKey, which is a Refused, for any other line, and MemoryError: use none of the keys then."""
+    return _read(text, LIBRARY.sshkey_authority)
+
+
+def user_authorities(text: str | BytesLike, user: str | BytesLike) -> Authorities:
+    """The keys that may sign for the user, by a text that says which may for whom: in its lines names of users, with commas between,
+    stand before a key. Lines without the user's name are passed over, whatever follows; of the others authorities says more."""
+    return _read(text, LIBRARY.sshkey_user_authority, *text_of(user))
+
+
+def _read(text: str | BytesLike, call: Callable[..., int], *user: bytes | int) -> Authorities:
     keys: list[bytes] = []
     other_lines: list[int] = []
     for number, piece in enumerate(text_of(text)[0].split(b"\n"), 1):
         for line in entry_lines(piece):
-            if _is_other(line):
+            answer = Sha256()
+            status = call(*bytes_of(line), *user, ctypes.byref(answer))
+            if status == Status.LATER_KEY:
                 other_lines.append(number)
-                continue
-            try:
-                keys.append(_fingerprint_of(line))
-            except Refused as refused:
-                raise NoKey(refused.status, number) from refused
+            elif status != Status.END:  # which is a line of other users
+                _done(status, number)
+                keys.append(bytes(answer.bytes))
     return Authorities(tuple(keys), tuple(other_lines))
 
 
-def _fingerprint_of(line: bytes) -> bytes:
-    found = read_line(line)
-    if found.is_certificate:
-        raise Refused(Status.LABEL)
-    return fingerprint(found.blob)
-
-
-def _is_other(line: bytes) -> bool:
+def _done(status: int, number: int) -> None:
     try:
-        return is_other_key_line(line)
-    except Refused:  # it is not UTF-8: read_line says so
-        return False
+        done(status)
+    except Refused as refused:
+        raise NoKey(refused.status, number) from refused
 
 
 def is_other_key_line(line: BytesLike) -> bool:

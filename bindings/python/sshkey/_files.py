@@ -6,7 +6,7 @@ from collections.abc import Callable
 from functools import partial
 
 from ._header import Entry, EntryOptionParts, Marker, Part, Status
-from ._library import LIBRARY, ask, bytes_of, done, parts_of
+from ._library import LIBRARY, ask, bytes_of, done, number_of, parts_of
 from ._values import AuthorizedEntry, BytesLike, KnownHost, Refused
 
 # the bytes of a room for an option; a longer one is asked for again
@@ -35,9 +35,7 @@ def _entry(call: Callable[..., int], line: BytesLike) -> tuple[int, tuple[bytes,
 def authorized_entry(line: BytesLike) -> AuthorizedEntry:
     """The entry of a line of authorized_keys, as sshd reads it. Raises Refused where the line is none, and MemoryError.
 
-    Which options there may be is yours to judge. Let nobody in by an entry with the option cert-authority who only has that key,
-    and refuse the login by a line with a zero byte, where sshd ends it. sshd takes the first line that lets the key in: so the first
-    entry of the key decides, and a line that is refused here ends the search, since a later line may bind the login less."""
+    It shows a line, and decides nothing: whom a text lets in, log_in_by_keys says."""
     return AuthorizedEntry(*_entry(LIBRARY.sshkey_authorized_entry, line)[1])
 
 
@@ -49,11 +47,8 @@ def known_host(line: BytesLike) -> KnownHost:
 
 
 def entry_options(text: BytesLike) -> list[tuple[bytes, bytes | None]]:
-    """The options of an entry of authorized_keys: of each its name, and its value or None. Compare names without case. Refuse
-    an entry with an option that you do not know, one that comes twice (but for environment, permitlisten and permitopen), one
-    without a value that needs one, as `command` alone, one with a value that takes none, as `no-pty="x"`, and one with
-    `principals` and without `cert-authority`. If the entry has the key, that refuses the login, and no later line counts. The
-    list of `from` is for from_allows; docs/CALLING.md says how sshd reads that of `principals`.
+    """The options of an entry of authorized_keys: of each its name, which is compared without case, and its value or None. What
+    they say of a login, log_in_by_keys decides.
 
     Raises Refused where the text is no list of options, and MemoryError."""
     found: list[tuple[bytes, bytes | None]] = []
@@ -67,3 +62,32 @@ def entry_options(text: BytesLike) -> list[tuple[bytes, bytes | None]]:
             raise
         name, value = parts_of(room, answer.name, answer.value)
         found.append((name, value if answer.has_value else None))
+
+
+def may_be_for_key(line: BytesLike, key: BytesLike) -> bool:
+    """Whether sshd may take a line of authorized_keys for one of the key, given as its blob, whatever it makes of the line's options:
+    for a program that has sshd judge lines. Leave out none but those for which it is False. Raises Refused where the bytes are no
+    key, and MemoryError."""
+    return _may_be(LIBRARY.sshkey_may_be_for_key(*bytes_of(line), *bytes_of(key)))
+
+
+def may_be_for_certificate(line: BytesLike, certificate: BytesLike) -> bool:
+    """The same of the authority that signed the certificate, given as its blob."""
+    return _may_be(LIBRARY.sshkey_may_be_for_certificate(*bytes_of(line), *bytes_of(certificate)))
+
+
+def _may_be(status: int) -> bool:
+    if status == Status.END:
+        return False
+    done(status)
+    return True
+
+
+def strict_mode(owner: int, user: int, mode: int) -> bool:
+    """Whether a file or a folder may be believed about a user, as by sshd's StrictModes: root or the user owns it, and neither group
+    nor others may write. The numbers are those of os.stat; the user 0 is root. Raises ValueError for a number that does not fit."""
+    status = LIBRARY.sshkey_strict_mode(number_of(owner, 64), number_of(user, 64), number_of(mode, 32))
+    if status == Status.UNSAFE_MODE:
+        return False
+    done(status)
+    return True

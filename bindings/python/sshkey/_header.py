@@ -103,6 +103,10 @@ class Status(Answer):
     KEY_NOT_ACCEPTED = 59
     # No revocation file revokes the key or the certificate.
     NOT_REVOKED = 60
+    # The line has a key of a later kind, which signs nothing that is read: pass over it, and say so.
+    LATER_KEY = 61
+    # Another's, or others may write it.
+    UNSAFE_MODE = 62
     # Its bytes are not its normal form: not those that were signed.
     NOT_NORMAL_FORM = 70
     # A user shows one for hosts, or a host one for users.
@@ -125,6 +129,20 @@ class Status(Answer):
     UNTOUCHED = 82
     # The security key did not verify its user, and the grant wants it.
     UNVERIFIED = 83
+    # No line is for the key, for the certificate's authority, or for a principal of it.
+    USER_NOT_LISTED = 90
+    # Its expiry-time is over.
+    LINE_EXPIRED = 91
+    # It has principals, and no cert-authority; of a file of principals, one of both.
+    LINE_OPTION = 92
+    # Its from is for other places.
+    LINE_ELSEWHERE = 93
+    # Its command is another than the certificate's.
+    LINE_COMMAND = 94
+    # The certificate lists nobody whom it lets in.
+    LINE_PRINCIPALS = 95
+    # A line may let in, and how sshd reads it cannot be told: so no other line and no other file may.
+    LINE_UNCLEAR = 96
 
 
 class Algorithm(IntEnum):
@@ -172,6 +190,14 @@ class Permits(IntFlag):
     NO_TOUCH = 64
     # A security key that did not verify its user.
     NO_VERIFICATION = 128
+    # Tunnels (tun(4)).
+    TUNNELS = 256
+    # Whichever device of them.
+    ANY_TUNNEL = 512
+    # Ports may be forwarded to anywhere, if at all.
+    OPEN_ANYWHERE = 1024
+    # Ports may be listened at anywhere, if at all.
+    LISTEN_ANYWHERE = 2048
 
 
 class Marker(IntEnum):
@@ -223,6 +249,8 @@ WORDS = {
     Status.UNREADABLE_REVOCATIONS: "the revocation file can't be read",
     Status.KEY_NOT_ACCEPTED: "a kind or a size of key that OpenSSH does not let in",
     Status.NOT_REVOKED: "not revoked",
+    Status.LATER_KEY: "a later kind of key, which is passed over",
+    Status.UNSAFE_MODE: "another's, or others may write it",
     Status.NOT_NORMAL_FORM: "not in its normal form",
     Status.OTHER_TYPE: "for hosts in place of users, or for users in place of hosts",
     Status.OTHER_KEY: "another key",
@@ -234,6 +262,13 @@ WORDS = {
     Status.OTHER_ALGORITHM: "another algorithm than the request's",
     Status.UNTOUCHED: "a security key that nobody touched",
     Status.UNVERIFIED: "a security key that did not verify its user",
+    Status.USER_NOT_LISTED: "no line is for the key",
+    Status.LINE_EXPIRED: "a line whose time is over",
+    Status.LINE_OPTION: "a line with principals and without cert-authority",
+    Status.LINE_ELSEWHERE: "a line for other places",
+    Status.LINE_COMMAND: "a line with another command than the certificate's",
+    Status.LINE_PRINCIPALS: "a line for nobody whom the certificate lists",
+    Status.LINE_UNCLEAR: "a line that can't be told",
 }
 
 
@@ -370,12 +405,25 @@ class TimeSpan(Structure):
     _fields_ = [("first", c_uint64), ("last", c_uint64)]
 
 
+class UserGrant(Structure):
+    """sshkey_user_grant"""
+
+    _fields_ = [
+        ("grant", Grant), ("permit_open", Part), ("permit_listen", Part), ("environment", Part), ("expires", TimeSpan),
+        ("line", c_size_t), ("tunnel", c_uint32)
+    ]
+
+
 # what each call takes
 CALLS: dict[str, tuple[Any, ...]] = {
     "sshkey_version": (),
     "sshkey_abi": (),
     "sshkey_read_line": (c_char_p, c_size_t, POINTER(c_uint8), c_size_t, POINTER(Line)),
     "sshkey_is_other_key_line": (c_char_p, c_size_t),
+    "sshkey_authority": (c_char_p, c_size_t, POINTER(Sha256)),
+    "sshkey_user_authority": (c_char_p, c_size_t, c_char_p, c_size_t, POINTER(Sha256)),
+    "sshkey_may_verify": (c_char_p, c_size_t),
+    "sshkey_strict_mode": (c_uint64, c_uint64, c_uint32),
     "sshkey_certificate_question": (c_char_p, c_size_t, POINTER(c_uint8), c_size_t, POINTER(Question)),
     "sshkey_certificate_validate": (c_char_p, c_size_t, c_uint64, POINTER(Sha256), c_size_t, c_uint32),
     "sshkey_certificate_validate_for": (c_char_p, c_size_t, c_uint64, c_char_p, c_size_t, POINTER(Sha256), c_size_t, c_uint32),
@@ -421,10 +469,18 @@ CALLS: dict[str, tuple[Any, ...]] = {
     "sshkey_authorized_entry": (c_char_p, c_size_t, POINTER(c_uint8), c_size_t, POINTER(Entry)),
     "sshkey_known_host": (c_char_p, c_size_t, POINTER(c_uint8), c_size_t, POINTER(Entry)),
     "sshkey_next_entry_option": (c_char_p, c_size_t, c_size_t, POINTER(c_uint8), c_size_t, POINTER(EntryOptionParts)),
+    "sshkey_may_be_for_key": (c_char_p, c_size_t, c_char_p, c_size_t),
+    "sshkey_may_be_for_certificate": (c_char_p, c_size_t, c_char_p, c_size_t),
     "sshkey_host_key_verdict": (POINTER(HostLogin), c_char_p, c_size_t),
     "sshkey_host_certificate_verdict": (POINTER(HostLogin), c_char_p, c_size_t, c_uint32),
     "sshkey_unreadable_host_line": (c_char_p, c_size_t, c_char_p, c_size_t, c_uint16, POINTER(c_size_t)),
     "sshkey_source_address_allows": (c_char_p, c_size_t, c_char_p, c_size_t),
     "sshkey_from_allows": (c_char_p, c_size_t, c_char_p, c_size_t, c_char_p, c_size_t),
     "sshkey_read_time": (c_char_p, c_size_t, POINTER(TimeSpan)),
+    "sshkey_user_keys_verdict": (
+        POINTER(Login), c_char_p, c_size_t, c_char_p, c_size_t, c_uint32, POINTER(c_uint8), c_size_t, POINTER(UserGrant)
+    ),
+    "sshkey_principals_verdict": (
+        POINTER(Login), c_char_p, c_size_t, c_char_p, c_size_t, c_uint32, POINTER(c_uint8), c_size_t, POINTER(UserGrant)
+    ),
 }

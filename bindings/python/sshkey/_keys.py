@@ -68,6 +68,16 @@ def fingerprint_sha512_text(digest: BytesLike) -> str:
 # ---- signatures
 
 
+def may_verify(key: BytesLike) -> bool:
+    """Whether a verifier may say yes to a signature under the key, given as its blob: OpenSSH lets somebody in by it, and one of RSA
+    has 2,048 bits or more. Raises Refused where the bytes are no key."""
+    status = LIBRARY.sshkey_may_verify(*bytes_of(key))
+    if status == Status.KEY_NOT_ACCEPTED:
+        return False
+    done(status)
+    return True
+
+
 def signature_question(key: BytesLike, message: BytesLike, signature: BytesLike) -> Question:
     """What has to be verified of a signature of the message under a key, both given as their blobs (RFC 4253, section 6.6): as
     an agent gives it, or a client at a login. Raises Refused where they are none or do not go together, and MemoryError."""

@@ -25,14 +25,15 @@ NO_REVOCATIONS: Final = (b"SSHKRL\n\0\0\0\0\1" + bytes(32),)
 
 
 class Refused(ValueError):
-    """What was given is not what it has to be: `status` says what is wrong first, and the text is its words and its number."""
+    """What was given is not what it has to be: `status` says what is wrong first, and the text is its words and its number. `line` is
+    the number, from 1, of the line of authorized_keys that refuses, and 0 where none does."""
 
-    def __init__(self, status: int) -> None:
-        self.status = Status(status)
-        super().__init__(f"{WORDS[self.status]} ({self.status:d})")
+    def __init__(self, status: int, line: int = 0) -> None:
+        self.status, self.line = Status(status), line
+        super().__init__(f"{WORDS[self.status]} ({self.status:d})" + (f" in line {line}" if line else ""))
 
     def __reduce__(self) -> tuple[Any, ...]:
-        return type(self), (self.status,)
+        return type(self), (self.status, self.line)
 
 
 @dataclass(frozen=True)

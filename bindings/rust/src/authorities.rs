@@ -2,9 +2,8 @@
 
 use std::fmt;
 
-use crate::digests::{fingerprint, Sha256};
+use crate::digests::Sha256;
 use crate::files::entry_lines;
-use crate::keys::read_line;
 use crate::raw;
 use crate::status::Status;
 
@@ -30,27 +29,31 @@ pub struct NoKey {
 /// The authorities of a text, a key a line, between empty lines and comments. Fails with the first
 /// line that is neither a key's nor one of another kind of key ([`is_other_key_line`]).
 pub fn authorities(text: &[u8]) -> Result<Authorities, NoKey> {
+    read(text, raw::sshkey_authority)
+}
+
+/// The authorities that may sign for the user, by a text that says which may for whom: in its lines
+/// names of users, with commas between, stand before a key. Lines without the user's name are passed
+/// over, whatever follows. Fails as [`authorities`] does.
+pub fn user_authorities(text: &[u8], user: &[u8]) -> Result<Authorities, NoKey> {
+    read(text, |line, answer| raw::sshkey_user_authority(line, user, answer))
+}
+
+fn read(text: &[u8], call: impl Fn(&[u8], &mut Sha256) -> u32) -> Result<Authorities, NoKey> {
     let mut found = Authorities::default();
     for (line, number) in text.split(|it| *it == b'\n').zip(1..) {
         for entry in entry_lines(line) {
-            match key_of(entry) {
-                Ok(Some(key)) => found.keys.push(key),
-                Ok(None) => found.other_lines.push(number),
+            let mut key = Sha256::default();
+            match Status::of(call(entry, &mut key)) {
+                Ok(()) => found.keys.push(key),
+                Err(Status::LATER_KEY) => found.other_lines.push(number),
+                // a line of other users
+                Err(Status::END) => {}
                 Err(status) => return Err(NoKey { line: number, status }),
             }
         }
     }
     Ok(found)
-}
-
-/// The fingerprint of the key of a line; none if its key is of another kind.
-fn key_of(line: &[u8]) -> Result<Option<Sha256>, Status> {
-    match read_line(line) {
-        Ok(found) if found.is_certificate => Err(Status::LABEL),
-        Ok(found) => fingerprint(&found.blob).map(Some),
-        Err(_) if is_other_key_line(line) == Ok(true) => Ok(None),
-        Err(status) => Err(status),
-    }
 }
 
 /// Whether the line is that of another kind of key than those that are read: the key signs nothing

@@ -54,11 +54,8 @@ pub struct AuthorizedEntry {
 /// where the line is none, with [`Status::TEXT`] where it is not UTF-8, and with
 /// [`Status::MEMORY`].
 ///
-/// Which options there may be is yours to judge. Let nobody in by an entry with the option
-/// cert-authority who only has that key, and refuse the login by a line with a zero byte, where
-/// sshd ends it. sshd takes the first line that lets the key in: so the first entry of the key
-/// decides, and a line that is refused here ends the search, since a later line may bind the login
-/// less.
+/// It shows a line, and decides nothing: whom a text lets in, [`log_in_by_keys`](crate::log_in_by_keys)
+/// says.
 pub fn authorized_entry(line: &[u8]) -> Result<AuthorizedEntry, Status> {
     let (room, found) =
         ask(line.len(), |room, answer| raw::sshkey_authorized_entry(line, room, answer))?;
@@ -125,12 +122,7 @@ const OF_OPTION: usize = 256;
 /// list of options, also after its first ones, with [`Status::TEXT`] where it is not UTF-8, and
 /// with [`Status::MEMORY`].
 ///
-/// Refuse an entry with an option that you do not know, one that comes twice, also with other
-/// capitals (but for environment, permitlisten and permitopen), one without a value that needs one,
-/// as `command` alone, one with a value that takes none, as `no-pty="x"`, and `principals` without
-/// `cert-authority`. If the entry has the key, that refuses the login, and no later line counts.
-/// The lists of `from` and of `principals` are read wrongly with ease: docs/CALLING.md says how
-/// sshd reads them.
+/// What they say of a login, [`log_in_by_keys`](crate::log_in_by_keys) decides.
 pub fn entry_options(text: &[u8]) -> Result<Vec<EntryOption>, Status> {
     let (mut options, mut place) = (Vec::new(), 0);
     loop {
@@ -146,4 +138,33 @@ pub fn entry_options(text: &[u8]) -> Result<Vec<EntryOption>, Status> {
         options.push(EntryOption { name, value: (found.has_value != 0).then(|| value.to_vec()) });
         place = found.next;
     }
+}
+
+/// Whether sshd may take a line of authorized_keys for one of the key, given as its blob, whatever it
+/// makes of the line's options: for a program that has sshd judge lines. Leave out none but those
+/// for which it is `Ok(false)`. Fails with a number from 10 to 29 where the bytes are no key, and
+/// with [`Status::MEMORY`].
+pub fn may_be_for_key(line: &[u8], key: &[u8]) -> Result<bool, Status> {
+    may_be(raw::sshkey_may_be_for_key(line, key))
+}
+
+/// The same of the authority that signed the certificate, given as its blob.
+pub fn may_be_for_certificate(line: &[u8], certificate: &[u8]) -> Result<bool, Status> {
+    may_be(raw::sshkey_may_be_for_certificate(line, certificate))
+}
+
+fn may_be(answer: u32) -> Result<bool, Status> {
+    match Status::of(answer) {
+        Ok(()) => Ok(true),
+        Err(Status::END) => Ok(false),
+        Err(status) => Err(status),
+    }
+}
+
+/// Whether a file or a folder may be believed about a user, as by `StrictModes` of sshd: root or
+/// the user owns it, and neither group nor others may write. The numbers are those of stat(2); the
+/// user 0 is root.
+#[must_use]
+pub fn strict_mode(owner: u64, user: u64, mode: u32) -> bool {
+    Status::of(raw::sshkey_strict_mode(owner, user, mode)).is_ok()
 }

@@ -87,3 +87,14 @@ pub fn normal_sshsig(signature: &[u8]) -> Result<Vec<u8>, Status> {
 pub fn normal_signature(signature: &[u8]) -> Result<Vec<u8>, Status> {
     written_of(raw::sshkey_signature_normal, signature)
 }
+
+/// Whether a verifier may say yes to a signature under the key, given as its blob: OpenSSH lets
+/// somebody in by it, and one of RSA has 2,048 bits or more. Fails with a number from 10 to 29 where
+/// the bytes are no key.
+pub fn may_verify(key: &[u8]) -> Result<bool, Status> {
+    match Status::of(raw::sshkey_may_verify(key)) {
+        Ok(()) => Ok(true),
+        Err(Status::KEY_NOT_ACCEPTED) => Ok(false),
+        Err(status) => Err(status),
+    }
+}

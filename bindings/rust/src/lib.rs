@@ -69,10 +69,11 @@ mod sshsigs;
 mod status;
 mod strings;
 mod times;
+mod user_keys;
 mod userauth;
 
 pub use addresses::{from_allows, source_address_allows};
-pub use authorities::{authorities, is_other_key_line, Authorities, NoKey};
+pub use authorities::{authorities, is_other_key_line, user_authorities, Authorities, NoKey};
 pub use certificates::{
     certificate_contents, certificate_fields, certificate_key, certificate_options,
     certificate_question, judge_certificate, validate_certificate, CertificateContents,
@@ -82,13 +83,13 @@ pub use certificates::{
 pub use digests::{fingerprint, fingerprint_sha512, Sha256, Sha512};
 pub use drafts::{certificate_to_be_signed, join_certificate, make_certificate, Draft, Listed};
 pub use files::{
-    authorized_entry, entry_lines, entry_options, known_host, AuthorizedEntry, EntryLines,
-    EntryOption, KnownHost, Marker,
+    authorized_entry, entry_lines, entry_options, known_host, may_be_for_certificate,
+    may_be_for_key, strict_mode, AuthorizedEntry, EntryLines, EntryOption, KnownHost, Marker,
 };
 pub use hosts::{check_host_certificate, check_host_key, unreadable_host_line, HostLogin};
 pub use keys::{
-    normal_certificate, normal_key, normal_signature, normal_sshsig, read_line, signature_question,
-    Line,
+    may_verify, normal_certificate, normal_key, normal_signature, normal_sshsig, read_line,
+    signature_question, Line,
 };
 #[cfg(feature = "libcrypto")]
 pub use libcrypto::is_signature;
@@ -107,4 +108,5 @@ pub use sshsigs::{
 pub use status::Status;
 pub use strings::{string, strings, Strings};
 pub use times::read_time;
+pub use user_keys::{log_in_by_keys, log_in_by_principals, Denial, Place, UserGrant};
 pub use userauth::{check_userauth, grant_flags, userauth_question, Userauth};

@@ -3,6 +3,7 @@
 use std::os::raw::{c_int, c_long, c_void};
 use std::ptr::{null, null_mut};
 
+use crate::keys::may_verify;
 use crate::questions::{Algorithm, Question};
 use crate::strings::strings;
 
@@ -56,17 +57,17 @@ const P384: &[u8] = b"\x30\x10\x06\x07\x2a\x86\x48\xce\x3d\x02\x01\x06\x05\x2b\x
 const P521: &[u8] = b"\x30\x10\x06\x07\x2a\x86\x48\xce\x3d\x02\x01\x06\x05\x2b\x81\x04\x00\x23";
 const ED25519: &[u8] = b"\x30\x05\x06\x03\x2b\x65\x70";
 
-/// How many bits an RSA key has at least: a shorter one is too weak to count.
-const LEAST_RSA_BITS: usize = 2048;
-
 /// Whether the signature is one of the message under the key, by OpenSSL's libcrypto. The answer is
-/// no also where libcrypto fails, and of DSA and of RSA keys of fewer than 2,048 bits, which are too
-/// weak to count.
+/// no also where libcrypto fails, and under a key that [`may_verify`] does not take.
 ///
 /// The feature `libcrypto` has it, and links that library.
 #[must_use]
 pub fn is_signature(question: &Question) -> bool {
+    if may_verify(question.key()) != Ok(true) {
+        return false;
+    }
     match question.algorithm() {
+        // of which it takes no key
         Algorithm::Dsa => false,
         Algorithm::P256 => is_ecdsa(question, P256, EVP_sha256),
         Algorithm::P384 => is_ecdsa(question, P384, EVP_sha384),
@@ -84,39 +85,30 @@ fn is_ed25519(question: &Question) -> bool {
     }
 }
 
-/// SSH writes r and s as two strings, and libcrypto reads them in DER. OpenSSH reads no compressed
-/// point, so a key has one fingerprint: its point begins with 04.
+/// SSH writes r and s as two strings, and libcrypto reads them in DER.
 fn is_ecdsa(question: &Question, curve: &[u8], digest: DigestCall) -> bool {
     let (key, signature) = (parts(question.key()), parts(question.signature()));
-    match (&key[..], integers(&signature)) {
-        ([_, _, point @ [4, ..]], Some(signature)) => {
-            verifies(question, Some(digest), &public_key(curve, point), &signature)
+    match key[..] {
+        [_, _, point] => {
+            verifies(question, Some(digest), &public_key(curve, point), &integers(&signature))
         }
         _ => false,
     }
 }
 
 fn is_rsa(question: &Question, digest: DigestCall) -> bool {
-    let key = match parts(question.key())[..] {
-        [_, exponent, modulus] if bits(modulus) >= LEAST_RSA_BITS => integers(&[modulus, exponent]),
-        _ => None,
-    };
-    match key {
-        Some(key) => verifies(question, Some(digest), &public_key(RSA, &key), question.signature()),
-        None => false,
+    match parts(question.key())[..] {
+        [_, exponent, modulus] => {
+            let key = public_key(RSA, &integers(&[modulus, exponent]));
+            verifies(question, Some(digest), &key, question.signature())
+        }
+        _ => false,
     }
 }
 
 /// The strings that the bytes are; none where they are no strings.
 fn parts(bytes: &[u8]) -> Vec<&[u8]> {
     strings(bytes).collect::<Result<_, _>>().unwrap_or_default()
-}
-
-/// How many bits a number has that is not negative.
-fn bits(mpint: &[u8]) -> usize {
-    let zeros = mpint.iter().take_while(|it| **it == 0).count();
-    let first = mpint.get(zeros).map_or(0, |it| it.leading_zeros() as usize);
-    8 * (mpint.len() - zeros) - first
 }
 
 // ---- DER (X.690)
@@ -139,12 +131,10 @@ fn der(tag: u8, parts: &[&[u8]]) -> Vec<u8> {
     made
 }
 
-/// The sequence of the numbers, which are mpints: so are integers in DER written. None where one is
-/// not positive: no key and no signature has such a one.
-fn integers(mpints: &[&[u8]]) -> Option<Vec<u8>> {
-    let is_positive = |it: &&[u8]| it.first().map_or(false, |first| *first < 0x80);
+/// The sequence of the numbers, which are mpints: so are integers in DER written.
+fn integers(mpints: &[&[u8]]) -> Vec<u8> {
     let written: Vec<u8> = mpints.iter().flat_map(|it| der(INTEGER, &[it])).collect();
-    mpints.iter().all(is_positive).then(|| der(SEQUENCE, &[&written]))
+    der(SEQUENCE, &[&written])
 }
 
 /// The public key of that algorithm (RFC 5280, section 4.1).

@@ -68,8 +68,23 @@ pub struct Grant {
 /// Whether the client has signed this session under the key asks
 /// [`check_userauth`](crate::check_userauth).
 pub fn log_in(login: &Login<'_>, verify: impl FnOnce(&Question) -> bool) -> Result<Grant, Status> {
+    with_raw(login, |asked| {
+        let enough = login.certificate.len().saturating_mul(2).saturating_add(256);
+        let question = Question::of_call(enough, |room, answer| {
+            raw::sshkey_login_question(asked, room, answer)
+        })?;
+        let is_verified = u32::from(verify(&question));
+        let (room, found) = ask(login.certificate.len(), |room, answer| {
+            raw::sshkey_login_verdict(asked, is_verified, room, answer)
+        })?;
+        grant_in(&room, &found)
+    })
+}
+
+/// What is said of the login as the library takes it.
+pub(crate) fn with_raw<T>(login: &Login<'_>, say: impl FnOnce(&raw::Login<'_>) -> T) -> T {
     let (client, revoked) = (octets(login.client), spans(login.revoked));
-    let asked = raw::Login {
+    say(&raw::Login {
         certificate: login.certificate.into(),
         user: login.user.into(),
         key: login.key.into(),
@@ -79,29 +94,18 @@ pub fn log_in(login: &Login<'_>, verify: impl FnOnce(&Question) -> bool) -> Resu
         unix_timestamp: login.unix_timestamp,
         least_rsa_bits: login.least_rsa_bits,
         judges_address: u32::from(login.judges_address),
-    };
-    let enough = login.certificate.len().saturating_mul(2).saturating_add(256);
-    let question =
-        Question::of_call(enough, |room, answer| raw::sshkey_login_question(&asked, room, answer))?;
-    let is_verified = u32::from(verify(&question));
-    grant_of(login.certificate.len(), |room, answer| {
-        raw::sshkey_login_verdict(&asked, is_verified, room, answer)
     })
 }
 
-/// The grant that a verdict writes, which is given a room of that length.
-fn grant_of(
-    length: usize,
-    verdict: impl FnMut(&mut [u8], &mut raw::Grant) -> u32,
-) -> Result<Grant, Status> {
-    let (room, found) = ask(length, verdict)?;
+/// The grant that a verdict has written to that room.
+pub(crate) fn grant_in(room: &[u8], found: &raw::Grant) -> Result<Grant, Status> {
     let permits = Permits::from_bits(found.permits);
-    let command = text(found.force_command.of(&room))?;
+    let command = text(found.force_command.of(room))?;
     Ok(Grant {
         force_command: (!permits.contains(Permits::ANY_COMMAND)).then(|| command.into()),
         permits,
         serial: found.serial,
-        key_id: text(found.key_id.of(&room))?.into(),
+        key_id: text(found.key_id.of(room))?.into(),
         authority: found.authority,
     })
 }

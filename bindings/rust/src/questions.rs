@@ -5,9 +5,8 @@ use crate::rooms::ask;
 use crate::status::Status;
 
 /// How a signature is made. The key's blob is strings ([`strings`](crate::strings()) goes over
-/// them), and the first is the name of its type; numbers in them are mpints. Numbers that are
-/// not positive, a point that does not begin with 04, and what is too weak to count (DSA, RSA keys
-/// of fewer than 2,048 bits) have to be refused.
+/// them), and the first is the name of its type; numbers in them are mpints. A key that
+/// [`may_verify`](crate::may_verify) does not take has to be refused.
 #[derive(Clone, Copy, Debug, PartialEq, Eq, Hash)]
 #[non_exhaustive]
 #[repr(u32)]
@@ -95,12 +94,12 @@ impl Question {
 
 /// What the library says once it is told whether a verification says yes. It is asked first as if
 /// that said no, and the verification is made only where nothing else is wrong.
-pub(crate) fn decide<T>(
-    verdict: impl Fn(bool) -> Result<T, Status>,
+pub(crate) fn decide<T, E: Copy + Into<Status> + From<Status>>(
+    verdict: impl Fn(bool) -> Result<T, E>,
     is_verified: impl FnOnce() -> Result<bool, Status>,
-) -> Result<T, Status> {
+) -> Result<T, E> {
     match verdict(false) {
-        Err(Status::NOT_SIGNED) => verdict(is_verified()?),
+        Err(error) if error.into() == Status::NOT_SIGNED => verdict(is_verified()?),
         said => said,
     }
 }

@@ -79,6 +79,18 @@ pub const PERMIT_NO_TOUCH: u32 = 64;
 /// `SSHKEY_PERMIT_NO_VERIFICATION`. A security key that did not verify its user.
 pub const PERMIT_NO_VERIFICATION: u32 = 128;
 
+/// `SSHKEY_PERMIT_TUNNELS`. Tunnels (tun(4)).
+pub const PERMIT_TUNNELS: u32 = 256;
+
+/// `SSHKEY_PERMIT_ANY_TUNNEL`. Whichever device of them.
+pub const PERMIT_ANY_TUNNEL: u32 = 512;
+
+/// `SSHKEY_PERMIT_OPEN_ANYWHERE`. Ports may be forwarded to anywhere, if at all.
+pub const PERMIT_OPEN_ANYWHERE: u32 = 1024;
+
+/// `SSHKEY_PERMIT_LISTEN_ANYWHERE`. Ports may be listened at anywhere, if at all.
+pub const PERMIT_LISTEN_ANYWHERE: u32 = 2048;
+
 /// `SSHKEY_MARKER_NONE`.
 pub const MARKER_NONE: u32 = 0;
 
@@ -172,6 +184,11 @@ statuses! {
     KEY_NOT_ACCEPTED = 59, "a kind or a size of key that OpenSSH does not let in";
     /// No revocation file revokes the key or the certificate.
     NOT_REVOKED = 60, "not revoked";
+    /// The line has a key of a later kind, which signs nothing that is read: pass over it, and say
+    /// so.
+    LATER_KEY = 61, "a later kind of key, which is passed over";
+    /// Another's, or others may write it.
+    UNSAFE_MODE = 62, "another's, or others may write it";
     /// Its bytes are not its normal form: not those that were signed.
     NOT_NORMAL_FORM = 70, "not in its normal form";
     /// A user shows one for hosts, or a host one for users.
@@ -194,6 +211,21 @@ statuses! {
     UNTOUCHED = 82, "a security key that nobody touched";
     /// The security key did not verify its user, and the grant wants it.
     UNVERIFIED = 83, "a security key that did not verify its user";
+    /// No line is for the key, for the certificate's authority, or for a principal of it.
+    USER_NOT_LISTED = 90, "no line is for the key";
+    /// Its expiry-time is over.
+    LINE_EXPIRED = 91, "a line whose time is over";
+    /// It has principals, and no cert-authority; of a file of principals, one of both.
+    LINE_OPTION = 92, "a line with principals and without cert-authority";
+    /// Its from is for other places.
+    LINE_ELSEWHERE = 93, "a line for other places";
+    /// Its command is another than the certificate's.
+    LINE_COMMAND = 94, "a line with another command than the certificate's";
+    /// The certificate lists nobody whom it lets in.
+    LINE_PRINCIPALS = 95, "a line for nobody whom the certificate lists";
+    /// A line may let in, and how sshd reads it cannot be told: so no other line and no other file
+    /// may.
+    LINE_UNCLEAR = 96, "a line that can't be told";
 }
 
 /// Bytes that a call reads; no null pointer, also where the length is 0 (sshkey_bytes).
@@ -445,6 +477,30 @@ pub(crate) struct TimeSpan {
     pub last: u64,
 }
 
+/// What a login by a line of authorized_keys may do.
+#[repr(C)]
+#[derive(Clone, Copy, Debug, Default)]
+pub(crate) struct UserGrant {
+    /// With the command of the line or of the certificate; of a plain key key_id has no bytes,
+    /// serial and authority are zero.
+    pub grant: Grant,
+    /// Without SSHKEY_PERMIT_OPEN_ANYWHERE the only places to which ports may be forwarded: strings
+    /// (sshkey_next_string), two each: a host, and a port of two bytes, big-endian, or of none for
+    /// any port.
+    pub permit_open: Part,
+    /// Likewise where may be listened; the host may be "*".
+    pub permit_listen: Part,
+    /// Strings NAME=VALUE; by its defaults sshd sets none.
+    pub environment: Part,
+    /// The last second at which the line counts; UINT64_MAX at any.
+    pub expires: TimeSpan,
+    /// The number of the line, from 1; of a refusal 91 to 96, of the line that refuses.
+    pub line: usize,
+    /// Without SSHKEY_PERMIT_ANY_TUNNEL the only device of tun(4); 0x7fffffff is the "any" that a
+    /// client asks for.
+    pub tunnel: u32,
+}
+
 // the layout that the library was built for
 const _: () = assert!(size_of::<usize>() == 8);
 const _: () = assert!(size_of::<Part>() == 16);
@@ -466,6 +522,7 @@ const _: () = assert!(size_of::<HostLogin>() == 64);
 const _: () = assert!(size_of::<Entry>() == 64);
 const _: () = assert!(size_of::<EntryOptionParts>() == 56);
 const _: () = assert!(size_of::<TimeSpan>() == 16);
+const _: () = assert!(size_of::<UserGrant>() == 168);
 
 calls! {
     []
@@ -477,6 +534,10 @@ calls! {
     [expect_abi();]
     fn sshkey_read_line(line: &[u8], room: &mut [u8], answer: &mut Line);
     fn sshkey_is_other_key_line(line: &[u8]);
+    fn sshkey_authority(line: &[u8], answer: &mut Sha256);
+    fn sshkey_user_authority(line: &[u8], user: &[u8], answer: &mut Sha256);
+    fn sshkey_may_verify(key: &[u8]);
+    fn sshkey_strict_mode(owner: u64, user: u64, mode: u32);
     fn sshkey_certificate_question(certificate: &[u8], room: &mut [u8], answer: &mut Question);
     fn sshkey_certificate_validate(
         certificate: &[u8], unix_timestamp: u64, authorities: &[Sha256], is_verified: u32
@@ -539,10 +600,20 @@ calls! {
     fn sshkey_next_entry_option(
         options: &[u8], place: usize, room: &mut [u8], answer: &mut EntryOptionParts
     );
+    fn sshkey_may_be_for_key(line: &[u8], key: &[u8]);
+    fn sshkey_may_be_for_certificate(line: &[u8], certificate: &[u8]);
     fn sshkey_host_key_verdict(login: &HostLogin<'_>, key: &[u8]);
     fn sshkey_host_certificate_verdict(login: &HostLogin<'_>, certificate: &[u8], is_verified: u32);
     fn sshkey_unreadable_host_line(known_hosts: &[u8], host: &[u8], port: u16, number: &mut usize);
     fn sshkey_source_address_allows(list: &[u8], address: &[u8]);
     fn sshkey_from_allows(list: &[u8], host: &[u8], address: &[u8]);
     fn sshkey_read_time(text: &[u8], answer: &mut TimeSpan);
+    fn sshkey_user_keys_verdict(
+        login: &Login<'_>, text: &[u8], host: &[u8], is_verified: u32, room: &mut [u8],
+        answer: &mut UserGrant
+    );
+    fn sshkey_principals_verdict(
+        login: &Login<'_>, text: &[u8], host: &[u8], is_verified: u32, room: &mut [u8],
+        answer: &mut UserGrant
+    );
 }

@@ -28,6 +28,12 @@ macro_rules! answers {
 
 answers! { Question Line Entry EntryOptionParts Grant }
 
+impl Answer for raw::UserGrant {
+    fn length(&self) -> usize {
+        self.grant.length
+    }
+}
+
 /// The byte strings of a list, as a call takes them.
 pub(crate) fn spans<'a>(list: &[&'a [u8]]) -> Vec<raw::Span<'a>> {
     list.iter().map(|it| raw::Span::from(*it)).collect()

@@ -36,6 +36,8 @@ fn values_go_from_thread_to_thread() {
     shared::<HostLogin<'static>>();
     shared::<sshkey::Userauth<'static>>();
     shared::<sshkey::Grant>();
+    shared::<sshkey::UserGrant>();
+    shared::<sshkey::Denial>();
     shared::<Status>();
 }
 

@@ -129,6 +129,31 @@ var answers = map[string]func(of []string) ([]string, error){
 		}
 		return nil, err
 	},
+	"line-authority": func(of []string) ([]string, error) {
+		return authority(sshkey.Authorities(text(of[0])))
+	},
+	"user-authority": func(of []string) ([]string, error) {
+		return authority(sshkey.UserAuthorities(text(of[0]), text(of[1])))
+	},
+	"for-key": func(of []string) ([]string, error) {
+		return mayBe(sshkey.MayBeForKey(text(of[0]), data(of[1])))
+	},
+	"for-certificate": func(of []string) ([]string, error) {
+		return mayBe(sshkey.MayBeForCertificate(text(of[0]), data(of[1])))
+	},
+	"may-verify": func(of []string) ([]string, error) {
+		yes, err := sshkey.MayVerify(data(of[0]))
+		if err == nil && !yes {
+			err = sshkey.ErrKeyNotAccepted
+		}
+		return nil, err
+	},
+	"strict-mode": func(of []string) ([]string, error) {
+		if !sshkey.StrictMode(number(of[0]), number(of[1]), uint32(number(of[2]))) {
+			return nil, sshkey.ErrUnsafeMode
+		}
+		return nil, nil
+	},
 	"time": func(of []string) ([]string, error) {
 		first, last, err := sshkey.ReadTime(text(of[0]))
 		seconds := []string{fmt.Sprint(first.Unix()), fmt.Sprint(last.Unix())}
@@ -152,7 +177,10 @@ var answers = map[string]func(of []string) ([]string, error){
 }
 
 // said are whole answers, without a 0.
-var said = map[string]func(of []string) string{"validate": validate, "addresses": addresses}
+var said = map[string]func(of []string) string{
+	"validate": validate, "addresses": addresses, "log-in-by-keys": logInBy(sshkey.LogInByKeys),
+	"log-in-by-principals": logInBy(sshkey.LogInByPrincipals),
+}
 
 func main() {
 	input, output := bufio.NewReader(os.Stdin), bufio.NewWriter(os.Stdout)
@@ -176,6 +204,26 @@ func main() {
 // ---- words
 
 // numberOf is that of a Status, 0 for nil.
+func mayBe(yes bool, err error) ([]string, error) {
+	if err == nil && !yes {
+		err = sshkey.Status(3) // SSHKEY_END
+	}
+	return nil, err
+}
+
+func authority(keys []sshkey.SHA256, others []int, err error) ([]string, error) {
+	if err == nil && len(keys) == 0 {
+		err = sshkey.Status(3) // SSHKEY_END
+		if len(others) > 0 {
+			err = sshkey.ErrLaterKey
+		}
+	}
+	if err != nil {
+		return nil, err
+	}
+	return []string{word(keys[0][:])}, nil
+}
+
 func numberOf(err error) string {
 	var status sshkey.Status
 	if err != nil && !errors.As(err, &status) {
@@ -317,13 +365,65 @@ func validate(of []string) string {
 	return numberOf(err) + " " + strconv.Itoa(questions)
 }
 
-func logIn(of []string) ([]string, error) {
+func loginOf(of, numbers []string) sshkey.Login {
 	client, _ := netip.AddrFromSlice(data(of[3]))
-	grant, err := sshkey.LogIn(sshkey.Login{
+	return sshkey.Login{
 		Certificate: data(of[0]), User: text(of[1]), Key: data(of[2]), Client: client,
-		Authorities: digests(of[4]), Revoked: files(of[5]), Now: at(of[6]),
-		LeastRSABits: uint32(number(of[7])), JudgesAddress: of[8] == "1",
-	})
+		Authorities: digests(of[4]), Revoked: files(of[5]), Now: at(numbers[0]),
+		LeastRSABits: uint32(number(numbers[1])), JudgesAddress: numbers[2] == "1",
+	}
+}
+
+type byText func(sshkey.Login, []byte, string) (sshkey.UserGrant, error)
+
+func logInBy(call byText) func([]string) string {
+	return func(of []string) string {
+		return userGrant(call(loginOf(of, of[8:]), data(of[6]), text(of[7])))
+	}
+}
+
+func userGrant(grant sshkey.UserGrant, err error) string {
+	if err != nil {
+		return numberOf(err) + " " + strconv.Itoa(grant.Line)
+	}
+	parts := [][]byte{
+		grant.Authority[:], []byte(grant.ForceCommand), []byte(grant.KeyID), places(grant.PermitOpen),
+		places(grant.PermitListen), stringsOf(grant.Environment...),
+	}
+	return strings.Join([]string{
+		fmt.Sprint(0, grant.Line, uint32(grant.Permits), grant.Serial),
+		strings.Join(wordsOf(parts), " "),
+		fmt.Sprint(uint64(grant.Expires), uint64(grant.ExpiresLast), grant.Tunnel),
+	}, " ")
+}
+
+func stringsOf(contents ...string) []byte {
+	found := []byte{}
+	for _, content := range contents {
+		one, err := sshkey.JoinStrings([]byte(content))
+		if err != nil {
+			panic(err)
+		}
+		found = append(found, one...)
+	}
+	return found
+}
+
+// places are the hosts and ports as the library lays them out.
+func places(all []sshkey.Place) []byte {
+	found := []byte{}
+	for _, place := range all {
+		port := string([]byte{byte(place.Port >> 8), byte(place.Port)})
+		if place.AnyPort {
+			port = ""
+		}
+		found = append(found, stringsOf(place.Host, port)...)
+	}
+	return found
+}
+
+func logIn(of []string) ([]string, error) {
+	grant, err := sshkey.LogIn(loginOf(of, of[6:]))
 	numbers := fmt.Sprint(uint32(grant.Permits), grant.Serial)
 	return []string{numbers, word(grant.Authority[:]), word(grant.ForceCommand), word(grant.KeyID)}, err
 }

@@ -5,8 +5,8 @@ use std::io::{self, BufRead};
 use std::net::IpAddr;
 
 use sshkey::{
-    is_signature, CertificateType, Draft, HashAlgorithm, HostLogin, Listed, Login, Permits,
-    Principal, Question, Sha256, Signers, Status, Userauth,
+    is_signature, CertificateType, Denial, Draft, HashAlgorithm, HostLogin, Listed, Login, Permits,
+    Place, Principal, Question, Sha256, Signers, Status, UserGrant, Userauth,
 };
 
 type Answer = Result<String, Status>;
@@ -116,26 +116,74 @@ fn address(bytes: &[u8]) -> Option<IpAddr> {
     <[u8; 4]>::try_from(bytes).map(IpAddr::from).ok().or_else(of_six)
 }
 
-fn log_in(given: &[&str]) -> Answer {
+/// What is said of the login of these words and numbers.
+fn with_login<T>(given: &[&str], numbers: &[&str], say: impl FnOnce(&Login<'_>) -> T) -> T {
     let [certificate, user, key, client] = [0, 1, 2, 3].map(|at| data(given[at]));
     let (authorities, revoked) = (digests(given[4]), several(given[5]));
-    let login = Login {
+    say(&Login {
         certificate: &certificate,
         user: &user,
         key: &key,
         client: address(&client),
-        unix_timestamp: number(given[6]),
+        unix_timestamp: number(numbers[0]),
         authorities: &authorities,
         revoked: &lent(&revoked),
-        least_rsa_bits: number(given[7]).try_into().expect("a number of bits"),
-        judges_address: given[8] == "1",
-    };
-    let grant = sshkey::log_in(&login, is_signature)?;
+        least_rsa_bits: number(numbers[1]).try_into().expect("a number of bits"),
+        judges_address: numbers[2] == "1",
+    })
+}
+
+fn log_in(given: &[&str]) -> Answer {
+    let grant = with_login(given, &given[6..], |login| sshkey::log_in(login, is_signature))?;
     let command = grant.force_command.as_deref();
     assert_eq!(command.is_none(), grant.permits.contains(Permits::ANY_COMMAND));
     let numbers = [u64::from(grant.permits.bits()), grant.serial].map(|it| it.to_string());
     let texts = [command.unwrap_or_default(), &grant.key_id].map(word);
     words(numbers.into_iter().chain([word(grant.authority.bytes)]).chain(texts))
+}
+
+fn log_in_by_keys(given: &[&str]) -> Answer {
+    user_grant(with_login(given, &given[8..], |login| {
+        sshkey::log_in_by_keys(login, &data(given[6]), data(given[7]), is_signature)
+    }))
+}
+
+fn log_in_by_principals(given: &[&str]) -> Answer {
+    user_grant(with_login(given, &given[8..], |login| {
+        sshkey::log_in_by_principals(login, &data(given[6]), data(given[7]), is_signature)
+    }))
+}
+
+fn user_grant(said: Result<UserGrant, Denial>) -> Answer {
+    let found = match said {
+        Ok(found) => found,
+        Err(denial) => return Ok(format!("{} {}", denial.status.number(), denial.line)),
+    };
+    let (grant, none) = (found.grant, u64::MAX);
+    let (first, last) = found.expires.map_or((none, none), |it| (*it.start(), *it.end()));
+    let numbers = [found.line as u64, u64::from(grant.permits.bits()), grant.serial];
+    let texts = [
+        word(grant.authority.bytes),
+        word(grant.force_command.unwrap_or_default()),
+        word(&grant.key_id),
+        places(&found.permit_open.unwrap_or_default()),
+        places(&found.permit_listen.unwrap_or_default()),
+        word(found.environment.iter().flat_map(|it| string(it)).collect::<Vec<u8>>()),
+    ];
+    let ends = [first, last, u64::from(found.tunnel.unwrap_or(0))];
+    let shown = numbers.map(|it| it.to_string()).into_iter().chain(texts);
+    words(shown.chain(ends.map(|it| it.to_string())))
+}
+
+fn string(content: impl AsRef<[u8]>) -> Vec<u8> {
+    sshkey::string(content).expect("a string")
+}
+
+/// The hosts and ports as the library lays them out.
+fn places(found: &[Place]) -> String {
+    let port = |it: &Place| it.port.map_or(vec![], |port| port.to_be_bytes().to_vec());
+    let both = |it: &Place| [string(&it.host), string(port(it))].concat();
+    word(found.iter().flat_map(both).collect::<Vec<u8>>())
 }
 
 fn host_verdict(what: &str, given: &[&str]) -> String {
@@ -194,6 +242,30 @@ fn flags(given: &[&str]) -> String {
 fn other_key_line(line: &[u8]) -> Answer {
     let is_other = sshkey::is_other_key_line(line)?;
     Ok(number_of(if is_other { Ok(()) } else { Err(Status::LABEL) }))
+}
+
+fn authority(found: Result<sshkey::Authorities, sshkey::NoKey>) -> Answer {
+    let found = found.map_err(|it| it.status)?;
+    match (found.keys.first(), found.other_lines.first()) {
+        (Some(key), _) => words([word(&key.bytes)]),
+        (None, Some(_)) => Err(Status::LATER_KEY),
+        (None, None) => Err(Status::END),
+    }
+}
+
+fn may_be(found: Result<bool, Status>) -> Answer {
+    Ok(number_of(if found? { Ok(()) } else { Err(Status::END) }))
+}
+
+fn may_verify(key: &[u8]) -> Answer {
+    let yes = sshkey::may_verify(key)?;
+    Ok(number_of(if yes { Ok(()) } else { Err(Status::KEY_NOT_ACCEPTED) }))
+}
+
+fn strict_mode(given: &[&str]) -> String {
+    let number = |at: usize| given[at].parse().expect("a number");
+    let yes = sshkey::strict_mode(number(0), number(1), number(2) as u32);
+    number_of(if yes { Ok(()) } else { Err(Status::UNSAFE_MODE) })
 }
 
 // ---- certificates
@@ -361,11 +433,19 @@ fn answer(question: &str) -> Answer {
         "is-signature" => verified(&sshkey::signature_question(&at(0), &at(1), &at(2))?),
         "validate" => validate(given),
         "log-in" => log_in(given),
+        "log-in-by-keys" => log_in_by_keys(given),
+        "log-in-by-principals" => log_in_by_principals(given),
         "host-key" | "host-certificate" => Ok(host_verdict(what, given)),
         "unreadable-line" => unreadable_line(given),
         "userauth" | "userauth-of" | "is-userauth" => userauth(what, given),
         "flags" => Ok(flags(given)),
         "other-key-line" => other_key_line(&at(0)),
+        "line-authority" => authority(sshkey::authorities(&at(0))),
+        "user-authority" => authority(sshkey::user_authorities(&at(0), &at(1))),
+        "for-key" => may_be(sshkey::may_be_for_key(&at(0), &at(1))),
+        "for-certificate" => may_be(sshkey::may_be_for_certificate(&at(0), &at(1))),
+        "may-verify" => may_verify(&at(0)),
+        "strict-mode" => Ok(strict_mode(given)),
         "fields" => fields(&at(0)),
         "lists" => lists(&at(0)),
         "certificate-options" => words(pairs("", sshkey::certificate_options(&at(0)))?),

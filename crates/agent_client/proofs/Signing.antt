@@ -16,7 +16,8 @@ use Rattle.ssh_key.proofs.Grammars.{one_front}
 use Rattle.ssh_key.proofs.Writing.{boxes_short}
 use Rattle.agent_codec.specs.Requests.{to_sign}
 use Rattle.agent_codec.specs.Responses as model
-use Rattle.agent_codec.specs.Responses.{given_of, response_format, response_grammar, response_of}
+use Rattle.agent_codec.specs.Responses.{given_of, response_format, response_of}
+use Rattle.agent_codec.proofs.Responses.{response_grammar}
 use Rattle.agent_client.specs.Signing.{AgentRefuses, Counts, GetsNone, GetsSignature, IsAnswered, IsAskedFor, IsRefusalOf, ReadsAnswer, SpellsAnswer, signing_request}
 use Rattle.agent_codec.specs.declared.response.Response as code
 use Rattle.agent_codec.specs.declared.response.Response.TheVariants as variants

@@ -1,7 +1,6 @@
 -- What an agent is asked for a signature, and what it answers (draft-miller-ssh-agent, section
 -- 4.5).
-use Rattle.std.proofs.Common.{◌≡◌, ◌⊎◌, ℕ, List, Bool, Some, Result, Ok, Err}
-use Rattle.std.specs.Prelude.{◌≢◌, Vec}
+use Rattle.std.specs.Prelude.{◌≡◌, ◌≢◌, ◌⊎◌, ℕ, List, Vec, Bool, Some, Result, Ok, Err}
 use Rattle.ssh_key.specs.keys.Signatures.{signature_of}
 use Rattle.ssh_key.specs.model.Keys.{Key, normal_key}
 use Rattle.ssh_key.specs.model.Names.{Algorithm, Rsa, Sha256, Sha512}

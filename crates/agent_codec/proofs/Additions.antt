@@ -1,5 +1,6 @@
 -- What is read is no encrypted pair.
 use Rattle.std.proofs.Common.{◌≡◌, ℕ, List, Ok, false, refl}
+use Rattle.ssh_key.proofs.Lawful.{keypair_lawful, string_lawful, then_lawful}
 use Rattle.ssh_key.specs.base.Formats.{string_format}
 use Rattle.ssh_key.specs.format.Terms.{◌then◌}
 use Rattle.ssh_key.specs.keypairs.KeypairFormats.{keypair_format}
@@ -20,4 +21,4 @@ spelled_plain (kinds.SkEd25519 k) b s = refl
 spelled_plain (kinds.Other k) b s = refl
 
 pub read_plain : (k : KeypairData) (comment b rest : List ℕ) → (keypair_format then string_format).read b ≡ Ok ((pair_of k, comment), rest) → is_encrypted k ≡ false
-read_plain k comment b rest e = spelled_plain k _ ((keypair_format then string_format).grammar.takes b (pair_of k, comment) rest e).1.first
+read_plain k comment b rest e = spelled_plain k _ ((then_lawful keypair_lawful string_lawful).grammar.takes b (pair_of k, comment) rest e).1.first

@@ -9,10 +9,11 @@ use Rattle.ssh_key.specs.base.Sink.{IsLength, MeasuresBoxed}
 use Rattle.ssh_key.specs.base.Source.{IsSound, Source}
 use Rattle.ssh_key.specs.base.Stops.{Stopped}
 use Rattle.ssh_key.specs.model.Parts.{Parts, box, number, ◌&◌, flat, BoxesFit}
-use Rattle.ssh_key.specs.format.Terms.{checked_read, tested}
+use Rattle.ssh_key.specs.format.Terms.{tested}
 use Rattle.ssh_key.specs.types.Error as wide
 use Rattle.ssh_key.specs.types.encoding.Error.{Error}
 use Rattle.agent_codec.specs.Parts.{nothing_at}
+use Rattle.ssh_key.proofs.Lawful.{checked_read}
 use Rattle.ssh_key.proofs.Mapped.{mapped_reads, mapped_refused}
 use Rattle.ssh_key.proofs.Stopping.{mapped_stopped}
 use Rattle.ssh_key.proofs.Writing.{boxes_both, boxes_box, boxes_first, boxes_inside, boxes_length, boxes_number, boxes_second, length_both, length_number8}
@@ -49,12 +50,12 @@ module _ {Y Z W : Type 0} (f : Format Y) (make : Y → Z) (means : W → Z) (s t
   pub held_reads : {X : Type 0} (parts : X → Y) (x : X) (w : W) → Reads parts f.read s x t → make (parts x) ≡ means w → Reads means whole.read s w t
   held_reads parts x w h made = mapped_reads parts f.read s t x (λ y. Ok (make y)) whole.read means w h (checked_read (λ y. Ok (make y)) f.read) (ap Ok made)
 
-  pub held_refused : (e : wide.Error) (r : Result W wide.Error) → IsErrAnd r (λ d. d ≡ e) → IsRefused s.missing (cause e) (f.read s.left) → (cause e ≡ NoMemory → IsSound s → f.needs s.left s.missing) → Stopped (cause e) f.grammar.delimited_at f.needs f.overruns s → Gives means cause whole.read s r t × Asks cause whole.needs s r × Stops cause whole s r
+  pub held_refused : (e : wide.Error) (r : Result W wide.Error) → IsErrAnd r (λ d. d ≡ e) → IsRefused s.missing (cause e) (f.read s.left) → (cause e ≡ NoMemory → IsSound s → f.needs s.left s.missing) → Stopped (cause e) f.delimited_at f.needs f.overruns s → Gives means cause whole.read s r t × Asks cause whole.needs s r × Stops cause whole s r
   held_refused e (Ok w) is gives asks past = absurd is
   held_refused e (Err d) is gives asks past = rw is (
     mapped_refused f.read s.missing (cause e) s.left (λ y. Ok (make y)) whole.read (checked_read (λ y. Ok (make y)) f.read) gives,
     asks,
-    mapped_stopped f.grammar.delimited_at f.needs f.overruns (cause e) s (λ y. Ok (make y)) whole.grammar.delimited_at (checked_read (λ y. Ok (make y)) f.grammar.delimited_at) past,
+    mapped_stopped f.delimited_at f.needs f.overruns (cause e) s (λ y. Ok (make y)) whole.delimited_at (checked_read (λ y. Ok (make y)) f.delimited_at) past,
   )
 
 -- a number, a value and a list, which is in no box of its own

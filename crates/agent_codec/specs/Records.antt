@@ -1,23 +1,20 @@
 -- What the messages of an SSH agent hold (draft-miller-ssh-agent, section 4): values, how they are
 -- written, and their formats.
-use Rattle.std.proofs.Common.{◌≡◌, ℕ, List, Option, Result, Ok, Err, true, false, refl}
+use Rattle.std.specs.Prelude.{◌≡◌, ℕ, List, Option, Result, Ok, Err, true, false}
 use Rattle.std.specs.Int.{w32}
 use Rattle.ssh_key.specs.base.Formats.{Format, number32_format, string_format}
-use Rattle.ssh_key.specs.base.Leaves.{SpellsNumber32, SpellsString}
 use Rattle.ssh_key.specs.format.Terms.{◌then◌, tested}
 use Rattle.ssh_key.specs.keypairs.KeypairFormats.{keypair_format}
 use Rattle.ssh_key.specs.keypairs.Keypairs.{keypair_parts, pair_of}
-use Rattle.ssh_key.specs.keypairs.NormalPairs.{IsWellFormedPair, keypair_normal}
+use Rattle.ssh_key.specs.keypairs.NormalPairs.{IsWellFormedPair}
 use Rattle.ssh_key.specs.keypairs.PairKinds.{is_encrypted}
-use Rattle.ssh_key.specs.model.Grammar.{normal_is_spelling}
 use Rattle.ssh_key.specs.model.KeyPairs.{KeyPair}
-use Rattle.ssh_key.specs.model.Parts.{Parts, number, ◌&◌, flat, Fits}
+use Rattle.ssh_key.specs.model.Parts.{Parts, number, ◌&◌}
 use Rattle.ssh_key.specs.model.Reading.{Fault}
 use Rattle.ssh_key.specs.model.Texts.{string}
 use Rattle.ssh_key.specs.types.Error.{Error}
 use Rattle.ssh_key.specs.types.Error.TheVariants.{Encrypted}
 use Rattle.ssh_key.specs.types.private.KeypairData.{KeypairData}
-use Rattle.agent_codec.specs.Parts.{both_spelled}
 use Rattle.agent_codec.specs.declared.addition.Addition as code_addition
 use Rattle.agent_codec.specs.declared.identity.Identity as code_identity
 use Rattle.agent_codec.specs.declared.sign_request.SignRequest as code_sign_request
@@ -89,26 +86,3 @@ addition_format = tested addition_of_parts (keypair_format then string_format)
 -- The pair is one that its format has.
 abbrev pub IsWellFormedAddition : code_addition.Addition → Type 0
 IsWellFormedAddition a = IsWellFormedPair (pair_of a.keypair)
-
--- ---- what is proved of them
-
-pub identity_normal : (i : Identity) → Fits (identity i) → identity_format.Spells i (flat (identity i))
-identity_normal i fits = record {
-  inner = (i.key, i.comment);
-  spelled = both_spelled string_format (λ b. refl) SpellsString i.key i.comment (string i.key) (string i.comment) (normal_is_spelling i.key tt) (normal_is_spelling i.comment tt) fits;
-  makes = refl;
-}
-
-pub sign_request_normal : (r : SignRequest) → Fits (sign_request r) → sign_request_format.Spells r (flat (sign_request r))
-sign_request_normal r fits = record {
-  inner = (r.key, (r.message, r.flags));
-  spelled = both_spelled string_format (λ b. refl) (string_format then number32_format).Spells r.key (r.message, r.flags) (string r.key) (string r.message & number w32 r.flags) (normal_is_spelling r.key tt) (both_spelled string_format (λ b. refl) SpellsNumber32 r.message r.flags (string r.message) (number w32 r.flags) (normal_is_spelling r.message tt) (normal_is_spelling r.flags tt)) fits;
-  makes = refl;
-}
-
-pub addition_normal : (a : code_addition.Addition) → IsWellFormedAddition a → Fits (addition a) → addition_format.Spells (addition_of a) (flat (addition a))
-addition_normal a is fits = record {
-  inner = (pair_of a.keypair, a.comment);
-  spelled = both_spelled keypair_format (λ b. refl) SpellsString (pair_of a.keypair) a.comment (keypair_parts a.keypair) (string a.comment) (keypair_normal a.keypair is) (normal_is_spelling a.comment tt) fits;
-  makes = refl;
-}

@@ -1,19 +1,16 @@
 -- Requests to an agent (draft-miller-ssh-agent, section 4), their numbers (section 5.1), and how
 -- they stand in a frame.
-use Rattle.std.proofs.Common.{ℕ, List, Result, Ok, Err, refl}
-use Rattle.std.specs.Prelude.{◌==◌, if◌then◌else◌, map}
+use Rattle.std.specs.Prelude.{ℕ, List, Result, Ok, Err, ◌==◌, if◌then◌else◌, map}
 use Rattle.std.specs.Int.{w8}
 use Rattle.std.specs.List.{AllByRecursion}
 use Rattle.ssh_key.specs.base.Formats.{Format, string_format}
-use Rattle.ssh_key.proofs.Grammars.{all_end}
-use Rattle.ssh_key.specs.format.Terms.{◌then◌, IsMapped, tested}
-use Rattle.ssh_key.specs.model.Grammar.{IsGrammar, normal_is_spelling}
-use Rattle.ssh_key.specs.model.Parts.{Parts, box, each, flat, Fits, number, ◌&◌}
-use Rattle.ssh_key.specs.model.Reading.{Fault, FormatEncoding, both_at}
+use Rattle.ssh_key.specs.format.Terms.{◌then◌, tested}
+use Rattle.ssh_key.specs.model.Parts.{Parts, each, number, ◌&◌}
+use Rattle.ssh_key.specs.model.Reading.{Fault, FormatEncoding}
 use Rattle.ssh_key.specs.model.Texts.{string}
-use Rattle.agent_codec.specs.Constraints.{Constraint, IsWellFormedConstraint, constraint, constraint_of, constraints, constraints_normal}
-use Rattle.agent_codec.specs.Parts.{after_number, both_spelled, frame_spelled, framed, message, nothing_format, number_alone}
-use Rattle.agent_codec.specs.Records.{Addition, IsWellFormedAddition, SignRequest, addition, addition_format, addition_normal, addition_of, sign_request, sign_request_format, sign_request_normal, sign_request_of}
+use Rattle.agent_codec.specs.Constraints.{Constraint, IsWellFormedConstraint, constraint, constraint_of, constraints}
+use Rattle.agent_codec.specs.Parts.{framed, nothing_format}
+use Rattle.agent_codec.specs.Records.{Addition, IsWellFormedAddition, SignRequest, addition, addition_format, addition_of, sign_request, sign_request_format, sign_request_of}
 use Rattle.agent_codec.specs.declared.addition.Addition as code_addition
 use Rattle.agent_codec.specs.declared.constraint.Constraint as code_constraint
 use Rattle.agent_codec.specs.declared.request.Request as code
@@ -99,17 +96,6 @@ body kinds.AddIdentityConstrained = constrained_body
 abbrev pub request_format : Format Request
 request_format = framed kind_from body
 
--- ---- what is proved of it
-
-pub request_grammar : IsGrammar request_format.Spells request_format.read
-request_grammar = all_end request_format.grammar (λ b. refl)
-
-pub constrained_read : IsMapped constrained_body.read (λ a. Ok (AddConstrained a.0 a.1)) (both_at addition_format.read constraints.read)
-constrained_read = record { same = λ b. refl }
-
-pub constrained_ends : IsMapped constrained_body.grammar.delimited_at (λ a. Ok (AddConstrained a.0 a.1)) (both_at addition_format.grammar.delimited_at constraints.grammar.delimited_at)
-constrained_ends = record { same = λ b. refl }
-
 -- What is added is a pair of its format, and the names of constraints are UTF-8.
 abbrev pub IsWellFormed : code.Request → Type 0
 IsWellFormed variants.RequestIdentities = Unit {0}
@@ -120,26 +106,3 @@ IsWellFormed variants.RemoveAllIdentities = Unit {0}
 IsWellFormed (variants.Lock passphrase) = Unit {0}
 IsWellFormed (variants.Unlock passphrase) = Unit {0}
 IsWellFormed (variants.AddIdentityConstrained a cs) = IsWellFormedAddition a × AllByRecursion IsWellFormedConstraint cs.items
-
-string_spelled : (make : List ℕ → Request) (bytes : List ℕ) → Fits (string bytes) → (string_body make).Spells (make bytes) (flat (string bytes))
-string_spelled make bytes fits = record { inner = bytes; spelled = normal_is_spelling bytes tt fits; makes = refl }
-
-abbrev SpellsBody : RequestKind → Request → List ℕ → Type 0
-SpellsBody k = (body k).Spells
-
-message_normal : (r : code.Request) → IsWellFormed r → Fits (request r) → (message kind_from body).Spells (request_of r) (flat (request r))
-message_normal variants.RequestIdentities is fits = number_alone kind_from SpellsBody 11 kinds.RequestIdentities Identities refl (refl, refl) fits
-message_normal (variants.SignRequest r) is fits = after_number kind_from SpellsBody 13 kinds.SignRequest (Sign (sign_request_of r)) (sign_request (sign_request_of r)) refl (λ f. record { inner = sign_request_of r; spelled = sign_request_normal (sign_request_of r) f; makes = refl }) fits
-message_normal (variants.AddIdentity a) is fits = after_number kind_from SpellsBody 17 kinds.AddIdentity (Add (addition_of a)) (addition a) refl (λ f. record { inner = addition_of a; spelled = addition_normal a is f; makes = refl }) fits
-message_normal (variants.RemoveIdentity key) is fits = after_number kind_from SpellsBody 18 kinds.RemoveIdentity (Remove key) (string key) refl (string_spelled Remove key) fits
-message_normal variants.RemoveAllIdentities is fits = number_alone kind_from SpellsBody 19 kinds.RemoveAllIdentities RemoveAll refl (refl, refl) fits
-message_normal (variants.Lock passphrase) is fits = after_number kind_from SpellsBody 22 kinds.Lock (Lock passphrase) (string passphrase) refl (string_spelled Lock passphrase) fits
-message_normal (variants.Unlock passphrase) is fits = after_number kind_from SpellsBody 23 kinds.Unlock (Unlock passphrase) (string passphrase) refl (string_spelled Unlock passphrase) fits
-message_normal (variants.AddIdentityConstrained a cs) is fits = after_number kind_from SpellsBody 25 kinds.AddIdentityConstrained (AddConstrained (addition_of a) (map constraint_of cs.items)) (addition a & each constraint cs.items) refl (λ f. record {
-  inner = (addition_of a, map constraint_of cs.items);
-  spelled = both_spelled addition_format (λ b. refl) constraints.Spells (addition_of a) (map constraint_of cs.items) (addition a) (each constraint cs.items) (addition_normal a is.0) (constraints_normal cs.items is.1) f;
-  makes = refl;
-}) fits
-
-pub request_normal : (r : code.Request) → IsWellFormed r → Fits (box (request r)) → request_format.Spells (request_of r) (flat (box (request r)))
-request_normal r is fits = frame_spelled (message kind_from body).Spells (request_of r) (request r) (message_normal r is) fits

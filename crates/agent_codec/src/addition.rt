@@ -57,7 +57,7 @@ impl Addition {
 /// after the certificate's name, as of an ECDSA key, it is read as a pair under that name, so an
 /// agent answers `Response::Failure` where `Algorithm::from_fixed_certificate_name` knows the name.
 /// Where there are more, bytes are left over, and reading the request fails.
-#[tactic(auto, using(ssh_key::proofs::Mapped::mapped, crate::specs::Parts::checked_read))]
+#[tactic(auto, using(crate::proofs::Lawful::addition_lawful, ssh_key::proofs::Mapped::mapped, ssh_key::proofs::Lawful::checked_read))]
 impl Decode for Addition {
     ghost use Rattle.agent_codec.specs.Records as model;
     ghost use Rattle.agent_codec.specs.Records.{addition_format, addition_of};
@@ -69,6 +69,8 @@ impl Decode for Addition {
     ghost means = { addition_of };
 
     ghost format = { addition_format };
+
+    fn lawful() {}
 
     fn decode<R: Reader>(alloc: Global, reader: &mut R) -> Result<Addition> {
         let Then(keypair, Wide(comment)) = Then::<KeypairData, Wide<Bytes>>::decode(alloc, reader)?;
@@ -93,10 +95,11 @@ impl Encode for Addition {
 }
 
 /// The pair is one that its format has.
+#[tactic(auto, using(crate::proofs::Records::addition_normal))]
 impl NormalForm for Addition {
-    ghost use Rattle.agent_codec.specs.Records.{IsWellFormedAddition, addition_normal};
+    ghost use Rattle.agent_codec.specs.Records.{IsWellFormedAddition};
 
     ghost IsWellFormed = { IsWellFormedAddition };
 
-    ghost normal_spells = { addition_normal };
+    fn normal_spells() {}
 }

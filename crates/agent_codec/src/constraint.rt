@@ -7,7 +7,7 @@ ghost use Rattle.ssh_key.specs.base.Needs.{Asks};
 ghost use Rattle.ssh_key.specs.base.Reading.{Gives};
 ghost use Rattle.ssh_key.specs.base.Source.{Later};
 ghost use Rattle.agent_codec.specs.Constraints as model;
-ghost use Rattle.agent_codec.specs.Constraints.{IsWellFormedConstraint, body_format, constraint, constraint_format, constraint_normal, constraint_of};
+ghost use Rattle.agent_codec.specs.Constraints.{IsWellFormedConstraint, body_format, constraint, constraint_format, constraint_of};
 
 mod kind;
 
@@ -45,7 +45,7 @@ pub enum Constraint {
 ///
 /// Fails with `FormatEncoding` for the number of no constraint, with `CharacterEncoding` for a name
 /// that is not UTF-8, and with `Length` where a stated length passes what is left.
-#[tactic(auto, using(ssh_key::proofs::Chosen::chosen, crate::specs::Constraints::constraint_chosen))]
+#[tactic(auto, using(crate::proofs::Lawful::constraint_lawful, ssh_key::proofs::Chosen::chosen, crate::proofs::Constraints::constraint_chosen))]
 impl Decode for Constraint {
     type Error = Error;
 
@@ -54,6 +54,8 @@ impl Decode for Constraint {
     ghost means = { constraint_of };
 
     ghost format = { constraint_format };
+
+    fn lawful() {}
 
     fn decode<R: Reader>(alloc: Global, reader: &mut R) -> Result<Constraint> {
         let kind = decode_kind::<ConstraintKind, R>(alloc, reader)?;
@@ -114,8 +116,9 @@ impl Encode for Constraint {
 }
 
 /// The name of an extension is UTF-8.
+#[tactic(auto, using(crate::proofs::Constraints::constraint_normal))]
 impl NormalForm for Constraint {
     ghost IsWellFormed = { IsWellFormedConstraint };
 
-    ghost normal_spells = { constraint_normal };
+    fn normal_spells() {}
 }

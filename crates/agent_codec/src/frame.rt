@@ -2,7 +2,7 @@
 
 ghost use Rattle.std.specs.Prelude.{◌+◌, ◌<◌, ◌≤◌, ◌^◌, IfOk};
 ghost use Rattle.ssh_key.specs.base.Causes.{cause};
-ghost use Rattle.ssh_key.specs.base.Formats.{Format, Stops};
+ghost use Rattle.ssh_key.specs.base.Formats.{Format, IsFormat, Stops};
 ghost use Rattle.ssh_key.specs.base.Needs.{Asks};
 ghost use Rattle.ssh_key.specs.base.Reading.{Gives};
 ghost use Rattle.ssh_key.specs.base.Sink.{Encodes, Measures, MeasuresBoxed};
@@ -33,6 +33,10 @@ pub(crate) trait Framed: Sized {
 
     /// The contents of the frame, as they are written.
     ghost message: { Self → Parts };
+
+    /// What follows a number is lawful: its plain reader accepts exactly its spellings. Does nothing.
+    fn lawful_bodies()
+        ensures { (kind : Self.Kind) → IsFormat (body kind) };
 
     /// Reads what follows a number of that kind, up to the end of the reader.
     fn body_from<R: Reader>(alloc: Global, reader: &mut R, kind: Self::Kind) -> Result<Self>

@@ -2,7 +2,7 @@
 
 ghost use Rattle.std.specs.Prelude.{◌+◌, ◌*◌, ◌^◌};
 ghost use Rattle.agent_codec.specs.Records as model;
-ghost use Rattle.agent_codec.specs.Records.{identity, identity_format, identity_normal, identity_of};
+ghost use Rattle.agent_codec.specs.Records.{identity, identity_format, identity_of};
 
 use ssh_key::encoding::{
     Bytes, Decode, Encode, Error, NormalForm, Reader, Result, Then, Writer, both_len, encode_both,
@@ -20,7 +20,7 @@ pub struct Identity {
 }
 
 /// Two strings.
-#[tactic(auto, using(ssh_key::proofs::Mapped::mapped, crate::specs::Parts::checked_read))]
+#[tactic(auto, using(crate::proofs::Lawful::identity_lawful, ssh_key::proofs::Mapped::mapped, ssh_key::proofs::Lawful::checked_read))]
 impl Decode for Identity {
     type Error = Error;
 
@@ -29,6 +29,8 @@ impl Decode for Identity {
     ghost means = { identity_of };
 
     ghost format = { identity_format };
+
+    fn lawful() {}
 
     fn decode<R: Reader>(alloc: Global, reader: &mut R) -> Result<Identity> {
         let Then(key, comment) = Then::<Bytes, Bytes>::decode(alloc, reader)?;
@@ -50,8 +52,9 @@ impl Encode for Identity {
     }
 }
 
+#[tactic(auto, using(crate::proofs::Records::identity_normal))]
 impl NormalForm for Identity {
     ghost IsWellFormed = { λ _. Unit {0} };
 
-    ghost normal_spells = { λ i _. identity_normal (identity_of i) };
+    fn normal_spells() {}
 }

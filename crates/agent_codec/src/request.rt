@@ -3,7 +3,7 @@
 ghost use Rattle.std.specs.Prelude.{◌+◌, ◌^◌};
 ghost use Rattle.ssh_key.specs.model.Parts.{box};
 ghost use Rattle.agent_codec.specs.Requests as model;
-ghost use Rattle.agent_codec.specs.Requests.{IsWellFormed, body, request, request_format, request_normal, request_of};
+ghost use Rattle.agent_codec.specs.Requests.{IsWellFormed, body, request, request_format, request_of};
 
 mod constrained;
 mod kind;
@@ -80,6 +80,7 @@ impl Drop for Request {
 /// before it, with `TrailingData` where bytes of the frame are left over, with `FormatEncoding` for
 /// the number of no request, and with the errors of what it holds. Such a length allocates nothing.
 /// Constraints go up to the end of the frame, so bytes after them are read as one more.
+#[tactic(auto, using(crate::proofs::Lawful::request_lawful))]
 impl Decode for Request {
     type Error = Error;
 
@@ -88,6 +89,8 @@ impl Decode for Request {
     ghost means = { request_of };
 
     ghost format = { request_format };
+
+    fn lawful() {}
 
     fn decode<R: Reader>(alloc: Global, reader: &mut R) -> Result<Request> {
         decode_frame(alloc, reader)
@@ -110,10 +113,11 @@ impl Encode for Request {
 }
 
 /// What is added is no encrypted pair, and names are UTF-8.
+#[tactic(auto, using(crate::proofs::Requests::request_normal))]
 impl NormalForm for Request {
     ghost IsWellFormed = { IsWellFormed };
 
-    ghost normal_spells = { request_normal };
+    fn normal_spells() {}
 }
 
 impl Framed for Request {
@@ -126,6 +130,8 @@ impl Framed for Request {
     ghost body = { body };
 
     ghost message = { request };
+
+    fn lawful_bodies() {}
 
     fn body_from<R: Reader>(alloc: Global, reader: &mut R, kind: RequestKind) -> Result<Request> {
         match kind {

@@ -4,7 +4,7 @@ ghost use Rattle.std.specs.Prelude.{◌≡◌, ◌+◌, ◌^◌};
 ghost use Rattle.ssh_key.specs.base.Sink.{Encodes, MeasuresBoxed};
 ghost use Rattle.ssh_key.specs.model.Parts.{box};
 ghost use Rattle.agent_codec.specs.Responses as model;
-ghost use Rattle.agent_codec.specs.Responses.{IsWellFormed, answered, body, given, given_of, response, response_format, response_normal, response_of};
+ghost use Rattle.agent_codec.specs.Responses.{IsWellFormed, answered, body, given, given_of, response, response_format, response_of};
 
 mod extension;
 mod kind;
@@ -68,6 +68,7 @@ impl Drop for Response {
 ///
 /// The draft leaves it to each extension what follows its name in an answer. Here strings do, up to
 /// the end of the frame, as in OpenSSH's answer to `query`. Any other contents can't be read.
+#[tactic(auto, using(crate::proofs::Lawful::response_lawful))]
 impl Decode for Response {
     type Error = Error;
 
@@ -76,6 +77,8 @@ impl Decode for Response {
     ghost means = { response_of };
 
     ghost format = { response_format };
+
+    fn lawful() {}
 
     fn decode<R: Reader>(alloc: Global, reader: &mut R) -> Result<Response> {
         decode_frame(alloc, reader)
@@ -98,10 +101,11 @@ impl Encode for Response {
 }
 
 /// The signature has the form that its algorithm asks for.
+#[tactic(auto, using(crate::proofs::Responses::response_normal))]
 impl NormalForm for Response {
     ghost IsWellFormed = { IsWellFormed };
 
-    ghost normal_spells = { response_normal };
+    fn normal_spells() {}
 }
 
 impl Response {
@@ -133,6 +137,8 @@ impl Framed for Response {
     ghost body = { body };
 
     ghost message = { response };
+
+    fn lawful_bodies() {}
 
     fn body_from<R: Reader>(alloc: Global, reader: &mut R, kind: ResponseKind) -> Result<Response> {
         match kind {

@@ -2,7 +2,7 @@
 
 ghost use Rattle.std.specs.Prelude.{◌+◌, ◌*◌, ◌^◌};
 ghost use Rattle.agent_codec.specs.Records as model;
-ghost use Rattle.agent_codec.specs.Records.{sign_request, sign_request_format, sign_request_normal, sign_request_of};
+ghost use Rattle.agent_codec.specs.Records.{sign_request, sign_request_format, sign_request_of};
 
 use ssh_key::encoding::{
     Bytes, Decode, Encode, NormalForm, Reader, Then, Wide, Writer, both_len, encode_both,
@@ -22,7 +22,7 @@ pub struct SignRequest {
 }
 
 /// Two strings and a number.
-#[tactic(auto, using(ssh_key::proofs::Mapped::mapped, crate::specs::Parts::checked_read))]
+#[tactic(auto, using(crate::proofs::Lawful::sign_request_lawful, ssh_key::proofs::Mapped::mapped, ssh_key::proofs::Lawful::checked_read))]
 impl Decode for SignRequest {
     type Error = Error;
 
@@ -31,6 +31,8 @@ impl Decode for SignRequest {
     ghost means = { sign_request_of };
 
     ghost format = { sign_request_format };
+
+    fn lawful() {}
 
     fn decode<R: Reader>(alloc: Global, reader: &mut R) -> Result<SignRequest> {
         let Wide(Then(key, Then(message, flags))) = Wide::<Then<Bytes, Then<Bytes, u32>>>::decode(
@@ -60,8 +62,9 @@ impl Encode for SignRequest {
     }
 }
 
+#[tactic(auto, using(crate::proofs::Records::sign_request_normal))]
 impl NormalForm for SignRequest {
     ghost IsWellFormed = { λ _. Unit {0} };
 
-    ghost normal_spells = { λ r _. sign_request_normal (sign_request_of r) };
+    fn normal_spells() {}
 }

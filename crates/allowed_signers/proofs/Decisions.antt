@@ -22,7 +22,7 @@ use Rattle.sshkey_base.specs.declared.error.Error.TheVariants.{Encoding, Memory}
 use Rattle.sshkey_base.specs.declared.encoding.Error.TheVariants.{Length}
 use Rattle.sshkey_base.proofs.Acceptance.{other_cause}
 use Rattle.allowed_signers.specs.AllowedSigners.{AllowsSigner, AnswersYesOrNo, HasEntryFor, HasSignature, HasSigned, IsEntryFor, IsNo, IsRefusalFor, OkExactly, OptionsPermit, ReadsSignature}
-use Rattle.allowed_signers.specs.OneValue.{IsTheOne}
+use Rattle.sshkey_entries.specs.Readings.{IsTheOne}
 use Rattle.allowed_signers.specs.Principals.{ArePrincipals}
 use Rattle.allowed_signers.specs.SignerOptions.{AreTerms, Permits, Terms, terms_of}
 use Rattle.allowed_signers.specs.declared.options.SignerOptions.{SignerOptions}

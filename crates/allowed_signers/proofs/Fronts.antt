@@ -9,7 +9,7 @@ use Rattle.sshkey_entries.specs.Cuts.{CutsField}
 use Rattle.sshkey_model.specs.Lines.{IsWithout}
 use Rattle.sshkey_public.specs.OneLine.{carriage_return}
 use Rattle.sshkey_entries.proofs.Fields.{same_field}
-use Rattle.allowed_signers.specs.OneValue.{IsTheOne}
+use Rattle.sshkey_entries.specs.Readings.{IsTheOne}
 use Rattle.allowed_signers.specs.Principals.{ArePrincipals, CutsFirst, IsFront, IsPlainFront, IsUnquoted, parts_of}
 use denote.Ref.{Bor}
 

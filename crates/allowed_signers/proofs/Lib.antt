@@ -1,5 +1,3 @@
 mod Decisions
 mod Fronts
-mod ReadOptions
 mod SomeLine
-mod Words

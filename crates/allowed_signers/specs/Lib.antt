@@ -1,4 +1,3 @@
-pub mod OneValue
 pub mod SignerOptions
 pub mod Principals
 pub mod AllowedSigners

@@ -1,8 +1,9 @@
 -- What the options of a line of allowed signers say (ssh-keygen(1), ALLOWED SIGNERS).
 use Rattle.std.specs.Prelude.{◌≡◌, ◌≢◌, ◌<◌, ◌≤◌, ◌-◌, ℕ, List, [], ◌∷◌, Bool, true, false, Option, Some, None, IfSome, codes, length, slice_index, option_map, string_bytes}
 use Rattle.sshkey_entries.specs.KnownHosts.{comma}
-use Rattle.sshkey_entries.specs.OptionItems.{KeyOption, AreKeyOptions, IsSameName}
+use Rattle.sshkey_entries.specs.OptionItems.{Says}
 use Rattle.sshkey_entries.specs.Patterns.{MatchesList}
+use Rattle.sshkey_entries.specs.Words.{Names}
 use Rattle.sshkey_times.specs.Times.{IsTimeText}
 use Rattle.allowed_signers.specs.declared.options.SignerOptions.{SignerOptions}
 use Rattle.sshkey_times.specs.declared.times.Span.{Span}
@@ -22,11 +23,8 @@ no_terms = record { namespaces = None; valid_after = None; valid_before = None; 
 
 -- ---- one option
 
-abbrev pub word_text : Word → List ℕ
-word_text CertAuthority = codes "cert-authority"
-word_text Namespaces = codes "namespaces"
-word_text ValidAfter = codes "valid-after"
-word_text ValidBefore = codes "valid-before"
+abbrev pub words : List (List ℕ × Word)
+words = (codes "cert-authority", CertAuthority) ∷ (codes "namespaces", Namespaces) ∷ (codes "valid-after", ValidAfter) ∷ (codes "valid-before", ValidBefore) ∷ []
 
 -- The value is a time.
 abbrev pub IsTimeValue : Option (List ℕ) → Span → Type 0
@@ -41,24 +39,18 @@ AddsValue Namespaces value s t = (list : List ℕ) × (value ≡ Some list) × (
 AddsValue ValidAfter value s t = (n : Span) × IsTimeValue value n × (s.valid_after ≡ None) × (t ≡ record s { valid_after = Some n.last })
 AddsValue ValidBefore value s t = (n : Span) × IsTimeValue value n × (s.valid_before ≡ None) × (t ≡ record s { valid_before = Some n.first })
 
-abbrev pub AddsOption : KeyOption → Terms → Terms → Type 0
-AddsOption o s t = (word : Word) × IsSameName o.name (word_text word) × AddsValue word o.value s t
+-- What an option of that name does, letters in either case.
+abbrev pub AddsOption : List ℕ → Option (List ℕ) → Terms → Terms → Type 0
+AddsOption name value s t = (word : Word) × Names words name word × AddsValue word value s t
 
 -- ---- all options
-
--- One option after the other.
-abbrev pub AddOptions : List KeyOption → Terms → Terms → Type 0
-AddOptions [] s t = t ≡ s
-AddOptions (o ∷ more) s t = (between : Terms) × AddsOption o s between × AddOptions more between t
 
 abbrev pub AreTimesInOrder : Terms → Type 0
 AreTimesInOrder t = IfSome t.valid_after (λ first. IfSome t.valid_before (λ last. first < last))
 
 -- The text is options that say this. No comma ends it, and the first second stands before the last.
 pub record AreTerms (text : List ℕ) (t : Terms) : Type 0 where
-  pub options : List KeyOption
-  pub are : AreKeyOptions text options
-  pub say : AddOptions options no_terms t
+  pub say : Says AddsOption no_terms text t
   pub no_comma : slice_index text (length text - 1) ≢ comma
   pub in_order : AreTimesInOrder t
 

@@ -1,6 +1,6 @@
 //! The front of a line.
 
-ghost use Rattle.allowed_signers.specs.OneValue.{IsTheOne};
+ghost use Rattle.sshkey_entries.specs.Readings.{IsTheOne};
 ghost use Rattle.allowed_signers.specs.Principals.{ArePrincipals, IsFront, IsPlainFront, parts_of};
 
 use sshkey_entries::split_field;

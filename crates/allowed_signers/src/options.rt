@@ -1,17 +1,15 @@
 //! What the options of a line say.
 
-ghost use Rattle.std.specs.Prelude.{◌≡◌, ◌↔◌, ◌≤◌, IfSome, IsTrue, option_map, string_bytes};
-ghost use Rattle.sshkey_authorized_keys.specs.OpenSshItems.{key_option_of};
-ghost use Rattle.sshkey_entries.specs.OptionItems.{IsSameName};
+ghost use Rattle.std.specs.Prelude.{◌≡◌, ◌↔◌, ◌≤◌, IfOk, IfSome, IsTrue, option_map, string_bytes};
 ghost use Rattle.sshkey_entries.specs.Patterns.{MatchesList};
-ghost use Rattle.allowed_signers.specs.OneValue.{IsTheOne, ReadsTheOne};
-ghost use Rattle.allowed_signers.specs.SignerOptions.{AddsOption, AddsValue, AreTerms, AreTimesInOrder, IsTimeValue, Permits, no_terms, terms_of, word_text};
+ghost use Rattle.sshkey_entries.specs.Readings.{IsTheOne, Tells};
+ghost use Rattle.sshkey_entries.specs.Words.{FindsWord};
+ghost use Rattle.allowed_signers.specs.SignerOptions.{AddsOption, AddsValue, AreTerms, AreTimesInOrder, IsTimeValue, Permits, Terms, no_terms, terms_of, words};
 
-use sshkey_authorized_keys::{OpenSshOption, OpenSshOptions};
-use sshkey_base::Result;
-use sshkey_entries::{LetterCase, matches_pattern_list};
+use sshkey_authorized_keys::{OpenSshOptions, read_options};
+use sshkey_entries::{AddOptions, LetterCase, Reading, find_word, matches_pattern_list};
 use sshkey_times::{Span, read_time};
-use std::alloc::Global;
+use std::alloc::{AllocError, Global};
 
 /// The name of an option.
 #[derive(Clone, Copy)]
@@ -22,24 +20,19 @@ enum Word {
     ValidBefore,
 }
 
-/// Which option it is, letters in either case.
-fn word_of(option: &OpenSshOption) -> Option<Word>
-    ensures { IsTheOne (λ w. w)
-        (λ w. IsSameName (key_option_of option.now).name (word_text w)) result }
+/// The options, and what names them.
+const WORDS: [(&str, Word); 4] = [
+    ("cert-authority", Word::CertAuthority),
+    ("namespaces", Word::Namespaces),
+    ("valid-after", Word::ValidAfter),
+    ("valid-before", Word::ValidBefore),
+];
+
+/// Which option has the name, letters in either case.
+fn word_of(name: &str) -> Option<Word>
+    ensures { FindsWord words name.now result }
 {
-    if option.is_named("cert-authority") {
-        return Some(Word::CertAuthority);
-    }
-    if option.is_named("namespaces") {
-        return Some(Word::Namespaces);
-    }
-    if option.is_named("valid-after") {
-        return Some(Word::ValidAfter);
-    }
-    if option.is_named("valid-before") {
-        return Some(Word::ValidBefore);
-    }
-    None
+    find_word(&WORDS, name)
 }
 
 /// The seconds that a value may mean.
@@ -76,6 +69,28 @@ impl Drop for SignerOptions {
     }
 }
 
+impl AddOptions for SignerOptions {
+    ghost Meaning = { Terms };
+
+    ghost means = { terms_of };
+
+    ghost Adds = { AddsOption };
+
+    ghost MayBe = { λ _ _. ⊥ };
+
+    fn with(
+        self,
+        _alloc: Global,
+        name: &str,
+        value: Option<String>,
+    ) -> Result<Reading<SignerOptions>, AllocError> {
+        match word_of(name) {
+            Some(word) => Ok(self.with_value(word, value)),
+            None => Ok(Reading::Rejected),
+        }
+    }
+}
+
 impl SignerOptions {
     /// Nothing is said.
     fn none() -> SignerOptions
@@ -89,45 +104,32 @@ impl SignerOptions {
         }
     }
 
-    /// What the options say, or `None` where they are invalid. Fails only when out of memory.
-    pub(crate) fn read(alloc: Global, options: &OpenSshOptions) -> Result<Option<SignerOptions>>
-        ensures { ReadsTheOne terms_of (AreTerms options.now) result }
+    /// What the options say, or `None` where they are invalid.
+    pub(crate) fn read(
+        alloc: Global,
+        options: &OpenSshOptions,
+    ) -> Result<Option<SignerOptions>, AllocError>
+        ensures { IfOk result (IsTheOne terms_of (AreTerms options.now)) }
     {
-        let mut said = SignerOptions::none();
-        for option in options.iter() {
-            let Ok(option) = option else {
-                return Ok(None);
-            };
-            let added = said.with(alloc, &option)?;
-            let Some(more) = added else {
-                return Ok(None);
-            };
-            said = more;
-        }
-        if options.as_str().ends_with(',') {
+        let text = options.as_str();
+        if text.ends_with(',') {
             return Ok(None);
         }
-        if !said.are_in_order() {
-            return Ok(None);
+        match read_options(alloc, SignerOptions::none(), text)? {
+            Reading::Is(said) => {
+                if !said.are_in_order() {
+                    return Ok(None);
+                }
+                Ok(Some(said))
+            }
+            Reading::Rejected => Ok(None),
+            Reading::Unclear => Ok(None),
         }
-        Ok(Some(said))
     }
 
-    /// What is said with one more option, or `None` where it adds nothing.
-    fn with(self, alloc: Global, option: &OpenSshOption) -> Result<Option<SignerOptions>>
-        ensures { ReadsTheOne terms_of
-            (AddsOption (key_option_of option.now) (terms_of self)) result }
-    {
-        let Some(word) = word_of(option) else {
-            return Ok(None);
-        };
-        let value = option.value(alloc)?;
-        Ok(self.with_value(word, value))
-    }
-
-    fn with_value(self, word: Word, value: Option<String>) -> Option<SignerOptions>
-        ensures { IsTheOne terms_of
-            (AddsValue word (option_map string_bytes value) (terms_of self)) result }
+    fn with_value(self, word: Word, value: Option<String>) -> Reading<SignerOptions>
+        ensures { Tells terms_of
+            (AddsValue word (option_map string_bytes value) (terms_of self)) ⊥ result }
     {
         match word {
             Word::CertAuthority => self.with_authority(value),
@@ -137,54 +139,54 @@ impl SignerOptions {
         }
     }
 
-    fn with_authority(mut self, value: Option<String>) -> Option<SignerOptions>
-        ensures { IsTheOne terms_of
-            (AddsValue Word.CertAuthority (option_map string_bytes value) (terms_of self)) result }
+    fn with_authority(mut self, value: Option<String>) -> Reading<SignerOptions>
+        ensures { Tells terms_of (AddsValue Word.CertAuthority (option_map string_bytes value)
+            (terms_of self)) ⊥ result }
     {
         if value.is_some() {
-            return None;
+            return Reading::Rejected;
         }
         self.is_authority = true;
-        Some(self)
+        Reading::Is(self)
     }
 
-    fn with_namespaces(mut self, value: Option<String>) -> Option<SignerOptions>
-        ensures { IsTheOne terms_of
-            (AddsValue Word.Namespaces (option_map string_bytes value) (terms_of self)) result }
+    fn with_namespaces(mut self, value: Option<String>) -> Reading<SignerOptions>
+        ensures { Tells terms_of
+            (AddsValue Word.Namespaces (option_map string_bytes value) (terms_of self)) ⊥ result }
     {
         if self.namespaces.is_some() || value.is_none() {
-            return None;
+            return Reading::Rejected;
         }
         self.namespaces = value;
-        Some(self)
+        Reading::Is(self)
     }
 
-    fn with_start(mut self, value: Option<String>) -> Option<SignerOptions>
-        ensures { IsTheOne terms_of
-            (AddsValue Word.ValidAfter (option_map string_bytes value) (terms_of self)) result }
+    fn with_start(mut self, value: Option<String>) -> Reading<SignerOptions>
+        ensures { Tells terms_of
+            (AddsValue Word.ValidAfter (option_map string_bytes value) (terms_of self)) ⊥ result }
     {
         let Some(time) = time_of(value) else {
-            return None;
+            return Reading::Rejected;
         };
         if self.valid_after.is_some() {
-            return None;
+            return Reading::Rejected;
         }
         self.valid_after = Some(time.last);
-        Some(self)
+        Reading::Is(self)
     }
 
-    fn with_end(mut self, value: Option<String>) -> Option<SignerOptions>
-        ensures { IsTheOne terms_of
-            (AddsValue Word.ValidBefore (option_map string_bytes value) (terms_of self)) result }
+    fn with_end(mut self, value: Option<String>) -> Reading<SignerOptions>
+        ensures { Tells terms_of
+            (AddsValue Word.ValidBefore (option_map string_bytes value) (terms_of self)) ⊥ result }
     {
         let Some(time) = time_of(value) else {
-            return None;
+            return Reading::Rejected;
         };
         if self.valid_before.is_some() {
-            return None;
+            return Reading::Rejected;
         }
         self.valid_before = Some(time.first);
-        Some(self)
+        Reading::Is(self)
     }
 
     /// Whether the first second stands before the last, where both are given.

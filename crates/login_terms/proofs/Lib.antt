@@ -1,5 +1,3 @@
 mod Added
 mod Hosts
-mod Tables
-pub mod Told
 mod Variables

@@ -1,4 +1,4 @@
-pub mod Readings
+pub use Rattle.sshkey_entries.specs.Readings
 pub mod Values
 pub mod Words
 pub mod Terms

@@ -5,7 +5,8 @@ use Rattle.std.specs.List.{Any}
 use Rattle.sshkey_times.specs.Times.{IsTimeText}
 use Rattle.sshkey_times.specs.declared.times.Span.{Span}
 use Rattle.login_terms.specs.Values.{HostAndPort, IsPermitListen, IsPermitOpen, IsTunnel, IsVariable, MayBeListen, MayBePermit, MayBeTime, MayBeTunnel, permit_of}
-use Rattle.login_terms.specs.Words.{Names, words}
+use Rattle.sshkey_entries.specs.Words.{Names}
+use Rattle.login_terms.specs.Words.{words}
 use Rattle.login_terms.specs.declared.permissions.Permissions.{Permissions}
 use Rattle.login_terms.specs.declared.terms.Terms as code
 use Rattle.login_terms.specs.declared.words.Flag.{Flag}

@@ -1,10 +1,8 @@
 -- The names of options (sshd(8), "AUTHORIZED_KEYS FILE FORMAT").
-use Rattle.std.specs.Prelude.{◌≡◌, ◌⊎◌, ℕ, List, [], ◌∷◌, Option, Some, None, codes}
-use Rattle.sshkey_entries.specs.OptionItems.{IsSameName}
+use Rattle.std.specs.Prelude.{ℕ, List, [], ◌∷◌, codes}
 use Rattle.login_terms.specs.declared.words.Flag.TheVariants as flag
 use Rattle.login_terms.specs.declared.words.Word.{Word}
 use Rattle.login_terms.specs.declared.words.Word.TheVariants as word
-use denote.Ref.{Bor}
 
 -- `no-` in front of a flag turns it off
 abbrev pub words : List (List ℕ × Word)
@@ -33,16 +31,3 @@ words = (codes "port-forwarding", word.Allow flag.PortForwarding) ∷
     (codes "permitlisten", word.PermitListen) ∷
     (codes "tunnel", word.Tunnel) ∷
     []
-
--- a row of the table that the code has
-abbrev pub row_of : Bor (List ℕ) × Word → List ℕ × Word
-row_of row = (row.0.now, row.1)
-
--- The name is the first of these that is the same, letters in either case.
-abbrev pub Names : List (List ℕ × Word) → List ℕ → Word → Type 0
-Names [] name w = ⊥
-Names (row ∷ more) name w = (IsSameName name row.0 × (w ≡ row.1)) ⊎ ((IsSameName name row.0 → ⊥) × Names more name w)
-
-abbrev pub FindsWord : List (List ℕ × Word) → List ℕ → Option Word → Type 0
-FindsWord table name None = (w : Word) → Names table name w → ⊥
-FindsWord table name (Some w) = Names table name w

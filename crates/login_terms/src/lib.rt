@@ -6,13 +6,12 @@ mod numbers;
 mod options;
 mod permissions;
 mod permits;
-mod reading;
 mod terms;
 mod values;
 mod words;
 
 pub use permissions::Permissions;
 pub use permits::Permit;
-pub use reading::Reading;
+pub use sshkey_entries::Reading;
 pub use terms::Terms;
 pub use values::ANY_TUNNEL;

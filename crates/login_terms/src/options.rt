@@ -2,17 +2,18 @@
 
 ghost use Rattle.std.specs.Prelude.{◌≡◌, ◌↔◌, false, true, IfOk, IsTrue, map, option_map, string_bytes};
 ghost use Rattle.std.specs.List.{Any};
-ghost use Rattle.login_terms.specs.Readings.{Tells};
-ghost use Rattle.login_terms.specs.Terms.{Adds, AddsAlone, AddsValue, AddsWord, MayBe, MayBeValue, MayBeWord, earlier, terms_of, with_flag};
+ghost use Rattle.sshkey_entries.specs.Readings.{Tells};
+ghost use Rattle.login_terms.specs.Terms as terms;
+ghost use Rattle.login_terms.specs.Terms.{AddsAlone, AddsValue, AddsWord, MayBeValue, MayBeWord, earlier, terms_of, with_flag};
 ghost use Rattle.login_terms.specs.Values.{IsVariable};
 ghost use Rattle.login_terms.specs.declared.words.Word.TheVariants as word;
 
 use crate::permissions::Permissions;
 use crate::permits::{read_permit_listen, read_permit_open};
-use crate::reading::Reading;
 use crate::terms::Terms;
 use crate::values::{read_expiry, read_tunnel, variable_name};
 use crate::words::{Flag, Word, word_of};
+use sshkey_entries::{AddOptions, Reading};
 use sshkey_times::Span;
 use std::alloc::{AllocError, Global};
 
@@ -21,24 +22,29 @@ const MOST_VARIABLES: usize = 1025;
 
 const MOST_PERMITS: usize = 4097;
 
-impl Terms {
-    /// What is said with one more option, of that name, and with that value or none.
-    pub fn with(
+impl AddOptions for Terms {
+    ghost Meaning = { terms.Terms };
+
+    ghost means = { terms_of };
+
+    ghost Adds = { terms.Adds };
+
+    ghost MayBe = { terms.MayBe };
+
+    fn with(
         self,
         alloc: Global,
         name: &str,
         value: Option<String>,
-    ) -> Result<Reading<Terms>, AllocError>
-        ensures { IfOk result (Tells terms_of
-            (Adds name.now (option_map string_bytes value) (terms_of self))
-            (MayBe name.now (option_map string_bytes value))) }
-    {
+    ) -> Result<Reading<Terms>, AllocError> {
         match word_of(name) {
             Some(word) => self.with_word(alloc, word, value),
             None => Ok(Reading::Rejected),
         }
     }
+}
 
+impl Terms {
     fn with_word(
         self,
         alloc: Global,

@@ -1,11 +1,11 @@
 //! Where ports may be forwarded to, and where may be listened.
 
 ghost use Rattle.std.specs.Prelude.{◌+◌, ◌<◌, length, IfOk};
-ghost use Rattle.login_terms.specs.Readings.{IsTheOne, Tells};
+ghost use Rattle.sshkey_entries.specs.Readings.{IsTheOne, Tells};
 ghost use Rattle.login_terms.specs.Values.{IsHostAndPort, IsInBrackets, IsPermitListen, IsPermitOpen, IsPlainHost, IsPort, MayBeListen, MayBePermit, MayBePort, SplitsHost, parts_of, permit_of};
 
 use crate::numbers::read_number;
-use crate::reading::Reading;
+use sshkey_entries::Reading;
 use std::alloc::{AllocError, Global};
 
 /// The least number of bytes that is too long for a host's name (NI_MAXHOST of getnameinfo(3)).

@@ -2,12 +2,12 @@
 
 ghost use Rattle.std.specs.Prelude.{◌≡◌, ◌↔◌, IsTrue};
 ghost use Rattle.std.specs.List.{list_all};
-ghost use Rattle.login_terms.specs.Readings.{IsTheOne, Tells};
+ghost use Rattle.sshkey_entries.specs.Readings.{IsTheOne, Tells};
 ghost use Rattle.login_terms.specs.Values.{IsTunnel, IsVariable, IsVariableName, MayBeTime, MayBeTunnel, is_variable_character};
 ghost use Rattle.sshkey_times.specs.Times.{IsTimeText};
 
 use crate::numbers::read_number;
-use crate::reading::Reading;
+use sshkey_entries::Reading;
 use sshkey_times::{Span, read_time};
 
 /// The number that stands for any device (SSH_TUNID_ANY).

@@ -1,8 +1,9 @@
 //! The names of options.
 
-ghost use Rattle.std.specs.Prelude.{◌↔◌, IsTrue, map};
-ghost use Rattle.sshkey_entries.specs.OptionItems.{IsSameName};
-ghost use Rattle.login_terms.specs.Words.{FindsWord, row_of, words};
+ghost use Rattle.sshkey_entries.specs.Words.{FindsWord};
+ghost use Rattle.login_terms.specs.Words.{words};
+
+use sshkey_entries::find_word;
 
 /// An option that is a flag.
 #[derive(Clone, Copy)]
@@ -61,27 +62,9 @@ const WORDS: [(&str, Word); 24] = [
     ("tunnel", Word::Tunnel),
 ];
 
-fn is_same(name: &str, other: &str) -> bool
-    ensures { IsTrue result ↔ IsSameName name.now other.now }
-{
-    other.eq_ignore_ascii_case(name)
-}
-
 /// Which option has the name, letters in either case.
 pub(crate) fn word_of(name: &str) -> Option<Word>
     ensures { FindsWord words name.now result }
 {
-    find(&WORDS, name)
-}
-
-/// What the first row of that name stands for.
-fn find(table: &[(&str, Word)], name: &str) -> Option<Word>
-    ensures { FindsWord (map row_of table.now) name.now result }
-{
-    for row in table {
-        if is_same(name, row.0) {
-            return Some(row.1);
-        }
-    }
-    None
+    find_word(&WORDS, name)
 }

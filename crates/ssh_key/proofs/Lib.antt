@@ -3,9 +3,11 @@ pub mod Behind
 pub mod Boxes
 pub mod Chosen
 pub mod CombinedReaders
+pub mod Counted
 pub mod Entries
 pub mod Grammars
 pub mod Judging
+pub mod Lawful
 pub mod LineCuts
 pub mod Mapped
 pub mod Places

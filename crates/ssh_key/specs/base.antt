@@ -5,13 +5,11 @@ pub use Rattle.sshkey_base.specs.Source
 pub use Rattle.sshkey_base.specs.Reading
 pub use Rattle.sshkey_base.specs.Needs
 pub use Rattle.sshkey_base.specs.Stops
-pub use Rattle.sshkey_base.specs.Lengths
 pub use Rattle.sshkey_base.specs.Formats
 pub use Rattle.sshkey_base.specs.Nested
 pub use Rattle.sshkey_base.specs.Sink
 pub use Rattle.sshkey_base.specs.SliceWriter
 pub use Rattle.sshkey_base.specs.Leaves
-pub use Rattle.sshkey_base.specs.Counts
 pub use Rattle.sshkey_base.specs.Labels
 pub use Rattle.sshkey_base.specs.Laws
 pub use Rattle.sshkey_base.specs.Answers
@@ -22,7 +20,6 @@ pub use Rattle.sshkey_base.specs.Mpint
 pub use Rattle.sshkey_base.specs.FixedWidth
 pub use Rattle.sshkey_base.specs.Texts
 pub use Rattle.sshkey_base.specs.TextLists
-pub use Rattle.sshkey_base.specs.Equality
 pub use Rattle.sshkey_base.specs.Names
 pub use Rattle.sshkey_base.specs.NameNeeds
 pub use Rattle.sshkey_base.specs.NameFormats
@@ -30,4 +27,3 @@ pub use Rattle.sshkey_base.specs.AlgorithmName
 pub use Rattle.sshkey_base.specs.Digests
 pub use Rattle.sshkey_base.specs.Fields
 pub use Rattle.sshkey_base.specs.Comparisons
-pub use Rattle.sshkey_base.specs.LabelLaws

@@ -3,7 +3,6 @@ pub use Rattle.sshkey_keys.specs.KeyFormats
 pub use Rattle.sshkey_keys.specs.KeyKinds
 pub use Rattle.sshkey_keys.specs.NameStrings
 pub use Rattle.sshkey_keys.specs.Comparisons
-pub use Rattle.sshkey_keys.specs.KeyReaders
 pub use Rattle.sshkey_keys.specs.Fingerprints
 pub use Rattle.sshkey_keys.specs.SignatureForms
 pub use Rattle.sshkey_keys.specs.Signatures

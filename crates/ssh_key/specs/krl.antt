@@ -7,4 +7,3 @@ pub use Rattle.sshkey_krl.specs.KrlRef
 pub use Rattle.sshkey_krl.specs.Revocations
 pub use Rattle.sshkey_krl.specs.Written
 pub use Rattle.sshkey_krl.specs.Owned
-pub use Rattle.sshkey_krl.specs.Wholeness

@@ -4,4 +4,3 @@ pub use Rattle.sshkey_cert_values.specs.CertTypes
 pub use Rattle.sshkey_cert_values.specs.OptionReaders
 pub use Rattle.sshkey_cert_values.specs.OptionMaps
 pub use Rattle.sshkey_cert_values.specs.Comparisons
-pub use Rattle.sshkey_cert_values.specs.OptionLists

@@ -5,7 +5,6 @@ pub use Rattle.sshkey_private.specs.Openings
 pub use Rattle.sshkey_private.specs.PrivateKeyFormats
 pub use Rattle.sshkey_private.specs.PrivateKeyGrammars
 pub use Rattle.sshkey_private.specs.PaddedKeys
-pub use Rattle.sshkey_private.specs.PrivateKeyTrees
 pub use Rattle.sshkey_private.specs.Forms
 pub use Rattle.sshkey_private.specs.PrivateKeys
 pub use Rattle.sshkey_private.specs.Written

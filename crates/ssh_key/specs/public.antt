@@ -1,6 +1,5 @@
 pub use Rattle.sshkey_public.specs.Words
 pub use Rattle.sshkey_public.specs.Blobs
-pub use Rattle.sshkey_public.specs.KeyBlobs
 pub use Rattle.sshkey_public.specs.Lines
 pub use Rattle.sshkey_public.specs.LineNeeds
 pub use Rattle.sshkey_public.specs.LineFaults

@@ -195,7 +195,7 @@ pub use sshkey_sshsig::laws::spelled_ssh_signature;
 /// Of every kind of value: two have equal normal forms exactly if they agree in every field, of
 /// private keys also in checkint and tag, and what reads a normal form gives the value that it is
 /// of, so that normalising twice is normalising once.
-#[tactic(auto, using(sshkey_model::proofs::Lawful::laws, sshkey_ciphers::proofs::Lawful::laws, sshkey_private::proofs::Lawful::laws, crate::proofs::NormalForms::opened))]
+#[tactic(auto, using(sshkey_model::proofs::Lawful::laws, sshkey_ciphers::proofs::CipherLaws::laws, sshkey_private::proofs::PrivateKeyLaws::laws, crate::proofs::NormalForms::opened))]
 pub fn normal_forms()
     ensures mpints { AreNormalForms IsMpint string mpint_at }
     ensures texts { AreNormalForms IsText string text_at }
@@ -232,7 +232,7 @@ pub fn normal_forms()
 {}
 
 /// Of every kind of value: no spelling begins another.
-#[tactic(auto, using(sshkey_model::proofs::Lawful::laws, sshkey_ciphers::proofs::Lawful::laws), unfolding(sshkey_model::specs::Parts::IsPrefixFree))]
+#[tactic(auto, using(sshkey_model::proofs::Lawful::laws, sshkey_ciphers::proofs::CipherLaws::laws), unfolding(sshkey_model::specs::Parts::IsPrefixFree))]
 pub fn prefixes()
     ensures mpints { NoneBegins IsMpint string }
     ensures texts { NoneBegins IsText string }

@@ -6,11 +6,11 @@ use Rattle.std.proofs.lemmas.Str.{IsCharBoundary-after_ascii}
 use Rattle.std.specs.Str.{IsUtf8, IsCharBoundary}
 use Rattle.sshkey_entries.specs.Items.{is_comma, is_quote}
 use Rattle.sshkey_entries.specs.OptionItems.{KeyOption, quote, equals_sign, backslash, is_name_character, IsQuoted, unescaped, IsValueAt, EndsOption, IsOptionAt, without_commas, AreKeyOptions}
-use Rattle.sshkey_entries.specs.OptionEnds.{is_mark}
+use Rattle.sshkey_entries.specs.OptionEnds.{is_plain_quote}
 use Rattle.sshkey_entries.specs.OptionItems.{HasKeyOptions}
 use Rattle.sshkey_authorized_keys.specs.OptionCuts.{CutsName, FindsPlace, is_escape}
 use Rattle.sshkey_entries.proofs.Fronts.{IsCut, nothing_stays, skipped, stays}
-use Rattle.sshkey_entries.proofs.OneOption.{mark_front, same_quoted, same_name, value_ends, no_value, one_option, some_option}
+use Rattle.sshkey_entries.proofs.OneOption.{quote_front, same_quoted, same_name, value_ends, no_value, one_option, some_option}
 
 -- ---- commas
 
@@ -37,32 +37,32 @@ cuts_name text name rest cut = record { is = cut.0; characters = λ i l. not-fal
 
 -- ---- quoted texts
 
-mark_quote : (text : List ℕ) (i : ℕ) → is_mark text i ≡ true → slice_index text i ≡ quote
-mark_quote text i e = eqb-true _ quote (and_parts (is_quote (slice_index text i)) _ e).0
+quote_there : (text : List ℕ) (i : ℕ) → is_plain_quote text i ≡ true → slice_index text i ≡ quote
+quote_there text i e = eqb-true _ quote (and_parts (is_quote (slice_index text i)) _ e).0
 
 at_place : (text : List ℕ) (i c : ℕ) → i < length text → slice_index text i ≡ c → text ≡ take i text ++ (c ∷ drop (i + 1) text)
 at_place text i c l e =
     sym (take-append-drop i text)
     ∙ ap (λ (t : List ℕ). take i text ++ t) (at_drop_more (λ (t : List ℕ). t) text i 0 l ∙ ap (λ (d : ℕ). d ∷ drop (i + 1) text) e)
 
-pub quoted_cut : (text front back : List ℕ) (i : ℕ) → FindsPlace is_mark text (Some i) → front ≡ take i text → back ≡ drop (i + 1) text → (text ≡ front ++ (quote ∷ back)) × IsQuoted front
+pub quoted_cut : (text front back : List ℕ) (i : ℕ) → FindsPlace is_plain_quote text (Some i) → front ≡ take i text → back ≡ drop (i + 1) text → (text ≡ front ++ (quote ∷ back)) × IsQuoted front
 quoted_cut text front back i found first rest =
-    let whole : text ≡ front ++ (quote ∷ back) = at_place text i quote found.0 (mark_quote text i found.1) ∙ (λ j. sym first j ++ (quote ∷ sym rest j)) in
+    let whole : text ≡ front ++ (quote ∷ back) = at_place text i quote found.0 (quote_there text i found.1) ∙ (λ j. sym first j ++ (quote ∷ sym rest j)) in
     let size : length front ≡ i = ap length first ∙ length-take-le i text (omega (arith, found.0)) in
     let longer : text ≡ (front ++ (quote ∷ [])) ++ back = whole ∙ sym (append_assoc front (quote ∷ []) back) in (
       whole,
       record {
-        inner = λ k l. sym (mark_front front (quote ∷ back) k l) ∙ ap (λ (t : List ℕ). is_mark t k) (sym whole) ∙ found.2 k (omega (arith, l, size));
-        ends = sym (mark_front (front ++ (quote ∷ [])) back (length front) (omega (arith, length-append front (quote ∷ []))))
-            ∙ ap (λ (t : List ℕ). is_mark t (length front)) (sym longer) ∙ ap (is_mark text) size ∙ found.1;
+        inner = λ k l. sym (quote_front front (quote ∷ back) k l) ∙ ap (λ (t : List ℕ). is_plain_quote t k) (sym whole) ∙ found.2 k (omega (arith, l, size));
+        ends = sym (quote_front (front ++ (quote ∷ [])) back (length front) (omega (arith, length-append front (quote ∷ []))))
+            ∙ ap (λ (t : List ℕ). is_plain_quote t (length front)) (sym longer) ∙ ap (is_plain_quote text) size ∙ found.1;
       },
     )
 
-pub quoted_none : (text : List ℕ) → FindsPlace is_mark text None → (quoted rest : List ℕ) → text ≡ quoted ++ (quote ∷ rest) → IsQuoted quoted → ⊥
+pub quoted_none : (text : List ℕ) → FindsPlace is_plain_quote text None → (quoted rest : List ℕ) → text ≡ quoted ++ (quote ∷ rest) → IsQuoted quoted → ⊥
 quoted_none text none quoted rest is q =
     let longer : text ≡ (quoted ++ (quote ∷ [])) ++ rest = is ∙ sym (append_assoc quoted (quote ∷ []) rest) in
-    let here : is_mark text (length quoted) ≡ true
-    = ap (λ (t : List ℕ). is_mark t (length quoted)) longer ∙ mark_front (quoted ++ (quote ∷ [])) rest (length quoted) (omega (arith, length-append quoted (quote ∷ []))) ∙ q.ends in
+    let here : is_plain_quote text (length quoted) ≡ true
+    = ap (λ (t : List ℕ). is_plain_quote t (length quoted)) longer ∙ quote_front (quoted ++ (quote ∷ [])) rest (length quoted) (omega (arith, length-append quoted (quote ∷ []))) ∙ q.ends in
     cc (sym here ∙ none (length quoted) (omega (arith, ap length is, length-append quoted (quote ∷ rest))))
 
 -- ---- escapes
@@ -101,10 +101,10 @@ none_more p n before here k l = elim (cases_lt k n) [
 pub whole_front : (i : ℕ) (text : List ℕ) → slice_range text 0 i ≡ take i text
 whole_front i text = let e : i - 0 ≡ i = omega arith in ap (λ (n : ℕ). take n text) e
 
-pub mark_place : (text bytes : List ℕ) (i : ℕ) → IsUtf8 text → bytes ≡ text → FindsPlace is_mark bytes (Some i) → IsCharBoundary text (i + 1)
-mark_place text bytes i utf8 same found =
-    let here : FindsPlace is_mark text (Some i) = subst (λ (t : List ℕ). FindsPlace is_mark t (Some i)) same found in
-    IsCharBoundary-after_ascii text i utf8 here.0 (omega (arith, mark_quote text i here.1))
+pub quote_place : (text bytes : List ℕ) (i : ℕ) → IsUtf8 text → bytes ≡ text → FindsPlace is_plain_quote bytes (Some i) → IsCharBoundary text (i + 1)
+quote_place text bytes i utf8 same found =
+    let here : FindsPlace is_plain_quote text (Some i) = subst (λ (t : List ℕ). FindsPlace is_plain_quote t (Some i)) same found in
+    IsCharBoundary-after_ascii text i utf8 here.0 (omega (arith, quote_there text i here.1))
 
 pub escape_more : (text value rest bytes front back new : List ℕ) (i : ℕ) → unescaped text ≡ value ++ unescaped rest → bytes ≡ rest → FindsPlace is_escape bytes (Some i) → front ≡ take i rest → back ≡ drop (i + 1) rest → new ≡ value ++ front
     → unescaped text ≡ new ++ unescaped back

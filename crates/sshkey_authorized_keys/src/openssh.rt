@@ -13,7 +13,7 @@ ghost use Rattle.sshkey_authorized_keys.specs.OpenSshNeeds.{AnswersLine, AsksFor
 
 use crate::entry::Entry;
 use crate::openssh_options::OpenSshOptions;
-use crate::option_syntax::is_mark;
+use crate::option_syntax::is_plain_quote;
 use sshkey_base::{Error, Result};
 use sshkey_entries::{FilledLines, read_key_fields, skip_blanks};
 use sshkey_public::PublicKey;
@@ -55,15 +55,17 @@ fn options_end(text: &[u8]) -> Option<usize>
         if ends_here(text, index, inside) {
             return Some(index);
         }
-        if is_mark(text, index) {
+        if is_plain_quote(text, index) {
             inside = !inside;
         }
     }
     None
 }
 
-/// The text up to its first space or tab outside quotes, and what follows from there.
-fn split_options(text: &str) -> Option<(&str, &str)>
+/// The options that stand in front of a text as sshd(8) reads it: up to its first space or tab
+/// outside double quotes, where a quote after a backslash is none; and what follows from there.
+/// `None` if no such space or tab stands in it. Does not allocate.
+pub fn split_options(text: &str) -> Option<(&str, &str)>
     ensures { CutsOptions text.now result }
 {
     match options_end(text.as_bytes()) {

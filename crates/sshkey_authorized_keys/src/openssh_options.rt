@@ -2,11 +2,14 @@
 
 ghost use Rattle.std.specs.Prelude.{◌≡◌, ◌↔◌, ℕ, List, [], IfErr, IfOk, IsTrue};
 ghost use Rattle.sshkey_base.specs.declared.error.Error.TheVariants as wide;
-ghost use Rattle.sshkey_authorized_keys.specs.OpenSshItems.{FindsAlso, FindsIn};
+ghost use Rattle.sshkey_entries.specs.OptionItems.{MaySay, Says};
+ghost use Rattle.sshkey_entries.specs.Readings.{Tells};
+ghost use Rattle.sshkey_authorized_keys.specs.OpenSshItems.{FindsAlso, FindsIn, key_option_of};
 
 use crate::openssh_option::{OpenSshOption, OpenSshOptionsIter};
 use sshkey_base::{Result, Text};
-use std::alloc::Global;
+use sshkey_entries::{AddOptions, Reading};
+use std::alloc::{AllocError, Global};
 use std::marker::Model;
 
 /// The options before a key, as they stand in its line. Contracts see their text.
@@ -108,4 +111,44 @@ fn find_option<'a>(text: &'a str, name: &str) -> Result<Option<OpenSshOption<'a>
         }
     }
     Ok(found)
+}
+
+/// What is said once each option of a text has added to it, one after the other.
+///
+/// `Rejected` where the text is no list of options, or one of them adds nothing; `Unclear` where
+/// one that OpenSSH may read stands behind options that all add. What follows that one is not read.
+/// Fails only when out of memory.
+pub fn read_options<T: AddOptions>(
+    alloc: Global,
+    mut said: T,
+    options: &str,
+) -> std::result::Result<Reading<T>, AllocError>
+    ensures { IfOk result (Tells T.means (Says T.Adds (T.means said) options.now)
+        (MaySay T.Adds T.MayBe (T.means said) options.now)) }
+{
+    for option in OpenSshOptionsIter::new(options) {
+        let Ok(option) = option else {
+            return Ok(Reading::Rejected);
+        };
+        match with_option(alloc, said, &option)? {
+            Reading::Is(more) => said = more,
+            Reading::Rejected => return Ok(Reading::Rejected),
+            Reading::Unclear => return Ok(Reading::Unclear),
+        }
+    }
+    Ok(Reading::Is(said))
+}
+
+fn with_option<T: AddOptions>(
+    alloc: Global,
+    said: T,
+    option: &OpenSshOption,
+) -> std::result::Result<Reading<T>, AllocError>
+    ensures { let o = key_option_of option.now in
+        IfOk result (Tells T.means (T.Adds o.name o.value (T.means said)) (T.MayBe o.name o.value)) }
+{
+    let Ok(value) = option.value(alloc) else {
+        return Err(AllocError);
+    };
+    said.with(alloc, option.name(), value)
 }

@@ -4,7 +4,7 @@ ghost use Rattle.std.specs.Prelude.{◌≡◌, ◌<◌, ◌↔◌, IfErr, IfOk, 
 ghost use Rattle.sshkey_base.specs.declared.error.Error.TheVariants as wide;
 ghost use Rattle.sshkey_entries.specs.Items.{is_comma};
 ghost use Rattle.sshkey_entries.specs.OptionItems.{EndsOption, is_name_character, unescaped, without_commas};
-ghost use Rattle.sshkey_entries.specs.OptionEnds.{is_mark};
+ghost use Rattle.sshkey_entries.specs.OptionEnds.{is_plain_quote};
 ghost use Rattle.sshkey_authorized_keys.specs.OptionCuts.{CutsName, CutsQuoted, CutsValue, FindsPlace, is_escape};
 
 use sshkey_base::Result;
@@ -62,19 +62,19 @@ pub(crate) fn split_name(text: &str) -> (&str, &str)
 // ---- values
 
 /// Whether a quote stands at the place, with no backslash before it.
-pub(crate) fn is_mark(line: &[u8], place: usize) -> bool
+pub(crate) fn is_plain_quote(line: &[u8], place: usize) -> bool
     requires { place < length line.now }
-    ensures { result ≡ is_mark line.now place }
+    ensures { result ≡ is_plain_quote line.now place }
 {
     line[place] == b'"' && !(place > 0 && line[place - 1] == b'\\')
 }
 
 /// The place of the first quote that stands after no backslash.
 fn quote_end(text: &[u8]) -> Option<usize>
-    ensures { FindsPlace is_mark text.now result }
+    ensures { FindsPlace is_plain_quote text.now result }
 {
     for place in 0..text.len() {
-        if is_mark(text, place) {
+        if is_plain_quote(text, place) {
             return Some(place);
         }
     }

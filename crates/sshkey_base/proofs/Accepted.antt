@@ -11,19 +11,19 @@ use Rattle.sshkey_base.proofs.Boxes.{some_behind}
 use Rattle.sshkey_base.specs.declared.encoding.Error.{Error}
 use Rattle.sshkey_base.specs.declared.encoding.Error.TheVariants as encoding
 use Rattle.sshkey_base.specs.Causes.{Cause, NoMemory, encoding_cause}
-use Rattle.sshkey_base.specs.Formats.{Format, Begins, AcceptsBeginning}
+use Rattle.sshkey_base.specs.Formats.{Format, IsFormat, Begins, AcceptsBeginning}
 use Rattle.sshkey_base.specs.Source.{Source, announced_len}
 use Rattle.sshkey_base.specs.Laws.{OneBeginning}
 use Rattle.sshkey_base.specs.Reading.{Gives, GivesWhole, Reads, IsRefused, AcceptsFront, AcceptsWhole}
 
 -- what begins with a value is read as that value
-pub read_of_beginning : {Y : Type 0} (f : Format Y) (y : Y) (bytes rest : List ℕ) → Begins f y bytes rest → f.read bytes ≡ Ok (y, rest)
-read_of_beginning f y bytes rest h = ap f.read h.all ∙ taken_before f.grammar y h.front rest h.spelled h.may_follow
+pub read_of_beginning : {Y : Type 0} (f : Format Y) → IsFormat f → (y : Y) (bytes rest : List ℕ) → Begins f y bytes rest → f.read bytes ≡ Ok (y, rest)
+read_of_beginning f laws y bytes rest h = ap f.read h.all ∙ taken_before laws.grammar y h.front rest h.spelled h.may_follow
 
 -- so bytes begin with one value alone
-pub one_beginning : {Y : Type 0} (f : Format Y) → OneBeginning f
-one_beginning {Y} f x y bytes r q h k =
-    let both : (x, r) ≡ (y, q) = ok_is (x, r) (y, q) (sym (read_of_beginning f x bytes r h) ∙ read_of_beginning f y bytes q k) in
+pub one_beginning : {Y : Type 0} (f : Format Y) → IsFormat f → OneBeginning f
+one_beginning {Y} f laws x y bytes r q h k =
+    let both : (x, r) ≡ (y, q) = ok_is (x, r) (y, q) (sym (read_of_beginning f laws x bytes r h) ∙ read_of_beginning f laws y bytes q k) in
     let rests : r ≡ q = ap (λ (p : Y × List ℕ). p.1) both in
     let fronts : h.front ++ q ≡ k.front ++ q = ap (λ (l : List ℕ). h.front ++ l) (sym rests) ∙ sym h.all ∙ k.all in
     (ap (λ (p : Y × List ℕ). p.0) both, append_cancel_right h.front k.front q fronts, rests)
@@ -37,17 +37,17 @@ module _ {Y : Type 0} {Spells : Y → List ℕ → Type 0} {read : Front Y} (g :
   spelled_whole b y = (whole_spells (by_itself g) b y).1
 
 module _ {X Y E : Type 0} (means : X → Y) (cause : E → Cause) where
-  pub accepts_beginning : (f : Format Y) (s t : Source) (r : Result X E) → Gives means cause f.read s r t → AcceptsBeginning means f cause s r t
-  accepts_beginning f s t (Ok x) h =
-      let a = f.grammar.takes s.left (means x) t.left h.value in
+  pub accepts_beginning : (f : Format Y) → IsFormat f → (s t : Source) (r : Result X E) → Gives means cause f.read s r t → AcceptsBeginning means f cause s r t
+  accepts_beginning f laws s t (Ok x) h =
+      let a = laws.grammar.takes s.left (means x) t.left h.value in
       (record { front = a.0; spelled = a.1; all = a.2; may_follow = a.3 }, h.missing, h.outer)
-  accepts_beginning f s t (Err e) h = λ other sound y rest begins.
+  accepts_beginning f laws s t (Err e) h = λ other sound y rest begins.
       let refused = err_from_is_err_and (f.read s.left) (h.fault other sound) in
-      let taken = read_of_beginning f y s.left rest begins in
+      let taken = read_of_beginning f laws y s.left rest begins in
       let is = refused.1 in cc
 
-  module _ {Spells : Y → List ℕ → Type 0} {read : Front Y} where
-    pub accepts_whole_by : Grammar Spells read → (s : Source) (r : Result X E) → GivesWhole means cause (whole read) s r → AcceptsWhole means Spells cause s r
+  module _ {Spells : Y → List ℕ → Type 0} {read delimited_at : Front Y} where
+    pub accepts_whole_by : Grammar Spells read delimited_at → (s : Source) (r : Result X E) → GivesWhole means cause (whole read) s r → AcceptsWhole means Spells cause s r
     accepts_whole_by g s (Ok x) h = record { spelled = (whole_spells g s.left (means x)).0 h.value; sound = h.sound }
     accepts_whole_by g s (Err e) h = λ other sound y spelled.
         let refused = err_from_is_err_and (whole read s.left) (h.fault other sound) in

@@ -4,7 +4,7 @@ use Rattle.std.proofs.lemmas.Bool.{cases_lt, lt-ltb}
 use denote.Ref.{MutBor}
 use denote.Param.Members.{Once}
 use Rattle.sshkey_base.specs.Causes.{Cause, NoMemory, Faulty, encoding_cause}
-use Rattle.sshkey_base.specs.Formats.{Format, Stops}
+use Rattle.sshkey_base.specs.Formats.{Format, IsFormat, Stops}
 use Rattle.sshkey_base.specs.Needs.{NeedsBoxed, HasString}
 use Rattle.sshkey_base.specs.Nested.{AsksBy, Calls, Prefixed, ReadsBy}
 use Rattle.sshkey_base.specs.Source.{Source, part}
@@ -79,9 +79,9 @@ past_of cause read needs overruns s (Ok x) h = tt
 past_of cause read needs overruns s (Err e) h = h.past
 
 -- A closure that reads a value of a format.
-module _ {F N T E Y : Type 0} (call : Once F (MutBor N × Unit {0}) (Result T E × (MutBor N × Unit {0}))) (source : N → Source) (from_gives : Error → E → Type 0) (cause : E → Cause) (f : F) (means : T → Y) (format : Format Y) (keeps : (x : Error) (e : E) → from_gives x e → cause e ≡ encoding_cause x) (by : ReadsBy call source cause f means format.read) (asks : AsksBy call source cause f format.needs) (stops : (p q : MutBor N) (r : Result T E) → call.post f (p, tt) (r, (q, tt)) → Stops cause format (source p.now) r) where
+module _ {F N T E Y : Type 0} (call : Once F (MutBor N × Unit {0}) (Result T E × (MutBor N × Unit {0}))) (source : N → Source) (from_gives : Error → E → Type 0) (cause : E → Cause) (f : F) (means : T → Y) (format : Format Y) (laws : IsFormat format) (keeps : (x : Error) (e : E) → from_gives x e → cause e ≡ encoding_cause x) (by : ReadsBy call source cause f means format.read) (asks : AsksBy call source cause f format.needs) (stops : (p q : MutBor N) (r : Result T E) → call.post f (p, tt) (r, (q, tt)) → Stops cause format (source p.now) r) where
   past_inside : (p q : MutBor N) (r : Result T E) → call.post f (p, tt) (r, (q, tt)) → StopsPast cause format.needs format.overruns (source p.now) r
-  past_inside p q r met = past_of cause format.grammar.delimited_at format.needs format.overruns (source p.now) r (stops p q r met)
+  past_inside p q r met = past_of cause format.delimited_at format.needs format.overruns (source p.now) r (stops p q r met)
 
   pub boxed_stops : (s u : Source) (r : Result T E) → Prefixed call source from_gives f s r u → StopsBy cause (box_at (whole format.read)) (NeedsBoxed format.needs) (OverrunsBoxed format.overruns) s r
-  boxed_stops = filled_stops call source from_gives cause f means format.read keeps format.needs format.overruns format.lengths by asks past_inside
+  boxed_stops = filled_stops call source from_gives cause f means format.read keeps format.needs format.overruns laws.lengths by asks past_inside

@@ -29,3 +29,10 @@ pub mod ShortStrings
 pub mod NameStrings
 pub mod FixedWidth
 pub mod Comparisons
+pub mod Leaves
+pub mod Lengths
+pub mod Lawful
+pub mod LabelLaws
+pub mod Counts
+pub mod NormalForms
+pub mod Equality

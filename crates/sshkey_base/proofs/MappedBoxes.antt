@@ -5,7 +5,7 @@ use Rattle.std.proofs.lemmas.List.{length-drop}
 use Rattle.sshkey_model.specs.Parts.{number, flat}
 use Rattle.sshkey_model.specs.Reading.{Fault, Length, ◌>>=◌, Whole, number_at, box_at}
 use Rattle.sshkey_model.proofs.CombinedReaders.{bind_ok, ok_is, passed, number_reads, wide32}
-use Rattle.sshkey_base.specs.Lengths.{with_rest, box_step}
+use Rattle.sshkey_base.proofs.Lengths.{with_rest, box_step}
 use Rattle.sshkey_base.proofs.ReadLists.{leaves_less}
 
 -- another value, with the same rest

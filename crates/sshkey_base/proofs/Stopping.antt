@@ -8,7 +8,7 @@ use Rattle.sshkey_base.specs.Source.{Source, announced_len}
 use Rattle.sshkey_base.specs.Needs.{NeedsString, NeedsBytes}
 use Rattle.sshkey_base.specs.Reading.{Reads, Refuses, GivesAlways}
 use Rattle.sshkey_base.specs.Labels.{NeedsBehind}
-use Rattle.sshkey_base.specs.Lengths.{string_lengths}
+use Rattle.sshkey_base.proofs.Lengths.{string_lengths}
 use Rattle.sshkey_base.specs.Stops.{NoOverrun, OverrunsString, OverrunsBytes, AreLengths, RanOut, Stopped, StopsBy}
 
 -- a step before one that was done

@@ -2,11 +2,6 @@
 use Rattle.std.specs.Prelude.{◌≡◌, ◌≢◌, ℕ, List, Result, Ok, Err}
 use Rattle.std.specs.Int.{w32}
 use Rattle.sshkey_model.specs.Reading.{Whole, Label, Front, number_at, string_at, checked_at}
-use Rattle.sshkey_model.specs.Parts.{Any, bytes}
-use Rattle.sshkey_model.specs.Texts.{string}
-use Rattle.sshkey_model.specs.Grammar.{IsGrammar, Spells, Checks}
-use Rattle.sshkey_model.proofs.CombinedReaders.{checked_string_reads}
-use Rattle.sshkey_model.proofs.Grammars.{grammar}
 use Rattle.sshkey_base.specs.Causes.{Cause, NoMemory}
 use Rattle.sshkey_base.specs.declared.encoding.Error.{Error}
 use Rattle.sshkey_base.specs.declared.encoding.Error.TheVariants as encoding
@@ -34,7 +29,3 @@ NeedsBehind needs n b m = (a : List ℕ) → number_at w32 a ≡ Ok (n, b) → n
 -- a string that is looked up
 unfoldable pub label_at : {N : Type 0} → Whole N → Front N
 label_at named = checked_at named string_at
-
-pub label_grammar : {N : Type 0} {Is : N → Type 0} {name : N → List ℕ} {named : Whole N} → Checks Any bytes Is (λ n. bytes (name n)) named → IsGrammar (Spells Is (λ n. string (name n))) (label_at named)
-unfolding label_at
-label_grammar checks = grammar (checked_string_reads checks)

@@ -8,7 +8,7 @@ use Rattle.sshkey_model.specs.Grammar.{MayFollow}
 -- What is written of a value begins bytes that are read back as that value, where nothing follows
 -- it, and whatever follows it where it ends by itself.
 abbrev pub ReadBackBeginning : {X M : Type 0} → (X → Type 0) → (X → Parts) → (X → M) → Format M → Type 0
-ReadBackBeginning {X} IsWellFormed normal means f = (x : X) (rest : List ℕ) → IsWellFormed x → Fits (normal x) → MayFollow f.grammar.delimited_at (means x) (flat (normal x)) rest → f.read (flat (normal x) ++ rest) ≡ Ok (means x, rest)
+ReadBackBeginning {X} IsWellFormed normal means f = (x : X) (rest : List ℕ) → IsWellFormed x → Fits (normal x) → MayFollow f.delimited_at (means x) (flat (normal x)) rest → f.read (flat (normal x) ++ rest) ≡ Ok (means x, rest)
 
 -- The same where all values end by themselves.
 abbrev pub ReadBackBefore : {X M : Type 0} → (X → Type 0) → (X → Parts) → (X → M) → Front M → Type 0

@@ -5,13 +5,11 @@ pub mod Source
 pub mod Reading
 pub mod Needs
 pub mod Stops
-pub mod Lengths
 pub mod Formats
 pub mod Nested
 pub mod Sink
 pub mod SliceWriter
 pub mod Leaves
-pub mod Counts
 pub mod Labels
 pub mod Laws
 pub mod Answers
@@ -22,7 +20,6 @@ pub mod Mpint
 pub mod FixedWidth
 pub mod Texts
 pub mod TextLists
-pub mod Equality
 pub mod Names
 pub mod NameNeeds
 pub mod NameFormats
@@ -30,4 +27,3 @@ pub mod AlgorithmName
 pub mod Digests
 pub mod Fields
 pub mod Comparisons
-pub mod LabelLaws

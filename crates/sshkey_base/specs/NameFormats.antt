@@ -2,12 +2,9 @@
 use Rattle.sshkey_model.specs.Names.{Algorithm}
 use Rattle.sshkey_model.specs.CertificateNames.{IsCertified, certificate_algorithm, certificate_algorithm_at}
 use Rattle.sshkey_model.specs.Grammar.{Spells}
-use Rattle.sshkey_model.proofs.CertificateNameReaders.{certificate_algorithm_reads}
-use Rattle.sshkey_model.proofs.Grammars.{grammar, by_itself}
 use Rattle.sshkey_base.specs.Formats.{Format}
-use Rattle.sshkey_base.specs.Lengths.{certified_lengths}
 use Rattle.sshkey_base.specs.NameNeeds.{NeedsCertified}
 use Rattle.sshkey_base.specs.Stops.{OverrunsString}
 
 abbrev pub certified_format : Format Algorithm
-certified_format = record { Spells = Spells IsCertified certificate_algorithm; read = certificate_algorithm_at; needs = NeedsCertified; overruns = OverrunsString; grammar = by_itself (grammar certificate_algorithm_reads); lengths = certified_lengths }
+certified_format = record { Spells = Spells IsCertified certificate_algorithm; read = certificate_algorithm_at; delimited_at = certificate_algorithm_at; needs = NeedsCertified; overruns = OverrunsString }

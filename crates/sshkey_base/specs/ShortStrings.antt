@@ -2,9 +2,7 @@
 use Rattle.std.specs.Prelude.{◌≡◌, ℕ, List, length, true, Result, Ok, Err, nat_le, if◌then◌else◌}
 use Rattle.sshkey_model.specs.Reading.{Fault, Length, Front, string_at, checked_at}
 use Rattle.sshkey_model.specs.Texts.{string}
-use Rattle.sshkey_model.specs.Grammar.{IsGrammar, Spells}
-use Rattle.sshkey_model.proofs.CombinedReaders.{checked_string_reads, kept_bytes}
-use Rattle.sshkey_model.proofs.Grammars.{grammar}
+use Rattle.sshkey_model.specs.Grammar.{Spells}
 
 abbrev pub at_most : ℕ → List ℕ → Result (List ℕ) Fault
 at_most n b = if nat_le (length b) n then Ok b else Err Length
@@ -14,7 +12,3 @@ short_at n = checked_at (at_most n) string_at
 
 abbrev pub SpellsShort : ℕ → List ℕ → List ℕ → Type 0
 SpellsShort n = Spells (λ b. nat_le (length b) n ≡ true) string
-
-pub short_grammar : (n : ℕ) → IsGrammar (SpellsShort n) (short_at n)
-unfolding short_at
-short_grammar n = grammar (checked_string_reads (kept_bytes (λ b. nat_le (length b) n) Length))

@@ -6,7 +6,6 @@ ghost use Rattle.sshkey_model.specs.Names as model;
 ghost use Rattle.sshkey_model.specs.Reading as fault;
 ghost use Rattle.sshkey_base.specs.Causes.{cause, encoding_cause};
 ghost use Rattle.sshkey_base.specs.Names.{IsFixed, is_ecdsa, is_rsa, algorithm_of};
-ghost use Rattle.sshkey_base.specs.LabelLaws.{algorithm_checks, algorithm_ascii, algorithm_short, algorithm_refusals};
 ghost use Rattle.sshkey_base.specs.Labels.{AsksNamed, LooksUp};
 ghost use Rattle.sshkey_base.specs.NameNeeds.{NeedsAlgorithm};
 ghost use Rattle.sshkey_base.specs.Answers.{Judges, Names};
@@ -186,6 +185,7 @@ fn rsa(hash: HashAlg) -> Algorithm
     Algorithm::Rsa { hash: Some(hash) }
 }
 
+#[tactic(auto, using(crate::proofs::LabelLaws::algorithm_names))]
 impl Label for Algorithm {
     ghost Named = { model.Algorithm };
 
@@ -217,13 +217,7 @@ impl Label for Algorithm {
         }
     }
 
-    ghost checks = { algorithm_checks };
-
-    ghost ascii = { algorithm_ascii };
-
-    ghost short = { algorithm_short };
-
-    ghost refusals = { algorithm_refusals };
+    fn lawful_names() {}
 }
 
 impl AsStr for Algorithm {

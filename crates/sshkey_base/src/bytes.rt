@@ -112,6 +112,7 @@ pub fn erase_slice(bytes: &mut [u8])
 /// A length of four bytes, and the bytes (RFC 4251, section 5).
 ///
 /// Fails with `Length`, and allocates nothing, if the length is larger than the remaining input.
+#[tactic(auto, using(crate::proofs::Lawful::string_lawful))]
 impl Decode for Bytes {
     type Error = Error;
 
@@ -120,6 +121,8 @@ impl Decode for Bytes {
     ghost means = { λ b. b };
 
     ghost format = { string_format };
+
+    fn lawful() {}
 
     fn decode<R: Reader>(alloc: Global, reader: &mut R) -> Result<Bytes, Error>
         ensures gives { Decodes (λ x. x) string_at R.source reader.old result reader.new }
@@ -168,7 +171,7 @@ pub(crate) fn bytes_from<R: Reader>(
 }
 
 /// The same as a vector.
-#[tactic(auto, using(crate::proofs::Steps::steps, crate::proofs::Stopping::stopping))]
+#[tactic(auto, using(crate::proofs::Lawful::string_lawful, crate::proofs::Steps::steps, crate::proofs::Stopping::stopping))]
 impl Decode for Vec<u8> {
     type Error = Error;
 
@@ -177,6 +180,8 @@ impl Decode for Vec<u8> {
     ghost means = { λ v. v.items };
 
     ghost format = { string_format };
+
+    fn lawful() {}
 
     fn decode<R: Reader>(alloc: Global, reader: &mut R) -> Result<Vec<u8>, Error>
         ensures gives { Decodes (λ v. v.items) string_at R.source reader.old result reader.new }

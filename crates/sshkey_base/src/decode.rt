@@ -5,7 +5,7 @@ ghost use Rattle.std.specs.Int.{w8, w32, w64};
 ghost use Rattle.sshkey_model.specs.Reading.{whole, bytes_at, number_at, box_at};
 ghost use Rattle.sshkey_base.specs.Reading.{Decodes, DecodesAlways, AcceptsFront, AcceptsWhole, Gives, GivesWhole};
 ghost use Rattle.sshkey_model.specs.Grammar.{SpellsBoxed};
-ghost use Rattle.sshkey_base.specs.Formats.{AcceptsBeginning, Format, Stops, byte_format, number32_format, number64_format, array_format};
+ghost use Rattle.sshkey_base.specs.Formats.{AcceptsBeginning, Format, IsFormat, Stops, byte_format, number32_format, number64_format, array_format};
 ghost use Rattle.sshkey_base.specs.Stops.{StopsBy, StopsPast, OverrunsBoxed};
 ghost use Rattle.sshkey_base.specs.Causes.{encoding_cause};
 ghost use Rattle.sshkey_base.specs.Nested.{nested_source};
@@ -31,6 +31,10 @@ pub trait Decode: Sized {
     /// How it is spelled, and what a reading call makes of bytes.
     ghost format: { Format Meaning };
 
+    /// The format is lawful: its plain reader accepts exactly its spellings. Does nothing.
+    fn lawful()
+        ensures { IsFormat format };
+
     /// Reads a value from the front, and leaves what follows it.
     ///
     /// Returns what the plain reader of the format makes of the remaining bytes (docs/MODEL.md). A
@@ -54,7 +58,7 @@ pub trait Decode: Sized {
 }
 
 /// One byte (RFC 4251, section 5). Does not allocate.
-#[tactic(auto, using(crate::proofs::Steps::steps, crate::proofs::Stopping::stopping), unfolding(sshkey_model::specs::Reading::number_at))]
+#[tactic(auto, using(crate::proofs::Lawful::byte_lawful, crate::proofs::Steps::steps, crate::proofs::Stopping::stopping), unfolding(sshkey_model::specs::Reading::number_at))]
 impl Decode for u8 {
     type Error = encoding::Error;
 
@@ -63,6 +67,8 @@ impl Decode for u8 {
     ghost means = { λ n. n };
 
     ghost format = { byte_format };
+
+    fn lawful() {}
 
     fn decode<R: Reader>(_alloc: Global, reader: &mut R) -> Result<u8, encoding::Error>
         ensures gives { Decodes (λ x. x) (number_at w8) R.source reader.old result reader.new }
@@ -78,7 +84,7 @@ impl Decode for u8 {
 }
 
 /// A number of four bytes, most significant first (RFC 4251, section 5). Does not allocate.
-#[tactic(auto, using(crate::proofs::Steps::steps, crate::proofs::Stopping::stopping), unfolding(sshkey_model::specs::Reading::number_at))]
+#[tactic(auto, using(crate::proofs::Lawful::number32_lawful, crate::proofs::Steps::steps, crate::proofs::Stopping::stopping), unfolding(sshkey_model::specs::Reading::number_at))]
 impl Decode for u32 {
     type Error = encoding::Error;
 
@@ -87,6 +93,8 @@ impl Decode for u32 {
     ghost means = { λ n. n };
 
     ghost format = { number32_format };
+
+    fn lawful() {}
 
     fn decode<R: Reader>(_alloc: Global, reader: &mut R) -> Result<u32, encoding::Error>
         ensures gives { Decodes (λ x. x) (number_at w32) R.source reader.old result reader.new }
@@ -102,7 +110,7 @@ impl Decode for u32 {
 }
 
 /// A number of eight bytes, most significant first (RFC 4251, section 5). Does not allocate.
-#[tactic(auto, using(crate::proofs::Steps::steps, crate::proofs::Stopping::stopping), unfolding(sshkey_model::specs::Reading::number_at))]
+#[tactic(auto, using(crate::proofs::Lawful::number64_lawful, crate::proofs::Steps::steps, crate::proofs::Stopping::stopping), unfolding(sshkey_model::specs::Reading::number_at))]
 impl Decode for u64 {
     type Error = encoding::Error;
 
@@ -111,6 +119,8 @@ impl Decode for u64 {
     ghost means = { λ n. n };
 
     ghost format = { number64_format };
+
+    fn lawful() {}
 
     fn decode<R: Reader>(_alloc: Global, reader: &mut R) -> Result<u64, encoding::Error>
         ensures gives { Decodes (λ x. x) (number_at w64) R.source reader.old result reader.new }
@@ -136,6 +146,8 @@ impl<const N: usize> Decode for [u8; N] {
     ghost means = { λ b. b };
 
     ghost format = { array_format N };
+
+    fn lawful() {}
 
     fn decode<R: Reader>(_alloc: Global, reader: &mut R) -> Result<[u8; N], encoding::Error>
         ensures gives { Decodes (λ b. b) (box_at (whole (bytes_at N)))
@@ -177,6 +189,7 @@ pub fn decode_boxed<T: Decode + Drop, R: Reader>(
     ensures accepts { AcceptsFront T.means (SpellsBoxed T.format.Spells) T.Error.cause
         (R.source reader.old) result (R.source reader.new) }
 {
+    T::lawful();
     reader.read_prefixed(|part| T::decode(alloc, part))
 }
 
@@ -195,6 +208,7 @@ pub fn decode_front<T: Decode, R: Reader>(alloc: Global, reader: &mut R) -> Resu
     ensures accepts { AcceptsBeginning T.means T.format T.Error.cause
         (R.source reader.old) result (R.source reader.new) }
 {
+    T::lawful();
     T::decode(alloc, reader)
 }
 
@@ -216,6 +230,7 @@ pub fn decode_whole<T: Decode + Drop, R: Reader + Drop>(
         (R.source reader) result }
     ensures accepts { AcceptsWhole T.means T.format.Spells T.Error.cause (R.source reader) result }
 {
+    T::lawful();
     let value = T::decode(alloc, &mut reader)?;
     Ok(reader.finish(value)?)
 }

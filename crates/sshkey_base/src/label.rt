@@ -40,9 +40,6 @@ pub trait Label: Sized {
     /// The value of a name.
     ghost named: { Whole Named };
 
-    /// A name gives the value that has it.
-    ghost checks: { Checks Any bytes IsNamed (λ n. bytes (name n)) named };
-
     /// The string at the front needs memory, since the value keeps some.
     ghost needs: { List ℕ → ℕ → Type 0 };
 
@@ -56,14 +53,14 @@ pub trait Label: Sized {
         ensures gives { LooksUp stands_for named text.now result }
         ensures asks { AsksNamed encoding_cause needs text.now result };
 
-    /// Names are ASCII.
-    ghost ascii: { (n : Named) → IsNamed n → are_ascii (name n) ≡ true };
-
-    /// No name is longer than that of an algorithm in a certificate.
-    ghost short: { (n : Named) → IsNamed n → nat_le (length (name n)) 73 ≡ true };
-
-    /// What is no name is rejected as such.
-    ghost refusals: { (text : List ℕ) (fault : Fault) → named text ≡ Err fault → fault ≡ label_fault };
+    /// A name gives the value that has it, is ASCII, and is no longer than that of an algorithm in a
+    /// certificate; what is no name is rejected as such. Does nothing.
+    fn lawful_names()
+        ensures checks { Checks Any bytes IsNamed (λ n. bytes (name n)) named }
+        ensures ascii { (n : Named) → IsNamed n → are_ascii (name n) ≡ true }
+        ensures short { (n : Named) → IsNamed n → nat_le (length (name n)) 73 ≡ true }
+        ensures refusals { (text : List ℕ) (fault : Fault) →
+            named text ≡ Err fault → fault ≡ label_fault };
 }
 
 /// The string of a name. Fails with `Label`, and allocates nothing, for a string that is none of
@@ -76,7 +73,11 @@ impl<T: Label> Decode for T {
 
     ghost means = { T.stands_for };
 
-    ghost format = { label_format T.needs T.checks };
+    ghost format = { label_format T.IsNamed T.name T.named T.needs };
+
+    fn lawful() {
+        T::lawful_names();
+    }
 
     #[inline(always)]
     fn decode<R: Reader>(alloc: Global, reader: &mut R) -> Result<T>
@@ -104,6 +105,7 @@ fn name_from<T: Label, R: Reader>(alloc: Global, len: usize, reader: &mut R) -> 
     ensures past { StopsBy encoding_cause (checked_at T.named (bytes_at len))
         (NeedsBehind T.needs len) (OverrunsBytes len) (R.source reader.old) result }
 {
+    T::lawful_names();
     if let Some(name) = reader.ahead(len) {
         let value = named(alloc, name)?;
         reader.skip(len);
@@ -122,6 +124,7 @@ fn named<T: Label>(alloc: Global, name: &[u8]) -> Result<T>
     ensures gives { LooksUp T.stands_for T.named name.now result }
     ensures asks { AsksNamed encoding_cause T.needs name.now result }
 {
+    T::lawful_names();
     match str::from_utf8(name) {
         Ok(text) => T::from_label(alloc, text),
         Err(_) => Err(Error::Label),

@@ -25,13 +25,18 @@ pub use sshkey_model::laws::{
 /// it, and whatever follows it if the value ends by itself.
 pub fn read_back<T: NormalForm>()
     ensures { ReadBackBeginning T.IsWellFormed T.normal T.means T.format }
-{}
+{
+    T::lawful();
+    T::normal_spells();
+}
 
 /// Bytes begin with one value at most, and with one spelling of it. So no bytes spell two values,
 /// and no spelling of a value that ends by itself begins another.
 pub fn one_front<T: Decode>()
     ensures { OneBeginning T.format }
-{}
+{
+    T::lawful();
+}
 
 /// Two numbers are equal exactly if their bytes are. They are ordered by the first byte that
 /// differs, and a proper beginning comes before the whole.

@@ -11,7 +11,7 @@ ghost use Rattle.sshkey_base.specs.Reading.{Decodes, to_end};
 ghost use Rattle.sshkey_base.specs.Source.{Later};
 ghost use Rattle.sshkey_base.specs.Stops.{OverrunsList, OverrunsString, StopsPast};
 ghost use Rattle.sshkey_base.specs.Sink.{Encodes, Measures, MeasuresBoxed};
-ghost use Rattle.sshkey_base.specs.TextLists.{NeedsTexts, texts_of, text_list_at, texts_normal};
+ghost use Rattle.sshkey_base.specs.TextLists.{NeedsTexts, texts_of, text_list_at};
 
 use crate::decode::Decode;
 use crate::encode::{Encode, u32_of};
@@ -93,7 +93,7 @@ fn texts_from<R: Reader>(alloc: Global, reader: &mut R) -> Result<Vec<String>>
 /// nothing, or if a text's length is larger than what is left of the list. Fails with
 /// `CharacterEncoding` for a text that is not UTF-8. Over a sound source, fails with `Memory` only
 /// if the first text stands whole in the list.
-#[tactic(auto, using(crate::proofs::Boxes::boxes))]
+#[tactic(auto, using(crate::proofs::Lawful::texts_lawful, crate::proofs::Boxes::boxes))]
 impl Decode for Vec<String> {
     type Error = Error;
 
@@ -102,6 +102,8 @@ impl Decode for Vec<String> {
     ghost means = { texts_of };
 
     ghost format = { texts_format };
+
+    fn lawful() {}
 
     fn decode<R: Reader>(alloc: Global, reader: &mut R) -> Result<Vec<String>>
         ensures gives { Decodes texts_of texts_at R.source reader.old result reader.new }
@@ -141,8 +143,9 @@ impl Encode for Vec<String> {
     }
 }
 
+#[tactic(auto, using(crate::proofs::NormalForms::texts_normal))]
 impl NormalForm for Vec<String> {
     ghost IsWellFormed = { λ _. Unit {0} };
 
-    ghost normal_spells = { texts_normal };
+    fn normal_spells() {}
 }

@@ -226,7 +226,7 @@ impl fmt::Display for Mpint {
 ///
 /// Fails with `Length`, and allocates nothing, if the string is longer than the remaining input;
 /// with `FormatEncoding` if its bytes are those of no number.
-#[tactic(auto, using(crate::proofs::Steps::steps, crate::proofs::Stopping::stopping), unfolding(sshkey_model::specs::Mpints::mpint_at))]
+#[tactic(auto, using(crate::proofs::Lawful::mpint_lawful, crate::proofs::Steps::steps, crate::proofs::Stopping::stopping), unfolding(sshkey_model::specs::Mpints::mpint_at))]
 impl Decode for Mpint {
     ghost use Rattle.std.specs.Prelude.{ℕ, List};
     ghost use Rattle.sshkey_base.specs.Causes.{cause};
@@ -244,6 +244,8 @@ impl Decode for Mpint {
     ghost means = { mpint_of };
 
     ghost format = { mpint_format };
+
+    fn lawful() {}
 
     fn decode<R: Reader>(alloc: Global, reader: &mut R) -> Result<Mpint>
         ensures gives { DecodesWide mpint_of mpint_at R.source reader.old result reader.new }
@@ -276,10 +278,9 @@ impl Encode for Mpint {
 }
 
 /// Every number is one that its format has.
+#[tactic(auto, using(crate::proofs::NormalForms::mpint_normal))]
 impl NormalForm for Mpint {
-    ghost use Rattle.sshkey_base.specs.Mpint.{mpint_normal};
-
     ghost IsWellFormed = { λ _. Unit {0} };
 
-    ghost normal_spells = { mpint_normal };
+    fn normal_spells() {}
 }

@@ -1,7 +1,7 @@
 //! Values that are read back from what is written of them.
+#![tactic(auto, using(sshkey_model::specs::Grammar::normal_is_spelling))]
 
 ghost use Rattle.std.specs.Prelude.{◌≡◌, length};
-ghost use Rattle.sshkey_model.specs.Grammar.{normal_is_spelling};
 ghost use Rattle.sshkey_model.specs.Parts.{Fits, flat};
 ghost use Rattle.sshkey_model.specs.Texts.{IsText};
 
@@ -16,54 +16,56 @@ pub trait NormalForm: Decode + Encode {
     /// The value is one that its format has.
     ghost IsWellFormed: { Self → Type 0 };
 
-    /// The normal form is a spelling of the value.
-    ghost normal_spells: { (x : Self) → IsWellFormed x → Fits (Self.normal x) → Self.format.Spells (Self.means x) (flat (Self.normal x)) };
+    /// The normal form is a spelling of the value. Does nothing.
+    fn normal_spells()
+        ensures { (x : Self) → IsWellFormed x → Fits (Self.normal x) →
+            Self.format.Spells (Self.means x) (flat (Self.normal x)) };
 }
 
 impl NormalForm for u8 {
     ghost IsWellFormed = { λ _. Unit {0} };
 
-    ghost normal_spells = { normal_is_spelling };
+    fn normal_spells() {}
 }
 
 impl NormalForm for u32 {
     ghost IsWellFormed = { λ _. Unit {0} };
 
-    ghost normal_spells = { normal_is_spelling };
+    fn normal_spells() {}
 }
 
 impl NormalForm for u64 {
     ghost IsWellFormed = { λ _. Unit {0} };
 
-    ghost normal_spells = { normal_is_spelling };
+    fn normal_spells() {}
 }
 
 impl NormalForm for Bytes {
     ghost IsWellFormed = { λ _. Unit {0} };
 
-    ghost normal_spells = { normal_is_spelling };
+    fn normal_spells() {}
 }
 
 impl NormalForm for Text {
     ghost IsWellFormed = { IsText };
 
-    ghost normal_spells = { normal_is_spelling };
+    fn normal_spells() {}
 }
 
 impl NormalForm for Vec<u8> {
     ghost IsWellFormed = { λ _. Unit {0} };
 
-    ghost normal_spells = { λ v. normal_is_spelling v.items };
+    fn normal_spells() {}
 }
 
 impl<const N: usize> NormalForm for [u8; N] {
     ghost IsWellFormed = { λ b. length b ≡ N };
 
-    ghost normal_spells = { normal_is_spelling };
+    fn normal_spells() {}
 }
 
 impl<T: Label> NormalForm for T {
     ghost IsWellFormed = { λ x. T.IsNamed (T.stands_for x) };
 
-    ghost normal_spells = { λ x. normal_is_spelling (T.stands_for x) };
+    fn normal_spells() {}
 }

@@ -70,6 +70,10 @@ impl<T: Decode + Erase> Decode for Secret<T> {
 
     ghost format = { T.format };
 
+    fn lawful() {
+        T::lawful();
+    }
+
     #[inline(always)]
     fn decode<R: Reader>(alloc: Global, reader: &mut R) -> Result<Secret<T>, T::Error> {
         Ok(Secret(T::decode(alloc, reader)?))

@@ -71,7 +71,7 @@ impl<const MAX: usize> ShortBytes<MAX> {
 ///
 /// Fails with `Length` for a longer one, and for a length that passes what is left. Does not
 /// allocate.
-#[tactic(auto, using(crate::proofs::Steps::steps, crate::proofs::Stopping::stopping), unfolding(crate::specs::ShortStrings::short_at, sshkey_model::specs::Reading::string_at))]
+#[tactic(auto, using(crate::proofs::Lawful::short_lawful, crate::proofs::Steps::steps, crate::proofs::Stopping::stopping), unfolding(crate::specs::ShortStrings::short_at, sshkey_model::specs::Reading::string_at))]
 impl<const MAX: usize> Decode for ShortBytes<MAX> {
     ghost use Rattle.sshkey_base.specs.ShortBytes.{short_of};
 
@@ -82,6 +82,8 @@ impl<const MAX: usize> Decode for ShortBytes<MAX> {
     ghost means = { short_of };
 
     ghost format = { short_format MAX };
+
+    fn lawful() {}
 
     fn decode<R: Reader>(_alloc: Global, reader: &mut R) -> Result<ShortBytes<MAX>>
         ensures gives { Decodes short_of (short_at MAX) R.source reader.old result reader.new }

@@ -4,7 +4,6 @@ ghost use Rattle.std.specs.Prelude.{◌≡◌, ◌≤◌, ◌^◌, ℕ, Err};
 ghost use Rattle.std.specs.Int.{w32};
 ghost use Rattle.sshkey_model.specs.Reading.{number_at};
 ghost use Rattle.sshkey_base.specs.Causes.{encoding_cause};
-ghost use Rattle.sshkey_base.specs.Counts.{count_normal};
 ghost use Rattle.sshkey_base.specs.Leaves.{count};
 ghost use Rattle.sshkey_base.specs.Formats.{Stops, number32_format};
 ghost use Rattle.sshkey_base.specs.Needs.{Asks, NoNeed};
@@ -21,7 +20,7 @@ use crate::writer::Writer;
 use std::alloc::Global;
 
 /// A number of four bytes, most significant first (RFC 4251, section 5). Does not allocate.
-#[tactic(auto, using(crate::proofs::Steps::steps, crate::proofs::Stopping::stopping))]
+#[tactic(auto, using(crate::proofs::Lawful::number32_lawful, crate::proofs::Steps::steps, crate::proofs::Stopping::stopping))]
 impl Decode for usize {
     type Error = Error;
 
@@ -30,6 +29,8 @@ impl Decode for usize {
     ghost means = { λ n. n };
 
     ghost format = { number32_format };
+
+    fn lawful() {}
 
     fn decode<R: Reader>(_alloc: Global, reader: &mut R) -> Result<usize>
         ensures gives { Decodes (λ x. x) (number_at w32) R.source reader.old result reader.new }
@@ -68,5 +69,5 @@ impl Encode for usize {
 impl NormalForm for usize {
     ghost IsWellFormed = { λ _. Unit {0} };
 
-    ghost normal_spells = { count_normal };
+    fn normal_spells() {}
 }

@@ -8,7 +8,6 @@ ghost use Rattle.sshkey_base.specs.Needs.{Asks, NeedsString};
 ghost use Rattle.sshkey_base.specs.Reading.{Decodes};
 ghost use Rattle.sshkey_base.specs.Source.{Later};
 ghost use Rattle.sshkey_model.specs.Texts.{text_at};
-ghost use Rattle.sshkey_base.specs.Texts.{string_text_normal};
 
 use crate::decode::Decode;
 use crate::encode::{Encode, encode_string, string_len};
@@ -23,7 +22,7 @@ use std::alloc::Global;
 ///
 /// Fails with `CharacterEncoding` for bytes that are not. Fails with `Length`, and allocates
 /// nothing, if the stated length is larger than the remaining input.
-#[tactic(auto, using(crate::proofs::Steps::steps, crate::proofs::Stopping::stopping))]
+#[tactic(auto, using(crate::proofs::Lawful::text_lawful, crate::proofs::Steps::steps, crate::proofs::Stopping::stopping))]
 impl Decode for String {
     type Error = Error;
 
@@ -32,6 +31,8 @@ impl Decode for String {
     ghost means = { string_bytes };
 
     ghost format = { text_format };
+
+    fn lawful() {}
 
     fn decode<R: Reader>(alloc: Global, reader: &mut R) -> Result<String>
         ensures gives { Decodes string_bytes text_at R.source reader.old result reader.new }
@@ -74,8 +75,9 @@ impl Encode for &str {
     }
 }
 
+#[tactic(auto, using(crate::proofs::NormalForms::string_text_normal))]
 impl NormalForm for String {
     ghost IsWellFormed = { λ _. Unit {0} };
 
-    ghost normal_spells = { string_text_normal };
+    fn normal_spells() {}
 }

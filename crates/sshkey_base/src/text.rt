@@ -70,7 +70,7 @@ impl Text {
 ///
 /// Fails with `CharacterEncoding` for bytes that are not. Fails with `Length`, and allocates
 /// nothing, if the stated length is larger than the remaining input.
-#[tactic(auto, using(crate::proofs::Steps::steps, crate::proofs::Stopping::stopping), unfolding(sshkey_model::specs::Texts::text_at))]
+#[tactic(auto, using(crate::proofs::Lawful::text_lawful, crate::proofs::Steps::steps, crate::proofs::Stopping::stopping), unfolding(sshkey_model::specs::Texts::text_at))]
 impl Decode for Text {
     type Error = Error;
 
@@ -79,6 +79,8 @@ impl Decode for Text {
     ghost means = { λ t. t };
 
     ghost format = { text_format };
+
+    fn lawful() {}
 
     fn decode<R: Reader>(alloc: Global, reader: &mut R) -> Result<Text>
         ensures gives { Decodes (λ t. t) text_at R.source reader.old result reader.new }

@@ -22,6 +22,7 @@ mod signature;
 mod signer;
 mod sshsig;
 mod time;
+mod trust;
 mod userauth;
 mod version;
 mod walk;

@@ -8,10 +8,14 @@ ghost use Rattle.sshkey_keys.specs.Keys.{SpellsKey, key_data_at};
 ghost use Rattle.sshkey_login_calls.specs.Grants.{TellsGrant};
 ghost use Rattle.sshkey_login_calls.specs.Logins.{TellsLogin};
 ghost use Rattle.sshkey_login_calls.specs.Questions.{TellsLoginQuestion};
+ghost use Rattle.sshkey_login_calls.specs.UserKeys.{AreTexts, IsDenied, TellsPrincipals, TellsUser};
 ghost use Rattle.sshkey_model.specs.Reading.{Fault, whole};
 
 use sshkey_calls::Question;
-use sshkey_login_calls::{GrantParts, LoginRequest, login_question, login_verdict};
+use sshkey_login_calls::{
+    GrantParts, LoginRequest, UserGrantParts, login_question, login_verdict, principals_verdict,
+    user_keys_verdict,
+};
 use std::alloc::Global;
 
 /// What has to be verified of a login: `sshkey_login_calls::login_question`.
@@ -54,4 +58,55 @@ pub extern "C" fn sshkey_login_verdict(
         → IsUtf8 login.now.user.now × SpellsSome SpellsKey login.now.key.now }
 {
     login_verdict(alloc, login, is_verified, room, answer)
+}
+
+/// Whether authorized_keys lets a login in, and what it is granted:
+/// `sshkey_login_calls::user_keys_verdict`.
+#[unsafe(no_mangle)]
+pub extern "C" fn sshkey_user_keys_verdict(
+    alloc: Global,
+    login: &LoginRequest<'_>,
+    text: &[u8],
+    host: &[u8],
+    is_verified: u32,
+    room: &mut [u8],
+    answer: &mut UserGrantParts,
+) -> u32
+    ensures verdict { AreTexts login.now host.now → SpellsSome SpellsKey login.now.key.now
+        → TellsUser login.now text.now host.now is_verified result answer.new room.old room.new }
+    ensures stays { result ≢ 0 → result ≢ 2
+        → IsDenied answer.new × (room.new ≡ room.old) }
+    ensures fault { AreTexts login.now host.now → (fault : Fault)
+        → whole key_data_at login.now.key.now ≡ Err fault → result ≡ fault_number fault }
+    ensures text { (AreTexts login.now host.now → ⊥) → result ≡ 4 }
+    ensures memory { result ≡ 1 → AreTexts login.now host.now
+        × SpellsSome SpellsKey login.now.key.now }
+{
+    user_keys_verdict(alloc, login, text, host, is_verified, room, answer)
+}
+
+/// Whether a file of principals lets a login in, and what it is granted:
+/// `sshkey_login_calls::principals_verdict`.
+#[unsafe(no_mangle)]
+pub extern "C" fn sshkey_principals_verdict(
+    alloc: Global,
+    login: &LoginRequest<'_>,
+    text: &[u8],
+    host: &[u8],
+    is_verified: u32,
+    room: &mut [u8],
+    answer: &mut UserGrantParts,
+) -> u32
+    ensures verdict { AreTexts login.now host.now → SpellsSome SpellsKey login.now.key.now
+        → TellsPrincipals login.now text.now host.now is_verified result answer.new
+        room.old room.new }
+    ensures stays { result ≢ 0 → result ≢ 2
+        → IsDenied answer.new × (room.new ≡ room.old) }
+    ensures fault { AreTexts login.now host.now → (fault : Fault)
+        → whole key_data_at login.now.key.now ≡ Err fault → result ≡ fault_number fault }
+    ensures text { (AreTexts login.now host.now → ⊥) → result ≡ 4 }
+    ensures memory { result ≡ 1 → AreTexts login.now host.now
+        × SpellsSome SpellsKey login.now.key.now }
+{
+    principals_verdict(alloc, login, text, host, is_verified, room, answer)
 }

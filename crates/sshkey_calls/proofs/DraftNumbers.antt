@@ -13,11 +13,12 @@ use Rattle.sshkey_model.specs.Texts.{string, texts_at}
 use Rattle.sshkey_base.proofs.Accepted.{spelled_whole}
 use Rattle.sshkey_base.specs.Causes.{Cause, Faulty, NoMemory}
 use Rattle.sshkey_base.specs.Reading.{IsRefused}
-use Rattle.sshkey_base.specs.TextLists.{texts_grammar}
+use Rattle.sshkey_base.proofs.Leaves.{texts_grammar}
 use Rattle.sshkey_terms.specs.Slices.{Keeps}
-use Rattle.sshkey_keys.specs.KeyReaders.{key_grammar}
+use Rattle.sshkey_keys.proofs.KeyReaders.{key_grammar}
 use Rattle.sshkey_keys.specs.Keys.{SpellsKey, key_data_at}
-use Rattle.sshkey_cert_values.specs.OptionReaders.{options_grammar, options_value_at}
+use Rattle.sshkey_cert_values.specs.OptionReaders.{options_value_at}
+use Rattle.sshkey_cert_values.proofs.OptionLists.{options_grammar}
 use Rattle.sshkey_calls.specs.Drafts.{IsCertifiable, IsWrong, TellsFields, certifiable_number, draft_fault, first_number, key_number, list_number, number_of, parts_fault, string_number, text_number}
 use Rattle.sshkey_calls.specs.Numbers.{fault_number}
 use Rattle.sshkey_calls.proofs.Drafts.{fits_number, short_string}

@@ -6,7 +6,8 @@ use Rattle.sshkey_model.specs.Verification as model
 use Rattle.sshkey_model.proofs.Blobs.{key_blobs}
 use Rattle.sshkey_model.proofs.Grammars.{one_front}
 use Rattle.sshkey_keys.specs.Keys.{SpellsKey}
-use Rattle.sshkey_keys.specs.SignatureReaders.{SpellsSignature, signature_grammar}
+use Rattle.sshkey_keys.specs.SignatureReaders.{SpellsSignature}
+use Rattle.sshkey_keys.proofs.SignatureReaders.{signature_grammar}
 
 -- each reading raises the same
 pub same_question : (k j : Key) (g h : Signature) (key message signature : List ℕ) → SpellsKey k key → SpellsKey j key → SpellsSignature g signature → SpellsSignature h signature → model.question k message g ≡ model.question j message h

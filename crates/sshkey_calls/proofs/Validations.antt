@@ -15,7 +15,8 @@ use Rattle.sshkey_model.specs.Verification as model
 use Rattle.sshkey_model.proofs.Grammars.{one_front}
 use Rattle.sshkey_model.proofs.Refusals.{none_where_valid, none_where_wanted}
 use Rattle.sshkey_base.specs.Acceptance.{SpellsSome}
-use Rattle.sshkey_cert.specs.CertificateReaders.{SpellsCertificate, certificate_grammar}
+use Rattle.sshkey_cert.specs.CertificateReaders.{SpellsCertificate}
+use Rattle.sshkey_cert.proofs.CertificateReaders.{certificate_grammar}
 use Rattle.sshkey_cert.specs.Questions.{certificate_question}
 use Rattle.sshkey_cert_ref.specs.CertificateRef.{certificate_bytes, certificate_of, choices_of}
 use Rattle.sshkey_cert_ref.specs.declared.certificate_ref.CertificateRef.{CertificateRef}

@@ -19,8 +19,8 @@ pub struct Sha512Digest {
     pub bytes: [u8; 64],
 }
 
-/// Whether it is one of the digests.
-pub(crate) fn contains_digest(digests: &[Sha256Digest], digest: &[u8]) -> bool
+/// Whether the bytes are one of the digests. Does not allocate.
+pub fn contains_digest(digests: &[Sha256Digest], digest: &[u8]) -> bool
     ensures { result ≡ list_any (λ d. bytes_eq digest.now d.bytes) digests.now }
 {
     digests.iter().any(|one| digest == one.bytes.as_slice())

@@ -30,7 +30,7 @@ mod walk;
 mod write;
 
 pub use certified_key::certificate_key;
-pub use digest::{Sha256Digest, Sha512Digest};
+pub use digest::{Sha256Digest, Sha512Digest, contains_digest};
 pub use draft::{CertificateDraft, certificate_to_be_signed};
 pub use fields::{CertificateFields, certificate_fields};
 pub use key::{fingerprint, fingerprint_sha512, fingerprint_sha512_text, fingerprint_text};

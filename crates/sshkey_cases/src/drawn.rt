@@ -15,7 +15,7 @@ use std::alloc::Global;
 pub(crate) fn certificate(alloc: Global, bytes: &[u8]) -> Result<String> {
     let key = Ed25519PublicKey::try_from(bytes)?;
     let builder = for_all(begun(alloc, key)?)?;
-    issued::signed(alloc, builder, key, false)
+    issued::signed(alloc, builder, key)
 }
 
 fn begun(alloc: Global, key: Ed25519PublicKey) -> Result<Builder> {

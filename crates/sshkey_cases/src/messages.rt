@@ -1,8 +1,10 @@
 //! SSH signatures of messages, and what they sign.
 
 use crate::bytes::{part, text};
+use crate::signatures::{knower, unknown};
 use sshkey_base::{HashAlg, Result};
 use sshkey_doubles::{AcceptAll, Fixed};
+use sshkey_keys::RawVerifier;
 use sshkey_kinds::Ed25519PublicKey;
 use sshkey_public::PublicKey;
 use sshkey_sshsig::SshSig;
@@ -68,22 +70,26 @@ fn made_by(alloc: Global, signer: &Fixed, parts: &[Vec<u8>]) -> Result<SshSig> {
 /// the first, in the namespace that is the second, of the message that is the third. The verifier
 /// accepts all that it is asked.
 pub(crate) fn verified(alloc: Global, parts: &[Vec<u8>]) -> Result<String> {
-    let key = PublicKey::from_openssh(alloc, text(parts, 0)?)?;
-    verdict(alloc, &key, parts)
+    verified_by(alloc, parts, &AcceptAll)
 }
 
-fn verdict(alloc: Global, key: &PublicKey, parts: &[Vec<u8>]) -> Result<String> {
-    verify(alloc, key, parts)?;
+/// The same of all but the first three byte strings, by a verifier that knows that signature.
+pub(crate) fn known(alloc: Global, parts: &[Vec<u8>]) -> Result<String> {
+    verified_by(alloc, unknown(parts), &knower(alloc, parts)?)
+}
+
+fn verified_by<V: RawVerifier>(alloc: Global, parts: &[Vec<u8>], verifier: &V) -> Result<String> {
+    let key = PublicKey::from_openssh(alloc, text(parts, 0)?)?;
+    verify(alloc, &key, parts, verifier)?;
     Ok(String::from_str(alloc, "verified")?)
 }
 
-fn verify(alloc: Global, key: &PublicKey, parts: &[Vec<u8>]) -> Result<()> {
+fn verify<V: RawVerifier>(
+    alloc: Global,
+    key: &PublicKey,
+    parts: &[Vec<u8>],
+    verifier: &V,
+) -> Result<()> {
     let signature = SshSig::from_bytes(alloc, part(parts, 3))?;
-    key.verify(
-        alloc,
-        text(parts, 1)?,
-        part(parts, 2),
-        &signature,
-        &AcceptAll,
-    )
+    key.verify(alloc, text(parts, 1)?, part(parts, 2), &signature, verifier)
 }

@@ -41,3 +41,53 @@ pub(crate) fn shown(alloc: Global, bytes: &[u8]) -> Result<String> {
     let pair: KeypairData = decode_whole(alloc, bytes)?;
     debugged(alloc, &pair)
 }
+
+/// Which kinds the pair that all the bytes spell says it is, and which of them it gives; its
+/// algorithm, and what is written of its public half.
+pub(crate) fn told(alloc: Global, bytes: &[u8]) -> Result<String> {
+    let pair: KeypairData = decode_whole(alloc, bytes)?;
+    let kinds = kinds_of(alloc, &pair)?;
+    let algorithm = pair.algorithm(alloc)?;
+    let half = half_of(alloc, &pair)?;
+    Ok(format!(in alloc; "{kinds} {algorithm}, {half}")?)
+}
+
+fn half_of(alloc: Global, pair: &KeypairData) -> Result<String> {
+    let written = encode_vec(alloc, &pair.to_public(alloc)?)?;
+    Ok(hex::encode(alloc, &written)?)
+}
+
+fn kinds_of(alloc: Global, pair: &KeypairData) -> Result<String> {
+    let kinds = [
+        ("DSA", pair.is_dsa(), pair.dsa().is_some()),
+        ("ECDSA", pair.is_ecdsa(), pair.ecdsa().is_some()),
+        ("Ed25519", pair.is_ed25519(), pair.ed25519().is_some()),
+        (
+            "ciphertext",
+            pair.is_encrypted(),
+            pair.encrypted().is_some(),
+        ),
+        ("RSA", pair.is_rsa(), pair.rsa().is_some()),
+        (
+            "ECDSA by a security key",
+            pair.is_sk_ecdsa_p256(),
+            pair.sk_ecdsa_p256().is_some(),
+        ),
+        (
+            "Ed25519 by a security key",
+            pair.is_sk_ed25519(),
+            pair.sk_ed25519().is_some(),
+        ),
+        ("opaque", pair.is_other(), pair.other().is_some()),
+    ];
+    let mut shown = String::new(alloc);
+    for (name, is, gives) in kinds {
+        if is {
+            shown.push_str(name)?;
+        }
+        if gives {
+            shown.push_str(", given,")?;
+        }
+    }
+    Ok(shown)
+}

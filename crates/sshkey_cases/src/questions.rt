@@ -3,9 +3,9 @@
 use crate::bytes::{NO_LINE, erase, part, parts, text};
 use crate::wire::shown;
 use crate::{
-    addresses, again, certificates, copies, drawn, entries, faulty, files, hosts, issued, keys,
-    kinds, krl, messages, names, narrow, openssh_lines, option_items, pairs, privates, revoked,
-    signatures, slices, validity, wire, without_memory,
+    addresses, again, certificates, copies, drawn, entries, faulty, fields, files, hosts, issued,
+    keys, kinds, krl, messages, names, narrow, openssh_lines, option_items, pairs, privates,
+    requests, revoked, signatures, slices, validity, wire, without_memory,
 };
 use sshkey_base::{Algorithm, AlgorithmName, EcdsaCurve, Error, HashAlg, Mpint, Result};
 use sshkey_cert::Certificate;
@@ -179,6 +179,7 @@ fn answer_of_keys(alloc: Global, question: &str, parts: &[Vec<u8>]) -> Result<St
         "signature-of-bytes" => signatures::made(alloc, parts),
         "rising-signatures" => wire::rising::<Signature>(alloc, parts),
         "accepted" => signatures::accepted(alloc, parts),
+        "known" => signatures::known(alloc, parts),
         _ => answer_of_messages(alloc, question, parts),
     }
 }
@@ -193,8 +194,11 @@ fn answer_of_messages(alloc: Global, question: &str, parts: &[Vec<u8>]) -> Resul
         "signed-bytes-of-digest" => messages::bytes_of_digest(alloc, parts),
         "ssh-signature-made" => messages::made(alloc, parts),
         "verified" => messages::verified(alloc, parts),
+        "known-ssh-signature" => messages::known(alloc, parts),
         "public-key" => certificates::public_key(alloc, bytes),
         "drawn-certificate" => drawn::certificate(alloc, bytes),
+        "login" => requests::told(alloc, bytes),
+        "login-question" => requests::asked(alloc, parts),
         _ => answer_of_slices(alloc, question, parts),
     }
 }
@@ -212,6 +216,7 @@ fn answer_of_slices(alloc: Global, question: &str, parts: &[Vec<u8>]) -> Result<
         "certificate-parts" => certificates::parts(alloc, bytes),
         "validity-slice" | "validity-of-slice" => validity::slice(alloc, parts),
         "accepted-slice" => signatures::accepted_slice(alloc, parts),
+        "known-slice" => signatures::known_slice(alloc, parts),
         "krl" => krl::said(alloc, parts),
         "krl-made" => krl::made(alloc, parts),
         "revoked" => revoked::said(alloc, parts),
@@ -232,6 +237,9 @@ fn answer_of_certificates(alloc: Global, question: &str, parts: &[Vec<u8>]) -> R
         "options-of-pairs" => certificates::options(alloc, parts),
         "issued" => issued::certificate(alloc, parts),
         "validity" | "validity-of" => validity::owned(alloc, parts),
+        "certificate-fields" => fields::told(alloc, parts),
+        "known-certificate" => validity::known(alloc, parts),
+        "known-certificate-slice" => validity::known_slice(alloc, parts),
         _ => answer_of_privates(alloc, question, parts),
     }
 }
@@ -246,6 +254,7 @@ fn answer_of_privates(alloc: Global, question: &str, parts: &[Vec<u8>]) -> Resul
         "made-scalar" => pairs::made_scalar(alloc, bytes),
         "pair-under" => pairs::named(alloc, parts),
         "shown-pair" => pairs::shown(alloc, bytes),
+        "pair-parts" => pairs::told(alloc, bytes),
         "private-key" => privates::whole(alloc, bytes),
         "padded-private-key" => privates::padded(alloc, bytes),
         "private-key-in-front" => privates::front(alloc, bytes),

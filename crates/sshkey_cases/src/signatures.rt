@@ -2,8 +2,8 @@
 
 use crate::bytes::{part, text};
 use sshkey_base::{Algorithm, Error, Result, decode_whole};
-use sshkey_doubles::AcceptAll;
-use sshkey_keys::{KeyData, Signature};
+use sshkey_doubles::{AcceptAll, Only};
+use sshkey_keys::{KeyData, RawVerifier, Signature};
 use sshkey_keys_ref::{KeyDataRef, SignatureRef};
 use std::alloc::Global;
 
@@ -39,12 +39,37 @@ pub(crate) fn made(alloc: Global, parts: &[Vec<u8>]) -> Result<String> {
 /// the name of the algorithm for which it asks nothing.
 pub(crate) fn accepted(alloc: Global, parts: &[Vec<u8>]) -> Result<String> {
     let key: KeyData = decode_whole(alloc, part(parts, 0))?;
-    answer(alloc, verify(alloc, &key, parts))
+    answer(alloc, verify(alloc, &key, parts, &AcceptAll))
 }
 
-fn verify(alloc: Global, key: &KeyData, parts: &[Vec<u8>]) -> Result<()> {
+fn verify<V: RawVerifier>(
+    alloc: Global,
+    key: &KeyData,
+    parts: &[Vec<u8>],
+    verifier: &V,
+) -> Result<()> {
     let signature = Signature::from_bytes(alloc, part(parts, 2))?;
-    key.verify(alloc, part(parts, 1), &signature, &AcceptAll)
+    key.verify(alloc, part(parts, 1), &signature, verifier)
+}
+
+/// The same of all but the first three byte strings, which the verifier knows.
+pub(crate) fn known(alloc: Global, parts: &[Vec<u8>]) -> Result<String> {
+    let rest = unknown(parts);
+    let key: KeyData = decode_whole(alloc, part(rest, 0))?;
+    answer(alloc, verify(alloc, &key, rest, &knower(alloc, parts)?))
+}
+
+/// The verifier that knows one signature: by the algorithm that the first byte string names, of the
+/// message that is the second, the bytes of the third.
+pub(crate) fn knower(alloc: Global, parts: &[Vec<u8>]) -> Result<Only> {
+    let algorithm = Algorithm::new(alloc, text(parts, 0)?)?;
+    let message = part(parts, 1).to_vec(alloc)?;
+    Ok(Only::new(algorithm, message, part(parts, 2).to_vec(alloc)?))
+}
+
+/// The byte strings after those.
+pub(crate) fn unknown(parts: &[Vec<u8>]) -> &[Vec<u8>] {
+    parts.get(3..).unwrap_or(&[])
 }
 
 fn answer(alloc: Global, verified: Result<()>) -> Result<String> {
@@ -59,12 +84,25 @@ fn answer(alloc: Global, verified: Result<()>) -> Result<String> {
 
 /// Whether the same key as a slice accepts the same signature as a slice.
 pub(crate) fn accepted_slice(alloc: Global, parts: &[Vec<u8>]) -> Result<String> {
-    let accepts = accepts_slice(alloc, parts)?;
+    word(alloc, accepts_slice(alloc, parts, &AcceptAll)?)
+}
+
+/// The same by a verifier that knows one signature.
+pub(crate) fn known_slice(alloc: Global, parts: &[Vec<u8>]) -> Result<String> {
+    let knower = knower(alloc, parts)?;
+    word(alloc, accepts_slice(alloc, unknown(parts), &knower)?)
+}
+
+fn word(alloc: Global, accepts: bool) -> Result<String> {
     Ok(String::from_str(alloc, if accepts { "accepted" } else { "refused" })?)
 }
 
-pub(crate) fn accepts_slice(alloc: Global, parts: &[Vec<u8>]) -> Result<bool> {
+pub(crate) fn accepts_slice<V: RawVerifier>(
+    alloc: Global,
+    parts: &[Vec<u8>],
+    verifier: &V,
+) -> Result<bool> {
     let key = KeyDataRef::from_bytes(part(parts, 0))?;
     let signature = SignatureRef::from_bytes(part(parts, 2))?;
-    Ok(key.accepts(alloc, part(parts, 1), &signature, &AcceptAll)?)
+    Ok(key.accepts(alloc, part(parts, 1), &signature, verifier)?)
 }

@@ -11,6 +11,7 @@ use sshkey_base::{
 use sshkey_base64::{Base64Reader, write_base64};
 use sshkey_cert_ref::{OptionsRef, TextsRef};
 use sshkey_ciphers::{Cipher, KdfAlg};
+use sshkey_doubles::AcceptAll;
 use sshkey_keys::{Fingerprint, KeyData};
 use sshkey_keys_ref::{KeyDataRef, SignatureRef};
 use sshkey_pair_kinds::EcdsaPrivateKey;
@@ -40,7 +41,7 @@ pub(crate) fn value(alloc: Global, kind: &str, parts: &[Vec<u8>]) -> Result<Stri
             .is_some(),
         "openssh-options" => are_options(alloc, text(parts, 0)?)?,
         "validity-slice" => validity::is_valid_slice(alloc, parts)?,
-        "accepted-slice" => signatures::accepts_slice(alloc, parts)?,
+        "accepted-slice" => signatures::accepts_slice(alloc, parts, &AcceptAll)?,
         "krl" => krl::is_revoked(alloc, parts)?,
         "addresses" => addresses::is_allowed(parts)?,
         _ => is_name(alloc, kind, text(parts, 0)?)?,

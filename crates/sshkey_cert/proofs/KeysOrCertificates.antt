@@ -11,7 +11,8 @@ use Rattle.sshkey_base.specs.Reading.{NoSpelling}
 use Rattle.sshkey_base.specs.Source.{IsSound, all_of}
 use Rattle.sshkey_base.specs.declared.error.Error.{Error}
 use Rattle.sshkey_keys.specs.Keys.{SpellsKey}
-use Rattle.sshkey_cert.specs.CertificateReaders.{SpellsCertificate, certificate_grammar, certificate_value_at}
+use Rattle.sshkey_cert.specs.CertificateReaders.{SpellsCertificate, certificate_value_at}
+use Rattle.sshkey_cert.proofs.CertificateReaders.{certificate_grammar}
 use Rattle.sshkey_cert.specs.KeysOrCertificates.{AcceptsEither, NeedsEither, names_certificate}
 use Rattle.sshkey_cert.specs.declared.key_or_certificate.KeyOrCertificate.TheVariants as either
 

@@ -7,3 +7,4 @@ pub mod Lines
 pub mod OneLines
 pub mod KeysOfCertificates
 pub mod KeysOrCertificates
+pub mod CertificateReaders

@@ -1,11 +1,10 @@
--- The format of certificates (PROTOCOL.certkeys): the term that they are read as. The lemma need not
--- be believed.
+-- The format of certificates (PROTOCOL.certkeys): the term that they are read as.
 use Rattle.std.specs.Prelude.{Result, Ok}
 use Rattle.sshkey_model.specs.Certificates.{SignedFields, Certificate}
 use Rattle.sshkey_model.specs.Reading.{Fault}
 use Rattle.sshkey_model.specs.Signatures.{Signature}
 use Rattle.sshkey_base.specs.Formats.{Format}
-use Rattle.sshkey_terms.specs.Terms.{◌then◌, boxed, tested, IsMapped, checked_read}
+use Rattle.sshkey_terms.specs.Terms.{◌then◌, boxed, tested}
 use Rattle.sshkey_keys.specs.KeyFormats.{signature_format}
 use Rattle.sshkey_cert_fields.specs.ToBeSignedFormats.{to_be_signed_format}
 
@@ -18,6 +17,3 @@ certificate_of_parts (fields, signature) = Ok (record { signed = fields; signatu
 
 abbrev pub certificate_format : Format Certificate
 certificate_format = tested certificate_of_parts signed_format
-
-pub certificate_parts_read : IsMapped certificate_format.read certificate_of_parts signed_format.read
-certificate_parts_read = checked_read certificate_of_parts signed_format.read

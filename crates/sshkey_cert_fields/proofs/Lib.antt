@@ -1,2 +1,4 @@
 pub mod Names
 pub mod Copies
+pub mod ToBeSignedReaders
+pub mod Lawful

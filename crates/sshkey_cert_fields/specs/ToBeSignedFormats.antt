@@ -1,5 +1,5 @@
 -- The format of what a certificate's signature is over (PROTOCOL.certkeys): the term that it is read
--- as. The lemmas need not be believed.
+-- as.
 use Rattle.std.specs.Prelude.{ℕ, List, Result, Ok}
 use Rattle.sshkey_model.specs.Certificates.{CertificateType, SignedFields}
 use Rattle.sshkey_model.specs.Keys.{Key}
@@ -8,10 +8,10 @@ use Rattle.sshkey_model.specs.Options.{CertificateOption}
 use Rattle.sshkey_model.specs.Reading.{Fault}
 use Rattle.sshkey_base.specs.Formats.{Format, number64_format, string_format, text_format, texts_format}
 use Rattle.sshkey_base.specs.NameFormats.{certified_format}
-use Rattle.sshkey_terms.specs.Terms.{◌then◌, boxed, dependent, tested, IsMapped, checked_read}
+use Rattle.sshkey_terms.specs.Terms.{◌then◌, boxed, dependent, tested}
 use Rattle.sshkey_keys.specs.KeyFormats.{body_format, key_format}
 use Rattle.sshkey_cert_values.specs.Leaves.{type_format, time_format, end_format}
-use Rattle.sshkey_cert_values.specs.OptionLists.{options_format}
+use Rattle.sshkey_cert_values.specs.OptionReaders.{options_format}
 
 -- the name of the key's algorithm, and the nonce
 abbrev pub opening_format : Format (Algorithm × List ℕ)
@@ -27,9 +27,6 @@ subject_of_parts x = Ok (x.0.1, x.1)
 
 abbrev pub subject_format : Format (List ℕ × Key)
 subject_format = tested subject_of_parts named_format
-
-pub subject_parts_read : IsMapped subject_format.read subject_of_parts named_format.read
-subject_parts_read = checked_read subject_of_parts named_format.read
 
 abbrev pub GrantFields : Type 0
 GrantFields = (ℕ × CertificateType) × (List ℕ × List (List ℕ))
@@ -64,6 +61,3 @@ to_be_signed_of_parts (((nonce, key), ((serial, kind), (key_id, principals))), (
 
 abbrev pub to_be_signed_format : Format SignedFields
 to_be_signed_format = tested to_be_signed_of_parts fields_format
-
-pub to_be_signed_parts_read : IsMapped to_be_signed_format.read to_be_signed_of_parts fields_format.read
-to_be_signed_parts_read = checked_read to_be_signed_of_parts fields_format.read

@@ -1,14 +1,8 @@
--- Which bytes spell what a certificate's signature is over, and how they are read. The lemmas are
--- proved, and need not be believed.
-use Rattle.std.proofs.Common.{◌≡◌, ℕ, List}
-use Rattle.sshkey_model.specs.Reading.{Front, behind_at}
-use Rattle.sshkey_model.specs.Grammar.{IsGrammar, SpellsWith, value_at}
-use Rattle.sshkey_model.specs.Certificates.{SignedFields, AreSignedFields, HaveSignedPlaces, to_be_signed, signed_fields_at, type_at, time_at, end_at}
-use Rattle.sshkey_model.proofs.CertificateReaders.{signed_fields_reads}
-use Rattle.sshkey_model.proofs.CombinedReaders.{bind_assoc}
-use Rattle.sshkey_model.proofs.Grammars.{grammar_with, same_grammar}
-use Rattle.sshkey_keys.proofs.BoxedKeys.{key_box}
-use Rattle.sshkey_cert_values.specs.OptionReaders.{options_value_at}
+-- Which bytes spell what a certificate's signature is over, and how they are read.
+use Rattle.std.specs.Prelude.{ℕ, List}
+use Rattle.sshkey_model.specs.Reading.{Front}
+use Rattle.sshkey_model.specs.Grammar.{SpellsWith}
+use Rattle.sshkey_model.specs.Certificates.{SignedFields, AreSignedFields, HaveSignedPlaces, to_be_signed}
 use Rattle.sshkey_cert_fields.specs.ToBeSignedFormats.{to_be_signed_format}
 
 abbrev pub to_be_signed_value_at : Front SignedFields
@@ -17,11 +11,3 @@ to_be_signed_value_at = to_be_signed_format.read
 -- the bytes spell all but the signature
 abbrev pub SpellsToBeSigned : SignedFields → List ℕ → Type 0
 SpellsToBeSigned = SpellsWith AreSignedFields HaveSignedPlaces to_be_signed
-
--- The reader that gives the choices of the spelling too reads the same fields.
-pub to_be_signed_is : (b : List ℕ) → value_at signed_fields_at b ≡ to_be_signed_value_at b
-unfolding signed_fields_at type_at time_at end_at options_value_at behind_at
-to_be_signed_is b = simp (bind_assoc, key_box)
-
-pub to_be_signed_grammar : IsGrammar SpellsToBeSigned to_be_signed_value_at
-to_be_signed_grammar = same_grammar (grammar_with signed_fields_reads) to_be_signed_is

@@ -69,7 +69,7 @@ impl ToBeSigned {
 /// type other than 1 and 2 and for options that are not in ascending order of their names, `Time`
 /// for a time above 2^63 - 1 (but 2^64 - 1 is allowed as `valid_before`), the faults of keys, and
 /// `TrailingData` with the number of bytes that follow a key or a value in its string.
-#[tactic(auto, using(sshkey_terms::proofs::Mapped::mapped, crate::specs::ToBeSignedFormats::to_be_signed_parts_read))]
+#[tactic(auto, using(sshkey_terms::proofs::Mapped::mapped, crate::proofs::ToBeSignedReaders::to_be_signed_parts_read, crate::proofs::Lawful::to_be_signed_lawful))]
 impl Decode for ToBeSigned {
     ghost use Rattle.sshkey_cert_fields.specs.ToBeSignedValues.{to_be_signed_of};
 
@@ -80,6 +80,8 @@ impl Decode for ToBeSigned {
     ghost means = { to_be_signed_of };
 
     ghost format = { to_be_signed_format };
+
+    fn lawful() {}
 
     fn decode<R: Reader>(alloc: Global, reader: &mut R) -> Result<ToBeSigned> {
         type Grant = Then<Then<Wide<u64>, CertType>, Then<Wide<Text>, Wide<Vec<String>>>>;

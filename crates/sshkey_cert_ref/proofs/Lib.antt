@@ -13,3 +13,4 @@ pub mod Spellings
 pub mod Answered
 pub mod KeysInPlace
 pub mod Asking
+pub mod Lawful

@@ -7,7 +7,7 @@ use Rattle.sshkey_model.proofs.OptionReaders.{option_list_reads}
 use Rattle.sshkey_base.specs.Answers.{AnswersAlways}
 use Rattle.sshkey_base.specs.Causes.{Cause}
 use Rattle.sshkey_base.specs.Reading.{NoSpelling}
-use Rattle.sshkey_base.specs.Lengths.{with_rest}
+use Rattle.sshkey_base.proofs.Lengths.{with_rest}
 use Rattle.sshkey_base.proofs.MappedBoxes.{on_value, made}
 use Rattle.sshkey_cert_ref.specs.declared.options_ref.OptionsRef.{OptionsRef}
 use Rattle.sshkey_cert_ref.specs.OptionLists.{SpellsEachOption, options_in, nestings_in, are_plain, plainness_from}

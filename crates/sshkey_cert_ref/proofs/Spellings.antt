@@ -13,9 +13,10 @@ use Rattle.sshkey_model.proofs.CombinedReaders.{ok_is, prefix}
 use Rattle.sshkey_model.proofs.KeyReaders.{key_reads, body_reads}
 use Rattle.sshkey_model.proofs.NormalFits.{key_fits}
 use Rattle.sshkey_base.proofs.Accepted.{spelled_whole}
-use Rattle.sshkey_keys.specs.KeyReaders.{key_grammar}
+use Rattle.sshkey_keys.proofs.KeyReaders.{key_grammar}
 use Rattle.sshkey_keys.specs.Keys.{SpellsKey, key_data_at}
-use Rattle.sshkey_keys.specs.SignatureReaders.{SpellsSignature, signature_grammar}
+use Rattle.sshkey_keys.specs.SignatureReaders.{SpellsSignature}
+use Rattle.sshkey_keys.proofs.SignatureReaders.{signature_grammar}
 use Rattle.sshkey_keys_ref.specs.NormalBytes.{GivesNormal}
 use Rattle.sshkey_cert_ref.proofs.Certificates.{IsSpelledBy}
 

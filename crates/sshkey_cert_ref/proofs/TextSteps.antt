@@ -19,7 +19,7 @@ use Rattle.sshkey_keys_ref.specs.Taking.{TakesValue}
 use Rattle.sshkey_terms.specs.Slices.{Keeps, is_taken}
 use Rattle.sshkey_cert_ref.specs.Views.{bytes_of_texts, texts_of}
 use Rattle.sshkey_cert_ref.specs.declared.texts_ref.TextsRef.{TextsRef}
-use Rattle.sshkey_base.specs.Lengths.{with_rest}
+use Rattle.sshkey_base.proofs.Lengths.{with_rest}
 use Rattle.sshkey_terms.proofs.SliceFronts.{taken_value}
 use Rattle.sshkey_cert_ref.proofs.ListSteps.{first_of, empty_list, all_refused, all_taken}
 

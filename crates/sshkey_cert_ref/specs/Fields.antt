@@ -7,11 +7,7 @@ use Rattle.sshkey_model.specs.Names.{Dsa}
 use Rattle.sshkey_model.specs.Options.{CertificateOption, Nesting, options_at}
 use Rattle.sshkey_model.specs.Reading.{whole}
 use Rattle.sshkey_model.specs.Signatures.{Signature, signature_at}
-use Rattle.sshkey_model.proofs.Grammars.{grammar, by_itself}
-use Rattle.sshkey_model.proofs.KeyReaders.{key_reads}
-use Rattle.sshkey_model.proofs.OptionReaders.{options_reads}
 use Rattle.sshkey_base.specs.Formats.{Format, string_format}
-use Rattle.sshkey_base.specs.Lengths.{no_lengths}
 use Rattle.sshkey_base.specs.Needs.{NoNeed}
 use Rattle.sshkey_base.specs.Stops.{NoOverrun}
 use Rattle.sshkey_terms.specs.Terms.{◌then◌, boxed}
@@ -28,11 +24,11 @@ OptionsAsSpelled = List CertificateOption × List Nesting
 
 -- options in a string, each empty value as its choice says
 abbrev pub spelled_options_format : Format OptionsAsSpelled
-spelled_options_format = record { Spells = SpellsOptionString; read = options_at; needs = NoNeed; overruns = NoOverrun; grammar = by_itself (grammar options_reads); lengths = no_lengths options_at }
+spelled_options_format = record { Spells = SpellsOptionString; read = options_at; delimited_at = options_at; needs = NoNeed; overruns = NoOverrun }
 
 -- a key, and how its name is spelled
 abbrev pub spelled_key_format : Format (Key × Head)
-spelled_key_format = record { Spells = SpellsAs IsKey HasKeyPlaces key; read = key_at; needs = NoNeed; overruns = NoOverrun; grammar = by_itself (grammar key_reads); lengths = no_lengths key_at }
+spelled_key_format = record { Spells = SpellsAs IsKey HasKeyPlaces key; read = key_at; delimited_at = key_at; needs = NoNeed; overruns = NoOverrun }
 
 abbrev pub boxed_key_format : Format (Key × Head)
 boxed_key_format = boxed spelled_key_format

@@ -3,6 +3,7 @@
 ghost use Rattle.std.specs.Prelude.{◌≡◌, true};
 ghost use Rattle.sshkey_base.specs.Answers.{AnswersAlways};
 ghost use Rattle.sshkey_base.specs.Causes.{cause};
+ghost use Rattle.sshkey_base.specs.Formats.{IsFormat};
 ghost use Rattle.sshkey_base.specs.NameFormats.{certified_format};
 ghost use Rattle.sshkey_model.specs.CertificateNames.{certified_from};
 ghost use Rattle.sshkey_model.specs.Names as names;
@@ -22,7 +23,7 @@ pub(crate) struct CertificateName<'a> {
 
 /// The string of the name. Fails with `Length` if it is not there whole, with `Label` if it is no
 /// such name.
-#[tactic(auto, using(sshkey_terms::proofs::Walking::walking), unfolding(sshkey_model::specs::CertificateNames::certificate_algorithm_at))]
+#[tactic(auto, using(sshkey_terms::proofs::Walking::walking, crate::proofs::Lawful::lawful), unfolding(sshkey_model::specs::CertificateNames::certificate_algorithm_at))]
 impl<'a> ReadFrom<&'a [u8]> for CertificateName<'a> {
     type Error = Error;
 
@@ -31,6 +32,10 @@ impl<'a> ReadFrom<&'a [u8]> for CertificateName<'a> {
     ghost means = { λ n. certified_in n.name.now };
 
     ghost format = { certified_format };
+
+    fn lawful()
+        ensures { IsFormat certified_format }
+    {}
 
     fn read_from(reader: &mut &'a [u8]) -> Result<CertificateName<'a>> {
         let string = <&'a [u8]>::read_from(reader)?;

@@ -2,6 +2,7 @@
 
 ghost use Rattle.std.specs.Prelude.{ℕ};
 ghost use Rattle.sshkey_base.specs.Causes.{cause};
+ghost use Rattle.sshkey_base.specs.Formats.{IsFormat};
 ghost use Rattle.sshkey_model.specs.Certificates.{CertificateType};
 ghost use Rattle.sshkey_model.specs.Keys.{Head, Key};
 ghost use Rattle.sshkey_model.specs.Reading.{box_at, whole};
@@ -25,7 +26,7 @@ use std::convert::TryFrom;
 pub(crate) struct Field<T>(pub T);
 
 /// The type, a number of four bytes. Fails with `FormatEncoding` if it is neither 1 nor 2.
-#[tactic(auto, using(sshkey_terms::proofs::Walking::walking))]
+#[tactic(auto, using(sshkey_terms::proofs::Walking::walking, crate::proofs::Lawful::lawful))]
 impl<'a> ReadFrom<&'a [u8]> for Field<CertType> {
     type Error = Error;
 
@@ -35,6 +36,10 @@ impl<'a> ReadFrom<&'a [u8]> for Field<CertType> {
 
     ghost format = { type_format };
 
+    fn lawful()
+        ensures { IsFormat type_format }
+    {}
+
     fn read_from(reader: &mut &'a [u8]) -> Result<Field<CertType>> {
         let number = u32::read_from(reader)?;
         Ok(Field(CertType::try_from(number)?))
@@ -42,7 +47,7 @@ impl<'a> ReadFrom<&'a [u8]> for Field<CertType> {
 }
 
 /// A time, a number of eight bytes. `Time` above 2^63 - 1.
-#[tactic(auto, using(sshkey_terms::proofs::Walking::walking))]
+#[tactic(auto, using(sshkey_terms::proofs::Walking::walking, crate::proofs::Lawful::lawful))]
 impl<'a> ReadFrom<&'a [u8]> for Field<UnixTime> {
     type Error = Error;
 
@@ -52,6 +57,10 @@ impl<'a> ReadFrom<&'a [u8]> for Field<UnixTime> {
 
     ghost format = { time_format };
 
+    fn lawful()
+        ensures { IsFormat time_format }
+    {}
+
     fn read_from(reader: &mut &'a [u8]) -> Result<Field<UnixTime>> {
         let secs = u64::read_from(reader)?;
         Ok(Field(UnixTime::new(secs)?))
@@ -59,7 +68,7 @@ impl<'a> ReadFrom<&'a [u8]> for Field<UnixTime> {
 }
 
 /// An end of validity, a number of eight bytes. `Time` above 2^63 - 1, but for 2^64 - 1.
-#[tactic(auto, using(sshkey_terms::proofs::Walking::walking))]
+#[tactic(auto, using(sshkey_terms::proofs::Walking::walking, crate::proofs::Lawful::lawful))]
 impl<'a> ReadFrom<&'a [u8]> for Field<EndTime> {
     type Error = Error;
 
@@ -68,6 +77,10 @@ impl<'a> ReadFrom<&'a [u8]> for Field<EndTime> {
     ghost means = { λ f. end_of f.0 };
 
     ghost format = { end_format };
+
+    fn lawful()
+        ensures { IsFormat end_format }
+    {}
 
     fn read_from(reader: &mut &'a [u8]) -> Result<Field<EndTime>> {
         let secs = u64::read_from(reader)?;
@@ -80,6 +93,7 @@ impl<'a> ReadFrom<&'a [u8]> for Field<EndTime> {
 pub(crate) struct KeyInString<'a>(pub KeyDataRef<'a>);
 
 /// The faults of a string, and then those of the key.
+#[tactic(auto, using(crate::proofs::Lawful::lawful))]
 impl<'a> ReadFrom<&'a [u8]> for KeyInString<'a> {
     type Error = Error;
 
@@ -88,6 +102,10 @@ impl<'a> ReadFrom<&'a [u8]> for KeyInString<'a> {
     ghost means = { λ f. spelled_key_of f.0 };
 
     ghost format = { boxed_key_format };
+
+    fn lawful()
+        ensures { IsFormat boxed_key_format }
+    {}
 
     fn read_from(reader: &mut &'a [u8]) -> Result<KeyInString<'a>> {
         let string = take_string(reader)?;

@@ -89,9 +89,10 @@ impl<'a> TextsRef<'a> {
 }
 
 /// Texts in a string: the faults of a string, and then those of the texts.
+#[tactic(auto, using(crate::proofs::Lawful::lawful))]
 impl<'a> ReadFrom<&'a [u8]> for TextsRef<'a> {
     ghost use Rattle.std.specs.Prelude.{ℕ, List};
-    ghost use Rattle.sshkey_base.specs.Formats.{texts_format};
+    ghost use Rattle.sshkey_base.specs.Formats.{IsFormat, texts_format};
     ghost use Rattle.sshkey_cert_ref.specs.Views.{texts_of};
 
     type Error = Error;
@@ -101,6 +102,10 @@ impl<'a> ReadFrom<&'a [u8]> for TextsRef<'a> {
     ghost means = { texts_of };
 
     ghost format = { texts_format };
+
+    fn lawful()
+        ensures { IsFormat texts_format }
+    {}
 
     fn read_from(reader: &mut &'a [u8]) -> Result<TextsRef<'a>> {
         let string = take_string(reader)?;

@@ -6,3 +6,5 @@ pub mod WrittenOptions
 pub mod OptionPairs
 pub mod OptionsAmong
 pub mod RisingNames
+pub mod OptionLists
+pub mod Lawful

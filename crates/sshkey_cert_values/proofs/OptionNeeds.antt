@@ -7,7 +7,7 @@ use Rattle.sshkey_model.specs.Options.{CertificateOption}
 use Rattle.sshkey_model.specs.Reading.{Fault, Length, number_at, string_at}
 use Rattle.sshkey_model.specs.Texts.{text_at}
 use Rattle.sshkey_base.specs.Causes.{Cause, NoMemory, Faulty}
-use Rattle.sshkey_base.specs.Lengths.{text_lengths}
+use Rattle.sshkey_base.proofs.Lengths.{text_lengths}
 use Rattle.sshkey_base.specs.Needs.{HasString, NeedsString}
 use Rattle.sshkey_base.specs.Reading.{Reads}
 use Rattle.sshkey_base.specs.Source.{IsSound, Later, Source}

@@ -5,16 +5,16 @@ use Rattle.sshkey_model.specs.Reading.{Fault, Length, FormatEncoding, Front, bot
 use Rattle.sshkey_model.specs.Texts.{text_at}
 use Rattle.sshkey_model.proofs.CombinedReaders.{bind_assoc}
 use Rattle.sshkey_base.specs.Causes.{Cause, Faulty}
-use Rattle.sshkey_base.specs.Lengths.{text_lengths, boxed_lengths}
+use Rattle.sshkey_base.proofs.Lengths.{text_lengths, boxed_lengths}
 use Rattle.sshkey_base.specs.Needs.{HasString, NeedsString}
 use Rattle.sshkey_base.specs.Reading.{Reads}
 use Rattle.sshkey_base.specs.Source.{Source}
 use Rattle.sshkey_base.specs.Stops.{OverrunsString, AreLengths, RanOut, Stopped, StopsBy, StopsToEnd}
 use Rattle.sshkey_base.proofs.Stopping.{not_taken, read_past}
-use Rattle.sshkey_terms.specs.Terms.{IsMapped}
+use Rattle.sshkey_terms.proofs.Lawful.{IsMapped}
 use Rattle.sshkey_terms.proofs.Stopping.{stopped_first, stopped_later, mapped_stopped}
 use Rattle.sshkey_cert_values.specs.OptionReaders.{option_box_at, may_follow, option_behind, NeedsOption, OverrunsValue, OverrunsOption}
-use Rattle.sshkey_cert_values.specs.OptionLists.{tested_then, value_lengths}
+use Rattle.sshkey_cert_values.proofs.OptionLists.{tested_then, value_lengths}
 
 -- a value that is read to the end of its string
 pub stops_to_end : {X Y E : Type 0} (cause : E → Cause) (read : Front Y) (needs overruns : List ℕ → ℕ → Type 0) (s : Source) (r : Result X E) → StopsBy cause read needs overruns s r → StopsToEnd cause overruns s r

@@ -2,7 +2,6 @@ pub mod Leaves
 pub mod Times
 pub mod CertTypes
 pub mod OptionReaders
-pub mod OptionLists
 pub mod OptionMaps
 pub mod Comparisons
 pub mod GatheredPairs

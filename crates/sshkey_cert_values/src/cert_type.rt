@@ -74,7 +74,7 @@ impl TryFrom<u32> for CertType {
 }
 
 /// Four bytes, 1 or 2. Fails with `FormatEncoding` for any other number. Does not allocate.
-#[tactic(auto, using(sshkey_base::proofs::Steps::steps, sshkey_base::proofs::Judging::judged, sshkey_base::proofs::Stopping::stopping))]
+#[tactic(auto, using(sshkey_base::proofs::Steps::steps, sshkey_base::proofs::Judging::judged, sshkey_base::proofs::Stopping::stopping, crate::proofs::Lawful::type_lawful))]
 impl Decode for CertType {
     type Error = Error;
 
@@ -83,6 +83,8 @@ impl Decode for CertType {
     ghost means = { type_of };
 
     ghost format = { type_format };
+
+    fn lawful() {}
 
     fn decode<R: Reader>(alloc: Global, reader: &mut R) -> Result<CertType> {
         let number = u32::decode(alloc, reader)?;

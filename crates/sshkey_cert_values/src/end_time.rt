@@ -76,7 +76,7 @@ impl From<UnixTime> for EndTime {
 
 /// Eight bytes, most significant first. Fails with `Time` above 2^63 - 1, but for `FOREVER`. Does
 /// not allocate.
-#[tactic(auto, using(sshkey_base::proofs::Steps::steps, sshkey_base::proofs::Judging::judged, sshkey_base::proofs::Stopping::stopping))]
+#[tactic(auto, using(sshkey_base::proofs::Steps::steps, sshkey_base::proofs::Judging::judged, sshkey_base::proofs::Stopping::stopping, crate::proofs::Lawful::end_lawful))]
 impl Decode for EndTime {
     ghost use Rattle.sshkey_cert_values.specs.Times.{end_of};
 
@@ -87,6 +87,8 @@ impl Decode for EndTime {
     ghost means = { end_of };
 
     ghost format = { end_format };
+
+    fn lawful() {}
 
     fn decode<R: Reader>(alloc: Global, reader: &mut R) -> Result<EndTime> {
         let secs = u64::decode(alloc, reader)?;

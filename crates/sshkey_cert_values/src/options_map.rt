@@ -12,8 +12,7 @@ ghost use Rattle.sshkey_base.specs.Needs.{Asks, NeedsBoxed, HasString};
 ghost use Rattle.sshkey_base.specs.Reading.{DecodesWide, Gives, to_end};
 ghost use Rattle.sshkey_base.specs.Source.{Later};
 ghost use Rattle.sshkey_base.specs.Stops.{OverrunsList, StopsPast};
-ghost use Rattle.sshkey_cert_values.specs.OptionReaders.{item, option_list_at, options_value_at, options_normal, OverrunsOption};
-ghost use Rattle.sshkey_cert_values.specs.OptionLists.{options_format};
+ghost use Rattle.sshkey_cert_values.specs.OptionReaders.{item, option_list_at, options_format, options_value_at, OverrunsOption};
 ghost use Rattle.sshkey_cert_values.specs.OptionMaps.{IsNamedAmong, is_among, option_of, options_of};
 
 mod gathered;
@@ -171,7 +170,7 @@ impl From<OptionsMap> for BTreeMap<String, String> {
 ///
 /// Fails with `FormatEncoding` if a name does not rise, and with the faults of strings and texts.
 /// It fails with `Memory` only where the string of a first name stands in it.
-#[tactic(auto, using(sshkey_base::proofs::Boxes::boxes))]
+#[tactic(auto, using(sshkey_base::proofs::Boxes::boxes, crate::proofs::Lawful::options_lawful))]
 impl Decode for OptionsMap {
     type Error = Error;
 
@@ -180,6 +179,8 @@ impl Decode for OptionsMap {
     ghost means = { options_of };
 
     ghost format = { options_format };
+
+    fn lawful() {}
 
     fn decode<R: Reader>(alloc: Global, reader: &mut R) -> Result<OptionsMap>
         ensures gives { DecodesWide options_of options_value_at
@@ -219,8 +220,9 @@ impl Encode for OptionsMap {
     }
 }
 
+#[tactic(auto, using(crate::proofs::OptionLists::options_normal))]
 impl NormalForm for OptionsMap {
     ghost IsWellFormed = { λ m. AreOptions (options_of m) };
 
-    ghost normal_spells = { λ m. options_normal (options_of m) };
+    fn normal_spells() {}
 }

@@ -60,7 +60,7 @@ impl From<UnixTime> for u64 {
 }
 
 /// Eight bytes, most significant first. Fails with `Time` above 2^63 - 1. Does not allocate.
-#[tactic(auto, using(sshkey_base::proofs::Steps::steps, sshkey_base::proofs::Judging::judged, sshkey_base::proofs::Stopping::stopping))]
+#[tactic(auto, using(sshkey_base::proofs::Steps::steps, sshkey_base::proofs::Judging::judged, sshkey_base::proofs::Stopping::stopping, crate::proofs::Lawful::time_lawful))]
 impl Decode for UnixTime {
     ghost use Rattle.sshkey_cert_values.specs.Times.{time_of};
 
@@ -71,6 +71,8 @@ impl Decode for UnixTime {
     ghost means = { time_of };
 
     ghost format = { time_format };
+
+    fn lawful() {}
 
     fn decode<R: Reader>(alloc: Global, reader: &mut R) -> Result<UnixTime> {
         let secs = u64::decode(alloc, reader)?;

@@ -1,3 +1,6 @@
 pub mod Paddings
 pub mod Tags
+pub mod Names
 pub mod Lawful
+pub mod KdfTrees
+pub mod CipherLaws

@@ -1,12 +1,9 @@
 -- What ciphers and key derivations mean, and their names.
-use Rattle.std.specs.Prelude.{◌≡◌, ℕ, true, List, length, nat_le, Result, Ok, Err, refl}
-use Rattle.sshkey_model.specs.Parts.{Any}
-use Rattle.sshkey_model.specs.Reading.{Fault, Label, AlgorithmUnknown, Whole}
-use Rattle.sshkey_model.specs.Names.{named, or_label, are_ascii}
+use Rattle.std.specs.Prelude.{ℕ, List, Result, Ok, Err}
+use Rattle.sshkey_model.specs.Reading.{Fault, AlgorithmUnknown, Whole}
+use Rattle.sshkey_model.specs.Names.{named, or_label}
 use Rattle.sshkey_model.specs.KeyDerivation as model
 use Rattle.sshkey_model.specs.KeyDerivation.{cipher_name, ciphers, kdf_name, kdf_algorithms}
-pub use Rattle.sshkey_model.proofs.CipherNames.{cipher_checks, kdf_algorithm_checks}
-use Rattle.sshkey_base.specs.LabelLaws.{unlisted_label}
 use Rattle.sshkey_ciphers.specs.declared.cipher.Cipher.{Cipher}
 use Rattle.sshkey_ciphers.specs.declared.cipher.Cipher.TheVariants as cipher
 use Rattle.sshkey_ciphers.specs.declared.kdf_alg.KdfAlg.{KdfAlg}
@@ -47,25 +44,3 @@ cipher_from n = or_label (named cipher_name ciphers n)
 
 abbrev pub kdf_algorithm_from : Whole model.KdfAlgorithm
 kdf_algorithm_from n = or_label (named kdf_name kdf_algorithms n)
-
-pub cipher_refusals : (t : List ℕ) (fault : Fault) → cipher_from t ≡ Err fault → fault ≡ Label
-cipher_refusals t = unlisted_label (named cipher_name ciphers t)
-
-pub kdf_alg_refusals : (t : List ℕ) (fault : Fault) → kdf_algorithm_from t ≡ Err fault → fault ≡ Label
-kdf_alg_refusals t = unlisted_label (named kdf_name kdf_algorithms t)
-
-pub cipher_ascii : (c : model.Cipher) → Any c → are_ascii (cipher_name c) ≡ true
-cipher_ascii model.NoCipher is = refl
-cipher_ascii _ is = refl
-
-pub kdf_alg_ascii : (a : model.KdfAlgorithm) → Any a → are_ascii (kdf_name a) ≡ true
-kdf_alg_ascii model.NoDerivation is = refl
-kdf_alg_ascii model.BcryptDerivation is = refl
-
-pub cipher_short : (c : model.Cipher) → Any c → nat_le (length (cipher_name c)) 73 ≡ true
-cipher_short model.NoCipher is = refl
-cipher_short _ is = refl
-
-pub kdf_alg_short : (a : model.KdfAlgorithm) → Any a → nat_le (length (kdf_name a)) 73 ≡ true
-kdf_alg_short model.NoDerivation is = refl
-kdf_alg_short model.BcryptDerivation is = refl

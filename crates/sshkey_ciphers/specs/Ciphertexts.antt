@@ -1,17 +1,13 @@
--- What is encrypted: whole blocks, and a tag after them (PROTOCOL.key). The lemmas are proved, and
--- need not be believed.
+-- What is encrypted: whole blocks, and a tag after them (PROTOCOL.key).
 use Rattle.std.specs.Prelude.{◌≡◌, ℕ, ◌%◌, List, [], length, true, Option, Some, None, Result, Ok, Err, ◌==◌, if◌then◌else◌}
 use Rattle.sshkey_model.specs.Parts.{bytes, HasLength}
 use Rattle.sshkey_model.specs.Texts.{string}
 use Rattle.sshkey_model.specs.Reading.{Fault, Front, Crypto, bytes_at, checked_at, string_at}
-use Rattle.sshkey_model.specs.Grammar.{IsGrammar, Spells}
+use Rattle.sshkey_model.specs.Grammar.{Spells}
 use Rattle.sshkey_model.specs.KeyDerivation.{Cipher, block_size, tag_size}
-use Rattle.sshkey_model.proofs.CombinedReaders.{bytes_reads, checked_string_reads, kept_bytes}
-use Rattle.sshkey_model.proofs.Grammars.{grammar, by_itself}
 use Rattle.sshkey_base.specs.Formats.{Format}
-use Rattle.sshkey_base.specs.Lengths.{checked_lengths, no_lengths, string_lengths}
 use Rattle.sshkey_base.specs.Needs.{NoNeed, NeedsString}
-use Rattle.sshkey_base.specs.Stops.{AreLengths, NoOverrun, OverrunsString}
+use Rattle.sshkey_base.specs.Stops.{NoOverrun, OverrunsString}
 use Rattle.sshkey_terms.specs.Terms.{◌then◌}
 
 abbrev pub blocks_from : Cipher → List ℕ → Result (List ℕ) Fault
@@ -24,20 +20,12 @@ AreBlocks c b = (length b % block_size c == 0) ≡ true
 unfoldable pub blocks_at : Cipher → Front (List ℕ)
 blocks_at c = checked_at (blocks_from c) string_at
 
-pub blocks_grammar : (c : Cipher) → IsGrammar (Spells (AreBlocks c) string) (blocks_at c)
-unfolding blocks_at
-blocks_grammar c = grammar (checked_string_reads (kept_bytes (λ b. length b % block_size c == 0) Crypto))
-
-pub blocks_lengths : (c : Cipher) → AreLengths (blocks_at c) OverrunsString
-unfolding blocks_at
-blocks_lengths c = checked_lengths (blocks_from c) string_lengths
-
 abbrev pub blocks_format : Cipher → Format (List ℕ)
-blocks_format c = record { Spells = Spells (AreBlocks c) string; read = blocks_at c; needs = NeedsString; overruns = OverrunsString; grammar = by_itself (blocks_grammar c); lengths = blocks_lengths c }
+blocks_format c = record { Spells = Spells (AreBlocks c) string; read = blocks_at c; delimited_at = blocks_at c; needs = NeedsString; overruns = OverrunsString }
 
 -- as many bytes as the cipher's tag has
 abbrev pub tag_format : Cipher → Format (List ℕ)
-tag_format c = record { Spells = Spells (HasLength (tag_size c)) bytes; read = bytes_at (tag_size c); needs = NoNeed; overruns = NoOverrun; grammar = by_itself (grammar (bytes_reads (tag_size c))); lengths = no_lengths (bytes_at (tag_size c)) }
+tag_format c = record { Spells = Spells (HasLength (tag_size c)) bytes; read = bytes_at (tag_size c); delimited_at = bytes_at (tag_size c); needs = NoNeed; overruns = NoOverrun }
 
 -- the ciphertext, and its tag after it
 abbrev pub sealed_format : Cipher → Format (List ℕ × List ℕ)

@@ -8,7 +8,7 @@ ghost use Rattle.sshkey_base.specs.Needs.{NoNeed};
 ghost use Rattle.sshkey_model.specs.KeyDerivation.{Cipher as TheCipher, NoCipher, cipher_name, block_size, tag_size, padding_length};
 ghost use Rattle.sshkey_model.specs.Parts.{Any};
 ghost use Rattle.sshkey_model.specs.Reading as fault;
-ghost use Rattle.sshkey_ciphers.specs.Ciphers.{cipher_of, cipher_from, cipher_checks, cipher_ascii, cipher_short, cipher_refusals};
+ghost use Rattle.sshkey_ciphers.specs.Ciphers.{cipher_of, cipher_from};
 
 use sshkey_base::{Label, LabelError, Result, encoding};
 use std::alloc::Global;
@@ -148,6 +148,7 @@ impl FromStr for Cipher {
 }
 
 /// The name. A text that is the name of no cipher is `Label`. Does not allocate.
+#[tactic(auto, using(crate::proofs::Names::cipher_names))]
 impl Label for Cipher {
     ghost Named = { TheCipher };
 
@@ -173,13 +174,7 @@ impl Label for Cipher {
         Ok(Cipher::from_str(name)?)
     }
 
-    ghost checks = { cipher_checks };
-
-    ghost ascii = { cipher_ascii };
-
-    ghost short = { cipher_short };
-
-    ghost refusals = { cipher_refusals };
+    fn lawful_names() {}
 }
 
 /// The name.

@@ -12,7 +12,7 @@ ghost use Rattle.sshkey_base.specs.declared.error.Error.TheVariants as wide;
 ghost use Rattle.sshkey_model.specs.KeyDerivation.{Kdf as TheKdf, NoKdf, BcryptDerivation, kdf, bcrypt_options, derivation};
 ghost use Rattle.sshkey_model.specs.Parts.{Any};
 ghost use Rattle.sshkey_ciphers.specs.Ciphers.{kdf_algorithm_of, kdf_of, kdf_with_salt};
-ghost use Rattle.sshkey_ciphers.specs.KdfFormats.{kdf_format, kdf_normal, no_options, options_format, none_format, bcrypt_format};
+ghost use Rattle.sshkey_ciphers.specs.KdfFormats.{kdf_format, no_options, options_format, none_format, bcrypt_format};
 
 use crate::kdf_alg::KdfAlg;
 use rand_core::{CryptoRng, Rng};
@@ -123,7 +123,7 @@ impl Default for Kdf {
 /// Fails with `Length` if a stated length exceeds what is left, with `Label` for another name, with
 /// `AlgorithmUnknown` if the options of `none` are not empty, and with `TrailingData` for bytes
 /// after the rounds in their string.
-#[tactic(auto, using(sshkey_terms::proofs::Chosen::chosen, crate::specs::KdfFormats::kdf_chosen, sshkey_base::specs::Lengths::label_lengths))]
+#[tactic(auto, using(crate::proofs::Lawful::kdf_lawful, sshkey_terms::proofs::Chosen::chosen, crate::proofs::Lawful::kdf_chosen, sshkey_base::proofs::Lengths::label_lengths))]
 impl Decode for Kdf {
     type Error = Error;
 
@@ -132,6 +132,8 @@ impl Decode for Kdf {
     ghost means = { kdf_of };
 
     ghost format = { kdf_format };
+
+    fn lawful() {}
 
     fn decode<R: Reader>(alloc: Global, reader: &mut R) -> Result<Kdf> {
         let Wide(algorithm) = Wide::<KdfAlg>::decode(alloc, reader)?;
@@ -180,7 +182,7 @@ fn check_none(len: u32) -> Result<Kdf>
 }
 
 /// A string of salt and rounds.
-#[tactic(auto, using(sshkey_terms::proofs::Mapped::mapped, crate::specs::KdfFormats::bcrypt_parts_read))]
+#[tactic(auto, using(sshkey_terms::proofs::Mapped::mapped, crate::proofs::Lawful::bcrypt_parts_read))]
 fn bcrypt_from<R: Reader>(alloc: Global, reader: &mut R) -> Result<Kdf>
     ensures gives { Gives kdf_of cause bcrypt_format.read
         (R.source reader.old) result (R.source reader.new) }
@@ -225,10 +227,11 @@ impl Encode for Kdf {
 }
 
 /// Every key derivation is one that its format has.
+#[tactic(auto, using(crate::proofs::KdfTrees::kdf_normal))]
 impl NormalForm for Kdf {
     ghost IsWellFormed = { λ k. Any (kdf_of k) };
 
-    ghost normal_spells = { λ k. kdf_normal (kdf_of k) };
+    fn normal_spells() {}
 }
 
 /// What bcrypt takes, to be written.

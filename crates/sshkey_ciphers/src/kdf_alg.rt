@@ -8,7 +8,7 @@ ghost use Rattle.sshkey_base.specs.Needs.{NoNeed};
 ghost use Rattle.sshkey_model.specs.KeyDerivation.{KdfAlgorithm, NoDerivation, BcryptDerivation, kdf_name};
 ghost use Rattle.sshkey_model.specs.Parts.{Any};
 ghost use Rattle.sshkey_model.specs.Reading as fault;
-ghost use Rattle.sshkey_ciphers.specs.Ciphers.{kdf_algorithm_of, kdf_algorithm_from, kdf_algorithm_checks, kdf_alg_ascii, kdf_alg_short, kdf_alg_refusals};
+ghost use Rattle.sshkey_ciphers.specs.Ciphers.{kdf_algorithm_of, kdf_algorithm_from};
 
 use sshkey_base::{Label, LabelError, Result, encoding};
 use std::alloc::Global;
@@ -79,6 +79,7 @@ impl FromStr for KdfAlg {
 }
 
 /// The name. A text that is the name of no key derivation is `Label`. Does not allocate.
+#[tactic(auto, using(crate::proofs::Names::kdf_names))]
 impl Label for KdfAlg {
     ghost Named = { KdfAlgorithm };
 
@@ -104,13 +105,7 @@ impl Label for KdfAlg {
         Ok(KdfAlg::from_str(name)?)
     }
 
-    ghost checks = { kdf_algorithm_checks };
-
-    ghost ascii = { kdf_alg_ascii };
-
-    ghost short = { kdf_alg_short };
-
-    ghost refusals = { kdf_alg_refusals };
+    fn lawful_names() {}
 }
 
 /// The name.

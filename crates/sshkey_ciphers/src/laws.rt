@@ -1,6 +1,6 @@
 //! Laws of ciphers and key derivations. They make no call: each is a fact about the definitions.
 
-#![tactic(auto, using(crate::proofs::Lawful::laws))]
+#![tactic(auto, using(crate::proofs::CipherLaws::laws))]
 
 ghost use Rattle.std.specs.Prelude.{◌↔◌, ℕ, List};
 ghost use Rattle.sshkey_base.specs.Comparisons.{IsEqualityOf, IsOrderOf};

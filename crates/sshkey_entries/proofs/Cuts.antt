@@ -1,5 +1,5 @@
 -- A text cut at each place that a test names.
-use Rattle.std.proofs.Common.{◌≡◌, ℕ, zero, suc, ◌<◌, ◌+◌, List, [], ◌∷◌, length, take, drop, map, Bool, true, false, cond, ap, ◌∙◌, refl, arith, slice_index, ne_eqb}
+use Rattle.std.proofs.Common.{◌≡◌, ℕ, zero, suc, ◌<◌, ◌+◌, List, [], ◌∷◌, length, take, drop, map, Bool, true, false, cond, ap, ◌∙◌, refl, arith, slice_index}
 use Rattle.std.specs.List.{slice_split, enumerate_from, onto_first}
 
 -- the pieces between the places that pass

@@ -14,3 +14,6 @@ pub mod EntryExamples
 pub mod OneOption
 pub mod FieldKeys
 pub mod OtherKeys
+pub mod Told
+pub mod Tables
+pub mod SaidOptions

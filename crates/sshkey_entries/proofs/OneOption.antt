@@ -4,7 +4,7 @@ use Rattle.std.proofs.lemmas.Bool.{cases_lt}
 use Rattle.std.proofs.lemmas.List.{length-append, get_or_append_left}
 use Rattle.sshkey_entries.specs.Items.{is_comma, is_quote}
 use Rattle.sshkey_entries.specs.OptionItems.{KeyOption, quote, equals_sign, is_name_character, AreNameCharacters, IsQuoted, unescaped, IsValueAt, EndsOption, IsOptionAt, without_commas, AreKeyOptions}
-use Rattle.sshkey_entries.specs.OptionEnds.{is_blank, is_mark}
+use Rattle.sshkey_entries.specs.OptionEnds.{is_blank, is_plain_quote}
 use Rattle.sshkey_entries.proofs.Fronts.{same_word}
 use Rattle.sshkey_entries.proofs.OneOpenSshLine.{same_front}
 
@@ -18,28 +18,28 @@ same_name = same_word is_name_character true false (λ e. cc e)
 
 -- ---- quoted texts
 
-mark_same : (a b : List ℕ) (i : ℕ) → ((k : ℕ) → k ≤ i → slice_index a k ≡ slice_index b k) → is_mark a i ≡ is_mark b i
-mark_same a b zero same = ap (λ (c : ℕ). is_quote c && true) (same 0 (omega arith))
-mark_same a b (suc i) same =
+quote_same : (a b : List ℕ) (i : ℕ) → ((k : ℕ) → k ≤ i → slice_index a k ≡ slice_index b k) → is_plain_quote a i ≡ is_plain_quote b i
+quote_same a b zero same = ap (λ (c : ℕ). is_quote c && true) (same 0 (omega arith))
+quote_same a b (suc i) same =
     let here : slice_index a (suc i) ≡ slice_index b (suc i) = same (suc i) (omega arith) in
     let before : slice_index a (suc i - 1) ≡ slice_index b (suc i - 1) = same (suc i - 1) (omega arith) in
     rw (here, before) refl
 
--- what follows a text makes no mark in it
-pub mark_front : (a x : List ℕ) (i : ℕ) → i < length a → is_mark (a ++ x) i ≡ is_mark a i
-mark_front a x i l = mark_same (a ++ x) a i (λ k le. get_or_append_left a x 0 k (omega (arith, l, le)))
+-- what follows a text makes no quote of it plain
+pub quote_front : (a x : List ℕ) (i : ℕ) → i < length a → is_plain_quote (a ++ x) i ≡ is_plain_quote a i
+quote_front a x i l = quote_same (a ++ x) a i (λ k le. get_or_append_left a x 0 k (omega (arith, l, le)))
 
-mark_behind : (q r : List ℕ) → IsQuoted q → is_mark (q ++ (quote ∷ r)) (length q) ≡ true
-mark_behind q r is =
-    ap (λ (t : List ℕ). is_mark t (length q)) (sym (append_assoc q (quote ∷ []) r))
-    ∙ mark_front (q ++ (quote ∷ [])) r (length q) (omega (arith, length-append q (quote ∷ [])))
+quote_behind : (q r : List ℕ) → IsQuoted q → is_plain_quote (q ++ (quote ∷ r)) (length q) ≡ true
+quote_behind q r is =
+    ap (λ (t : List ℕ). is_plain_quote t (length q)) (sym (append_assoc q (quote ∷ []) r))
+    ∙ quote_front (q ++ (quote ∷ [])) r (length q) (omega (arith, length-append q (quote ∷ [])))
     ∙ is.ends
 
 -- where a text is quoted, it is not quoted further on
 not_shorter : (q p r s : List ℕ) → IsQuoted q → IsQuoted p → q ++ (quote ∷ r) ≡ p ++ (quote ∷ s) → length q < length p → ⊥
 not_shorter q p r s a b e l =
-    let here : is_mark (p ++ (quote ∷ s)) (length q) ≡ true = ap (λ (t : List ℕ). is_mark t (length q)) (sym e) ∙ mark_behind q r a in
-    cc (sym here ∙ mark_front p (quote ∷ s) (length q) l ∙ b.inner (length q) l)
+    let here : is_plain_quote (p ++ (quote ∷ s)) (length q) ≡ true = ap (λ (t : List ℕ). is_plain_quote t (length q)) (sym e) ∙ quote_behind q r a in
+    cc (sym here ∙ quote_front p (quote ∷ s) (length q) l ∙ b.inner (length q) l)
 
 pub same_quoted : (q p r s : List ℕ) → IsQuoted q → IsQuoted p → q ++ (quote ∷ r) ≡ p ++ (quote ∷ s) → (q ≡ p) × (r ≡ s)
 same_quoted q p r s a b e = elim (cases_lt (length q) (length p)) [

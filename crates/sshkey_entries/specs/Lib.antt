@@ -8,6 +8,8 @@ pub mod Fronts
 pub mod Fields
 pub mod OpenSshLines
 pub mod OptionItems
+pub mod Readings
+pub mod Words
 pub use Rattle.sshkey_patterns.specs.Patterns
 pub mod HostNames
 pub mod HostVerdicts

@@ -10,12 +10,12 @@ abbrev pub is_blank : ℕ → Bool
 is_blank c = c == space || c == 0x09
 
 -- a quote at the place, with no backslash before it
-abbrev pub is_mark : List ℕ → ℕ → Bool
-is_mark line place = is_quote (slice_index line place) && not (nat_lt 0 place && slice_index line (place - 1) == 0x5c)
+abbrev pub is_plain_quote : List ℕ → ℕ → Bool
+is_plain_quote line place = is_quote (slice_index line place) && not (nat_lt 0 place && slice_index line (place - 1) == 0x5c)
 
 -- an odd number of them stands before the place
 unfoldable pub is_inside : List ℕ → ℕ → Bool
-is_inside line place = is_odd (count_by (is_mark line) (range_with_len 0 place))
+is_inside line place = is_odd (count_by (is_plain_quote line) (range_with_len 0 place))
 
 -- the first blank that is not inside quotes
 pub record EndsOptions (line : List ℕ) (place : ℕ) : Type 0 where

@@ -6,7 +6,7 @@ use Rattle.std.specs.Prelude.{◌≡◌, ◌⊎◌, ℕ, ◌<◌, List, [], ◌�
 use Rattle.std.specs.Char.{to_ascii_lowercase}
 use Rattle.sshkey_entries.specs.Fronts.{without_front}
 use Rattle.sshkey_entries.specs.Items.{is_comma, is_quote}
-use Rattle.sshkey_entries.specs.OptionEnds.{is_blank, is_mark}
+use Rattle.sshkey_entries.specs.OptionEnds.{is_blank, is_plain_quote}
 
 pub record KeyOption : Type 0 where
   pub name : List ℕ
@@ -32,8 +32,8 @@ AreNameCharacters text = EachIndex text (λ i. is_name_character (slice_index te
 
 -- Each quote in the text follows a backslash, and one after the text does not.
 pub record IsQuoted (text : List ℕ) : Type 0 where
-  pub inner : (i : ℕ) → i < length text → is_mark text i ≡ false
-  pub ends : is_mark (text ++ (quote ∷ [])) (length text) ≡ true
+  pub inner : (i : ℕ) → i < length text → is_plain_quote text i ≡ false
+  pub ends : is_plain_quote (text ++ (quote ∷ [])) (length text) ≡ true
 
 -- the text without each backslash that stands before a quote; every other backslash stands for
 -- itself
@@ -82,3 +82,28 @@ HasKeyOptions text = (options : List KeyOption) × AreKeyOptions text options
 -- case-insensitive).
 abbrev pub IsSameName : List ℕ → List ℕ → Type 0
 IsSameName a b = map to_ascii_lowercase a ≡ map to_ascii_lowercase b
+
+-- ---- what options say
+
+-- Each adds to what those before it say.
+abbrev pub AddAll : {Y : Type 0} → (List ℕ → Option (List ℕ) → Y → Y → Type 0) → List KeyOption → Y → Y → Type 0
+AddAll Adds [] s t = t ≡ s
+AddAll {Y} Adds (o ∷ more) s t = (between : Y) × Adds o.name o.value s between × AddAll Adds more between t
+
+-- The text is options that add this to what is said.
+abbrev pub Says : {Y : Type 0} → (List ℕ → Option (List ℕ) → Y → Y → Type 0) → Y → List ℕ → Y → Type 0
+Says Adds s text t = (options : List KeyOption) × AreKeyOptions text options × AddAll Adds options s t
+
+-- The options stand at the front of the text, one after the other.
+abbrev pub StandFirst : List ℕ → List KeyOption → Type 0
+StandFirst text [] = Unit {0}
+StandFirst text (o ∷ more) = (rest : List ℕ) × IsOptionAt (without_commas text) o rest × StandFirst rest more
+
+-- Each adds to what those before it say, up to one that may be read.
+abbrev pub MayAdd : {Y : Type 0} → (List ℕ → Option (List ℕ) → Y → Y → Type 0) → (List ℕ → Option (List ℕ) → Type 0) → List KeyOption → Y → Type 0
+MayAdd Adds MayBe [] s = ⊥
+MayAdd {Y} Adds MayBe (o ∷ more) s = MayBe o.name o.value ⊎ ((between : Y) × Adds o.name o.value s between × MayAdd Adds MayBe more between)
+
+-- Such options stand at the front of the text.
+abbrev pub MaySay : {Y : Type 0} → (List ℕ → Option (List ℕ) → Y → Y → Type 0) → (List ℕ → Option (List ℕ) → Type 0) → Y → List ℕ → Type 0
+MaySay Adds MayBe s text = (options : List KeyOption) × StandFirst text options × MayAdd Adds MayBe options s

@@ -2,6 +2,7 @@
 //! the readers of both stand on, whatever their entries are.
 #![tactic(auto)]
 
+mod add_options;
 mod blanks;
 mod entry_lines;
 pub mod examples;
@@ -10,14 +11,19 @@ mod from_line;
 mod key_fields;
 pub mod laws;
 mod other_key;
+mod reading;
+mod words;
 
+pub use add_options::AddOptions;
 pub use blanks::{skip_blanks, split_field};
 pub use entry_lines::{EntryLines, EntryTexts};
 pub use filled_lines::FilledLines;
 pub use from_line::{FromLine, entries_of_file, entries_of_text};
 pub use key_fields::read_key_fields;
 pub use other_key::are_other_key_fields;
+pub use reading::Reading;
 pub use sshkey_patterns::{
     LetterCase, is_named_by, is_refused_by, is_short_pattern, matches_pattern,
     matches_pattern_list, split_pattern,
 };
+pub use words::find_word;

@@ -6,3 +6,5 @@ mod SignerVerdicts
 mod ByKeys
 mod Nothing
 mod RevokedFiles
+mod KeyKinds
+mod KeyLines

@@ -5,10 +5,10 @@ use Rattle.std.proofs.lemmas.List.{get_or-append-add, get_or_append_left, get_or
 use Rattle.std.proofs.Math.ListN.{drop_of_length-le}
 use Rattle.std.proofs.Math.Seq.{drop-append_seam, take-append_seam}
 use Rattle.sshkey_entries.specs.Items.{is_comma, is_quote}
-use Rattle.sshkey_entries.specs.OptionEnds.{is_inside, is_mark}
+use Rattle.sshkey_entries.specs.OptionEnds.{is_inside, is_plain_quote}
 use Rattle.sshkey_entries.specs.OptionItems.{AreNameCharacters, EndsOption, IsOptionAt, IsQuoted, IsValueAt, KeyOption, equals_sign, is_name_character, quote, without_commas}
 use Rattle.sshkey_entries.proofs.Fronts.{nothing_stays, skipped, stays}
-use Rattle.sshkey_entries.proofs.OneOption.{mark_front}
+use Rattle.sshkey_entries.proofs.OneOption.{quote_front}
 use Rattle.sshkey_entries.proofs.OptionEnds.{inside_first, inside_more}
 use Rattle.sshkey_entry_calls.specs.Options.{EndsAt}
 
@@ -37,8 +37,8 @@ none_more text n before here i l comma = elim (cases_lt i n) [
 
 -- ---- places inside quotes
 
--- from one place to another that has no mark before it
-same_inside : (text : List ℕ) (from n : ℕ) → ((i : ℕ) → i < n → is_mark text (from + i) ≡ false) → is_inside text (from + n) ≡ is_inside text from
+-- from one place to another that has no plain quote before it
+same_inside : (text : List ℕ) (from n : ℕ) → ((i : ℕ) → i < n → is_plain_quote text (from + i) ≡ false) → is_inside text (from + n) ≡ is_inside text from
 same_inside text from zero none = let e : from + 0 ≡ from = omega arith in ap (is_inside text) e
 same_inside text from (suc n) none =
     let e : from + suc n ≡ (from + n) + 1 = omega arith in
@@ -47,8 +47,8 @@ same_inside text from (suc n) none =
     ∙ same_inside text from n (λ i l. none i (omega (arith, l)))
 
 -- a character that is no quote
-other_mark : (text : List ℕ) (i c : ℕ) → slice_index text i ≡ c → is_quote c ≡ false → is_mark text i ≡ false
-other_mark text i c is other = ap (λ (d : ℕ). is_quote d && not (nat_lt 0 i && slice_index text (i - 1) == 0x5c)) is ∙ ap (λ (b : Bool). b && not (nat_lt 0 i && slice_index text (i - 1) == 0x5c)) other
+not_quote : (text : List ℕ) (i c : ℕ) → slice_index text i ≡ c → is_quote c ≡ false → is_plain_quote text i ≡ false
+not_quote text i c is other = ap (λ (d : ℕ). is_quote d && not (nat_lt 0 i && slice_index text (i - 1) == 0x5c)) is ∙ ap (λ (b : Bool). b && not (nat_lt 0 i && slice_index text (i - 1) == 0x5c)) other
 
 name_quote : (c : ℕ) → is_name_character c ≡ true → is_quote c ≡ false
 name_quote c is = grind (arith, tests)
@@ -56,15 +56,15 @@ name_quote c is = grind (arith, tests)
 name_comma : (c : ℕ) → is_name_character c ≡ true → is_comma c ≡ true → ⊥
 name_comma c is comma = grind (arith, tests)
 
--- what stands after a character that is no backslash has its own marks
-mark_later : (front text : List ℕ) (c i : ℕ) → (c == 0x5c) ≡ false → is_mark (front ++ (c ∷ text)) (length front + suc i) ≡ is_mark text i
-mark_later front text c zero other =
+-- what stands after a character that is no backslash has its own plain quotes
+quote_later : (front text : List ℕ) (c i : ℕ) → (c == 0x5c) ≡ false → is_plain_quote (front ++ (c ∷ text)) (length front + suc i) ≡ is_plain_quote text i
+quote_later front text c zero other =
     let some : nat_lt 0 (length front + 1) ≡ true = lt-ltb 0 (length front + 1) (omega arith) in
     let here : slice_index (front ++ (c ∷ text)) (length front + 1) ≡ slice_index text 0 = get_or-append-add front (c ∷ text) 1 0 in
     let place : length front + 1 - 1 ≡ length front + 0 = omega arith in
     let before : slice_index (front ++ (c ∷ text)) (length front + 1 - 1) ≡ c = ap (slice_index (front ++ (c ∷ text))) place ∙ get_or-append-add front (c ∷ text) 0 0 in
     (λ j. is_quote (here j) && not (some j && before j == 0x5c)) ∙ ap (λ (b : Bool). is_quote (slice_index text 0) && not b) other
-mark_later front text c (suc i) other =
+quote_later front text c (suc i) other =
     let some : nat_lt 0 (length front + suc (suc i)) ≡ nat_lt 0 (suc i) = lt-ltb 0 (length front + suc (suc i)) (omega arith) ∙ sym (lt-ltb 0 (suc i) (omega arith)) in
     let here : slice_index (front ++ (c ∷ text)) (length front + suc (suc i)) ≡ slice_index text (suc i) = get_or-append-add front (c ∷ text) (suc (suc i)) 0 in
     let place : length front + suc (suc i) - 1 ≡ length front + suc i = omega arith in
@@ -82,15 +82,15 @@ module _ (name behind : List ℕ) (are : AreNameCharacters name) where
   no_comma : (i : ℕ) → i < length name → is_comma (slice_index (name ++ behind) i) ≡ true → ⊥
   no_comma i l comma = name_comma (slice_index name i) (are i l) (ap is_comma (sym (in_name i l)) ∙ comma)
 
-  no_mark : (i : ℕ) → i < length name → is_mark (name ++ behind) (0 + i) ≡ false
-  no_mark i l =
+  no_plain_quote : (i : ℕ) → i < length name → is_plain_quote (name ++ behind) (0 + i) ≡ false
+  no_plain_quote i l =
       let e : 0 + i ≡ i = omega arith in
-      ap (is_mark (name ++ behind)) e ∙ other_mark (name ++ behind) i (slice_index name i) (in_name i l) (name_quote (slice_index name i) (are i l))
+      ap (is_plain_quote (name ++ behind)) e ∙ not_quote (name ++ behind) i (slice_index name i) (in_name i l) (name_quote (slice_index name i) (are i l))
 
   name_outside : is_inside (name ++ behind) (length name) ≡ false
   name_outside =
       let e : 0 + length name ≡ length name = omega arith in
-      sym (ap (is_inside (name ++ behind)) e) ∙ same_inside (name ++ behind) 0 (length name) no_mark ∙ inside_first (name ++ behind)
+      sym (ap (is_inside (name ++ behind)) e) ∙ same_inside (name ++ behind) 0 (length name) no_plain_quote ∙ inside_first (name ++ behind)
 
 -- without a value
 name_ends : (name rest : List ℕ) → AreNameCharacters name → EndsOption rest → EndsAt (name ++ rest) (length name)
@@ -127,30 +127,30 @@ module _ (name quoted rest : List ℕ) (are : AreNameCharacters name) (is : IsQu
   inside_value : is_inside all (length name + 2) ≡ true
   inside_value =
       let e : length name + 2 ≡ (length name + 1) + 1 = omega arith in
-      let before : is_inside all (length name + 1) ≡ false = inside_more all (length name) ∙ (λ j. cond (other_mark all (length name) equals_sign at_name refl j) (not (name_outside name (equals_sign ∷ opens) are j)) (name_outside name (equals_sign ∷ opens) are j)) in
+      let before : is_inside all (length name + 1) ≡ false = inside_more all (length name) ∙ (λ j. cond (not_quote all (length name) equals_sign at_name refl j) (not (name_outside name (equals_sign ∷ opens) are j)) (name_outside name (equals_sign ∷ opens) are j)) in
       ap (is_inside all) e ∙ inside_more all (length name + 1)
-      ∙ (λ j. cond (mark_later name opens equals_sign 0 refl j) (not (before j)) (before j))
+      ∙ (λ j. cond (quote_later name opens equals_sign 0 refl j) (not (before j)) (before j))
 
-  -- the marks of the value are those of all
-  value_mark : (i : ℕ) → is_mark all ((length name + 2) + i) ≡ is_mark (quoted ++ (quote ∷ rest)) i
-  value_mark i =
+  -- the plain quotes of the value are those of all
+  value_quote : (i : ℕ) → is_plain_quote all ((length name + 2) + i) ≡ is_plain_quote (quoted ++ (quote ∷ rest)) i
+  value_quote i =
       let e : (length name + 2) + i ≡ length (name ++ (equals_sign ∷ [])) + suc i = omega (arith, size) in
-      (λ j. is_mark (from_quote j) (e j)) ∙ mark_later (name ++ (equals_sign ∷ [])) (quoted ++ (quote ∷ rest)) quote i refl
+      (λ j. is_plain_quote (from_quote j) (e j)) ∙ quote_later (name ++ (equals_sign ∷ [])) (quoted ++ (quote ∷ rest)) quote i refl
 
   value_inside : (i : ℕ) → i ≤ length quoted → is_inside all ((length name + 2) + i) ≡ true
-  value_inside i l = same_inside all (length name + 2) i (λ k less. value_mark k ∙ mark_front quoted (quote ∷ rest) k (omega (arith, l, less)) ∙ is.inner k (omega (arith, l, less))) ∙ inside_value
+  value_inside i l = same_inside all (length name + 2) i (λ k less. value_quote k ∙ quote_front quoted (quote ∷ rest) k (omega (arith, l, less)) ∙ is.inner k (omega (arith, l, less))) ∙ inside_value
 
-  last_mark : is_mark (quoted ++ (quote ∷ rest)) (length quoted) ≡ true
-  last_mark =
-      ap (λ (t : List ℕ). is_mark t (length quoted)) (sym (append_assoc quoted (quote ∷ []) rest))
-      ∙ mark_front (quoted ++ (quote ∷ [])) rest (length quoted) (omega (arith, length-append quoted (quote ∷ [])))
+  last_quote : is_plain_quote (quoted ++ (quote ∷ rest)) (length quoted) ≡ true
+  last_quote =
+      ap (λ (t : List ℕ). is_plain_quote t (length quoted)) (sym (append_assoc quoted (quote ∷ []) rest))
+      ∙ quote_front (quoted ++ (quote ∷ [])) rest (length quoted) (omega (arith, length-append quoted (quote ∷ [])))
       ∙ is.ends
 
   abbrev end_ : ℕ
   end_ = ((length name + 2) + length quoted) + 1
 
   outside_again : is_inside all end_ ≡ false
-  outside_again = inside_more all ((length name + 2) + length quoted) ∙ (λ j. cond ((value_mark (length quoted) ∙ last_mark) j) (not (value_inside (length quoted) (omega arith) j)) (value_inside (length quoted) (omega arith) j))
+  outside_again = inside_more all ((length name + 2) + length quoted) ∙ (λ j. cond ((value_quote (length quoted) ∙ last_quote) j) (not (value_inside (length quoted) (omega arith) j)) (value_inside (length quoted) (omega arith) j))
 
   abbrev whole : List ℕ
   whole = name ++ (equals_sign ∷ quote ∷ (quoted ++ (quote ∷ [])))

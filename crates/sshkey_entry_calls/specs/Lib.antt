@@ -8,3 +8,6 @@ pub mod Addresses
 pub mod Times
 pub mod Revocations
 pub mod UnreadableLines
+pub mod Authorities
+pub mod Modes
+pub mod Verifiers

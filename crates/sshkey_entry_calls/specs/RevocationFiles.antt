@@ -13,9 +13,8 @@ use Rattle.sshkey_krl.specs.KrlRef.{krl_bytes}
 use Rattle.sshkey_krl.specs.Krls.{krl_format, magic}
 use Rattle.sshkey_krl.specs.Revocation.{Grant}
 use Rattle.sshkey_krl.specs.Revocations.{unless_read}
-use Rattle.sshkey_krl.specs.Wholeness.{any_whole, read_whole}
 use Rattle.sshkey_model.specs.Reading.{whole}
-use Rattle.sshkey_revoked_keys.specs.RevokedKeys.{ReadsKrl, ReadsRevokedKeys, begins_krl, file_whole, revokes, revokes_key}
+use Rattle.sshkey_revoked_keys.specs.RevokedKeys.{ReadsKrl, ReadsRevokedKeys, begins_krl, revokes, revokes_key}
 use Rattle.sshkey_revoked_keys.specs.RevokedLines.{NeedsLine, RevokesKey, revoked_lines}
 use Rattle.sshkey_revoked_keys.specs.declared.revoked_keys.RevokedKeys.{RevokedKeys}
 use Rattle.sshkey_revoked_keys.specs.declared.revoked_keys.RevokedKeys.TheVariants.{Keys, Krl}
@@ -50,10 +49,6 @@ one_revokes_key reads key = list_any (λ read. unless_read (λ file. revokes_key
 -- whether a file revokes the certificate
 abbrev pub one_revokes : List (Result RevokedKeys Error) → List ℕ → Grant → Bool
 one_revokes reads key asked = list_any (λ read. unless_read (λ file. revokes file key asked) read) reads
-
--- What revokes a key revokes each certificate of it.
-pub files_whole : (reads : List (Result RevokedKeys Error)) (key : List ℕ) (asked : Grant) → one_revokes_key reads key ≡ true → one_revokes reads key asked ≡ true
-files_whole reads key asked = any_whole (λ read. unless_read (λ file. revokes_key file key) read) (λ read. unless_read (λ file. revokes file key asked) read) (λ read. read_whole (λ file. revokes_key file key) (λ file. revokes file key asked) (λ file. file_whole file key asked) read) reads
 
 -- the list of nothing: a header, and no section
 abbrev pub nothing : List ℕ

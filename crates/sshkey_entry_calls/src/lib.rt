@@ -8,8 +8,10 @@
 #![tactic(auto)]
 
 mod addresses;
+mod authorities;
 mod entries;
 mod lines;
+mod modes;
 mod options;
 mod other_key;
 mod revocation_files;
@@ -18,10 +20,13 @@ mod signers;
 mod sshsig;
 mod times;
 mod unreadable_line;
+mod verifiers;
 
 pub use addresses::{address_of, from_allows, source_address_allows};
+pub use authorities::{authority, user_authority};
 pub use entries::{EntryParts, authorized_entry, known_host};
 pub use lines::next_line;
+pub use modes::strict_mode;
 pub use options::{OptionParts, next_entry_option};
 pub use other_key::is_other_key_line;
 pub use revocation_files::RevocationFiles;
@@ -30,3 +35,4 @@ pub use signers::signer_verdict;
 pub use sshsig::sshsig_verdict;
 pub use times::{TimeSpan, read_time};
 pub use unreadable_line::unreadable_host_line;
+pub use verifiers::may_verify;

@@ -2,6 +2,7 @@
 
 ghost use Rattle.std.specs.Prelude.{◌≡◌, ◌<◌, drop, length, not, position};
 ghost use Rattle.std.specs.Str.Lines.{strip_carriage_return};
+ghost use Rattle.sshkey_entries.specs.Cuts.{CutsField};
 ghost use Rattle.sshkey_entries.specs.Fields.{without_blanks, is_filled};
 ghost use Rattle.sshkey_entries.specs.OptionEnds.{is_blank};
 ghost use Rattle.sshkey_entry_calls.specs.Lines.{CutsLine, FindsLine, is_line_end};
@@ -22,6 +23,12 @@ fn first_end(text: &[u8]) -> Option<usize>
     memchr(b'\n', text)
 }
 
+fn first_blank(text: &[u8]) -> Option<usize>
+    ensures { result ≡ position is_blank text.now }
+{
+    text.iter().position(|byte| is_blank(*byte))
+}
+
 fn first_other(text: &[u8]) -> Option<usize>
     ensures { result ≡ position (λ c. not (is_blank c)) text.now }
 {
@@ -39,12 +46,22 @@ fn without_return(line: &[u8]) -> &[u8]
 }
 
 /// The line without the spaces and tabs at its front.
-fn skip_blanks(line: &[u8]) -> &[u8]
+pub(crate) fn skip_blanks(line: &[u8]) -> &[u8]
     ensures { result.now ≡ without_blanks line.now }
 {
     match first_other(line) {
         Some(start) => &line[start..],
         None => &[],
+    }
+}
+
+/// The line up to its first space or tab, and what follows from there.
+pub(crate) fn split_field(line: &[u8]) -> (&[u8], &[u8])
+    ensures { CutsField line.now result.0.now result.1.now }
+{
+    match first_blank(line) {
+        Some(end) => line.split_at(end),
+        None => (line, &[]),
     }
 }
 

@@ -3,7 +3,7 @@
 ghost use Rattle.std.specs.Prelude.{◌≡◌, ◌<◌, IfOk, length, not, position};
 ghost use Rattle.sshkey_authorized_keys.specs.OpenSshItems.{key_option_of};
 ghost use Rattle.sshkey_entries.specs.Items.{is_comma};
-ghost use Rattle.sshkey_entries.specs.OptionEnds.{is_mark};
+ghost use Rattle.sshkey_entries.specs.OptionEnds.{is_plain_quote};
 ghost use Rattle.sshkey_entries.specs.OptionItems.{without_commas};
 ghost use Rattle.sshkey_calls.specs.Rooms.{IsLaidOut};
 ghost use Rattle.sshkey_entry_calls.specs.Options.{ArePlaced, EndsAt, FindsFirst, FindsKeyOption, TellsOption, option_bytes};
@@ -102,9 +102,9 @@ fn skip_commas(bytes: &[u8]) -> &[u8]
 }
 
 /// Whether a quote stands at the place, with no backslash before it.
-fn is_mark(bytes: &[u8], place: usize) -> bool
+fn is_plain_quote(bytes: &[u8], place: usize) -> bool
     requires { place < length bytes.now }
-    ensures { result ≡ is_mark bytes.now place }
+    ensures { result ≡ is_plain_quote bytes.now place }
 {
     bytes[place] == b'"' && !(place > 0 && bytes[place - 1] == b'\\')
 }
@@ -118,7 +118,7 @@ fn option_end(bytes: &[u8]) -> usize
         if bytes[place] == b',' && !is_inside {
             return place;
         }
-        if is_mark(bytes, place) {
+        if is_plain_quote(bytes, place) {
             is_inside = !is_inside;
         }
     }

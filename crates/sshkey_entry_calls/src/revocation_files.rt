@@ -1,11 +1,12 @@
 //! What several revocation files say.
 
 ghost use Rattle.std.specs.List.{AllZip};
-ghost use Rattle.std.specs.Prelude.{◌≡◌, ◌<◌, IfErr, IfOk, false, length};
+ghost use Rattle.std.specs.Prelude.{◌≡◌, ◌<◌, ℕ, IfErr, IfOk, List, false, length, true};
 ghost use Rattle.sshkey_base.specs.declared.error.Error.TheVariants as error;
-ghost use Rattle.sshkey_krl.specs.Revocation.{grant};
+ghost use Rattle.sshkey_krl.specs.Revocation.{Grant, grant};
 ghost use Rattle.sshkey_entry_calls.specs.RevocationFiles as files;
-ghost use Rattle.sshkey_entry_calls.specs.RevocationFiles.{AreReadOf, IsReadOf, NeedsFile, NeedsFiles, are_read, files_whole, is_nothing, is_only_nothing, reads_of, revoked_number};
+ghost use Rattle.sshkey_entry_calls.specs.declared.revocation_files.RevocationFiles as declared;
+ghost use Rattle.sshkey_entry_calls.specs.RevocationFiles.{AreReadOf, IsReadOf, NeedsFile, NeedsFiles, are_read, is_nothing, is_only_nothing, reads_of, revoked_number};
 
 use sshkey_base::{Error, Result, encoding};
 use sshkey_calls::number::{REVOKED, UNREADABLE_REVOCATIONS};
@@ -143,9 +144,13 @@ impl Revocations for RevocationFiles<'_> {
 
     ghost revokes_key = { λ it key. files.one_revokes_key (reads_of it) key };
 
-    ghost whole = { λ it key asked. files_whole (reads_of it) key asked };
-
     ghost revokes_none = { λ it. is_only_nothing (reads_of it) };
+
+    fn whole()
+        ensures { (it : declared.RevocationFiles) (key : List ℕ) (asked : Grant) →
+            files.one_revokes_key (reads_of it) key ≡ true →
+            files.one_revokes (reads_of it) key asked ≡ true }
+    {}
 
     fn revokes_none(&self) -> bool {
         self.more.is_empty() && is_nothing(&self.first)

@@ -1,7 +1,6 @@
 //! Whether an SSH signature is by one of some keys.
 
-ghost use Rattle.std.specs.List.{list_any};
-ghost use Rattle.std.specs.Prelude.{◌≡◌, ◌≢◌, ◌↔◌, [], Err, IsTrue, bytes_eq};
+ghost use Rattle.std.specs.Prelude.{◌≡◌, ◌≢◌, ◌↔◌, [], Err, IsTrue};
 ghost use Rattle.allowed_signers.specs.AllowedSigners.{HasSigned, NeedsMemory};
 ghost use Rattle.sshkey_model.specs.Reading.{Fault, whole};
 ghost use Rattle.sshkey_sshsig.specs.SshSignatureReaders.{ssh_signature_value_at};
@@ -13,7 +12,7 @@ ghost use Rattle.sshkey_entry_calls.specs.SshSignatures.{IsJudgedByKeys, TellsBy
 use sshkey_base::HashAlg;
 use sshkey_calls::laws::one_outcome;
 use sshkey_calls::number::{DONE, MEMORY, NOT_SIGNED, SIGNER_NOT_ALLOWED, error_number};
-use sshkey_calls::{Sha256Digest, Verification};
+use sshkey_calls::{Sha256Digest, Verification, contains_digest};
 use sshkey_sshsig::SshSig;
 use std::alloc::Global;
 
@@ -100,11 +99,4 @@ fn is_in(read: &SshSig, namespace: &[u8]) -> bool
     ensures { IsTrue result ↔ ((ssh_signature_of read.now).namespace ≡ namespace.now) }
 {
     read.namespace().as_bytes() == namespace
-}
-
-/// Whether it is one of the digests.
-fn contains_digest(digests: &[Sha256Digest], digest: &[u8]) -> bool
-    ensures { result ≡ list_any (λ d. bytes_eq digest.now d.bytes) digests.now }
-{
-    digests.iter().any(|one| digest == one.bytes.as_slice())
 }

@@ -12,9 +12,11 @@ use Rattle.sshkey_base.specs.Needs.{NoNeed}
 use Rattle.sshkey_base.specs.Source.{Source}
 use Rattle.sshkey_base.specs.Stops.{Stopped}
 use Rattle.sshkey_base.proofs.Accepted.{accepts_front}
-use Rattle.sshkey_terms.specs.Terms.{IsMapped}
-use Rattle.sshkey_kinds.specs.Bodies.{SpellsBody, body_grammar}
+use Rattle.sshkey_terms.proofs.Lawful.{IsMapped}
+use Rattle.sshkey_kinds.specs.Bodies.{SpellsBody}
 use Rattle.sshkey_kinds.specs.KeyFormats.{ecdsa_format}
+use Rattle.sshkey_kinds.proofs.Bodies.{body_grammar}
+use Rattle.sshkey_kinds.proofs.Lawful.{ecdsa_lawful}
 use Rattle.sshkey_terms.proofs.Tested.{tested_stopped}
 use Rattle.sshkey_keys.specs.declared.key_data.KeyData.{KeyData}
 use Rattle.sshkey_keys.specs.declared.key_data.KeyData.TheVariants as kinds
@@ -48,4 +50,4 @@ unfolding ecdsa_at
 wanted_read wanted = record { same = λ b. refl }
 
 pub unwanted_stopped : {X : Type 0} (means : X → Key) (wanted : Curve) (s t : Source) (x : X) (c : Cause) → Reads means any_ecdsa_at s x t → has_curve wanted (means x) ≡ false → Stopped c (ecdsa_at wanted) NoNeed ecdsa_format.overruns s
-unwanted_stopped means wanted s t x c h other = tested_stopped means any_ecdsa_at NoNeed ecdsa_format.overruns s t x (wanted_curve (λ k. k) wanted) (ecdsa_at wanted) c AlgorithmUnknown h (wanted_read wanted) (rw other refl) ecdsa_format.lengths
+unwanted_stopped means wanted s t x c h other = tested_stopped means any_ecdsa_at NoNeed ecdsa_format.overruns s t x (wanted_curve (λ k. k) wanted) (ecdsa_at wanted) c AlgorithmUnknown h (wanted_read wanted) (rw other refl) ecdsa_lawful.lengths

@@ -6,3 +6,6 @@ pub mod BoxedKeys
 pub mod Bodies
 pub mod WrittenParts
 pub mod TrailedBlobs
+pub mod KeyReaders
+pub mod SignatureReaders
+pub mod Lawful

@@ -9,7 +9,7 @@ use Rattle.sshkey_base.specs.Causes.{cause}
 use Rattle.sshkey_base.specs.Needs.{Asks, NeedsString}
 use Rattle.sshkey_base.specs.Source.{Source}
 use Rattle.sshkey_base.specs.Stops.{RanOut, StopsBy}
-use Rattle.sshkey_terms.specs.Terms.{IsMapped}
+use Rattle.sshkey_terms.proofs.Lawful.{IsMapped}
 use Rattle.sshkey_keys.specs.KeyFormats.{signature_under, signature_with}
 use Rattle.sshkey_keys.specs.SignatureForms.{NeedsTrailed, OverrunsBlob, OverrunsInside, OverrunsNumbers}
 

@@ -13,13 +13,13 @@ use Rattle.sshkey_base.specs.Answers.{Answers, AnswersAlways}
 use Rattle.sshkey_base.specs.Causes.{Cause, Faulty, NoMemory, cause}
 use Rattle.sshkey_base.specs.Source.{Source, IsSound}
 use Rattle.sshkey_base.specs.Reading.{Reads, Refuses, Gives}
-use Rattle.sshkey_base.specs.Lengths.{string_lengths}
+use Rattle.sshkey_base.proofs.Lengths.{string_lengths}
 use Rattle.sshkey_base.specs.Needs.{NeedsBytes, NeedsString, Asks}
 use Rattle.sshkey_base.specs.Stops.{OverrunsString, RanOut, Stopped, StopsBy}
 use Rattle.sshkey_base.proofs.Steps.{string_stood}
 use Rattle.sshkey_base.proofs.Stopping.{step_ok, not_taken, read_past}
 use Rattle.sshkey_terms.proofs.Stopping.{some_ok}
-use Rattle.sshkey_keys.specs.KeyFormats.{numbers_lengths}
+use Rattle.sshkey_keys.proofs.SignatureReaders.{numbers_lengths}
 use Rattle.sshkey_keys.specs.SignatureForms.{NeedsTrailed, OverrunsInside, OverrunsNumbers, joined_from}
 
 -- ---- the string, judged, and the trailer

@@ -2,7 +2,6 @@ pub mod Keys
 pub mod KeyKinds
 pub mod NameStrings
 pub mod Comparisons
-pub mod KeyReaders
 pub mod Fingerprints
 pub mod SignatureForms
 pub mod Signatures

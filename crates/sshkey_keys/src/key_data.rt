@@ -16,7 +16,6 @@ ghost use Rattle.sshkey_keys.specs.Fingerprints.{GivesFingerprint, IsShort};
 ghost use Rattle.sshkey_keys.specs.Keys.{DecodesBody, key_of, stored_algorithm};
 ghost use Rattle.sshkey_keys.specs.KeyKinds.{is_ecdsa, is_ed25519};
 ghost use Rattle.sshkey_keys.specs.KeyFormats.{body_format, key_format};
-ghost use Rattle.sshkey_keys.specs.KeyReaders.{key_normal};
 
 mod certificate_name;
 mod from;
@@ -269,7 +268,7 @@ fn opaque_from<R: Reader>(alloc: Global, reader: &mut R, algorithm: Algorithm) -
 ///
 /// An RSA key may stand under a name with a hash, which is not kept. Fails with `Label` for a name
 /// of no algorithm, and with the faults of the kind.
-#[tactic(auto, using(sshkey_terms::proofs::Chosen::chosen, crate::specs::KeyFormats::key_chosen, sshkey_base::specs::Lengths::label_lengths))]
+#[tactic(auto, using(crate::proofs::Lawful::key_lawful, sshkey_terms::proofs::Chosen::chosen, crate::proofs::KeyReaders::key_chosen, sshkey_base::proofs::Lengths::label_lengths))]
 impl Decode for KeyData {
     type Error = Error;
 
@@ -278,6 +277,8 @@ impl Decode for KeyData {
     ghost means = { key_of };
 
     ghost format = { key_format };
+
+    fn lawful() {}
 
     fn decode<R: Reader>(alloc: Global, reader: &mut R) -> Result<KeyData> {
         let Wide(algorithm) = Wide::<Algorithm>::decode(alloc, reader)?;
@@ -303,8 +304,9 @@ impl Encode for KeyData {
     }
 }
 
+#[tactic(auto, using(crate::proofs::KeyReaders::key_normal))]
 impl NormalForm for KeyData {
     ghost IsWellFormed = { λ k. IsKey (key_of k) };
 
-    ghost normal_spells = { λ k. key_normal (key_of k) };
+    fn normal_spells() {}
 }

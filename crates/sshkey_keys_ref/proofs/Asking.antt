@@ -10,7 +10,8 @@ use Rattle.sshkey_base.specs.Labels.{label_at}
 use Rattle.sshkey_base.proofs.Accepted.{spelled_whole}
 use Rattle.sshkey_keys.specs.Asked.{IsAsked}
 use Rattle.sshkey_keys.specs.KeyKinds.{is_dsa, is_rsa}
-use Rattle.sshkey_keys.specs.SignatureReaders.{SpellsSignature, signature_grammar}
+use Rattle.sshkey_keys.specs.SignatureReaders.{SpellsSignature}
+use Rattle.sshkey_keys.proofs.SignatureReaders.{signature_grammar}
 use Rattle.sshkey_keys_ref.specs.Dispatch.{IsAskedItself, IsBlobIn, signature_by}
 use Rattle.sshkey_keys_ref.proofs.PlainHeads.{whole_is}
 

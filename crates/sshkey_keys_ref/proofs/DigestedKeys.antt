@@ -14,7 +14,7 @@ use Rattle.sshkey_fingerprints.specs.Fingerprints.{fingerprint_hash, digest_of}
 use Rattle.sshkey_fingerprints.specs.declared.fingerprint.Fingerprint.{Fingerprint}
 use Rattle.sshkey_keys.specs.declared.key_data.KeyData.{KeyData}
 use Rattle.sshkey_keys.specs.Fingerprints.{GivesFingerprint}
-use Rattle.sshkey_keys.specs.KeyReaders.{key_grammar}
+use Rattle.sshkey_keys.proofs.KeyReaders.{key_grammar}
 use Rattle.sshkey_keys.specs.Keys.{SpellsKey, key_of, key_data_at}
 use Rattle.sshkey_terms.specs.Slices.{is_taken}
 use Rattle.sshkey_keys_ref.specs.KeyFingerprints.{GivesFingerprintOf}

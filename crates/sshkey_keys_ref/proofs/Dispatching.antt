@@ -12,8 +12,9 @@ use Rattle.sshkey_model.proofs.SignatureReaders.{signature_blob_reads}
 use Rattle.sshkey_base.specs.Labels.{label_at}
 use Rattle.sshkey_base.proofs.Accepted.{spelled_whole}
 use Rattle.sshkey_keys.specs.KeyKinds.{is_dsa, is_rsa, is_opaque}
-use Rattle.sshkey_keys.specs.KeyReaders.{key_grammar}
-use Rattle.sshkey_keys.specs.SignatureReaders.{SpellsSignature, signature_grammar}
+use Rattle.sshkey_keys.proofs.KeyReaders.{key_grammar}
+use Rattle.sshkey_keys.specs.SignatureReaders.{SpellsSignature}
+use Rattle.sshkey_keys.proofs.SignatureReaders.{signature_grammar}
 use Rattle.sshkey_keys_ref.specs.Dispatch.{AsksBytes, AsksKey, Dispatches, DispatchesBytes, DispatchesKey, DispatchesKind, Answered, IsAskedItself, IsBlobIn, RunsOutFor, signature_by}
 use Rattle.sshkey_keys_ref.proofs.Asking.{signature_is, blob_formed, dsa_itself, rsa_itself}
 use Rattle.sshkey_keys_ref.proofs.PlainHeads.{broken, whole_is}

@@ -14,8 +14,8 @@ use Rattle.sshkey_model.specs.Names as names
 use Rattle.sshkey_model.specs.Names.{Algorithm, algorithm_from}
 use Rattle.sshkey_model.specs.Reading.{Fault, ◌>>=◌}
 use Rattle.sshkey_keys.specs.KeyKinds.{is_ecdsa, is_ed25519}
-use Rattle.sshkey_kinds.specs.Bodies.{body_grammar}
-use Rattle.sshkey_keys.specs.KeyReaders.{key_grammar}
+use Rattle.sshkey_kinds.proofs.Bodies.{body_grammar}
+use Rattle.sshkey_keys.proofs.KeyReaders.{key_grammar}
 use Rattle.sshkey_keys.specs.Keys.{SpellsKey, key_of, key_data_at}
 use Rattle.sshkey_keys.specs.KeyFormats.{body_format, key_format}
 use Rattle.sshkey_keys.specs.declared.key_data.KeyData.{KeyData}

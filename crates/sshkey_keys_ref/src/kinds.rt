@@ -3,6 +3,7 @@
 
 ghost use Rattle.sshkey_base.specs.Answers.{AnswersAlways};
 ghost use Rattle.sshkey_base.specs.Causes.{cause};
+ghost use Rattle.sshkey_base.specs.Formats.{IsFormat};
 ghost use Rattle.sshkey_base.specs.Labels.{label_at};
 ghost use Rattle.sshkey_base.specs.Names.{curve_of};
 ghost use Rattle.sshkey_base.specs.Source.{Later, all_of};
@@ -32,7 +33,7 @@ pub struct RsaRef<'a> {
     pub n: MpintRef<'a>,
 }
 
-#[tactic(auto, using(sshkey_terms::proofs::Walking::walking), unfolding(sshkey_model::specs::Keys::rsa_at))]
+#[tactic(auto, using(sshkey_kinds::proofs::Lawful::rsa_lawful, sshkey_terms::proofs::Walking::walking), unfolding(sshkey_model::specs::Keys::rsa_at))]
 impl<'a> ReadFrom<&'a [u8]> for RsaRef<'a> {
     ghost use Rattle.sshkey_keys_ref.specs.Kinds.{rsa_of};
 
@@ -43,6 +44,10 @@ impl<'a> ReadFrom<&'a [u8]> for RsaRef<'a> {
     ghost means = { rsa_of };
 
     ghost format = { rsa_format };
+
+    fn lawful()
+        ensures { IsFormat rsa_format }
+    {}
 
     fn read_from(reader: &mut &'a [u8]) -> Result<RsaRef<'a>> {
         let e = MpintRef::read_from(reader)?;
@@ -60,7 +65,7 @@ pub struct DsaRef<'a> {
     pub y: MpintRef<'a>,
 }
 
-#[tactic(auto, using(sshkey_terms::proofs::Walking::walking), unfolding(sshkey_model::specs::Keys::dsa_at))]
+#[tactic(auto, using(sshkey_kinds::proofs::Lawful::dsa_lawful, sshkey_terms::proofs::Walking::walking), unfolding(sshkey_model::specs::Keys::dsa_at))]
 impl<'a> ReadFrom<&'a [u8]> for DsaRef<'a> {
     ghost use Rattle.sshkey_keys_ref.specs.Kinds.{dsa_of};
 
@@ -71,6 +76,10 @@ impl<'a> ReadFrom<&'a [u8]> for DsaRef<'a> {
     ghost means = { dsa_of };
 
     ghost format = { dsa_format };
+
+    fn lawful()
+        ensures { IsFormat dsa_format }
+    {}
 
     fn read_from(reader: &mut &'a [u8]) -> Result<DsaRef<'a>> {
         let p = MpintRef::read_from(reader)?;
@@ -86,7 +95,7 @@ impl<'a> ReadFrom<&'a [u8]> for DsaRef<'a> {
 pub(crate) struct Ed25519Ref(pub Ed25519PublicKey);
 
 /// The bytes of an Ed25519 key.
-#[tactic(auto, using(sshkey_terms::proofs::Walking::walking), unfolding(sshkey_kinds::specs::Bodies::ed25519_body_at, sshkey_model::specs::Keys::ed25519_at))]
+#[tactic(auto, using(sshkey_kinds::proofs::Lawful::ed25519_lawful, sshkey_terms::proofs::Walking::walking), unfolding(sshkey_kinds::specs::Bodies::ed25519_body_at, sshkey_model::specs::Keys::ed25519_at))]
 impl<'a> ReadFrom<&'a [u8]> for Ed25519Ref {
     type Error = Error;
 
@@ -95,6 +104,10 @@ impl<'a> ReadFrom<&'a [u8]> for Ed25519Ref {
     ghost means = { λ k. ed25519_of k.0 };
 
     ghost format = { ed25519_format };
+
+    fn lawful()
+        ensures { IsFormat ed25519_format }
+    {}
 
     fn read_from(reader: &mut &'a [u8]) -> Result<Ed25519Ref> {
         let key = <[u8; 32]>::read_from(reader)?;
@@ -128,7 +141,7 @@ fn curve_in(string: &[u8]) -> Result<EcdsaCurve>
 pub(crate) struct EcdsaRef(pub EcdsaPublicKey);
 
 /// The name of a curve and a point of it.
-#[tactic(auto, using(sshkey_terms::proofs::Walking::walking), unfolding(sshkey_model::specs::Keys::any_ecdsa_at, sshkey_model::specs::Names::curve_at, sshkey_base::specs::Labels::label_at))]
+#[tactic(auto, using(sshkey_kinds::proofs::Lawful::ecdsa_lawful, sshkey_terms::proofs::Walking::walking), unfolding(sshkey_model::specs::Keys::any_ecdsa_at, sshkey_model::specs::Names::curve_at, sshkey_base::specs::Labels::label_at))]
 impl<'a> ReadFrom<&'a [u8]> for EcdsaRef {
     type Error = Error;
 
@@ -137,6 +150,10 @@ impl<'a> ReadFrom<&'a [u8]> for EcdsaRef {
     ghost means = { λ k. ecdsa_key_of k.0 };
 
     ghost format = { ecdsa_format };
+
+    fn lawful()
+        ensures { IsFormat ecdsa_format }
+    {}
 
     fn read_from(reader: &mut &'a [u8]) -> Result<EcdsaRef> {
         let stated = take_curve(reader)?;
@@ -176,7 +193,7 @@ pub struct SkEcdsaRef<'a> {
     pub application: &'a str,
 }
 
-#[tactic(auto, using(sshkey_terms::proofs::Walking::walking), unfolding(sshkey_model::specs::Keys::sk_ecdsa_at, sshkey_model::specs::Names::curve_at, sshkey_base::specs::Labels::label_at))]
+#[tactic(auto, using(sshkey_kinds::proofs::Lawful::sk_ecdsa_lawful, sshkey_terms::proofs::Walking::walking), unfolding(sshkey_model::specs::Keys::sk_ecdsa_at, sshkey_model::specs::Names::curve_at, sshkey_base::specs::Labels::label_at))]
 impl<'a> ReadFrom<&'a [u8]> for SkEcdsaRef<'a> {
     ghost use Rattle.sshkey_keys_ref.specs.Kinds.{sk_ecdsa_of};
 
@@ -187,6 +204,10 @@ impl<'a> ReadFrom<&'a [u8]> for SkEcdsaRef<'a> {
     ghost means = { sk_ecdsa_of };
 
     ghost format = { sk_ecdsa_format };
+
+    fn lawful()
+        ensures { IsFormat sk_ecdsa_format }
+    {}
 
     fn read_from(reader: &mut &'a [u8]) -> Result<SkEcdsaRef<'a>> {
         let stated = take_curve(reader)?;
@@ -227,7 +248,7 @@ pub struct SkEd25519Ref<'a> {
     pub application: &'a str,
 }
 
-#[tactic(auto, using(sshkey_terms::proofs::Walking::walking), unfolding(sshkey_model::specs::Keys::sk_ed25519_at, sshkey_model::specs::Keys::ed25519_at))]
+#[tactic(auto, using(sshkey_kinds::proofs::Lawful::sk_ed25519_lawful, sshkey_terms::proofs::Walking::walking), unfolding(sshkey_model::specs::Keys::sk_ed25519_at, sshkey_model::specs::Keys::ed25519_at))]
 impl<'a> ReadFrom<&'a [u8]> for SkEd25519Ref<'a> {
     ghost use Rattle.sshkey_keys_ref.specs.Kinds.{sk_ed25519_of};
 
@@ -238,6 +259,10 @@ impl<'a> ReadFrom<&'a [u8]> for SkEd25519Ref<'a> {
     ghost means = { sk_ed25519_of };
 
     ghost format = { sk_ed25519_format };
+
+    fn lawful()
+        ensures { IsFormat sk_ed25519_format }
+    {}
 
     fn read_from(reader: &mut &'a [u8]) -> Result<SkEd25519Ref<'a>> {
         let key = <[u8; 32]>::read_from(reader)?;

@@ -1,7 +1,7 @@
 //! The numbers that keys are made of.
 
 ghost use Rattle.std.specs.Prelude.{ℕ, List};
-ghost use Rattle.sshkey_base.specs.Formats.{mpint_format};
+ghost use Rattle.sshkey_base.specs.Formats.{IsFormat, mpint_format};
 
 use sshkey_base::{Error, Mpint, Result};
 use sshkey_terms::ReadFrom;
@@ -11,7 +11,7 @@ use sshkey_terms::ReadFrom;
 pub struct MpintRef<'a>(pub &'a [u8]);
 
 /// A string of the bytes of a number.
-#[tactic(auto, using(sshkey_terms::proofs::Walking::walking), unfolding(sshkey_model::specs::Mpints::mpint_at))]
+#[tactic(auto, using(sshkey_base::proofs::Lawful::mpint_lawful, sshkey_terms::proofs::Walking::walking), unfolding(sshkey_model::specs::Mpints::mpint_at))]
 impl<'a> ReadFrom<&'a [u8]> for MpintRef<'a> {
     type Error = Error;
 
@@ -20,6 +20,10 @@ impl<'a> ReadFrom<&'a [u8]> for MpintRef<'a> {
     ghost means = { λ m. m.0.now };
 
     ghost format = { mpint_format };
+
+    fn lawful()
+        ensures { IsFormat mpint_format }
+    {}
 
     fn read_from(reader: &mut &'a [u8]) -> Result<MpintRef<'a>> {
         let string = <&'a [u8]>::read_from(reader)?;

@@ -2,3 +2,5 @@ pub mod Points
 pub mod Parts
 pub mod PointStrings
 pub mod EqualPoints
+pub mod Bodies
+pub mod Lawful

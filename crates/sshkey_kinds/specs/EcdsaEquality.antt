@@ -5,7 +5,7 @@ use Rattle.std.specs.Cmp.{IsEquivalence, IsPartialEquivalence}
 use Rattle.std.proofs.Common.{ap}
 use Rattle.std.proofs.lemmas.Slice.Eq.{bytes_eq-Decides}
 use Rattle.sshkey_model.specs.Names.{Curve, Nistp256, Nistp384, Nistp521}
-use Rattle.sshkey_base.specs.Equality.{decided_equivalence, decided_partial_equivalence}
+use Rattle.sshkey_base.proofs.Equality.{decided_equivalence, decided_partial_equivalence}
 use Rattle.sshkey_kinds.specs.declared.ecdsa.EcdsaPublicKey.{EcdsaPublicKey}
 use Rattle.sshkey_kinds.specs.declared.ecdsa.EcdsaPublicKey.TheVariants.{NistP256, NistP384, NistP521}
 use Rattle.sshkey_kinds.specs.EcdsaPublicKey.{ecdsa_of, same_key}

@@ -41,7 +41,7 @@ impl DsaPublicKey {
 }
 
 /// The four numbers p, q, g and y, each as a string.
-#[tactic(auto, using(sshkey_terms::proofs::Mapped::mapped, crate::specs::KeyFormats::dsa_parts_read))]
+#[tactic(auto, using(crate::proofs::Lawful::dsa_lawful, sshkey_terms::proofs::Mapped::mapped, crate::proofs::Bodies::dsa_parts_read))]
 impl Decode for DsaPublicKey {
     ghost use Rattle.sshkey_kinds.specs.Kinds.{dsa_of};
 
@@ -52,6 +52,8 @@ impl Decode for DsaPublicKey {
     ghost means = { dsa_of };
 
     ghost format = { dsa_format };
+
+    fn lawful() {}
 
     fn decode<R: Reader>(alloc: Global, reader: &mut R) -> Result<DsaPublicKey> {
         type Numbers = Then<Mpint, Then<Mpint, Then<Mpint, Mpint>>>;

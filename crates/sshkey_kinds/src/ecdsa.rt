@@ -112,7 +112,7 @@ impl EcdsaPublicKey {
 ///
 /// Fails with `Length` for a point string of more than 133 bytes, with the faults of
 /// `from_sec1_bytes`, and with `AlgorithmUnknown` for a point of another curve than the stated one.
-#[tactic(auto, using(sshkey_terms::proofs::Mapped::mapped, crate::proofs::Parts::ecdsa))]
+#[tactic(auto, using(crate::proofs::Lawful::ecdsa_lawful, sshkey_terms::proofs::Mapped::mapped, crate::proofs::Parts::ecdsa))]
 impl Decode for EcdsaPublicKey {
     ghost use Rattle.sshkey_model.specs.Keys.{Key};
     ghost use Rattle.sshkey_kinds.specs.EcdsaPublicKey.{ecdsa_key_of};
@@ -125,6 +125,8 @@ impl Decode for EcdsaPublicKey {
     ghost means = { ecdsa_key_of };
 
     ghost format = { ecdsa_format };
+
+    fn lawful() {}
 
     fn decode<R: Reader>(alloc: Global, reader: &mut R) -> Result<EcdsaPublicKey> {
         type Parts = Then<Wide<EcdsaCurve>, AnyPoint>;
@@ -139,7 +141,7 @@ impl Decode for EcdsaPublicKey {
 /// A point string on any of the curves, at most 133 bytes long.
 struct AnyPoint(EcdsaPublicKey);
 
-#[tactic(auto, using(sshkey_base::proofs::Steps::steps, sshkey_terms::proofs::Stopping::handed, sshkey_base::proofs::Stopping::judged_length_stopped, crate::proofs::PointStrings::behind_refused_stopped), unfolding(sshkey_model::specs::Reading::string_at))]
+#[tactic(auto, using(crate::proofs::Lawful::any_point_lawful, sshkey_base::proofs::Steps::steps, sshkey_terms::proofs::Stopping::handed, sshkey_base::proofs::Stopping::judged_length_stopped, crate::proofs::PointStrings::behind_refused_stopped), unfolding(sshkey_model::specs::Reading::string_at))]
 impl Decode for AnyPoint {
     ghost use Rattle.std.specs.Prelude.{List, ℕ};
     ghost use Rattle.sshkey_model.specs.Names.{Curve};
@@ -153,6 +155,8 @@ impl Decode for AnyPoint {
     ghost means = { λ point. ecdsa_of point.0 };
 
     ghost format = { any_point_format };
+
+    fn lawful() {}
 
     fn decode<R: Reader>(_alloc: Global, reader: &mut R) -> Result<AnyPoint> {
         let len = length_from(reader)?;

@@ -31,7 +31,7 @@ impl Ed25519PublicKey {
 
 /// A string of 32 bytes: `Length` for a shorter one, `TrailingData` for a longer one. Does not
 /// allocate.
-#[tactic(auto, using(sshkey_base::proofs::Steps::steps, sshkey_terms::proofs::Mapped::mapped, crate::specs::KeyFormats::ed25519_read), unfolding(crate::specs::Bodies::ed25519_body_at, sshkey_model::specs::Keys::ed25519_at))]
+#[tactic(auto, using(crate::proofs::Lawful::ed25519_lawful, sshkey_base::proofs::Steps::steps, sshkey_terms::proofs::Mapped::mapped, crate::proofs::Bodies::ed25519_read), unfolding(crate::specs::Bodies::ed25519_body_at, sshkey_model::specs::Keys::ed25519_at))]
 impl Decode for Ed25519PublicKey {
     ghost use Rattle.sshkey_base.specs.Needs.{Asks, NoNeed};
     ghost use Rattle.sshkey_kinds.specs.Kinds.{ed25519_of};
@@ -43,6 +43,8 @@ impl Decode for Ed25519PublicKey {
     ghost means = { ed25519_of };
 
     ghost format = { ed25519_format };
+
+    fn lawful() {}
 
     fn decode<R: Reader>(alloc: Global, reader: &mut R) -> encoding::Result<Ed25519PublicKey>
         ensures gives { Decodes ed25519_of ed25519_body_at R.source reader.old result reader.new }

@@ -57,7 +57,7 @@ impl AsSlice<u8> for OpaquePublicKeyBytes {
 
 /// A string of any bytes. Fails with `Length`, and allocates nothing, if the length is larger than
 /// the remaining input.
-#[tactic(auto, using(sshkey_base::proofs::Steps::steps))]
+#[tactic(auto, using(sshkey_base::proofs::Lawful::string_lawful, sshkey_base::proofs::Steps::steps))]
 impl Decode for OpaquePublicKeyBytes {
     ghost use Rattle.sshkey_base.specs.Causes.{encoding_cause};
     ghost use Rattle.sshkey_base.specs.Needs.{Asks, NeedsString};
@@ -71,6 +71,8 @@ impl Decode for OpaquePublicKeyBytes {
     ghost means = { λ k. k };
 
     ghost format = { string_format };
+
+    fn lawful() {}
 
     fn decode<R: Reader>(alloc: Global, reader: &mut R) -> encoding::Result<OpaquePublicKeyBytes>
         ensures gives { Decodes (λ k. k) string_at R.source reader.old result reader.new }

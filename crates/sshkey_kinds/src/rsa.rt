@@ -37,7 +37,7 @@ impl RsaPublicKey {
 }
 
 /// The two numbers, e and then n, each as a string.
-#[tactic(auto, using(sshkey_terms::proofs::Mapped::mapped, crate::specs::KeyFormats::rsa_parts_read))]
+#[tactic(auto, using(crate::proofs::Lawful::rsa_lawful, sshkey_terms::proofs::Mapped::mapped, crate::proofs::Bodies::rsa_parts_read))]
 impl Decode for RsaPublicKey {
     ghost use Rattle.sshkey_kinds.specs.Kinds.{rsa_of};
 
@@ -48,6 +48,8 @@ impl Decode for RsaPublicKey {
     ghost means = { rsa_of };
 
     ghost format = { rsa_format };
+
+    fn lawful() {}
 
     fn decode<R: Reader>(alloc: Global, reader: &mut R) -> Result<RsaPublicKey> {
         let Then(e, n) = Then::<Mpint, Mpint>::decode(alloc, reader)?;

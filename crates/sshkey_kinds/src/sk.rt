@@ -94,7 +94,7 @@ impl From<SkEcdsaSha2NistP256> for EcdsaNistP256PublicKey {
 ///
 /// Fails with `Crypto` for another curve, with `Length` for a point string of more than 65 bytes,
 /// and with `Ecdsa` for one that is no point of P-256.
-#[tactic(auto, using(sshkey_terms::proofs::Mapped::mapped, crate::specs::KeyFormats::sk_ecdsa_parts_read))]
+#[tactic(auto, using(crate::proofs::Lawful::sk_ecdsa_lawful, sshkey_terms::proofs::Mapped::mapped, crate::proofs::Bodies::sk_ecdsa_parts_read))]
 impl Decode for SkEcdsaSha2NistP256 {
     ghost use Rattle.sshkey_kinds.specs.Kinds.{sk_ecdsa_of};
 
@@ -105,6 +105,8 @@ impl Decode for SkEcdsaSha2NistP256 {
     ghost means = { sk_ecdsa_of };
 
     ghost format = { sk_ecdsa_format };
+
+    fn lawful() {}
 
     fn decode<R: Reader>(alloc: Global, reader: &mut R) -> Result<SkEcdsaSha2NistP256> {
         type Parts = Then<P256Name, Then<P256Point, Wide<Text>>>;
@@ -120,7 +122,7 @@ impl Decode for SkEcdsaSha2NistP256 {
 #[derive(Drop)]
 struct P256Name;
 
-#[tactic(auto, using(sshkey_base::proofs::Steps::steps, sshkey_terms::proofs::Mapped::mapped, sshkey_terms::proofs::Tested::tested, sshkey_terms::specs::Terms::checked_read, sshkey_base::specs::Lengths::label_lengths))]
+#[tactic(auto, using(crate::proofs::Lawful::p256_name_lawful, sshkey_base::proofs::Steps::steps, sshkey_terms::proofs::Mapped::mapped, sshkey_terms::proofs::Tested::tested, sshkey_terms::proofs::Lawful::checked_read, sshkey_base::proofs::Lengths::label_lengths))]
 impl Decode for P256Name {
     ghost use Rattle.sshkey_model.specs.Names.{Curve, Nistp256};
     ghost use Rattle.sshkey_kinds.specs.KeyFormats.{p256_name_format};
@@ -132,6 +134,8 @@ impl Decode for P256Name {
     ghost means = { λ _. Nistp256 };
 
     ghost format = { p256_name_format };
+
+    fn lawful() {}
 
     fn decode<R: Reader>(alloc: Global, reader: &mut R) -> Result<P256Name> {
         let Wide(stated) = Wide::<EcdsaCurve>::decode(alloc, reader)?;
@@ -146,7 +150,7 @@ impl Decode for P256Name {
 #[derive(Drop)]
 struct P256Point(EcdsaNistP256PublicKey);
 
-#[tactic(auto, using(sshkey_base::proofs::Steps::steps, sshkey_terms::proofs::Stopping::handed, sshkey_base::proofs::Stopping::judged_length_stopped, crate::proofs::PointStrings::behind_refused_stopped), unfolding(sshkey_model::specs::Reading::string_at))]
+#[tactic(auto, using(crate::proofs::Lawful::p256_point_lawful, sshkey_base::proofs::Steps::steps, sshkey_terms::proofs::Stopping::handed, sshkey_base::proofs::Stopping::judged_length_stopped, crate::proofs::PointStrings::behind_refused_stopped), unfolding(sshkey_model::specs::Reading::string_at))]
 impl Decode for P256Point {
     ghost use Rattle.sshkey_kinds.specs.KeyFormats.{p256_point_format};
 
@@ -157,6 +161,8 @@ impl Decode for P256Point {
     ghost means = { λ point. point_of point.0 };
 
     ghost format = { p256_point_format };
+
+    fn lawful() {}
 
     fn decode<R: Reader>(_alloc: Global, reader: &mut R) -> Result<P256Point> {
         let len = length_from(reader)?;
@@ -262,7 +268,7 @@ impl From<SkEd25519> for Ed25519PublicKey {
 }
 
 /// A string of 32 bytes, and the application as a text.
-#[tactic(auto, using(sshkey_terms::proofs::Mapped::mapped, crate::specs::KeyFormats::sk_ed25519_parts_read))]
+#[tactic(auto, using(crate::proofs::Lawful::sk_ed25519_lawful, sshkey_terms::proofs::Mapped::mapped, crate::proofs::Bodies::sk_ed25519_parts_read))]
 impl Decode for SkEd25519 {
     ghost use Rattle.sshkey_kinds.specs.Kinds.{sk_ed25519_of};
 
@@ -273,6 +279,8 @@ impl Decode for SkEd25519 {
     ghost means = { sk_ed25519_of };
 
     ghost format = { sk_ed25519_format };
+
+    fn lawful() {}
 
     fn decode<R: Reader>(alloc: Global, reader: &mut R) -> Result<SkEd25519> {
         type Parts = Then<Wide<[u8; 32]>, Wide<Text>>;

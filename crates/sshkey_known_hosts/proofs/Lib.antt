@@ -5,8 +5,8 @@ pub mod OneLine
 pub mod HostLines
 pub mod SomeOf
 pub mod Verdicts
-pub mod OtherHosts
-pub mod OtherLines
+pub mod HostCuts
+pub mod NamedHosts
 pub mod AuthorityKeys
 pub mod ContainedCharacters
 mod Wholes

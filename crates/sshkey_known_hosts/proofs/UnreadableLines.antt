@@ -1,18 +1,15 @@
 -- Lines of a text that hide an entry, and those of them that count.
-use Rattle.std.proofs.Common.{◌≡◌, ◌↔◌, ◌<◌, inl, inr, lt-ltb, refl, sym, subst, arith, ℕ, List, [], ◌∷◌, ◌++◌, Bool, true, false, cond, filter, map, length, slice_index, ◌==◌, IsTrue, Option, Some, None, is_some, not, option_map}
+use Rattle.std.proofs.Common.{◌≡◌, ◌↔◌, ◌<◌, ◌∙◌, inl, inr, lt-ltb, refl, sym, subst, arith, ℕ, List, [], ◌∷◌, ◌++◌, Bool, true, false, cond, filter, map, length, slice_index, ◌==◌, IsTrue, Some, None, option_map}
 use Rattle.std.proofs.lemmas.Bool.{ne_eqb}
 use Rattle.std.specs.List.{Any}
 use Rattle.std.specs.Str.Lines.{lines}
 use Rattle.sshkey_entries.specs.Fields.{filled_lines, is_filled, without_blanks}
 use Rattle.sshkey_entries.specs.Entries.{hash_sign}
-use Rattle.sshkey_entries.specs.HostVerdicts.{HidesEntry, HidesSome, IsForOthers}
-use Rattle.sshkey_entries.specs.OpenSshLines.{IsHostLine}
-use Rattle.sshkey_known_hosts.specs.HostEntries.{hosts_of, known_host_of, marker_of}
-use Rattle.sshkey_known_hosts.specs.OtherLines.{ReadsOtherLine}
-use Rattle.sshkey_known_hosts.specs.Verdicts.{ReadsOrNone}
-use Rattle.sshkey_known_hosts.specs.declared.entry.Entry.{Entry}
-use Rattle.sshkey_known_hosts.specs.declared.host_patterns.HostPatterns.{HostPatterns}
-use Rattle.sshkey_known_hosts.specs.declared.marker.Marker.{Marker}
+use Rattle.sshkey_entries.specs.HostVerdicts.{HidesEntry, HidesSome}
+use Rattle.sshkey_known_hosts.specs.HostEntries.{marker_of}
+use Rattle.sshkey_known_hosts.specs.HostLines.{IsToHost, is_unreadable}
+use Rattle.sshkey_known_hosts.specs.declared.host_line.HostLine.{HostLine}
+use Rattle.sshkey_known_hosts.specs.declared.host_line.HostLine.TheVariants as kind
 use Rattle.sshkey_known_hosts.specs.UnreadableLines.{HidesEntryIn, UnreadableHasLine}
 use Rattle.sshkey_known_hosts.proofs.Verdicts.{either, first, later, only, this}
 
@@ -22,14 +19,16 @@ pub is_filled_text : (text : List ℕ) → (length text == 0) ≡ false → (sli
 is_filled_text [] some other = absurd cc
 is_filled_text (c ∷ text) some other = rw (ne_eqb c hash_sign other, lt-ltb 0 (length (c ∷ text)) (omega arith)) refl
 
--- The line counts and is not for others: it hides an entry exactly if it is none, also of no other kind
--- of key.
-pub hides_exactly : (hmac : List ℕ → List ℕ → List ℕ) (name line text : List ℕ) → text ≡ without_blanks line → is_filled text ≡ true → (IsForOthers hmac name text → ⊥) → (entry : Option Entry) → ReadsOrNone known_host_of IsHostLine text entry → is_some entry ≡ false → (other : Option (Option Marker × HostPatterns)) → ReadsOtherLine text other → (b : Bool) → is_some other ≡ not b → IsTrue b ↔ HidesEntryIn hmac name line
-hides_exactly hmac name line text is filled not_others (Some entry) reads none other other_reads b e = absurd cc
-hides_exactly hmac name line text is filled not_others None reads none None other_reads true e = (λ _. subst (λ (t : List ℕ). (is_filled t ≡ true) × HidesEntry hmac name t) is (filled, (reads, not_others, other_reads)), λ _. refl)
-hides_exactly hmac name line text is filled not_others None reads none None other_reads false e = absurd cc
-hides_exactly hmac name line text is filled not_others None reads none (Some x) other_reads true e = absurd cc
-hides_exactly hmac name line text is filled not_others None reads none (Some x) other_reads false e = (λ yes. absurd cc, λ h. absurd ((subst (λ (t : List ℕ). HidesEntry hmac name t) (sym is) h.1).2 (option_map marker_of x.0, hosts_of x.1, other_reads)))
+-- It hides an entry exactly if it counts and cannot be read.
+module _ (hmac : List ℕ → List ℕ → List ℕ) (name line text : List ℕ) (is : text ≡ without_blanks line) (filled : is_filled text ≡ true) where
+  hidden_text : HidesEntryIn hmac name line → HidesEntry hmac name text
+  hidden_text h = subst (HidesEntry hmac name) (sym is) h.1
+
+  pub hides_exactly : (it : HostLine) → IsToHost hmac name text it → (b : Bool) → b ≡ is_unreadable it → IsTrue b ↔ HidesEntryIn hmac name line
+  hides_exactly kind.ForOthers f b e = (λ t. absurd (cc (sym e ∙ t)), λ h. absurd ((hidden_text h).1 f))
+  hides_exactly (kind.Entry marker key) l b e = (λ t. absurd (cc (sym e ∙ t)), λ h. absurd ((hidden_text h).0 l.0.entry l.0.read))
+  hides_exactly (kind.OtherKey marker) l b e = (λ t. absurd (cc (sym e ∙ t)), λ h. absurd ((hidden_text h).2 (option_map marker_of marker, l.hosts, l.read)))
+  hides_exactly kind.Unreadable hides b e = (λ t. subst (λ (x : List ℕ). (is_filled x ≡ true) × HidesEntry hmac name x) is (filled, hides), λ h. e)
 
 -- ---- all lines
 

@@ -18,7 +18,7 @@ use Rattle.sshkey_known_hosts.specs.declared.marker.Marker.{Marker}
 use Rattle.sshkey_known_hosts.specs.declared.marker.Marker.TheVariants as marker
 use Rattle.sshkey_known_hosts.specs.declared.verdict.Verdict.{Verdict}
 use Rattle.sshkey_known_hosts.specs.declared.verdict.Verdict.TheVariants.{Revoked, Unreadable, Trusted, Changed, Unknown}
-use Rattle.sshkey_known_hosts.proofs.OtherHosts.{lists_no_other, lists_none}
+use Rattle.sshkey_known_hosts.proofs.HostCuts.{lists_no_other, lists_none}
 
 -- ---- of two lists
 
@@ -135,9 +135,6 @@ module _ (hmac : List ℕ → List ℕ → List ℕ) (name : List ℕ) (key : Ke
       | inr other ↦ other_line_none line None other.hosts other.read h is
     ]
 
-    pub for_others : (AreFor hmac name h.hosts → ⊥) → IsVerdict hmac name key (line ∷ []) Unknown
-    for_others never = (not_listed (Some known.Revoked) key (λ _ _. never), not_hidden, not_known (λ _. never))
-
     pub revoked : h.marker ≡ Some known.Revoked → h.key ≡ key → AreFor hmac name h.hosts → IsVerdict hmac name key (line ∷ []) Revoked
     revoked mark same fits = this (Lists hmac name (Some known.Revoked) key) line (listed (Some known.Revoked) key mark same fits)
 
@@ -203,9 +200,6 @@ module _ (hmac : List ℕ → List ℕ → List ℕ) (name : List ℕ) (key : Ke
           let same = one_other_line line m None hosts other.hosts is other.read in
           never same.0 (subst (AreFor hmac name) (sym same.1) other.is_for)
     ]
-
-    pub other_for_others : (AreFor hmac name hosts → ⊥) → IsVerdict hmac name key (line ∷ []) Unknown
-    other_for_others never = (lists_nothing (Some known.Revoked) key, shown, not_other (λ _. never))
 
     other_marked : (n : known.Marker) → m ≡ Some n → IsVerdict hmac name key (line ∷ []) Unknown
     other_marked n mark = (lists_nothing (Some known.Revoked) key, shown, not_other (λ none _. cc (sym mark ∙ none)))

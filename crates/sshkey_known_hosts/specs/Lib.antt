@@ -1,9 +1,9 @@
 pub mod HostEntries
 pub mod HostFaults
 pub mod OpenSshHosts
-pub mod OtherHosts
+pub mod NamedHosts
 pub mod Verdicts
-pub mod OtherLines
+pub mod HostLines
 pub mod MadeEntries
 pub mod Hmac
 pub mod HmacExamples

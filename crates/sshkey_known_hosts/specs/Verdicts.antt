@@ -2,7 +2,6 @@
 use Rattle.std.specs.Prelude.{◌≡◌, ◌↔◌, ℕ, List, [], ◌∷◌, ◌++◌, Option, Some, None, Bool, true, false}
 use Rattle.std.specs.List.{Any}
 use Rattle.sshkey_model.specs.Keys.{Key}
-use Rattle.sshkey_entries.specs.Entries.{IsNoEntry}
 use Rattle.sshkey_entries.specs.HostVerdicts.{IsRevoked, HidesSome, IsListed, IsKnown, IsAuthority, Lists}
 use Rattle.sshkey_entries.specs.KnownHosts.{CertAuthority}
 use Rattle.sshkey_public.specs.PublicKeys.{comment_of, public_of}
@@ -48,11 +47,6 @@ graver_of Unknown Unknown = Unknown
 -- Where lines have the first verdict and other lines the second, all of them have the third.
 abbrev pub SayTogether : Verdict → Verdict → Verdict → Type 0
 SayTogether v w together = (hmac : List ℕ → List ℕ → List ℕ) (name : List ℕ) (key : Key) (lines others : List (List ℕ)) → IsVerdict hmac name key lines v → IsVerdict hmac name key others w → IsVerdict hmac name key (lines ++ others) together
-
--- The value of the line; or it has none.
-abbrev pub ReadsOrNone : {X Y : Type 0} → (X → Y) → (List ℕ → Y → Type 0) → List ℕ → Option X → Type 0
-ReadsOrNone means IsEntry line (Some x) = IsEntry line (means x)
-ReadsOrNone means IsEntry line None = IsNoEntry IsEntry line
 
 -- ---- authorities
 

@@ -1,20 +1,17 @@
 //! The authorities that sign the keys of a host.
 
-ghost use Rattle.std.specs.Prelude.{◌≡◌, ◌<◌, ℕ, List, IfOk, IfErr, length};
+ghost use Rattle.std.specs.Prelude.{◌≡◌, ◌<◌, IfOk, IfErr, length};
 ghost use Rattle.sshkey_base.specs.declared.error.Error.TheVariants as wide;
 ghost use Rattle.sshkey_entries.specs.Fields.{filled_lines};
 ghost use Rattle.sshkey_entries.specs.HostNames.{known_name};
 ghost use Rattle.sshkey_entries.specs.HostVerdicts.{IsForOthers};
-ghost use Rattle.sshkey_entries.specs.OpenSshLines.{IsHostLine};
-ghost use Rattle.sshkey_known_hosts.specs.HostEntries.{known_host_of};
 ghost use Rattle.sshkey_known_hosts.specs.Verdicts.{AreAuthorities, AreInOrder, IsAuthorityLine, is_authority_of};
 
-use crate::entry::Entry;
 use crate::hmac_sha1::HmacSha1;
+use crate::host_line::{HostLine, read_host_line};
 use crate::host_name::known_name;
 use crate::marker::Marker;
-use crate::other_hosts::is_for_others;
-use crate::verdict::{has_lines, read_entry};
+use crate::verdict::has_lines;
 use sshkey_base::Result;
 use sshkey_entries::FilledLines;
 use sshkey_public::PublicKey;
@@ -26,21 +23,8 @@ fn is_authority(marker: Option<Marker>) -> bool
     matches!(marker, Some(Marker::CertAuthority))
 }
 
-/// The key of an entry of an authority for that name.
-fn entry_authority<H: HmacSha1>(entry: Entry, name: &str, hmac: &H) -> Option<PublicKey>
-    ensures { (line : List ℕ) → IsHostLine line (known_host_of entry) →
-        IsAuthorityLine (H.hmac hmac.now) name.now line result }
-{
-    if !is_authority(entry.marker()) {
-        return None;
-    }
-    if !entry.host_patterns().are_for(name, hmac) {
-        return None;
-    }
-    Some(PublicKey::from(entry))
-}
-
-/// The key of a line of such an entry. Takes no memory for a line that is for others.
+/// The key of a line that is an entry of an authority for that name. Takes no memory for a line that
+/// is for others.
 fn line_authority<H: HmacSha1>(
     alloc: Global,
     line: &str,
@@ -51,13 +35,17 @@ fn line_authority<H: HmacSha1>(
     ensures memory { IfErr result (λ e. e ≡ wide.Memory) }
     ensures asks { IfErr result (λ _. IsForOthers (H.hmac hmac.now) name.now line.now → ⊥) }
 {
-    if is_for_others(line, name, hmac) {
-        return Ok(None);
+    match read_host_line(alloc, line, name, hmac)? {
+        HostLine::Entry { marker, public_key } => {
+            if is_authority(marker) {
+                return Ok(Some(public_key));
+            }
+            Ok(None)
+        }
+        HostLine::ForOthers => Ok(None),
+        HostLine::OtherKey { .. } => Ok(None),
+        HostLine::Unreadable => Ok(None),
     }
-    let Some(entry) = read_entry(alloc, line)? else {
-        return Ok(None);
-    };
-    Ok(entry_authority(entry, name, hmac))
 }
 
 /// The keys of the authorities that sign the keys of a host: those of the entries

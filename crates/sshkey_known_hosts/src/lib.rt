@@ -6,15 +6,15 @@ mod entry;
 pub mod examples;
 mod hmac;
 mod hmac_sha1;
+mod host_line;
 mod host_name;
 mod host_patterns;
 mod known_hosts;
 pub mod laws;
 mod made;
 mod marker;
+mod named_hosts;
 mod openssh;
-mod other_hosts;
-mod other_key;
 mod unreadable;
 mod verdict;
 

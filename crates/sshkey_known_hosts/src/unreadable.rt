@@ -8,11 +8,10 @@ ghost use Rattle.sshkey_entries.specs.HostNames.{known_name};
 ghost use Rattle.sshkey_known_hosts.specs.UnreadableLines.{HidesEntryIn, IsNumberOfFirst};
 
 use crate::hmac_sha1::HmacSha1;
+use crate::host_line::read_host_line;
 use crate::host_name::known_name;
 use crate::openssh::is_comment;
-use crate::other_hosts::is_for_others;
-use crate::other_key::read_other_line;
-use crate::verdict::{has_lines, read_entry};
+use crate::verdict::has_lines;
 use sshkey_base::Result;
 use sshkey_entries::skip_blanks;
 use std::alloc::Global;
@@ -24,13 +23,10 @@ fn hides_entry<H: HmacSha1>(alloc: Global, line: &str, name: &str, hmac: &H) -> 
     ensures memory { IfErr result (λ e. e ≡ wide.Memory) }
 {
     let text = skip_blanks(line);
-    if text.is_empty() || is_comment(text) || is_for_others(text, name, hmac) {
+    if text.is_empty() || is_comment(text) {
         return Ok(false);
     }
-    if read_entry(alloc, text)?.is_some() {
-        return Ok(false);
-    }
-    Ok(read_other_line(alloc, text)?.is_none())
+    Ok(read_host_line(alloc, text, name, hmac)?.is_unreadable())
 }
 
 /// The number of the first line, from 1, that is no entry and could be one for the host: the line

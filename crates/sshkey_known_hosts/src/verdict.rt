@@ -1,24 +1,19 @@
 //! What a text of known_hosts says of a host's key.
 
-ghost use Rattle.std.specs.Prelude.{◌≡◌, ◌<◌, ◌↔◌, ◌∷◌, [], ℕ, List, IsTrue, IfOk, IfErr, length, option_map};
+ghost use Rattle.std.specs.Prelude.{◌≡◌, ◌<◌, ◌↔◌, ◌∷◌, [], IsTrue, IfOk, IfErr, length};
 ghost use Rattle.sshkey_base.specs.declared.error.Error.TheVariants as wide;
 ghost use Rattle.sshkey_entries.specs.Fields.{filled_lines};
 ghost use Rattle.sshkey_entries.specs.HostNames.{known_name};
 ghost use Rattle.sshkey_entries.specs.HostVerdicts.{IsForOthers};
-ghost use Rattle.sshkey_entries.specs.OpenSshLines.{IsHostLine, IsOtherHostLine};
 ghost use Rattle.sshkey_keys.specs.Keys.{key_of};
-ghost use Rattle.sshkey_model.specs.Keys.{IsKey, Key};
-ghost use Rattle.sshkey_known_hosts.specs.HostEntries.{hosts_of, known_host_of, marker_of};
-ghost use Rattle.sshkey_known_hosts.specs.Verdicts.{IsVerdict, ReadsOrNone, SayTogether, graver_of, marked_verdict_of};
+ghost use Rattle.sshkey_model.specs.Keys.{IsKey};
+ghost use Rattle.sshkey_known_hosts.specs.Verdicts.{IsVerdict, SayTogether, graver_of, marked_verdict_of};
 
-use crate::entry::Entry;
 use crate::hmac_sha1::HmacSha1;
+use crate::host_line::{HostLine, read_host_line};
 use crate::host_name::known_name;
-use crate::host_patterns::HostPatterns;
 use crate::marker::Marker;
-use crate::other_hosts::is_for_others;
-use crate::other_key::read_other_line;
-use sshkey_base::{Error, Result};
+use sshkey_base::Result;
 use sshkey_entries::FilledLines;
 use sshkey_keys::KeyData;
 use sshkey_keys::laws::compared_keys;
@@ -63,22 +58,6 @@ fn graver(one: Verdict, other: Verdict) -> Verdict
     }
 }
 
-/// The entry of a line as OpenSSH reads it, or none.
-pub(crate) fn read_entry(alloc: Global, line: &str) -> Result<Option<Entry>>
-    ensures answer { IfOk result (ReadsOrNone known_host_of IsHostLine line.now) }
-    ensures memory { IfErr result (λ e. e ≡ wide.Memory) }
-{
-    match Entry::from_line_openssh(alloc, line) {
-        Ok(entry) => Ok(Some(entry)),
-        Err(error) => {
-            if error.is_memory() {
-                return Err(Error::Memory);
-            }
-            Ok(None)
-        }
-    }
-}
-
 /// Whether the first key, which is well-formed, means the same as the other.
 fn is_same_key(one: &KeyData, other: &KeyData) -> bool
     ensures { IsKey (key_of one.now) → IsTrue result ↔ (key_of one.now ≡ key_of other.now) }
@@ -99,35 +78,6 @@ fn marked_verdict(marker: Option<Marker>, same: bool) -> Verdict
     }
 }
 
-/// What an entry says of a key of that name.
-fn entry_verdict<H: HmacSha1>(entry: &Entry, name: &str, key: &KeyData, hmac: &H) -> Verdict
-    ensures { (line : List ℕ) → IsHostLine line (known_host_of entry.now) →
-        IsVerdict (H.hmac hmac.now) name.now (key_of key.now) (line ∷ []) result }
-{
-    if !entry.host_patterns().are_for(name, hmac) {
-        return Verdict::Unknown;
-    }
-    let same = is_same_key(entry.public_key().key_data(), key);
-    marked_verdict(entry.marker(), same)
-}
-
-/// What an entry with a key whose kind is none here says of any key of that name.
-fn other_verdict<H: HmacSha1>(
-    marker: Option<Marker>,
-    hosts: &HostPatterns,
-    name: &str,
-    hmac: &H,
-) -> Verdict
-    ensures { (line : List ℕ) (key : Key) →
-        IsOtherHostLine line (option_map marker_of marker) (hosts_of hosts.now) →
-        IsVerdict (H.hmac hmac.now) name.now key (line ∷ []) result }
-{
-    if !hosts.are_for(name, hmac) {
-        return Verdict::Unknown;
-    }
-    marked_verdict(marker, false)
-}
-
 /// What a line says of a key of that name. Takes no memory for a line that is for others.
 fn line_verdict<H: HmacSha1>(
     alloc: Global,
@@ -141,15 +91,14 @@ fn line_verdict<H: HmacSha1>(
     ensures memory { IfErr result (λ e. e ≡ wide.Memory) }
     ensures asks { IfErr result (λ _. IsForOthers (H.hmac hmac.now) name.now line.now → ⊥) }
 {
-    if is_for_others(line, name, hmac) {
-        return Ok(Verdict::Unknown);
-    }
-    if let Some(entry) = read_entry(alloc, line)? {
-        return Ok(entry_verdict(&entry, name, key, hmac));
-    }
-    match read_other_line(alloc, line)? {
-        Some((marker, hosts)) => Ok(other_verdict(marker, &hosts, name, hmac)),
-        None => Ok(Verdict::Unreadable),
+    match read_host_line(alloc, line, name, hmac)? {
+        HostLine::ForOthers => Ok(Verdict::Unknown),
+        HostLine::Entry { marker, public_key } => {
+            let same = is_same_key(public_key.key_data(), key);
+            Ok(marked_verdict(marker, same))
+        }
+        HostLine::OtherKey { marker } => Ok(marked_verdict(marker, false)),
+        HostLine::Unreadable => Ok(Verdict::Unreadable),
     }
 }
 

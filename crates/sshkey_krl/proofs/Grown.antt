@@ -5,7 +5,8 @@ use Rattle.std.specs.Int.{w8, w32, w64}
 use Rattle.sshkey_base.proofs.Accepted.{spelled_whole}
 use Rattle.std.proofs.Math.Seq.{take-append_seam}
 use Rattle.sshkey_base.proofs.Writing.{length_both}
-use Rattle.sshkey_base.specs.Formats.{Format, array_format, byte_format, number32_format, number64_format, string_format}
+use Rattle.sshkey_base.proofs.Lawful.{array_lawful, byte_lawful, number64_lawful, string_lawful}
+use Rattle.sshkey_base.specs.Formats.{Format, IsFormat, array_format, byte_format, number32_format, number64_format, string_format}
 use Rattle.sshkey_model.specs.Grammar.{AllEnd, normal_is_spelling}
 use Rattle.sshkey_model.proofs.Grammars.{ends}
 use Rattle.sshkey_base.specs.Leaves.{SpellsString}
@@ -14,7 +15,7 @@ use Rattle.sshkey_base.specs.declared.encoding.Error as narrow
 use Rattle.sshkey_base.specs.declared.encoding.Error.TheVariants as encoding
 use Rattle.sshkey_base.specs.declared.error.Error.{Error}
 use Rattle.sshkey_base.specs.declared.error.Error.TheVariants as wide
-use Rattle.sshkey_keys.specs.KeyReaders.{key_grammar, key_normal}
+use Rattle.sshkey_keys.proofs.KeyReaders.{key_grammar, key_normal}
 use Rattle.sshkey_keys.specs.Keys.{key_data_at}
 use Rattle.sshkey_model.proofs.Blobs.{flat_bytes}
 use Rattle.sshkey_model.proofs.CombinedReaders.{fits_box, fits_bytes, fits_first, fits_inside, fits_length, fits_second, ok_is}
@@ -27,12 +28,13 @@ use Rattle.sshkey_model.specs.Reading.{Fault, whole}
 use Rattle.sshkey_model.specs.Texts.{string}
 use Rattle.sshkey_terms.specs.Counted.{SpellsEach}
 use Rattle.sshkey_terms.specs.Slices.{is_taken}
-use Rattle.sshkey_terms.specs.Terms.{◌then◌, boxed, called_ends, literal_format, tested}
+use Rattle.sshkey_terms.proofs.Lawful.{called_ends, tested_lawful}
+use Rattle.sshkey_terms.specs.Terms.{◌then◌, boxed, literal_format, tested}
 use Rattle.sshkey_terms.specs.ToEnd.{values_to_end}
 use Rattle.sshkey_krl.specs.Krls.{SpellsKrl, header_format, krl_format, krl_in, magic, version_from}
 use Rattle.sshkey_krl.specs.Owned.{Adds}
 use Rattle.sshkey_krl.specs.Parts as parts
-use Rattle.sshkey_krl.specs.Parts.{key_id_format, numbered, part_format, part_shows, serial_format, text_from}
+use Rattle.sshkey_krl.specs.Parts.{key_id_format, numbered, part_format, serial_format, text_from}
 use Rattle.sshkey_krl.specs.Revocation.{Authority, Certificates, Everybody, KeyIds, Keys, Krl, Numbers, Part, Section, Sha1s, Sha256s, Signer, begun, with_section, without_zero}
 use Rattle.sshkey_krl.specs.Sections.{authority_from, body, is_read_signer, kind_from, section_format}
 use Rattle.sshkey_krl.specs.Serials.{Listed, Range, range_from}
@@ -40,26 +42,27 @@ use Rattle.sshkey_krl.specs.Written.{Appends, IsWellFormedAuthority, RefusesToWr
 use Rattle.sshkey_krl.specs.declared.part.PartKind.TheVariants as kinds
 use Rattle.sshkey_krl.specs.declared.section.SectionKind.TheVariants as sections
 use Rattle.sshkey_krl.proofs.Krls.{spelled}
+use Rattle.sshkey_krl.proofs.Lawful.{header_lawful, key_id_lawful, krl_lawful, magic_lawful, numbers_lawful, opening_lawful, part_lawful, section_lawful, serial_lawful}
 
 -- ---- values up to the end
 
-module _ {A : Type 0} (f : Format A) (all : AllEnd f.grammar) where
+module _ {A : Type 0} (f : Format A) (laws : IsFormat f) (all : AllEnd f.read f.delimited_at) where
   abbrev Each : List A → List ℕ → Type 0
-  Each = SpellsEach f.Spells f.grammar.delimited_at
+  Each = SpellsEach f.Spells f.delimited_at
 
   pub one : (x : A) (c : List ℕ) → f.Spells x c → Each (x ∷ []) c
   one x c s = (c, [], s, refl, sym (append-nil c), inl refl)
 
   pub more : (xs : List A) (x : A) (b c : List ℕ) → Each xs b → f.Spells x c → Each (xs ++ x ∷ []) (b ++ c)
   more [] x b c none s = rw none (one x c s)
-  more (y ∷ ys) x b c t s = (t.0, t.1 ++ c, t.2, more ys x t.1 c t.3 s, ap (λ (l : List ℕ). l ++ c) t.4 ∙ append_assoc t.0 t.1 c, ends f.grammar all y t.0 (t.1 ++ c) t.2)
+  more (y ∷ ys) x b c t s = (t.0, t.1 ++ c, t.2, more ys x t.1 c t.3 s, ap (λ (l : List ℕ). l ++ c) t.4 ∙ append_assoc t.0 t.1 c, ends laws.grammar all y t.0 (t.1 ++ c) t.2)
 
 -- ---- a list
 
-header_ends : AllEnd header_format.grammar
+header_ends : AllEnd header_format.read header_format.delimited_at
 header_ends b = refl
 
-section_ends : AllEnd section_format.grammar
+section_ends : AllEnd section_format.read section_format.delimited_at
 section_ends = called_ends (tested kind_from byte_format) (λ k. boxed (body k)) (λ b. refl) (λ k b. refl)
 
 grown : (k : Krl) (s : Section) (b c : List ℕ) → SpellsKrl k b → section_format.Spells s c → SpellsKrl (with_section k s) (b ++ c)
@@ -71,20 +74,20 @@ grown k s b c list section =
         front = found.front;
         behind = found.behind ++ c;
         first = found.first;
-        second = more section_format section_ends list.inner.1 s found.behind c found.second section;
+        second = more section_format section_lawful section_ends list.inner.1 s found.behind c found.second section;
         all = ap (λ (l : List ℕ). l ++ c) found.all ∙ append_assoc found.front found.behind c;
-        may_follow = ends header_format.grammar header_ends list.inner.0 found.front (found.behind ++ c) found.first;
+        may_follow = ends header_lawful.grammar header_ends list.inner.0 found.front (found.behind ++ c) found.first;
       };
       makes = ap (λ (z : Krl). Ok (with_section z s)) (ok_is _ k list.makes);
     }
 
 -- the list that bytes spell
 pub spelled_taken : (k : Krl) (b : List ℕ) → SpellsKrl k b → is_taken (whole krl_format.read b) ≡ true
-spelled_taken k b s = rw (krl_format.grammar.alone k b s) refl
+spelled_taken k b s = rw (krl_lawful.grammar.alone k b s) refl
 
 pub spelled_is : (k : Krl) (b : List ℕ) → SpellsKrl k b → krl_in b ≡ k
 unfolding krl_in
-spelled_is k b s = rw (krl_format.grammar.alone k b s) refl
+spelled_is k b s = rw (krl_lawful.grammar.alone k b s) refl
 
 -- ---- what a number calls for, in a string
 
@@ -101,7 +104,7 @@ module _ {K A : Type 0} (kinds : ℕ → Result K Fault) (within : K → Format 
           first = first;
           second = record { inside = flat p; spelled = s; short = fits_length p (fits_second (number w8 n) (box p) fits); whole = refl };
           all = refl;
-          may_follow = inr ((tested kinds byte_format).grammar.alone k (flat (number w8 n)) first);
+          may_follow = inr ((tested_lawful kinds byte_lawful).grammar.alone k (flat (number w8 n)) first);
         };
         makes = refl;
       }
@@ -117,10 +120,10 @@ string_spelled p fits = record {
   shape = refl;
 }
 
-spells_then : {A B : Type 0} (f : Format A) (g : Format B) → AllEnd f.grammar → (x : A) (y : B) (b c : List ℕ) → f.Spells x b → g.Spells y c → (f then g).Spells (x, y) (b ++ c)
-spells_then f g all x y b c s t = record { front = b; behind = c; first = s; second = t; all = refl; may_follow = ends f.grammar all x b c s }
+spells_then : {A B : Type 0} (f : Format A) (g : Format B) → IsFormat f → AllEnd f.read f.delimited_at → (x : A) (y : B) (b c : List ℕ) → f.Spells x b → g.Spells y c → (f then g).Spells (x, y) (b ++ c)
+spells_then f g laws all x y b c s t = record { front = b; behind = c; first = s; second = t; all = refl; may_follow = ends laws.grammar all x b c s }
 
-string_ends : AllEnd string_format.grammar
+string_ends : AllEnd string_format.read string_format.delimited_at
 string_ends b = refl
 
 -- ---- a section of a key
@@ -128,14 +131,14 @@ string_ends b = refl
 pub key_spelled : (p : Parts) → Fits (key_section p) → section_format.Spells (Keys (flat p ∷ [])) (flat (key_section p))
 key_spelled p fits = framed_spelled kind_from body 2 sections.Keys (Keys (flat p ∷ [])) (box p) refl fits (record {
   inner = flat p ∷ [];
-  spelled = one string_format string_ends (flat p) (flat (box p)) (string_spelled p (framed_inside 2 (box p) fits));
+  spelled = one string_format string_lawful string_ends (flat p) (flat (box p)) (string_spelled p (framed_inside 2 (box p) fits));
   makes = refl;
 })
 
 -- ---- a section of a digest
 
-digests_spelled : (n k : ℕ) (d : List ℕ) → length d ≡ k → Fits (framed n (string d)) → SpellsEach (array_format k).Spells (array_format k).grammar.delimited_at (d ∷ []) (flat (string d))
-digests_spelled n k d is fits = one (array_format k) (λ b. refl) d (flat (string d)) (normal_is_spelling d is (framed_inside n (string d) fits))
+digests_spelled : (n k : ℕ) (d : List ℕ) → length d ≡ k → Fits (framed n (string d)) → SpellsEach (array_format k).Spells (array_format k).delimited_at (d ∷ []) (flat (string d))
+digests_spelled n k d is fits = one (array_format k) (array_lawful k) (λ b. refl) d (flat (string d)) (normal_is_spelling d is (framed_inside n (string d) fits))
 
 pub sha1_spelled : (d : List ℕ) → length d ≡ 20 → Fits (sha1_section d) → section_format.Spells (Sha1s (d ∷ [])) (flat (sha1_section d))
 sha1_spelled d is fits = framed_spelled kind_from body 3 sections.Sha1 (Sha1s (d ∷ [])) (string d) refl fits (record { inner = d ∷ []; spelled = digests_spelled 3 20 d is fits; makes = refl })
@@ -162,7 +165,7 @@ authority_spelled : (a : Authority) → IsWellFormedAuthority a → is_read_auth
 authority_spelled Everybody is read fits = record { inner = []; spelled = normal_is_spelling [] tt fits; makes = refl }
 authority_spelled (Signer k) is read fits = record { inner = flat (normal_key k); spelled = string_spelled (normal_key k) fits; makes = signer_from k is read (fits_inside (normal_key k) fits) }
 
-part_ends : AllEnd part_format.grammar
+part_ends : AllEnd part_format.read part_format.delimited_at
 part_ends = called_ends (tested parts.kind_from byte_format) (λ k. boxed (parts.body k)) (λ b. refl) (λ k b. refl)
 
 pub certificates_spelled : (a : Authority) (x : Part) (q : Parts) → IsWellFormedAuthority a → is_read_authority a ≡ true → (Fits q → part_format.Spells x (flat q)) → Fits (certificates_section a q) → section_format.Spells (Certificates a (x ∷ [])) (flat (certificates_section a q))
@@ -174,7 +177,7 @@ certificates_spelled a x q is read part fits =
     let second = normal_is_spelling [] tt (fits_first (string []) q later) in
     framed_spelled kind_from body 1 sections.Certificates (Certificates a (x ∷ [])) (authority_string a & string [] & q) refl fits (record {
       inner = (a, ([], x ∷ []));
-      spelled = spells_then authority_format (string_format then values_to_end part_format part_shows) (λ b. refl) a ([], x ∷ []) (flat (authority_string a)) (flat (string [] & q)) first (spells_then string_format (values_to_end part_format part_shows) string_ends [] (x ∷ []) (flat (string [])) (flat q) second (one part_format part_ends x (flat q) (part (fits_second (string []) q later))));
+      spelled = spells_then authority_format (string_format then values_to_end part_format) (tested_lawful authority_from string_lawful) (λ b. refl) a ([], x ∷ []) (flat (authority_string a)) (flat (string [] & q)) first (spells_then string_format (values_to_end part_format) string_lawful string_ends [] (x ∷ []) (flat (string [])) (flat q) second (one part_format part_lawful part_ends x (flat q) (part (fits_second (string []) q later))));
       makes = refl;
     })
 
@@ -188,13 +191,13 @@ not_first true q e = absurd (cc e)
 serial_spelled : (n : ℕ) → (n == 0) ≡ false → Fits (number w64 n) → serial_format.Spells n (flat (number w64 n))
 serial_spelled n some fits = record { inner = n; spelled = normal_is_spelling n tt fits; makes = rw some refl }
 
-each_spelled : (ns : List ℕ) → has_zero ns ≡ false → Fits (each (number w64) ns) → SpellsEach serial_format.Spells serial_format.grammar.delimited_at ns (flat (each (number w64) ns))
+each_spelled : (ns : List ℕ) → has_zero ns ≡ false → Fits (each (number w64) ns) → SpellsEach serial_format.Spells serial_format.delimited_at ns (flat (each (number w64) ns))
 unfolding flat
 each_spelled [] some fits = refl
 each_spelled (n ∷ ns) some fits =
     let none = not_first (n == 0) (has_zero ns) some in
     let first = serial_spelled n none.0 (fits_first (number w64 n) (each (number w64) ns) fits) in
-    (flat (number w64 n), flat (each (number w64) ns), first, each_spelled ns none.1 (fits_second (number w64 n) (each (number w64) ns) fits), refl, ends serial_format.grammar (λ b. refl) n (flat (number w64 n)) (flat (each (number w64) ns)) first)
+    (flat (number w64 n), flat (each (number w64) ns), first, each_spelled ns none.1 (fits_second (number w64 n) (each (number w64) ns) fits), refl, ends serial_lawful.grammar (λ b. refl) n (flat (number w64 n)) (flat (each (number w64) ns)) first)
 
 pub serials_spelled : (ns : List ℕ) → has_zero ns ≡ false → Fits (serials_part ns) → part_format.Spells (Numbers (Listed ns)) (flat (serials_part ns))
 serials_spelled ns some fits = framed_spelled parts.kind_from parts.body 0x20 kinds.Serials (Numbers (Listed ns)) (each (number w64) ns) refl fits (record { inner = ns; spelled = each_spelled ns some (framed_inside 0x20 (each (number w64) ns) fits); makes = refl })
@@ -206,7 +209,7 @@ range_spelled lo hi is fits =
     let first = normal_is_spelling lo tt (fits_first (number w64 lo) (number w64 hi) both) in
     framed_spelled parts.kind_from parts.body 0x21 kinds.Range (Numbers (Range lo hi)) (number w64 lo & number w64 hi) refl fits (record {
       inner = (lo, hi);
-      spelled = spells_then number64_format number64_format (λ b. refl) lo hi (flat (number w64 lo)) (flat (number w64 hi)) first (normal_is_spelling hi tt (fits_second (number w64 lo) (number w64 hi) both));
+      spelled = spells_then number64_format number64_format number64_lawful (λ b. refl) lo hi (flat (number w64 lo)) (flat (number w64 hi)) first (normal_is_spelling hi tt (fits_second (number w64 lo) (number w64 hi) both));
       makes = rw is refl;
     })
 
@@ -226,7 +229,7 @@ text_is b some = rw (same_text b some, some) refl
 pub key_id_spelled : (b : List ℕ) → has_zero b ≡ false → Fits (key_id_part b) → part_format.Spells (KeyIds (b ∷ [])) (flat (key_id_part b))
 key_id_spelled b some fits = framed_spelled parts.kind_from parts.body 0x23 kinds.KeyIds (KeyIds (b ∷ [])) (string b) refl fits (record {
   inner = b ∷ [];
-  spelled = one key_id_format (λ b. refl) b (flat (string b)) (record { inner = b; spelled = normal_is_spelling b tt (framed_inside 0x23 (string b) fits); makes = text_is b some });
+  spelled = one key_id_format key_id_lawful (λ b. refl) b (flat (string b)) (record { inner = b; spelled = normal_is_spelling b tt (framed_inside 0x23 (string b) fits); makes = text_is b some });
   makes = refl;
 })
 
@@ -253,11 +256,11 @@ begun_spelled n date comment some fits =
     let third = normal_is_spelling 0 tt (fits_first (number w64 0) texts rest) in
     let reserved = normal_is_spelling [] tt (fits_first (string []) (string comment) c) in
     let text : (tested text_from string_format).Spells comment (flat (string comment)) = record { inner = comment; spelled = normal_is_spelling comment tt (fits_second (string []) (string comment) c); makes = text_is comment some } in
-    let opened = spells_then (literal_format magic) (tested version_from number32_format) (λ b. refl) magic 1 (flat (number w64 0x5353484b524c0a00)) (flat (number w32 1)) literal version in
-    let counted = spells_then number64_format (number64_format then number64_format) (λ b. refl) n (date, 0) (flat (number w64 n)) (flat (number w64 date & number w64 0)) first (spells_then number64_format number64_format (λ b. refl) date 0 (flat (number w64 date)) (flat (number w64 0)) second third) in
-    let told = spells_then string_format (tested text_from string_format) (λ b. refl) [] comment (flat (string [])) (flat (string comment)) reserved text in
-    let behind = spells_then (number64_format then number64_format then number64_format) (string_format then tested text_from string_format) (λ b. refl) (n, (date, 0)) ([], comment) (flat (number w64 n & number w64 date & number w64 0)) (flat texts) counted told in
-    let all = spells_then (literal_format magic then tested version_from number32_format) ((number64_format then number64_format then number64_format) then (string_format then tested text_from string_format)) (λ b. refl) (magic, 1) ((n, (date, 0)), ([], comment)) (flat opening) (flat (number w64 n & number w64 date & number w64 0) ++ flat texts) opened behind in
+    let opened = spells_then (literal_format magic) (tested version_from number32_format) magic_lawful (λ b. refl) magic 1 (flat (number w64 0x5353484b524c0a00)) (flat (number w32 1)) literal version in
+    let counted = spells_then number64_format (number64_format then number64_format) number64_lawful (λ b. refl) n (date, 0) (flat (number w64 n)) (flat (number w64 date & number w64 0)) first (spells_then number64_format number64_format number64_lawful (λ b. refl) date 0 (flat (number w64 date)) (flat (number w64 0)) second third) in
+    let told = spells_then string_format (tested text_from string_format) string_lawful (λ b. refl) [] comment (flat (string [])) (flat (string comment)) reserved text in
+    let behind = spells_then (number64_format then number64_format then number64_format) (string_format then tested text_from string_format) numbers_lawful (λ b. refl) (n, (date, 0)) ([], comment) (flat (number w64 n & number w64 date & number w64 0)) (flat texts) counted told in
+    let all = spells_then (literal_format magic then tested version_from number32_format) ((number64_format then number64_format then number64_format) then (string_format then tested text_from string_format)) opening_lawful (λ b. refl) (magic, 1) ((n, (date, 0)), ([], comment)) (flat opening) (flat (number w64 n & number w64 date & number w64 0) ++ flat texts) opened behind in
     record {
       inner = (((magic, 1), ((n, (date, 0)), ([], comment))), []);
       spelled = record {

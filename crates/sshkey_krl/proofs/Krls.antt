@@ -16,8 +16,9 @@ use Rattle.sshkey_krl.specs.Asked.{Asked, asked_certificate, asked_key, says}
 use Rattle.sshkey_krl.specs.Krls.{SpellsKrl, header_format, krl_format, krl_in, krl_of, no_krl}
 use Rattle.sshkey_krl.specs.Revocation.{Certificates, Grant, Keys, Krl, Section, Sha1s, Sha256s, has_key, lists, revokes, revokes_key}
 use Rattle.sshkey_krl.specs.Revocation.{grant as granted}
-use Rattle.sshkey_krl.specs.Sections.{section_format, section_shows}
+use Rattle.sshkey_krl.specs.Sections.{section_format}
 use Rattle.sshkey_krl.proofs.Asking.{asked}
+use Rattle.sshkey_krl.proofs.Lawful.{krl_lawful}
 
 -- ---- the header, and the sections
 
@@ -26,7 +27,7 @@ module _ (a : Asked) where
   said k = Ok (list_any (says a) k.sections)
 
   abbrev pub after_header : {H : Type 0} → H × List ℕ → Result Bool Fault
-  after_header h = asked section_format section_shows (says a) h.1
+  after_header h = asked section_format (says a) h.1
 
   abbrev Header : Type 0
   Header = (List ℕ × ℕ) × ((ℕ × (ℕ × ℕ)) × (List ℕ × List ℕ))
@@ -71,7 +72,7 @@ module _ (a : Asked) where
   pub header_refused : {E : Type 0} (cause : E → Cause) (b : List ℕ) (e f : E) → Refuses 0 (cause e) (header_format.read b) → cause f ≡ cause e → Says cause b (Err f)
   header_refused cause b e f h same = rw (krl_said b, h.is) (same ∙ h.same refl)
 
-  pub sections_asked : {E : Type 0} (cause : E → Cause) (b rest : List ℕ) (x : Header) (r : Result Bool E) → header_format.read b ≡ Ok (x, rest) → AnswersAlways (λ y. y) cause (asked section_format section_shows (says a) rest) r → Says cause b r
+  pub sections_asked : {E : Type 0} (cause : E → Cause) (b rest : List ℕ) (x : Header) (r : Result Bool E) → header_format.read b ≡ Ok (x, rest) → AnswersAlways (λ y. y) cause (asked section_format (says a) rest) r → Says cause b r
   sections_asked cause b rest x r h g = rw (krl_said b, h) g
 
   pub judged : {E : Type 0} (cause : E → Cause) (b : List ℕ) (y : Bool) → Says {E = E} cause b (Ok y) → Judges {E = E} cause (whole krl_format.read b) (Ok tt)
@@ -109,12 +110,12 @@ pub spelled : (b : List ℕ) → is_taken (whole krl_format.read b) ≡ true →
 unfolding krl_in
 spelled b taken =
     let k = taken_value (whole krl_format.read b) taken in
-    let t = krl_format.grammar.takes b k.0 [] (whole_is krl_format.read b k.0 k.1) in
+    let t = krl_lawful.grammar.takes b k.0 [] (whole_is krl_format.read b k.0 k.1) in
     rw (k.1) (subst (λ (z : List ℕ). SpellsKrl k.0 z) (sym (t.2 ∙ append-nil t.0)) t.1)
 
 pub none_spelled : (b : List ℕ) (f : Fault) → whole krl_format.read b ≡ Err f → NoSpelling SpellsKrl b
 none_spelled b f e k s =
-    let again = krl_format.grammar.alone k b s in
+    let again = krl_lawful.grammar.alone k b s in
     let impossible : end_of k [] ≡ Err f = rw again at e in
     absurd cc
 

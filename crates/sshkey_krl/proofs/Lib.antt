@@ -1,3 +1,5 @@
+pub mod Lawful
+pub mod Wholeness
 pub mod Asking
 pub mod Numbering
 pub mod Parts

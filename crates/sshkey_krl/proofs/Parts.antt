@@ -7,7 +7,7 @@ use Rattle.sshkey_base.specs.Causes.{Cause}
 use Rattle.sshkey_model.specs.Reading.{Fault, ◌>>=◌, checked_whole, end_of, list_whole, number_at, string_at, whole, behind_at}
 use denote.Ref.{Bor}
 use Rattle.sshkey_krl.specs.Asked.{Asked, key_id_says, part_says}
-use Rattle.sshkey_krl.specs.Parts.{body, key_id_format, key_id_shows}
+use Rattle.sshkey_krl.specs.Parts.{body, key_id_format}
 use Rattle.sshkey_krl.specs.Revocation.{Numbers, Part}
 use Rattle.sshkey_krl.specs.Serials.{Serials, bitmap_from, range_from}
 use Rattle.sshkey_krl.specs.declared.part.PartKind.TheVariants as kinds
@@ -22,10 +22,10 @@ module _ (a : Asked) where
 
   -- ---- key ids
 
-  pub key_ids_said : (b : List ℕ) → checked_whole said (whole (body kinds.KeyIds).read) b ≡ asked key_id_format key_id_shows (key_id_says a) b
+  pub key_ids_said : (b : List ℕ) → checked_whole said (whole (body kinds.KeyIds).read) b ≡ asked key_id_format (key_id_says a) b
   key_ids_said b = go (list_whole (λ _. key_id_format.read) b) refl
     where
-      go : (found : Result (List (List ℕ)) Fault) → list_whole (λ _. key_id_format.read) b ≡ found → checked_whole said (whole (body kinds.KeyIds).read) b ≡ asked key_id_format key_id_shows (key_id_says a) b
+      go : (found : Result (List (List ℕ)) Fault) → list_whole (λ _. key_id_format.read) b ≡ found → checked_whole said (whole (body kinds.KeyIds).read) b ≡ asked key_id_format (key_id_says a) b
       go (Ok ids) e = rw e refl
       go (Err d) e = rw e refl
 

@@ -10,15 +10,15 @@ use Rattle.sshkey_model.specs.Keys.{Key, normal_key}
 use Rattle.sshkey_model.specs.Parts.{flat}
 use Rattle.sshkey_model.specs.Reading.{Fault, FormatEncoding, ◌>>=◌, checked_whole, list_whole, string_at, whole, behind_at}
 use denote.Ref.{Bor}
-use Rattle.sshkey_keys.specs.KeyReaders.{key_grammar}
+use Rattle.sshkey_keys.proofs.KeyReaders.{key_grammar}
 use Rattle.sshkey_keys.specs.Keys.{SpellsKey, key_data_at}
 use Rattle.sshkey_keys_ref.specs.KeyDataRef.{key_bytes}
 use Rattle.sshkey_keys_ref.specs.declared.key_data_ref.KeyDataRef.{KeyDataRef}
 use Rattle.sshkey_terms.specs.Slices.{Keeps}
 use Rattle.sshkey_krl.specs.Asked.{Asked, authority_says, key_says, part_says, says, sha1_says, sha256_says, signer_says}
-use Rattle.sshkey_krl.specs.Parts.{part_format, part_shows}
+use Rattle.sshkey_krl.specs.Parts.{part_format}
 use Rattle.sshkey_krl.specs.Revocation.{Authority, Everybody, Part, Section, Signer}
-use Rattle.sshkey_krl.specs.Sections.{array_shows, authority_from, body, is_read_signer, string_shows}
+use Rattle.sshkey_krl.specs.Sections.{authority_from, body, is_read_signer}
 use Rattle.sshkey_krl.specs.declared.section.SectionKind.TheVariants as kinds
 use Rattle.sshkey_krl.proofs.Asking.{asked}
 
@@ -28,24 +28,24 @@ module _ (a : Asked) where
 
   -- ---- keys and digests
 
-  pub keys_said : (b : List ℕ) → checked_whole said (whole (body kinds.Keys).read) b ≡ asked string_format string_shows (key_says a) b
+  pub keys_said : (b : List ℕ) → checked_whole said (whole (body kinds.Keys).read) b ≡ asked string_format (key_says a) b
   keys_said b = go (list_whole (λ _. string_format.read) b) refl
     where
-      go : (found : Result (List (List ℕ)) Fault) → list_whole (λ _. string_format.read) b ≡ found → checked_whole said (whole (body kinds.Keys).read) b ≡ asked string_format string_shows (key_says a) b
+      go : (found : Result (List (List ℕ)) Fault) → list_whole (λ _. string_format.read) b ≡ found → checked_whole said (whole (body kinds.Keys).read) b ≡ asked string_format (key_says a) b
       go (Ok xs) e = rw e refl
       go (Err d) e = rw e refl
 
-  pub sha1s_said : (b : List ℕ) → checked_whole said (whole (body kinds.Sha1).read) b ≡ asked (array_format 20) (array_shows 20) (sha1_says a) b
+  pub sha1s_said : (b : List ℕ) → checked_whole said (whole (body kinds.Sha1).read) b ≡ asked (array_format 20) (sha1_says a) b
   sha1s_said b = go (list_whole (λ _. (array_format 20).read) b) refl
     where
-      go : (found : Result (List (List ℕ)) Fault) → list_whole (λ _. (array_format 20).read) b ≡ found → checked_whole said (whole (body kinds.Sha1).read) b ≡ asked (array_format 20) (array_shows 20) (sha1_says a) b
+      go : (found : Result (List (List ℕ)) Fault) → list_whole (λ _. (array_format 20).read) b ≡ found → checked_whole said (whole (body kinds.Sha1).read) b ≡ asked (array_format 20) (sha1_says a) b
       go (Ok xs) e = rw e refl
       go (Err d) e = rw e refl
 
-  pub sha256s_said : (b : List ℕ) → checked_whole said (whole (body kinds.Sha256).read) b ≡ asked (array_format 32) (array_shows 32) (sha256_says a) b
+  pub sha256s_said : (b : List ℕ) → checked_whole said (whole (body kinds.Sha256).read) b ≡ asked (array_format 32) (sha256_says a) b
   sha256s_said b = go (list_whole (λ _. (array_format 32).read) b) refl
     where
-      go : (found : Result (List (List ℕ)) Fault) → list_whole (λ _. (array_format 32).read) b ≡ found → checked_whole said (whole (body kinds.Sha256).read) b ≡ asked (array_format 32) (array_shows 32) (sha256_says a) b
+      go : (found : Result (List (List ℕ)) Fault) → list_whole (λ _. (array_format 32).read) b ≡ found → checked_whole said (whole (body kinds.Sha256).read) b ≡ asked (array_format 32) (sha256_says a) b
       go (Ok xs) e = rw e refl
       go (Err d) e = rw e refl
 
@@ -58,7 +58,7 @@ module _ (a : Asked) where
   both x y = Ok (x && y)
 
   abbrev pub after_reserved : Bool → List ℕ × List ℕ → Result Bool Fault
-  after_reserved x t = asked part_format part_shows (part_says a) t.1 >>= both x
+  after_reserved x t = asked part_format (part_says a) t.1 >>= both x
 
   abbrev pub after_authority : List ℕ → Bool → Result Bool Fault
   after_authority rest x = string_at rest >>= after_reserved x
@@ -119,11 +119,11 @@ module _ (a : Asked) where
     behind_reserved : (p : Bor (List ℕ) × Bor (List ℕ)) (y : Bool) (q : Bor (List ℕ) × Bor (List ℕ)) (r : Result Bool E) → Begins p → IsAbout p.0.now (Ok y) → AnswersAlways string narrow (string_at p.1.now) (Ok q) → AnswersAlways (λ y. y) cause (after_reserved y (string q)) r → Says r
     behind_reserved p y q r h i k g = behind_authority p y r h i (answers_later string narrow (λ y. y) cause (string_at p.1.now) (after_reserved y) q r k g)
 
-    pub no_parts : (p : Bor (List ℕ) × Bor (List ℕ)) (y : Bool) (q : Bor (List ℕ) × Bor (List ℕ)) (e f : E) → Begins p → IsAbout p.0.now (Ok y) → AnswersAlways string narrow (string_at p.1.now) (Ok q) → AnswersAlways {X = Bool} (λ y. y) cause (asked part_format part_shows (part_says a) q.1.now) (Err e) → cause f ≡ cause e → Says (Err f)
-    no_parts p y q e f h i k l same = behind_reserved p y q (Err f) h i k (answers_first (λ y. y) cause (λ y. y) cause (asked part_format part_shows (part_says a) q.1.now) (both y) e f l same)
+    pub no_parts : (p : Bor (List ℕ) × Bor (List ℕ)) (y : Bool) (q : Bor (List ℕ) × Bor (List ℕ)) (e f : E) → Begins p → IsAbout p.0.now (Ok y) → AnswersAlways string narrow (string_at p.1.now) (Ok q) → AnswersAlways {X = Bool} (λ y. y) cause (asked part_format (part_says a) q.1.now) (Err e) → cause f ≡ cause e → Says (Err f)
+    no_parts p y q e f h i k l same = behind_reserved p y q (Err f) h i k (answers_first (λ y. y) cause (λ y. y) cause (asked part_format (part_says a) q.1.now) (both y) e f l same)
 
-    pub parts_say : (p : Bor (List ℕ) × Bor (List ℕ)) (y : Bool) (q : Bor (List ℕ) × Bor (List ℕ)) (z : Bool) → Begins p → IsAbout p.0.now (Ok y) → AnswersAlways string narrow (string_at p.1.now) (Ok q) → AnswersAlways {E = E} (λ y. y) cause (asked part_format part_shows (part_says a) q.1.now) (Ok z) → Says (Ok (y && z))
-    parts_say p y q z h i k l = behind_reserved p y q (Ok (y && z)) h i k (answers_later (λ y. y) cause (λ y. y) cause (asked part_format part_shows (part_says a) q.1.now) (both y) z (Ok (y && z)) l refl)
+    pub parts_say : (p : Bor (List ℕ) × Bor (List ℕ)) (y : Bool) (q : Bor (List ℕ) × Bor (List ℕ)) (z : Bool) → Begins p → IsAbout p.0.now (Ok y) → AnswersAlways string narrow (string_at p.1.now) (Ok q) → AnswersAlways {E = E} (λ y. y) cause (asked part_format (part_says a) q.1.now) (Ok z) → Says (Ok (y && z))
+    parts_say p y q z h i k l = behind_reserved p y q (Ok (y && z)) h i k (answers_later (λ y. y) cause (λ y. y) cause (asked part_format (part_says a) q.1.now) (both y) z (Ok (y && z)) l refl)
 
   -- ---- the authority
 

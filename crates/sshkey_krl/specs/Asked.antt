@@ -24,8 +24,13 @@ asked_key bytes = record { key = bytes; signer = bytes; certificate = None }
 abbrev pub asked_certificate : List ℕ → List ℕ → ℕ → List ℕ → Asked
 asked_certificate key signer serial key_id = record { key = key; signer = signer; certificate = Some (serial, without_zero key_id) }
 
+-- the key itself where no certificate is asked about
+abbrev signer_of : List ℕ → Option CertificateIdentity → List ℕ
+signer_of key None = key
+signer_of key (Some c) = c.signer.bytes.now
+
 abbrev pub asked_of : Query → Asked
-asked_of q = record { key = q.key.bytes.now; signer = q.signer.bytes.now; certificate = certificate_of q.certificate }
+asked_of q = record { key = q.key.bytes.now; signer = signer_of q.key.bytes.now q.certificate; certificate = certificate_of q.certificate }
 
 -- the number 0 and no key id where no certificate is asked about
 abbrev serial_of : Option (ℕ × List ℕ) → ℕ

@@ -7,7 +7,7 @@ use Rattle.sshkey_terms.specs.Terms.{◌then◌, literal_format, tested}
 use Rattle.sshkey_terms.specs.ToEnd.{values_to_end}
 use Rattle.sshkey_krl.specs.Parts.{text_from}
 use Rattle.sshkey_krl.specs.Revocation.{Krl, Section}
-use Rattle.sshkey_krl.specs.Sections.{section_format, section_shows}
+use Rattle.sshkey_krl.specs.Sections.{section_format}
 
 abbrev pub magic : List ℕ
 magic = codes "SSHKRL" ++ 10 ∷ 0 ∷ []
@@ -26,7 +26,7 @@ krl_of x = let numbers = x.0.1.0 in let texts = x.0.1.1 in Ok (record { number =
 
 -- the sections stand up to the end
 abbrev pub krl_format : Format Krl
-krl_format = tested krl_of (header_format then values_to_end section_format section_shows)
+krl_format = tested krl_of (header_format then values_to_end section_format)
 
 -- the bytes spell the list
 abbrev pub SpellsKrl : Krl → List ℕ → Type 0

@@ -10,4 +10,3 @@ pub mod Written
 pub mod Owned
 pub mod Revocations
 pub mod KrlExamples
-pub mod Wholeness

@@ -1,15 +1,10 @@
 -- How the parts of a section about certificates are spelled (PROTOCOL.krl).
-use Rattle.std.proofs.Common.{ℕ, List, length, Result, Ok, Err, ap, arith}
 use Rattle.std.specs.List.{list_any}
-use Rattle.std.specs.Prelude.{◌==◌, if◌then◌else◌}
-use Rattle.std.proofs.lemmas.List.{length-append}
+use Rattle.std.specs.Prelude.{ℕ, List, Result, Ok, Err, ◌==◌, if◌then◌else◌}
 use Rattle.sshkey_base.specs.Formats.{Format, byte_format, number64_format, string_format}
-use Rattle.sshkey_base.proofs.Writing.{length_number8, length_number64}
-use Rattle.sshkey_model.proofs.TextReaders.{box_shows}
-use Rattle.sshkey_model.specs.Parts.{bytes}
 use Rattle.sshkey_model.specs.Reading.{Fault, FormatEncoding, ◌>>=◌}
 use Rattle.sshkey_terms.specs.Terms.{◌then◌, boxed, called, tested}
-use Rattle.sshkey_terms.specs.ToEnd.{HasBytes, values_to_end}
+use Rattle.sshkey_terms.specs.ToEnd.{values_to_end}
 use Rattle.sshkey_krl.specs.Revocation.{KeyIds, Numbers, Part, without_zero}
 use Rattle.sshkey_krl.specs.Serials.{Listed, bitmap_from, range_from, serial_from}
 use Rattle.sshkey_krl.specs.declared.part.PartKind.{PartKind}
@@ -19,12 +14,6 @@ use Rattle.sshkey_krl.specs.declared.part.PartKind.TheVariants as kinds
 
 abbrev pub numbered : {K A : Type 0} → (ℕ → Result K Fault) → (K → Format A) → Format A
 numbered kind_from body = called (tested kind_from byte_format) (λ k. boxed (body k))
-
--- the number is a byte
-pub number_shows : {K A : Type 0} (kind_from : ℕ → Result K Fault) (body : K → Format A) → HasBytes (numbered kind_from body)
-number_shows kind_from body x b s =
-    let byte = s.spelled.first in
-    omega (arith, ap length s.spelled.all, length-append s.spelled.front s.spelled.behind, ap length byte.spelled.shape, length_number8 byte.inner)
 
 -- ---- a text, which a zero byte may follow
 
@@ -36,14 +25,8 @@ text_from b = let text = without_zero b in if list_any (λ c. c == 0) text then 
 abbrev pub serial_format : Format ℕ
 serial_format = tested serial_from number64_format
 
-pub serial_shows : HasBytes serial_format
-serial_shows n b s = omega (arith, ap length s.spelled.shape, length_number64 s.inner)
-
 abbrev pub key_id_format : Format (List ℕ)
 key_id_format = tested text_from string_format
-
-pub key_id_shows : HasBytes key_id_format
-key_id_shows text b s = omega (arith, ap length s.spelled.shape, box_shows (bytes s.inner))
 
 -- ---- a part
 
@@ -56,13 +39,10 @@ kind_from n =
     else Err FormatEncoding
 
 abbrev pub body : PartKind → Format Part
-body kinds.Serials = tested (λ ns. Ok (Numbers (Listed ns))) (values_to_end serial_format serial_shows)
+body kinds.Serials = tested (λ ns. Ok (Numbers (Listed ns))) (values_to_end serial_format)
 body kinds.Range = tested (λ r. range_from r >>= λ s. Ok (Numbers s)) (number64_format then number64_format)
 body kinds.Bitmap = tested (λ b. bitmap_from b >>= λ s. Ok (Numbers s)) (number64_format then string_format)
-body kinds.KeyIds = tested (λ ids. Ok (KeyIds ids)) (values_to_end key_id_format key_id_shows)
+body kinds.KeyIds = tested (λ ids. Ok (KeyIds ids)) (values_to_end key_id_format)
 
 abbrev pub part_format : Format Part
 part_format = numbered kind_from body
-
-pub part_shows : HasBytes part_format
-part_shows = number_shows kind_from body

@@ -1,16 +1,13 @@
 -- How the sections of a key revocation list are spelled (PROTOCOL.krl).
-use Rattle.std.proofs.Common.{ℕ, List, [], ◌∷◌, length, Result, Ok, Err, ap, arith}
-use Rattle.std.specs.Prelude.{◌==◌, Bool, if◌then◌else◌}
+use Rattle.std.specs.Prelude.{ℕ, List, [], ◌∷◌, Result, Ok, Err, ◌==◌, Bool, if◌then◌else◌}
 use Rattle.openssh_limits.specs.Keys.{is_read_key}
 use Rattle.sshkey_base.specs.Formats.{Format, array_format, string_format}
-use Rattle.sshkey_model.proofs.TextReaders.{box_shows}
-use Rattle.sshkey_model.specs.Parts.{bytes}
 use Rattle.sshkey_model.specs.Keys.{Key}
 use Rattle.sshkey_model.specs.Reading.{Fault, FormatEncoding, ◌>>=◌, whole}
 use Rattle.sshkey_keys.specs.Keys.{key_data_at}
 use Rattle.sshkey_terms.specs.Terms.{◌then◌, tested}
-use Rattle.sshkey_terms.specs.ToEnd.{HasBytes, values_to_end}
-use Rattle.sshkey_krl.specs.Parts.{number_shows, numbered, part_format, part_shows}
+use Rattle.sshkey_terms.specs.ToEnd.{values_to_end}
+use Rattle.sshkey_krl.specs.Parts.{numbered, part_format}
 use Rattle.sshkey_krl.specs.Revocation.{Authority, Certificates, Everybody, Keys, Part, Section, Sha1s, Sha256s, Signer}
 use Rattle.sshkey_krl.specs.declared.section.SectionKind.{SectionKind}
 use Rattle.sshkey_krl.specs.declared.section.SectionKind.TheVariants as kinds
@@ -32,14 +29,6 @@ authority_from (c ∷ b) = whole key_data_at (c ∷ b) >>= signer
 abbrev pub certificates_of : Authority × (List ℕ × List Part) → Result Section Fault
 certificates_of c = Ok (Certificates c.0 c.1.1)
 
--- ---- what stands in a list of keys or of digests
-
-pub string_shows : HasBytes string_format
-string_shows x b s = omega (arith, ap length s.shape, box_shows (bytes x))
-
-pub array_shows : (n : ℕ) → HasBytes (array_format n)
-array_shows n x b s = omega (arith, ap length s.shape, box_shows (bytes x))
-
 -- ---- a section
 
 abbrev pub kind_from : ℕ → Result SectionKind Fault
@@ -51,13 +40,10 @@ kind_from n =
     else Err FormatEncoding
 
 abbrev pub body : SectionKind → Format Section
-body kinds.Certificates = tested certificates_of (tested authority_from string_format then string_format then values_to_end part_format part_shows)
-body kinds.Keys = tested (λ keys. Ok (Keys keys)) (values_to_end string_format string_shows)
-body kinds.Sha1 = tested (λ digests. Ok (Sha1s digests)) (values_to_end (array_format 20) (array_shows 20))
-body kinds.Sha256 = tested (λ digests. Ok (Sha256s digests)) (values_to_end (array_format 32) (array_shows 32))
+body kinds.Certificates = tested certificates_of (tested authority_from string_format then string_format then values_to_end part_format)
+body kinds.Keys = tested (λ keys. Ok (Keys keys)) (values_to_end string_format)
+body kinds.Sha1 = tested (λ digests. Ok (Sha1s digests)) (values_to_end (array_format 20))
+body kinds.Sha256 = tested (λ digests. Ok (Sha256s digests)) (values_to_end (array_format 32))
 
 abbrev pub section_format : Format Section
 section_format = numbered kind_from body
-
-pub section_shows : HasBytes section_format
-section_shows = number_shows kind_from body

@@ -3,7 +3,7 @@
 ghost use Rattle.std.specs.Prelude.{◌≡◌, ℕ, List};
 ghost use Rattle.sshkey_base.specs.Answers.{AnswersAlways};
 ghost use Rattle.sshkey_base.specs.Causes.{cause};
-ghost use Rattle.sshkey_base.specs.Formats.{number32_format, string_format};
+ghost use Rattle.sshkey_base.specs.Formats.{IsFormat, number32_format, string_format};
 ghost use Rattle.sshkey_model.specs.Reading.{literal_from};
 ghost use Rattle.sshkey_terms.specs.Terms.{literal_format, tested};
 ghost use Rattle.sshkey_krl.specs.Krls.{magic, version_from};
@@ -28,7 +28,7 @@ pub(crate) type Header<'a> = Then<
 pub(crate) struct Magic;
 
 /// Fails with `FormatEncoding` for other bytes.
-#[tactic(auto, using(sshkey_terms::proofs::Walking::walking), unfolding(sshkey_model::specs::Reading::literal_at))]
+#[tactic(auto, using(crate::proofs::Lawful::magic_lawful, sshkey_terms::proofs::Walking::walking), unfolding(sshkey_model::specs::Reading::literal_at))]
 impl<'a> ReadFrom<&'a [u8]> for Magic {
     type Error = Error;
 
@@ -37,6 +37,10 @@ impl<'a> ReadFrom<&'a [u8]> for Magic {
     ghost means = { λ m. magic };
 
     ghost format = { literal_format magic };
+
+    fn lawful()
+        ensures { IsFormat (literal_format magic) }
+    {}
 
     fn read_from(reader: &mut &'a [u8]) -> Result<Magic> {
         let bytes = bytes_from(MAGIC.len(), reader)?;
@@ -59,7 +63,7 @@ fn check_magic(bytes: &[u8]) -> Result<Magic>
 pub(crate) struct Version;
 
 /// Fails with `Version` and its number for another version than 1.
-#[tactic(auto, using(sshkey_terms::proofs::Walking::walking))]
+#[tactic(auto, using(crate::proofs::Lawful::version_lawful, sshkey_terms::proofs::Walking::walking))]
 impl<'a> ReadFrom<&'a [u8]> for Version {
     type Error = Error;
 
@@ -68,6 +72,10 @@ impl<'a> ReadFrom<&'a [u8]> for Version {
     ghost means = { λ v. 1 };
 
     ghost format = { tested version_from number32_format };
+
+    fn lawful()
+        ensures { IsFormat (tested version_from number32_format) }
+    {}
 
     fn read_from(reader: &mut &'a [u8]) -> Result<Version> {
         let number = u32::read_from(reader)?;
@@ -90,7 +98,7 @@ fn check_version(number: u32) -> Result<Version>
 pub(crate) struct Comment<'a>(pub &'a [u8]);
 
 /// Fails with `FormatEncoding` for a zero byte that is not the last.
-#[tactic(auto, using(sshkey_terms::proofs::Walking::walking))]
+#[tactic(auto, using(crate::proofs::Lawful::comment_lawful, sshkey_terms::proofs::Walking::walking))]
 impl<'a> ReadFrom<&'a [u8]> for Comment<'a> {
     type Error = Error;
 
@@ -99,6 +107,10 @@ impl<'a> ReadFrom<&'a [u8]> for Comment<'a> {
     ghost means = { λ c. c.0.now };
 
     ghost format = { tested text_from string_format };
+
+    fn lawful()
+        ensures { IsFormat (tested text_from string_format) }
+    {}
 
     fn read_from(reader: &mut &'a [u8]) -> Result<Comment<'a>> {
         let string = <&'a [u8]>::read_from(reader)?;

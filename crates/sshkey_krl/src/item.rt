@@ -4,7 +4,7 @@ ghost use Rattle.std.specs.Prelude.{Bool, Ok};
 ghost use Rattle.std.specs.List.{list_any};
 ghost use Rattle.sshkey_base.specs.Answers.{AnswersAlways};
 ghost use Rattle.sshkey_base.specs.Causes.{cause};
-ghost use Rattle.sshkey_base.specs.Formats.{Format};
+ghost use Rattle.sshkey_base.specs.Formats.{Format, IsFormat};
 ghost use Rattle.sshkey_model.specs.Reading.{checked_at, checked_whole, list_whole};
 ghost use Rattle.sshkey_terms.specs.Slices.{Splits};
 ghost use Rattle.sshkey_terms.specs.ToEnd.{HasBytes};
@@ -21,11 +21,14 @@ pub(crate) trait Item {
     /// How it is spelled.
     ghost format: { Format Value };
 
-    /// No item is empty.
-    ghost has_bytes: { HasBytes format };
-
     /// What an item says to a query.
     ghost says: { Asked → Value → Bool };
+
+    /// The format is lawful: its plain reader accepts exactly its spellings. No item is empty. Does
+    /// nothing.
+    fn lawful()
+        ensures lawful { IsFormat format }
+        ensures has_bytes { HasBytes format };
 
     /// What the item at the front says to the query, and what stands after it.
     fn ask<'a>(query: &Query<'_>, bytes: &'a [u8]) -> Result<(bool, &'a [u8])>
@@ -40,6 +43,7 @@ pub(crate) fn any_of<I: Item>(query: &Query<'_>, bytes: &[u8]) -> Result<bool>
         (checked_whole (λ vs. Ok (list_any (I.says (asked_of query.now)) vs))
         (list_whole (λ _. I.format.read)) bytes.now) result }
 {
+    I::lawful();
     let mut rest = bytes;
     let mut found = false;
     'items: while !rest.is_empty() {

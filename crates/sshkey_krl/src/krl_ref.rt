@@ -10,9 +10,8 @@ ghost use Rattle.sshkey_krl.specs.Asked.{asked_of, says};
 ghost use Rattle.sshkey_krl.specs.Krls.{krl_format};
 
 use crate::header::Header;
-use crate::item::any_of;
 use crate::query::Query;
-use crate::section::Section;
+use crate::section::any_section;
 use sshkey_base::Result;
 use sshkey_terms::ReadFrom;
 
@@ -121,5 +120,5 @@ fn ask(query: &Query<'_>, bytes: &[u8]) -> Result<bool>
 {
     let mut rest = bytes;
     Header::read_from(&mut rest)?;
-    any_of::<Section>(query, rest)
+    any_section(query, rest)
 }

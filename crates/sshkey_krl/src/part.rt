@@ -5,7 +5,7 @@ ghost use Rattle.sshkey_base.specs.Answers.{AnswersAlways};
 ghost use Rattle.sshkey_base.specs.Causes.{cause};
 ghost use Rattle.sshkey_model.specs.Reading.{checked_whole, whole};
 ghost use Rattle.sshkey_krl.specs.Asked.{asked_of, key_id_says, part_says, serial_says};
-ghost use Rattle.sshkey_krl.specs.Parts.{body, key_id_format, key_id_shows, kind_from, part_format, part_shows, serial_format, serial_shows};
+ghost use Rattle.sshkey_krl.specs.Parts.{body, key_id_format, kind_from, part_format, serial_format};
 ghost use Rattle.sshkey_krl.specs.Revocation as model;
 ghost use Rattle.sshkey_krl.specs.declared.part.PartKind.TheVariants as kinds;
 
@@ -60,14 +60,15 @@ impl Numbered for Part {
     }
 }
 
+#[tactic(auto, using(crate::proofs::Lawful::part_lawful, crate::proofs::Lawful::part_shows))]
 impl Item for Part {
     ghost Value = { model.Part };
 
     ghost format = { part_format };
 
-    ghost has_bytes = { part_shows };
-
     ghost says = { part_says };
+
+    fn lawful() {}
 
     fn ask<'a>(query: &Query<'_>, bytes: &'a [u8]) -> Result<(bool, &'a [u8])> {
         ask_numbered::<Part>(query, bytes)
@@ -111,14 +112,15 @@ fn ask_bitmap(query: &Query<'_>, bytes: &[u8]) -> Result<bool>
 /// A serial number.
 struct Serial;
 
+#[tactic(auto, using(crate::proofs::Lawful::serial_lawful, crate::proofs::Lawful::serial_shows))]
 impl Item for Serial {
     ghost Value = { ℕ };
 
     ghost format = { serial_format };
 
-    ghost has_bytes = { serial_shows };
-
     ghost says = { serial_says };
+
+    fn lawful() {}
 
     fn ask<'a>(query: &Query<'_>, bytes: &'a [u8]) -> Result<(bool, &'a [u8])> {
         let (serial, rest) = split_u64(bytes)?;
@@ -130,14 +132,15 @@ impl Item for Serial {
 /// A key id.
 struct KeyId;
 
+#[tactic(auto, using(crate::proofs::Lawful::key_id_lawful, crate::proofs::Lawful::key_id_shows))]
 impl Item for KeyId {
     ghost Value = { List ℕ };
 
     ghost format = { key_id_format };
 
-    ghost has_bytes = { key_id_shows };
-
     ghost says = { key_id_says };
+
+    fn lawful() {}
 
     fn ask<'a>(query: &Query<'_>, bytes: &'a [u8]) -> Result<(bool, &'a [u8])> {
         let (string, rest) = split_string(bytes)?;

@@ -15,9 +15,11 @@ use crate::serials::has_bit;
 use crate::text::without_zero;
 use sshkey_keys_ref::KeyDataRef;
 
-/// The serial number and the key id of a certificate, without a zero byte at its end.
+/// What a list is asked about a certificate beside its key: the key that signed it, the serial
+/// number and the key id, without a zero byte at its end.
 #[derive(Clone, Copy)]
 pub(crate) struct CertificateIdentity<'q> {
+    signer: Key<'q>,
     number: u64,
     key_id: &'q [u8],
 }
@@ -26,7 +28,6 @@ pub(crate) struct CertificateIdentity<'q> {
 #[derive(Clone, Copy)]
 pub(crate) struct Query<'q> {
     key: Key<'q>,
-    signer: Key<'q>,
     certificate: Option<CertificateIdentity<'q>>,
 }
 
@@ -35,10 +36,8 @@ impl<'q> Query<'q> {
     pub(crate) fn about_key(bytes: &'q [u8]) -> Query<'q>
         ensures { asked_of result ≡ asked_key bytes.now }
     {
-        let key = Key::new(bytes);
         Query {
-            key,
-            signer: key,
+            key: Key::new(bytes),
             certificate: None,
         }
     }
@@ -54,11 +53,39 @@ impl<'q> Query<'q> {
     {
         Query {
             key: Key::new(key),
-            signer: Key::new(signer),
             certificate: Some(CertificateIdentity {
+                signer: Key::new(signer),
                 number: serial,
                 key_id: without_zero(key_id.as_bytes()),
             }),
+        }
+    }
+
+    /// The same, with the digests of the keys kept.
+    pub(crate) fn with_digests(&self) -> Query<'q>
+        ensures { asked_of result ≡ asked_of self.now }
+    {
+        let certificate = match self.certificate {
+            Some(certificate) => Some(CertificateIdentity {
+                signer: certificate.signer.with_digests(),
+                number: certificate.number,
+                key_id: certificate.key_id,
+            }),
+            None => None,
+        };
+        Query {
+            key: self.key.with_digests(),
+            certificate,
+        }
+    }
+
+    /// The key that signed the certificate, or the key where no certificate is asked about.
+    fn signer(&self) -> &Key<'q>
+        ensures { result.now.bytes.now ≡ (asked_of self.now).signer }
+    {
+        match &self.certificate {
+            Some(certificate) => &certificate.signer,
+            None => &self.key,
         }
     }
 
@@ -66,21 +93,21 @@ impl<'q> Query<'q> {
     pub(crate) fn is_key(&self, bytes: &[u8]) -> bool
         ensures { result ≡ key_says (asked_of self.now) bytes.now }
     {
-        self.key.bytes == bytes || self.signer.bytes == bytes
+        self.key.bytes == bytes || self.has_certificate() && self.signer().bytes == bytes
     }
 
     /// Whether it is the digest of one of the keys.
     pub(crate) fn is_sha1(&self, digest: &[u8]) -> bool
         ensures { result ≡ sha1_says (asked_of self.now) digest.now }
     {
-        self.key.by_sha1.as_slice() == digest || self.signer.by_sha1.as_slice() == digest
+        self.key.has_sha1(digest) || self.has_certificate() && self.signer().has_sha1(digest)
     }
 
     /// Whether it is the digest of one of the keys.
     pub(crate) fn is_sha256(&self, digest: &[u8]) -> bool
         ensures { result ≡ sha256_says (asked_of self.now) digest.now }
     {
-        self.key.by_sha256.as_slice() == digest || self.signer.by_sha256.as_slice() == digest
+        self.key.has_sha256(digest) || self.has_certificate() && self.signer().has_sha256(digest)
     }
 
     /// Whether the key signed a certificate that is asked about.
@@ -88,7 +115,7 @@ impl<'q> Query<'q> {
         ensures { (k : PublicKey) → SpellsKey k (key_bytes key.now) →
             result ≡ signer_says (asked_of self.now) (flat (normal_key k)) }
     {
-        self.certificate.is_some() && is_normal_form(self.signer.bytes, key)
+        self.certificate.is_some() && is_normal_form(self.signer().bytes, key)
     }
 
     /// Whether a certificate is asked about.
@@ -103,7 +130,7 @@ impl<'q> Query<'q> {
         ensures { result ≡ (grant_in (asked_of self.now)).serial }
     {
         match self.certificate {
-            Some(serial) => serial.number,
+            Some(certificate) => certificate.number,
             None => 0,
         }
     }
@@ -129,7 +156,7 @@ impl<'q> Query<'q> {
         ensures { result.now ≡ (grant_in (asked_of self.now)).key_id }
     {
         match self.certificate {
-            Some(serial) => serial.key_id,
+            Some(certificate) => certificate.key_id,
             None => &[],
         }
     }

@@ -1,15 +1,16 @@
 //! Who says what is revoked.
 
+ghost use denote.Ref.{Bor};
 ghost use Rattle.std.specs.List.{list_any};
 ghost use Rattle.std.specs.Prelude.{◌≡◌, ℕ, Bool, false, true, IfErr, IfOk, List};
 ghost use Rattle.sshkey_cert.specs.CertificateValues.{certificate_of};
 ghost use Rattle.sshkey_keys.specs.Keys.{key_of};
 ghost use Rattle.sshkey_krl.specs.KrlRef.{krl_of};
+ghost use Rattle.sshkey_krl.specs.declared.krl_ref.KrlRef as slices;
 ghost use Rattle.sshkey_krl.specs.Revocation as list;
 ghost use Rattle.sshkey_krl.specs.Revocation.{Grant, grant};
 ghost use Rattle.sshkey_krl.specs.Revocations as values;
 ghost use Rattle.sshkey_krl.specs.Revocations.{only_if_read, unless_read};
-ghost use Rattle.sshkey_krl.specs.Wholeness.{any_whole, list_whole, none_whole, read_whole};
 ghost use Rattle.sshkey_model.specs.Keys.{normal_key};
 ghost use Rattle.sshkey_model.specs.Parts.{flat};
 
@@ -31,12 +32,13 @@ pub trait Revocations {
     /// Whether the key with those bytes is revoked.
     ghost revokes_key: { Self → List ℕ → Bool };
 
-    /// Whoever revokes a key revokes each certificate of it.
-    ghost whole: { (s : Self) (key : List ℕ) (asked : Grant) → revokes_key s key ≡ true →
-        revokes s key asked ≡ true };
-
     /// Holds only if nothing is revoked, so that nobody has to be asked.
     ghost revokes_none: { Self → Bool };
+
+    /// Whoever revokes a key revokes each certificate of it. Does nothing.
+    fn whole()
+        ensures { (s : Self) (key : List ℕ) (asked : Grant) → revokes_key s key ≡ true →
+            revokes s key asked ≡ true };
 
     /// Returns whether nothing is revoked, whatever is asked. `false` is always right. Does not
     /// allocate.
@@ -125,9 +127,9 @@ impl Revocations for NoRevocations {
 
     ghost revokes_key = { λ _ _. false };
 
-    ghost whole = { none_whole };
-
     ghost revokes_none = { λ _. true };
+
+    fn whole() {}
 
     fn revokes_none(&self) -> bool {
         true
@@ -154,9 +156,12 @@ impl Revocations for KrlRef<'_> {
 
     ghost revokes_key = { λ krl key. list.revokes_key (krl_of krl) key };
 
-    ghost whole = { λ krl. list_whole (krl_of krl) };
-
     ghost revokes_none = { λ _. false };
+
+    fn whole()
+        ensures { (krl : slices.KrlRef) (key : List ℕ) (asked : Grant) →
+            list.revokes_key (krl_of krl) key ≡ true → list.revokes (krl_of krl) key asked ≡ true }
+    {}
 
     fn revokes_none(&self) -> bool {
         false
@@ -183,10 +188,11 @@ impl<R: Revocations, E> Revocations for Result<R, E> {
 
     ghost revokes_key = { λ read key. unless_read (λ it. R.revokes_key it key) read };
 
-    ghost whole = { λ read key asked. read_whole (λ it. R.revokes_key it key)
-        (λ it. R.revokes it key asked) (λ it. R.whole it key asked) read };
-
     ghost revokes_none = { λ read. only_if_read R.revokes_none read };
+
+    fn whole() {
+        R::whole();
+    }
 
     fn revokes_none(&self) -> bool {
         match self {
@@ -223,10 +229,15 @@ impl<R: Revocations> Revocations for &[R] {
 
     ghost revokes_key = { λ all key. list_any (λ it. R.revokes_key it key) all.now };
 
-    ghost whole = { λ all key asked. any_whole (λ it. R.revokes_key it key)
-        (λ it. R.revokes it key asked) (λ it. R.whole it key asked) all.now };
-
     ghost revokes_none = { λ _. false };
+
+    fn whole()
+        ensures { (all : Bor (List R)) (key : List ℕ) (asked : Grant) →
+            list_any (λ it. R.revokes_key it key) all.now ≡ true →
+            list_any (λ it. R.revokes it key asked) all.now ≡ true }
+    {
+        R::whole();
+    }
 
     fn revokes_none(&self) -> bool {
         false

@@ -1,13 +1,14 @@
 //! The sections of a list.
 
+ghost use Rattle.std.specs.List.{list_any};
 ghost use Rattle.std.specs.Prelude.{◌≡◌, ℕ, List, Ok};
 ghost use Rattle.sshkey_base.specs.Answers.{AnswersAlways};
 ghost use Rattle.sshkey_base.specs.Causes.{cause};
 ghost use Rattle.sshkey_base.specs.Formats.{array_format, string_format};
-ghost use Rattle.sshkey_model.specs.Reading.{checked_whole, whole};
+ghost use Rattle.sshkey_model.specs.Reading.{checked_whole, list_whole, whole};
 ghost use Rattle.sshkey_krl.specs.Asked.{asked_of, authority_says, key_says, says, sha1_says, sha256_says};
 ghost use Rattle.sshkey_krl.specs.Revocation as model;
-ghost use Rattle.sshkey_krl.specs.Sections.{array_shows, authority_from, body, kind_from, section_format, section_shows, string_shows};
+ghost use Rattle.sshkey_krl.specs.Sections.{authority_from, body, kind_from, section_format};
 ghost use Rattle.sshkey_krl.specs.declared.section.SectionKind.TheVariants as kinds;
 
 use crate::authority::is_read_signer;
@@ -62,18 +63,43 @@ impl Numbered for Section {
     }
 }
 
-impl Item for Section {
-    ghost Value = { model.Section };
-
-    ghost format = { section_format };
-
-    ghost has_bytes = { section_shows };
-
-    ghost says = { says };
-
-    fn ask<'a>(query: &Query<'_>, bytes: &'a [u8]) -> Result<(bool, &'a [u8])> {
-        ask_numbered::<Section>(query, bytes)
+/// Whether a section of digests is at the front.
+fn has_digests(sections: &[u8]) -> bool {
+    match sections.first() {
+        Some(number) => match Section::kind(*number) {
+            Ok(SectionKind::Sha1 | SectionKind::Sha256) => true,
+            Ok(SectionKind::Certificates | SectionKind::Keys) | Err(_) => false,
+        },
+        None => false,
     }
+}
+
+/// Keeps the digests of the query's keys if a section of digests is at the front.
+fn prepare(query: &mut Query<'_>, sections: &[u8])
+    ensures { asked_of query.new ≡ asked_of query.old }
+{
+    if has_digests(sections) {
+        *query = query.with_digests();
+    }
+}
+
+/// Whether a section says yes to the query, of those that the bytes spell. The first section of
+/// digests makes those of the query, for all sections.
+pub(crate) fn any_section(query: &Query<'_>, bytes: &[u8]) -> Result<bool>
+    ensures { AnswersAlways (λ y. y) cause
+        (checked_whole (λ vs. Ok (list_any (says (asked_of query.now)) vs))
+        (list_whole (λ _. section_format.read)) bytes.now) result }
+{
+    let mut prepared = *query;
+    let mut rest = bytes;
+    let mut found = false;
+    'sections: while !rest.is_empty() {
+        prepare(&mut prepared, rest);
+        let (yes, behind) = ask_numbered::<Section>(&prepared, rest)?;
+        found |= yes;
+        rest = behind;
+    }
+    Ok(found)
 }
 
 /// Whether a part says yes, of a section that is about the certificates of the authority.
@@ -110,14 +136,15 @@ fn is_about(query: &Query<'_>, authority: &[u8]) -> Result<bool>
 /// The bytes of a key. They need not be those of one.
 struct KeyBytes;
 
+#[tactic(auto, using(sshkey_base::proofs::Lawful::string_lawful, crate::proofs::Lawful::string_shows))]
 impl Item for KeyBytes {
     ghost Value = { List ℕ };
 
     ghost format = { string_format };
 
-    ghost has_bytes = { string_shows };
-
     ghost says = { key_says };
+
+    fn lawful() {}
 
     fn ask<'a>(query: &Query<'_>, bytes: &'a [u8]) -> Result<(bool, &'a [u8])> {
         let (key, rest) = split_string(bytes)?;
@@ -128,14 +155,15 @@ impl Item for KeyBytes {
 /// The digest of a key by SHA-1.
 struct Sha1Digest;
 
+#[tactic(auto, using(sshkey_base::proofs::Lawful::array_lawful, crate::proofs::Lawful::array_shows))]
 impl Item for Sha1Digest {
     ghost Value = { List ℕ };
 
     ghost format = { array_format 20 };
 
-    ghost has_bytes = { array_shows 20 };
-
     ghost says = { sha1_says };
+
+    fn lawful() {}
 
     fn ask<'a>(query: &Query<'_>, bytes: &'a [u8]) -> Result<(bool, &'a [u8])> {
         let mut rest = bytes;
@@ -147,14 +175,15 @@ impl Item for Sha1Digest {
 /// The digest of a key by SHA-256.
 struct Sha256Digest;
 
+#[tactic(auto, using(sshkey_base::proofs::Lawful::array_lawful, crate::proofs::Lawful::array_shows))]
 impl Item for Sha256Digest {
     ghost Value = { List ℕ };
 
     ghost format = { array_format 32 };
 
-    ghost has_bytes = { array_shows 32 };
-
     ghost says = { sha256_says };
+
+    fn lawful() {}
 
     fn ask<'a>(query: &Query<'_>, bytes: &'a [u8]) -> Result<(bool, &'a [u8])> {
         let mut rest = bytes;

@@ -1,4 +1,7 @@
 mod Digests
 mod Grants
+mod Verifiers
 mod Logins
 mod Questions
+mod UserGrants
+mod UserKeys

@@ -87,6 +87,6 @@ abbrev pub IsGranted : {Z : Type 0} → List ℕ → Vec ℕ Z × GrantParts →
 IsGranted blob laid = (c : Certificate) × SpellsCertificate c blob × IsLaidOut grant_bytes ArePlaced c laid.0.items laid.1
 
 -- The content stands at the front of the room, and the grant is answered, with 0; or the room is too
--- short for it, and nothing but its length is answered, with 2.
-abbrev pub Gives : List ℕ → GrantParts → ℕ → GrantParts → List ℕ → List ℕ → Type 0
-Gives content grant n answer before after = ((n ≡ 0) × (answer ≡ grant) × (after ≡ content ++ drop (length content) before)) ⊎ ((n ≡ 2) × (answer ≡ nothing grant.length) × (after ≡ before) × (length before < length content))
+-- short for it, and that is answered, with 2.
+abbrev pub Gives : {G : Type 0} → List ℕ → G → G → ℕ → G → List ℕ → List ℕ → Type 0
+Gives content grant short n answer before after = ((n ≡ 0) × (answer ≡ grant) × (after ≡ content ++ drop (length content) before)) ⊎ ((n ≡ 2) × (answer ≡ short) × (after ≡ before) × (length before < length content))

@@ -2,3 +2,5 @@ pub mod GrantExamples
 pub mod Grants
 pub mod Logins
 pub mod Questions
+pub mod UserGrants
+pub mod UserKeys

@@ -17,21 +17,21 @@ use sshkey_calls::{Part, Sha256Digest};
 use std::alloc::Global;
 
 /// A terminal (PROTOCOL.certkeys, "permit-pty").
-const PTY: u32 = 1;
+pub(crate) const PTY: u32 = 1;
 /// Forwarding of ports.
-const PORT_FORWARDING: u32 = 2;
+pub(crate) const PORT_FORWARDING: u32 = 2;
 /// Forwarding of the agent.
-const AGENT_FORWARDING: u32 = 4;
+pub(crate) const AGENT_FORWARDING: u32 = 4;
 /// Forwarding of X11.
-const X11_FORWARDING: u32 = 8;
+pub(crate) const X11_FORWARDING: u32 = 8;
 /// The user's `~/.ssh/rc`.
-const USER_RC: u32 = 16;
+pub(crate) const USER_RC: u32 = 16;
 /// What the client asks for, or a shell.
-const ANY_COMMAND: u32 = 32;
+pub(crate) const ANY_COMMAND: u32 = 32;
 /// A security key that nobody touched.
-const NO_TOUCH: u32 = 64;
+pub(crate) const NO_TOUCH: u32 = 64;
 /// A security key that did not verify its user.
-const NO_VERIFICATION: u32 = 128;
+pub(crate) const NO_VERIFICATION: u32 = 128;
 
 /// What a login may do, and by which certificate. The parts are parts of the room that was given.
 #[repr(C)]
@@ -72,20 +72,21 @@ pub(crate) fn nothing(length: usize) -> GrantParts
 }
 
 /// Answers with the grant, its bytes in the room. Where the room is shorter, it stays as it was, and
-/// the answer says only how many bytes there are.
-pub(crate) fn give(
+/// the answer is the other one, which says only how many bytes there are.
+pub(crate) fn give<G: Copy>(
     content: &[u8],
-    grant: GrantParts,
+    grant: G,
+    short: G,
     room: &mut [u8],
-    answer: &mut GrantParts,
+    answer: &mut G,
 ) -> u32
-    ensures { Gives content.now grant result answer.new room.old room.new }
+    ensures { Gives content.now grant short result answer.new room.old room.new }
 {
     if write_to(room, content) {
         *answer = grant;
         return DONE;
     }
-    *answer = nothing(grant.length);
+    *answer = short;
     ROOM
 }
 
@@ -160,7 +161,7 @@ fn permits(grant: &Grant) -> u32
 }
 
 /// The number, if it is permitted, and else 0.
-fn bit(number: u32, is_permitted: bool) -> u32
+pub(crate) fn bit(number: u32, is_permitted: bool) -> u32
     ensures value { result ≡ bit number is_permitted }
     ensures most { result ≤ number }
 {

@@ -5,13 +5,18 @@
 //! verified, and one that is told what the verification said.
 #![tactic(auto)]
 
+mod denial;
 pub mod examples;
 mod grant;
 mod login;
 mod question;
 mod request;
+mod user_grant;
+mod user_verdict;
 
 pub use grant::GrantParts;
 pub use login::login_verdict;
 pub use question::login_question;
 pub use request::LoginRequest;
+pub use user_grant::UserGrantParts;
+pub use user_verdict::{principals_verdict, user_keys_verdict};

@@ -63,7 +63,10 @@ pub fn login_verdict(
         → IsUtf8 login.now.user.now × SpellsSome SpellsKey login.now.key.now }
 {
     match judge(alloc, login, is_verified) {
-        Ok((content, grant)) => give(&content, grant, room, answer),
+        Ok((content, grant)) => {
+            let short = nothing(grant.length);
+            give(&content, grant, short, room, answer)
+        }
         Err(number) => {
             *answer = nothing(0);
             number
@@ -139,7 +142,10 @@ pub(crate) fn judge_of(
 }
 
 /// The fingerprints with these digests. Fails only when out of memory.
-fn fingerprints(alloc: Global, digests: &[Sha256Digest]) -> sshkey_base::Result<Vec<Fingerprint>>
+pub(crate) fn fingerprints(
+    alloc: Global,
+    digests: &[Sha256Digest],
+) -> sshkey_base::Result<Vec<Fingerprint>>
     ensures { IfOk result (λ found. fingerprints_of found.items ≡ authorities_of digests.now) }
 {
     let mut found = Vec::new(alloc);
@@ -150,7 +156,7 @@ fn fingerprints(alloc: Global, digests: &[Sha256Digest]) -> sshkey_base::Result<
 }
 
 /// The number of a refusal, where the one of a certificate that is revoked is given.
-fn login_number(refusal: Refusal, of_revoked: u32) -> u32
+pub(crate) fn login_number(refusal: Refusal, of_revoked: u32) -> u32
     requires { 2 < of_revoked }
     ensures number { result ≡ login_number of_revoked refusal }
     ensures refused { result ≢ 1 → 2 < result }

@@ -69,20 +69,20 @@ module _ {A : Type 0} {Spells : A → List ℕ → Type 0} {read : Front A} wher
       (t.0, t.1, t.2, inr (read_alone g value t.0 t.1))
 
   -- where they all do
-  abbrev pub by_itself : IsGrammar Spells read → Grammar Spells read
-  by_itself g = record { delimited_at = read; same = λ b x e. e; before = read_before g; takes = read_takes g; alone = read_alone g }
+  abbrev pub by_itself : IsGrammar Spells read → Grammar Spells read read
+  by_itself g = record { same = λ b x e. e; before = read_before g; takes = read_takes g; alone = read_alone g }
 
-  module _ (g : Grammar Spells read) where
+  module _ {delimited_at : Front A} (g : Grammar Spells read delimited_at) where
     -- a spelling is taken before what may follow it
-    pub taken_before : (value : A) (front rest : List ℕ) → Spells value front → MayFollow g.delimited_at value front rest → read (front ++ rest) ≡ Ok (value, rest)
+    pub taken_before : (value : A) (front rest : List ℕ) → Spells value front → MayFollow delimited_at value front rest → read (front ++ rest) ≡ Ok (value, rest)
     taken_before value front rest s (inl none) = rw (none, append-nil front) (g.alone value front s)
     taken_before value front rest s (inr ends) = g.same (front ++ rest) (value, rest) (g.before front value [] rest ends)
 
     -- so any bytes may follow
-    pub ends : AllEnd g → (value : A) (front rest : List ℕ) → Spells value front → MayFollow g.delimited_at value front rest
+    pub ends : AllEnd read delimited_at → (value : A) (front rest : List ℕ) → Spells value front → MayFollow delimited_at value front rest
     ends all value front rest s = inr (all front ∙ g.alone value front s)
 
-    pub all_end : AllEnd g → IsGrammar Spells read
+    pub all_end : AllEnd read delimited_at → IsGrammar Spells read
     all_end all = record {
       takes = λ b value rest e. let t = g.takes b value rest e in (t.0, t.1, t.2);
       again = λ value front rest s. taken_before value front rest s (ends all value front rest s);
@@ -94,9 +94,8 @@ module _ {A : Type 0} {Spells : A → List ℕ → Type 0} {read : Front A} wher
       (b, t.0, rw (t.1, append-nil b) refl, inl t.1)
 
   -- where none does
-  abbrev pub to_the_end : ((b : List ℕ) (value : A) (rest : List ℕ) → read b ≡ Ok (value, rest) → Spells value b × (rest ≡ [])) → ((value : A) (b : List ℕ) → Spells value b → read b ≡ Ok (value, [])) → Grammar Spells read
+  abbrev pub to_the_end : ((b : List ℕ) (value : A) (rest : List ℕ) → read b ≡ Ok (value, rest) → Spells value b × (rest ≡ [])) → ((value : A) (b : List ℕ) → Spells value b → read b ≡ Ok (value, [])) → Grammar Spells read never_at
   to_the_end takes alone = record {
-    delimited_at = never_at;
     same = λ b x e. none_at b x e;
     before = λ b value rest more e. none_at b (value, rest) e;
     takes = end_takes takes;
@@ -111,8 +110,8 @@ ended y [] z e = (refl, ok_is y z e)
 ended y (b ∷ rest) z e = absurd cc
 
 -- What a reader takes whole is a spelling, and a spelling is taken whole.
-pub whole_spells : {A : Type 0} {Spells : A → List ℕ → Type 0} {read : Front A} → Grammar Spells read → (b : List ℕ) (y : A) → (whole read b ≡ Ok y) ↔ Spells y b
-whole_spells {A} {Spells} {read} g b y = (taken, λ s. rw (g.alone y b s) refl)
+pub whole_spells : {A : Type 0} {Spells : A → List ℕ → Type 0} {read delimited_at : Front A} → Grammar Spells read delimited_at → (b : List ℕ) (y : A) → (whole read b ≡ Ok y) ↔ Spells y b
+whole_spells {A} {Spells} {read} {delimited_at} g b y = (taken, λ s. rw (g.alone y b s) refl)
   where
     taken : whole read b ≡ Ok y → Spells y b
     taken e =
@@ -175,80 +174,80 @@ pub none_in : (a b : List ℕ) → a ++ b ≡ [] → (a ≡ []) × (b ≡ [])
 none_in [] b e = (refl, e)
 none_in (x ∷ a) b e = absurd cc
 
-module _ {A B : Type 0} {S : A → List ℕ → Type 0} {T : A → B → List ℕ → Type 0} {read : Front A} {next : A → Front B} (f : Grammar S read) (g : (a : A) → Grammar (T a) (next a)) where
-  abbrev pub both_delimited_at : Front (A × B)
-  both_delimited_at = behind_at f.delimited_at (λ a. (g a).delimited_at)
+module _ {A B : Type 0} {S : A → List ℕ → Type 0} {T : A → B → List ℕ → Type 0} {read delimited_at : Front A} {next next_delimited_at : A → Front B} (f : Grammar S read delimited_at) (g : (a : A) → Grammar (T a) (next a) (next_delimited_at a)) where
+  abbrev both_delimited_at : Front (A × B)
+  both_delimited_at = behind_at delimited_at next_delimited_at
 
   pub both_same : (b : List ℕ) (x : (A × B) × List ℕ) → both_delimited_at b ≡ Ok x → behind_at read next b ≡ Ok x
   unfolding behind_at
   both_same b x e =
-      let y = bind_ok (f.delimited_at b) _ x e in
-      let z = bind_ok ((g y.0.0).delimited_at y.0.1) _ x y.2 in
+      let y = bind_ok (delimited_at b) _ x e in
+      let z = bind_ok (next_delimited_at y.0.0 y.0.1) _ x y.2 in
       rw (f.same b y.0 y.1, (g y.0.0).same y.0.1 z.0 z.1) z.2
 
   pub both_before : (b : List ℕ) (value : A × B) (rest more : List ℕ) → both_delimited_at b ≡ Ok (value, rest) → both_delimited_at (b ++ more) ≡ Ok (value, rest ++ more)
   unfolding behind_at
   both_before b value rest more e =
-      let y = bind_ok (f.delimited_at b) _ (value, rest) e in
-      let z = bind_ok ((g y.0.0).delimited_at y.0.1) _ (value, rest) y.2 in
+      let y = bind_ok (delimited_at b) _ (value, rest) e in
+      let z = bind_ok (next_delimited_at y.0.0 y.0.1) _ (value, rest) y.2 in
       subst (λ (p : (A × B) × List ℕ). both_delimited_at (b ++ more) ≡ Ok (p.0, p.1 ++ more)) (ok_is ((y.0.0, z.0.0), z.0.1) (value, rest) z.2)
       (rw (f.before b y.0.0 y.0.1 more y.1, (g y.0.0).before y.0.1 z.0.0 z.0.1 more z.1) refl)
 
   -- what may follow both
-  both_ends : (a : A) (c : B) (front behind rest : List ℕ) → MayFollow f.delimited_at a front (behind ++ rest) → MayFollow (g a).delimited_at c behind rest → MayFollow both_delimited_at (a, c) (front ++ behind) rest
+  both_ends : (a : A) (c : B) (front behind rest : List ℕ) → MayFollow delimited_at a front (behind ++ rest) → MayFollow (next_delimited_at a) c behind rest → MayFollow both_delimited_at (a, c) (front ++ behind) rest
   unfolding behind_at
   both_ends a c front behind rest (inl none) k = inl (none_in behind rest none).1
   both_ends a c front behind rest (inr h) (inl none) = inl none
   both_ends a c front behind rest (inr h) (inr k) = inr (rw (f.before front a [] behind h, k) refl)
 
-  first_ends : (a : A) (front behind rest : List ℕ) → MayFollow f.delimited_at a front (behind ++ rest) → MayFollow f.delimited_at a front behind
+  first_ends : (a : A) (front behind rest : List ℕ) → MayFollow delimited_at a front (behind ++ rest) → MayFollow delimited_at a front behind
   first_ends a front behind rest (inl none) = inl (none_in behind rest none).0
   first_ends a front behind rest (inr h) = inr h
 
-  pub both_takes : (b : List ℕ) (value : A × B) (rest : List ℕ) → behind_at read next b ≡ Ok (value, rest) → (front : List ℕ) × SpellsThen S f.delimited_at T value front × (b ≡ front ++ rest) × MayFollow both_delimited_at value front rest
+  pub both_takes : (b : List ℕ) (value : A × B) (rest : List ℕ) → behind_at read next b ≡ Ok (value, rest) → (front : List ℕ) × SpellsThen S delimited_at T value front × (b ≡ front ++ rest) × MayFollow both_delimited_at value front rest
   unfolding behind_at
   both_takes b value rest e =
       let x = bind_ok (read b) _ (value, rest) e in
       let y = bind_ok (next x.0.0 x.0.1) _ (value, rest) x.2 in
       let a = f.takes b x.0.0 x.0.1 x.1 in
       let c = (g x.0.0).takes x.0.1 y.0.0 y.0.1 y.1 in
-      let ends : MayFollow f.delimited_at x.0.0 a.0 (c.0 ++ y.0.1) = rw (← c.2) a.3 in
-      subst (λ (p : (A × B) × List ℕ). (front : List ℕ) × SpellsThen S f.delimited_at T p.0 front × (b ≡ front ++ p.1) × MayFollow both_delimited_at p.0 front p.1) (ok_is ((x.0.0, y.0.0), y.0.1) (value, rest) y.2) (
+      let ends : MayFollow delimited_at x.0.0 a.0 (c.0 ++ y.0.1) = rw (← c.2) a.3 in
+      subst (λ (p : (A × B) × List ℕ). (front : List ℕ) × SpellsThen S delimited_at T p.0 front × (b ≡ front ++ p.1) × MayFollow both_delimited_at p.0 front p.1) (ok_is ((x.0.0, y.0.0), y.0.1) (value, rest) y.2) (
         a.0 ++ c.0,
         record { front = a.0; behind = c.0; first = a.1; second = c.1; all = refl; may_follow = first_ends x.0.0 a.0 c.0 y.0.1 ends },
         a.2 ∙ ap (λ (l : List ℕ). a.0 ++ l) c.2 ∙ sym (append_assoc a.0 c.0 y.0.1),
         both_ends x.0.0 y.0.0 a.0 c.0 y.0.1 ends c.3,
       )
 
-  pub both_alone : (value : A × B) (front : List ℕ) → SpellsThen S f.delimited_at T value front → behind_at read next front ≡ Ok (value, [])
+  pub both_alone : (value : A × B) (front : List ℕ) → SpellsThen S delimited_at T value front → behind_at read next front ≡ Ok (value, [])
   unfolding behind_at
   both_alone value front s =
       rw (s.all, taken_before f value.0 s.front s.behind s.first s.may_follow, (g value.0).alone value.1 s.behind s.second) refl
 
-  abbrev pub then_grammar : Grammar (SpellsThen S f.delimited_at T) (behind_at read next)
-  then_grammar = record { delimited_at = both_delimited_at; same = both_same; before = both_before; takes = both_takes; alone = both_alone }
+  abbrev pub then_grammar : Grammar (SpellsThen S delimited_at T) (behind_at read next) (behind_at delimited_at next_delimited_at)
+  then_grammar = record { same = both_same; before = both_before; takes = both_takes; alone = both_alone }
 
 -- ---- a test on what was read
 
-module _ {A B : Type 0} {S : A → List ℕ → Type 0} {read : Front A} (test : A → Result B Fault) (f : Grammar S read) where
-  abbrev pub tested_delimited_at : Front B
-  tested_delimited_at = checked_at test f.delimited_at
+module _ {A B : Type 0} {S : A → List ℕ → Type 0} {read delimited_at : Front A} (test : A → Result B Fault) (f : Grammar S read delimited_at) where
+  abbrev tested_delimited_at : Front B
+  tested_delimited_at = checked_at test delimited_at
 
-  value_of_test : (b : List ℕ) (a : A) (value : B) (rest : List ℕ) → f.delimited_at b ≡ Ok (a, rest) → test a ≡ Ok value → tested_delimited_at b ≡ Ok (value, rest)
+  value_of_test : (b : List ℕ) (a : A) (value : B) (rest : List ℕ) → delimited_at b ≡ Ok (a, rest) → test a ≡ Ok value → tested_delimited_at b ≡ Ok (value, rest)
   value_of_test b a value rest h makes = rw (h, makes) refl
 
   pub tested_same : (b : List ℕ) (x : B × List ℕ) → tested_delimited_at b ≡ Ok x → checked_at test read b ≡ Ok x
   tested_same b x e =
-      let y = bind_ok (f.delimited_at b) _ x e in
+      let y = bind_ok (delimited_at b) _ x e in
       rw (f.same b y.0 y.1) y.2
 
   pub tested_before : (b : List ℕ) (value : B) (rest more : List ℕ) → tested_delimited_at b ≡ Ok (value, rest) → tested_delimited_at (b ++ more) ≡ Ok (value, rest ++ more)
   tested_before b value rest more e =
-      let x = bind_ok (f.delimited_at b) _ (value, rest) e in
+      let x = bind_ok (delimited_at b) _ (value, rest) e in
       let y = bind_ok (test x.0.0) _ (value, rest) x.2 in
       subst (λ (p : B × List ℕ). tested_delimited_at (b ++ more) ≡ Ok (p.0, p.1 ++ more)) (ok_is (y.0, x.0.1) (value, rest) y.2) (value_of_test (b ++ more) x.0.0 y.0 (x.0.1 ++ more) (f.before b x.0.0 x.0.1 more x.1) y.1)
 
-  tested_ends : (a : A) (value : B) (front rest : List ℕ) → test a ≡ Ok value → MayFollow f.delimited_at a front rest → MayFollow tested_delimited_at value front rest
+  tested_ends : (a : A) (value : B) (front rest : List ℕ) → test a ≡ Ok value → MayFollow delimited_at a front rest → MayFollow tested_delimited_at value front rest
   tested_ends a value front rest makes (inl none) = inl none
   tested_ends a value front rest makes (inr h) = inr (value_of_test front a value [] h makes)
 
@@ -262,5 +261,5 @@ module _ {A B : Type 0} {S : A → List ℕ → Type 0} {read : Front A} (test :
   pub tested_alone : (value : B) (front : List ℕ) → SpellsTested S test value front → checked_at test read front ≡ Ok (value, [])
   tested_alone value front s = rw (f.alone s.inner front s.spelled, s.makes) refl
 
-  abbrev pub tested_grammar : Grammar (SpellsTested S test) (checked_at test read)
-  tested_grammar = record { delimited_at = tested_delimited_at; same = tested_same; before = tested_before; takes = tested_takes; alone = tested_alone }
+  abbrev pub tested_grammar : Grammar (SpellsTested S test) (checked_at test read) (checked_at test delimited_at)
+  tested_grammar = record { same = tested_same; before = tested_before; takes = tested_takes; alone = tested_alone }

@@ -52,9 +52,8 @@ abbrev pub MayFollow : {A : Type 0} → Front A → A → List ℕ → List ℕ 
 MayFollow delimited_at value front rest = (rest ≡ []) ⊎ (delimited_at front ≡ Ok (value, []))
 
 -- The reader takes exactly the spellings, where some values end by themselves.
-pub record Grammar {A : Type 0} (Spells : A → List ℕ → Type 0) (read : Front A) : Type 0 where
-  -- the plain reader of the values that end by themselves; nothing may follow any other
-  pub delimited_at : Front A
+-- `delimited_at` is the plain reader of these; nothing may follow any other value.
+pub record Grammar {A : Type 0} (Spells : A → List ℕ → Type 0) (read delimited_at : Front A) : Type 0 where
   -- `read` takes what it takes
   pub same : (b : List ℕ) (x : A × List ℕ) → delimited_at b ≡ Ok x → read b ≡ Ok x
   -- whatever follows
@@ -66,8 +65,8 @@ pub record Grammar {A : Type 0} (Spells : A → List ℕ → Type 0) (read : Fro
   pub alone : (value : A) (front : List ℕ) → Spells value front → read front ≡ Ok (value, [])
 
 -- all values end by themselves
-abbrev pub AllEnd : {A : Type 0} {Spells : A → List ℕ → Type 0} {read : Front A} → Grammar Spells read → Type 0
-AllEnd {read = read} g = (b : List ℕ) → g.delimited_at b ≡ read b
+abbrev pub AllEnd : {A : Type 0} → Front A → Front A → Type 0
+AllEnd read delimited_at = (b : List ℕ) → delimited_at b ≡ read b
 
 -- ---- what is spelled of parts
 

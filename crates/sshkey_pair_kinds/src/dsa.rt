@@ -74,7 +74,7 @@ impl fmt::Debug for DsaPrivateKey {
 ///
 /// Fails with `Length`, and allocates nothing, if the string is longer than the remaining input;
 /// with `FormatEncoding` if its bytes are those of no number.
-#[tactic(auto, using(sshkey_base::proofs::Steps::steps, sshkey_terms::proofs::Stopping::handed))]
+#[tactic(auto, using(sshkey_base::proofs::Lawful::mpint_lawful, sshkey_base::proofs::Steps::steps, sshkey_terms::proofs::Stopping::handed))]
 impl Decode for DsaPrivateKey {
     ghost use Rattle.sshkey_base.specs.Causes.{cause};
     ghost use Rattle.sshkey_base.specs.Formats.{Stops, mpint_format};
@@ -89,6 +89,8 @@ impl Decode for DsaPrivateKey {
     ghost means = { dsa_private_of };
 
     ghost format = { mpint_format };
+
+    fn lawful() {}
 
     fn decode<R: Reader>(alloc: Global, reader: &mut R) -> Result<DsaPrivateKey>
         ensures gives { DecodesWide dsa_private_of mpint_at R.source reader.old result reader.new }
@@ -153,7 +155,7 @@ impl From<DsaKeypair> for DsaPublicKey {
 ///
 /// Fails with `Length` if a string passes what is left, and with `FormatEncoding` if its bytes are
 /// those of no number.
-#[tactic(auto, using(sshkey_terms::proofs::Mapped::mapped, crate::specs::PairFormats::dsa_pair_parts_read))]
+#[tactic(auto, using(crate::proofs::Lawful::dsa_pair_lawful, sshkey_terms::proofs::Mapped::mapped, crate::proofs::PairReaders::dsa_pair_parts_read))]
 impl Decode for DsaKeypair {
     ghost use Rattle.sshkey_pair_kinds.specs.PairFormats.{dsa_pair_format};
     ghost use Rattle.sshkey_pair_kinds.specs.Pairs.{dsa_pair_of};
@@ -165,6 +167,8 @@ impl Decode for DsaKeypair {
     ghost means = { dsa_pair_of };
 
     ghost format = { dsa_pair_format };
+
+    fn lawful() {}
 
     fn decode<R: Reader>(alloc: Global, reader: &mut R) -> Result<DsaKeypair> {
         let Then(public, private) = Then::<DsaPublicKey, DsaPrivateKey>::decode(alloc, reader)?;

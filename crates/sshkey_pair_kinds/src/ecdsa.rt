@@ -145,6 +145,8 @@ impl<const SIZE: usize> Decode for EcdsaPrivateKey<SIZE> {
 
     ghost format = { scalar_format SIZE };
 
+    fn lawful() {}
+
     fn decode<R: Reader>(_alloc: Global, reader: &mut R) -> Result<EcdsaPrivateKey<SIZE>> {
         let bytes = Mpint::decode_fixed::<SIZE, R>(reader)?;
         Ok(EcdsaPrivateKey { bytes })
@@ -330,7 +332,7 @@ impl From<EcdsaKeypair> for EcdsaPublicKey {
 ///
 /// Fails with the errors of `EcdsaPublicKey`, and then with those of `EcdsaPrivateKey` for a scalar
 /// as wide as the field of that key's curve.
-#[tactic(auto, using(sshkey_terms::proofs::Chosen::chosen, sshkey_terms::proofs::Needless::needless_parts, crate::specs::PairFormats::ecdsa_pair_chosen))]
+#[tactic(auto, using(crate::proofs::Lawful::ecdsa_pair_lawful, sshkey_terms::proofs::Chosen::chosen, sshkey_terms::proofs::Needless::needless_parts, crate::proofs::PairReaders::ecdsa_pair_chosen))]
 impl Decode for EcdsaKeypair {
     type Error = Error;
 
@@ -339,6 +341,8 @@ impl Decode for EcdsaKeypair {
     ghost means = { ecdsa_pair_of };
 
     ghost format = { ecdsa_pair_format };
+
+    fn lawful() {}
 
     fn decode<R: Reader>(alloc: Global, reader: &mut R) -> Result<EcdsaKeypair> {
         let public = EcdsaPublicKey::decode(alloc, reader)?;

@@ -190,7 +190,7 @@ impl From<Ed25519Keypair> for Ed25519PublicKey {
 ///
 /// Fails with `Length` for a string that is too short, with `TrailingData` for one that is too
 /// long, and with `Crypto` if the public bytes differ. Does not allocate.
-#[tactic(auto, using(sshkey_terms::proofs::Mapped::mapped, crate::specs::PairFormats::ed25519_pair_parts_read))]
+#[tactic(auto, using(crate::proofs::Lawful::ed25519_pair_lawful, sshkey_terms::proofs::Mapped::mapped, crate::proofs::PairReaders::ed25519_pair_parts_read))]
 impl Decode for Ed25519Keypair {
     type Error = Error;
 
@@ -199,6 +199,8 @@ impl Decode for Ed25519Keypair {
     ghost means = { ed25519_pair_of };
 
     ghost format = { ed25519_pair_format };
+
+    fn lawful() {}
 
     fn decode<R: Reader>(alloc: Global, reader: &mut R) -> Result<Ed25519Keypair> {
         type Halves = Then<Wide<[u8; 32]>, Wide<[u8; 64]>>;

@@ -52,7 +52,7 @@ impl Held {
 }
 
 /// The flags, the key handle and the reserved bytes.
-#[tactic(auto, using(sshkey_terms::proofs::Mapped::mapped, sshkey_terms::specs::Terms::checked_read))]
+#[tactic(auto, using(crate::proofs::Lawful::held_lawful, sshkey_terms::proofs::Mapped::mapped, sshkey_terms::proofs::Lawful::checked_read))]
 impl Decode for Held {
     ghost use Rattle.sshkey_pair_kinds.specs.PairFormats.{held_format};
 
@@ -63,6 +63,8 @@ impl Decode for Held {
     ghost means = { held_of };
 
     ghost format = { held_format };
+
+    fn lawful() {}
 
     fn decode<R: Reader>(alloc: Global, reader: &mut R) -> encoding::Result<Held> {
         type Parts = Then<u8, Then<Secret<Bytes>, Secret<Bytes>>>;

@@ -57,7 +57,7 @@ impl RsaPrivateKey {
 ///
 /// Fails with `Length` if a string passes what is left, and with `FormatEncoding` if its bytes are
 /// those of no number.
-#[tactic(auto, using(sshkey_terms::proofs::Mapped::mapped, crate::specs::PairFormats::rsa_private_parts_read))]
+#[tactic(auto, using(crate::proofs::Lawful::rsa_private_lawful, sshkey_terms::proofs::Mapped::mapped, crate::proofs::PairReaders::rsa_private_parts_read))]
 impl Decode for RsaPrivateKey {
     ghost use Rattle.sshkey_pair_kinds.specs.PairFormats.{rsa_private_format};
     ghost use Rattle.sshkey_pair_kinds.specs.PrivateHalves.{rsa_private_of};
@@ -69,6 +69,8 @@ impl Decode for RsaPrivateKey {
     ghost means = { rsa_private_of };
 
     ghost format = { rsa_private_format };
+
+    fn lawful() {}
 
     fn decode<R: Reader>(alloc: Global, reader: &mut R) -> Result<RsaPrivateKey> {
         type Number = Secret<Mpint>;
@@ -155,7 +157,7 @@ impl From<RsaKeypair> for RsaPublicKey {
 ///
 /// Fails with `Length` if a string passes what is left, and with `FormatEncoding` if its bytes are
 /// those of no number.
-#[tactic(auto, using(sshkey_terms::proofs::Mapped::mapped, crate::specs::PairFormats::rsa_pair_parts_read))]
+#[tactic(auto, using(crate::proofs::Lawful::rsa_pair_lawful, sshkey_terms::proofs::Mapped::mapped, crate::proofs::PairReaders::rsa_pair_parts_read))]
 impl Decode for RsaKeypair {
     ghost use Rattle.sshkey_pair_kinds.specs.PairFormats.{rsa_pair_format};
     ghost use Rattle.sshkey_pair_kinds.specs.Pairs.{rsa_pair_of};
@@ -167,6 +169,8 @@ impl Decode for RsaKeypair {
     ghost means = { rsa_pair_of };
 
     ghost format = { rsa_pair_format };
+
+    fn lawful() {}
 
     fn decode<R: Reader>(alloc: Global, reader: &mut R) -> Result<RsaKeypair> {
         type Parts = Then<Mpint, Then<Mpint, RsaPrivateKey>>;

@@ -111,7 +111,7 @@ impl fmt::Debug for SkEd25519 {
 ///
 /// Fails with the errors of the public key, and then with `Length` where a string passes what is
 /// left. The key handle may have any number of bytes.
-#[tactic(auto, using(sshkey_terms::proofs::Mapped::mapped, crate::specs::PairFormats::sk_ecdsa_pair_parts_read))]
+#[tactic(auto, using(crate::proofs::Lawful::sk_ecdsa_pair_lawful, sshkey_terms::proofs::Mapped::mapped, crate::proofs::PairReaders::sk_ecdsa_pair_parts_read))]
 impl Decode for SkEcdsaSha2NistP256 {
     ghost use Rattle.sshkey_pair_kinds.specs.PairFormats.{sk_ecdsa_pair_format};
 
@@ -123,6 +123,8 @@ impl Decode for SkEcdsaSha2NistP256 {
 
     ghost format = { sk_ecdsa_pair_format };
 
+    fn lawful() {}
+
     fn decode<R: Reader>(alloc: Global, reader: &mut R) -> Result<SkEcdsaSha2NistP256> {
         let Then(public, Wide(held)) = Then::<PublicSkEcdsa, Wide<Held>>::decode(alloc, reader)?;
         Ok(SecurityPair { public, held })
@@ -133,7 +135,7 @@ impl Decode for SkEcdsaSha2NistP256 {
 ///
 /// Fails with the errors of the public key, and then with `Length` where a string passes what is
 /// left. The key handle may have any number of bytes.
-#[tactic(auto, using(sshkey_terms::proofs::Mapped::mapped, crate::specs::PairFormats::sk_ed25519_pair_parts_read))]
+#[tactic(auto, using(crate::proofs::Lawful::sk_ed25519_pair_lawful, sshkey_terms::proofs::Mapped::mapped, crate::proofs::PairReaders::sk_ed25519_pair_parts_read))]
 impl Decode for SkEd25519 {
     ghost use Rattle.sshkey_pair_kinds.specs.PairFormats.{sk_ed25519_pair_format};
 
@@ -144,6 +146,8 @@ impl Decode for SkEd25519 {
     ghost means = { sk_ed25519_pair_of };
 
     ghost format = { sk_ed25519_pair_format };
+
+    fn lawful() {}
 
     fn decode<R: Reader>(alloc: Global, reader: &mut R) -> Result<SkEd25519> {
         let Then(public, Wide(held)) = Then::<PublicSkEd25519, Wide<Held>>::decode(alloc, reader)?;

@@ -1,1 +1,4 @@
 pub mod SameReaders
+pub mod KeypairReaders
+pub mod Lawful
+pub mod NormalPairs

@@ -9,7 +9,8 @@ use Rattle.sshkey_base.specs.Reading.{Gives}
 use Rattle.sshkey_base.specs.Stops.{StopsBy}
 use Rattle.sshkey_base.proofs.ReadLists.{same_gives}
 use Rattle.sshkey_base.proofs.Stopping.{same_stops}
-use Rattle.sshkey_pairs.specs.KeypairFormats.{steps_at, same_steps}
+use Rattle.sshkey_pairs.specs.KeypairFormats.{steps_at}
+use Rattle.sshkey_pairs.proofs.KeypairReaders.{same_steps}
 use Rattle.sshkey_pairs.specs.KeypairReaders.{some_at}
 
 pub model_gives : {X E : Type 0} (means : X → Option KeyPair) (cause : E → Cause) (a : Algorithm) (s t : Source) (r : Result X E) → Gives means cause (some_at (steps_at a)) s r t → Gives means cause (some_at (value_at (pair_at a))) s r t

@@ -190,7 +190,7 @@ impl KeypairData {
 ///
 /// An RSA pair may stand under a name with a hash, which is not kept. Fails with `Label` for a name
 /// of no algorithm, and with the faults of the kind.
-#[tactic(auto, using(sshkey_terms::proofs::Chosen::chosen, crate::specs::KeypairFormats::keypair_chosen))]
+#[tactic(auto, using(crate::proofs::Lawful::keypair_lawful, sshkey_terms::proofs::Chosen::chosen, crate::proofs::KeypairReaders::keypair_chosen))]
 impl Decode for KeypairData {
     ghost use Rattle.sshkey_model.specs.KeyPairs.{KeyPair};
     ghost use Rattle.sshkey_pairs.specs.KeypairFormats.{keypair_format};
@@ -202,6 +202,8 @@ impl Decode for KeypairData {
     ghost means = { pair_of };
 
     ghost format = { keypair_format };
+
+    fn lawful() {}
 
     fn decode<R: Reader>(alloc: Global, reader: &mut R) -> Result<KeypairData> {
         let Wide(algorithm) = Wide::<Algorithm>::decode(alloc, reader)?;
@@ -312,12 +314,13 @@ impl Encode for KeypairData {
 
 /// A pair is well-formed where its format has it. An encrypted one never is: it is not spelled by
 /// itself.
+#[tactic(auto, using(crate::proofs::NormalPairs::keypair_normal))]
 impl NormalForm for KeypairData {
-    ghost use Rattle.sshkey_pairs.specs.NormalPairs.{IsWellFormedPair, keypair_normal};
+    ghost use Rattle.sshkey_pairs.specs.NormalPairs.{IsWellFormedPair};
 
     ghost IsWellFormed = { λ k. IsWellFormedPair (pair_of k) };
 
-    ghost normal_spells = { keypair_normal };
+    fn normal_spells() {}
 }
 
 /// The xor of the whole words of four bytes, most significant byte first.

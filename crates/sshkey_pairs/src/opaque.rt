@@ -55,7 +55,7 @@ impl AsSlice<u8> for OpaquePrivateKeyBytes {
 
 /// A string of any bytes. Fails with `Length` if it passes what is left, which no memory is asked
 /// for.
-#[tactic(auto, using(sshkey_base::proofs::Steps::steps))]
+#[tactic(auto, using(sshkey_base::proofs::Lawful::string_lawful, sshkey_base::proofs::Steps::steps))]
 impl Decode for OpaquePrivateKeyBytes {
     ghost use Rattle.sshkey_base.specs.Causes.{encoding_cause};
     ghost use Rattle.sshkey_base.specs.Formats.{Stops, string_format};
@@ -70,6 +70,8 @@ impl Decode for OpaquePrivateKeyBytes {
     ghost means = { opaque_private_of };
 
     ghost format = { string_format };
+
+    fn lawful() {}
 
     fn decode<R: Reader>(alloc: Global, reader: &mut R) -> encoding::Result<OpaquePrivateKeyBytes>
         ensures gives { Decodes opaque_private_of string_at
@@ -122,7 +124,7 @@ impl OpaqueKeypairBytes {
 
 /// A string of the public bytes, and one of the private bytes. Fails with `Length` if one passes
 /// what is left.
-#[tactic(auto, using(sshkey_terms::proofs::Mapped::mapped, crate::specs::KeypairFormats::nameless_parts_read))]
+#[tactic(auto, using(sshkey_terms::proofs::Mapped::mapped, crate::proofs::KeypairReaders::nameless_parts_read))]
 impl Decode for OpaqueKeypairBytes {
     ghost use Rattle.std.specs.Prelude.{[]};
     ghost use Rattle.sshkey_model.specs.KeyPairs.{KeyPair};
@@ -135,6 +137,8 @@ impl Decode for OpaqueKeypairBytes {
     ghost means = { nameless_pair_of };
 
     ghost format = { opaque_pair_format [] };
+
+    fn lawful() {}
 
     fn decode<R: Reader>(alloc: Global, reader: &mut R) -> encoding::Result<OpaqueKeypairBytes> {
         type Parts = Then<OpaquePublicKeyBytes, OpaquePrivateKeyBytes>;

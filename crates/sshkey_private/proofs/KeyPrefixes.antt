@@ -15,8 +15,8 @@ use Rattle.sshkey_model.proofs.KeyPairReaders.{keypair_reads}
 use Rattle.sshkey_model.proofs.Trees.{prefix_free}
 use Rattle.sshkey_ciphers.proofs.Paddings.{rising_length}
 use Rattle.sshkey_private.specs.PaddedKeys.{PaddedChoices, padded_content, padded_private_key, HasPadding, HasPaddedPlaces}
-use Rattle.sshkey_private.specs.PrivateKeyFormats.{file_grammar}
-use Rattle.sshkey_private.specs.PrivateKeyTrees.{file_tree, private_key_tree, with_least, least_same, least_places, more_places}
+use Rattle.sshkey_private.proofs.Lawful.{file_grammar}
+use Rattle.sshkey_private.proofs.PrivateKeyTrees.{file_tree, private_key_tree, with_least, least_same, least_places, more_places}
 use Rattle.sshkey_private.proofs.KeyForms.{of_formed}
 
 abbrev twice : UnencryptedKey → List ℕ

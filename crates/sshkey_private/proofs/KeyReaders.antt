@@ -10,8 +10,9 @@ use Rattle.sshkey_base.specs.declared.encoding.Error as encoding
 use Rattle.sshkey_base.specs.declared.encoding.Error.TheVariants as encodings
 use Rattle.sshkey_base.specs.Reading.{Gives, Reads, ReadsAll}
 use Rattle.sshkey_model.proofs.Grammars.{whole_spells}
-use Rattle.sshkey_private.specs.PrivateKeyGrammars.{decoder, private_key_format, private_value_at, padded_key_format, padded_value_at}
-use Rattle.sshkey_private.specs.PrivateKeyTrees.{private_key_tree, plain_padding}
+use Rattle.sshkey_private.specs.PrivateKeyGrammars.{private_value_at, padded_value_at}
+use Rattle.sshkey_private.proofs.PrivateKeyGrammars.{decoder, private_key_lawful, padded_key_lawful}
+use Rattle.sshkey_private.proofs.PrivateKeyTrees.{private_key_tree, plain_padding}
 
 -- ---- from the front
 
@@ -23,7 +24,7 @@ formed means cause_of s t (Err e) h = tt
 -- ---- with more padding
 
 pub plain_read : (b : List ℕ) (k : PrivateKey) → whole private_value_at b ≡ Ok k → whole padded_value_at b ≡ Ok k
-plain_read b k e = (whole_spells padded_key_format.grammar b k).1 (plain_padding k b ((whole_spells private_key_format.grammar b k).0 e))
+plain_read b k e = (whole_spells padded_key_lawful.grammar b k).1 (plain_padding k b ((whole_spells private_key_lawful.grammar b k).0 e))
 
 -- ---- after the value
 

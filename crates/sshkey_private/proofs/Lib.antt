@@ -7,4 +7,8 @@ pub mod KeyPrefixes
 pub mod NewKeys
 pub mod WrittenKeys
 pub mod Stopping
+pub mod Padded
 pub mod Lawful
+pub mod PrivateKeyGrammars
+pub mod PrivateKeyTrees
+pub mod PrivateKeyLaws

@@ -7,6 +7,7 @@ use Rattle.sshkey_model.specs.PrivateKeys.{UnencryptedKey}
 use Rattle.sshkey_model.proofs.CombinedReaders.{met, ok_is}
 use Rattle.sshkey_private.specs.Halves.{is_half}
 use Rattle.sshkey_private.specs.Inner.{unencrypted, half_of, part_format}
+use Rattle.sshkey_private.proofs.Lawful.{part_lawful}
 
 abbrev pair_in : Option UnencryptedKey → Option KeyPair
 pair_in = option_map (λ k. k.pair)
@@ -23,7 +24,7 @@ module _ (public : Key) where
 
   pub read_half : (limit : ℕ) (b rest : List ℕ) (checkint : ℕ) (pair : Option KeyPair) (comment : List ℕ) → (part_format limit public).read b ≡ Ok (unencrypted checkint pair comment, rest) → is_half pair public ≡ true
   read_half limit b rest checkint pair comment e =
-      let part = ((part_format limit public).grammar.takes b (unencrypted checkint pair comment) rest e).1.spelled.spelled in
+      let part = ((part_lawful limit public).grammar.takes b (unencrypted checkint pair comment) rest e).1.spelled.spelled in
       let half = part.spelled.second.first in
       let made = ok_is (unencrypted part.inner.0 part.inner.1.0 part.inner.1.1) (unencrypted checkint pair comment) part.makes in
       let same : part.inner.1.0 ≡ pair = sym (pair_in_is part.inner.0 part.inner.1.0 part.inner.1.1) ∙ ap pair_in made ∙ pair_in_is checkint pair comment in

@@ -10,7 +10,7 @@ use Rattle.sshkey_base.specs.Needs.{NeedsString}
 use Rattle.sshkey_base.specs.Source.{Source}
 use Rattle.sshkey_base.specs.Stops.{OverrunsString, RanOut, Stopped, StopsBy}
 use Rattle.sshkey_base.proofs.Stopping.{checked_stopped}
-use Rattle.sshkey_terms.specs.Terms.{IsChosen}
+use Rattle.sshkey_terms.proofs.Lawful.{IsChosen}
 use Rattle.sshkey_ciphers.specs.Ciphertexts.{sealed_format}
 use Rattle.sshkey_private.specs.Inner.{part_format}
 use Rattle.sshkey_private.specs.Openings.{opening_at}

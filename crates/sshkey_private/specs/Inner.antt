@@ -1,12 +1,10 @@
 -- The private part of a key that is not encrypted (PROTOCOL.key): the terms that it is read as.
-use Rattle.std.proofs.Common.{◌≡◌, ℕ, List, Option, option_map, Result, Ok, Err, refl}
-use Rattle.std.specs.Prelude.{◌==◌, if◌then◌else◌}
-use Rattle.sshkey_model.specs.Reading.{Fault, Crypto, PublicKey, ◌>>=◌, Front, behind_at}
+use Rattle.std.specs.Prelude.{ℕ, List, Option, option_map, Result, Ok, Err, ◌==◌, if◌then◌else◌}
+use Rattle.sshkey_model.specs.Reading.{Fault, Crypto, PublicKey, ◌>>=◌, Front}
 use Rattle.sshkey_model.specs.Texts.{text_at}
 use Rattle.sshkey_model.specs.Keys.{Key}
 use Rattle.sshkey_model.specs.KeyPairs.{KeyPair}
 use Rattle.sshkey_model.specs.PrivateKeys.{UnencryptedKey}
-use Rattle.sshkey_model.proofs.CombinedReaders.{bind_assoc}
 use Rattle.sshkey_base.specs.Formats.{Format, number32_format, text_format}
 use Rattle.sshkey_terms.specs.Terms.{◌then◌, boxed, tested, without_memory, read_as}
 use Rattle.sshkey_pairs.specs.Keypairs.{pair_of}
@@ -32,12 +30,8 @@ checkint_term = without_memory (tested one_checkint (number32_format then number
 unfoldable pub checkint_at : Front ℕ
 checkint_at = checkint_term.read
 
-pub checkint_is : (b : List ℕ) → checkint_at b ≡ checkint_term.read b
-unfolding checkint_at
-checkint_is b = refl
-
 abbrev pub checkint_format : Format ℕ
-checkint_format = read_as checkint_term checkint_at checkint_is (λ b. refl)
+checkint_format = read_as checkint_term checkint_at
 
 -- ---- a pair whose public half is that key
 
@@ -50,12 +44,8 @@ pair_term public = tested (half_of public) keypair_format
 unfoldable pub pair_with_at : Key → Front (Option KeyPair)
 pair_with_at public = (pair_term public).read
 
-pub pair_is : (public : Key) (b : List ℕ) → pair_with_at public b ≡ (pair_term public).read b
-unfolding pair_with_at
-pair_is public b = refl
-
 abbrev pub pair_format : Key → Format (Option KeyPair)
-pair_format public = read_as (pair_term public) (pair_with_at public) (pair_is public) (λ b. refl)
+pair_format public = read_as (pair_term public) (pair_with_at public)
 
 -- ---- these and the comment
 
@@ -73,13 +63,9 @@ inner_at public b = do
   comment ← text_at pair.1
   Ok (unencrypted checkint.0 pair.0 comment.0, comment.1)
 
-pub inner_is : (public : Key) (b : List ℕ) → inner_at public b ≡ (inner_term public).read b
-unfolding inner_at behind_at
-inner_is public b = simp bind_assoc
-
 abbrev pub inner_format : Key → Format (Option UnencryptedKey)
-inner_format public = read_as (inner_term public) (inner_at public) (inner_is public) (λ b. refl)
+inner_format public = read_as (inner_term public) (inner_at public)
 
 -- in its string, with fewer bytes of padding than the limit
 abbrev pub part_format : ℕ → Key → Format (Option UnencryptedKey)
-part_format limit public = boxed (padded_format limit (inner_format public) (λ b. refl))
+part_format limit public = boxed (padded_format limit (inner_format public))

@@ -5,7 +5,6 @@ pub mod Openings
 pub mod PrivateKeyFormats
 pub mod PrivateKeyGrammars
 pub mod PaddedKeys
-pub mod PrivateKeyTrees
 pub mod Forms
 pub mod PrivateKeys
 pub mod Written

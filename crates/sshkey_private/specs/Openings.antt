@@ -1,13 +1,12 @@
 -- What stands before the private part of a key (PROTOCOL.key): the terms that it is read as, and what
 -- the opening means that was read.
-use Rattle.std.proofs.Common.{ℕ, List, Result, Ok, Err, refl}
-use Rattle.std.specs.Prelude.{◌==◌, if◌then◌else◌}
+use Rattle.std.specs.Prelude.{ℕ, List, Result, Ok, Err, ◌==◌, if◌then◌else◌}
 use Rattle.sshkey_model.specs.Reading.{Fault, Length, Front}
 use Rattle.sshkey_model.specs.Keys.{Key}
 use Rattle.sshkey_model.specs.KeyDerivation.{Cipher, Kdf}
 use Rattle.sshkey_model.specs.PrivateKeys.{private_key_magic}
 use Rattle.sshkey_base.specs.Formats.{Format, number32_format}
-use Rattle.sshkey_terms.specs.Terms.{◌then◌, boxed, literal_format, tested, IsMapped, read_as}
+use Rattle.sshkey_terms.specs.Terms.{◌then◌, boxed, literal_format, tested, read_as}
 use Rattle.sshkey_keys.specs.KeyFormats.{key_format}
 use Rattle.sshkey_keys.specs.Keys.{key_of}
 use Rattle.sshkey_ciphers.specs.Ciphers.{cipher_of, kdf_of}
@@ -62,9 +61,5 @@ opening_of_parts a = Ok (opening_with a)
 unfoldable pub opening_at : Front Opening
 opening_at = (tested opening_of_parts opening_parts).read
 
-pub opening_parts_read : IsMapped opening_at opening_of_parts opening_parts.read
-unfolding opening_at
-opening_parts_read = record { same = λ b. refl }
-
 abbrev pub opening_format : Format Opening
-opening_format = read_as (tested opening_of_parts opening_parts) opening_at (λ b. opening_parts_read.same b) (λ b. refl)
+opening_format = read_as (tested opening_of_parts opening_parts) opening_at

@@ -1,17 +1,14 @@
 -- A private key file (PROTOCOL.key): the terms that it is read as, with a limit on the padding, and
--- where it needs memory or has lengths. The lemmas are proved, and need not be believed.
-use Rattle.std.proofs.Common.{◌≡◌, inl, ℕ, List, length, Option, Some, None, Result, Ok, Err, refl, sym, ap, ◌∙◌}
-use Rattle.std.specs.Prelude.{if◌then◌else◌}
+-- where it needs memory or has lengths.
+use Rattle.std.specs.Prelude.{ℕ, List, length, Option, Some, None, Result, Ok, Err, if◌then◌else◌}
 use Rattle.sshkey_model.specs.Reading.{Fault, Crypto, PublicKey, TrailingKeyData, ◌>>=◌, Front}
-use Rattle.sshkey_model.specs.Grammar.{IsGrammar, AllEnd}
 use Rattle.sshkey_model.specs.Keys.{Key}
 use Rattle.sshkey_model.specs.KeyDerivation.{Cipher, NoCipher, Kdf, NoKdf, Bcrypt}
 use Rattle.sshkey_model.specs.PrivateKeys.{UnencryptedKey, PrivateKey, Unencrypted, Encrypted, may_precede}
 use Rattle.sshkey_base.specs.Formats.{Format}
-use Rattle.sshkey_model.proofs.Grammars.{all_end, by_itself}
 use Rattle.sshkey_base.specs.Needs.{NoNeed, NeedsString}
-use Rattle.sshkey_base.specs.Stops.{AreLengths, NoOverrun, OverrunsString}
-use Rattle.sshkey_terms.specs.Terms.{IsMapped, called, called_chosen, called_ends, tested, read_as}
+use Rattle.sshkey_base.specs.Stops.{NoOverrun, OverrunsString}
+use Rattle.sshkey_terms.specs.Terms.{called, tested, read_as}
 use Rattle.sshkey_ciphers.specs.Ciphertexts.{sealed_format}
 use Rattle.sshkey_private.specs.Inner.{part_format}
 use Rattle.sshkey_private.specs.Openings.{Opening, opening_at, opening_format}
@@ -26,12 +23,8 @@ key_of_part None = Err PublicKey
 unfoldable pub unencrypted_below : ℕ → Key → Front PrivateKey
 unencrypted_below limit public = (tested key_of_part (part_format limit public)).read
 
-pub unencrypted_read : (limit : ℕ) (public : Key) → IsMapped (unencrypted_below limit public) key_of_part (part_format limit public).read
-unfolding unencrypted_below
-unencrypted_read limit public = record { same = λ b. refl }
-
 abbrev pub unencrypted_format : ℕ → Key → Format PrivateKey
-unencrypted_format limit public = read_as (tested key_of_part (part_format limit public)) (unencrypted_below limit public) (λ b. (unencrypted_read limit public).same b) (λ b. refl)
+unencrypted_format limit public = read_as (tested key_of_part (part_format limit public)) (unencrypted_below limit public)
 
 -- ---- encrypted
 
@@ -43,18 +36,14 @@ encrypted_format c k public = tested (λ a. Ok (sealed_with c k public a.0 a.1))
 
 -- ---- the private part
 
-pub refused_grammar : {A : Type 0} (fault : Fault) → IsGrammar (λ (x : A) (b : List ℕ). ⊥) (λ b. Err fault)
-refused_grammar fault = record { takes = λ b x rest e. absurd (cc e); again = λ x front rest s. absurd s }
-
 -- nothing is read, and this fault is met
 abbrev pub refused_format : {A : Type 0} → Fault → Format A
 refused_format fault = record {
   Spells = λ x b. ⊥;
   read = λ b. Err fault;
+  delimited_at = λ b. Err fault;
   needs = NoNeed;
   overruns = NoOverrun;
-  grammar = by_itself (refused_grammar fault);
-  lengths = λ b m o. absurd o;
 }
 
 -- A key derivation without a cipher is refused.
@@ -62,11 +51,6 @@ abbrev pub content_term : ℕ → Cipher → Kdf → Key → Format PrivateKey
 content_term limit NoCipher NoKdf public = unencrypted_format limit public
 content_term limit NoCipher (Bcrypt o) public = refused_format Crypto
 content_term limit c k public = encrypted_format c k public
-
-pub content_ends : (limit : ℕ) (c : Cipher) (k : Kdf) (public : Key) → AllEnd (content_term limit c k public).grammar
-content_ends limit NoCipher NoKdf public b = refl
-content_ends limit NoCipher (Bcrypt o) public b = refl
-content_ends limit c k public b = refl
 
 -- what the part of a key that is not encrypted needs, or a ciphertext of one byte or more
 abbrev pub NeedsContent : Cipher → Kdf → Key → List ℕ → ℕ → Type 0
@@ -80,20 +64,14 @@ OverrunsContent NoCipher NoKdf public = (part_format 8 public).overruns
 OverrunsContent NoCipher (Bcrypt o) public = NoOverrun
 OverrunsContent c k public = OverrunsString
 
-pub content_lengths : (limit : ℕ) (c : Cipher) (k : Kdf) (public : Key) → AreLengths (content_term limit c k public).read (OverrunsContent c k public)
-content_lengths limit NoCipher NoKdf public b m o = (unencrypted_format limit public).lengths b m o
-content_lengths limit NoCipher (Bcrypt p) public b m o = absurd o
-content_lengths limit c k public b m o = (encrypted_format c k public).lengths b m (inl o)
-
 -- What it needs, and where its lengths pass, does not depend on the limit.
 abbrev pub content_format : ℕ → Opening → Format PrivateKey
 content_format limit h = record {
   Spells = (content_term limit h.cipher h.kdf h.public).Spells;
   read = (content_term limit h.cipher h.kdf h.public).read;
+  delimited_at = (content_term limit h.cipher h.kdf h.public).delimited_at;
   needs = NeedsContent h.cipher h.kdf h.public;
   overruns = OverrunsContent h.cipher h.kdf h.public;
-  grammar = (content_term limit h.cipher h.kdf h.public).grammar;
-  lengths = content_lengths limit h.cipher h.kdf h.public;
 }
 
 -- ---- the whole file
@@ -101,9 +79,6 @@ content_format limit h = record {
 -- the opening, and the private part that it calls for
 abbrev pub file_format : ℕ → Format PrivateKey
 file_format limit = called opening_format (content_format limit)
-
-pub file_grammar : (limit : ℕ) → IsGrammar (file_format limit).Spells (file_format limit).read
-file_grammar limit = all_end (file_format limit).grammar (called_ends opening_format (content_format limit) (λ b. refl) (λ h. content_ends limit h.cipher h.kdf h.public))
 
 -- what stands before the private part, or that part
 abbrev pub NeedsPrivateKey : List ℕ → ℕ → Type 0
@@ -133,37 +108,3 @@ unfoldable pub steps_at : ℕ → Front PrivateKey
 steps_at limit b = do
   h ← opening_at b
   last_content_at limit h.0.cipher h.0.kdf h.0.public h.1
-
-unencrypted_last : (limit : ℕ) (public : Key) (b : List ℕ) → unencrypted_below limit public b ≡ (unencrypted_below limit public b >>= last_of)
-unfolding unencrypted_below
-unencrypted_last limit public b = go ((part_format limit public).read b)
-  where
-    one : (k : Option UnencryptedKey) (rest : List ℕ) → (key_of_part k >>= λ x. Ok (x, rest)) ≡ ((key_of_part k >>= λ x. Ok (x, rest)) >>= last_of)
-    one (Some k) rest = refl
-    one None rest = refl
-
-    go : (r : Result (Option UnencryptedKey × List ℕ) Fault) → (r >>= λ x. key_of_part x.0 >>= λ y. Ok (y, x.1)) ≡ ((r >>= λ x. key_of_part x.0 >>= λ y. Ok (y, x.1)) >>= last_of)
-    go (Ok x) = one x.0 x.1
-    go (Err e) = refl
-
-encrypted_last : (c : Cipher) (k : Kdf) (public : Key) (b : List ℕ) → last_encrypted_at c k public b ≡ ((encrypted_format c k public).read b >>= last_of)
-unfolding last_encrypted_at
-encrypted_last c k public b = go ((sealed_format c).read b)
-  where
-    go : (r : Result ((List ℕ × List ℕ) × List ℕ) Fault) → (r >>= λ x. last_of (sealed_with c k public x.0.0 x.0.1, x.1)) ≡ ((r >>= λ x. Ok (sealed_with c k public x.0.0 x.0.1, x.1)) >>= last_of)
-    go (Ok x) = refl
-    go (Err e) = refl
-
-content_last : (limit : ℕ) (c : Cipher) (k : Kdf) (public : Key) (b : List ℕ) → last_content_at limit c k public b ≡ ((content_term limit c k public).read b >>= last_of)
-content_last limit NoCipher NoKdf public b = unencrypted_last limit public b
-content_last limit NoCipher (Bcrypt o) public b = refl
-content_last limit c k public b = encrypted_last c k public b
-
--- They give what the term gives, and refuse what follows an encrypted key.
-pub steps_are : (limit : ℕ) (b : List ℕ) → steps_at limit b ≡ ((file_format limit).read b >>= last_of)
-unfolding steps_at
-steps_are limit b = go (opening_at b) ∙ ap (λ (r : Result (PrivateKey × List ℕ) Fault). r >>= last_of) (sym ((called_chosen opening_at (λ h. (content_format limit h).read)).same b))
-  where
-    go : (r : Result (Opening × List ℕ) Fault) → (r >>= λ h. last_content_at limit h.0.cipher h.0.kdf h.0.public h.1) ≡ ((r >>= λ h. (content_format limit h.0).read h.1) >>= last_of)
-    go (Ok h) = content_last limit h.0.cipher h.0.kdf h.0.public h.1
-    go (Err e) = refl

@@ -44,26 +44,26 @@ pub fn spelled_padded_private_key()
 {}
 
 /// The term of a private key is read exactly where it is spelled, whatever follows.
-#[tactic(auto, using(crate::specs::PrivateKeyFormats::file_grammar))]
+#[tactic(auto, using(crate::proofs::Lawful::file_grammar))]
 pub fn exact_private_key()
     ensures { IsGrammar SpellsPrivateKey (file_format 8).read }
 {}
 
 /// A private key is decoded exactly where it may stand before what follows: an encrypted one must
 /// be the last.
-#[tactic(auto, using(crate::specs::PrivateKeyGrammars::decoder))]
+#[tactic(auto, using(crate::proofs::PrivateKeyGrammars::decoder))]
 pub fn decode_private_key()
     ensures { IsDecoder SpellsPrivateKey private_value_at }
 {}
 
 /// Two private keys have equal normal forms exactly if they are equal, checkint and tag included.
-#[tactic(auto, using(crate::proofs::Lawful::laws))]
+#[tactic(auto, using(crate::proofs::PrivateKeyLaws::laws))]
 pub fn normal_private_keys()
     ensures { DetermineValues IsPrivateKey normal_private_key }
 {}
 
 /// The normal form of a private key is read as that key.
-#[tactic(auto, using(crate::proofs::Lawful::laws))]
+#[tactic(auto, using(crate::proofs::PrivateKeyLaws::laws))]
 pub fn read_back_private_key()
     ensures { ReadBack IsPrivateKey normal_private_key private_value_at }
 {}
@@ -82,7 +82,7 @@ pub fn prefix_padded_private_key()
 
 /// What spells a private key spells the same one if more padding is allowed; so whatever
 /// `PrivateKey::from_bytes` reads, `PrivateKey::from_padded_bytes` reads as the same key.
-#[tactic(auto, using(crate::specs::PrivateKeyTrees::plain_padding, crate::proofs::KeyReaders::plain_read))]
+#[tactic(auto, using(crate::proofs::PrivateKeyTrees::plain_padding, crate::proofs::KeyReaders::plain_read))]
 pub fn plain_padded_private_key()
     ensures spelled { (k : ThePrivateKey) → (b : List ℕ) → SpellsPrivateKey k b
         → SpellsPaddedKey k b }

@@ -46,7 +46,7 @@ type Keys = Then<One, Boxed<KeyData>>;
 ///
 /// Fails with `FormatEncoding` for other bytes than the magic ones, with `Label` for names of none,
 /// the errors of `Kdf`, with `Length` for another number of keys, and the errors of `KeyData`.
-#[tactic(auto, using(sshkey_terms::proofs::Mapped::mapped, crate::specs::Openings::opening_parts_read))]
+#[tactic(auto, using(sshkey_terms::proofs::Mapped::mapped, crate::proofs::Lawful::opening_parts_read))]
 pub(crate) fn opening_from<R: Reader>(alloc: Global, reader: &mut R) -> Result<Opening>
     ensures gives { Gives opening_of cause opening_at
         (R.source reader.old) result (R.source reader.new) }
@@ -66,7 +66,7 @@ pub(crate) fn opening_from<R: Reader>(alloc: Global, reader: &mut R) -> Result<O
 }
 
 /// The magic bytes. Fails with `FormatEncoding` for others.
-#[tactic(auto, using(sshkey_base::proofs::Steps::steps, sshkey_base::proofs::Stopping::stopping), unfolding(sshkey_model::specs::Reading::literal_at))]
+#[tactic(auto, using(crate::proofs::Lawful::magic_lawful, sshkey_base::proofs::Steps::steps, sshkey_base::proofs::Stopping::stopping), unfolding(sshkey_model::specs::Reading::literal_at))]
 impl Decode for Magic {
     type Error = Error;
 
@@ -75,6 +75,8 @@ impl Decode for Magic {
     ghost means = { magic_of };
 
     ghost format = { magic_format };
+
+    fn lawful() {}
 
     fn decode<R: Reader>(_alloc: Global, reader: &mut R) -> Result<Magic> {
         let bytes = array_from::<15, R>(reader)?;
@@ -93,7 +95,7 @@ fn check_magic(bytes: [u8; 15]) -> Result<Magic>
 }
 
 /// The number of keys, which is 1. Fails with `Length` for another.
-#[tactic(auto, using(sshkey_base::proofs::Steps::steps, sshkey_base::proofs::Stopping::stopping, sshkey_terms::specs::Terms::checked_read))]
+#[tactic(auto, using(crate::proofs::Lawful::one_lawful, sshkey_base::proofs::Steps::steps, sshkey_base::proofs::Stopping::stopping, sshkey_terms::proofs::Lawful::checked_read))]
 impl Decode for One {
     type Error = Error;
 
@@ -102,6 +104,8 @@ impl Decode for One {
     ghost means = { one_of };
 
     ghost format = { one_format };
+
+    fn lawful() {}
 
     fn decode<R: Reader>(alloc: Global, reader: &mut R) -> Result<One> {
         let number = u32::decode(alloc, reader)?;

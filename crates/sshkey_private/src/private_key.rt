@@ -70,6 +70,9 @@ impl Decode for PrivateKey {
 
     ghost format = { private_key_format };
 
+    #[tactic(auto, using(crate::proofs::PrivateKeyGrammars::private_key_lawful))]
+    fn lawful() {}
+
     /// Reads a private key from the front, and leaves what follows it; nothing may follow an
     /// encrypted one, whose comment is empty.
     ///
@@ -112,12 +115,11 @@ impl Decode for PrivateKey {
 
 impl NormalForm for PrivateKey {
     ghost use Rattle.sshkey_model.specs.PrivateKeys.{IsPrivateKey};
-    ghost use Rattle.sshkey_private.specs.PrivateKeyTrees.{private_normal};
     ghost use Rattle.sshkey_private.specs.PrivateKeys.{private_of};
 
     ghost IsWellFormed = { λ k. IsPrivateKey (private_of k) };
 
-    ghost normal_spells = { λ k. private_normal (private_of k) };
+    fn normal_spells() {}
 }
 
 impl PrivateKey {

@@ -7,3 +7,4 @@ pub mod LentSlices
 pub mod OneLines
 pub mod WrittenLines
 pub mod Verified
+pub mod KeyBlobs

@@ -1,6 +1,5 @@
 pub mod Words
 pub mod Blobs
-pub mod KeyBlobs
 pub mod Lines
 pub mod LineNeeds
 pub mod LineFaults

@@ -2,3 +2,4 @@ pub mod NamedWords
 pub mod LineEnds
 pub mod RevokedLines
 pub mod KeyLines
+pub mod Wholeness

@@ -5,7 +5,7 @@ use Rattle.sshkey_base.specs.Answers.{Judges}
 use Rattle.sshkey_base.specs.Causes.{cause}
 use Rattle.sshkey_base.specs.declared.error.Error.{Error}
 use Rattle.sshkey_base.specs.declared.error.Error.TheVariants.{FormatEncoding, Memory}
-use Rattle.sshkey_cert.specs.Lines.{certificates_stand}
+use Rattle.sshkey_cert.proofs.CertificateReaders.{certificates_stand}
 use Rattle.sshkey_base.specs.Formats.{Format}
 use Rattle.sshkey_entries.specs.Answers.{AsksEntry, ReadsEntry, RefusesFor}
 use Rattle.sshkey_model.proofs.Base64Words.{one_blob, some_word}

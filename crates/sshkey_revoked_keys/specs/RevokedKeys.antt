@@ -1,5 +1,5 @@
 -- What a revocation file says (sshd_config(5), "RevokedKeys"), and what it revokes.
-use Rattle.std.proofs.Common.{Global}
+use Rattle.std.specs.Global.{Global}
 use Rattle.std.specs.Prelude.{◌≡◌, ◌≢◌, ◌||◌, ℕ, List, Bool, true, eqb, bytes_eq, Result, Ok, Err, IsOkAnd, IsErrAnd, Vec}
 use Rattle.std.specs.List.{Any, list_any, starts_with}
 use Rattle.sshkey_base.specs.Causes.{cause, Faulty, NoMemory}
@@ -9,7 +9,6 @@ use Rattle.sshkey_krl.specs.KrlRef.{krl_bytes, krl_of}
 use Rattle.sshkey_krl.specs.Krls.{magic}
 use Rattle.sshkey_krl.specs.Revocation as list
 use Rattle.sshkey_krl.specs.Revocation.{Grant}
-use Rattle.sshkey_krl.specs.Wholeness.{first_of, list_whole}
 use Rattle.sshkey_model.specs.Reading.{Fault}
 use Rattle.sshkey_revoked_keys.specs.RevokedLines.{HasLineFault, NeedsLine, RevokesKey, revoked_lines}
 use Rattle.sshkey_revoked_keys.specs.declared.revoked_keys.RevokedKeys.{RevokedKeys}
@@ -49,11 +48,6 @@ revokes_key (Keys keys) key = has_key keys.items key
 abbrev pub revokes : RevokedKeys → List ℕ → Grant → Bool
 revokes (Krl k) key grant = list.revokes (krl_of k) key grant
 revokes (Keys keys) key grant = has_key keys.items key || has_key keys.items grant.signer
-
--- What revokes a key revokes each certificate of it.
-pub file_whole : (file : RevokedKeys) (key : List ℕ) (asked : Grant) → revokes_key file key ≡ true → revokes file key asked ≡ true
-file_whole (Krl k) key asked e = list_whole (krl_of k) key asked e
-file_whole (Keys keys) key asked e = first_of (has_key keys.items key) (has_key keys.items asked.signer) e
 
 -- ---- answers of the reader
 

@@ -1,13 +1,15 @@
 //! What a revocation file says.
 
-ghost use Rattle.std.specs.Prelude.{◌≡◌, true, false, IsErrAnd};
+ghost use Rattle.std.specs.Prelude.{◌≡◌, ℕ, List, true, false, IsErrAnd};
 ghost use Rattle.std.specs.Str.{is_utf8};
 ghost use Rattle.sshkey_base.specs.declared.encoding.Error.TheVariants.{CharacterEncoding};
 ghost use Rattle.sshkey_base.specs.declared.error.Error.TheVariants.{Encoding};
 ghost use Rattle.sshkey_krl.specs.Krls.{krl_format};
+ghost use Rattle.sshkey_krl.specs.Revocation.{Grant};
 ghost use Rattle.sshkey_model.specs.Reading.{whole};
 ghost use Rattle.sshkey_revoked_keys.specs.RevokedKeys as file;
-ghost use Rattle.sshkey_revoked_keys.specs.RevokedKeys.{AsksText, file_whole, ReadsKrl, ReadsRevokedKeys, begins_krl, has_key};
+ghost use Rattle.sshkey_revoked_keys.specs.declared.revoked_keys.RevokedKeys as declared;
+ghost use Rattle.sshkey_revoked_keys.specs.RevokedKeys.{AsksText, ReadsKrl, ReadsRevokedKeys, begins_krl, has_key};
 
 use crate::line::read_lines;
 use sshkey_base::{Error, Result, encoding};
@@ -77,14 +79,18 @@ fn has_key(keys: &[Vec<u8>], key: &[u8]) -> bool
 
 /// Revokes what the file does. A text revokes its keys, and the certificates whose key or signature
 /// key is among them.
+#[tactic(auto, using(crate::proofs::Wholeness::file_whole))]
 impl Revocations for RevokedKeys<'_> {
     ghost revokes = { λ it key asked. file.revokes it key asked };
 
     ghost revokes_key = { λ it key. file.revokes_key it key };
 
-    ghost whole = { file_whole };
-
     ghost revokes_none = { λ _. false };
+
+    fn whole()
+        ensures { (it : declared.RevokedKeys) (key : List ℕ) (asked : Grant) →
+            file.revokes_key it key ≡ true → file.revokes it key asked ≡ true }
+    {}
 
     fn revokes_none(&self) -> bool {
         false

@@ -1,3 +1,4 @@
 pub mod Measured
 mod SignedParts
 pub mod Lawful
+pub mod SshSignatureTrees

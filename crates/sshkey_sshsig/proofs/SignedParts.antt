@@ -4,7 +4,8 @@ use Rattle.sshkey_model.specs.Parts.{BoxesFit, flat}
 use Rattle.sshkey_model.proofs.Trees.{spelled_alike}
 use Rattle.sshkey_sshsig.specs.Signing.{digest_parts}
 use Rattle.sshkey_sshsig.specs.SshSignatures.{ssh_signature_of}
-use Rattle.sshkey_sshsig.specs.SshSignatureReaders.{SpellsSshSignature, ssh_signature_tree}
+use Rattle.sshkey_sshsig.specs.SshSignatureReaders.{SpellsSshSignature}
+use Rattle.sshkey_sshsig.proofs.SshSignatureTrees.{ssh_signature_tree}
 use Rattle.sshkey_sshsig.specs.declared.sshsig.SshSig.{SshSig}
 
 -- its namespace, its reserved bytes and its hash's name fitted where they were read

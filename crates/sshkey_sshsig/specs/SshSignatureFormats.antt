@@ -1,11 +1,11 @@
 -- The format of SSH signatures (PROTOCOL.sshsig): the term that they are read as.
 use Rattle.std.specs.Prelude.{ℕ, List, length, Result, Ok, Err, nat_lt, if◌then◌else◌}
+use Rattle.sshkey_model.specs.Parts.{Any}
 use Rattle.sshkey_model.specs.Reading.{Fault, Version, Namespace}
 use Rattle.sshkey_model.specs.Keys.{Key}
-use Rattle.sshkey_model.specs.Names.{Hash}
+use Rattle.sshkey_model.specs.Names.{Hash, hash_name, hash_from}
 use Rattle.sshkey_model.specs.Signatures.{Signature}
 use Rattle.sshkey_model.specs.SshSignatures.{SshSignature, signature_magic}
-use Rattle.sshkey_model.proofs.NameReaders.{hash_checks}
 use Rattle.sshkey_base.specs.Formats.{Format, number32_format, string_format, text_format, label_format}
 use Rattle.sshkey_base.specs.Needs.{NoNeed}
 use Rattle.sshkey_keys.specs.KeyFormats.{key_format, signature_format}
@@ -29,7 +29,7 @@ abbrev pub namespace_format : Format (List ℕ)
 namespace_format = tested namespace_from text_format
 
 abbrev pub hash_format : Format Hash
-hash_format = label_format NoNeed hash_checks
+hash_format = label_format Any hash_name hash_from NoNeed
 
 abbrev pub SshSignatureOpening : Type 0
 SshSignatureOpening = List ℕ × (ℕ × Key)

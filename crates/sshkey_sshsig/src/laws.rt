@@ -1,6 +1,6 @@
 //! Laws of SSH signatures: each stands for all values, and makes no call.
 
-#![tactic(auto, using(crate::proofs::Lawful::laws))]
+#![tactic(auto, using(crate::proofs::SshSignatureTrees::laws))]
 
 ghost use Rattle.std.specs.Prelude.{◌≡◌, ◌↔◌, ◌++◌, ℕ, List, length};
 ghost use Rattle.sshkey_base.specs.Comparisons.{EqualMeanSame, IsEqualityAmong};

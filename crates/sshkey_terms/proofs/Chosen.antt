@@ -9,7 +9,7 @@ use Rattle.sshkey_base.specs.Source.{Source}
 use Rattle.sshkey_base.specs.Stops.{OverrunsThen, AreLengths, Stopped, StopsBy}
 use Rattle.sshkey_base.proofs.Places.{later_none, later_then}
 use Rattle.sshkey_base.proofs.Steps.{refused_first, refused_later, asks_later}
-use Rattle.sshkey_terms.specs.Terms.{IsChosen}
+use Rattle.sshkey_terms.proofs.Lawful.{IsChosen}
 use Rattle.sshkey_terms.proofs.Stopping.{handed_stops, later_past, later_ran, step_stopped}
 
 -- ---- the first value is refused

@@ -4,7 +4,7 @@ use Rattle.std.proofs.Common.{◌≡◌, ◌≢◌, ◌⊎◌, inl, inr, ◌<◌
 use Rattle.std.proofs.lemmas.List.{length-append}
 use Rattle.sshkey_model.specs.Reading.{Fault, Length, never_at}
 use Rattle.sshkey_base.specs.Causes.{Cause, NoMemory, Faulty}
-use Rattle.sshkey_base.specs.Formats.{Format}
+use Rattle.sshkey_base.specs.Formats.{Format, IsFormat}
 use Rattle.sshkey_base.specs.Reading.{IsRefused, Reads}
 use Rattle.sshkey_base.specs.Source.{Later, Source, IsSound, announced_len}
 use Rattle.sshkey_base.specs.Stops.{RanOut, Stopped}
@@ -26,9 +26,9 @@ end_stopped c needs overruns s past = record { takes = λ ok. absurd cc; past = 
 
 module _ {A : Type 0} (f : Format A) where
   -- a value that has bytes leaves less
-  pub leaves_less : HasBytes f → (b : List ℕ) (x : A) (rest : List ℕ) → f.read b ≡ Ok (x, rest) → length rest < length b
-  leaves_less shows b x rest e =
-      let t = f.grammar.takes b x rest e in
+  pub leaves_less : IsFormat f → HasBytes f → (b : List ℕ) (x : A) (rest : List ℕ) → f.read b ≡ Ok (x, rest) → length rest < length b
+  leaves_less laws shows b x rest e =
+      let t = laws.grammar.takes b x rest e in
       omega (arith, shows x t.0 t.1, ap length t.2, length-append t.0 rest)
 
   module _ (s t : Source) (begun : Begun f.read s t) (later : Later s t) (some : announced_len t ≢ 0) where
@@ -39,8 +39,8 @@ module _ {A : Type 0} (f : Format A) where
     pub each_asks : (c : Cause) → (c ≡ NoMemory → IsSound t → f.needs t.left t.missing) → c ≡ NoMemory → IsSound s → NeedsEach f s.left s.missing
     each_asks c asks memory sound = (some_first, first_asks f.read s t begun f.needs c later.missing asks memory sound)
 
-    pub each_stopped : (c : Cause) (before : Option A) → StillOverruns (λ _. f.grammar.delimited_at) f.overruns s before t → Stopped c f.grammar.delimited_at f.needs f.overruns t → OverrunsEach f s.left s.missing → (c ≡ Faulty Length) ⊎ RanOut c (NeedsEach f) s
-    each_stopped c before still h o = elim (first_stopped f.read s t begun f.needs f.grammar.delimited_at f.overruns c before still h o) [
+    pub each_stopped : (c : Cause) (before : Option A) → StillOverruns (λ _. f.delimited_at) f.overruns s before t → Stopped c f.delimited_at f.needs f.overruns t → OverrunsEach f s.left s.missing → (c ≡ Faulty Length) ⊎ RanOut c (NeedsEach f) s
+    each_stopped c before still h o = elim (first_stopped f.read s t begun f.needs f.delimited_at f.overruns c before still h o) [
       | inl is ↦ inl is
       | inr m ↦ inr (record { memory = m.memory; needed = (some_first, m.needed) })
     ]

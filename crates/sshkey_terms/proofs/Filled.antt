@@ -4,31 +4,32 @@ use Rattle.std.proofs.lemmas.Bool.{cases_lt, le-ltb, lt-ltb}
 use Rattle.std.proofs.lemmas.Result.{err_from_is_err_and}
 use Rattle.sshkey_model.specs.Reading.{Fault, Length}
 use Rattle.sshkey_base.specs.Causes.{Cause, Faulty}
-use Rattle.sshkey_base.specs.Formats.{Format}
+use Rattle.sshkey_base.specs.Formats.{Format, IsFormat}
 use Rattle.sshkey_base.specs.Reading.{Reads, IsRefused}
 use Rattle.sshkey_base.specs.Source.{Source, announced_len}
 use Rattle.sshkey_base.specs.Stops.{RanOut, Stopped}
 use Rattle.sshkey_base.proofs.Stopping.{not_taken, step_ok}
-use Rattle.sshkey_terms.specs.Counted.{NeedsCounted, NeedsValues, OverrunsCounted, OverrunsValues, filled, times_at, values_at, values_lengths, values_same}
+use Rattle.sshkey_terms.specs.Counted.{NeedsCounted, NeedsValues, OverrunsCounted, OverrunsValues, filled, times_at, values_at}
+use Rattle.sshkey_terms.proofs.CountedLists.{values_lengths, values_same}
 
-module _ {A : Type 0} (f : Format A) (n : ℕ) (s : Source) where
+module _ {A : Type 0} (f : Format A) (laws : IsFormat f) (n : ℕ) (s : Source) where
   -- ---- too few bytes
 
   length_refused : (c : Cause) → values_at f.read n s.left ≡ Err Length → c ≡ Faulty Length → IsRefused s.missing c (values_at f.read n s.left)
   length_refused c e is = record { fault = λ other sound. rw e is }
 
-  length_stopped : (c : Cause) → values_at f.read n s.left ≡ Err Length → c ≡ Faulty Length → Stopped c (values_at f.grammar.delimited_at n) (NeedsCounted f n) (OverrunsCounted f n) s
-  length_stopped c e is = record { takes = λ ok. not_taken (values_at f.read n s.left) Length e (also_read (values_at f.grammar.delimited_at n s.left) refl ok); past = λ o. inl is }
+  length_stopped : (c : Cause) → values_at f.read n s.left ≡ Err Length → c ≡ Faulty Length → Stopped c (values_at f.delimited_at n) (NeedsCounted f n) (OverrunsCounted f n) s
+  length_stopped c e is = record { takes = λ ok. not_taken (values_at f.read n s.left) Length e (also_read (values_at f.delimited_at n s.left) refl ok); past = λ o. inl is }
     where
-      also_read : (r : Result (List A × List ℕ) Fault) → values_at f.grammar.delimited_at n s.left ≡ r → IsOk r → IsOk (values_at f.read n s.left)
-      also_read (Ok x) is ok = rw (values_same f.grammar n s.left x is) refl
+      also_read : (r : Result (List A × List ℕ) Fault) → values_at f.delimited_at n s.left ≡ r → IsOk r → IsOk (values_at f.read n s.left)
+      also_read (Ok x) is ok = rw (values_same laws.grammar n s.left x is) refl
       also_read (Err fault) is ok = absurd cc
 
   pub few_refused : (c : Cause) → announced_len s < n → c ≡ Faulty Length → IsRefused s.missing c (values_at f.read n s.left)
-  few_refused c lt is = length_refused c (values_lengths f n s.left s.missing (inl lt)) is
+  few_refused c lt is = length_refused c (values_lengths f laws n s.left s.missing (inl lt)) is
 
-  pub few_stopped : (c : Cause) → announced_len s < n → c ≡ Faulty Length → Stopped c (values_at f.grammar.delimited_at n) (NeedsCounted f n) (OverrunsCounted f n) s
-  few_stopped c lt is = length_stopped c (values_lengths f n s.left s.missing (inl lt)) is
+  pub few_stopped : (c : Cause) → announced_len s < n → c ≡ Faulty Length → Stopped c (values_at f.delimited_at n) (NeedsCounted f n) (OverrunsCounted f n) s
+  few_stopped c lt is = length_stopped c (values_lengths f laws n s.left s.missing (inl lt)) is
 
   -- ---- a value is refused
 
@@ -40,13 +41,13 @@ module _ {A : Type 0} (f : Format A) (n : ℕ) (s : Source) where
         rw (le-ltb (length s.left) n (omega (arith, le, sound)), x.1) x.2;
   }
 
-  pub inner_stopped : (c : Cause) → n ≤ announced_len s → Stopped c (times_at f.grammar.delimited_at n) (NeedsValues f n) (OverrunsValues f n) s → Stopped c (values_at f.grammar.delimited_at n) (NeedsCounted f n) (OverrunsCounted f n) s
+  pub inner_stopped : (c : Cause) → n ≤ announced_len s → Stopped c (times_at f.delimited_at n) (NeedsValues f n) (OverrunsValues f n) s → Stopped c (values_at f.delimited_at n) (NeedsCounted f n) (OverrunsCounted f n) s
   unfolding values_at
   inner_stopped c le h = record {
     takes = λ ok. elim (cases_lt (length s.left) n) [
-      | inl lt ↦ not_taken (values_at f.grammar.delimited_at n s.left) Length (rw (lt-ltb (length s.left) n lt) refl) ok
+      | inl lt ↦ not_taken (values_at f.delimited_at n s.left) Length (rw (lt-ltb (length s.left) n lt) refl) ok
       | inr ge ↦
-          let inner : IsOk (times_at f.grammar.delimited_at n s.left) = step_ok (times_at f.grammar.delimited_at n s.left) (filled n s.left) (rw (le-ltb (length s.left) n ge) at ok) in
+          let inner : IsOk (times_at f.delimited_at n s.left) = step_ok (times_at f.delimited_at n s.left) (filled n s.left) (rw (le-ltb (length s.left) n ge) at ok) in
           more (h.takes inner)
     ];
     past = go;
@@ -75,7 +76,7 @@ module _ {A : Type 0} (f : Format A) (n : ℕ) (s : Source) where
     pub short_refused : (c : Cause) → length s.left < length t.left + n → c ≡ Faulty Length → IsRefused s.missing c (values_at f.read n s.left)
     short_refused c short is = length_refused c (short_is short) is
 
-    pub short_stopped : (c : Cause) → length s.left < length t.left + n → c ≡ Faulty Length → Stopped c (values_at f.grammar.delimited_at n) (NeedsCounted f n) (OverrunsCounted f n) s
+    pub short_stopped : (c : Cause) → length s.left < length t.left + n → c ≡ Faulty Length → Stopped c (values_at f.delimited_at n) (NeedsCounted f n) (OverrunsCounted f n) s
     short_stopped c short is = length_stopped c (short_is short) is
 
     pub filled_reads : length t.left + n ≤ length s.left → Reads means (values_at f.read n) s v t

@@ -6,7 +6,7 @@ use Rattle.std.proofs.lemmas.Result.{err_from_is_err_and}
 use Rattle.sshkey_model.specs.Reading.{Fault, Length, ◌>>=◌, Front}
 use Rattle.sshkey_model.proofs.CombinedReaders.{ok_is}
 use Rattle.sshkey_base.specs.Causes.{Cause, Faulty, NoMemory}
-use Rattle.sshkey_base.specs.Formats.{Format}
+use Rattle.sshkey_base.specs.Formats.{Format, IsFormat}
 use Rattle.sshkey_base.specs.Reading.{Reads, IsRefused}
 use Rattle.sshkey_base.specs.Source.{Source}
 use Rattle.sshkey_base.specs.Stops.{RanOut, Stopped}
@@ -23,7 +23,7 @@ module _ {A : Type 0} (f : Format A) where
   item = f.read
 
   abbrev delimited_at : Front A
-  delimited_at = f.grammar.delimited_at
+  delimited_at = f.delimited_at
 
   same_step : (r : Result (List A × List ℕ) Fault) → r ≡ (r >>= onto [])
   same_step (Ok xs) = refl
@@ -50,25 +50,25 @@ module _ {A : Type 0} (f : Format A) where
   unfolding times_at
   first_ok k b ok = step_ok (delimited_at b) _ ok
 
-  rest_ok : (k : ℕ) (b rest : List ℕ) (x : A) → item b ≡ Ok (x, rest) → IsOk (times_at delimited_at (suc k) b) → IsOk (times_at delimited_at k rest)
+  rest_ok : IsFormat f → (k : ℕ) (b rest : List ℕ) (x : A) → item b ≡ Ok (x, rest) → IsOk (times_at delimited_at (suc k) b) → IsOk (times_at delimited_at k rest)
   unfolding times_at
-  rest_ok k b rest x e ok = go (delimited_at b) refl ok
+  rest_ok laws k b rest x e ok = go (delimited_at b) refl ok
     where
       go : (r : Result (A × List ℕ) Fault) → delimited_at b ≡ r → IsOk {T = List A × List ℕ} (r >>= λ y. times_at delimited_at k y.1 >>= λ ys. Ok (y.0 ∷ ys.0, ys.1)) → IsOk (times_at delimited_at k rest)
       go (Ok y) is ok =
-          let same : y ≡ (x, rest) = ok_is y (x, rest) (sym (f.grammar.same b y is) ∙ e) in
+          let same : y ≡ (x, rest) = ok_is y (x, rest) (sym (laws.grammar.same b y is) ∙ e) in
           let behind : rest ≡ y.1 = sym (ap (λ (p : A × List ℕ). p.1) same) in
           rw behind (step_ok (times_at delimited_at k y.1) _ ok)
       go (Err fault) is ok = absurd cc
 
   -- what overruns does so after a value that was read
-  rest_over : {X : Type 0} (means : X → A) (k : ℕ) (t u : Source) (x : X) → Reads means item t x u → OverrunsValues f (suc k) t.left t.missing → OverrunsValues f k u.left u.missing
-  rest_over means k t u x r (inl o) = read_past means item f.overruns t u x f.lengths r o
-  rest_over means k t u x r (inr o) = go (delimited_at t.left) refl o
+  rest_over : {X : Type 0} → IsFormat f → (means : X → A) (k : ℕ) (t u : Source) (x : X) → Reads means item t x u → OverrunsValues f (suc k) t.left t.missing → OverrunsValues f k u.left u.missing
+  rest_over laws means k t u x r (inl o) = read_past means item f.overruns t u x laws.lengths r o
+  rest_over laws means k t u x r (inr o) = go (delimited_at t.left) refl o
     where
       go : (y : Result (A × List ℕ) Fault) → delimited_at t.left ≡ y → IsOkAnd y (λ y. OverrunsValues f k y.1 t.missing) → OverrunsValues f k u.left u.missing
       go (Ok y) is o =
-          let same : y ≡ (means x, u.left) = ok_is y (means x, u.left) (sym (f.grammar.same t.left y is) ∙ r.value) in
+          let same : y ≡ (means x, u.left) = ok_is y (means x, u.left) (sym (laws.grammar.same t.left y is) ∙ r.value) in
           rw r.missing (subst (λ (p : A × List ℕ). OverrunsValues f k p.1 t.missing) same o)
       go (Err fault) is o = absurd o
 
@@ -82,8 +82,8 @@ module _ {A : Type 0} (f : Format A) where
     pub overruns : OverrunsValues f n s.left s.missing → OverrunsValues f (n - length done) t.left t.missing
 
   module _ (n : ℕ) (s t : Source) (done : List A) (h : Gathers n s done t) where
-    pub gathers_more : {X : Type 0} (means : X → A) (x : X) (u : Source) → length done < n → Reads means item t x u → Gathers n s (done ++ means x ∷ []) u
-    gathers_more means x u lt r =
+    pub gathers_more : {X : Type 0} → IsFormat f → (means : X → A) (x : X) (u : Source) → length done < n → Reads means item t x u → Gathers n s (done ++ means x ∷ []) u
+    gathers_more laws means x u lt r =
         let k = n - length (done ++ means x ∷ []) in
         let is : n - length done ≡ suc k = omega (arith, length-append done (means x ∷ [])) in
         let step : (times_at item (n - length done) t.left >>= onto done) ≡ (times_at item k u.left >>= onto (done ++ means x ∷ [])) = rw is (one_more k t.left u.left (means x) done r.value) in
@@ -92,8 +92,8 @@ module _ {A : Type 0} (f : Format A) where
           outer = r.outer ∙ h.outer;
           rest = h.rest ∙ step;
           begun = inr (still_begun item s t h.begun means x u r);
-          delimits = λ ok. rest_ok k t.left u.left (means x) r.value (rw is at h.delimits ok);
-          overruns = λ o. rest_over means k t u x r (rw is at h.overruns o);
+          delimits = λ ok. rest_ok laws k t.left u.left (means x) r.value (rw is at h.delimits ok);
+          overruns = λ o. rest_over laws means k t u x r (rw is at h.overruns o);
         }
 
     pub gathers_end : {V : Type 0} (means : V → List A) (v : V) → means v ≡ done → n ≤ length done → Reads means (times_at item n) s v t

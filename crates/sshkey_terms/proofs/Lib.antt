@@ -1,3 +1,6 @@
+pub mod Lawful
+pub mod CountedLists
+pub mod ListsToEnd
 pub mod Stopping
 pub mod Mapped
 pub mod Tested

@@ -6,7 +6,7 @@ use Rattle.sshkey_base.specs.Causes.{Cause}
 use Rattle.sshkey_base.specs.Source.{Source}
 use Rattle.sshkey_base.specs.Reading.{Reads, IsRefused, Gives}
 use Rattle.sshkey_base.proofs.Steps.{refused_first}
-use Rattle.sshkey_terms.specs.Terms.{IsMapped}
+use Rattle.sshkey_terms.proofs.Lawful.{IsMapped}
 use Rattle.sshkey_terms.proofs.Stopping.{mapped_stopped, mapped_stops}
 
 pub mapped_reads : {X Y Z W : Type 0} (parts : X → Y) (read : Front Y) (s t : Source) (x : X) (form : Y → Result Z Fault) (record_at : Front Z) (means : W → Z) (w : W) → Reads parts read s x t → IsMapped record_at form read → form (parts x) ≡ Ok (means w) → Reads means record_at s w t

@@ -6,7 +6,7 @@ use Rattle.sshkey_base.specs.Causes.{Cause, NoMemory}
 use Rattle.sshkey_base.specs.Needs.{NoNeed, NeedsThen}
 use Rattle.sshkey_base.specs.Source.{Source, IsSound}
 use Rattle.sshkey_base.specs.Stops.{Stopped, StopsBy}
-use Rattle.sshkey_terms.specs.Terms.{IsMapped}
+use Rattle.sshkey_terms.proofs.Lawful.{IsMapped}
 use Rattle.sshkey_terms.proofs.Stopping.{handed_stops, mapped_stopped}
 
 -- neither of two values does

@@ -6,7 +6,7 @@ use Rattle.sshkey_model.specs.Reading.{Fault, Length, number_at}
 use Rattle.sshkey_model.proofs.CombinedReaders.{ok_is}
 use Rattle.sshkey_base.specs.declared.encoding.Error as encoding
 use Rattle.sshkey_base.specs.Causes.{Cause, Faulty, encoding_cause}
-use Rattle.sshkey_base.specs.Formats.{Format}
+use Rattle.sshkey_base.specs.Formats.{Format, IsFormat}
 use Rattle.sshkey_base.specs.Nested.{PastIs}
 use Rattle.sshkey_base.specs.Reading.{Reads, Refuses}
 use Rattle.sshkey_base.specs.Source.{Source}
@@ -20,11 +20,11 @@ said X why overruns b zero e h = tt
 said X why overruns b (suc m) e h = h
 
 -- and the other way round, where the plain reader refuses
-meant : (X : Type 0) {E Y : Type 0} (why : E → Cause) (f : Format Y) (s : Source) (e : E) → Refuses s.missing (why e) (f.read s.left) → StopsPastAlways {X = X} why f.overruns s.left s.missing (Err e) → f.overruns s.left s.missing → why e ≡ Faulty Length
-meant X why f s e h k o = go s.missing refl k
+meant : (X : Type 0) {E Y : Type 0} (why : E → Cause) (f : Format Y) → IsFormat f → (s : Source) (e : E) → Refuses s.missing (why e) (f.read s.left) → StopsPastAlways {X = X} why f.overruns s.left s.missing (Err e) → f.overruns s.left s.missing → why e ≡ Faulty Length
+meant X why f laws s e h k o = go s.missing refl k
   where
     go : (m : ℕ) → s.missing ≡ m → StopsPastAlways {X = X} why f.overruns s.left m (Err e) → why e ≡ Faulty Length
-    go zero is k = let same = h.same is in let met = h.is in let long = f.lengths s.left s.missing o in cc
+    go zero is k = let same = h.same is in let met = h.is in let long = laws.lengths s.left s.missing o in cc
     go (suc m) is k = k (rw is at o)
 
 -- no length stands in it
@@ -46,20 +46,20 @@ past_string {X} s r h = go s.missing refl r h
         by (Ok n) at o = let same = h n.0 n.1 at o in rw same refl
         by (Err f) at o = absurd o
 
-module _ {A B : Type 0} (first : Format A) (second : Format B) where
+module _ {A B : Type 0} (first : Format A) (second : Format B) (p : IsFormat first) (q : IsFormat second) where
   -- the second is refused
-  pub past_second : {C : Type 0} (X Z : Type 0) {E : Type 0} (means : C → A) (why : E → Cause) (s t : Source) (x : C) (e : E) → Reads means first.read s x t → Refuses t.missing (why e) (second.read t.left) → StopsPastAlways {X = X} why second.overruns t.left t.missing (Err e) → StopsPastAlways {X = Z} why (OverrunsThen first.overruns first.grammar.delimited_at (λ _. second.overruns)) s.left s.missing (Err e)
-  past_second X Z means why s t x e r h k = said Z why (OverrunsThen first.overruns first.grammar.delimited_at (λ _. second.overruns)) s.left s.missing e go
+  pub past_second : {C : Type 0} (X Z : Type 0) {E : Type 0} (means : C → A) (why : E → Cause) (s t : Source) (x : C) (e : E) → Reads means first.read s x t → Refuses t.missing (why e) (second.read t.left) → StopsPastAlways {X = X} why second.overruns t.left t.missing (Err e) → StopsPastAlways {X = Z} why (OverrunsThen first.overruns first.delimited_at (λ _. second.overruns)) s.left s.missing (Err e)
+  past_second X Z means why s t x e r h k = said Z why (OverrunsThen first.overruns first.delimited_at (λ _. second.overruns)) s.left s.missing e go
     where
-      passed : (y : Result (A × List ℕ) Fault) → first.grammar.delimited_at s.left ≡ y → IsOkAnd y (λ y. second.overruns y.1 s.missing) → second.overruns t.left t.missing
+      passed : (y : Result (A × List ℕ) Fault) → first.delimited_at s.left ≡ y → IsOkAnd y (λ y. second.overruns y.1 s.missing) → second.overruns t.left t.missing
       passed (Ok y) is o =
-          let same = first.grammar.same s.left y is in
+          let same = p.grammar.same s.left y is in
           let both : Ok y ≡ Ok (means x, t.left) = sym same ∙ r.value in
           rw r.missing (subst (λ (p : A × List ℕ). second.overruns p.1 s.missing) (ok_is y (means x, t.left) both) o)
       passed (Err f) is o = absurd o
 
-      go : OverrunsThen first.overruns first.grammar.delimited_at (λ _. second.overruns) s.left s.missing → why e ≡ Faulty Length
-      go (inl o) = read_past means first.read first.overruns s t x first.lengths r o
-      go (inr o) = meant X why second t e h k (passed (first.grammar.delimited_at s.left) refl o)
+      go : OverrunsThen first.overruns first.delimited_at (λ _. second.overruns) s.left s.missing → why e ≡ Faulty Length
+      go (inl o) = read_past means first.read first.overruns s t x p.lengths r o
+      go (inr o) = meant X why second q t e h k (passed (first.delimited_at s.left) refl o)
 
 pub ruleset past = (past_none, past_string)

@@ -11,7 +11,7 @@ use Rattle.sshkey_base.specs.Reading.{Reads}
 use Rattle.sshkey_base.specs.Source.{Source}
 use Rattle.sshkey_base.specs.Stops.{OverrunsThen, AreLengths, RanOut, Stopped, StopsBy}
 use Rattle.sshkey_base.proofs.Stopping.{step_ok, checked_stopped, read_past}
-use Rattle.sshkey_terms.specs.Terms.{IsMapped, with_first}
+use Rattle.sshkey_terms.proofs.Lawful.{IsMapped, with_first}
 
 pub some_ok : {A : Type 0} (P : A → Type 0) (r : Result A Fault) → IsOkAnd r P → IsOk r
 some_ok P (Ok x) h = refl

@@ -7,7 +7,7 @@ use Rattle.sshkey_base.specs.Reading.{Reads, IsRefused}
 use Rattle.sshkey_base.specs.Source.{Source}
 use Rattle.sshkey_base.specs.Stops.{AreLengths, Stopped, StopsBy}
 use Rattle.sshkey_base.proofs.Stopping.{not_taken, read_past, judged_stops, same_stops}
-use Rattle.sshkey_terms.specs.Terms.{IsMapped}
+use Rattle.sshkey_terms.proofs.Lawful.{IsMapped}
 
 -- the test refuses
 pub tested_refused : {X Y Z : Type 0} (parts : X → Y) (read : Front Y) (s t : Source) (x : X) (form : Y → Result Z Fault) (record_at : Front Z) (c : Cause) (f : Fault) → Reads parts read s x t → IsMapped record_at form read → form (parts x) ≡ Err f → c ≡ Faulty f → IsRefused s.missing c (record_at s.left)

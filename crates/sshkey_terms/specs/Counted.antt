@@ -1,21 +1,12 @@
 -- A counted list: a number of four bytes, and that many values, one after the other, of at least a
--- byte each. The grammars are proved, and need not be believed.
-use Rattle.std.proofs.Common.{◌≡◌, ◌⊎◌, ◌≤◌, ◌<◌, ◌+◌, inl, inr, ℕ, zero, suc, Bool, true, false, ltb, List, [], ◌∷◌, ◌++◌, length, map, Result, Ok, Err, refl, sym, ap, subst, ◌∙◌, append_assoc, arith}
-use Rattle.std.specs.Prelude.{IsOkAnd, nat_lt, if◌then◌else◌}
-use Rattle.std.proofs.lemmas.Bool.{lt-ltb, le-ltb, ltb-false}
-use Rattle.std.specs.List.{AllByRecursion}
-use Rattle.std.proofs.lemmas.List.{length-append, length-map}
-use Rattle.sshkey_model.specs.Parts.{Parts, ◌&◌, each, flat, Fits}
+-- byte each.
+use Rattle.std.specs.Prelude.{◌≡◌, ◌⊎◌, ◌≤◌, ◌<◌, ◌+◌, ℕ, zero, suc, List, [], ◌∷◌, ◌++◌, length, Result, Ok, Err, IsOkAnd, nat_lt, if◌then◌else◌}
+use Rattle.sshkey_model.specs.Parts.{Parts, ◌&◌, each}
 use Rattle.sshkey_model.specs.Reading.{Fault, Length, ◌>>=◌, Front}
-use Rattle.sshkey_model.proofs.CombinedReaders.{bind_ok, fits_first, fits_second, ok_is, passed}
-use Rattle.sshkey_base.specs.Counts.{count_normal}
+use Rattle.sshkey_model.specs.Grammar.{MayFollow}
 use Rattle.sshkey_base.specs.Formats.{Format, number32_format}
-use Rattle.sshkey_model.specs.Grammar.{AllEnd, Grammar, MayFollow}
-use Rattle.sshkey_model.proofs.Grammars.{ends, taken_before, none_in}
 use Rattle.sshkey_base.specs.Leaves.{count}
 use Rattle.sshkey_base.specs.Needs.{NeedsFirst}
-use Rattle.sshkey_base.specs.Stops.{AreLengths}
-use Rattle.sshkey_base.proofs.Writing.{length_both}
 use Rattle.sshkey_terms.specs.Terms.{called}
 
 -- their number and the values, as they are written
@@ -63,176 +54,21 @@ NeedsCounted item n b m = (n ≤ length b + m) × NeedsValues item n b m
 -- One of that many values overruns, after others that end by themselves.
 abbrev pub OverrunsValues : {A : Type 0} → Format A → ℕ → List ℕ → ℕ → Type 0
 OverrunsValues item zero b m = ⊥
-OverrunsValues item (suc n) b m = item.overruns b m ⊎ IsOkAnd (item.grammar.delimited_at b) (λ x. OverrunsValues item n x.1 m)
+OverrunsValues item (suc n) b m = item.overruns b m ⊎ IsOkAnd (item.delimited_at b) (λ x. OverrunsValues item n x.1 m)
 
 -- More values are wanted than bytes were announced, or one of them overruns.
 abbrev pub OverrunsCounted : {A : Type 0} → Format A → ℕ → List ℕ → ℕ → Type 0
 OverrunsCounted item n b m = (length b + m < n) ⊎ OverrunsValues item n b m
 
-module _ {A : Type 0} (item : Format A) where
-  abbrev before_others : A → List A × List ℕ → Result (List A × List ℕ) Fault
-  before_others x xs = Ok (x ∷ xs.0, xs.1)
-
-  times_lengths : (n : ℕ) (b : List ℕ) (m : ℕ) → OverrunsValues item n b m → times_at item.read n b ≡ Err Length
-  unfolding times_at
-  times_lengths zero b m o = absurd o
-  times_lengths (suc n) b m (inl o) = rw (item.lengths b m o) refl
-  times_lengths (suc n) b m (inr o) = behind (λ rest. times_lengths n rest m) (item.grammar.delimited_at b) refl o
-    where
-      behind : ((rest : List ℕ) → OverrunsValues item n rest m → times_at item.read n rest ≡ Err Length) → (r : Result (A × List ℕ) Fault) → item.grammar.delimited_at b ≡ r → IsOkAnd r (λ x. OverrunsValues item n x.1 m) → (item.read b >>= λ x. times_at item.read n x.1 >>= before_others x.0) ≡ Err Length
-      behind met (Ok x) e o = rw (item.grammar.same b x e, met x.1 o) refl
-      behind met (Err fault) e o = absurd o
-
-  pub values_lengths : (n : ℕ) → AreLengths (values_at item.read n) (OverrunsCounted item n)
-  unfolding values_at
-  values_lengths n b m (inl o) = let lt : length b < n = omega (arith, o) in rw (lt-ltb _ _ lt) refl
-  values_lengths n b m (inr o) = go (ltb (length b) n) (times_at item.read n b) (times_lengths n b m o)
-    where
-      go : (few : Bool) (r : Result (List A × List ℕ) Fault) → r ≡ Err Length → (if few then Err Length else (r >>= filled n b)) ≡ Err Length
-      go true r e = refl
-      go false r e = rw e refl
-
--- ---- what is read is what is spelled
-
-module _ {A : Type 0} {S : A → List ℕ → Type 0} {read : Front A} (g : Grammar S read) where
-  times_same : (n : ℕ) (b : List ℕ) (x : List A × List ℕ) → times_at g.delimited_at n b ≡ Ok x → times_at read n b ≡ Ok x
-  unfolding times_at
-  times_same zero b x e = e
-  times_same (suc n) b x e =
-      let y = bind_ok (g.delimited_at b) _ x e in
-      let ys = bind_ok (times_at g.delimited_at n y.0.1) _ x y.2 in
-      rw (g.same b y.0 y.1, times_same n y.0.1 ys.0 ys.1) ys.2
-
-  times_before : (n : ℕ) (b : List ℕ) (xs : List A) (rest more : List ℕ) → times_at g.delimited_at n b ≡ Ok (xs, rest) → times_at g.delimited_at n (b ++ more) ≡ Ok (xs, rest ++ more)
-  unfolding times_at
-  times_before zero b xs rest more e = subst (λ (p : List A × List ℕ). times_at g.delimited_at 0 (b ++ more) ≡ Ok (p.0, p.1 ++ more)) (ok_is ([], b) (xs, rest) e) refl
-  times_before (suc n) b xs rest more e =
-      let x = bind_ok (g.delimited_at b) _ (xs, rest) e in
-      let y = bind_ok (times_at g.delimited_at n x.0.1) _ (xs, rest) x.2 in
-      subst (λ (p : List A × List ℕ). times_at g.delimited_at (suc n) (b ++ more) ≡ Ok (p.0, p.1 ++ more)) (ok_is (x.0.0 ∷ y.0.0, y.0.1) (xs, rest) y.2)
-      (rw (g.before b x.0.0 x.0.1 more x.1, times_before n x.0.1 y.0.0 y.0.1 more y.1) refl)
-
-  abbrev Times : ℕ → List ℕ → List A → List ℕ → Type 0
-  Times n b xs rest = (front : List ℕ) × (length xs ≡ n) × SpellsEach S g.delimited_at xs front × (b ≡ front ++ rest) × MayFollow (times_at g.delimited_at n) xs front rest
-
-  -- a value, and those after it
-  one_more : (n : ℕ) (x : A) (xs : List A) (front behind rest : List ℕ) → MayFollow g.delimited_at x front (behind ++ rest) → MayFollow (times_at g.delimited_at n) xs behind rest → MayFollow g.delimited_at x front behind × MayFollow (times_at g.delimited_at (suc n)) (x ∷ xs) (front ++ behind) rest
-  unfolding times_at
-  one_more n x xs front behind rest (inl none) k = let both = none_in behind rest none in (inl both.0, inl both.1)
-  one_more n x xs front behind rest (inr h) (inl none) = (inr h, inl none)
-  one_more n x xs front behind rest (inr h) (inr k) = (inr h, inr (rw (g.before front x [] behind h, k) refl))
-
-  times_takes : (n : ℕ) (b : List ℕ) (xs : List A) (rest : List ℕ) → times_at read n b ≡ Ok (xs, rest) → Times n b xs rest
-  unfolding times_at
-  times_takes zero b xs rest e = subst (λ (p : List A × List ℕ). Times 0 b p.0 p.1) (ok_is ([], b) (xs, rest) e) ([], refl, refl, refl, inr refl)
-  times_takes (suc n) b xs rest e =
-      let x = bind_ok (read b) _ (xs, rest) e in
-      let y = bind_ok (times_at read n x.0.1) _ (xs, rest) x.2 in
-      let t = g.takes b x.0.0 x.0.1 x.1 in
-      let u = times_takes n x.0.1 y.0.0 y.0.1 y.1 in
-      let ends : MayFollow g.delimited_at x.0.0 t.0 (u.0 ++ y.0.1) = rw (← u.3) t.3 in
-      let both = one_more n x.0.0 y.0.0 t.0 u.0 y.0.1 ends u.4 in
-      subst (λ (p : List A × List ℕ). Times (suc n) b p.0 p.1) (ok_is (x.0.0 ∷ y.0.0, y.0.1) (xs, rest) y.2)
-      (t.0 ++ u.0, ap (λ (k : ℕ). suc k) u.1, (t.0, u.0, t.1, u.2, refl, both.0), t.2 ∙ ap (λ (l : List ℕ). t.0 ++ l) u.3 ∙ sym (append_assoc t.0 u.0 y.0.1), both.1)
-
-  times_alone : (xs : List A) (front : List ℕ) → SpellsEach S g.delimited_at xs front → times_at read (length xs) front ≡ Ok (xs, [])
-  unfolding times_at
-  times_alone [] front s = rw s refl
-  times_alone (x ∷ xs) front s =
-      rw (s.4, taken_before g x s.0 s.1 s.2 s.5, times_alone xs s.1 s.3) refl
-
-  -- as many as have bytes
-  abbrev Filled : ℕ → Front A → List ℕ → List A → List ℕ → Type 0
-  Filled n item b xs rest = (ltb (length b) n ≡ false) × (times_at item n b ≡ Ok (xs, rest)) × (ltb (length b) (length rest + n) ≡ false)
-
-  were_filled : (n : ℕ) (item : Front A) (b : List ℕ) (xs : List A) (rest : List ℕ) → values_at item n b ≡ Ok (xs, rest) → Filled n item b xs rest
-  unfolding values_at
-  were_filled n item b xs rest e =
-      let k = passed (ltb (length b) n) Length _ (xs, rest) e in
-      let x = bind_ok (times_at item n b) (filled n b) (xs, rest) k.1 in
-      let f = passed (ltb (length b) (length x.0.1 + n)) Length (Ok x.0) (xs, rest) x.2 in
-      subst (λ (p : List A × List ℕ). Filled n item b p.0 p.1) (ok_is x.0 (xs, rest) f.1) (k.0, x.1, f.0)
-
-  are_filled : (n : ℕ) (item : Front A) (b : List ℕ) (xs : List A) (rest : List ℕ) → Filled n item b xs rest → values_at item n b ≡ Ok (xs, rest)
-  unfolding values_at
-  are_filled n item b xs rest f = rw (f.0, f.1, f.2) refl
-
-  pub values_same : (n : ℕ) (b : List ℕ) (x : List A × List ℕ) → values_at g.delimited_at n b ≡ Ok x → values_at read n b ≡ Ok x
-  values_same n b x e =
-      let f = were_filled n g.delimited_at b x.0 x.1 e in
-      are_filled n read b x.0 x.1 (f.0, times_same n b x f.1, f.2)
-
-  pub values_before : (n : ℕ) (b : List ℕ) (xs : List A) (rest more : List ℕ) → values_at g.delimited_at n b ≡ Ok (xs, rest) → values_at g.delimited_at n (b ++ more) ≡ Ok (xs, rest ++ more)
-  values_before n b xs rest more e =
-      let f = were_filled n g.delimited_at b xs rest e in
-      let first : ltb (length (b ++ more)) n ≡ false = le-ltb _ _ (omega (arith, ltb-false _ _ f.0, length-append b more)) in
-      let took : ltb (length (b ++ more)) (length (rest ++ more) + n) ≡ false = le-ltb _ _ (omega (arith, ltb-false _ _ f.2, length-append b more, length-append rest more)) in
-      are_filled n g.delimited_at (b ++ more) xs (rest ++ more) (first, times_before n b xs rest more f.1, took)
-
-  values_end : (n : ℕ) (xs : List A) (front rest : List ℕ) → n ≤ length front → MayFollow (times_at g.delimited_at n) xs front rest → MayFollow (values_at g.delimited_at n) xs front rest
-  values_end n xs front rest enough (inl none) = inl none
-  values_end n xs front rest enough (inr h) = inr (are_filled n g.delimited_at front xs [] (le-ltb _ _ enough, h, le-ltb _ _ (omega (arith, enough))))
-
-  pub values_takes : (n : ℕ) (b : List ℕ) (xs : List A) (rest : List ℕ) → values_at read n b ≡ Ok (xs, rest) → (front : List ℕ) × SpellsValues S g.delimited_at n xs front × (b ≡ front ++ rest) × MayFollow (values_at g.delimited_at n) xs front rest
-  values_takes n b xs rest e =
-      let f = were_filled n read b xs rest e in
-      let t = times_takes n b xs rest f.1 in
-      let enough : n ≤ length t.0 = omega (arith, ltb-false _ _ f.2, ap length t.3, length-append t.0 rest) in
-      (t.0, record { number = t.1; each = t.2; bytes = enough }, t.3, values_end n xs t.0 rest enough t.4)
-
-  pub values_alone : (n : ℕ) (xs : List A) (front : List ℕ) → SpellsValues S g.delimited_at n xs front → values_at read n front ≡ Ok (xs, [])
-  values_alone n xs front s =
-      let is : times_at read n front ≡ Ok (xs, []) = subst (λ (k : ℕ). times_at read k front ≡ Ok (xs, [])) s.number (times_alone xs front s.each) in
-      are_filled n read front xs [] (le-ltb _ _ s.bytes, is, le-ltb _ _ (omega (arith, s.bytes)))
-
-  abbrev pub values_grammar : (n : ℕ) → Grammar (SpellsValues S g.delimited_at n) (values_at read n)
-  values_grammar n = record { delimited_at = values_at g.delimited_at n; same = values_same n; before = values_before n; takes = values_takes n; alone = values_alone n }
-
--- ---- the formats
-
 abbrev pub values_format : {A : Type 0} → Format A → ℕ → Format (List A)
 values_format item n = record {
-  Spells = SpellsValues item.Spells item.grammar.delimited_at n;
+  Spells = SpellsValues item.Spells item.delimited_at n;
   read = values_at item.read n;
+  delimited_at = values_at item.delimited_at n;
   needs = NeedsCounted item n;
   overruns = OverrunsCounted item n;
-  grammar = values_grammar item.grammar n;
-  lengths = values_lengths item n;
 }
 
 -- their number, and that many values
 abbrev pub counted_format : {A : Type 0} → Format A → Format (List A)
 counted_format item = called number32_format (values_format item)
-
--- ---- what is written is a spelling
-
-module _ {X A : Type 0} (means : X → A) (normal : X → Parts) (Is : X → Type 0) (item : Format A) (all : AllEnd item.grammar) (spelled : (x : X) → Is x → Fits (normal x) → item.Spells (means x) (flat (normal x))) where
-  pub each_normal : (xs : List X) → AllByRecursion Is xs → Fits (each normal xs) → SpellsEach item.Spells item.grammar.delimited_at (map means xs) (flat (each normal xs))
-  unfolding flat
-  each_normal [] is fits = refl
-  each_normal (x ∷ xs) is fits =
-      let first = spelled x is.0 (fits_first (normal x) (each normal xs) fits) in
-      (flat (normal x), flat (each normal xs), first, each_normal xs is.1 (fits_second (normal x) (each normal xs) fits), refl, ends item.grammar all (means x) (flat (normal x)) (flat (each normal xs)) first)
-
-  module _ (shows : (x : X) → 0 < length (flat (normal x))) where
-    each_shows : (xs : List X) → length xs ≤ length (flat (each normal xs))
-    each_shows [] = omega arith
-    each_shows (x ∷ xs) = omega (arith, shows x, each_shows xs, length_both (normal x) (each normal xs))
-
-    pub counted_normal : (xs : List X) → AllByRecursion Is xs → Fits (counted normal xs) → (counted_format item).Spells (map means xs) (flat (counted normal xs))
-    unfolding flat
-    counted_normal xs is fits =
-        let len : length (map means xs) ≡ length xs = length-map xs means in
-        let first = count_normal (length xs) tt (fits_first (count (length xs)) (each normal xs) fits) in
-        record {
-          inner = (length xs, map means xs);
-          spelled = record {
-            front = flat (count (length xs));
-            behind = flat (each normal xs);
-            first = first;
-            second = record { number = len; each = each_normal xs is (fits_second (count (length xs)) (each normal xs) fits); bytes = each_shows xs };
-            all = refl;
-            may_follow = inr (number32_format.grammar.alone (length xs) (flat (count (length xs))) first);
-          };
-          makes = refl;
-        }

@@ -1,18 +1,11 @@
--- Values that fill a string, without their number: so nothing may follow them. The grammar is
--- proved, and need not be believed.
-use Rattle.std.proofs.Common.{◌≡◌, ◌≤◌, ◌<◌, ◌+◌, inl, inr, ℕ, zero, suc, Option, None, Some, List, [], ◌∷◌, length, Result, Ok, Err, refl, sym, ap, subst, ◌∙◌, arith}
-use Rattle.std.specs.Prelude.{IsOkAnd}
-use Rattle.std.proofs.lemmas.List.{length-append}
+-- Values that fill a string, without their number: so nothing may follow them.
+use Rattle.std.specs.Prelude.{ℕ, List, length, ◌<◌, ◌+◌}
+use Rattle.sshkey_model.specs.Reading.{Front, list_whole, never_at}
 use Rattle.sshkey_base.specs.Formats.{Format}
-use Rattle.sshkey_model.specs.Grammar.{Grammar}
-use Rattle.sshkey_model.proofs.Grammars.{taken_before, to_the_end}
-use Rattle.sshkey_base.specs.Lengths.{to_end_lengths}
 use Rattle.sshkey_base.specs.Needs.{NeedsFirst}
 use Rattle.sshkey_base.specs.Reading.{to_end}
-use Rattle.sshkey_base.specs.Stops.{AreLengths, OverrunsList, OverrunsWithin}
+use Rattle.sshkey_base.specs.Stops.{OverrunsList}
 use Rattle.sshkey_terms.specs.Counted.{SpellsEach}
-use Rattle.sshkey_model.specs.Reading.{Fault, ◌>>=◌, Front, list_whole, list_within}
-use Rattle.sshkey_model.proofs.CombinedReaders.{bind_ok, ok_is}
 
 -- Each spelling of such a value has a byte.
 abbrev pub HasBytes : {A : Type 0} → Format A → Type 0
@@ -28,77 +21,14 @@ NeedsEach item b m = (0 < length b + m) × NeedsFirst item.needs item.read b m
 
 -- One of them overruns.
 abbrev pub OverrunsEach : {A : Type 0} → Format A → List ℕ → ℕ → Type 0
-OverrunsEach item = OverrunsList (λ _. item.grammar.delimited_at) item.overruns
-
--- ---- what is read is what is spelled
-
-module _ {A : Type 0} {S : A → List ℕ → Type 0} {read : Front A} (g : Grammar S read) (shows : (x : A) (b : List ℕ) → S x b → 0 < length b) where
-  abbrev onto : A → List A → Result (List A) Fault
-  onto x xs = Ok (x ∷ xs)
-
-  each_takes : (n : ℕ) (before : Option A) (b : List ℕ) (xs : List A) → list_within (λ _. read) n before b ≡ Ok xs → SpellsEach S g.delimited_at xs b
-  unfolding list_within
-  each_takes zero before [] xs e = subst (λ (ys : List A). SpellsEach S g.delimited_at ys []) (ok_is [] xs e) refl
-  each_takes (suc n) before [] xs e = subst (λ (ys : List A). SpellsEach S g.delimited_at ys []) (ok_is [] xs e) refl
-  each_takes zero before (c ∷ b) xs e = absurd cc
-  each_takes (suc n) before (c ∷ b) xs e =
-      let x = bind_ok (read (c ∷ b)) _ xs e in
-      let y = bind_ok (list_within (λ _. read) n (Some x.0.0) x.0.1) (onto x.0.0) xs x.2 in
-      let t = g.takes (c ∷ b) x.0.0 x.0.1 x.1 in
-      subst (λ (ys : List A). SpellsEach S g.delimited_at ys (c ∷ b)) (ok_is (x.0.0 ∷ y.0) xs y.2) (t.0, x.0.1, t.1, each_takes n (Some x.0.0) x.0.1 y.0 y.1, t.2, t.3)
-
-  each_again : (n : ℕ) (before : Option A) (xs : List A) (b : List ℕ) → length b ≤ n → SpellsEach S g.delimited_at xs b → list_within (λ _. read) n before b ≡ Ok xs
-  unfolding list_within
-  each_again zero before [] b le s = rw s refl
-  each_again (suc n) before [] b le s = rw s refl
-  each_again zero before (x ∷ xs) b le s =
-      let some = shows x s.0 s.2 in
-      absurd (omega (arith, ap length s.4, length-append s.0 s.1))
-  each_again (suc n) before (x ∷ xs) [] le s =
-      let some = shows x s.0 s.2 in
-      absurd (omega (arith, ap length s.4, length-append s.0 s.1))
-  each_again (suc n) before (x ∷ xs) (c ∷ b) le s =
-      let some = shows x s.0 s.2 in
-      let less : length s.1 ≤ n = omega (arith, le, ap length s.4, length-append s.0 s.1) in
-      let first : read (c ∷ b) ≡ Ok (x, s.1) = ap read s.4 ∙ taken_before g x s.0 s.1 s.2 s.5 in
-      rw (first, each_again n (Some x) xs s.1 less s.3) refl
-
-  pub to_end_takes : (b : List ℕ) (xs : List A) (rest : List ℕ) → to_end (list_whole (λ _. read)) b ≡ Ok (xs, rest) → SpellsEach S g.delimited_at xs b × (rest ≡ [])
-  to_end_takes b xs rest e =
-      let x = bind_ok (list_whole (λ _. read) b) _ (xs, rest) e in
-      let both : (x.0, []) ≡ (xs, rest) = ok_is (x.0, []) (xs, rest) x.2 in
-      let is : x.0 ≡ xs = ap (λ (p : List A × List ℕ). p.0) both in
-      (each_takes (length b) None b xs (rw is at x.1), sym (ap (λ (p : List A × List ℕ). p.1) both))
-
-  pub to_end_alone : (xs : List A) (b : List ℕ) → SpellsEach S g.delimited_at xs b → to_end (list_whole (λ _. read)) b ≡ Ok (xs, [])
-  to_end_alone xs b s = rw (each_again (length b) None xs b (omega arith) s) refl
-
-  abbrev pub to_end_grammar : Grammar (SpellsEach S g.delimited_at) (to_end (list_whole (λ _. read)))
-  to_end_grammar = to_the_end to_end_takes to_end_alone
-
-  -- where a value ends by itself, it is read
-  over_read : (over : List ℕ → ℕ → Type 0) (n : ℕ) (before : Option A) (b : List ℕ) (m : ℕ) → OverrunsWithin (λ _. g.delimited_at) over n before b m → OverrunsWithin (λ _. read) over n before b m
-  over_read over n before [] m o = absurd o
-  over_read over zero before (c ∷ b) m o = absurd o
-  over_read over (suc n) before (c ∷ b) m (inl o) = inl o
-  over_read over (suc n) before (c ∷ b) m (inr o) = inr (go (g.delimited_at (c ∷ b)) refl o (λ x. over_read over n (Some x.0) x.1 m))
-    where
-      go : (r : Result (A × List ℕ) Fault) → g.delimited_at (c ∷ b) ≡ r → IsOkAnd r (λ x. OverrunsWithin (λ _. g.delimited_at) over n (Some x.0) x.1 m) → ((x : A × List ℕ) → OverrunsWithin (λ _. g.delimited_at) over n (Some x.0) x.1 m → OverrunsWithin (λ _. read) over n (Some x.0) x.1 m) → IsOkAnd (read (c ∷ b)) (λ x. OverrunsWithin (λ _. read) over n (Some x.0) x.1 m)
-      go (Ok x) e o behind = rw (g.same (c ∷ b) x e) (behind x o)
-      go (Err f) e o behind = absurd o
-
-  pub each_lengths : (over : List ℕ → ℕ → Type 0) → AreLengths read over → AreLengths (to_end (list_whole (λ _. read))) (OverrunsList (λ _. g.delimited_at) over)
-  each_lengths over lengths b m o = to_end_lengths (λ _. lengths) b m (o.0, over_read over o.0 None b m o.1)
-
--- ---- the format
+OverrunsEach item = OverrunsList (λ _. item.delimited_at) item.overruns
 
 -- values, one after the other, each with a byte
-abbrev pub values_to_end : {A : Type 0} (item : Format A) → HasBytes item → Format (List A)
-values_to_end item shows = record {
-  Spells = SpellsEach item.Spells item.grammar.delimited_at;
+abbrev pub values_to_end : {A : Type 0} → Format A → Format (List A)
+values_to_end item = record {
+  Spells = SpellsEach item.Spells item.delimited_at;
   read = each_at item;
+  delimited_at = never_at;
   needs = NeedsEach item;
   overruns = OverrunsEach item;
-  grammar = to_end_grammar item.grammar shows;
-  lengths = each_lengths item.grammar shows item.overruns item.lengths;
 }

@@ -22,6 +22,10 @@ impl<T: Decode + Drop> Decode for Boxed<T> {
 
     ghost format = { boxed T.format };
 
+    fn lawful() {
+        T::lawful();
+    }
+
     #[inline(always)]
     fn decode<R: Reader>(alloc: Global, reader: &mut R) -> Result<Boxed<T>, T::Error> {
         Ok(Boxed(decode_boxed::<T, R>(alloc, reader)?))

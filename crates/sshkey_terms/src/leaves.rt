@@ -3,7 +3,7 @@
 
 ghost use Rattle.std.specs.Prelude.{◌≡◌, ℕ, List, IfErr};
 ghost use Rattle.sshkey_base.specs.Causes.{encoding_cause};
-ghost use Rattle.sshkey_base.specs.Formats.{array_format, number32_format, number64_format, string_format, text_format};
+ghost use Rattle.sshkey_base.specs.Formats.{IsFormat, array_format, number32_format, number64_format, string_format, text_format};
 ghost use Rattle.sshkey_base.specs.Nested.{nested_source};
 ghost use Rattle.sshkey_base.specs.Reading.{DecodesAlways, GivesAlways};
 ghost use Rattle.sshkey_base.specs.Source.{Later, all_of};
@@ -15,7 +15,7 @@ use sshkey_base::encoding::{Error, Result};
 use sshkey_base::{NestedReader, Reader, array_from, length_from};
 
 /// A number of four bytes, most significant first. Fails with `Length` if fewer are left.
-#[tactic(auto, using(sshkey_base::proofs::Steps::steps, crate::proofs::Past::past), unfolding(sshkey_model::specs::Reading::number_at))]
+#[tactic(auto, using(sshkey_base::proofs::Lawful::number32_lawful, sshkey_base::proofs::Steps::steps, crate::proofs::Past::past), unfolding(sshkey_model::specs::Reading::number_at))]
 impl<R: Reader> ReadFrom<R> for u32 {
     type Error = Error;
 
@@ -25,6 +25,8 @@ impl<R: Reader> ReadFrom<R> for u32 {
 
     ghost format = { number32_format };
 
+    fn lawful() {}
+
     fn read_from(reader: &mut R) -> Result<u32> {
         let bytes = array_from::<4, R>(reader)?;
         Ok(u32::from_be_bytes(bytes))
@@ -32,7 +34,7 @@ impl<R: Reader> ReadFrom<R> for u32 {
 }
 
 /// A number of eight bytes, most significant first. Fails with `Length` if fewer are left.
-#[tactic(auto, using(sshkey_base::proofs::Steps::steps, crate::proofs::Past::past), unfolding(sshkey_model::specs::Reading::number_at))]
+#[tactic(auto, using(sshkey_base::proofs::Lawful::number64_lawful, sshkey_base::proofs::Steps::steps, crate::proofs::Past::past), unfolding(sshkey_model::specs::Reading::number_at))]
 impl<R: Reader> ReadFrom<R> for u64 {
     type Error = Error;
 
@@ -41,6 +43,8 @@ impl<R: Reader> ReadFrom<R> for u64 {
     ghost means = { λ n. n };
 
     ghost format = { number64_format };
+
+    fn lawful() {}
 
     fn read_from(reader: &mut R) -> Result<u64> {
         let bytes = array_from::<8, R>(reader)?;
@@ -60,6 +64,8 @@ impl<const N: usize, R: Reader> ReadFrom<R> for [u8; N] {
 
     ghost format = { array_format N };
 
+    fn lawful() {}
+
     fn read_from(reader: &mut R) -> Result<[u8; N]> {
         reader.read_prefixed(
             |part: &mut NestedReader<'_, R>| -> Result<[u8; N]>
@@ -73,7 +79,7 @@ impl<const N: usize, R: Reader> ReadFrom<R> for [u8; N] {
 }
 
 /// A string of any bytes. Fails with `Length` if the length or its bytes are not all there.
-#[tactic(auto, using(crate::proofs::Walking::walking), unfolding(sshkey_model::specs::Reading::string_at))]
+#[tactic(auto, using(sshkey_base::proofs::Lawful::string_lawful, crate::proofs::Walking::walking), unfolding(sshkey_model::specs::Reading::string_at))]
 impl<'a> ReadFrom<&'a [u8]> for &'a [u8] {
     type Error = Error;
 
@@ -83,6 +89,10 @@ impl<'a> ReadFrom<&'a [u8]> for &'a [u8] {
 
     ghost format = { string_format };
 
+    fn lawful()
+        ensures { IsFormat string_format }
+    {}
+
     fn read_from(reader: &mut &'a [u8]) -> Result<&'a [u8]> {
         let len = length_from(reader)?;
         bytes_from(len, reader)
@@ -91,7 +101,7 @@ impl<'a> ReadFrom<&'a [u8]> for &'a [u8] {
 
 /// A string whose bytes are UTF-8. The faults of a string, and `CharacterEncoding` where they are
 /// not UTF-8.
-#[tactic(auto, using(crate::proofs::Walking::walking), unfolding(sshkey_model::specs::Texts::text_at))]
+#[tactic(auto, using(sshkey_base::proofs::Lawful::text_lawful, crate::proofs::Walking::walking), unfolding(sshkey_model::specs::Texts::text_at))]
 impl<'a> ReadFrom<&'a [u8]> for &'a str {
     type Error = Error;
 
@@ -100,6 +110,10 @@ impl<'a> ReadFrom<&'a [u8]> for &'a str {
     ghost means = { λ t. t.now };
 
     ghost format = { text_format };
+
+    fn lawful()
+        ensures { IsFormat text_format }
+    {}
 
     fn read_from(reader: &mut &'a [u8]) -> Result<&'a str> {
         let string = <&'a [u8]>::read_from(reader)?;

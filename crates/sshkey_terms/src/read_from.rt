@@ -1,6 +1,6 @@
 //! Values that one kind of reader gives, without memory.
 
-ghost use Rattle.sshkey_base.specs.Formats.{Format};
+ghost use Rattle.sshkey_base.specs.Formats.{Format, IsFormat};
 ghost use Rattle.sshkey_base.specs.Reading.{GivesAlways};
 ghost use Rattle.sshkey_base.specs.Source.{Later};
 ghost use Rattle.sshkey_terms.specs.Past.{StopsPastAlways};
@@ -24,6 +24,10 @@ pub trait ReadFrom<R: Reader>: Sized {
 
     /// How it is spelled, and what a reading call makes of bytes.
     ghost format: { Format Meaning };
+
+    /// The format is lawful: its plain reader accepts exactly its spellings. Does nothing.
+    fn lawful()
+        ensures { IsFormat format };
 
     /// Reads a value from the front, and leaves what follows it.
     ///

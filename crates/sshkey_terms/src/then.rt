@@ -16,7 +16,7 @@ use std::alloc::Global;
 #[derive(Drop)]
 pub struct Then<A, B>(pub A, pub B);
 
-#[tactic(auto, using(sshkey_base::proofs::Steps::steps, crate::proofs::Stopping::stopping), unfolding(sshkey_model::specs::Reading::behind_at))]
+#[tactic(auto, using(crate::proofs::Lawful::then_lawful, sshkey_base::proofs::Steps::steps, crate::proofs::Stopping::stopping), unfolding(sshkey_model::specs::Reading::behind_at))]
 impl<A: Decode + Drop, B: Decode<Error = A::Error>> Decode for Then<A, B> {
     type Error = A::Error;
 
@@ -26,15 +26,21 @@ impl<A: Decode + Drop, B: Decode<Error = A::Error>> Decode for Then<A, B> {
 
     ghost format = { A.format then B.format };
 
+    fn lawful() {
+        A::lawful();
+        B::lawful();
+    }
+
     #[inline(always)]
     fn decode<R: Reader>(alloc: Global, reader: &mut R) -> Result<Then<A, B>, A::Error> {
+        A::lawful();
         let first = A::decode(alloc, reader)?;
         let second = B::decode(alloc, reader)?;
         Ok(Then(first, second))
     }
 }
 
-#[tactic(auto, using(sshkey_base::proofs::Steps::steps), unfolding(sshkey_model::specs::Reading::behind_at))]
+#[tactic(auto, using(crate::proofs::Lawful::then_lawful, sshkey_base::proofs::Steps::steps), unfolding(sshkey_model::specs::Reading::behind_at))]
 impl<R: Reader, A: ReadFrom<R> + Drop, B: ReadFrom<R, Error = A::Error>> ReadFrom<R>
     for Then<A, B> {
     type Error = A::Error;
@@ -45,8 +51,15 @@ impl<R: Reader, A: ReadFrom<R> + Drop, B: ReadFrom<R, Error = A::Error>> ReadFro
 
     ghost format = { A.format then B.format };
 
+    fn lawful() {
+        A::lawful();
+        B::lawful();
+    }
+
     #[inline(always)]
     fn read_from(reader: &mut R) -> Result<Then<A, B>, A::Error> {
+        A::lawful();
+        B::lawful();
         let first = A::read_from(reader)?;
         let second = B::read_from(reader)?;
         Ok(Then(first, second))

@@ -20,6 +20,10 @@ impl<T: Decode<Error = encoding::Error>> Decode for Wide<T> {
 
     ghost format = { T.format };
 
+    fn lawful() {
+        T::lawful();
+    }
+
     #[inline(always)]
     fn decode<R: Reader>(alloc: Global, reader: &mut R) -> Result<Wide<T>> {
         Ok(Wide(T::decode(alloc, reader)?))
@@ -34,6 +38,10 @@ impl<R: Reader, T: ReadFrom<R, Error = encoding::Error>> ReadFrom<R> for Wide<T>
     ghost means = { λ x. T.means x.0 };
 
     ghost format = { T.format };
+
+    fn lawful() {
+        T::lawful();
+    }
 
     #[inline(always)]
     fn read_from(reader: &mut R) -> Result<Wide<T>> {

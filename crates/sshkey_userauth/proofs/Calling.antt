@@ -5,7 +5,7 @@ use Rattle.sshkey_base.specs.Causes.{Cause}
 use Rattle.sshkey_base.specs.Reading.{Reads, Refuses, GivesAlways}
 use Rattle.sshkey_base.specs.Source.{Source}
 use Rattle.sshkey_base.proofs.Steps.{refuses_first, refuses_later}
-use Rattle.sshkey_terms.specs.Terms.{called_chosen}
+use Rattle.sshkey_terms.proofs.Lawful.{called_chosen}
 
 module _ {A B : Type 0} (first : Front A) (second : A → Front B) where
   abbrev pub call_at : Front B

@@ -1,30 +1,32 @@
--- The lemmas of the laws, which their functions name together, and what a call that reads all the
--- bytes says of the grammar.
-use Rattle.std.proofs.Common.{◌≡◌, ℕ, List, [], false, IsTrue, Result, Ok, Err, refl, sym, subst, ◌∙◌}
-use Rattle.std.specs.Prelude.{◌↔◌}
-use Rattle.sshkey_model.specs.Reading.{Fault, Front, whole}
-use Rattle.sshkey_model.specs.Grammar.{Grammar, IsGrammar}
-use Rattle.sshkey_model.proofs.Grammars.{one_front, whole_spells}
-use Rattle.sshkey_base.specs.Reading.{NoSpelling}
-use Rattle.sshkey_base.specs.Answers.{AnswersAlways}
-use Rattle.sshkey_base.specs.Causes.{Cause}
-use Rattle.sshkey_terms.specs.Slices.{AcceptsAll}
+-- The formats are lawful.
+use Rattle.std.specs.Prelude.{Ok}
+use Rattle.sshkey_base.specs.Formats.{IsFormat}
+use Rattle.sshkey_base.proofs.Lawful.{string_lawful}
+use Rattle.sshkey_terms.specs.Terms.{literal_format}
+use Rattle.sshkey_terms.proofs.Lawful.{called_lawful, literal_lawful, tested_lawful, then_lawful}
+use Rattle.sshkey_userauth.specs.Requests.{Hostbound, Method, Publickey, has_signature, message_number}
+use Rattle.sshkey_userauth.specs.RequestFormats.{bound_credential, credential_format, method_and_credential, method_format, method_from, opening_format, plain_credential, request_of_parts, signed_format, userauth_format}
 
-pub accepts_all : {X Y E : Type 0} (means : X → Y) (cause : E → Cause) {Spells : Y → List ℕ → Type 0} {read : Front Y} → Grammar Spells read → (b : List ℕ) (r : Result X E) → AnswersAlways means cause (whole read b) r → AcceptsAll means Spells b r
-accepts_all {X} {Y} {E} means cause {Spells} {read} g b r h = go (whole read b) refl r h
-  where
-    go : (found : Result Y Fault) → whole read b ≡ found → (r : Result X E) → AnswersAlways means cause found r → AcceptsAll means Spells b r
-    go (Ok y) e (Ok x) h = (whole_spells g b (means x)).0 (rw h e)
-    go (Ok y) e (Err f) h = absurd h
-    go (Err f) e (Ok x) h = absurd h
-    go (Err f) e (Err x) h = λ y s. let is : Err f ≡ Ok y = sym e ∙ (whole_spells g b y).1 s in absurd (cc is)
+pub number_lawful : IsFormat (literal_format message_number)
+number_lawful = literal_lawful message_number
 
--- the bytes spell another value too exactly if it is the same
-pub spelled_same : {Y : Type 0} {Spells : Y → List ℕ → Type 0} {read : Front Y} → IsGrammar Spells read → (x y : Y) (b : List ℕ) (P : Type 0) → (P ↔ (x ≡ y)) → Spells y b → P ↔ Spells x b
-spelled_same {Y} {Spells} g x y b P same s = (
-  λ p. subst (λ (z : Y). Spells z b) (sym (same.0 p)) s,
-  λ t. same.1 (one_front g x y b b [] [] t s refl).0,
-)
+pub signed_lawful : IsFormat signed_format
+signed_lawful = literal_lawful has_signature
 
-pub spelled_none : {Y : Type 0} (Spells : Y → List ℕ → Type 0) (x : Y) (b : List ℕ) → NoSpelling Spells b → IsTrue false ↔ Spells x b
-spelled_none Spells x b none = (λ f. absurd (cc f), λ s. absurd (none x s))
+pub method_lawful : IsFormat method_format
+method_lawful = tested_lawful method_from string_lawful
+
+credential_lawful : (m : Method) → IsFormat (credential_format m)
+credential_lawful Publickey = tested_lawful (λ x. Ok (plain_credential x)) (then_lawful signed_lawful (then_lawful string_lawful string_lawful))
+credential_lawful Hostbound = tested_lawful (λ x. Ok (bound_credential x)) (then_lawful signed_lawful (then_lawful string_lawful (then_lawful string_lawful string_lawful)))
+
+pub called_method_lawful : IsFormat method_and_credential
+called_method_lawful = called_lawful method_lawful credential_lawful
+
+pub opening_lawful : IsFormat opening_format
+opening_lawful = then_lawful string_lawful (then_lawful number_lawful (then_lawful string_lawful string_lawful))
+
+pub userauth_lawful : IsFormat userauth_format
+userauth_lawful = tested_lawful request_of_parts (then_lawful opening_lawful called_method_lawful)
+
+pub ruleset lawful = (number_lawful, signed_lawful, method_lawful, called_method_lawful, userauth_lawful)

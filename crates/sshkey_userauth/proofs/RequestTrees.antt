@@ -10,9 +10,12 @@ use Rattle.sshkey_model.proofs.LawfulReaders.{ok_is}
 use Rattle.sshkey_model.proofs.Grammars.{all_end, ends}
 use Rattle.sshkey_model.proofs.Trees.{IsTree, Alike, alike, leaf_tree, then_tree, dependent_tree, tested_tree, made_tree}
 use Rattle.sshkey_base.specs.Formats.{string_format}
-use Rattle.sshkey_terms.specs.Terms.{called_ends, literal_format, with_first}
+use Rattle.sshkey_base.proofs.Lawful.{string_lawful}
+use Rattle.sshkey_terms.specs.Terms.{literal_format}
+use Rattle.sshkey_terms.proofs.Lawful.{called_ends, with_first}
 use Rattle.sshkey_userauth.specs.Requests.{UserauthRequest, Method, Publickey, Hostbound, method_name, method_of, message_number, has_signature, keys, userauth_request}
 use Rattle.sshkey_userauth.specs.RequestFormats.{Credential, Opening, method_from, method_format, plain_credential, bound_credential, signed_format, credential_format, method_and_credential, opening_format, request_with, userauth_format}
+use Rattle.sshkey_userauth.proofs.Lawful.{method_lawful, number_lawful, opening_lawful, signed_lawful, userauth_lawful}
 
 -- ---- the method
 
@@ -41,8 +44,8 @@ IsFor m x = method_of x.0.host_key ≡ m
 plain_tree : IsTree (credential_format Publickey).Spells (IsFor Publickey) (λ x. after_method x.0)
 unfolding after_method IsFor
 plain_tree = made_tree
-    (then_tree {First = signed_format.Spells} {delimited_at = signed_format.grammar.delimited_at} (ends signed_format.grammar (λ _. refl)) leaf_tree
-    (then_tree {First = string_format.Spells} {delimited_at = string_format.grammar.delimited_at} (ends string_format.grammar (λ _. refl)) leaf_tree leaf_tree))
+    (then_tree {First = signed_format.Spells} {delimited_at = signed_format.delimited_at} (ends signed_lawful.grammar (λ _. refl)) leaf_tree
+    (then_tree {First = string_format.Spells} {delimited_at = string_format.delimited_at} (ends string_lawful.grammar (λ _. refl)) leaf_tree leaf_tree))
     plain_credential
     (λ x is. (tt, refl, alike _ _ (ap (λ (b : List ℕ). bytes b & string x.0.1.0 & string x.0.1.1) is.0)))
     (λ y is. back y.0.algorithm y.0.public_key y.0.host_key is)
@@ -54,9 +57,9 @@ plain_tree = made_tree
 bound_tree : IsTree (credential_format Hostbound).Spells (IsFor Hostbound) (λ x. after_method x.0)
 unfolding after_method IsFor
 bound_tree = made_tree
-    (then_tree {First = signed_format.Spells} {delimited_at = signed_format.grammar.delimited_at} (ends signed_format.grammar (λ _. refl)) leaf_tree
-    (then_tree {First = string_format.Spells} {delimited_at = string_format.grammar.delimited_at} (ends string_format.grammar (λ _. refl)) leaf_tree
-    (then_tree {First = string_format.Spells} {delimited_at = string_format.grammar.delimited_at} (ends string_format.grammar (λ _. refl)) leaf_tree leaf_tree)))
+    (then_tree {First = signed_format.Spells} {delimited_at = signed_format.delimited_at} (ends signed_lawful.grammar (λ _. refl)) leaf_tree
+    (then_tree {First = string_format.Spells} {delimited_at = string_format.delimited_at} (ends string_lawful.grammar (λ _. refl)) leaf_tree
+    (then_tree {First = string_format.Spells} {delimited_at = string_format.delimited_at} (ends string_lawful.grammar (λ _. refl)) leaf_tree leaf_tree)))
     bound_credential
     (λ x is. (tt, refl, alike _ _ (ap (λ (b : List ℕ). bytes b & string x.0.1.0 & string x.0.1.1.0 & string x.0.1.1.1) is.0)))
     (λ y is. back y.0.algorithm y.0.public_key y.0.host_key is)
@@ -75,7 +78,7 @@ behind_service c = string (method_name (method_of c.host_key)) & after_method c
 called_tree : IsTree method_and_credential.Spells (λ (x : Credential × Unit {0}). Unit {0}) (λ x. behind_service x.0)
 unfolding behind_service IsFor
 called_tree = made_tree
-    (dependent_tree {First = method_format.Spells} {delimited_at = method_format.grammar.delimited_at} (ends method_format.grammar (λ _. refl)) method_tree credential_tree)
+    (dependent_tree {First = method_format.Spells} {delimited_at = method_format.delimited_at} (ends method_lawful.grammar (λ _. refl)) method_tree credential_tree)
     (λ x. x.1)
     (λ x is. (tt, tt, alike _ _ (ap (λ (m : Method). string (method_name m) & after_method x.0.1) (sym is.1))))
     (λ y is. (((method_of y.0.host_key, y.0), (tt, tt)), (tt, refl), refl, alike _ _ refl))
@@ -84,9 +87,9 @@ called_tree = made_tree
 
 opening_tree : IsTree opening_format.Spells (λ (x : Opening × (Unit {0} × (Unit {0} × (Unit {0} × Unit {0})))). Any x.0.0 × ((x.0.1.0 ≡ message_number) × (Any x.0.1.1.0 × Any x.0.1.1.1))) (λ x. string x.0.0 & bytes x.0.1.0 & string x.0.1.1.0 & string x.0.1.1.1)
 opening_tree =
-    then_tree {First = string_format.Spells} {delimited_at = string_format.grammar.delimited_at} (ends string_format.grammar (λ _. refl)) leaf_tree
-    (then_tree {First = (literal_format message_number).Spells} {delimited_at = (literal_format message_number).grammar.delimited_at} (ends (literal_format message_number).grammar (λ _. refl)) leaf_tree
-    (then_tree {First = string_format.Spells} {delimited_at = string_format.grammar.delimited_at} (ends string_format.grammar (λ _. refl)) leaf_tree leaf_tree))
+    then_tree {First = string_format.Spells} {delimited_at = string_format.delimited_at} (ends string_lawful.grammar (λ _. refl)) leaf_tree
+    (then_tree {First = (literal_format message_number).Spells} {delimited_at = (literal_format message_number).delimited_at} (ends number_lawful.grammar (λ _. refl)) leaf_tree
+    (then_tree {First = string_format.Spells} {delimited_at = string_format.delimited_at} (ends string_lawful.grammar (λ _. refl)) leaf_tree leaf_tree))
 
 -- four parts and what follows
 four : (p q r s t : Parts) → Alike ((p & q & r & s) & t) (p & q & r & s & t)
@@ -100,7 +103,7 @@ four p q r s t = record {
 pub userauth_tree : IsTree userauth_format.Spells (λ (x : UserauthRequest × Unit {0}). Any x.0) (λ x. userauth_request x.0)
 unfolding behind_service after_method
 userauth_tree = made_tree
-    (then_tree {First = opening_format.Spells} {delimited_at = opening_format.grammar.delimited_at} (ends opening_format.grammar (λ _. refl)) opening_tree called_tree)
+    (then_tree {First = opening_format.Spells} {delimited_at = opening_format.delimited_at} (ends opening_lawful.grammar (λ _. refl)) opening_tree called_tree)
     request_with
     (λ x is. (
       tt,
@@ -116,23 +119,23 @@ userauth_tree = made_tree
 
 -- ---- all of it ends by itself
 
-credential_ends : (m : Method) → AllEnd (credential_format m).grammar
+credential_ends : (m : Method) → AllEnd (credential_format m).read (credential_format m).delimited_at
 credential_ends Publickey b = refl
 credential_ends Hostbound b = refl
 
-userauth_ends : AllEnd userauth_format.grammar
+userauth_ends : AllEnd userauth_format.read userauth_format.delimited_at
 unfolding behind_at
 userauth_ends b = go (opening_format.read b)
   where
     made : (Opening × Credential) × List ℕ → Result (UserauthRequest × List ℕ) Fault
     made z = Ok (request_with z.0, z.1)
 
-    go : (r : Result (Opening × List ℕ) Fault) → ((r >>= λ x. method_and_credential.grammar.delimited_at x.1 >>= with_first x.0) >>= made) ≡ ((r >>= λ x. method_and_credential.read x.1 >>= with_first x.0) >>= made)
+    go : (r : Result (Opening × List ℕ) Fault) → ((r >>= λ x. method_and_credential.delimited_at x.1 >>= with_first x.0) >>= made) ≡ ((r >>= λ x. method_and_credential.read x.1 >>= with_first x.0) >>= made)
     go (Ok x) = rw (called_ends method_format credential_format (λ b. refl) credential_ends x.1) refl
     go (Err e) = refl
 
 pub userauth_grammar : IsGrammar userauth_format.Spells userauth_format.read
-userauth_grammar = all_end userauth_format.grammar userauth_ends
+userauth_grammar = all_end userauth_lawful.grammar userauth_ends
 
 -- what is written is a spelling
 pub userauth_normal : (r : UserauthRequest) → Any r → Fits (userauth_request r) → userauth_format.Spells r (flat (userauth_request r))

@@ -7,10 +7,11 @@ use Rattle.std.specs.List.{Any}
 use Rattle.std.specs.Prelude.{IsErrAnd, IsSome}
 use Rattle.openssh_limits.specs.Keys.{is_let_in}
 use Rattle.sshkey_krl.specs.Revocations.{is_key_revoked}
-use Rattle.login_terms.specs.Terms.{Terms, terms_of}
+use Rattle.login_terms.specs.Terms.{Terms}
 use Rattle.user_keys.specs.Answers.{AsksOfLines, GrantsExactly, IsWhyNoLine, SaysOf, first_refused, refusal_for}
 use Rattle.user_keys.specs.Spellings.{MaySpell, own_part}
-use Rattle.user_keys.specs.UserLogins.{Admits, Ends, GrantsFirst, IsAsStrict, IsFirst, IsListedBy, MayLet, RefusesFor, UserLogin, listed_key}
+use Rattle.user_keys.specs.FirstLines.{EndsBy, IsFirst, LetsFirst, TakesAsTold, TakesFirst}
+use Rattle.user_keys.specs.UserLogins.{Admits, Ends, GrantsFirst, IsListedBy, RefusesFor, UserLogin, listed_key}
 use Rattle.user_keys.specs.declared.answer.LineVerdict.TheVariants as verdict
 use Rattle.user_keys.specs.declared.grant.Grant.{Grant}
 use Rattle.user_keys.specs.declared.refusal.Reason.{Reason}
@@ -46,10 +47,6 @@ module _ {X : Type 0} (P : X → Type 0) where
 pub of_error : {X E : Type 0} {Q : Type 0} (r : Result X E) → Q → IfErr r (λ e. Q)
 of_error (Ok x) q = tt
 of_error (Err e) q = q
-
-pub no_items : {X : Type 0} (xs : List X) → length xs ≡ 0 → xs ≡ []
-no_items [] none = refl
-no_items (x ∷ xs) none = absurd (omega (arith, none))
 
 -- ---- out of memory
 
@@ -100,20 +97,19 @@ is_some_of : (o : Option Terms) → IsSome o → (t : Terms) × (o ≡ Some t)
 is_some_of (Some t) some = (t, refl)
 is_some_of None some = absurd cc
 
-module _ (login : UserLogin) where
-  pub granted : (g : Grant) (line : List ℕ) → IsFirst (Ends login) login.lines line g.line → SaysOf login line (verdict.Lets g.terms) → GrantsFirst login g
-  granted g line first says = record { line = line; first = first; lets = says.0; alone = says.1; told = says.2 }
-
-  pub strict : (g : Grant) (line : List ℕ) → IsFirst (Ends login) login.lines line g.line → SaysOf login line (verdict.Lets g.terms) → IsAsStrict login g
-  strict g line first says = λ takes as_told.
-      let taken : takes line ≡ Some (terms_of g.terms) = as_told.told line (terms_of g.terms) says.0 in
+module _ (Lets : List ℕ → Terms → Type 0) (MayLet : List ℕ → Type 0) (all : List (List ℕ)) where
+  -- sshd takes it, too
+  pub strict : (n : ℕ) (t : Terms) → LetsFirst Lets MayLet all n t → (takes : List ℕ → Option Terms) → TakesAsTold Lets MayLet takes → TakesFirst takes all n t
+  strict n t is takes as_told =
+      let taken : takes is.line ≡ Some t = as_told.told is.line t is.lets in
+      let first = is.first in
       record {
-        line = line;
+        line = is.line;
         first = record {
           before = first.before;
           after = first.after;
           is = first.is;
-          none = λ some. first.none (each (Ends login) (λ l is. let u = is_some_of (takes l) is in elim (as_told.only l u.0 u.1) [
+          none = λ some. first.none (each (EndsBy Lets MayLet) (λ l is. let u = is_some_of (takes l) is in elim (as_told.only l u.0 u.1) [
             | inl lets ↦ inl (u.0, lets)
             | inr may ↦ inr may
           ]) first.before some);
@@ -123,13 +119,23 @@ module _ (login : UserLogin) where
         terms = taken;
       }
 
-  -- none is granted where a line may let in before any that does
-  pub none_granted : (n : ℕ) (line : List ℕ) → IsFirst (Ends login) login.lines line n → MayLet login line → (g : Grant) → GrantsFirst login g → ⊥
-  none_granted n line first may g is = is.told (subst (MayLet login) (one_first (Ends login) login.lines line is.line n g.line first is.first) may)
+  -- none does where a line may do so before any that does
+  pub none_lets : (line : List ℕ) (n : ℕ) → IsFirst (EndsBy Lets MayLet) all line n → MayLet line → (m : ℕ) (t : Terms) → LetsFirst Lets MayLet all m t → ⊥
+  none_lets line n first may m t is = is.told (subst MayLet (one_first (EndsBy Lets MayLet) all line is.line n m first is.first) may)
 
   -- nor where no line does
-  pub nothing_granted : (Any (Ends login) login.lines → ⊥) → (g : Grant) → GrantsFirst login g → ⊥
-  nothing_granted none g is = none (some_first (Ends login) login.lines is.line g.line is.first)
+  pub nothing_lets : (Any (EndsBy Lets MayLet) all → ⊥) → (n : ℕ) (t : Terms) → LetsFirst Lets MayLet all n t → ⊥
+  nothing_lets none n t is = none (some_first (EndsBy Lets MayLet) all is.line n is.first)
+
+  pub one_line : (n m : ℕ) (t u : Terms) (is : LetsFirst Lets MayLet all n t) (too : LetsFirst Lets MayLet all m u) → too.line ≡ is.line
+  one_line n m t u is too = one_first (EndsBy Lets MayLet) all too.line is.line m n too.first is.first
+
+  pub one_terms : (n m : ℕ) (t u : Terms) (is : LetsFirst Lets MayLet all n t) (too : LetsFirst Lets MayLet all m u) → u ≡ t
+  one_terms n m t u is too = is.alone u (subst (λ (l : List ℕ). Lets l u) (one_line n m t u is too) too.lets)
+
+module _ (login : UserLogin) where
+  pub granted : (g : Grant) (line : List ℕ) → IsFirst (Ends login) login.lines line g.line → SaysOf login line (verdict.Lets g.terms) → GrantsFirst login g
+  granted g line first says = record { line = line; first = first; lets = says.0; alone = says.1; told = says.2 }
 
   -- ---- the line that refuses
 

@@ -58,7 +58,7 @@ module _ (t : Terms) (time : ℕ) (client : Option IpAddr) (host : Option (Bor (
 
   allows_refuses : (r : Reason) → Judges t time client host judgement.Allows → Judges t time client host (judgement.Refuses r) → ⊥
   allows_refuses reason.Expired allows refused = later Yes yes_no allows.0 refused
-  allows_refuses reason.Authority allows refused = allows.1 refused.1
+  allows_refuses reason.MisplacedOption allows refused = allows.1 refused.1
   allows_refuses reason.Elsewhere allows refused = elsewhere Yes yes_no allows.2 refused.2
   allows_refuses reason.Command allows refused = elim refused [ ]
   allows_refuses reason.Principals allows refused = elim refused [ ]
@@ -71,24 +71,24 @@ module _ (t : Terms) (time : ℕ) (client : Option IpAddr) (host : Option (Bor (
 
   refuses_unclear : (r : Reason) → Judges t time client host (judgement.Refuses r) → Judges t time client host judgement.Unclear → ⊥
   refuses_unclear reason.Expired refused may = may.0 refused
-  refuses_unclear reason.Authority refused may = may.1 refused.1
+  refuses_unclear reason.MisplacedOption refused may = may.1 refused.1
   refuses_unclear reason.Elsewhere refused may = may.2 refused.2
   refuses_unclear reason.Command refused may = elim refused [ ]
   refuses_unclear reason.Principals refused may = elim refused [ ]
 
   one_reason : (r s : Reason) → Judges t time client host (judgement.Refuses r) → Judges t time client host (judgement.Refuses s) → r ≡ s
   one_reason reason.Expired reason.Expired p q = refl
-  one_reason reason.Expired reason.Authority p q = absurd (q.0 p)
+  one_reason reason.Expired reason.MisplacedOption p q = absurd (q.0 p)
   one_reason reason.Expired reason.Elsewhere p q = absurd (q.0 p)
   one_reason reason.Expired reason.Command p q = absurd q
   one_reason reason.Expired reason.Principals p q = absurd q
-  one_reason reason.Authority reason.Expired p q = absurd (p.0 q)
-  one_reason reason.Authority reason.Authority p q = refl
-  one_reason reason.Authority reason.Elsewhere p q = absurd (q.1 p.1)
-  one_reason reason.Authority reason.Command p q = absurd q
-  one_reason reason.Authority reason.Principals p q = absurd q
+  one_reason reason.MisplacedOption reason.Expired p q = absurd (p.0 q)
+  one_reason reason.MisplacedOption reason.MisplacedOption p q = refl
+  one_reason reason.MisplacedOption reason.Elsewhere p q = absurd (q.1 p.1)
+  one_reason reason.MisplacedOption reason.Command p q = absurd q
+  one_reason reason.MisplacedOption reason.Principals p q = absurd q
   one_reason reason.Elsewhere reason.Expired p q = absurd (p.0 q)
-  one_reason reason.Elsewhere reason.Authority p q = absurd (p.1 q.1)
+  one_reason reason.Elsewhere reason.MisplacedOption p q = absurd (p.1 q.1)
   one_reason reason.Elsewhere reason.Elsewhere p q = refl
   one_reason reason.Elsewhere reason.Command p q = absurd q
   one_reason reason.Elsewhere reason.Principals p q = absurd q

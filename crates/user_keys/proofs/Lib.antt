@@ -4,8 +4,9 @@ mod Judgements
 mod Lines
 mod LongParts
 mod Places
-mod ReadOptions
 mod Spelled
 mod Shown
 mod ListedNames
 mod CertificateLogins
+mod PrincipalLines
+mod Principals

@@ -1,5 +1,5 @@
 -- Which key a line is for.
-use Rattle.std.proofs.Common.{◌≡◌, ◌∙◌, ◌≤◌, ℕ, List, Bool, true, false, not, IfOk, Result, Ok, Err, ap, inl, inr, length, refl, subst, sym}
+use Rattle.std.proofs.Common.{◌≡◌, ◌≢◌, ◌∙◌, ◌≤◌, ℕ, List, Bool, true, false, not, IfOk, Result, Ok, Err, ap, inl, inr, length, refl, subst, sym}
 use Rattle.std.proofs.Math.Bool.{beq}
 use Rattle.std.specs.Prelude.{slice_index}
 use Rattle.sshkey_entries.specs.AuthorizedKeys.{AuthorizedKey}
@@ -8,13 +8,13 @@ use Rattle.sshkey_entries.specs.Fields.{without_blanks}
 use Rattle.sshkey_entries.specs.Laws.{EntriesDetermineValues}
 use Rattle.sshkey_entries.specs.OpenSshLines.{IsAuthorizedLine}
 use Rattle.sshkey_model.specs.Keys.{Key}
-use Rattle.login_terms.proofs.Told.{told_as}
-use Rattle.login_terms.specs.Readings.{Tells}
+use Rattle.sshkey_entries.proofs.Told.{told_as}
+use Rattle.sshkey_entries.specs.Readings.{Tells}
 use Rattle.login_terms.specs.Terms.{Terms, terms_of}
-use Rattle.login_terms.specs.declared.reading.Reading.{Reading}
-use Rattle.login_terms.specs.declared.reading.Reading.TheVariants.{Is, Rejected, Unclear}
+use Rattle.sshkey_entries.specs.declared.reading.Reading.{Reading}
+use Rattle.sshkey_entries.specs.declared.reading.Reading.TheVariants.{Is, Rejected, Unclear}
 use Rattle.login_terms.specs.declared.terms.Terms as code
-use Rattle.user_keys.specs.Lines.{IsEntryFor, IsFor, MayBeEntryFor, MayBeFor, before_zero, is_zero}
+use Rattle.user_keys.specs.Lines.{IsEntryFor, IsFor, IsTextEntry, MayBeEntryFor, MayBeFor, before_zero, is_zero}
 use Rattle.user_keys.specs.Options.{AreTerms, MayBeTerms}
 use Rattle.user_keys.specs.Spellings.{AreMarks, HasMark, MaySpell, StandIn, own_part}
 use Rattle.user_keys.specs.declared.marks.Marks.{Marks}
@@ -69,17 +69,17 @@ module _ (authority : Bool) (key : Key) (entry : AuthorizedKey) (same : entry.ke
 
 module _ (authority : Bool) (key : Key) (line : List ℕ) where
   -- what an entry says its line does
-  pub of_entry : EntriesDetermineValues IsAuthorizedLine → (entry : AuthorizedKey) → IsAuthorizedLine (before_zero line) entry → (r : Reading code.Terms) → Tells terms_of (IsEntryFor authority key entry) (MayBeEntryFor key entry) r → Tells terms_of (IsFor authority key line) (MayBeFor key line) r
+  pub of_entry : EntriesDetermineValues IsAuthorizedLine → (entry : AuthorizedKey) → IsTextEntry (before_zero line) entry → (r : Reading code.Terms) → Tells terms_of (IsEntryFor authority key entry) (MayBeEntryFor key entry) r → Tells terms_of (IsFor authority key line) (MayBeFor key line) r
   of_entry one entry read = told_as terms_of (IsEntryFor authority key entry) (IsFor authority key line) (MayBeEntryFor key entry) (MayBeFor key line)
       (λ t own. (entry, read, own))
-      (λ t own. subst (λ (e : AuthorizedKey). IsEntryFor authority key e t) (one (before_zero line) own.0 entry own.1 read) own.2)
+      (λ t own. subst (λ (e : AuthorizedKey). IsEntryFor authority key e t) (one (before_zero line) own.0 entry own.1.read read.read) own.2)
       (λ may. inl (entry, read, may))
       (λ may. elim may [
-        | inl other ↦ subst (λ (e : AuthorizedKey). MayBeEntryFor key e) (one (before_zero line) other.0 entry other.1 read) other.2
+        | inl other ↦ subst (λ (e : AuthorizedKey). MayBeEntryFor key e) (one (before_zero line) other.0 entry other.1.read read.read) other.2
         | inr odd ↦ absurd (odd.no_entry entry read)
       ])
 
-  pub of_entry_read : {E : Type 0} → EntriesDetermineValues IsAuthorizedLine → (entry : AuthorizedKey) → IsAuthorizedLine (before_zero line) entry → (r : Result (Reading code.Terms) E) → IfOk r (Tells terms_of (IsEntryFor authority key entry) (MayBeEntryFor key entry)) → IfOk r (Tells terms_of (IsFor authority key line) (MayBeFor key line))
+  pub of_entry_read : {E : Type 0} → EntriesDetermineValues IsAuthorizedLine → (entry : AuthorizedKey) → IsTextEntry (before_zero line) entry → (r : Result (Reading code.Terms) E) → IfOk r (Tells terms_of (IsEntryFor authority key entry) (MayBeEntryFor key entry)) → IfOk r (Tells terms_of (IsFor authority key line) (MayBeFor key line))
   of_entry_read one entry read (Ok r) told = of_entry one entry read r told
   of_entry_read one entry read (Err e) told = tt
 
@@ -88,8 +88,8 @@ module _ (authority : Bool) (key : Key) (line : List ℕ) where
   same_part entry (inr other) = other.1
 
   module _ (long : 17 ≤ length (own_part key)) (unmarked : MaySpell (own_part key) line → ⊥) where
-    no_mark : (entry : AuthorizedKey) → IsAuthorizedLine (before_zero line) entry → own_part entry.key ≡ own_part key → ⊥
-    no_mark entry read same = unmarked (spelled_before is_zero (own_part key) line (subst (λ (p : List ℕ). MaySpell p (before_zero line)) same (entry_spells (before_zero line) entry read (subst (λ (p : List ℕ). 17 ≤ length p) (sym same) long))))
+    no_mark : (entry : AuthorizedKey) → IsTextEntry (before_zero line) entry → own_part entry.key ≡ own_part key → ⊥
+    no_mark entry read same = unmarked (spelled_before is_zero (own_part key) line (subst (λ (p : List ℕ). MaySpell p (before_zero line)) same (entry_spells (before_zero line) entry read.read (subst (λ (p : List ℕ). 17 ≤ length p) (sym same) long))))
 
     pub not_marked : ((t : Terms) → IsFor authority key line t → ⊥) × (MayBeFor key line → ⊥)
     not_marked = (
@@ -104,21 +104,24 @@ module _ (authority : Bool) (key : Key) (line : List ℕ) where
   pub own_spells : 17 ≤ length (own_part key) → (t : Terms) → IsFor authority key line t → MaySpell (own_part key) line
   own_spells long t own =
       let same : own_part own.0.key ≡ own_part key = ap own_part own.2.own_key in
-      spelled_before is_zero (own_part key) line (subst (λ (p : List ℕ). MaySpell p (before_zero line)) same (entry_spells (before_zero line) own.0 own.1 (subst (λ (p : List ℕ). 17 ≤ length p) (sym same) long)))
+      spelled_before is_zero (own_part key) line (subst (λ (p : List ℕ). MaySpell p (before_zero line)) same (entry_spells (before_zero line) own.0 own.1.read (subst (λ (p : List ℕ). 17 ≤ length p) (sym same) long)))
 
   pub a_comment : slice_index (without_blanks (before_zero line)) 0 ≡ hash_sign → ((t : Terms) → IsFor authority key line t → ⊥) × (MayBeFor key line → ⊥)
   a_comment hash = (
-    λ t own. own.1.no_comment hash,
+    λ t own. own.1.read.no_comment hash,
     λ may. elim may [
-      | inl other ↦ other.1.no_comment hash
+      | inl other ↦ other.1.read.no_comment hash
       | inr odd ↦ odd.no_comment hash
     ],
   )
 
-  module _ (none : IsNoEntry IsAuthorizedLine (before_zero line)) where
-    pub no_terms : (t : Terms) → IsFor authority key line t → ⊥
-    no_terms t own = none own.0 own.1
-
-    pub not_odd : (MaySpell (own_part key) (before_zero line) → ⊥) → MayBeFor key line → ⊥
-    not_odd unspelled (inl other) = none other.0 other.1
-    not_odd unspelled (inr odd) = unspelled odd.spelled
+  -- what a line says that is no entry, nor a comment
+  pub of_none : IsNoEntry IsTextEntry (before_zero line) → slice_index (without_blanks (before_zero line)) 0 ≢ hash_sign → (m : Marks) → AreMarks (own_part key) m → (r : Reading code.Terms) → Tells terms_of (λ _. ⊥) (HasMark m (before_zero line)) r → Tells terms_of (IsFor authority key line) (MayBeFor key line) r
+  of_none none no_comment m are = told_as terms_of (λ _. ⊥) (IsFor authority key line) (HasMark m (before_zero line)) (MayBeFor key line)
+      (λ t no. absurd no)
+      (λ t own. none own.0 own.1)
+      (λ has. inr (record { no_comment = no_comment; no_entry = none; spelled = marks_are (own_part key) (before_zero line) m are has }))
+      (λ may. elim may [
+        | inl other ↦ absurd (none other.0 other.1)
+        | inr odd ↦ are_marks (own_part key) (before_zero line) m are odd.spelled
+      ])

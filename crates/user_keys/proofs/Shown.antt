@@ -7,9 +7,9 @@ use Rattle.sshkey_cert.specs.declared.certificate.Certificate as code
 use Rattle.sshkey_keys.specs.Keys.{key_of}
 use Rattle.sshkey_model.specs.Certificates.{Certificate}
 use Rattle.sshkey_model.specs.Keys.{Key}
-use Rattle.login_terms.specs.Readings.{Tells}
+use Rattle.sshkey_entries.specs.Readings.{Tells}
 use Rattle.login_terms.specs.Terms.{terms_of}
-use Rattle.login_terms.specs.declared.reading.Reading.{Reading}
+use Rattle.sshkey_entries.specs.declared.reading.Reading.{Reading}
 use Rattle.login_terms.specs.declared.terms.Terms as code_terms
 use Rattle.user_keys.specs.Lines.{IsFor, MayBeFor}
 use Rattle.user_keys.specs.UserLogins.{IsOwn, UserLogin, key_listed, listed_key, login_of}

@@ -4,8 +4,9 @@ use Rattle.std.specs.List.{Any}
 use Rattle.openssh_limits.specs.Keys.{is_let_in}
 use Rattle.sshkey_krl.specs.Revocations.{is_key_revoked}
 use Rattle.login_terms.specs.Terms.{Terms, terms_of}
+use Rattle.user_keys.specs.FirstLines.{IsFirst}
 use Rattle.user_keys.specs.Spellings.{MaySpell, own_part}
-use Rattle.user_keys.specs.UserLogins.{Ends, IsFirst, IsListedBy, Lets, MayLet, RefusesFor, UserLogin, listed_key}
+use Rattle.user_keys.specs.UserLogins.{Ends, IsListedBy, Lets, MayLet, RefusesFor, UserLogin, listed_key}
 use Rattle.login_terms.specs.declared.terms.Terms as code
 use Rattle.user_keys.specs.declared.answer.Judgement.{Judgement}
 use Rattle.user_keys.specs.declared.answer.Judgement.TheVariants as judgement

@@ -1,6 +1,7 @@
--- Who may log in by a certificate, where a text of authorized_keys lists its authority (sshd(8),
--- "AUTHORIZED_KEYS FILE FORMAT", `cert-authority`).
-use Rattle.std.specs.Prelude.{◌≡◌, ◌≢◌, ◌⊎◌, ℕ, List, [], ◌∷◌, Bool, false, IsSome, IsTrue, Option, Some, None, Result, Ok, Err, string_bytes}
+-- Who may log in by a certificate, where a line of some text lets it in; and that of authorized_keys,
+-- where it has the certificate's authority (sshd(8), "AUTHORIZED_KEYS FILE FORMAT",
+-- `cert-authority`).
+use Rattle.std.specs.Prelude.{◌≡◌, ◌≢◌, ◌⊎◌, ℕ, List, [], ◌∷◌, Bool, false, IsTrue, Option, Some, None, Result, Ok, Err, string_bytes}
 use Rattle.std.specs.List.{Any}
 use Rattle.std.specs.declared.net.ip_addr.IpAddr.{IpAddr}
 use Rattle.login_policy.specs.Logins.{IsGrantOf, IsLogin, LetsIn}
@@ -21,15 +22,15 @@ use Rattle.sshkey_cert_form.specs.Faults.{IsFaultOf}
 use Rattle.sshkey_keys.specs.Fingerprints.{IsFingerprint}
 use Rattle.sshkey_krl.specs.Revocation as krl
 use Rattle.sshkey_model.specs.Certificates.{Certificate, normal_certificate}
-use Rattle.sshkey_model.specs.Fingerprints.{fingerprint}
-use Rattle.sshkey_model.specs.Keys.{Key}
+use Rattle.sshkey_model.specs.Fingerprints.{Fingerprint, fingerprint}
 use Rattle.sshkey_model.specs.Names.{Sha256}
 use Rattle.sshkey_model.specs.Parts.{flat}
 use Rattle.sshkey_model.specs.Verification.{Question}
 use Rattle.user_keys.specs.Answers.{IsWhyNoLine}
 use Rattle.user_keys.specs.Certificates.{merged, name_for}
+use Rattle.user_keys.specs.FirstLines.{LetsFirst, TakesAsTold, TakesFirst}
 use Rattle.user_keys.specs.Spellings.{MaySpell, own_part}
-use Rattle.user_keys.specs.UserLogins.{Ends, IsFirst, Lets, MayLet, TakesAsTold, UserLogin, login_of}
+use Rattle.user_keys.specs.UserLogins.{Lets, MayLet, UserLogin, login_of}
 use Rattle.user_keys.specs.declared.login.UserLogin as code
 use Rattle.user_keys.specs.declared.grant.Certified.{Certified}
 use Rattle.user_keys.specs.declared.grant.Grant.{Grant}
@@ -56,20 +57,9 @@ abbrev pub client_of : Option IpAddr → Client
 client_of None = Unknown
 client_of (Some address) = At address
 
--- whom the policy of certificates is asked about: who has that name, by the authority with that key
-abbrev pub policy_login : CertificateLogin → Key → List ℕ → policy.Login
-policy_login l authority name = record { accepts = l.accepts; revokes = l.revokes; authorities = fingerprint Sha256 authority ∷ []; time = l.login.time; user = name; offered = l.login.offered; blob = l.blob; least_rsa_bits = l.login.least_rsa_bits; client = client_of l.login.client }
-
--- ---- the line that counts
-
--- It is the first line that lets the certificate in or may do so, and it does so for sure, on those
--- terms and for that name.
-pub record IsLineFor (login : UserLogin) (c : Certificate) (number : ℕ) (t : Terms) (name : List ℕ) : Type 0 where
-  pub line : List ℕ
-  pub first : IsFirst (Ends (by login c)) login.lines line number
-  pub lets : Lets (by login c) line t
-  pub told : ¬ MayLet (by login c) line
-  pub named : name_for c login.user t ≡ Some name
+-- whom the policy of certificates is asked about: who has that name, by one of those authorities
+abbrev pub policy_login : CertificateLogin → List Fingerprint → List ℕ → policy.Login
+policy_login l authorities name = record { accepts = l.accepts; revokes = l.revokes; authorities = authorities; time = l.login.time; user = name; offered = l.login.offered; blob = l.blob; least_rsa_bits = l.login.least_rsa_bits; client = client_of l.login.client }
 
 -- ---- who is let in
 
@@ -83,61 +73,81 @@ abbrev pub IsCertified : Certificate → Option Certified → Type 0
 IsCertified c None = ⊥
 IsCertified c (Some by) = IsCertifiedBy c by
 
--- The bytes are those of a certificate, in its normal form, whose authority's key sshd accepts; a
--- line of the authority lets it in for a name, for which the policy of certificates does so too; and
--- the login is bound to what the line and the certificate say together.
-pub record AdmitsCertificate (l : CertificateLogin) (g : Grant) : Type 0 where
+-- The policy of certificates lets the certificate in, in its normal form, and the login is bound to
+-- what those terms and the certificate say together.
+pub record BindsTogether (p : policy.Login) (c : Certificate) (t : Terms) (g : Grant) : Type 0 where
+  pub normal : p.blob ≡ flat (normal_certificate c)
+  pub lets_in : LetsIn p c
+  pub merges : terms_of g.terms ≡ merged t c
+  pub certified : IsCertified c g.certified
+
+-- The bytes are those of a certificate whose authority's key sshd accepts; the grant's line is one
+-- that lets it in on some terms and for a name (`IsLine`); and for that name, by those authorities,
+-- the policy lets it in, too.
+pub record AdmitsBy (IsLine : Certificate → ℕ → Terms → List ℕ → Type 0) (authorities : Certificate → List Fingerprint) (l : CertificateLogin) (g : Grant) : Type 0 where
   pub certificate : Certificate
   pub spelled : SpellsCertificate certificate l.blob
-  pub normal : l.blob ≡ flat (normal_certificate certificate)
   pub accepted : IsTrue (is_let_in 0 certificate.signed.signature_key)
   pub terms : Terms
   pub name : List ℕ
-  pub line : IsLineFor l.login certificate g.line terms name
-  pub lets_in : LetsIn (policy_login l certificate.signed.signature_key name) certificate
-  pub merges : terms_of g.terms ≡ merged terms certificate
-  pub certified : IsCertified certificate g.certified
+  pub line : IsLine certificate g.line terms name
+  pub granted : BindsTogether (policy_login l (authorities certificate) name) certificate terms g
 
--- ---- sshd, since 10.5 and on whatever machine: before, `restrict` left tunnels
-
--- The first line that it takes is that of the grant, and the grant is what that line and the
--- certificate say together, whatever terms it takes it on.
-pub record TakesFirstWith (login : UserLogin) (c : Certificate) (takes : List ℕ → Option Terms) (g : Grant) : Type 0 where
-  pub line : List ℕ
-  pub terms : Terms
-  pub first : IsFirst (λ l. IsSome (takes l)) login.lines line g.line
-  pub taken : takes line ≡ Some terms
-  pub merges : terms_of g.terms ≡ merged terms c
-
-abbrev pub IsAsStrictWith : CertificateLogin → Grant → Type 0
-IsAsStrictWith l g = (c : Certificate) → SpellsCertificate c l.blob → (takes : List ℕ → Option Terms) → TakesAsTold (by l.login c) takes → TakesFirstWith l.login c takes g
+-- Whatever sshd makes of what cannot be told, it takes the grant's line first, and binds the login to
+-- what that and the certificate say together.
+abbrev pub IsAsStrictBy : (Certificate → List ℕ → Terms → Type 0) → (Certificate → List ℕ → Type 0) → CertificateLogin → Grant → Type 0
+IsAsStrictBy LetsBy MayLetBy l g = (c : Certificate) → SpellsCertificate c l.blob → (takes : List ℕ → Option Terms) → TakesAsTold (LetsBy c) (MayLetBy c) takes → (t : Terms) × TakesFirst takes l.login.lines g.line t × (terms_of g.terms ≡ merged t c)
 
 -- ---- who is refused
 
--- A line lets the certificate in, and the policy of certificates refuses it for that.
-pub record IsRefusedByPolicy (l : CertificateLogin) (c : Certificate) (r : policies.Refusal) : Type 0 where
+-- The bytes are those of no certificate, and have that fault; or of one whose authority's key sshd
+-- does not accept.
+abbrev pub IsWhyUnread : List ℕ → Refusal → Type 0
+IsWhyUnread blob r = (NoSpelling SpellsCertificate blob × ((e : Error) × IsFaultOf blob e × (r ≡ refusal.Certificate (policy_refusal.Certificate e))))
+    ⊎ ((c : Certificate) × SpellsCertificate c blob × (is_let_in 0 c.signed.signature_key ≡ false) × (r ≡ refusal.UnacceptedKey))
+
+abbrev pub RefusesByPolicy : policy.Login → Refusal → Type 0
+RefusesByPolicy p r = (e : policies.Refusal) × RefusesLogin p e × (r ≡ refusal.Certificate e)
+
+-- A line lets the certificate in, and the policy refuses it for that.
+pub record IsRefusedBehind (IsLine : ℕ → Terms → List ℕ → Type 0) (authorities : List Fingerprint) (l : CertificateLogin) (r : Refusal) : Type 0 where
   pub number : ℕ
   pub terms : Terms
   pub name : List ℕ
-  pub line : IsLineFor l.login c number terms name
-  pub refused : RefusesLogin (policy_login l c.signed.signature_key name) r
+  pub line : IsLine number terms name
+  pub refused : RefusesByPolicy (policy_login l authorities name) r
 
--- sshd does not accept the authority's key; or it does, and no line lets in, or the policy refuses.
-abbrev pub IsWhyNotBy : CertificateLogin → Certificate → Refusal → Type 0
-IsWhyNotBy l c r = ((is_let_in 0 c.signed.signature_key ≡ false) × (r ≡ refusal.UnacceptedKey))
-    ⊎ (IsTrue (is_let_in 0 c.signed.signature_key) × IsWhyNoLine (by l.login c) r)
-    ⊎ (IsTrue (is_let_in 0 c.signed.signature_key) × ((p : policies.Refusal) × IsRefusedByPolicy l c p × (r ≡ refusal.Certificate p)))
+-- No such certificate is read; or one is, and no line lets it in for that, or the policy refuses.
+abbrev pub IsWhyRefusedBy : (Certificate → Refusal → Type 0) → (Certificate → ℕ → Terms → List ℕ → Type 0) → (Certificate → List Fingerprint) → CertificateLogin → Refusal → Type 0
+IsWhyRefusedBy IsWhyNone IsLine authorities l r = IsWhyUnread l.blob r
+    ⊎ ((c : Certificate) × SpellsCertificate c l.blob × IsTrue (is_let_in 0 c.signed.signature_key) × (IsWhyNone c r ⊎ IsRefusedBehind (IsLine c) (authorities c) l r))
 
--- The bytes are those of no certificate, and have that fault; or of one that is refused for that.
+-- The bytes need memory to be read; or one of the lines may need some.
+abbrev pub NeedsMemoryBy : (Certificate → List ℕ → Type 0) → CertificateLogin → Type 0
+NeedsMemoryBy MayNeed l = certificate_format.needs l.blob 0 ⊎ ((c : Certificate) × SpellsCertificate c l.blob × Any (MayNeed c) l.login.lines)
+
+-- ---- by lines of the certificate's authority
+
+-- the key that signed it, and no other
+abbrev pub signer : Certificate → List Fingerprint
+signer c = fingerprint Sha256 c.signed.signature_key ∷ []
+
+-- It is the first line of the authority that lets the certificate in, for the first name that counts.
+abbrev pub IsLineFor : UserLogin → Certificate → ℕ → Terms → List ℕ → Type 0
+IsLineFor login c number t name = LetsFirst (Lets (by login c)) (MayLet (by login c)) login.lines number t × (name_for c login.user t ≡ Some name)
+
+abbrev pub AdmitsCertificate : CertificateLogin → Grant → Type 0
+AdmitsCertificate l g = AdmitsBy (IsLineFor l.login) signer l g
+
+abbrev pub IsAsStrictWith : CertificateLogin → Grant → Type 0
+IsAsStrictWith l g = IsAsStrictBy (λ c. Lets (by l.login c)) (λ c. MayLet (by l.login c)) l g
+
 abbrev pub IsWhyNoCertificate : CertificateLogin → Refusal → Type 0
-IsWhyNoCertificate l r = (NoSpelling SpellsCertificate l.blob × ((e : Error) × IsFaultOf l.blob e × (r ≡ refusal.Certificate (policy_refusal.Certificate e))))
-    ⊎ ((c : Certificate) × SpellsCertificate c l.blob × IsWhyNotBy l c r)
+IsWhyNoCertificate l r = IsWhyRefusedBy (λ c. IsWhyNoLine (by l.login c)) (IsLineFor l.login) signer l r
 
--- ---- memory
-
--- The bytes need memory to be read; or the key that signed the certificate may be spelled in a line.
+-- The key that signed the certificate may be spelled in a line.
 abbrev pub NeedsMemory : CertificateLogin → Type 0
-NeedsMemory l = certificate_format.needs l.blob 0 ⊎ ((c : Certificate) × SpellsCertificate c l.blob × Any (MaySpell (own_part c.signed.signature_key)) l.login.lines)
+NeedsMemory l = NeedsMemoryBy (λ c. MaySpell (own_part c.signed.signature_key)) l
 
 -- ---- what the policy says
 
@@ -146,9 +156,5 @@ IsRefusalOf p r = ((p ≡ policy_refusal.Memory) × (r ≡ refusal.Memory)) ⊎ 
 
 -- The policy grants this; or, out of memory aside, refuses.
 abbrev pub PolicyGrants : policy.Login → Result grants.Grant Refusal → Type 0
-PolicyGrants l (Ok g) = (is : IsLogin l) × IsGrantOf is.certificate g
-PolicyGrants l (Err r) = r ≢ refusal.Memory → IsLogin l → ⊥
-
--- It is what the policy refuses for.
-abbrev pub RefusesByPolicy : policy.Login → Refusal → Type 0
-RefusesByPolicy l r = (p : policies.Refusal) × RefusesLogin l p × (r ≡ refusal.Certificate p)
+PolicyGrants p (Ok g) = (is : IsLogin p) × IsGrantOf is.certificate g
+PolicyGrants p (Err r) = r ≢ refusal.Memory → IsLogin p → ⊥

@@ -5,6 +5,7 @@ use Rattle.sshkey_times.specs.declared.times.Span.{Span}
 use Rattle.login_terms.specs.Terms.{all_permitted, none_permitted}
 use Rattle.user_keys.specs.Certificates.{agree, both_permit, first_listed, judged_by}
 use Rattle.user_keys.specs.Judgements.{CountsAt, joined}
+use Rattle.user_keys.specs.Principals.{name_in}
 use Rattle.user_keys.specs.Spellings.{Follow, mark}
 use Rattle.user_keys.specs.declared.answer.Answer.TheVariants.{Yes, No, Unclear}
 use Rattle.user_keys.specs.declared.answer.Judgement.TheVariants as judgement
@@ -22,7 +23,7 @@ Times = CountsAt None 5 Yes × CountsAt (Some until) 10 Yes × CountsAt (Some un
 abbrev pub Together : Type 0
 Together = (joined Yes false Yes ≡ judgement.Allows)
     × (joined No true No ≡ judgement.Refuses reason.Expired)
-    × (joined Unclear true No ≡ judgement.Refuses reason.Authority)
+    × (joined Unclear true No ≡ judgement.Refuses reason.MisplacedOption)
     × (joined Unclear false No ≡ judgement.Refuses reason.Elsewhere)
     × (joined Unclear false Yes ≡ judgement.Unclear)
     × (joined Yes false Unclear ≡ judgement.Unclear)
@@ -54,3 +55,11 @@ Merged = (judged_by (agree (Some (codes "ls")) (Some (codes "ls -l"))) true judg
     × (judged_by true false judgement.Allows ≡ judgement.Refuses reason.Principals)
     × (judged_by false false (judgement.Refuses reason.Expired) ≡ judgement.Refuses reason.Expired)
     × (both_permit all_permitted (record { name = codes "permit-pty"; value = [] } ∷ []) ≡ record none_permitted { pty = true; tunnels = true })
+
+-- A name stands behind the last space, or else behind the last tab; a `#` ends its line, also one
+-- within quotes; and a carriage return belongs to it.
+abbrev pub Names : Type 0
+Names = (name_in (codes "restrict,pty alice  # the owner") ≡ codes "alice")
+    × (name_in (codes "command=" ++ (0x22 ∷ codes "a#b") ++ (0x22 ∷ codes " alice")) ≡ codes "command=" ++ (0x22 ∷ codes "a"))
+    × (name_in (codes "pty" ++ (0x09 ∷ codes "alice" ++ (0x0d ∷ []))) ≡ codes "alice" ++ (0x0d ∷ []))
+    × (name_in (codes " # alice") ≡ [])

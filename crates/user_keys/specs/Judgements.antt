@@ -59,7 +59,7 @@ NamesInVain t = (t.is_authority ≡ false) × (is_some t.principals ≡ true)
 abbrev pub Judges : Terms → ℕ → Option IpAddr → Option (Bor (List ℕ)) → Judgement → Type 0
 Judges t time client host judgement.Allows = CountsAt t.expires time Yes × ¬ NamesInVain t × LetsFrom t.from client host Yes
 Judges t time client host (judgement.Refuses reason.Expired) = CountsAt t.expires time No
-Judges t time client host (judgement.Refuses reason.Authority) = ¬ CountsAt t.expires time No × NamesInVain t
+Judges t time client host (judgement.Refuses reason.MisplacedOption) = ¬ CountsAt t.expires time No × NamesInVain t
 Judges t time client host (judgement.Refuses reason.Command) = ⊥
 Judges t time client host (judgement.Refuses reason.Principals) = ⊥
 Judges t time client host (judgement.Refuses reason.Elsewhere) = ¬ CountsAt t.expires time No × ¬ NamesInVain t × LetsFrom t.from client host No
@@ -68,11 +68,11 @@ Judges t time client host judgement.Unclear = ¬ CountsAt t.expires time No × �
 -- what follows from both, and from whether principals are named in vain, which sshd asks in between
 abbrev pub joined : Answer → Bool → Answer → Judgement
 joined No in_vain in_place = judgement.Refuses reason.Expired
-joined Yes true in_place = judgement.Refuses reason.Authority
+joined Yes true in_place = judgement.Refuses reason.MisplacedOption
 joined Yes false No = judgement.Refuses reason.Elsewhere
 joined Yes false Yes = judgement.Allows
 joined Yes false Unclear = judgement.Unclear
-joined Unclear true in_place = judgement.Refuses reason.Authority
+joined Unclear true in_place = judgement.Refuses reason.MisplacedOption
 joined Unclear false No = judgement.Refuses reason.Elsewhere
 joined Unclear false Yes = judgement.Unclear
 joined Unclear false Unclear = judgement.Unclear

@@ -4,8 +4,12 @@ pub mod Judgements
 pub mod Certificates
 pub mod Laws
 pub mod Lines
+pub mod Filters
+pub mod FirstLines
 pub mod UserLogins
 pub mod Answers
 pub mod CertificateLogins
+pub mod Principals
+pub mod PrincipalLogins
 pub mod Computed
 pub mod Examples

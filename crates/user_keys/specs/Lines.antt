@@ -2,6 +2,7 @@
 -- FORMAT").
 use Rattle.std.specs.Prelude.{◌≡◌, ◌≢◌, ◌⊎◌, ℕ, List, Bool, ◌==◌, slice_index}
 use Rattle.std.specs.List.{before_first}
+use Rattle.std.specs.Str.{IsUtf8}
 use Rattle.sshkey_entries.specs.AuthorizedKeys.{AuthorizedKey}
 use Rattle.sshkey_entries.specs.Entries.{IsNoEntry, hash_sign}
 use Rattle.sshkey_entries.specs.Fields.{without_blanks}
@@ -20,6 +21,11 @@ before_zero line = before_first is_zero line
 
 -- ---- entries
 
+-- The text is that entry. One that is no UTF-8 is none.
+pub record IsTextEntry (text : List ℕ) (entry : AuthorizedKey) : Type 0 where
+  pub utf8 : IsUtf8 text
+  pub read : IsAuthorizedLine text entry
+
 -- The entry is of the key, as that of an authority or of none, on those terms.
 pub record IsEntryFor (authority : Bool) (key : Key) (entry : AuthorizedKey) (t : Terms) : Type 0 where
   pub own_key : entry.key ≡ key
@@ -34,14 +40,14 @@ MayBeEntryFor key entry = ((entry.key ≡ key) × MayBeTerms entry.options) ⊎ 
 -- ---- lines
 
 abbrev pub IsFor : Bool → Key → List ℕ → Terms → Type 0
-IsFor authority key line t = (entry : AuthorizedKey) × IsAuthorizedLine (before_zero line) entry × IsEntryFor authority key entry t
+IsFor authority key line t = (entry : AuthorizedKey) × IsTextEntry (before_zero line) entry × IsEntryFor authority key entry t
 
--- It is no entry, nor a comment, and the key may be spelled in it.
+-- It is no entry, as one that is no UTF-8, nor a comment, and the key may be spelled in it.
 pub record IsOddlySpelled (key : Key) (line : List ℕ) : Type 0 where
   pub no_comment : slice_index (without_blanks (before_zero line)) 0 ≢ hash_sign
-  pub no_entry : IsNoEntry IsAuthorizedLine (before_zero line)
+  pub no_entry : IsNoEntry IsTextEntry (before_zero line)
   pub spelled : MaySpell (own_part key) (before_zero line)
 
 -- sshd may take the line for one of the key.
 abbrev pub MayBeFor : Key → List ℕ → Type 0
-MayBeFor key line = ((entry : AuthorizedKey) × IsAuthorizedLine (before_zero line) entry × MayBeEntryFor key entry) ⊎ IsOddlySpelled key line
+MayBeFor key line = ((entry : AuthorizedKey) × IsTextEntry (before_zero line) entry × MayBeEntryFor key entry) ⊎ IsOddlySpelled key line

@@ -1,8 +1,7 @@
 -- Who may log in by a text of authorized_keys, and what the login is bound to (sshd(8),
 -- "AUTHORIZED_KEYS FILE FORMAT"): by the first line that is for the key, or for the authority of the
 -- certificate, and allows the login, whatever later lines say, and on the terms of that line.
-use Rattle.std.specs.Prelude.{◌≡◌, ◌⊎◌, ◌+◌, ℕ, List, ◌∷◌, ◌++◌, Bool, false, IsTrue, Option, Some, None, IsSome, is_some, length}
-use Rattle.std.specs.List.{Any}
+use Rattle.std.specs.Prelude.{◌≡◌, ◌⊎◌, ℕ, List, Bool, false, IsTrue, Option, Some, None, is_some}
 use Rattle.std.specs.Str.Lines.{lines}
 use Rattle.std.specs.declared.net.ip_addr.IpAddr.{IpAddr}
 use Rattle.openssh_limits.specs.Keys.{is_let_in}
@@ -11,6 +10,7 @@ use Rattle.sshkey_krl.specs.Revocations.{is_key_revoked}
 use Rattle.sshkey_model.specs.Certificates.{Certificate}
 use Rattle.sshkey_model.specs.Keys.{Key}
 use Rattle.login_terms.specs.Terms.{Terms, terms_of}
+use Rattle.user_keys.specs.FirstLines.{EndsBy, LetsFirst, TakesAsTold, TakesFirst}
 use Rattle.user_keys.specs.Judgements.{Judges}
 use Rattle.user_keys.specs.Certificates.{JudgesCertificate}
 use Rattle.user_keys.specs.Lines.{IsFor, MayBeFor}
@@ -79,32 +79,19 @@ pub record MayAllow (login : UserLogin) (line : List ℕ) : Type 0 where
 abbrev pub MayLet : UserLogin → List ℕ → Type 0
 MayLet login line = MayBeFor (listed_key login) line ⊎ MayAllow login line
 
--- It lets the key in or may do so: no line behind such a one is asked.
+-- no line behind such a one is asked
 abbrev pub Ends : UserLogin → List ℕ → Type 0
-Ends login line = ((t : Terms) × Lets login line t) ⊎ MayLet login line
+Ends login line = EndsBy (Lets login) (MayLet login) line
 
 abbrev pub IsListedBy : UserLogin → List ℕ → Type 0
 IsListedBy login line = (t : Terms) × IsOwn login line t
 
 -- ---- all lines
 
--- It is the first line of which that holds, and the number is its own, from 1.
-pub record IsFirst (Holds : List ℕ → Type 0) (all : List (List ℕ)) (line : List ℕ) (number : ℕ) : Type 0 where
-  pub before : List (List ℕ)
-  pub after : List (List ℕ)
-  pub is : all ≡ before ++ (line ∷ after)
-  pub none : ¬ Any Holds before
-  pub holds : Holds line
-  pub counted : number ≡ length before + 1
-
 -- The first line that lets the key in or may do so lets it in for sure, and on the grant's terms
 -- alone.
-pub record GrantsFirst (login : UserLogin) (g : Grant) : Type 0 where
-  pub line : List ℕ
-  pub first : IsFirst (Ends login) login.lines line g.line
-  pub lets : Lets login line (terms_of g.terms)
-  pub alone : (t : Terms) → Lets login line t → t ≡ terms_of g.terms
-  pub told : ¬ MayLet login line
+abbrev pub GrantsFirst : UserLogin → Grant → Type 0
+GrantsFirst login g = LetsFirst (Lets login) (MayLet login) login.lines g.line (terms_of g.terms)
 
 -- Who holds the key is let in, and the login is bound to what the grant says.
 pub record Admits (login : UserLogin) (revokes_key : List ℕ → Bool) (g : Grant) : Type 0 where
@@ -113,19 +100,6 @@ pub record Admits (login : UserLogin) (revokes_key : List ℕ → Bool) (g : Gra
   pub granted : GrantsFirst login g
   pub by_key : g.certified ≡ None
 
--- ---- sshd, since 10.5 and on whatever machine: before, `restrict` left tunnels
-
--- It takes a line for one by which the key is let in on some terms, or passes over it. It does so
--- where that is told here, and else only where it may.
-pub record TakesAsTold (login : UserLogin) (takes : List ℕ → Option Terms) : Type 0 where
-  pub told : (line : List ℕ) (t : Terms) → Lets login line t → takes line ≡ Some t
-  pub only : (line : List ℕ) (t : Terms) → takes line ≡ Some t → Lets login line t ⊎ MayLet login line
-
--- The first line that it takes is that of the grant, and it takes that on the grant's terms.
-pub record TakesFirst (login : UserLogin) (takes : List ℕ → Option Terms) (g : Grant) : Type 0 where
-  pub line : List ℕ
-  pub first : IsFirst (λ l. IsSome (takes l)) login.lines line g.line
-  pub terms : takes line ≡ Some (terms_of g.terms)
-
+-- Whatever sshd makes of what cannot be told, it takes the grant's line first, and on its terms.
 abbrev pub IsAsStrict : UserLogin → Grant → Type 0
-IsAsStrict login g = (takes : List ℕ → Option Terms) → TakesAsTold login takes → TakesFirst login takes g
+IsAsStrict login g = (takes : List ℕ → Option Terms) → TakesAsTold (Lets login) (MayLet login) takes → TakesFirst takes login.lines g.line (terms_of g.terms)

@@ -1,12 +1,12 @@
 //! Whether a certificate lets its holder in, by an authority that authorized_keys lists.
 
-ghost use Rattle.std.specs.Prelude.{◌≡◌, ◌≢◌, IfErr, IfOk, None};
+ghost use Rattle.std.specs.Prelude.{◌≡◌, ◌≢◌, IfErr, IfOk};
 ghost use Rattle.login_terms.specs.Terms.{terms_of};
 ghost use Rattle.sshkey_cert.specs.CertificateValues.{certificate_of};
 ghost use Rattle.sshkey_keys.specs.Keys.{key_of};
 ghost use Rattle.sshkey_model.specs.Keys.{IsKey};
 ghost use Rattle.user_keys.specs.Answers.{GrantsExactly};
-ghost use Rattle.user_keys.specs.CertificateLogins.{AdmitsCertificate, IsAsStrictWith, IsWhyNoCertificate, NeedsMemory, PolicyGrants, RefusesByPolicy, client_of, login_with, policy_login};
+ghost use Rattle.user_keys.specs.CertificateLogins.{AdmitsCertificate, IsAsStrictWith, IsWhyNoCertificate, NeedsMemory, login_with};
 ghost use Rattle.user_keys.specs.Certificates.{judged_by, judged_with};
 ghost use Rattle.user_keys.specs.declared.refusal.Refusal.TheVariants as refusal;
 
@@ -16,17 +16,15 @@ use crate::grant::Grant;
 use crate::login::UserLogin;
 use crate::merge::{agree, merged};
 use crate::names::name_listed;
+use crate::policy::{log_in_as, read_certificate};
 use crate::refusal::{Reason, Refusal};
-use login_policy::{Client, Login, log_in};
 use login_terms::Terms;
-use openssh_limits::is_let_in;
 use sshkey_base::HashAlg;
 use sshkey_cert::Certificate;
 use sshkey_cert::laws::one_certificate;
-use sshkey_keys::{KeyData, RawVerifier};
+use sshkey_keys::RawVerifier;
 use sshkey_krl::Revocations;
 use std::alloc::Global;
-use std::net::IpAddr;
 
 /// Lets in who holds the offered key, if the bytes are its certificate, and a line `cert-authority`
 /// of the text of authorized_keys, as sshd(8) reads it, has the key that signed it, and allows the
@@ -71,77 +69,26 @@ pub fn admit_certificate<R: Revocations, V: RawVerifier>(
         certificate.now (V.accepts verifier.now) (R.revokes revocations.now))) }
 {
     one_certificate();
-    let read = match Certificate::from_bytes(alloc, certificate) {
-        Ok(read) => read,
-        Err(error) => return Err(Refusal::from(login_policy::Refusal::from(error))),
-    };
-    if !is_let_in(read.signature_key(), 0) {
-        return Err(Refusal::UnacceptedKey);
-    }
+    let read = read_certificate(alloc, certificate)?;
     let first = first_grant(alloc, login, Some(&read))?;
     // a line that lets the certificate in does so for a name
     let Some(name) = name_listed(read.valid_principals(), login.user, &first.terms.principals)
     else {
         return Err(Refusal::NotListed);
     };
+    let Ok(authority) = read.signature_key().fingerprint(alloc, HashAlg::Sha256) else {
+        return Err(Refusal::Memory);
+    };
     let granted = log_in_as(
         alloc,
         login,
         certificate,
         name,
-        read.signature_key(),
+        &[authority],
         revocations,
         verifier,
     )?;
     Ok(merged(first, granted))
-}
-
-/// What the policy of certificates says of a login for that name, by the authority with that key
-/// alone.
-fn log_in_as<R: Revocations, V: RawVerifier>(
-    alloc: Global,
-    login: &UserLogin,
-    certificate: &[u8],
-    name: &str,
-    authority: &KeyData,
-    revocations: &R,
-    verifier: &V,
-) -> Result<login_policy::Grant, Refusal>
-    requires { IsKey (key_of login.now.offered.now) }
-    ensures exactly { PolicyGrants (policy_login (login_with login.now certificate.now
-        (V.accepts verifier.now) (R.revokes revocations.now)) (key_of authority.now) name.now)
-        result }
-    ensures refused { IfErr result (λ r. r ≢ refusal.Memory → RefusesByPolicy (policy_login
-        (login_with login.now certificate.now (V.accepts verifier.now) (R.revokes revocations.now))
-        (key_of authority.now) name.now) r) }
-{
-    let Ok(authority) = authority.fingerprint(alloc, HashAlg::Sha256) else {
-        return Err(Refusal::Memory);
-    };
-    let granted = log_in(
-        alloc,
-        &Login {
-            certificate,
-            user: name,
-            offered: login.offered,
-            unix_timestamp: login.unix_timestamp,
-            authorities: &[authority],
-            least_rsa_bits: login.least_rsa_bits,
-            client: client_of(login.client),
-        },
-        revocations,
-        verifier,
-    )?;
-    Ok(granted)
-}
-
-fn client_of(address: Option<IpAddr>) -> Client
-    ensures { result ≡ client_of address }
-{
-    match address {
-        Some(address) => Client::At(address),
-        None => Client::Unknown,
-    }
 }
 
 /// What the terms of an authority's line say of a login by the certificate, of which they say that
@@ -164,7 +111,7 @@ pub(crate) fn judgement_with(
 }
 
 /// What follows from whether the commands agree, and from whether the certificate is for somebody.
-fn judged_by(agreed: bool, named: bool, alone: Judgement) -> Judgement
+pub(crate) fn judged_by(agreed: bool, named: bool, alone: Judgement) -> Judgement
     ensures { result ≡ judged_by agreed named alone }
 {
     match (alone, agreed, named) {

@@ -1,7 +1,7 @@
 //! Worked examples of the definitions, on both sides of each edge.
-#![tactic(auto, unfolding(crate::specs::Computed::encode_symbols, crate::specs::Computed::without_front))]
+#![tactic(auto, unfolding(crate::specs::Computed::encode_symbols, crate::specs::Computed::without_front, crate::specs::Principals::behind_last))]
 
-ghost use Rattle.user_keys.specs.Examples.{Listed, Marks, Merged, Times, Together, White};
+ghost use Rattle.user_keys.specs.Examples.{Listed, Marks, Merged, Names, Times, Together, White};
 
 /// Until when a line counts.
 pub fn times()
@@ -31,4 +31,9 @@ pub fn listed()
 /// What a line and a certificate say together.
 pub fn merged()
     ensures { Merged }
+{}
+
+/// The names in lines of a file of principals.
+pub fn names()
+    ensures { Names }
 {}

@@ -16,6 +16,7 @@ use crate::line::{judge, terms_for};
 use crate::login::UserLogin;
 use crate::marks::Marks;
 use crate::refusal::Refusal;
+use crate::text::next_line;
 use login_terms::{Reading, Terms};
 use sshkey_cert::Certificate;
 use sshkey_keys::KeyData;
@@ -44,8 +45,10 @@ pub(crate) fn first_grant(
     let marks = Marks::of(key);
     let mut refused = None;
     let mut line = 0;
-    for text in login.text.lines() {
+    let mut rest = login.text;
+    while let Some((text, more)) = next_line(rest) {
         line += 1;
+        rest = more;
         match judge_line(alloc, text, login, certificate, &marks)? {
             LineVerdict::Lets(terms) => {
                 return Ok(Grant {
@@ -76,7 +79,7 @@ fn listed_key<'a>(offered: &'a KeyData, certificate: Option<&'a Certificate>) ->
 /// What a line says of the login. The marks are those of the key whose lines they are.
 fn judge_line(
     alloc: Global,
-    line: &str,
+    line: &[u8],
     login: &UserLogin,
     certificate: Option<&Certificate>,
     marks: &Marks,

@@ -37,7 +37,8 @@ use std::alloc::Global;
 /// A time without `Z` cannot be told from 14 hours before the same time of UTC to 13 hours after
 /// it. Where `from` has a fault (`sshkey_addresses::FromFault`), its line cannot be told. A line may
 /// be for the key, though it is no entry of it, where the key may be spelled in it: with white space
-/// within its Base64, or other names and needless zeros before its point or its last number.
+/// within its Base64, or other names and needless zeros before its point or its last number; or in
+/// a line that is no UTF-8.
 ///
 /// `Memory` means that a line may have the key, or that `revocations` had to be asked
 /// (`Revocations::revokes_none`): other lines ask for none.

@@ -1,5 +1,5 @@
-//! Whether the key or the certificate that a user shows lets them in, by authorized_keys, and what
-//! such a login is bound to.
+//! Whether the key or the certificate that a user shows lets them in, by authorized_keys or by a file
+//! of principals, and what such a login is bound to.
 //!
 //! It names the crates for keys, certificates, entries, revocations and addresses, and nothing of
 //! private keys, and is proved from their contracts. Copy it and change it.
@@ -8,6 +8,7 @@
 mod answer;
 mod certificate;
 pub mod examples;
+mod filter;
 mod first_line;
 mod grant;
 mod key;
@@ -19,11 +20,17 @@ mod merge;
 mod names;
 mod options;
 mod place;
+mod policy;
+mod principal;
+mod principal_line;
 mod refusal;
+mod text;
 mod time;
 
 pub use certificate::admit_certificate;
+pub use filter::may_be_for;
 pub use grant::{Certified, Grant};
 pub use key::admit_key;
 pub use login::UserLogin;
+pub use principal::admit_principal;
 pub use refusal::{Reason, Refusal};

@@ -6,11 +6,11 @@ ghost use Rattle.sshkey_entries.specs.Entries.{hash_sign};
 ghost use Rattle.sshkey_entries.specs.Fields.{without_blanks};
 ghost use Rattle.sshkey_keys.specs.Keys.{key_of};
 ghost use Rattle.sshkey_model.specs.Keys.{IsKey};
-ghost use Rattle.login_terms.specs.Readings.{Tells};
+ghost use Rattle.sshkey_entries.specs.Readings.{Tells};
 ghost use Rattle.login_terms.specs.Terms.{terms_of};
 ghost use Rattle.user_keys.specs.Judgements.{Judges, NamesInVain, joined};
-ghost use Rattle.user_keys.specs.Lines.{IsEntryFor, IsFor, MayBeEntryFor, MayBeFor, before_zero};
-ghost use Rattle.user_keys.specs.Spellings.{AreMarks, MaySpell, own_part};
+ghost use Rattle.user_keys.specs.Lines.{IsEntryFor, IsFor, MayBeEntryFor, MayBeFor};
+ghost use Rattle.user_keys.specs.Spellings.{AreMarks, HasMark, MaySpell, own_part};
 
 use crate::answer::{Answer, Judgement};
 use crate::login::UserLogin;
@@ -18,21 +18,22 @@ use crate::marks::{Marks, own_part};
 use crate::options::read_terms;
 use crate::place::lets_from;
 use crate::refusal::Reason;
+use crate::text::{before_first, skip_blanks};
 use crate::time::counts_at;
 use login_terms::{Reading, Terms};
 use sshkey_authorized_keys::{Entry, OpenSshEntry};
 use sshkey_entries::laws::one_authorized_line;
-use sshkey_entries::skip_blanks;
 use sshkey_keys::KeyData;
 use sshkey_keys::laws::compared_keys;
 use std::alloc::{AllocError, Global};
+use std::str;
 
 /// What a line says that is for the key: as that of an authority, or of none. `Rejected` where it
 /// is for others or for nobody, and `Unclear` where sshd(8) may take it for one of the key. The
 /// marks are those of the key. Asks for no memory where none of them stands in the line.
 pub(crate) fn terms_for(
     alloc: Global,
-    line: &str,
+    line: &[u8],
     key: &KeyData,
     marks: &Marks,
     is_authority: bool,
@@ -43,42 +44,45 @@ pub(crate) fn terms_for(
         (MayBeFor (key_of key.now) line.now)) }
     ensures asks { IfErr result (λ _. MaySpell (own_part (key_of key.now)) line.now) }
 {
-    if !marks.stand_in(line.as_bytes()) {
+    if !marks.stand_in(line) {
         return Ok(Reading::Rejected);
     }
-    let line = before_zero(line);
+    // sshd(8) takes a line to end at a byte 0
+    let line = before_first(line, 0);
     if is_comment(line) {
         return Ok(Reading::Rejected);
     }
+    let Ok(text) = str::from_utf8(line) else {
+        return Ok(unread(line, marks));
+    };
     one_authorized_line();
-    match Entry::from_line_openssh(alloc, line) {
+    match Entry::from_line_openssh(alloc, text) {
         Ok(entry) => terms_of_entry(alloc, &entry, key, is_authority),
         Err(error) => {
             if error.is_memory() {
                 return Err(AllocError);
             }
-            if marks.stand_in(line.as_bytes()) {
-                return Ok(Reading::Unclear);
-            }
-            Ok(Reading::Rejected)
+            Ok(unread(line, marks))
         }
     }
 }
 
-/// The text up to its first byte 0, where sshd(8) takes a line to end.
-pub(crate) fn before_zero(text: &str) -> &str
-    ensures { result.now ≡ before_zero text.now }
+/// What a line says that is no entry, nor a comment: sshd(8) may take it for one of the key where a
+/// mark stands in it.
+fn unread(line: &[u8], marks: &Marks) -> Reading<Terms>
+    ensures { Tells terms_of (λ _. ⊥) (HasMark marks.now line.now) result }
 {
-    match text.split_once('\0') {
-        Some((front, _)) => front,
-        None => text,
+    if marks.stand_in(line) {
+        return Reading::Unclear;
     }
+    Reading::Rejected
 }
 
-fn is_comment(line: &str) -> bool
+fn is_comment(line: &[u8]) -> bool
     ensures { IsTrue result ↔ (slice_index (without_blanks line.now) 0 ≡ hash_sign) }
 {
-    skip_blanks(line).starts_with('#')
+    let filled = skip_blanks(line);
+    !filled.is_empty() && filled[0] == b'#'
 }
 
 /// What an entry says that is for the key.
@@ -158,7 +162,7 @@ fn joined(in_time: Answer, in_vain: bool, in_place: Answer) -> Judgement
 {
     match (in_time, in_vain, in_place) {
         (Answer::No, _, _) => Judgement::Refuses(Reason::Expired),
-        (_, true, _) => Judgement::Refuses(Reason::Authority),
+        (_, true, _) => Judgement::Refuses(Reason::MisplacedOption),
         (_, false, Answer::No) => Judgement::Refuses(Reason::Elsewhere),
         (Answer::Yes, false, Answer::Yes) => Judgement::Allows,
         (Answer::Unclear, false, _) | (_, false, Answer::Unclear) => Judgement::Unclear,

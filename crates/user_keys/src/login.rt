@@ -7,9 +7,11 @@ use std::net::IpAddr;
 #[derive(Debug, Clone, Copy)]
 pub struct UserLogin<'a> {
     /// The text of authorized_keys, of one file: ask about one file after the other, as long as the
-    /// answer is `NotListed` or `NotAllowed`. sshd also reads lines that are not UTF-8.
-    pub text: &'a str,
-    /// The name of the user who is to be let in. Only a certificate is asked about it.
+    /// answer is `NotListed` or `NotAllowed`. Or that of a file of principals (`admit_principal`).
+    /// Lines need not be UTF-8, as for sshd(8).
+    pub text: &'a [u8],
+    /// The name of the user who is to be let in. Only a certificate is asked about it, by
+    /// authorized_keys.
     pub user: &'a str,
     /// The key under which the client has signed.
     pub offered: &'a KeyData,

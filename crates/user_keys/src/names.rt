@@ -1,7 +1,7 @@
 //! The names that a certificate lists.
 
 ghost use Rattle.std.specs.List.{list_any};
-ghost use Rattle.std.specs.Prelude.{◌≡◌, bytes_eq, map, option_map, string_bytes};
+ghost use Rattle.std.specs.Prelude.{◌≡◌, IfSome, None, bytes_eq, false, map, option_map, position, string_bytes};
 ghost use Rattle.sshkey_addresses.specs.SourceAddresses.{SplitsPiece, pieces};
 ghost use Rattle.user_keys.specs.Certificates.{first_listed, name_listed};
 
@@ -17,7 +17,7 @@ pub(crate) fn name_listed<'a>(
 {
     match principals {
         Some(list) => first_listed(listed, list.as_str()),
-        None => if is_listed(listed, user) {
+        None => if is_listed(listed, user.as_bytes()) {
             Some(user)
         } else {
             None
@@ -36,7 +36,7 @@ fn first_listed<'a>(listed: &[String], list: &'a str) -> Option<&'a str>
         if name.is_empty() {
             return None;
         }
-        if is_listed(listed, name) {
+        if is_listed(listed, name.as_bytes()) {
             return Some(name);
         }
         let Some(next) = more else {
@@ -56,8 +56,28 @@ fn split_name(list: &str) -> (&str, Option<&str>)
     }
 }
 
-fn is_listed(listed: &[String], name: &str) -> bool
+/// Whether the name is among those that are listed.
+pub(crate) fn is_listed(listed: &[String], name: &[u8]) -> bool
     ensures { result ≡ list_any (λ other. bytes_eq name.now (string_bytes other)) listed.now }
 {
-    listed.iter().any(|other| name == other.as_str())
+    listed.iter().any(|other| name == other.as_bytes())
+}
+
+/// The name as text, if it is among those that are listed.
+pub(crate) fn listed_as<'a>(listed: &'a [String], name: &[u8]) -> Option<&'a str>
+    ensures found { IfSome result (λ n. n.now ≡ name.now) }
+    ensures none { result ≡ None
+        → list_any (λ other. bytes_eq name.now (string_bytes other)) listed.now ≡ false }
+{
+    match place_in(listed, name) {
+        Some(place) => Some(listed[place].as_str()),
+        None => None,
+    }
+}
+
+fn place_in(listed: &[String], name: &[u8]) -> Option<usize>
+    ensures { result
+        ≡ position (λ other. bytes_eq name.now (string_bytes other)) listed.now }
+{
+    listed.iter().position(|other| name == other.as_bytes())
 }

@@ -10,9 +10,10 @@ use std::alloc::AllocError;
 #[derive(Debug, Drop)]
 pub enum Refusal {
     /// No line is for the key; or, of a certificate, no line `cert-authority` for the key that
-    /// signed it. A line whose options sshd(8) rejects is for nobody.
+    /// signed it, or none that names one of its principals. A line whose options sshd(8) rejects is
+    /// for nobody.
     NotListed,
-    /// Lines are for the key, and each refuses it.
+    /// Lines are for the key, and each refuses it; or the line that decides refuses a principal.
     NotAllowed {
         /// The number of the first of them, from 1. Empty lines and comments are counted.
         line: usize,
@@ -43,8 +44,9 @@ pub enum Refusal {
 pub enum Reason {
     /// Its time, `expiry-time`, is over.
     Expired,
-    /// It names principals, and its key is no authority's.
-    Authority,
+    /// An option has no place there: `principals`, where the line's key is no authority's, or in a
+    /// file of principals, as `cert-authority`.
+    MisplacedOption,
     /// It is for other places (`from`).
     Elsewhere,
     /// The certificate has a command (`force-command`), and the line another.

@@ -1,13 +1,13 @@
 //! Asks about a login.
 
 use crate::verified::Verified;
-use crate::words::{NO_LINE, Words};
-use sshkey_base::Result;
+use crate::words::{NO_LINE, Words, bytes};
+use sshkey_base::{HashAlg, Result};
 use sshkey_cert::Certificate;
 use sshkey_public::PublicKey;
 use sshkey_revoked_keys::RevokedKeys;
 use std::alloc::Global;
-use user_keys::{Grant, Refusal, admit_certificate, admit_key};
+use user_keys::{Grant, Refusal, admit_certificate, admit_key, admit_principal};
 
 /// Whether a login is let in, and to what.
 pub(crate) type Admission = std::result::Result<Grant, Refusal>;
@@ -20,6 +20,12 @@ pub(crate) fn ask(alloc: Global, line: &str) -> Result<Admission> {
         ["certificate", signed, words @ ..] => {
             certificate(alloc, &verified(signed)?, &Words::read(alloc, words)?)
         }
+        ["principal", signed, authority, words @ ..] => principal(
+            alloc,
+            &verified(signed)?,
+            authority,
+            &Words::read(alloc, words)?,
+        ),
         _ => Err(NO_LINE),
     }
 }
@@ -48,6 +54,25 @@ fn certificate(alloc: Global, verifier: &Verified, words: &Words) -> Result<Admi
         alloc,
         &words.login(certificate.public_key()),
         &words.shown,
+        &RevokedKeys::from_bytes(alloc, &words.revoked),
+        verifier,
+    ))
+}
+
+fn principal(
+    alloc: Global,
+    verifier: &Verified,
+    authority: &str,
+    words: &Words,
+) -> Result<Admission> {
+    let authority = PublicKey::from_bytes(alloc, &bytes(alloc, authority)?)?;
+    let trusted = authority.fingerprint(alloc, HashAlg::Sha256)?;
+    let certificate = Certificate::from_bytes(alloc, &words.shown)?;
+    Ok(admit_principal(
+        alloc,
+        &words.login(certificate.public_key()),
+        &words.shown,
+        &[trusted],
         &RevokedKeys::from_bytes(alloc, &words.revoked),
         verifier,
     ))

@@ -1,4 +1,4 @@
-//! Asks `user_keys` whom a text of authorized_keys lets in, line by line, for checks/user-keys.
+//! Asks `user_keys` whom a text lets in, line by line, for checks/user-keys.
 //!
 //! A line is a question and what it is about, with a tab between; its answer is written on a line.
 //! Comments and empty lines are written as they are. The file `stdin` says what the words are.

@@ -115,7 +115,7 @@ fn show_refusal<W: Write>(output: &mut W, refusal: &Refusal) -> io::Result<()> {
 fn why(reason: Reason) -> &'static str {
     match reason {
         Reason::Expired => "expired",
-        Reason::Authority => "authority",
+        Reason::MisplacedOption => "misplaced option",
         Reason::Elsewhere => "elsewhere",
         Reason::Command => "command",
         Reason::Principals => "principals",

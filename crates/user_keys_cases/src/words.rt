@@ -17,7 +17,7 @@ pub(crate) const NO_LINE: Error = Error::Io(ErrorKind::InvalidInput);
 #[derive(Drop)]
 pub(crate) struct Words {
     unix_timestamp: u64,
-    text: String,
+    text: Vec<u8>,
     user: String,
     /// The bytes of the key or of the certificate that the client shows.
     pub shown: Vec<u8>,
@@ -35,7 +35,7 @@ impl Words {
         };
         Ok(Words {
             unix_timestamp: second.parse::<u64>().map_err(|_| NO_LINE)?,
-            text: text(alloc, keys)?,
+            text: bytes(alloc, keys)?,
             user: text(alloc, user)?,
             shown: bytes(alloc, shown)?,
             client: client.parse::<IpAddr>().map_err(|_| NO_LINE)?,
@@ -69,7 +69,7 @@ fn name(alloc: Global, word: &str) -> Result<Option<String>> {
 }
 
 /// The bytes that the digits spell.
-fn bytes(alloc: Global, digits: &str) -> Result<Vec<u8>> {
+pub(crate) fn bytes(alloc: Global, digits: &str) -> Result<Vec<u8>> {
     match hex::decode(alloc, digits) {
         Ok(bytes) => Ok(bytes),
         Err(FromHexError::OutOfMemory) => Err(Error::Memory),

@@ -23,6 +23,7 @@ pub(crate) fn decode_frame<M: Framed + Drop, R: Reader>(alloc: Global, reader: &
         (R.source reader.old) result }
     ensures past { Stops cause (framed M.Kind.kind_from M.body) (R.source reader.old) result }
 {
+    M::lawful_bodies();
     reader.read_prefixed(
         |part: &mut NestedReader<'_, R>| -> Result<M>
             ensures gives { Gives M.means cause (contents M.Kind.kind_from M.body).read

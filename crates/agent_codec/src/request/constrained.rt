@@ -19,7 +19,7 @@ use ssh_key::{Result, encoding};
 use std::alloc::Global;
 
 /// A pair, its comment and its constraints, up to the end of the reader.
-#[tactic(auto, using(ssh_key::proofs::Mapped::mapped, ssh_key::proofs::Steps::steps, crate::specs::Requests::constrained_read))]
+#[tactic(auto, using(ssh_key::proofs::Mapped::mapped, ssh_key::proofs::Steps::steps, crate::proofs::Requests::constrained_read))]
 pub(super) fn constrained_from<R: Reader>(alloc: Global, reader: &mut R) -> Result<Request>
     ensures gives { Gives request_of cause constrained_body.read
         (R.source reader.old) result (R.source reader.new) }

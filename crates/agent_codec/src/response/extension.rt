@@ -17,7 +17,7 @@ use ssh_key::{Result, encoding};
 use std::alloc::Global;
 
 /// A name and strings, up to the end of the reader.
-#[tactic(auto, using(ssh_key::proofs::Mapped::mapped, ssh_key::proofs::Steps::steps, crate::specs::Responses::extension_read))]
+#[tactic(auto, using(ssh_key::proofs::Mapped::mapped, ssh_key::proofs::Steps::steps, crate::proofs::Responses::extension_read))]
 pub(super) fn extension_from<R: Reader>(alloc: Global, reader: &mut R) -> Result<Response>
     ensures gives { Gives response_of cause extension_body.read
         (R.source reader.old) result (R.source reader.new) }

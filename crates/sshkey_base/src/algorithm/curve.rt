@@ -7,7 +7,6 @@ ghost use Rattle.sshkey_base.specs.Causes.{Faulty, cause, encoding_cause};
 ghost use Rattle.sshkey_model.specs.Parts.{Any};
 ghost use Rattle.sshkey_model.specs.Points.{field_size};
 ghost use Rattle.sshkey_base.specs.Labels.{AsksNamed, LooksUp, LooksUpAlways};
-ghost use Rattle.sshkey_base.specs.LabelLaws.{curve_checks, curve_ascii, curve_short, curve_refusals};
 ghost use Rattle.sshkey_base.specs.Names.{curve_of};
 ghost use Rattle.sshkey_base.specs.Needs.{NoNeed};
 ghost use Rattle.sshkey_base.specs.Answers.{NamesAlways};
@@ -79,6 +78,7 @@ impl FromStr for EcdsaCurve {
     }
 }
 
+#[tactic(auto, using(crate::proofs::LabelLaws::curve_names))]
 impl Label for EcdsaCurve {
     ghost Named = { Curve };
 
@@ -104,13 +104,7 @@ impl Label for EcdsaCurve {
         Ok(EcdsaCurve::from_str(name)?)
     }
 
-    ghost checks = { curve_checks };
-
-    ghost ascii = { curve_ascii };
-
-    ghost short = { curve_short };
-
-    ghost refusals = { curve_refusals };
+    fn lawful_names() {}
 }
 
 impl AsStr for EcdsaCurve {

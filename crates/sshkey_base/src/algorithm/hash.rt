@@ -7,7 +7,6 @@ ghost use Rattle.sshkey_model.specs.Reading as fault;
 ghost use Rattle.sshkey_base.specs.Causes.{Faulty, cause, encoding_cause};
 ghost use Rattle.sshkey_model.specs.Parts.{Any};
 ghost use Rattle.sshkey_base.specs.Labels.{AsksNamed, LooksUp, LooksUpAlways};
-ghost use Rattle.sshkey_base.specs.LabelLaws.{hash_checks, hash_ascii, hash_short, hash_refusals};
 ghost use Rattle.sshkey_base.specs.Names.{hash_of};
 ghost use Rattle.sshkey_base.specs.Needs.{NoNeed};
 ghost use Rattle.sshkey_base.specs.Answers.{NamesAlways};
@@ -92,6 +91,7 @@ impl FromStr for HashAlg {
     }
 }
 
+#[tactic(auto, using(crate::proofs::LabelLaws::hash_names))]
 impl Label for HashAlg {
     ghost Named = { Hash };
 
@@ -117,13 +117,7 @@ impl Label for HashAlg {
         Ok(HashAlg::from_str(name)?)
     }
 
-    ghost checks = { hash_checks };
-
-    ghost ascii = { hash_ascii };
-
-    ghost short = { hash_short };
-
-    ghost refusals = { hash_refusals };
+    fn lawful_names() {}
 }
 
 impl AsStr for HashAlg {

@@ -15,7 +15,7 @@ ghost use Rattle.sshkey_public.specs.PublicKeys.{MakesLine};
 ghost use Rattle.sshkey_cert.specs.CertificateFormats.{certificate_format};
 ghost use Rattle.sshkey_cert.specs.CertificateReaders.{SpellsCertificate};
 ghost use Rattle.sshkey_cert.specs.CertificateValues.{certificate_of, comment_of};
-ghost use Rattle.sshkey_cert.specs.Lines.{ReadsCertificate, certificates_stand};
+ghost use Rattle.sshkey_cert.specs.Lines.{ReadsCertificate};
 
 use super::Certificate;
 use sshkey_base::{Result, Text, Writer, encode_vec, encoding};
@@ -24,6 +24,7 @@ use sshkey_public::{Blob, make_line, makes_one_line, read_line};
 use std::alloc::Global;
 
 /// The name of the certified key's algorithm in certificates.
+#[tactic(auto, using(crate::proofs::CertificateReaders::certificates_stand))]
 impl Blob for Certificate {
     ghost Value = { TheCertificate };
 
@@ -33,7 +34,7 @@ impl Blob for Certificate {
 
     ghost Spelling = { SpellsCertificate };
 
-    ghost stands = { certificates_stand };
+    fn stands() {}
 
     fn write_name<W: Writer>(&self, writer: &mut W) -> encoding::Result<()> {
         self.fields.public_key.write_certificate_name(writer)

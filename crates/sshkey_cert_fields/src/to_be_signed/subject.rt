@@ -17,6 +17,7 @@ use std::alloc::Global;
 struct Certified(Algorithm);
 
 /// The string of the name. Fails with `Label` for a string that is none of the names.
+#[tactic(auto, using(sshkey_base::proofs::Lawful::certified_lawful))]
 impl Decode for Certified {
     type Error = Error;
 
@@ -25,6 +26,8 @@ impl Decode for Certified {
     ghost means = { λ x. algorithm_of x.0 };
 
     ghost format = { certified_format };
+
+    fn lawful() {}
 
     #[inline(always)]
     fn decode<R: Reader>(alloc: Global, reader: &mut R) -> Result<Certified> {
@@ -42,7 +45,7 @@ pub(super) struct Subject {
 }
 
 /// The name of the key's algorithm, the nonce, and the key's body under that name.
-#[tactic(auto, using(sshkey_base::proofs::Steps::steps, sshkey_terms::proofs::Stopping::stopping, sshkey_terms::proofs::Mapped::mapped, crate::specs::ToBeSignedFormats::subject_parts_read), unfolding(sshkey_model::specs::Reading::behind_at))]
+#[tactic(auto, using(sshkey_base::proofs::Steps::steps, sshkey_terms::proofs::Stopping::stopping, sshkey_terms::proofs::Mapped::mapped, crate::proofs::ToBeSignedReaders::subject_parts_read, crate::proofs::Lawful::subject_lawful), unfolding(sshkey_model::specs::Reading::behind_at))]
 impl Decode for Subject {
     ghost use Rattle.sshkey_cert_fields.specs.ToBeSignedValues.{subject_of};
 
@@ -53,6 +56,8 @@ impl Decode for Subject {
     ghost means = { subject_of };
 
     ghost format = { subject_format };
+
+    fn lawful() {}
 
     fn decode<R: Reader>(alloc: Global, reader: &mut R) -> Result<Subject> {
         type Opening = Then<Certified, Wide<Bytes>>;

@@ -10,7 +10,6 @@ ghost use Rattle.sshkey_base.specs.Needs.{Asks, NeedsString};
 ghost use Rattle.sshkey_base.specs.Source.{Later, all_of};
 ghost use Rattle.sshkey_base.specs.Stops.{StopsBy};
 ghost use Rattle.sshkey_base.specs.Sink.{Encodes, Measures};
-ghost use Rattle.sshkey_model.specs.Grammar.{normal_is_spelling};
 ghost use Rattle.sshkey_model.specs.Reading.{checked_at, string_at, whole};
 ghost use Rattle.sshkey_model.specs.Signatures.{Signature as TheSignature, IsSignature, signature, signature_blob, string_from, signature_blob_at, signature_at, trailed_at};
 ghost use Rattle.sshkey_keys.specs.Blobs.{ReadsFrontOf, MakesBlob};
@@ -75,7 +74,7 @@ impl Signature {
 ///
 /// Fails with `Label` for a name of no algorithm, and with the faults of `Signature::new`, for
 /// which the bytes after the string are read first.
-#[tactic(auto, using(sshkey_terms::proofs::Chosen::chosen, crate::specs::KeyFormats::signature_chosen, sshkey_base::specs::Lengths::label_lengths))]
+#[tactic(auto, using(crate::proofs::Lawful::signature_lawful, sshkey_terms::proofs::Chosen::chosen, crate::proofs::SignatureReaders::signature_chosen, sshkey_base::proofs::Lengths::label_lengths))]
 impl Decode for Signature {
     type Error = Error;
 
@@ -84,6 +83,8 @@ impl Decode for Signature {
     ghost means = { signature_of };
 
     ghost format = { signature_format };
+
+    fn lawful() {}
 
     fn decode<R: Reader>(alloc: Global, reader: &mut R) -> Result<Signature> {
         let Wide(algorithm) = Wide::<Algorithm>::decode(alloc, reader)?;
@@ -235,8 +236,9 @@ fn encode_blob<W: Writer>(
     writer.write(trailer)
 }
 
+#[tactic(auto, using(sshkey_model::specs::Grammar::normal_is_spelling))]
 impl NormalForm for Signature {
     ghost IsWellFormed = { λ g. IsSignature (signature_of g) };
 
-    ghost normal_spells = { λ g. normal_is_spelling (signature_of g) };
+    fn normal_spells() {}
 }

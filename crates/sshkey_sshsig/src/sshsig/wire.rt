@@ -12,7 +12,7 @@ ghost use Rattle.sshkey_model.specs.Reading.{literal_at, literal_from, whole};
 ghost use Rattle.sshkey_model.specs.SshSignatures.{SshSignature, IsSshSignature, normal_ssh_signature, signature_magic};
 ghost use Rattle.sshkey_sshsig.specs.SshSignatures.{ssh_signature_of, statement, magic_of, version_of, namespace_of};
 ghost use Rattle.sshkey_sshsig.specs.SshSignatureFormats.{magic_format, version_from, version_format, namespace_from, namespace_format, ssh_signature_format};
-ghost use Rattle.sshkey_sshsig.specs.SshSignatureReaders.{ssh_signature_value_at, SpellsSshSignature, ssh_signature_normal};
+ghost use Rattle.sshkey_sshsig.specs.SshSignatureReaders.{ssh_signature_value_at, SpellsSshSignature};
 
 use super::SshSig;
 use super::part::{Magic, Namespace, Version};
@@ -65,7 +65,7 @@ fn check_magic(bytes: [u8; 6]) -> Result<Magic>
 }
 
 /// The six bytes `SSHSIG`.
-#[tactic(auto, using(sshkey_base::proofs::Steps::steps, sshkey_base::proofs::Stopping::stopping), unfolding(sshkey_model::specs::Reading::literal_at))]
+#[tactic(auto, using(crate::proofs::Lawful::magic_lawful, sshkey_base::proofs::Steps::steps, sshkey_base::proofs::Stopping::stopping), unfolding(sshkey_model::specs::Reading::literal_at))]
 impl Decode for Magic {
     type Error = Error;
 
@@ -74,6 +74,8 @@ impl Decode for Magic {
     ghost means = { magic_of };
 
     ghost format = { magic_format };
+
+    fn lawful() {}
 
     fn decode<R: Reader>(_alloc: Global, reader: &mut R) -> Result<Magic> {
         let bytes = array_from::<6, R>(reader)?;
@@ -92,7 +94,7 @@ fn check_version(number: u32) -> Result<Version>
 }
 
 /// A version in four bytes.
-#[tactic(auto, using(sshkey_base::proofs::Steps::steps, sshkey_base::proofs::Stopping::stopping, sshkey_terms::specs::Terms::checked_read))]
+#[tactic(auto, using(crate::proofs::Lawful::version_lawful, sshkey_base::proofs::Steps::steps, sshkey_base::proofs::Stopping::stopping, sshkey_terms::proofs::Lawful::checked_read))]
 impl Decode for Version {
     type Error = Error;
 
@@ -101,6 +103,8 @@ impl Decode for Version {
     ghost means = { version_of };
 
     ghost format = { version_format };
+
+    fn lawful() {}
 
     fn decode<R: Reader>(alloc: Global, reader: &mut R) -> Result<Version> {
         let number = u32::decode(alloc, reader)?;
@@ -119,7 +123,7 @@ fn check_namespace(text: Text) -> Result<Namespace>
 }
 
 /// A text that is not empty.
-#[tactic(auto, using(sshkey_base::proofs::Steps::steps, sshkey_base::proofs::Stopping::stopping, sshkey_base::specs::Lengths::text_lengths, sshkey_terms::specs::Terms::checked_read))]
+#[tactic(auto, using(crate::proofs::Lawful::namespace_lawful, sshkey_base::proofs::Steps::steps, sshkey_base::proofs::Stopping::stopping, sshkey_base::proofs::Lengths::text_lengths, sshkey_terms::proofs::Lawful::checked_read))]
 impl Decode for Namespace {
     type Error = Error;
 
@@ -128,6 +132,8 @@ impl Decode for Namespace {
     ghost means = { namespace_of };
 
     ghost format = { namespace_format };
+
+    fn lawful() {}
 
     fn decode<R: Reader>(alloc: Global, reader: &mut R) -> Result<Namespace> {
         let text = Text::decode(alloc, reader)?;
@@ -147,7 +153,7 @@ type Statement = Then<Namespace, Then<Wide<Bytes>, Then<Wide<HashAlg>, Boxed<Sig
 /// Fails with `FormatEncoding` for other bytes than `SSHSIG`, with `Version` and its number for a
 /// version above 1, with `Namespace` for an empty namespace, with `Label` for the name of no hash,
 /// and as `KeyData` and `Signature` do.
-#[tactic(auto, using(sshkey_terms::proofs::Mapped::mapped, sshkey_terms::specs::Terms::checked_read))]
+#[tactic(auto, using(crate::proofs::Lawful::ssh_signature_lawful, sshkey_terms::proofs::Mapped::mapped, sshkey_terms::proofs::Lawful::checked_read))]
 impl Decode for SshSig {
     type Error = Error;
 
@@ -156,6 +162,8 @@ impl Decode for SshSig {
     ghost means = { ssh_signature_of };
 
     ghost format = { ssh_signature_format };
+
+    fn lawful() {}
 
     fn decode<R: Reader>(alloc: Global, reader: &mut R) -> Result<SshSig> {
         let Then(opening, statement) = Then::<Opening, Statement>::decode(alloc, reader)?;
@@ -216,5 +224,5 @@ fn encode_statement<W: Writer>(signature: &SshSig, writer: &mut W) -> encoding::
 impl NormalForm for SshSig {
     ghost IsWellFormed = { λ f. IsSshSignature (ssh_signature_of f) };
 
-    ghost normal_spells = { λ f. ssh_signature_normal (ssh_signature_of f) };
+    fn normal_spells() {}
 }

@@ -29,6 +29,10 @@ impl<T: Decode + Drop> Decode for Counted<T> {
 
     ghost format = { counted_format T.format };
 
+    fn lawful() {
+        T::lawful();
+    }
+
     fn decode<R: Reader>(alloc: Global, reader: &mut R) -> Result<Counted<T>, T::Error> {
         let count = usize::decode(alloc, reader)?;
         Ok(Counted(values_from::<T, R>(alloc, reader, count)?))
@@ -51,6 +55,7 @@ fn values_from<T: Decode + Drop, R: Reader>(
     ensures past { Stops T.Error.cause (values_format T.format count)
         (R.source reader.old) result }
 {
+    T::lawful();
     let before = reader.remaining_len();
     if before < count {
         return Err(T::Error::from(Error::Length));
@@ -72,9 +77,10 @@ fn times_from<T: Decode + Drop, R: Reader>(
         (R.source reader.old) result (R.source reader.new) }
     ensures later { Later (R.source reader.old) (R.source reader.new) }
     ensures asks { Asks T.Error.cause (NeedsValues T.format count) (R.source reader.old) result }
-    ensures past { StopsBy T.Error.cause (times_at T.format.grammar.delimited_at count)
+    ensures past { StopsBy T.Error.cause (times_at T.format.delimited_at count)
         (NeedsValues T.format count) (OverrunsValues T.format count) (R.source reader.old) result }
 {
+    T::lawful();
     let mut values = Vec::new(alloc);
     'reads: while values.len() < count {
         add(&mut values, T::decode(alloc, reader)?)?;

@@ -34,6 +34,7 @@ pub fn decode_each<T: Decode + Drop, R: Reader>(
     ensures past { StopsBy T.Error.cause (never_at {A = List T.Meaning})
         (NeedsEach T.format) (OverrunsEach T.format) (R.source reader.old) result }
 {
+    T::lawful();
     let mut values = Vec::new(alloc);
     'reads: while !reader.is_finished() {
         add(&mut values, T::decode(alloc, reader)?)?;

@@ -1,7 +1,7 @@
 //! Entries of authorized_keys and their parts.
 
-use super::support::{are_values, is_equal, is_text};
-use sshkey_authorized_keys::{AuthorizedKeys, ConfigOpts, Entry};
+use super::support::{is_equal, is_text};
+use sshkey_authorized_keys::{ConfigOpts, Entry};
 use sshkey_public::PublicKey;
 use std::alloc::Global;
 use std::convert::AsStr;
@@ -66,17 +66,4 @@ fn an_entry_of_a_key_has_no_options(rt: HostRuntime) {
 #[test]
 fn entries_are_compared(rt: HostRuntime) {
     assert!(rt; is_compared(rt.alloc()));
-}
-
-const LINES: &str =
-    "key\nssh-ed25519 AAAAC3NzaC1lZDI1NTE5AAAAILM+rvN+ot98qgEN796jTiQfZfG1KaT0PtFDJ/XFSqti a\n#\nkey\nc=\"x ssh-ed25519 AAAAC3NzaC1lZDI1NTE5AAAAILM+rvN+ot98qgEN796jTiQfZfG1KaT0PtFDJ/XFSqti y\" z\n";
-
-#[test]
-fn lines_are_answered_one_by_one(rt: HostRuntime) {
-    assert!(rt;
-        are_values(
-            AuthorizedKeys::new(rt.alloc(), LINES),
-            &[false, true, false, true]
-        )
-    );
 }

@@ -1,50 +1,21 @@
 //! Ciphers, what stands around what they encrypt, and key derivations.
 
-use super::pairs::{bytes_of, is_written};
 use super::support::is_wanted;
-use sshkey_base::{Error, Result, SliceWriter, decode_whole, encoding};
+use sshkey_base::{Error, Result, SliceWriter, encoding};
 use sshkey_ciphers::{Cipher, Kdf, KdfAlg, ciphertext_from, encode_padded, padding_from, tag_from};
 use sshkey_doubles::Count;
 use std::alloc::Global;
 
-/// The name, and in a string 16 bytes of salt and 16 rounds, as an encrypted key has them.
-const BCRYPT: &str = "000000066263727970740000001800000010000102030405060708090a0b0c0d0e0f00000010";
-
-const NONE: &str = "000000046e6f6e6500000000";
-
-fn read(alloc: Global, digits: &str) -> Result<Kdf> {
-    decode_whole(alloc, bytes_of(alloc, digits).as_slice())
-}
-
-fn is_read(alloc: Global, digits: &str, is_some: bool) -> bool {
-    match read(alloc, digits) {
-        Ok(kdf) => is_written(alloc, &kdf, digits) && kdf.is_some() == is_some,
-        Err(_) => false,
-    }
-}
-
-/// The salt is what the generator gives first.
-fn is_drawn(alloc: Global) -> bool {
-    match Kdf::new(alloc, KdfAlg::Bcrypt, &mut Count::new()) {
-        Ok(kdf) => is_written(alloc, &kdf, BCRYPT) && kdf.is_bcrypt(),
-        Err(_) => false,
-    }
-}
-
-fn none_is_drawn(alloc: Global) -> bool {
-    is_wanted(
-        Kdf::new(alloc, KdfAlg::None, &mut Count::new()).err(),
-        Some(Error::AlgorithmUnknown),
-    )
+/// Whether a key is derived in the way that the text names, with a salt that is drawn.
+fn is_some(alloc: Global, name: &str) -> Result<(bool, bool)> {
+    let kdf = Kdf::new(alloc, KdfAlg::new(name)?, &mut Count::new())?;
+    Ok((kdf.is_some(), kdf.is_bcrypt()))
 }
 
 #[test]
 fn derivations(rt: HostRuntime) {
-    let alloc = rt.alloc();
-    assert!(rt; is_read(alloc, BCRYPT, true));
-    assert!(rt; is_read(alloc, NONE, false));
-    assert!(rt; is_drawn(alloc));
-    assert!(rt; none_is_drawn(alloc));
+    assert!(rt; is_wanted(is_some(rt.alloc(), "bcrypt"), Ok((true, true))));
+    assert!(rt; !Kdf::None.is_some() && !Kdf::None.is_bcrypt());
 }
 
 /// A cipher has that name, size of blocks and tag, as in OpenSSH's table of ciphers.

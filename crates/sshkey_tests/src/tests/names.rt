@@ -8,25 +8,25 @@ use sshkey_base::{
 };
 use std::alloc::Global;
 
-/// The algorithm of the name, its copy, and the algorithm of its label are the same.
-fn is_copied(alloc: Global, name: &str) -> Result<bool> {
+/// The algorithm of the name is that of its label, and a private-use name and its copy are the same.
+fn is_labelled(alloc: Global, name: &str) -> Result<bool> {
     let algorithm = Algorithm::new(alloc, name)?;
-    let copy = algorithm.try_clone(alloc)?;
-    let labelled = Algorithm::from_label(alloc, algorithm.label())?;
-    Ok(are_alike(&algorithm, &copy) && are_alike(&algorithm, &labelled))
+    Ok(are_alike(
+        &algorithm,
+        &Algorithm::from_label(alloc, algorithm.label())?,
+    ))
 }
 
-/// A private-use name and its copy are the same.
-fn is_copied_name(alloc: Global, name: &str) -> Result<bool> {
+fn is_copied(alloc: Global, name: &str) -> Result<bool> {
     let name = AlgorithmName::new(alloc, name)?;
     Ok(are_alike(&name, &name.try_clone(alloc)?))
 }
 
 #[test]
-fn copies(rt: HostRuntime) {
-    assert!(rt; is_wanted(is_copied(rt.alloc(), "rsa-sha2-512"), Ok(true)));
+fn labels_and_copies(rt: HostRuntime) {
+    assert!(rt; is_wanted(is_labelled(rt.alloc(), "rsa-sha2-512"), Ok(true)));
+    assert!(rt; is_wanted(is_labelled(rt.alloc(), "name@example.com"), Ok(true)));
     assert!(rt; is_wanted(is_copied(rt.alloc(), "name@example.com"), Ok(true)));
-    assert!(rt; is_wanted(is_copied_name(rt.alloc(), "name@example.com"), Ok(true)));
 }
 
 #[test]

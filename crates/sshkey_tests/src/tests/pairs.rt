@@ -1,6 +1,5 @@
 //! Key pairs.
 
-use super::made_pairs::{DSA, ED25519, MadePair, P256, P384, P521, RSA};
 use super::support::is_wanted;
 use sshkey_base::{Algorithm, Encode, Error, Result, decode_whole, encode_vec, encoding};
 use sshkey_kinds::{Ed25519PublicKey, OpaquePublicKey, SkEd25519 as PublicSkEd25519};
@@ -24,34 +23,8 @@ pub(super) fn is_written<T: Encode>(alloc: Global, value: &T, digits: &str) -> b
     }
 }
 
-/// Its public half is that of the other file.
-fn has_public_half(alloc: Global, pair: &KeypairData, made: &MadePair) -> bool {
-    match pair.to_public(alloc) {
-        Ok(key) => is_written(alloc, &key, made.public),
-        Err(_) => false,
-    }
-}
-
 pub(super) fn read(alloc: Global, digits: &str) -> Result<KeypairData> {
     decode_whole(alloc, bytes_of(alloc, digits).as_slice())
-}
-
-/// The pair is read, its public half is that of the other file, and it is written at full width.
-fn is_kept(alloc: Global, made: &MadePair) -> bool {
-    match read(alloc, made.pair) {
-        Ok(pair) => {
-            has_public_half(alloc, &pair, made)
-                && is_written(alloc, &pair, made.full.unwrap_or(made.pair))
-        }
-        Err(_) => false,
-    }
-}
-
-#[test]
-fn pairs_from_openssh(rt: HostRuntime) {
-    for made in [DSA, P256, P384, P521, ED25519, RSA] {
-        assert!(rt; is_kept(rt.alloc(), &made));
-    }
 }
 
 /// The pair of those bytes: its own bytes, its checkint and its public half.

@@ -1,7 +1,5 @@
 //! What the tests share.
 
-ghost use Rattle.std.specs.Iterator.{IsFinite};
-
 use ssh_key::Result;
 use std::alloc::Global;
 use std::fmt::{Debug, Display};
@@ -43,24 +41,6 @@ pub(crate) fn is_debugged<T: Debug>(alloc: Global, value: &T, text: &str) -> boo
         Ok(shown) => shown.as_str() == text,
         Err(_) => false,
     }
-}
-
-/// Which of the answers are values, one after the other.
-pub(crate) fn are_values<T: Drop, I: Iterator<Item = Result<T>> + Drop>(
-    answers: I,
-    wanted: &[bool],
-) -> bool
-    requires can { I.can_next answers }
-    requires ends { IsFinite (I.remaining answers) }
-{
-    let mut count: usize = 0;
-    for answer in answers {
-        if wanted.get(count).copied() != Some(answer.is_ok()) {
-            return false;
-        }
-        count = count.saturating_add(1);
-    }
-    count == wanted.len()
 }
 
 /// The two are equal, and hashed alike.

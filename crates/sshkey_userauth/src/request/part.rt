@@ -3,6 +3,7 @@
 ghost use Rattle.std.specs.Prelude.{ℕ, List};
 ghost use Rattle.sshkey_base.specs.Answers.{AnswersAlways};
 ghost use Rattle.sshkey_base.specs.Causes.{cause};
+ghost use Rattle.sshkey_base.specs.Formats.{IsFormat};
 ghost use Rattle.sshkey_base.specs.Reading.{GivesAlways};
 ghost use Rattle.sshkey_base.specs.Source.{Later, all_of};
 ghost use Rattle.sshkey_model.specs.Reading.{literal_from};
@@ -33,7 +34,7 @@ pub(super) const HOSTBOUND: &[u8] = b"publickey-hostbound-v00@openssh.com";
 pub(super) struct MessageNumber;
 
 /// Fails with `FormatEncoding` for another byte.
-#[tactic(auto, using(sshkey_terms::proofs::Walking::walking), unfolding(sshkey_model::specs::Reading::literal_at))]
+#[tactic(auto, using(sshkey_terms::proofs::Walking::walking, crate::proofs::Lawful::lawful), unfolding(sshkey_model::specs::Reading::literal_at))]
 impl<'a> ReadFrom<&'a [u8]> for MessageNumber {
     type Error = Error;
 
@@ -42,6 +43,10 @@ impl<'a> ReadFrom<&'a [u8]> for MessageNumber {
     ghost means = { λ m. message_number };
 
     ghost format = { literal_format message_number };
+
+    fn lawful()
+        ensures { IsFormat (literal_format message_number) }
+    {}
 
     fn read_from(reader: &mut &'a [u8]) -> Result<MessageNumber> {
         let bytes = bytes_from(MESSAGE_NUMBER.len(), reader)?;
@@ -65,7 +70,7 @@ fn check_number(bytes: &[u8]) -> Result<MessageNumber>
 pub(super) struct HasSignature;
 
 /// Fails with `FormatEncoding` for another byte.
-#[tactic(auto, using(sshkey_terms::proofs::Walking::walking), unfolding(sshkey_model::specs::Reading::literal_at))]
+#[tactic(auto, using(sshkey_terms::proofs::Walking::walking, crate::proofs::Lawful::lawful), unfolding(sshkey_model::specs::Reading::literal_at))]
 impl<'a> ReadFrom<&'a [u8]> for HasSignature {
     type Error = Error;
 
@@ -74,6 +79,10 @@ impl<'a> ReadFrom<&'a [u8]> for HasSignature {
     ghost means = { λ s. has_signature };
 
     ghost format = { literal_format has_signature };
+
+    fn lawful()
+        ensures { IsFormat (literal_format has_signature) }
+    {}
 
     fn read_from(reader: &mut &'a [u8]) -> Result<HasSignature> {
         let bytes = bytes_from(HAS_SIGNATURE.len(), reader)?;
@@ -102,7 +111,7 @@ pub(super) enum Method {
 }
 
 /// Fails with `Label` for the name of another method.
-#[tactic(auto, using(sshkey_terms::proofs::Walking::walking))]
+#[tactic(auto, using(sshkey_terms::proofs::Walking::walking, crate::proofs::Lawful::lawful))]
 impl<'a> ReadFrom<&'a [u8]> for Method {
     type Error = Error;
 
@@ -111,6 +120,10 @@ impl<'a> ReadFrom<&'a [u8]> for Method {
     ghost means = { method_of };
 
     ghost format = { method_format };
+
+    fn lawful()
+        ensures { IsFormat method_format }
+    {}
 
     fn read_from(reader: &mut &'a [u8]) -> Result<Method> {
         let name = <&'a [u8]>::read_from(reader)?;
@@ -140,6 +153,7 @@ pub(super) struct Credential<'a> {
 }
 
 /// The name of the method, and what it calls for.
+#[tactic(auto, using(crate::proofs::Lawful::lawful))]
 impl<'a> ReadFrom<&'a [u8]> for Credential<'a> {
     type Error = Error;
 
@@ -148,6 +162,10 @@ impl<'a> ReadFrom<&'a [u8]> for Credential<'a> {
     ghost means = { credential_of };
 
     ghost format = { method_and_credential };
+
+    fn lawful()
+        ensures { IsFormat method_and_credential }
+    {}
 
     fn read_from(reader: &mut &'a [u8]) -> Result<Credential<'a>> {
         let method = Method::read_from(reader)?;

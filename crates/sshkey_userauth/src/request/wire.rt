@@ -3,6 +3,7 @@
 ghost use Rattle.std.specs.Prelude.{◌≡◌, ◌↔◌, ◌≤◌, ◌+◌, ◌*◌, ◌^◌, IfOk, IsTrue, option_map};
 ghost use Rattle.sshkey_base.specs.Answers.{AnswersAlways};
 ghost use Rattle.sshkey_base.specs.Causes.{cause};
+ghost use Rattle.sshkey_base.specs.Formats.{IsFormat};
 ghost use Rattle.sshkey_base.specs.Sink.{Encodes, Measures};
 ghost use Rattle.sshkey_keys.specs.Blobs.{MakesBlob};
 ghost use Rattle.sshkey_model.specs.Parts.{bytes, ◌&◌};
@@ -101,7 +102,7 @@ type Opening<'a> = Then<Wide<&'a [u8]>, Then<MessageNumber, Wide<Then<&'a [u8], 
 ///
 /// Fails with `Length` for a stated length that passes the bytes, with `FormatEncoding` for another
 /// message and for one without a signature, and with `Label` for another method.
-#[tactic(auto, using(sshkey_terms::proofs::Walking::walking, sshkey_terms::proofs::Mapped::mapped, sshkey_terms::specs::Terms::checked_read))]
+#[tactic(auto, using(sshkey_terms::proofs::Walking::walking, sshkey_terms::proofs::Mapped::mapped, sshkey_terms::proofs::Lawful::checked_read, crate::proofs::Lawful::lawful))]
 impl<'a> ReadFrom<&'a [u8]> for UserauthRequest<'a> {
     type Error = Error;
 
@@ -110,6 +111,10 @@ impl<'a> ReadFrom<&'a [u8]> for UserauthRequest<'a> {
     ghost means = { request_of };
 
     ghost format = { userauth_format };
+
+    fn lawful()
+        ensures { IsFormat userauth_format }
+    {}
 
     fn read_from(reader: &mut &'a [u8]) -> Result<UserauthRequest<'a>> {
         let Then(opening, credential) = Then::<Opening<'a>, Credential<'a>>::read_from(reader)?;

@@ -1,10 +1,10 @@
 use Rattle.std.proofs.lemmas.Result.{err_from_is_err_and}
 use Rattle.std.specs.Int.{w8}
 use Rattle.ssh_key.specs.base.Causes.{cause, same_cause}
-use Rattle.ssh_key.specs.base.Formats.{byte_format}
 use Rattle.ssh_key.specs.base.Needs.{NoNeed}
 use Rattle.ssh_key.specs.base.Stops.{NoOverrun}
 use Rattle.ssh_key.specs.model.Reading.{number_at}
+use Rattle.ssh_key.proofs.Lawful.{byte_lawful}
 use Rattle.ssh_key.proofs.Judging.{judged, judged_asks}
 use Rattle.ssh_key.proofs.Steps.{refused_first}
 use Rattle.ssh_key.proofs.Stopping.{checked_stopped, judged_stops}
@@ -38,4 +38,4 @@ pub returns-clause-asks : goal.returns-clause-asks
 returns-clause-asks g c = judged_asks _ _ cause NoNeed _ _ _ _ _ _ c.in_ok-number.ensures.gives c.from_number.ensures
 
 pub returns-clause-past : goal.returns-clause-past
-returns-clause-past g c = judged_stops _ _ cause _ g.K.Kind.kind_from _ _ _ _ _ _ byte_format.lengths c.in_ok-number.ensures.gives c.from_number.ensures
+returns-clause-past g c = judged_stops _ _ cause _ g.K.Kind.kind_from _ _ _ _ _ _ byte_lawful.lengths c.in_ok-number.ensures.gives c.from_number.ensures

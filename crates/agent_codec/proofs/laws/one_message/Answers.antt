@@ -1,6 +1,6 @@
 use Rattle.ssh_key.proofs.Grammars.{one_front}
-use Rattle.agent_codec.specs.Requests.{request_grammar}
-use Rattle.agent_codec.specs.Responses.{response_grammar}
+use Rattle.agent_codec.proofs.Requests.{request_grammar}
+use Rattle.agent_codec.proofs.Responses.{response_grammar}
 use Rattle.agent_codec.proofs.laws.one_message.Goals as goal
 
 pub returns-clause-requests : goal.returns-clause-requests

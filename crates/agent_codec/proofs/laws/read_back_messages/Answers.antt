@@ -1,5 +1,5 @@
-use Rattle.agent_codec.specs.Requests.{request_grammar, request_normal}
-use Rattle.agent_codec.specs.Responses.{response_grammar, response_normal}
+use Rattle.agent_codec.proofs.Requests.{request_grammar, request_normal}
+use Rattle.agent_codec.proofs.Responses.{response_grammar, response_normal}
 use Rattle.agent_codec.proofs.laws.read_back_messages.Goals as goal
 
 pub returns-clause-requests : goal.returns-clause-requests

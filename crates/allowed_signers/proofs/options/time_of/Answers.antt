@@ -1,10 +1,15 @@
-use Rattle.std.proofs.Common.{◌≡◌, ◌∙◌, Global, List, Option, Some, ap, subst, sym, ℕ}
+use Rattle.std.proofs.Common.{◌≡◌, ◌∙◌, Global, List, None, Option, Some, ap, subst, sym, ℕ}
 use Rattle.std.specs.Prelude.{String, option_map, string_bytes}
-use Rattle.allowed_signers.specs.OneValue.{IsTheOne}
+use Rattle.sshkey_entries.specs.Readings.{IsTheOne}
+use Rattle.sshkey_times.specs.Times.{ReadsTime}
 use Rattle.allowed_signers.specs.SignerOptions.{IsTimeValue}
 use Rattle.sshkey_times.specs.declared.times.Span.{Span}
-use Rattle.allowed_signers.proofs.Words.{time_read}
 use Rattle.allowed_signers.proofs.options.time_of.Goals as goal
+
+-- a time has one span
+time_read : (text : List ℕ) (r : Option Span) → ReadsTime text r → IsTheOne {X = Span} {Y = Span} (λ n. n) (IsTimeValue (Some text)) r
+time_read text None none = none
+time_read text (Some n) is = is
 
 pub returns-in-Some : goal.returns-in-Some
 returns-in-Some c =

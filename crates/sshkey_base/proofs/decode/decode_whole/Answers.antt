@@ -9,7 +9,7 @@ returns-in_err-value-clause-gives g c =
     rw (p.1, p.2) (refused_first _ _ _ _ c.in_err-value.ensures.gives)
 
 pub returns-in_err-value-clause-accepts : goal.returns-in_err-value-clause-accepts
-returns-in_err-value-clause-accepts g c = accepts_whole_by g.T.Decode.means _ g.T.Decode.format.grammar _ _ (returns-in_err-value-clause-gives g c)
+returns-in_err-value-clause-accepts g c = accepts_whole_by g.T.Decode.means _ c.lawful.ensures.grammar _ _ (returns-in_err-value-clause-gives g c)
 
 pub returns-in_err-finish-clause-gives : goal.returns-in_err-finish-clause-gives
 returns-in_err-finish-clause-gives g c =
@@ -17,7 +17,7 @@ returns-in_err-finish-clause-gives g c =
     rw p.1 (finish_refused g.T.Decode.means g.T.Error.DecodeError.cause g.T.Decode.format.read (g.R.Reader.source c.args.reader) _ _ _ _ c.in_ok-value.ensures.gives c.in_err-finish.ensures (g.met.T.Error.DecodeError.keeps_causes _ p.0 p.2))
 
 pub returns-in_err-finish-clause-accepts : goal.returns-in_err-finish-clause-accepts
-returns-in_err-finish-clause-accepts g c = accepts_whole_by g.T.Decode.means g.T.Error.DecodeError.cause g.T.Decode.format.grammar (g.R.Reader.source c.args.reader) _ (returns-in_err-finish-clause-gives g c)
+returns-in_err-finish-clause-accepts g c = accepts_whole_by g.T.Decode.means g.T.Error.DecodeError.cause c.lawful.ensures.grammar (g.R.Reader.source c.args.reader) _ (returns-in_err-finish-clause-gives g c)
 
 pub returns-in_err-value-clause-asks : goal.returns-in_err-value-clause-asks
 returns-in_err-value-clause-asks g c =

@@ -9,7 +9,7 @@ use Rattle.sshkey_base.specs.Source.{announced_len}
 use Rattle.sshkey_base.specs.TextLists.{texts_of}
 use Rattle.sshkey_base.proofs.FirstValues.{first_asks, first_stopped, still_begun}
 use Rattle.sshkey_base.proofs.ReadLists.{collects_more, collects_refused, collects_end, leaves_less, overruns_more}
-use Rattle.sshkey_base.specs.Lengths.{text_lengths}
+use Rattle.sshkey_base.proofs.Lengths.{text_lengths}
 use Rattle.sshkey_base.specs.Needs.{NeedsString}
 use Rattle.sshkey_base.specs.Stops.{OverrunsString}
 use Rattle.sshkey_base.proofs.Places.{later_then}

@@ -1,5 +1,6 @@
 use Rattle.std.proofs.Common.{refl}
-use Rattle.sshkey_base.specs.LabelLaws.{curve_checks, curve_ascii, curve_refusals}
+use Rattle.sshkey_base.proofs.LabelLaws.{curve_ascii, curve_refusals}
+use Rattle.sshkey_model.proofs.NameReaders.{curve_checks}
 use Rattle.sshkey_base.proofs.Labels.{not_named}
 use Rattle.sshkey_keys_ref.proofs.kinds.curve_in.Goals as goal
 

@@ -1,5 +1,6 @@
 use Rattle.std.proofs.Common.{refl}
-use Rattle.sshkey_base.specs.LabelLaws.{algorithm_checks, algorithm_ascii, algorithm_refusals}
+use Rattle.sshkey_base.proofs.LabelLaws.{algorithm_ascii, algorithm_refusals}
+use Rattle.sshkey_model.proofs.NameReaders.{algorithm_checks}
 use Rattle.sshkey_base.proofs.Labels.{not_named}
 use Rattle.sshkey_keys_ref.proofs.name_ref.name_in.Goals as goal
 

@@ -7,6 +7,4 @@ returns-clause-answer g c =
     let text = c.skip_blanks-text.result.now in
     hides_exactly (g.H.HmacSha1.hmac c.args.hmac.now) c.args.name.now c.args.line.now text c.skip_blanks-text.ensures
     (is_filled_text text (sym c.is_empty.ensures ∙ c.if-is_empty.false) (λ hash. cc (sym c.if-is_comment.false ∙ c.is_comment.ensures.1 hash)))
-    (λ f. cc (sym c.if-is_for_others.false ∙ c.is_for_others.ensures.1 f))
-    c.in_ok-read_entry.field-0 c.in_ok-read_entry.ensures.answer (sym c.is_some.ensures ∙ c.if-is_some.false)
-    c.in_ok-read_other_line.field-0 c.in_ok-read_other_line.ensures.answer c.is_none.result c.is_none.ensures
+    c.in_ok-read_host_line.field-0 c.in_ok-read_host_line.ensures.answer c.is_unreadable.result c.is_unreadable.ensures

@@ -1,26 +1,38 @@
-use Rattle.std.proofs.Common.{Option, sym, subst, ◌∙◌}
+use Rattle.std.proofs.Common.{[], ◌∷◌, ap, refl, sym, subst, ◌∙◌, option_map}
+use Rattle.sshkey_model.specs.Keys.{IsKey}
 use Rattle.sshkey_keys.specs.Keys.{key_of}
-use Rattle.sshkey_entries.specs.OpenSshLines.{IsHostLine}
-use Rattle.sshkey_known_hosts.specs.HostEntries.{known_host_of}
-use Rattle.sshkey_known_hosts.specs.OtherLines.{ReadsOtherLine}
-use Rattle.sshkey_known_hosts.specs.Verdicts.{ReadsOrNone}
-use Rattle.sshkey_known_hosts.specs.declared.entry.Entry.{Entry}
-use Rattle.sshkey_known_hosts.specs.declared.host_patterns.HostPatterns.{HostPatterns}
-use Rattle.sshkey_known_hosts.specs.declared.marker.Marker.{Marker}
-use Rattle.sshkey_known_hosts.proofs.Verdicts.{passed_over, hides}
+use Rattle.sshkey_known_hosts.specs.HostEntries.{marker_of}
+use Rattle.sshkey_known_hosts.specs.HostLines.{IsToHost}
+use Rattle.sshkey_known_hosts.specs.Verdicts.{IsVerdict}
+use Rattle.sshkey_known_hosts.proofs.Verdicts.{by_marker, by_other_marker, hides, passed_over}
 use Rattle.sshkey_known_hosts.proofs.verdict.line_verdict.Goals as goal
 
-pub returns-then-is_for_others-clause-answer : goal.returns-then-is_for_others-clause-answer
-returns-then-is_for_others-clause-answer g c =
-    passed_over (g.H.HmacSha1.hmac c.args.hmac.now) c.args.name.now (key_of c.args.key.now) c.args.line.now (c.is_for_others.ensures.0 c.if-is_for_others.true)
+pub returns-in-ForOthers-clause-answer : goal.returns-in-ForOthers-clause-answer
+returns-in-ForOthers-clause-answer g c =
+    let hmac = g.H.HmacSha1.hmac c.args.hmac.now in
+    passed_over hmac c.args.name.now (key_of c.args.key.now) c.args.line.now (subst (IsToHost hmac c.args.name.now c.args.line.now) c.in-ForOthers.is c.in_ok-read_host_line.ensures.answer)
 
-pub returns-in-Some-2-clause-answer : goal.returns-in-Some-2-clause-answer
-returns-in-Some-2-clause-answer g c =
-    c.other_verdict.ensures c.args.line.now (key_of c.args.key.now) (subst (λ (x : Option (Option Marker × HostPatterns)). ReadsOtherLine c.args.line.now x) c.in-Some-2.is c.in_ok-marker.ensures.answer)
+pub returns-in-Entry-clause-answer : goal.returns-in-Entry-clause-answer
+returns-in-Entry-clause-answer g c =
+    let hmac = g.H.HmacSha1.hmac c.args.hmac.now in
+    let key = key_of c.args.key.now in
+    let it = subst (IsToHost hmac c.args.name.now c.args.line.now) c.in-Entry.is c.in_ok-read_host_line.ensures.answer in
+    let l = it.0 in
+    let own = ap key_of c.key_data.ensures ∙ sym l.key_is in
+    let equal = c.is_same_key-same.ensures (subst IsKey (sym own) l.read.fields.spelled.is) in
+    subst (IsVerdict hmac c.args.name.now key (c.args.line.now ∷ [])) (sym c.marked_verdict.ensures)
+    (by_marker hmac c.args.name.now key c.args.line.now l.entry l.read c.in-Entry.marker c.is_same_key-same.result l.marker_is (λ t. sym own ∙ equal.0 t, λ e. equal.1 (own ∙ e)) l.is_for)
 
-pub returns-in-None-clause-answer : goal.returns-in-None-clause-answer
-returns-in-None-clause-answer g c =
-    let none = subst (λ (x : Option Entry). ReadsOrNone known_host_of IsHostLine c.args.line.now x) c.in_default.is c.in_ok-entry.ensures.answer in
-    let no_other = subst (λ (x : Option (Option Marker × HostPatterns)). ReadsOtherLine c.args.line.now x) c.in-None.is c.in_ok-marker.ensures.answer in
-    hides (g.H.HmacSha1.hmac c.args.hmac.now) c.args.name.now (key_of c.args.key.now) c.args.line.now none
-    (none, λ f. cc (sym c.if-is_for_others.false ∙ c.is_for_others.ensures.1 f), no_other)
+pub returns-in-OtherKey-clause-answer : goal.returns-in-OtherKey-clause-answer
+returns-in-OtherKey-clause-answer g c =
+    let hmac = g.H.HmacSha1.hmac c.args.hmac.now in
+    let key = key_of c.args.key.now in
+    let l = subst (IsToHost hmac c.args.name.now c.args.line.now) c.in-OtherKey.is c.in_ok-read_host_line.ensures.answer in
+    subst (IsVerdict hmac c.args.name.now key (c.args.line.now ∷ [])) (sym c.marked_verdict-in-OtherKey.ensures)
+    (by_other_marker hmac c.args.name.now key c.args.line.now (option_map marker_of c.in-OtherKey.marker) l.hosts l.read c.in-OtherKey.marker refl l.is_for)
+
+pub returns-in-Unreadable-clause-answer : goal.returns-in-Unreadable-clause-answer
+returns-in-Unreadable-clause-answer g c =
+    let hmac = g.H.HmacSha1.hmac c.args.hmac.now in
+    let it = subst (IsToHost hmac c.args.name.now c.args.line.now) c.in-Unreadable.is c.in_ok-read_host_line.ensures.answer in
+    hides hmac c.args.name.now (key_of c.args.key.now) c.args.line.now it.0 it

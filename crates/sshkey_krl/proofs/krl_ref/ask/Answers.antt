@@ -11,4 +11,4 @@ returns-in_err-read_from c =
     rw (p.1, p.2) (header_refused (asked_of c.args.query.now) cause c.args.bytes.now _ _ c.in_err-read_from.ensures.gives refl)
 
 pub returns : goal.returns
-returns c = sections_asked (asked_of c.args.query.now) cause c.args.bytes.now _ _ _ c.in_ok-read_from.ensures.gives.value c.any_of.ensures
+returns c = sections_asked (asked_of c.args.query.now) cause c.args.bytes.now _ _ _ c.in_ok-read_from.ensures.gives.value c.any_section.ensures

@@ -9,6 +9,7 @@ use Rattle.sshkey_terms.specs.Terms.{◌then◌}
 use Rattle.sshkey_terms.proofs.Needless.{needless_stops}
 use Rattle.sshkey_terms.proofs.Stopping.{widened_stops}
 use Rattle.sshkey_private.specs.Inner.{one_checkint, checkint_at}
+use Rattle.sshkey_private.proofs.Lawful.{checkints_lawful}
 use Rattle.sshkey_private.proofs.inner.checkint_from.Goals as goal
 
 abbrev both : Format (ℕ × ℕ)
@@ -20,4 +21,4 @@ returns-in_err-checkint-clause-past g c = needless_stops (number_at w32) checkin
 
 pub returns-clause-past : goal.returns-clause-past
 unfolding checkint_at
-returns-clause-past g c = judged_stops _ (λ n. n) cause both.read one_checkint NoNeed both.overruns _ _ _ _ both.lengths c.in_ok-checkint.ensures.gives c.check_again.ensures
+returns-clause-past g c = judged_stops _ (λ n. n) cause both.read one_checkint NoNeed both.overruns _ _ _ _ checkints_lawful.lengths c.in_ok-checkint.ensures.gives c.check_again.ensures

@@ -7,9 +7,11 @@ use Rattle.sshkey_base.specs.Formats.{Format, text_format}
 use Rattle.sshkey_base.proofs.Places.{later_then}
 use Rattle.sshkey_keys.specs.Keys.{key_of}
 use Rattle.sshkey_pairs.specs.Keypairs.{pair_of}
-use Rattle.sshkey_terms.specs.Terms.{◌then◌, IsMapped}
+use Rattle.sshkey_terms.specs.Terms.{◌then◌}
+use Rattle.sshkey_terms.proofs.Lawful.{IsMapped}
 use Rattle.sshkey_terms.proofs.Stopping.{mapped_stopped, stopped_first, stopped_later}
-use Rattle.sshkey_private.specs.Inner.{unencrypted_of_parts, inner_at, inner_is, checkint_format, pair_format}
+use Rattle.sshkey_private.specs.Inner.{unencrypted_of_parts, inner_at, checkint_format, pair_format}
+use Rattle.sshkey_private.proofs.Lawful.{checkint_lawful, inner_is, pair_lawful}
 use Rattle.sshkey_private.proofs.inner.inner_from.Goals as goal
 
 pub returns-in_err-comment-clause-later : goal.returns-in_err-comment-clause-later
@@ -29,7 +31,7 @@ returns-in_err-checkint-clause-past g c =
     let p = err_from_is_err_and c.from_residual.result c.from_residual.ensures.1 in
     let public = key_of c.args.public.now in
     let rest = behind_checkint public in
-    rw (p.1, p.2) (mapped_stopped _ _ _ _ _ unencrypted_of_parts (inner_at public) (inner_read public) (stopped_first checkint_format.needs checkint_format.overruns checkint_format.grammar.delimited_at checkint_format.read (λ _. rest.needs) (λ _. rest.overruns) (λ _. rest.grammar.delimited_at) _ _ c.in_err-checkint.ensures.past))
+    rw (p.1, p.2) (mapped_stopped _ _ _ _ _ unencrypted_of_parts (inner_at public) (inner_read public) (stopped_first checkint_format.needs checkint_format.overruns checkint_format.delimited_at checkint_format.read (λ _. rest.needs) (λ _. rest.overruns) (λ _. rest.delimited_at) _ _ c.in_err-checkint.ensures.past))
 
 pub returns-in_err-pair-clause-past : goal.returns-in_err-pair-clause-past
 returns-in_err-pair-clause-past g c =
@@ -37,7 +39,7 @@ returns-in_err-pair-clause-past g c =
     let public = key_of c.args.public.now in
     let pair = pair_format public in
     let rest = behind_checkint public in
-    rw (p.1, p.2) (mapped_stopped _ _ _ _ _ unencrypted_of_parts (inner_at public) (inner_read public) (stopped_later checkint_format.needs checkint_format.overruns checkint_format.grammar.delimited_at checkint_format.read (λ _. rest.needs) (λ _. rest.overruns) (λ _. rest.grammar.delimited_at) (λ n. n) _ _ _ _ checkint_format.grammar.same checkint_format.lengths c.in_ok-checkint.ensures.gives (stopped_first pair.needs pair.overruns pair.grammar.delimited_at pair.read (λ _. text_format.needs) (λ _. text_format.overruns) (λ _. text_format.grammar.delimited_at) _ _ c.in_err-pair.ensures.past)))
+    rw (p.1, p.2) (mapped_stopped _ _ _ _ _ unencrypted_of_parts (inner_at public) (inner_read public) (stopped_later checkint_format.needs checkint_format.overruns checkint_format.delimited_at checkint_format.read (λ _. rest.needs) (λ _. rest.overruns) (λ _. rest.delimited_at) (λ n. n) _ _ _ _ checkint_lawful.grammar.same checkint_lawful.lengths c.in_ok-checkint.ensures.gives (stopped_first pair.needs pair.overruns pair.delimited_at pair.read (λ _. text_format.needs) (λ _. text_format.overruns) (λ _. text_format.delimited_at) _ _ c.in_err-pair.ensures.past)))
 
 pub returns-in_err-comment-clause-past : goal.returns-in_err-comment-clause-past
 returns-in_err-comment-clause-past g c =
@@ -45,4 +47,4 @@ returns-in_err-comment-clause-past g c =
     let public = key_of c.args.public.now in
     let pair = pair_format public in
     let rest = behind_checkint public in
-    rw (p.1, p.2, same_cause c.in_err-comment.field-0.0) (mapped_stopped _ _ _ _ _ unencrypted_of_parts (inner_at public) (inner_read public) (stopped_later checkint_format.needs checkint_format.overruns checkint_format.grammar.delimited_at checkint_format.read (λ _. rest.needs) (λ _. rest.overruns) (λ _. rest.grammar.delimited_at) (λ n. n) _ _ _ _ checkint_format.grammar.same checkint_format.lengths c.in_ok-checkint.ensures.gives (stopped_later pair.needs pair.overruns pair.grammar.delimited_at pair.read (λ _. text_format.needs) (λ _. text_format.overruns) (λ _. text_format.grammar.delimited_at) pair_of _ _ _ _ pair.grammar.same pair.lengths c.in_ok-pair.ensures.gives c.in_err-comment.ensures.past)))
+    rw (p.1, p.2, same_cause c.in_err-comment.field-0.0) (mapped_stopped _ _ _ _ _ unencrypted_of_parts (inner_at public) (inner_read public) (stopped_later checkint_format.needs checkint_format.overruns checkint_format.delimited_at checkint_format.read (λ _. rest.needs) (λ _. rest.overruns) (λ _. rest.delimited_at) (λ n. n) _ _ _ _ checkint_lawful.grammar.same checkint_lawful.lengths c.in_ok-checkint.ensures.gives (stopped_later pair.needs pair.overruns pair.delimited_at pair.read (λ _. text_format.needs) (λ _. text_format.overruns) (λ _. text_format.delimited_at) pair_of _ _ _ _ (pair_lawful public).grammar.same (pair_lawful public).lengths c.in_ok-pair.ensures.gives c.in_err-comment.ensures.past)))

@@ -5,6 +5,7 @@ use Rattle.sshkey_base.proofs.Places.{later_then}
 use Rattle.sshkey_base.proofs.Stopping.{read_past}
 use Rattle.sshkey_private.specs.Inner.{inner_of, inner_at, inner_format}
 use Rattle.sshkey_private.proofs.PaddedReaders.{not_whole, value_refused, padding_refused, padded_read, asks_padded, past_padded}
+use Rattle.sshkey_private.proofs.Lawful.{inner_lawful}
 use Rattle.sshkey_private.proofs.inner.padded_inner_from.Goals as goal
 
 pub returns-then-remaining_len-ne0-clause-gives : goal.returns-then-remaining_len-ne0-clause-gives
@@ -51,4 +52,4 @@ pub returns-in_err-padding_from-clause-past : goal.returns-in_err-padding_from-c
 returns-in_err-padding_from-clause-past g c =
     let p = err_from_is_err_and c.from_residual-in_err-padding_from.result c.from_residual-in_err-padding_from.ensures.1 in
     let inner = inner_format (key_of c.args.public.now) in
-    rw (p.1, p.2) (λ o. read_past inner_of inner.read inner.overruns _ _ _ inner.lengths c.in_ok-inner.ensures.gives o)
+    rw (p.1, p.2) (λ o. read_past inner_of inner.read inner.overruns _ _ _ (inner_lawful (key_of c.args.public.now)).lengths c.in_ok-inner.ensures.gives o)

@@ -4,6 +4,7 @@ use Rattle.sshkey_base.proofs.Stopping.{judged_stops}
 use Rattle.sshkey_base.specs.Causes.{cause}
 use Rattle.sshkey_pairs.specs.Keypairs.{pair_of}
 use Rattle.sshkey_pairs.specs.KeypairFormats.{keypair_format}
+use Rattle.sshkey_pairs.proofs.Lawful.{keypair_lawful}
 use Rattle.sshkey_keys.specs.Keys.{key_of}
 use Rattle.sshkey_private.specs.Inner.{half_of, pair_with_at}
 use Rattle.sshkey_private.proofs.inner.pair_from.Goals as goal
@@ -14,4 +15,4 @@ returns-clause-gives g c = judged pair_of pair_of cause keypair_format.read (hal
 
 pub returns-clause-past : goal.returns-clause-past
 unfolding pair_with_at
-returns-clause-past g c = judged_stops pair_of pair_of cause keypair_format.read (half_of (key_of c.args.public.now)) keypair_format.needs keypair_format.overruns _ (g.R.Reader.source c.decode.new.reader) _ _ keypair_format.lengths (search rules) c.check_half.ensures.answers
+returns-clause-past g c = judged_stops pair_of pair_of cause keypair_format.read (half_of (key_of c.args.public.now)) keypair_format.needs keypair_format.overruns _ (g.R.Reader.source c.decode.new.reader) _ _ keypair_lawful.lengths (search rules) c.check_half.ensures.answers

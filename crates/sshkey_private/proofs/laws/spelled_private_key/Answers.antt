@@ -1,5 +1,5 @@
 use Rattle.sshkey_model.proofs.Trees.{spelled_alike}
-use Rattle.sshkey_private.specs.PrivateKeyTrees.{private_key_tree}
+use Rattle.sshkey_private.proofs.PrivateKeyTrees.{private_key_tree}
 use Rattle.sshkey_private.proofs.laws.spelled_private_key.Goals as goal
 
 pub returns : goal.returns

@@ -1,9 +1,9 @@
 use Rattle.std.proofs.Common.{subst}
 use Rattle.std.specs.Prelude.{is_some}
 use Rattle.sshkey_keys.specs.Keys.{key_of}
-use Rattle.login_terms.specs.Readings.{Tells}
+use Rattle.sshkey_entries.specs.Readings.{Tells}
 use Rattle.login_terms.specs.Terms.{terms_of}
-use Rattle.login_terms.specs.declared.reading.Reading.{Reading}
+use Rattle.sshkey_entries.specs.declared.reading.Reading.{Reading}
 use Rattle.login_terms.specs.declared.terms.Terms as code
 use Rattle.user_keys.specs.Lines.{MayBeFor}
 use Rattle.user_keys.specs.UserLogins.{IsOwn, listed_key}

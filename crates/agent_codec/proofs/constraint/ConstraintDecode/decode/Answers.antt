@@ -1,10 +1,11 @@
 use Rattle.std.proofs.Common.{inl}
 use Rattle.std.proofs.lemmas.Result.{err_from_is_err_and}
 use Rattle.ssh_key.specs.base.Causes.{cause}
-use Rattle.ssh_key.specs.format.Terms.{called_chosen}
 use Rattle.ssh_key.proofs.Chosen.{chosen_asks, chosen_gives, chosen_refused, chosen_stopped, chosen_stops}
+use Rattle.ssh_key.proofs.Lawful.{byte_lawful, called_chosen, tested_lawful}
 use Rattle.ssh_key.proofs.Places.{later_then}
-use Rattle.agent_codec.specs.Constraints.{body_format, constraint_chosen, constraint_format, constraint_of, kind_format}
+use Rattle.agent_codec.specs.Constraints.{body_format, constraint_format, constraint_of, kind_format, kind_from}
+use Rattle.agent_codec.proofs.Constraints.{constraint_chosen}
 use Rattle.agent_codec.proofs.constraint.ConstraintDecode.decode.Goals as goal
 
 pub returns-in_err-kind-clause-gives : goal.returns-in_err-kind-clause-gives
@@ -23,7 +24,7 @@ returns-in_err-kind-clause-asks g c =
 pub returns-in_err-kind-clause-past : goal.returns-in_err-kind-clause-past
 returns-in_err-kind-clause-past g c =
     let p = err_from_is_err_and c.from_residual.result c.from_residual.ensures.1 in
-    rw (p.1, p.2) (chosen_stopped kind_format.read (λ k. (body_format k).grammar.delimited_at) kind_format.needs kind_format.overruns (λ k. (body_format k).needs) (λ k. (body_format k).overruns) _ _ _ (called_chosen kind_format.read (λ k. (body_format k).grammar.delimited_at)) c.in_err-kind.ensures.past)
+    rw (p.1, p.2) (chosen_stopped kind_format.read (λ k. (body_format k).delimited_at) kind_format.needs kind_format.overruns (λ k. (body_format k).needs) (λ k. (body_format k).overruns) _ _ _ (called_chosen kind_format.read (λ k. (body_format k).delimited_at)) c.in_err-kind.ensures.past)
 
 pub returns-clause-gives : goal.returns-clause-gives
 returns-clause-gives g c = chosen_gives _ kind_format.read (λ k. (body_format k).read) constraint_format.read _ _ _ cause _ constraint_of _ c.in_ok-kind.ensures.gives constraint_chosen c.constraint_from.ensures.gives
@@ -35,4 +36,4 @@ pub returns-clause-asks : goal.returns-clause-asks
 returns-clause-asks g c = chosen_asks _ kind_format.read (λ k. (body_format k).read) constraint_format.read _ _ _ cause _ kind_format.needs (λ k. (body_format k).needs) c.in_ok-kind.ensures.gives c.constraint_from.ensures.asks
 
 pub returns-clause-past : goal.returns-clause-past
-returns-clause-past g c = chosen_stops _ kind_format.read (λ k. (body_format k).grammar.delimited_at) _ _ _ _ cause _ kind_format.needs kind_format.overruns (λ k. (body_format k).needs) (λ k. (body_format k).overruns) c.in_ok-kind.ensures.gives kind_format.lengths (called_chosen kind_format.read (λ k. (body_format k).grammar.delimited_at)) c.constraint_from.ensures.past
+returns-clause-past g c = chosen_stops _ kind_format.read (λ k. (body_format k).delimited_at) _ _ _ _ cause _ kind_format.needs kind_format.overruns (λ k. (body_format k).needs) (λ k. (body_format k).overruns) c.in_ok-kind.ensures.gives (tested_lawful kind_from byte_lawful).lengths (called_chosen kind_format.read (λ k. (body_format k).delimited_at)) c.constraint_from.ensures.past

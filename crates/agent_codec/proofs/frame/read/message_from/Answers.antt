@@ -1,8 +1,8 @@
 use Rattle.std.proofs.Common.{inl}
 use Rattle.std.proofs.lemmas.Result.{err_from_is_err_and}
 use Rattle.ssh_key.specs.base.Causes.{cause}
-use Rattle.ssh_key.specs.format.Terms.{called_chosen}
 use Rattle.ssh_key.proofs.Chosen.{chosen_asks, chosen_gives, chosen_refused, chosen_stopped, chosen_stops}
+use Rattle.ssh_key.proofs.Lawful.{byte_lawful, called_chosen, tested_lawful}
 use Rattle.ssh_key.proofs.Places.{later_then}
 use Rattle.agent_codec.specs.Parts.{message, numbered}
 use Rattle.agent_codec.proofs.frame.read.message_from.Goals as goal
@@ -27,7 +27,7 @@ returns-in_err-kind-clause-past g c =
     let p = err_from_is_err_and c.from_residual.result c.from_residual.ensures.1 in
     let kind = numbered g.M.Kind.Kind.kind_from in
     let body = g.M.Framed.body in
-    rw (p.1, p.2) (chosen_stopped kind.read (λ k. (body k).grammar.delimited_at) kind.needs kind.overruns (λ k. (body k).needs) (λ k. (body k).overruns) _ _ _ (called_chosen kind.read (λ k. (body k).grammar.delimited_at)) c.in_err-kind.ensures.past)
+    rw (p.1, p.2) (chosen_stopped kind.read (λ k. (body k).delimited_at) kind.needs kind.overruns (λ k. (body k).needs) (λ k. (body k).overruns) _ _ _ (called_chosen kind.read (λ k. (body k).delimited_at)) c.in_err-kind.ensures.past)
 
 pub returns-clause-gives : goal.returns-clause-gives
 returns-clause-gives g c =
@@ -48,4 +48,4 @@ pub returns-clause-past : goal.returns-clause-past
 returns-clause-past g c =
     let kind = numbered g.M.Kind.Kind.kind_from in
     let body = g.M.Framed.body in
-    chosen_stops _ kind.read (λ k. (body k).grammar.delimited_at) _ _ _ _ cause _ kind.needs kind.overruns (λ k. (body k).needs) (λ k. (body k).overruns) c.in_ok-kind.ensures.gives kind.lengths (called_chosen kind.read (λ k. (body k).grammar.delimited_at)) c.body_from.ensures.past
+    chosen_stops _ kind.read (λ k. (body k).delimited_at) _ _ _ _ cause _ kind.needs kind.overruns (λ k. (body k).needs) (λ k. (body k).overruns) c.in_ok-kind.ensures.gives (tested_lawful g.M.Kind.Kind.kind_from byte_lawful).lengths (called_chosen kind.read (λ k. (body k).delimited_at)) c.body_from.ensures.past

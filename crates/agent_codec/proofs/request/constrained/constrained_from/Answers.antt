@@ -5,9 +5,11 @@ use Rattle.ssh_key.proofs.Mapped.{mapped_reads, mapped_refused}
 use Rattle.ssh_key.proofs.Places.{later_then}
 use Rattle.ssh_key.proofs.Steps.{asks_later}
 use Rattle.ssh_key.proofs.Stopping.{mapped_stopped, stopped_first, stopped_later}
-use Rattle.agent_codec.specs.Constraints.{constraint_of, constraints, has_bytes}
+use Rattle.agent_codec.specs.Constraints.{constraint_of, constraints}
 use Rattle.agent_codec.specs.Records.{addition_format, addition_of}
-use Rattle.agent_codec.specs.Requests.{constrained_ends, constrained_read, request_of}
+use Rattle.agent_codec.specs.Requests.{request_of}
+use Rattle.agent_codec.proofs.Lawful.{addition_lawful, has_bytes}
+use Rattle.agent_codec.proofs.Requests.{constrained_ends, constrained_read}
 use Rattle.agent_codec.proofs.request.constrained.constrained_from.Goals as goal
 
 pub returns-in_err-addition-clause-gives : goal.returns-in_err-addition-clause-gives
@@ -26,7 +28,7 @@ returns-in_err-addition-clause-asks g c =
 pub returns-in_err-addition-clause-past : goal.returns-in_err-addition-clause-past
 returns-in_err-addition-clause-past g c =
     let p = err_from_is_err_and c.from_residual.result c.from_residual.ensures.1 in
-    rw (p.1, p.2) (mapped_stopped _ _ _ _ _ _ _ constrained_ends (stopped_first addition_format.needs addition_format.overruns addition_format.grammar.delimited_at addition_format.read (λ _. constraints.needs) (λ _. constraints.overruns) (λ _. constraints.grammar.delimited_at) _ _ c.in_err-addition.ensures.past))
+    rw (p.1, p.2) (mapped_stopped _ _ _ _ _ _ _ constrained_ends (stopped_first addition_format.needs addition_format.overruns addition_format.delimited_at addition_format.read (λ _. constraints.needs) (λ _. constraints.overruns) (λ _. constraints.delimited_at) _ _ c.in_err-addition.ensures.past))
 
 pub returns-in_err-constraints-clause-gives : goal.returns-in_err-constraints-clause-gives
 returns-in_err-constraints-clause-gives g c =
@@ -44,7 +46,7 @@ returns-in_err-constraints-clause-asks g c =
 pub returns-in_err-constraints-clause-past : goal.returns-in_err-constraints-clause-past
 returns-in_err-constraints-clause-past g c =
     let p = err_from_is_err_and c.from_residual-in_err-constraints.result c.from_residual-in_err-constraints.ensures.1 in
-    rw (p.1, p.2) (mapped_stopped _ _ _ _ _ _ _ constrained_ends (stopped_later addition_format.needs addition_format.overruns addition_format.grammar.delimited_at addition_format.read (λ _. constraints.needs) (λ _. constraints.overruns) (λ _. constraints.grammar.delimited_at) addition_of _ _ _ _ addition_format.grammar.same addition_format.lengths c.in_ok-addition.ensures.gives c.in_err-constraints.ensures.past))
+    rw (p.1, p.2) (mapped_stopped _ _ _ _ _ _ _ constrained_ends (stopped_later addition_format.needs addition_format.overruns addition_format.delimited_at addition_format.read (λ _. constraints.needs) (λ _. constraints.overruns) (λ _. constraints.delimited_at) addition_of _ _ _ _ addition_lawful.grammar.same addition_lawful.lengths c.in_ok-addition.ensures.gives c.in_err-constraints.ensures.past))
 
 pub decode_each-requires : goal.decode_each-requires
 decode_each-requires g c = has_bytes

@@ -3,11 +3,14 @@ use Rattle.std.proofs.lemmas.Result.{err_from_is_err_and}
 use Rattle.ssh_key.specs.base.Causes.{same_cause}
 use Rattle.ssh_key.specs.base.Formats.{string_format}
 use Rattle.ssh_key.proofs.Behind.{both_reads, both_refused_first, both_refused_later}
+use Rattle.ssh_key.proofs.Lawful.{string_lawful}
 use Rattle.ssh_key.proofs.Mapped.{mapped_reads, mapped_refused}
 use Rattle.ssh_key.proofs.Places.{later_then}
 use Rattle.ssh_key.proofs.Steps.{asks_later}
 use Rattle.ssh_key.proofs.Stopping.{mapped_stopped, stopped_first, stopped_later}
-use Rattle.agent_codec.specs.Responses.{Extension, extension_ends, extension_read, response_of, string_shows, strings}
+use Rattle.agent_codec.specs.Responses.{Extension, response_of, strings}
+use Rattle.agent_codec.proofs.Lawful.{string_shows}
+use Rattle.agent_codec.proofs.Responses.{extension_ends, extension_read}
 use Rattle.agent_codec.proofs.response.extension.extension_from.Goals as goal
 
 pub returns-in_err-name-clause-gives : goal.returns-in_err-name-clause-gives
@@ -26,7 +29,7 @@ returns-in_err-name-clause-asks g c =
 pub returns-in_err-name-clause-past : goal.returns-in_err-name-clause-past
 returns-in_err-name-clause-past g c =
     let p = err_from_is_err_and c.from_residual.result c.from_residual.ensures.1 in
-    rw (p.1, p.2) (mapped_stopped _ _ _ _ _ _ _ extension_ends (stopped_first string_format.needs string_format.overruns string_format.grammar.delimited_at string_format.read (λ _. strings.needs) (λ _. strings.overruns) (λ _. strings.grammar.delimited_at) _ _ c.in_err-name.ensures.past))
+    rw (p.1, p.2) (mapped_stopped _ _ _ _ _ _ _ extension_ends (stopped_first string_format.needs string_format.overruns string_format.delimited_at string_format.read (λ _. strings.needs) (λ _. strings.overruns) (λ _. strings.delimited_at) _ _ c.in_err-name.ensures.past))
 
 pub returns-in_err-contents-clause-gives : goal.returns-in_err-contents-clause-gives
 returns-in_err-contents-clause-gives g c =
@@ -44,7 +47,7 @@ returns-in_err-contents-clause-asks g c =
 pub returns-in_err-contents-clause-past : goal.returns-in_err-contents-clause-past
 returns-in_err-contents-clause-past g c =
     let p = err_from_is_err_and c.from_residual-in_err-contents.result c.from_residual-in_err-contents.ensures.1 in
-    rw (p.1, p.2, same_cause c.in_err-contents.field-0.0) (mapped_stopped _ _ _ _ _ _ _ extension_ends (stopped_later string_format.needs string_format.overruns string_format.grammar.delimited_at string_format.read (λ _. strings.needs) (λ _. strings.overruns) (λ _. strings.grammar.delimited_at) _ _ _ _ _ string_format.grammar.same string_format.lengths c.in_ok-name.ensures.gives c.in_err-contents.ensures.past))
+    rw (p.1, p.2, same_cause c.in_err-contents.field-0.0) (mapped_stopped _ _ _ _ _ _ _ extension_ends (stopped_later string_format.needs string_format.overruns string_format.delimited_at string_format.read (λ _. strings.needs) (λ _. strings.overruns) (λ _. strings.delimited_at) _ _ _ _ _ string_lawful.grammar.same string_lawful.lengths c.in_ok-name.ensures.gives c.in_err-contents.ensures.past))
 
 pub decode_each-requires : goal.decode_each-requires
 decode_each-requires g c = string_shows

@@ -2,10 +2,10 @@ use Rattle.std.proofs.Common.{Some, List, ap, subst, ℕ}
 use Rattle.std.specs.Prelude.{string_bytes}
 use Rattle.sshkey_times.specs.Times.{IsTimeText}
 use Rattle.sshkey_times.specs.declared.times.Span.{Span}
-use Rattle.login_terms.specs.Readings.{Tells}
+use Rattle.sshkey_entries.specs.Readings.{Tells}
 use Rattle.login_terms.specs.Terms.{earlier, terms_of}
 use Rattle.login_terms.specs.Values.{MayBeTime}
-use Rattle.login_terms.specs.declared.reading.Reading.TheVariants.{Is, Rejected, Unclear}
+use Rattle.sshkey_entries.specs.declared.reading.Reading.TheVariants.{Is, Rejected, Unclear}
 use Rattle.login_terms.proofs.Added.{adds, adds_none}
 use Rattle.login_terms.proofs.terms.Terms.with_expiry.Goals as goal
 

@@ -1,12 +1,12 @@
 use Rattle.std.proofs.Common.{◌≡◌, ◌∙◌, ◌∷◌, ◌++◌, [], List, ap, arith, subst, ℕ}
 use Rattle.std.specs.Prelude.{map, string_bytes}
 use Rattle.std.proofs.lemmas.List.{length-map, map-append}
-use Rattle.login_terms.specs.Readings.{Tells}
+use Rattle.sshkey_entries.specs.Readings.{Tells}
 use Rattle.login_terms.specs.Terms.{terms_of}
 use Rattle.login_terms.specs.Values.{HostAndPort, IsPermitListen, MayBeListen, permit_of}
 use Rattle.login_terms.specs.declared.permits.Permit.{Permit}
-use Rattle.login_terms.specs.declared.reading.Reading.{Reading}
-use Rattle.login_terms.specs.declared.reading.Reading.TheVariants.{Is, Rejected, Unclear}
+use Rattle.sshkey_entries.specs.declared.reading.Reading.{Reading}
+use Rattle.sshkey_entries.specs.declared.reading.Reading.TheVariants.{Is, Rejected, Unclear}
 use Rattle.login_terms.proofs.Added.{no_permit, no_room, one_permit}
 use Rattle.login_terms.proofs.terms.Terms.with_permit_listen.Goals as goal
 

@@ -1,9 +1,9 @@
 use Rattle.std.proofs.Common.{Some, List, subst, ℕ}
 use Rattle.std.specs.Prelude.{string_bytes}
-use Rattle.login_terms.specs.Readings.{Tells}
+use Rattle.sshkey_entries.specs.Readings.{Tells}
 use Rattle.login_terms.specs.Terms.{terms_of}
 use Rattle.login_terms.specs.Values.{IsTunnel, MayBeTunnel}
-use Rattle.login_terms.specs.declared.reading.Reading.TheVariants.{Rejected}
+use Rattle.sshkey_entries.specs.declared.reading.Reading.TheVariants.{Rejected}
 use Rattle.login_terms.proofs.Added.{adds_none}
 use Rattle.login_terms.proofs.terms.Terms.with_tunnel.Goals as goal
 

@@ -3,7 +3,7 @@ use Rattle.sshkey_model.specs.Reading.{whole, box_at}
 use Rattle.sshkey_model.specs.Texts.{text_at, texts_at}
 use Rattle.sshkey_base.specs.Causes.{encoding_cause}
 use Rattle.sshkey_base.specs.Reading.{to_end}
-use Rattle.sshkey_base.specs.Lengths.{text_lengths, to_end_lengths}
+use Rattle.sshkey_base.proofs.Lengths.{text_lengths, to_end_lengths}
 use Rattle.sshkey_base.specs.Stops.{OverrunsList, OverrunsString}
 use Rattle.sshkey_base.specs.TextLists.{NeedsTexts, texts_of, text_list_at}
 use Rattle.sshkey_base.proofs.Boxes.{prefixed_gives}

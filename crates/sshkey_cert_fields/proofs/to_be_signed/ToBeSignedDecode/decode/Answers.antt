@@ -1,6 +1,7 @@
 use Rattle.sshkey_base.specs.Causes.{cause}
 use Rattle.sshkey_terms.proofs.Stopping.{mapped_stops}
-use Rattle.sshkey_cert_fields.specs.ToBeSignedFormats.{fields_format, to_be_signed_of_parts, to_be_signed_format, to_be_signed_parts_read}
+use Rattle.sshkey_cert_fields.specs.ToBeSignedFormats.{fields_format, to_be_signed_of_parts, to_be_signed_format}
+use Rattle.sshkey_cert_fields.proofs.ToBeSignedReaders.{to_be_signed_parts_read}
 use Rattle.sshkey_cert_fields.proofs.to_be_signed.ToBeSignedDecode.decode.Goals as goal
 
 pub returns-in_err-subject-clause-past : goal.returns-in_err-subject-clause-past

@@ -1,8 +1,9 @@
 use Rattle.sshkey_base.specs.Causes.{cause}
 use Rattle.sshkey_base.proofs.Accepted.{spelled_whole}
 use Rattle.sshkey_model.specs.Reading.{whole}
-use Rattle.sshkey_cert.specs.CertificateReaders.{certificate_value_at, certificate_grammar}
+use Rattle.sshkey_cert.specs.CertificateReaders.{certificate_value_at}
 use Rattle.sshkey_cert.specs.CertificateValues.{certificate_of}
+use Rattle.sshkey_cert.proofs.CertificateReaders.{certificate_grammar}
 use Rattle.sshkey_cert_ref.specs.Spelled.{spelled_in}
 use Rattle.sshkey_cert_ref.proofs.Answered.{given_whole}
 use Rattle.sshkey_cert_ref.proofs.Certificates.{spells}

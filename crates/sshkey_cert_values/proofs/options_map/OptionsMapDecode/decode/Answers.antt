@@ -1,7 +1,7 @@
 use Rattle.std.proofs.Common.{rules, ◌∙◌}
 use Rattle.sshkey_model.specs.Reading.{whole, box_at}
 use Rattle.sshkey_base.specs.Causes.{cause}
-use Rattle.sshkey_base.specs.Lengths.{to_end_lengths}
+use Rattle.sshkey_base.proofs.Lengths.{to_end_lengths}
 use Rattle.sshkey_base.specs.Needs.{HasString}
 use Rattle.sshkey_base.specs.Reading.{to_end}
 use Rattle.sshkey_base.specs.Stops.{OverrunsList}
@@ -11,7 +11,7 @@ use Rattle.sshkey_base.proofs.ReadLists.{box_to_end, same_gives}
 use Rattle.sshkey_base.proofs.Stopping.{same_stops}
 use Rattle.sshkey_cert_values.specs.OptionMaps.{options_of}
 use Rattle.sshkey_cert_values.specs.OptionReaders.{OverrunsOption, item, option_list_at, options_value_at}
-use Rattle.sshkey_cert_values.specs.OptionLists.{option_lengths, options_is}
+use Rattle.sshkey_cert_values.proofs.OptionLists.{option_lengths, options_is}
 use Rattle.sshkey_cert_values.proofs.options_map.OptionsMapDecode.decode.Goals as goal
 
 pub returns-clause-gives : goal.returns-clause-gives

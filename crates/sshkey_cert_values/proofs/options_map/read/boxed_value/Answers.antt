@@ -2,7 +2,7 @@ use Rattle.std.proofs.Common.{rules}
 use Rattle.std.specs.Prelude.{string_bytes}
 use Rattle.sshkey_base.proofs.Boxes.{prefixed_gives, prefixed_stops_to_end}
 use Rattle.sshkey_base.specs.Stops.{OverrunsString}
-use Rattle.sshkey_cert_values.specs.OptionLists.{value_lengths}
+use Rattle.sshkey_cert_values.proofs.OptionLists.{value_lengths}
 use Rattle.sshkey_cert_values.specs.OptionReaders.{value_front, option_box_at}
 use Rattle.sshkey_cert_values.proofs.options_map.read.boxed_value.Goals as goal
 

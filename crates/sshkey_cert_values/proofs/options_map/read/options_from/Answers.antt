@@ -7,7 +7,7 @@ use Rattle.sshkey_base.specs.Source.{announced_len}
 use Rattle.sshkey_base.proofs.Places.{later_none, later_then}
 use Rattle.sshkey_base.proofs.ReadLists.{collects_none, collects_more, collects_refused, collects_end, overruns_more}
 use Rattle.sshkey_cert_values.specs.OptionReaders.{item, may_follow, OverrunsOption}
-use Rattle.sshkey_cert_values.specs.OptionLists.{option_lengths}
+use Rattle.sshkey_cert_values.proofs.OptionLists.{option_lengths}
 use Rattle.sshkey_cert_values.specs.OptionMaps.{option_of, options_of, name_at_end}
 use Rattle.sshkey_cert_values.specs.GatheredPairs.{gathered_pairs}
 use Rattle.sshkey_base.specs.Causes.{cause}

@@ -1,7 +1,9 @@
 use Rattle.sshkey_base.specs.Causes.{cause}
 use Rattle.sshkey_terms.proofs.Chosen.{chosen_stops}
-use Rattle.sshkey_keys.specs.KeyFormats.{body_format, key_chosen, key_format, name_format}
+use Rattle.sshkey_keys.specs.KeyFormats.{body_format, key_format, name_format}
+use Rattle.sshkey_keys.proofs.KeyReaders.{key_chosen}
+use Rattle.sshkey_keys.proofs.Lawful.{name_lawful}
 use Rattle.sshkey_keys.proofs.key_data.KeyDataDecode.decode.Goals as goal
 
 pub returns-clause-past : goal.returns-clause-past
-returns-clause-past g c = chosen_stops _ name_format.read (λ a. (body_format a).read) key_format.read _ _ _ cause _ name_format.needs name_format.overruns (λ a. (body_format a).needs) (λ a. (body_format a).overruns) c.in_ok-algorithm.ensures.gives name_format.lengths key_chosen c.decode_as.ensures.past
+returns-clause-past g c = chosen_stops _ name_format.read (λ a. (body_format a).read) key_format.read _ _ _ cause _ name_format.needs name_format.overruns (λ a. (body_format a).needs) (λ a. (body_format a).overruns) c.in_ok-algorithm.ensures.gives name_lawful.lengths key_chosen c.decode_as.ensures.past

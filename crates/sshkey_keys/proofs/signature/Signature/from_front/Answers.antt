@@ -1,6 +1,6 @@
 use Rattle.sshkey_base.specs.Causes.{cause}
 use Rattle.sshkey_base.proofs.Accepted.{accepts_front}
-use Rattle.sshkey_keys.specs.SignatureReaders.{signature_grammar}
+use Rattle.sshkey_keys.proofs.SignatureReaders.{signature_grammar}
 use Rattle.sshkey_keys.specs.Signatures.{signature_of}
 use Rattle.sshkey_keys.proofs.signature.Signature.from_front.Goals as goal
 

@@ -1,5 +1,5 @@
-use Rattle.sshkey_keys.specs.KeyReaders.{key_grammar}
-use Rattle.sshkey_keys.specs.SignatureReaders.{signature_grammar}
+use Rattle.sshkey_keys.proofs.KeyReaders.{key_grammar}
+use Rattle.sshkey_keys.proofs.SignatureReaders.{signature_grammar}
 use Rattle.sshkey_keys_ref.specs.NameRef.{named_of}
 use Rattle.sshkey_keys_ref.proofs.Asking.{blob_formed}
 use Rattle.sshkey_keys_ref.proofs.Dispatching.{asked_bytes, dispatched, no_signature}

@@ -1,6 +1,6 @@
 use Rattle.sshkey_base.proofs.Accepted.{spelled_whole}
 use Rattle.sshkey_base.specs.Names.{algorithm_of}
-use Rattle.sshkey_keys.specs.KeyReaders.{key_grammar}
+use Rattle.sshkey_keys.proofs.KeyReaders.{key_grammar}
 use Rattle.sshkey_keys.specs.Keys.{key_of}
 use Rattle.sshkey_keys_ref.proofs.Asking.{itself_asked}
 use Rattle.sshkey_keys_ref.proofs.key_data_ref.KeyDataRef.ask_in_memory.Goals as goal

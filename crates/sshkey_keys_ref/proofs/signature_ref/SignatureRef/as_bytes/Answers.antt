@@ -1,4 +1,4 @@
-use Rattle.sshkey_keys.specs.SignatureReaders.{signature_grammar}
+use Rattle.sshkey_keys.proofs.SignatureReaders.{signature_grammar}
 use Rattle.sshkey_keys_ref.proofs.Spelled.{some_spelled}
 use Rattle.sshkey_keys_ref.proofs.signature_ref.SignatureRef.as_bytes.Goals as goal
 

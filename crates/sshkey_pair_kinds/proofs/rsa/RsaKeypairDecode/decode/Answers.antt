@@ -1,5 +1,5 @@
 use Rattle.sshkey_terms.proofs.Mapped.{mapped_handed}
-use Rattle.sshkey_pair_kinds.specs.PairFormats.{rsa_pair_parts_read}
+use Rattle.sshkey_pair_kinds.proofs.PairReaders.{rsa_pair_parts_read}
 use Rattle.sshkey_pair_kinds.proofs.rsa.RsaKeypairDecode.decode.Goals as goal
 
 pub returns-in_err-n-clause-gives : goal.returns-in_err-n-clause-gives

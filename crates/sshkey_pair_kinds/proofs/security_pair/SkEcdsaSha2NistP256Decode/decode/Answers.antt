@@ -1,5 +1,5 @@
 use Rattle.sshkey_terms.proofs.Mapped.{mapped_handed}
-use Rattle.sshkey_pair_kinds.specs.PairFormats.{sk_ecdsa_pair_parts_read}
+use Rattle.sshkey_pair_kinds.proofs.PairReaders.{sk_ecdsa_pair_parts_read}
 use Rattle.sshkey_pair_kinds.proofs.security_pair.SkEcdsaSha2NistP256Decode.decode.Goals as goal
 
 pub returns-in_err-public-clause-gives : goal.returns-in_err-public-clause-gives

@@ -3,6 +3,7 @@ use Rattle.std.proofs.lemmas.Result.{err_from_is_err_and}
 use Rattle.sshkey_base.proofs.Steps.{refused_first}
 use Rattle.sshkey_ciphers.specs.Ciphers.{cipher_of}
 use Rattle.sshkey_ciphers.specs.Ciphertexts.{sealed_format}
+use Rattle.sshkey_ciphers.proofs.Lawful.{sealed_lawful}
 use Rattle.sshkey_private.specs.PrivateKeyFormats.{last_encrypted_at}
 use Rattle.sshkey_private.proofs.KeyValues.{behind_refused, none_behind}
 use Rattle.sshkey_base.specs.Stops.{OverrunsString}
@@ -27,4 +28,4 @@ returns-in_err-sealed-clause-past g c =
     rw (p.1, p.2) c.in_err-sealed.ensures.past
 
 pub returns-then-remaining-gt0-clause-past : goal.returns-then-remaining-gt0-clause-past
-returns-then-remaining-gt0-clause-past g c = λ o. read_past _ (sealed_format (cipher_of c.args.cipher)).read OverrunsString _ _ _ (λ b m passes. (sealed_format (cipher_of c.args.cipher)).lengths b m (inl passes)) c.in_ok-sealed.ensures.gives o
+returns-then-remaining-gt0-clause-past g c = λ o. read_past _ (sealed_format (cipher_of c.args.cipher)).read OverrunsString _ _ _ (λ b m passes. (sealed_lawful (cipher_of c.args.cipher)).lengths b m (inl passes)) c.in_ok-sealed.ensures.gives o

@@ -3,7 +3,8 @@ use Rattle.std.proofs.lemmas.Result.{err_from_is_err_and}
 use Rattle.sshkey_base.specs.Causes.{cause}
 use Rattle.sshkey_terms.proofs.Chosen.{chosen_stopped, chosen_stops}
 use Rattle.sshkey_private.specs.declared.private_key.PrivateKey.{PrivateKey}
-use Rattle.sshkey_private.specs.Openings.{opening_of, opening_parts, opening_at, opening_format}
+use Rattle.sshkey_private.specs.Openings.{opening_of, opening_parts, opening_at}
+use Rattle.sshkey_private.proofs.Lawful.{opening_lawful}
 use Rattle.sshkey_private.specs.PrivateKeyFormats.{NeedsContent, OverrunsContent, last_content_at, steps_at}
 use Rattle.sshkey_private.specs.PrivateKeyGrammars.{delimited_by}
 use Rattle.sshkey_private.proofs.Stopping.{delimited_chosen}
@@ -19,4 +20,4 @@ pub returns-in_err-content_from-clause-past : goal.returns-in_err-content_from-c
 returns-in_err-content_from-clause-past g c =
     let p = err_from_is_err_and c.from_residual-in_err-content_from.result c.from_residual-in_err-content_from.ensures.1 in
     let limit = suc c.args.most in
-    rw (p.1, p.2) (chosen_stops {W = PrivateKey} opening_of opening_at (λ h. delimited_by (last_content_at limit h.cipher h.kdf h.public)) (delimited_by (steps_at limit)) _ _ _ cause (Err c.in_err-content_from.field-0.0) opening_parts.needs opening_parts.overruns (λ h. NeedsContent h.cipher h.kdf h.public) (λ h. OverrunsContent h.cipher h.kdf h.public) c.in_ok-opening.ensures.gives opening_format.lengths (delimited_chosen limit) c.in_err-content_from.ensures.past)
+    rw (p.1, p.2) (chosen_stops {W = PrivateKey} opening_of opening_at (λ h. delimited_by (last_content_at limit h.cipher h.kdf h.public)) (delimited_by (steps_at limit)) _ _ _ cause (Err c.in_err-content_from.field-0.0) opening_parts.needs opening_parts.overruns (λ h. NeedsContent h.cipher h.kdf h.public) (λ h. OverrunsContent h.cipher h.kdf h.public) c.in_ok-opening.ensures.gives opening_lawful.lengths (delimited_chosen limit) c.in_err-content_from.ensures.past)

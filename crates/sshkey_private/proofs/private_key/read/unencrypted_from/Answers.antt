@@ -4,7 +4,8 @@ use Rattle.sshkey_keys.specs.Keys.{key_of}
 use Rattle.sshkey_terms.proofs.Mapped.{mapped_reads, mapped_refused}
 use Rattle.sshkey_terms.proofs.Stopping.{mapped_stopped}
 use Rattle.sshkey_private.specs.Inner.{inner_of, part_format}
-use Rattle.sshkey_private.specs.PrivateKeyFormats.{key_of_part, unencrypted_below, unencrypted_read}
+use Rattle.sshkey_private.specs.PrivateKeyFormats.{key_of_part, unencrypted_below}
+use Rattle.sshkey_private.proofs.Lawful.{unencrypted_read}
 use Rattle.sshkey_private.specs.PrivateKeys.{private_of}
 use Rattle.sshkey_private.proofs.ReadHalves.{read_half}
 use Rattle.sshkey_private.proofs.private_key.read.unencrypted_from.Goals as goal

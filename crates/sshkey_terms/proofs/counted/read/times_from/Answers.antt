@@ -28,7 +28,7 @@ returns-in_err-add-clause-past g c =
 pub reads-preserved : goal.reads-preserved
 reads-preserved g c =
     let all : map g.T.Decode.means c.add.new.values.items ≡ map g.T.Decode.means c.reads.values.items ++ g.T.Decode.means c.in_ok-decode.field-0 ∷ [] = ap (λ (xs : _). map g.T.Decode.means xs) c.in_ok-add.ensures.added ∙ map-append g.T.Decode.means _ _ in
-    (rw all (gathers_more g.T.Decode.format _ _ _ _ c.reads.invariant.0 g.T.Decode.means c.in_ok-decode.field-0 _ (omega (arith, c.reads-test.true, c.len.ensures, c.reads.values.ok.0, length-map c.reads.values.items g.T.Decode.means)) c.in_ok-decode.ensures.gives), later_then _ _ _ c.reads.invariant.1 c.in_ok-decode.ensures.later)
+    (rw all (gathers_more g.T.Decode.format _ _ _ _ c.reads.invariant.0 c.lawful.ensures g.T.Decode.means c.in_ok-decode.field-0 _ (omega (arith, c.reads-test.true, c.len.ensures, c.reads.values.ok.0, length-map c.reads.values.items g.T.Decode.means)) c.in_ok-decode.ensures.gives), later_then _ _ _ c.reads.invariant.1 c.in_ok-decode.ensures.later)
 
 pub returns-in_err-add-clause-later : goal.returns-in_err-add-clause-later
 returns-in_err-add-clause-later g c = later_then _ _ _ c.reads.invariant.1 c.in_ok-decode.ensures.later

@@ -57,7 +57,7 @@ reads-init g c = rw c.new-values.ensures.items ((None, collects_none (λ _. g.T.
 pub reads-smaller : goal.reads-smaller
 reads-smaller g c =
     let r = c.in_ok-decode.ensures.gives in
-    let less = leaves_less g.T.Decode.format c.requires _ _ _ r.value in
+    let less = leaves_less g.T.Decode.format c.lawful.ensures c.requires _ _ _ r.value in
     let same = r.missing in
     omega arith
 
@@ -66,9 +66,9 @@ reads-preserved g c =
     let f = g.T.Decode.format in
     let means = g.T.Decode.means in
     let r = c.in_ok-decode.ensures.gives in
-    let less = leaves_less f c.requires _ _ _ r.value in
+    let less = leaves_less f c.lawful.ensures c.requires _ _ _ r.value in
     let all : map means c.add.new.values.items ≡ map means c.reads.values.items ++ means c.in_ok-decode.field-0 ∷ [] = ap (λ (xs : _). map means xs) c.in_ok-add.ensures.added ∙ map-append means _ _ in
-    ((Some (means c.in_ok-decode.field-0), rw all (collects_more (λ _. f.read) means _ _ _ _ _ _ c.reads.invariant.0.1 r less), overruns_more (λ _. f.grammar.delimited_at) f.overruns means f.read f.lengths (g.R.Reader.source c.args.reader.now) _ _ _ f.grammar.same _ c.reads.invariant.0.2 r), inr (still_begun f.read _ _ c.reads.invariant.1 means _ _ r), later_then _ _ _ c.reads.invariant.2 c.in_ok-decode.ensures.later)
+    ((Some (means c.in_ok-decode.field-0), rw all (collects_more (λ _. f.read) means _ _ _ _ _ _ c.reads.invariant.0.1 r less), overruns_more (λ _. f.delimited_at) f.overruns means f.read c.lawful.ensures.lengths (g.R.Reader.source c.args.reader.now) _ _ _ c.lawful.ensures.grammar.same _ c.reads.invariant.0.2 r), inr (still_begun f.read _ _ c.reads.invariant.1 means _ _ r), later_then _ _ _ c.reads.invariant.2 c.in_ok-decode.ensures.later)
 
 pub returns-clause-later : goal.returns-clause-later
 returns-clause-later g c = c.reads.invariant.2

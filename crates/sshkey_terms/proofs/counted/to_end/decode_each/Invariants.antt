@@ -9,7 +9,7 @@ invariant-reads g l =
     let f = g.T.Decode.format in
     let s = g.R.Reader.source l.fn.reader in
     let t = g.R.Reader.source l.reader in
-    ((before : Option g.T.Decode.Meaning) × Collects (λ _. f.read) s before (map g.T.Decode.means l.values.items) t × StillOverruns (λ _. f.grammar.delimited_at) f.overruns s before t) × Begun f.read s t × Later s t
+    ((before : Option g.T.Decode.Meaning) × Collects (λ _. f.read) s before (map g.T.Decode.means l.values.items) t × StillOverruns (λ _. f.delimited_at) f.overruns s before t) × Begun f.read s t × Later s t
 
 abbrev pub decreases-reads : goal.decreases-reads
 decreases-reads g l = announced_len (g.R.Reader.source l.reader)

@@ -2,13 +2,13 @@ use Rattle.std.proofs.Common.{Err, ◌∙◌}
 use Rattle.std.proofs.lemmas.Result.{err_from_is_err_and}
 use Rattle.std.specs.Int.{w32}
 use Rattle.sshkey_model.specs.Reading.{number_at}
-use Rattle.sshkey_base.specs.Lengths.{no_lengths}
+use Rattle.sshkey_base.proofs.Lengths.{no_lengths}
 use Rattle.sshkey_base.specs.Needs.{NoNeed}
 use Rattle.sshkey_base.specs.Stops.{NoOverrun}
 use Rattle.sshkey_base.proofs.Places.{later_then}
 use Rattle.sshkey_base.proofs.Steps.{refused_later}
 use Rattle.sshkey_terms.specs.Counted.{NeedsCounted, OverrunsCounted, values_at}
-use Rattle.sshkey_terms.specs.Terms.{called_chosen}
+use Rattle.sshkey_terms.proofs.Lawful.{called_chosen}
 use Rattle.sshkey_terms.proofs.Chosen.{chosen_refused, chosen_stopped, chosen_stops}
 use Rattle.sshkey_terms.proofs.counted.read.CountedDecode.decode.Goals as goal
 
@@ -20,7 +20,7 @@ returns-in_err-count-clause-gives g c =
 pub returns-in_err-count-clause-past : goal.returns-in_err-count-clause-past
 returns-in_err-count-clause-past g c =
     let p = err_from_is_err_and c.from_residual.result c.from_residual.ensures.1 in
-    rw (p.1, g.met.T.Error.DecodeError.keeps_causes _ p.0 p.2) (chosen_stopped (number_at w32) (λ n. values_at g.T.Decode.format.grammar.delimited_at n) NoNeed NoOverrun (λ n. NeedsCounted g.T.Decode.format n) (λ n. OverrunsCounted g.T.Decode.format n) _ _ _ (called_chosen (number_at w32) (λ n. values_at g.T.Decode.format.grammar.delimited_at n)) c.in_err-count.ensures.past)
+    rw (p.1, g.met.T.Error.DecodeError.keeps_causes _ p.0 p.2) (chosen_stopped (number_at w32) (λ n. values_at g.T.Decode.format.delimited_at n) NoNeed NoOverrun (λ n. NeedsCounted g.T.Decode.format n) (λ n. OverrunsCounted g.T.Decode.format n) _ _ _ (called_chosen (number_at w32) (λ n. values_at g.T.Decode.format.delimited_at n)) c.in_err-count.ensures.past)
 
 pub returns-in_err-values_from-clause-gives : goal.returns-in_err-values_from-clause-gives
 returns-in_err-values_from-clause-gives g c =
@@ -34,7 +34,7 @@ returns-in_err-values_from-clause-later g c = later_then _ _ _ c.in_ok-count.ens
 pub returns-in_err-values_from-clause-past : goal.returns-in_err-values_from-clause-past
 returns-in_err-values_from-clause-past g c =
     let p = err_from_is_err_and c.from_residual-in_err-values_from.result c.from_residual-in_err-values_from.ensures.1 in
-    rw (p.1, p.2) (chosen_stops {W = Unit {0}} (λ k. k) (number_at w32) (λ n. values_at g.T.Decode.format.grammar.delimited_at n) _ _ _ _ g.T.Error.DecodeError.cause (Err _) NoNeed NoOverrun (λ n. NeedsCounted g.T.Decode.format n) (λ n. OverrunsCounted g.T.Decode.format n) c.in_ok-count.ensures.gives (no_lengths (number_at w32)) (called_chosen (number_at w32) (λ n. values_at g.T.Decode.format.grammar.delimited_at n)) c.in_err-values_from.ensures.past)
+    rw (p.1, p.2) (chosen_stops {W = Unit {0}} (λ k. k) (number_at w32) (λ n. values_at g.T.Decode.format.delimited_at n) _ _ _ _ g.T.Error.DecodeError.cause (Err _) NoNeed NoOverrun (λ n. NeedsCounted g.T.Decode.format n) (λ n. OverrunsCounted g.T.Decode.format n) c.in_ok-count.ensures.gives (no_lengths (number_at w32)) (called_chosen (number_at w32) (λ n. values_at g.T.Decode.format.delimited_at n)) c.in_err-values_from.ensures.past)
 
 pub returns-clause-gives : goal.returns-clause-gives
 returns-clause-gives g c =

@@ -1,0 +1,175 @@
+//! Whether authorized_keys or a file of principals logs a user in, and what the login is bound to.
+
+use std::fmt;
+use std::ops::RangeInclusive;
+
+use crate::certificates::{is_verified, text};
+use crate::logins::{grant_in, with_raw, Grant, Login};
+use crate::permits::Permits;
+use crate::questions::{decide, Question};
+use crate::raw;
+use crate::rooms::ask;
+use crate::status::Status;
+use crate::strings::strings;
+
+/// A host and a port.
+#[derive(Clone, Debug, PartialEq, Eq)]
+pub struct Place {
+    /// The host, without brackets; `*` is any address to listen at.
+    pub host: String,
+    /// The port, or any.
+    pub port: Option<u16>,
+}
+
+/// What a login by a line of authorized_keys is bound to, and what it may do.
+#[derive(Clone, Debug, PartialEq, Eq)]
+#[must_use = "a login is bound to what its grant says"]
+pub struct UserGrant {
+    /// What it is bound to as by a certificate, by the line or by the certificate. Of a plain key
+    /// the serial number and the authority are zero, and the key id is empty.
+    pub grant: Grant,
+    /// The number of the line, from 1.
+    pub line: usize,
+    /// The only places to which ports may be forwarded, or any ([`Permits::OPEN_ANYWHERE`]).
+    pub permit_open: Option<Vec<Place>>,
+    /// The only places where may be listened, or any ([`Permits::LISTEN_ANYWHERE`]).
+    pub permit_listen: Option<Vec<Place>>,
+    /// `NAME=VALUE` each. By its defaults sshd sets none.
+    pub environment: Vec<String>,
+    /// The seconds since 1970 that may be the last at which the line counts, if it has one.
+    pub expires: Option<RangeInclusive<u64>>,
+    /// The only device of tun(4), or any ([`Permits::ANY_TUNNEL`]).
+    pub tunnel: Option<u32>,
+}
+
+/// Why authorized_keys or a file of principals lets nobody in.
+#[derive(Clone, Copy, Debug, PartialEq, Eq)]
+pub struct Denial {
+    /// What is wrong first.
+    pub status: Status,
+    /// The number, from 1, of the line that refuses; 0 where none does.
+    pub line: usize,
+}
+
+/// The meaning and the number, and the line.
+impl fmt::Display for Denial {
+    fn fmt(&self, formatter: &mut fmt::Formatter<'_>) -> fmt::Result {
+        match self.line {
+            0 => write!(formatter, "{}", self.status),
+            line => write!(formatter, "{} in line {line}", self.status),
+        }
+    }
+}
+
+impl std::error::Error for Denial {}
+
+impl From<Status> for Denial {
+    fn from(status: Status) -> Denial {
+        Denial { status, line: 0 }
+    }
+}
+
+impl From<Denial> for Status {
+    fn from(denial: Denial) -> Status {
+        denial.status
+    }
+}
+
+/// Lets in whom a text of authorized_keys lets in: by the key, where the login's certificate has no
+/// bytes, and else by that certificate of the key, for which lines `cert-authority` are asked. It
+/// does so as sshd(8) does by the first line that lets in, or more strictly. The host is the name
+/// that was found for the client's address (`UseDNS`), or empty. The login's authorities are not
+/// looked at. The text need not be UTF-8: a line that is not ends it where it may be for the key
+/// ([`Status::LINE_UNCLEAR`]). `verify` is your cryptography; it is asked about a certificate alone,
+/// and only where nothing else is wrong.
+///
+/// Fails with what is wrong first. With a status from [`Status::USER_NOT_LISTED`] to
+/// [`Status::LINE_PRINCIPALS`] ask about the next file, and with every other one about none.
+///
+/// Whether the client has signed this session under the key asks
+/// [`check_userauth`](crate::check_userauth).
+pub fn log_in_by_keys(
+    login: &Login<'_>,
+    text: &[u8],
+    host: impl AsRef<[u8]>,
+    verify: impl FnOnce(&Question) -> bool,
+) -> Result<UserGrant, Denial> {
+    log_in_by(raw::sshkey_user_keys_verdict, login, text, host.as_ref(), verify)
+}
+
+/// The same by a text in the form of `AuthorizedPrincipalsFile`, where the login's authorities are
+/// those of `TrustedUserCAKeys`. The first line for a principal of the certificate decides, and the
+/// user is not asked about.
+///
+/// After [`Status::USER_NOT_LISTED`] alone ask about the next file: a line that refuses ends it,
+/// unlike one of authorized_keys.
+pub fn log_in_by_principals(
+    login: &Login<'_>,
+    text: &[u8],
+    host: impl AsRef<[u8]>,
+    verify: impl FnOnce(&Question) -> bool,
+) -> Result<UserGrant, Denial> {
+    log_in_by(raw::sshkey_principals_verdict, login, text, host.as_ref(), verify)
+}
+
+/// The call of the library that decides by such a text.
+type Verdict = fn(&raw::Login<'_>, &[u8], &[u8], u32, &mut [u8], &mut raw::UserGrant) -> u32;
+
+fn log_in_by(
+    verdict_by: Verdict,
+    login: &Login<'_>,
+    text: &[u8],
+    host: &[u8],
+    verify: impl FnOnce(&Question) -> bool,
+) -> Result<UserGrant, Denial> {
+    with_raw(login, |asked| {
+        let verdict = |yes| {
+            let mut line = 0;
+            let said = ask(text.len(), |room, answer: &mut raw::UserGrant| {
+                let yes = u32::from(yes);
+                let number = verdict_by(asked, text, host, yes, room, answer);
+                line = answer.line;
+                number
+            });
+            let (room, found) = said.map_err(|status| Denial { status, line })?;
+            Ok(user_grant_in(&room, &found)?)
+        };
+        decide(verdict, || is_verified(login.certificate, verify))
+    })
+}
+
+/// The grant that a verdict has written to that room.
+fn user_grant_in(room: &[u8], found: &raw::UserGrant) -> Result<UserGrant, Status> {
+    let grant = grant_in(room, &found.grant)?;
+    let bound = |any| (!grant.permits.contains(any)).then_some(());
+    Ok(UserGrant {
+        line: found.line,
+        permit_open: bound(Permits::OPEN_ANYWHERE)
+            .map(|()| places(found.permit_open.of(room)))
+            .transpose()?,
+        permit_listen: bound(Permits::LISTEN_ANYWHERE)
+            .map(|()| places(found.permit_listen.of(room)))
+            .transpose()?,
+        environment: strings(found.environment.of(room))
+            .map(|it| Ok(text(it?)?.into()))
+            .collect::<Result<_, Status>>()?,
+        expires: (found.expires.first != u64::MAX)
+            .then_some(found.expires.first..=found.expires.last),
+        tunnel: bound(Permits::ANY_TUNNEL).map(|()| found.tunnel),
+        grant,
+    })
+}
+
+/// The hosts and ports that are strings, one after the other. A port of no bytes is any.
+fn places(bytes: &[u8]) -> Result<Vec<Place>, Status> {
+    let mut found = Vec::new();
+    let mut rest = strings(bytes);
+    while let Some(host) = rest.next() {
+        let port = rest.next().unwrap_or(Ok(&[]))?;
+        found.push(Place {
+            host: text(host?)?.into(),
+            port: <[u8; 2]>::try_from(port).ok().map(u16::from_be_bytes),
+        });
+    }
+    Ok(found)
+}

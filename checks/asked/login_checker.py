@@ -1,0 +1,143 @@
+"""What `sshkey-check login` says of keys and certificates by lines of authorized_keys, for checks/foreign: as sshd(8) has it, under
+"AUTHORIZED_KEYS FILE FORMAT"."""
+import os
+import random
+
+from lib.harness import ssh_keygen
+
+from .example_calls import INVALID, UNTOLD, VALID
+from .linked import VALGRIND, run
+from .made import MIDDLE, WINDOW
+
+ADDRESS, FUTURE = "192.0.2.7", 'expiry-time="20240201Z"'
+PERMITTED = ["any command", "pty", "port forwarding", "agent forwarding", "X11 forwarding", "user rc", "tunnels"]
+CERTIFIED = ['Key ID: "id"', "Serial: 7"]
+ALICE = ["-n", "alice", "-z", "7", *WINDOW]
+COMMAND = [*ALICE, "-O", "force-command=date"]
+BY_CA = ["--ca", "admitting.pub"]
+
+
+def granted(line=1, *more, command=None, permits=PERMITTED):
+    """What is said of a login by that line."""
+    permits = [it for it in permits if command is None or it != "any command"]
+    told = [] if command is None else [f"Command: {command}"]
+    return [f"Line: {line}", *told, f"Permits: {', '.join(permits) or '(nothing)'}", *more]
+
+
+# lines of authorized_keys, or with --ca of principals, the words of the certificate that is shown or None for the key itself, what else is asked, and what is said:
+# to what it lets in, or the number of what is wrong, with the line that refuses, or 0 where none does
+ROWS = [
+    ("a line", "{key}", None, [], granted()),
+    ("a line behind others", "# a comment\n\n{other}\nrestrict,pty {key}", None, [], granted(4, permits=["any command", "pty"])),
+    ("the first of two", 'command="ls -l" {key}\n{key}', None, [], granted(command="ls -l")),
+    ("a line that permits nothing", 'restrict,command="" {key}', None, [], granted(command="", permits=[])),
+    ("a line for its network", 'from="192.0.2.0/24" {key}', None, [], granted()),
+    ("a line for a name", 'from="*.example.org" {key}', None, ["--host", "db.example.org"], granted()),
+    ("a line for a name that was not found", 'from="*.example.org" {key}', None, [], (93, 1)),
+    ("a line for another network", '\nfrom="10.0.0.0/8" {key}', None, [], (93, 2)),
+    ("one behind that", 'from="10.0.0.0/8" {key}\n{key}', None, [], granted(2)),
+    ("a line until a second", f"{FUTURE} {{key}}", None, [], granted(1, "Valid until: 2024-02-01T00:00:00")),
+    ("a line that is over", f"{FUTURE} {{key}}", None, ["--at", "20240202Z"], (91, 1)),
+    ("a line that may be over", 'expiry-time="20240201" {key}', None, ["--at", "20240201Z"], (96, 1)),
+    ("ports", 'permitopen="h:80",permitopen="[::1]:*",permitlisten="8080" {key}', None, [],
+     granted(1, "Forwards to: h:80", "Forwards to: [::1]:*", "Listens at: *:8080")),
+    ("a device", 'tunnel="1" {key}', None, [], granted(1, "Tunnel: 1")),
+    ("any device", 'tunnel="any" {key}', None, [], granted(1, "Tunnel: any")),
+    ("a variable", 'environment="A=\\"b\x1b" {key}', None, [], granted(1, 'Environment: A="b\\033')),
+    ("a security key", "no-touch-required,verify-required {key}", None, [], granted(1, "Touch: not required", "Verification: required")),
+    ("nobody's line", "{other}\nunknown {key}", None, [], (90, 0)), ("an authority's line", "cert-authority {key}", None, [], (90, 0)),
+    ("principals in vain", 'principals="alice" {key}', None, [], (92, 1)),
+    ("a revoked key", "{key}", None, ["--revoked", "revoked"], (56, 0)),
+    ("a certificate", "cert-authority {authority}", ALICE, [], granted(1, *CERTIFIED)),
+    ("a certificate with a command", "cert-authority {authority}", COMMAND, [], granted(1, *CERTIFIED, command="date")),
+    ("another command", 'cert-authority,command="ls" {authority}', COMMAND, [], (94, 1)),
+    ("what both permit", "cert-authority,no-pty {authority}", [*ALICE, "-O", "no-user-rc"], [],
+     granted(1, *CERTIFIED, permits=[it for it in PERMITTED if it not in ("pty", "user rc")])),
+    ("its own line", "{key}", ALICE, [], (90, 0)),
+    ("a line that names another", 'cert-authority,principals="bob" {authority}', ALICE, [], (95, 1)),
+    ("a certificate that is over", "cert-authority {authority}", ALICE, ["--at", "20240202Z"], (33, 0)),
+    ("a certificate for elsewhere", "cert-authority {authority}", [*ALICE, "-O", "source-address=10.0.0.0/8"], [], (57, 0)),
+    ("a principal", "alice", ALICE, BY_CA, granted(1, *CERTIFIED)),
+    ("a principal with options", "bob\nno-pty alice # x", ALICE, BY_CA,
+     granted(2, *CERTIFIED, permits=[it for it in PERMITTED if it != "pty"])),
+    ("a principal for another network", 'bob\nfrom="10.0.0.0/8" alice\nalice', ALICE, BY_CA, (93, 2)),
+    ("a principal that can't be told", 'from="*," alice\nalice', ALICE, BY_CA, (96, 1)), ("no principal", "bob", ALICE, BY_CA, (90, 0)),
+    ("a principal that is over", "alice", [*ALICE[:-1], "20230101000000:20230201000000"], BY_CA, (33, 0)),
+    ("a principal of another authority", "alice", ALICE, ["--ca", "entering.pub"], (31, 0)),
+    ("a principal with a key", "alice", None, BY_CA, (12, 0)),
+]  # fmt: skip
+
+
+def asked_of(maker, lines, words, more):
+    """The words for the program, behind `login`."""
+    keys = {"key": maker.read("entering.pub"), "other": maker.read("other-entering.pub"), "authority": maker.read("admitting.pub")}
+    if words is not None:
+        maker.certificate("admitting", "entering", *words)
+    shown = maker.path("entering.pub" if words is None else "entering-cert.pub")
+    more = [maker.path(it) if it == "revoked" or it.endswith(".pub") else it for it in more]
+    at = [] if "--at" in more else ["--at", str(MIDDLE)]
+    return [maker.write("authorized_keys", lines.format(**keys) + "\n"), "alice", shown, "--from", ADDRESS, *at, *more]
+
+
+def check_rows(count, programs, maker):
+    signer = ssh_keygen("-l", "-f", maker.path("admitting.pub"), text=True).stdout.split()[1]
+    for name, lines, words, more, wanted in ROWS:
+        asked = asked_of(maker, lines, words, more)
+        told = ""
+        if isinstance(wanted, list):
+            said = [*wanted, *[f"Signing CA: {signer}"] * (words is not None)]
+            printed = "".join(f"{it}\n" for it in ["valid", *(f"        {it}" for it in said)])
+        else:
+            number, line = wanted
+            printed, told = "refused\n", f"sshkey-check: {f'{asked[0]}:{line}' if line else f'{asked[2]}:1'}: "
+        for program in programs:
+            ran = run([program, "login", *asked], env={**os.environ, "TZ": "UTC"})
+            same = ran.stdout == printed and ran.returncode == (INVALID if told else VALID) and ran.stderr.startswith(told)
+            same = same and (ran.stderr.endswith(f" ({number})\n") and ran.stderr.count("\n") == 1 if told else not ran.stderr)
+            count.check(f"sshkey-check login by {name}", same, ran, printed, told)
+
+
+def check_hostile_lines(count, programs, maker):
+    """Files of any bytes let nobody in, and make it read nothing that is not theirs."""
+    draw, key = random.Random(82), maker.read("other-entering.pub").encode()
+    asked = asked_of(maker, "", None, [])
+    files = [b"", b"\0", b'from="', b'command="\\', b"\xff " + key, *(draw.randbytes(it * it) for it in range(20))]
+    for program in (programs[1:], [*VALGRIND, programs[0]]):
+        wrong = []
+        for content in files:
+            with open(asked[0], "wb") as file:
+                file.write(content)
+            ran = run([*program, "login", *asked])
+            is_sound = (ran.returncode, ran.stdout, ran.stderr.count("\n")) == (INVALID, "refused\n", 1)
+            wrong += [] if is_sound else [(content, ran)]
+        count.check(f"sshkey-check login by {len(files)} files of any bytes", not wrong, *wrong[:2])
+
+
+def check_login_words(count, program, maker):
+    lines, user, key, *rest = asked_of(maker, "{key}", None, [])
+    where = rest[:2]
+    for words in (
+        [], [lines, user, *where], [lines, user, key], [lines, user, key, key, *where], [lines, user, key, *where, *where],
+        *([lines, user, key, *where, *more] for more in (["--user", user], ["--port", "22"], ["--keys", key])),
+    ):  # fmt: skip
+        ran = run([program, "login", *words], input="")
+        same = ran.returncode == UNTOLD and ran.stderr.startswith("usage: ") and not ran.stdout
+        count.check(f"sshkey-check login {' '.join(map(os.path.basename, words))} is no call", same, ran)
+    none = maker.path("none")
+    for words in (
+        [none, user, key, *where], [lines, user, none, *where], [lines, user, maker.write("empty", ""), *where],
+        [lines, user, key, "--from", "192.0.2"], [lines, user, key, "--from", "::1%lo"], [lines, user, key, *where, "--revoked", none],
+        [lines, user, key, *where, "--ca", none],
+    ):  # fmt: skip
+        ran = run([program, "login", *words], input="")
+        same = (ran.returncode, ran.stdout, ran.stderr.count("\n")) == (UNTOLD, "", 1)
+        count.check(f"sshkey-check login can't tell: {' '.join(map(os.path.basename, words))}", same, ran)
+
+
+def check_login_checker(count, programs, maker):
+    for name in ("entering", "other-entering", "admitting"):
+        maker.key(name, "ed25519")
+    maker.write("revoked", maker.read("entering.pub") + "\n")
+    check_rows(count, programs, maker)
+    check_hostile_lines(count, programs, maker)
+    check_login_words(count, programs[0], maker)

@@ -1,0 +1,27 @@
+-- What a certificate's signature is over is read exactly where it is spelled.
+use Rattle.std.proofs.Common.{◌≡◌, ℕ, List}
+use Rattle.sshkey_model.specs.Reading.{behind_at}
+use Rattle.sshkey_model.specs.Grammar.{IsGrammar, value_at}
+use Rattle.sshkey_model.specs.Certificates.{signed_fields_at, type_at, time_at, end_at}
+use Rattle.sshkey_model.proofs.CertificateReaders.{signed_fields_reads}
+use Rattle.sshkey_model.proofs.CombinedReaders.{bind_assoc}
+use Rattle.sshkey_model.proofs.Grammars.{grammar_with, same_grammar}
+use Rattle.sshkey_terms.proofs.Lawful.{checked_read, IsMapped}
+use Rattle.sshkey_keys.proofs.BoxedKeys.{key_box}
+use Rattle.sshkey_cert_values.specs.OptionReaders.{options_value_at}
+use Rattle.sshkey_cert_fields.specs.ToBeSignedFormats.{fields_format, named_format, subject_format, subject_of_parts, to_be_signed_format, to_be_signed_of_parts}
+use Rattle.sshkey_cert_fields.specs.ToBeSignedReaders.{SpellsToBeSigned, to_be_signed_value_at}
+
+pub subject_parts_read : IsMapped subject_format.read subject_of_parts named_format.read
+subject_parts_read = checked_read subject_of_parts named_format.read
+
+pub to_be_signed_parts_read : IsMapped to_be_signed_format.read to_be_signed_of_parts fields_format.read
+to_be_signed_parts_read = checked_read to_be_signed_of_parts fields_format.read
+
+-- The reader that gives the choices of the spelling too reads the same fields.
+pub to_be_signed_is : (b : List ℕ) → value_at signed_fields_at b ≡ to_be_signed_value_at b
+unfolding signed_fields_at type_at time_at end_at options_value_at behind_at
+to_be_signed_is b = simp (bind_assoc, key_box)
+
+pub to_be_signed_grammar : IsGrammar SpellsToBeSigned to_be_signed_value_at
+to_be_signed_grammar = same_grammar (grammar_with signed_fields_reads) to_be_signed_is

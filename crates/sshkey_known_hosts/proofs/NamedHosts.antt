@@ -1,0 +1,25 @@
+-- Whether a text of hosts is for a name.
+use Rattle.std.proofs.Common.{◌≡◌, ◌<◌, ◌↔◌, ℕ, List, length, Bool, IsTrue, None, Some, inl, refl}
+use Rattle.std.specs.Prelude.{bytes_eq}
+use Rattle.std.proofs.lemmas.List.{nil_from_length}
+use Rattle.std.proofs.lemmas.Slice.Eq.{bytes_eq-Decides}
+use Rattle.sshkey_base.specs.declared.error.Error.TheVariants.{FormatEncoding}
+use Rattle.sshkey_entries.specs.HostNames.{AreForName}
+use Rattle.sshkey_entries.specs.Items.{patterns}
+use Rattle.sshkey_entries.specs.KnownHosts.{HashedName, Patterns, IsHashedName, IsMarkedHashed}
+use Rattle.sshkey_known_hosts.specs.NamedHosts.{TellsHosts}
+use Rattle.sshkey_known_hosts.proofs.Hosts.{refused_is_none}
+
+module _ (hmac : List ℕ → List ℕ → List ℕ) (name text : List ℕ) where
+  pub tells_none : length text ≡ 0 → TellsHosts hmac name text None
+  tells_none empty = refused_is_none text FormatEncoding (inl (nil_from_length text empty)) (λ e. cc e)
+
+  pub tells_hash : (salt hash : List ℕ) → IsHashedName text salt hash → (b : Bool) → IsTrue b ↔ ((length salt ≡ 20) × (hash ≡ hmac salt name)) → TellsHosts hmac name text (Some b)
+  tells_hash salt hash is b decides = (HashedName salt hash, is, decides)
+
+  pub tells_patterns : (IsMarkedHashed text → ⊥) → 0 < length text → (b : Bool) → IsTrue b ↔ AreForName name (patterns text) → TellsHosts hmac name text (Some b)
+  tells_patterns plain some b decides = (Patterns (patterns text), record { some = some; not_hashed = plain; are = refl }, decides)
+
+-- the same or not, of bytes that are compared
+pub tells_same : (a b : List ℕ) (r : Bool) → r ≡ bytes_eq a b → IsTrue r ↔ (a ≡ b)
+tells_same a b r e = let decides = bytes_eq-Decides a b in rw e decides

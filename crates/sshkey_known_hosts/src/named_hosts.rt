@@ -1,0 +1,75 @@
+//! Whether hosts are for a name, told by their text, without memory.
+
+ghost use Rattle.std.specs.Prelude.{◌≡◌, ◌++◌, ◌<◌, ◌↔◌, IsTrue, length};
+ghost use Rattle.sshkey_entries.specs.HostNames.{AreForName};
+ghost use Rattle.sshkey_entries.specs.Items.{patterns};
+ghost use Rattle.sshkey_entries.specs.KnownHosts.{hashed_mark};
+ghost use Rattle.sshkey_known_hosts.specs.NamedHosts.{ReadsAll, ReadsTwenty, TellsHosts};
+
+use crate::hmac_sha1::HmacSha1;
+use sshkey_base::Reader;
+use sshkey_base64::Base64Reader;
+use sshkey_entries::{LetterCase, matches_pattern_list, split_pattern};
+
+/// The bytes of a salt that OpenSSH takes, and of a hash.
+const LEN: usize = 20;
+
+/// Reads a source to its end: how many bytes it has, and which, if they are 20.
+fn read_all<R: Reader + Drop>(mut reader: R) -> Option<([u8; LEN], usize)>
+    ensures { ReadsAll (R.source reader) result }
+{
+    let len = reader.remaining_len();
+    let mut bytes = [0; LEN];
+    'pieces: while !reader.is_finished() {
+        let count = reader.remaining_len().min(LEN);
+        let Ok(()) = reader.read(&mut bytes[..count]) else {
+            return None;
+        };
+    }
+    Some((bytes, len))
+}
+
+/// The same of a word in padded Base64.
+fn read_twenty(word: &str) -> Option<([u8; LEN], usize)>
+    ensures { ReadsTwenty word.now result }
+{
+    match Base64Reader::new(word) {
+        Ok(reader) => read_all(reader),
+        Err(_) => None,
+    }
+}
+
+/// Whether the salt and the hash after the mark are the name's, or none if no such two stand there.
+fn is_hash_of<H: HmacSha1>(hashed: &str, name: &str, hmac: &H) -> Option<bool>
+    ensures { TellsHosts (H.hmac hmac.now) name.now (hashed_mark ++ hashed.now) result }
+{
+    let (salt, hash) = hashed.split_once('|')?;
+    let salt = read_twenty(salt)?;
+    let hash = read_twenty(hash)?;
+    if hash.1 != LEN {
+        return None;
+    }
+    Some(salt.1 == LEN && hmac.hash(&salt.0, name.as_bytes()) == hash.0)
+}
+
+/// Whether the patterns are for the name.
+fn are_patterns_for(text: &str, name: &str) -> bool
+    requires { 0 < length text.now }
+    ensures { IsTrue result ↔ AreForName name.now (patterns text.now) }
+{
+    let (first, _) = split_pattern(text);
+    !first.starts_with('|') && matches_pattern_list(name, text, LetterCase::Insensitive)
+}
+
+/// Whether the hosts of that text are for the name, or none if it is no text of hosts.
+pub(crate) fn are_for<H: HmacSha1>(text: &str, name: &str, hmac: &H) -> Option<bool>
+    ensures { TellsHosts (H.hmac hmac.now) name.now text.now result }
+{
+    if let Some(hashed) = text.strip_prefix("|1|") {
+        return is_hash_of(hashed, name, hmac);
+    }
+    if text.is_empty() {
+        return None;
+    }
+    Some(are_patterns_for(text, name))
+}

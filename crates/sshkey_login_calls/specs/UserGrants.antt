@@ -1,0 +1,128 @@
+-- What a login by a line of authorized_keys is granted (sshd(8), "AUTHORIZED_KEYS FILE FORMAT").
+use Rattle.std.specs.Prelude.{◌≡◌, ℕ, ◌+◌, ◌-◌, ◌^◌, List, [], ◌∷◌, ◌++◌, length, replicate, Bool, true, false, not, is_some, Option, Some, None, string_bytes}
+use Rattle.std.specs.Int.{to_be_bytes, w16}
+use Rattle.login_terms.specs.Terms.{Terms, terms_of}
+use Rattle.login_terms.specs.Values.{HostAndPort}
+use Rattle.sshkey_calls.specs.Rooms.{IsPlaced}
+use Rattle.sshkey_calls.specs.declared.part.Part.{Part}
+use Rattle.sshkey_entry_calls.specs.declared.times.TimeSpan.{TimeSpan}
+use Rattle.sshkey_fingerprints.specs.Fingerprints.{digest_of, fingerprint_hash}
+use Rattle.sshkey_model.specs.Names.{Sha256}
+use Rattle.sshkey_model.specs.Parts.{flat}
+use Rattle.sshkey_model.specs.Texts.{string}
+use Rattle.sshkey_times.specs.declared.times.Span.{Span}
+use Rattle.sshkey_login_calls.specs.Grants.{bit, no_part, nothing, or_empty}
+use Rattle.sshkey_login_calls.specs.declared.user_grant.UserGrantParts.{UserGrantParts}
+use Rattle.user_keys.specs.declared.grant.Certified.{Certified}
+use Rattle.user_keys.specs.declared.grant.Grant.{Grant}
+
+-- ---- what is permitted
+
+abbrev pub is_empty : {A : Type 0} → List A → Bool
+is_empty [] = true
+is_empty (x ∷ more) = false
+
+-- What the line leaves. Any command may run where none is forced, and any device of tunnels be had
+-- where none is. Ports are bound to no place where none is named.
+abbrev pub permits_of : Terms → ℕ
+permits_of t =
+    bit 1 t.permissions.pty
+    + bit 2 t.permissions.port_forwarding
+    + bit 4 t.permissions.agent_forwarding
+    + bit 8 t.permissions.x11_forwarding
+    + bit 16 t.permissions.user_rc
+    + bit 32 (not (is_some t.command))
+    + bit 64 (not t.touch_required)
+    + bit 128 (not t.verify_required)
+    + bit 256 t.permissions.tunnels
+    + bit 512 (not (is_some t.tunnel))
+    + bit 1024 (is_empty t.permit_open)
+    + bit 2048 (is_empty t.permit_listen)
+
+-- the seconds that may be the last; the greatest numbers where there is no last one
+abbrev pub span_of : Option Span → TimeSpan
+span_of None = record { first = 2 ^ 64 - 1; last = 2 ^ 64 - 1 }
+span_of (Some s) = record { first = s.first; last = s.last }
+
+abbrev pub or_zero : Option ℕ → ℕ
+or_zero None = 0
+or_zero (Some device) = device
+
+-- ---- which certificate
+
+abbrev pub serial_of : Option Certified → ℕ
+serial_of None = 0
+serial_of (Some by) = by.serial
+
+abbrev pub key_id_of : Option Certified → List ℕ
+key_id_of None = []
+key_id_of (Some by) = string_bytes by.key_id
+
+abbrev pub authority_of : Option Certified → List ℕ
+authority_of None = replicate 32 0
+authority_of (Some by) = digest_of by.authority
+
+-- the fingerprint is by SHA-256, if there is one
+abbrev pub IsBySha256 : Option Certified → Type 0
+IsBySha256 None = Unit {0}
+IsBySha256 (Some by) = fingerprint_hash by.authority ≡ Sha256
+
+-- ---- what stands in the room
+
+-- strings (RFC 4251, section 5), one after the other
+abbrev pub strings : List (List ℕ) → List ℕ
+strings [] = []
+strings (s ∷ more) = flat (string s) ++ strings more
+
+-- two bytes, or none for any port
+abbrev pub port_bytes : Option ℕ → List ℕ
+port_bytes None = []
+port_bytes (Some port) = to_be_bytes w16 port
+
+-- a host and a port, each as a string
+abbrev pub permit_strings : List HostAndPort → List ℕ
+permit_strings [] = []
+permit_strings (p ∷ more) = flat (string p.host) ++ (flat (string (port_bytes p.port)) ++ permit_strings more)
+
+-- the command that has to run, or no bytes
+abbrev pub command_of : Grant → List ℕ
+command_of g = or_empty (terms_of g.terms).command
+
+-- what stands before each part
+abbrev pub before_open : Grant → List ℕ
+before_open g = command_of g ++ key_id_of g.certified
+
+abbrev pub before_listen : Grant → List ℕ
+before_listen g = before_open g ++ permit_strings (terms_of g.terms).permit_open
+
+abbrev pub before_environment : Grant → List ℕ
+before_environment g = before_listen g ++ permit_strings (terms_of g.terms).permit_listen
+
+abbrev pub user_grant_bytes : Grant → List ℕ
+user_grant_bytes g = before_environment g ++ strings (terms_of g.terms).environment
+
+-- The answer says where each part is, what is permitted, until when, by which line and which
+-- certificate.
+pub record ArePlaced (g : Grant) (a : UserGrantParts) : Type 0 where
+  pub force_command : IsPlaced 0 (command_of g) a.grant.force_command
+  pub key_id : IsPlaced (length (command_of g)) (key_id_of g.certified) a.grant.key_id
+  pub permit_open : IsPlaced (length (before_open g)) (permit_strings (terms_of g.terms).permit_open) a.permit_open
+  pub permit_listen : IsPlaced (length (before_listen g)) (permit_strings (terms_of g.terms).permit_listen) a.permit_listen
+  pub environment : IsPlaced (length (before_environment g)) (strings (terms_of g.terms).environment) a.environment
+  pub length : a.grant.length ≡ length (user_grant_bytes g)
+  pub serial : a.grant.serial ≡ serial_of g.certified
+  pub authority : a.grant.authority.bytes ≡ authority_of g.certified
+  pub permits : a.grant.permits ≡ permits_of (terms_of g.terms)
+  pub expires : a.expires ≡ span_of (terms_of g.terms).expires
+  pub line : a.line ≡ g.line
+  pub tunnel : a.tunnel ≡ or_zero (terms_of g.terms).tunnel
+
+-- the grant of nothing, which says only how many bytes are needed, or which line refuses
+abbrev pub no_grant : ℕ → ℕ → UserGrantParts
+no_grant needed line = record { grant = nothing needed; permit_open = no_part; permit_listen = no_part; environment = no_part; expires = record { first = 0; last = 0 }; line = line; tunnel = 0 }
+
+-- ---- how it is laid out
+
+-- The bytes follow what stood before, and the part says where they are.
+abbrev pub AddsPart : List ℕ → Part → List ℕ → List ℕ → Type 0
+AddsPart bytes part before after = (after ≡ before ++ bytes) × IsPlaced (length before) bytes part

@@ -1,0 +1,6 @@
+use Rattle.std.proofs.Common.{[]}
+use Rattle.sshkey_pairs.proofs.Lawful.{opaque_pair_lawful}
+use Rattle.sshkey_pairs.proofs.opaque.OpaqueKeypairBytesDecode.lawful.Goals as goal
+
+pub returns : goal.returns
+returns c = opaque_pair_lawful []
