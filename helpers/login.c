@@ -53,7 +53,7 @@ bool login_read_words(int count, char **words, login_option own, login_request *
                                           {NULL, 0, NULL, 0}};
   memset(asked, 0, sizeof *asked);
   opterr = 0;
-  /* those behind the first word that is no option are the client's */
+  /* those after the first word that is no option are the client's */
   for (int letter; (letter = getopt_long(count, words, "+", options, NULL)) != -1;)
     if (!take_option(letter, own, asked)) return false;
   if (count - optind != (asked->is_file ? 3 : 4)) return false;

@@ -345,7 +345,7 @@ static bool read_second(const char *word, uint64_t *answer) {
   bool is_date = sshkey_read_time((const uint8_t *)word, length, &span) == SSHKEY_DONE;
   *answer = span.first;
   if (is_date && span.first == span.last) return true;
-  program_complain(is_date ? "%s has no zone: write a Z behind it" : "%s is no time", word);
+  program_complain(is_date ? "%s has no zone: write a Z after it" : "%s is no time", word);
   return false;
 }
 

@@ -16,10 +16,10 @@ enum { HASH = 3, SIGNATURE = 4 };
 uint32_t judge_read_armour(judge_blob text, judge_blob *answer) {
   static const char front[] = "-----BEGIN SSH SIGNATURE-----";
   static const char end[] = "-----END SSH SIGNATURE-----";
-  size_t begin = sizeof front - 1, behind = sizeof end - 1, at = begin;
+  size_t begin = sizeof front - 1, after = sizeof end - 1, at = begin;
   if (text.length < begin || memcmp(text.bytes, front, begin)) return SSHKEY_BASE64;
   while (at < text.length && text.bytes[at] != '-') at++;
-  if (text.length - at < behind || memcmp(text.bytes + at, end, behind)) return SSHKEY_BASE64;
+  if (text.length - at < after || memcmp(text.bytes + at, end, after)) return SSHKEY_BASE64;
   judge_blob made = {malloc(at), at - begin};
   if (!made.bytes) return SSHKEY_MEMORY;
   memcpy(made.bytes, text.bytes + begin, made.length);

@@ -1,4 +1,4 @@
-"""Questions about lists of addresses, for checks/addresses: pieces written by hand, each alone, in lists and behind marks, and lists
+"""Questions about lists of addresses, for checks/addresses: pieces written by hand, each alone, in lists and after marks, and lists
 that are drawn near the client's address with a fixed seed. A question is its kind, the list, the client's address, and the name of
 its host or None."""
 import ipaddress

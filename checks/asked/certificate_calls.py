@@ -33,12 +33,12 @@ def certificate_of(maker, authority, key, words):
 
 
 def shown_under(shown, title):
-    """The lines that ssh-keygen shows under a title, or behind it."""
+    """The lines that ssh-keygen shows under a title, or after it."""
     lines = shown.split("\n")
     at = next(at for at, it in enumerate(lines) if it.strip().startswith(f"{title}:"))
-    behind = lines[at].strip()[len(title) + 1 :].strip()
-    found = [behind] if behind and behind != "(none)" else []
-    while not behind and lines[at + 1].startswith(" " * 16):
+    after = lines[at].strip()[len(title) + 1 :].strip()
+    found = [after] if after and after != "(none)" else []
+    while not after and lines[at + 1].startswith(" " * 16):
         at += 1
         found.append(lines[at].strip())
     return found

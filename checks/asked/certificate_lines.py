@@ -24,7 +24,7 @@ def line_of_item(part, text):
         return f"principal {text}"
     unknown = re.fullmatch(r"(\S+) UNKNOWN OPTION: (\w+) \(len \d+\)", text)
     if unknown:
-        # the string in the option's string, behind the four bytes of its length
+        # the string in the option's string, after the four bytes of its length
         return f"{part} {unknown[1]}={bytes.fromhex(unknown[2][8:]).decode()}"
     name, _, value = text.partition(" ")
     return f"{part} {name}={value}"

@@ -23,7 +23,7 @@ NUMBERED = {
 # lines of known_hosts, the port, and which of them is the first that may hide a revocation
 UNREADABLE = [
     ("no line", [], 22, 0), ("an entry", ["h.example {key}"], 22, 0), ("a line that is none", ["h.example {key}", "@revoked h.example {broken}"], 22, 2),
-    ("behind a comment and an empty line", [" # {broken}", "", "h.example {broken}"], 22, 3), ("two of them", ["g.example {key}", "* {broken}", "h.example {broken}"], 22, 2),
+    ("after a comment and an empty line", [" # {broken}", "", "h.example {broken}"], 22, 3), ("two of them", ["g.example {key}", "* {broken}", "h.example {broken}"], 22, 2),
     ("of another host", ["g.example {broken}"], 22, 0), ("of a pattern that is not the host's", ["*.example,!h.example {broken}"], 22, 0),
     ("of its port", ["[h.example]:2222 {broken}"], 2222, 1), ("of another port", ["[h.example]:2222 {broken}"], 22, 0), ("of the plain name", ["h.example {broken}"], 2222, 0),
     ("by a hash", ["#h.example {key}", "@revoked * {broken}"], 22, 2), ("a zero byte", ["g.example {key}\0"], 22, 1), ("a later kind", ["h.example {later}"], 22, 0),

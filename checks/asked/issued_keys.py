@@ -47,7 +47,7 @@ def issued_keys():
     for kind in ("Ed25519", "ECDSA P-256"):
         for name, application, is_issued, status in (
             ("an application", b"ssh:x", True, 0), ("no application", b"", True, 0),
-            ("a zero byte in the application", b"a\0b", False, 1), ("a zero byte behind the application", b"ssh:\0", False, 0),
+            ("a zero byte in the application", b"a\0b", False, 1), ("a zero byte after the application", b"ssh:\0", False, 0),
         ):  # fmt: skip
             yield f"a security key ({kind}) with {name}", SecurityKey(kind, application).line(), is_issued, status
     device = SecurityKey("ECDSA P-256", b"ssh:")

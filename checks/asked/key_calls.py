@@ -21,7 +21,7 @@ def encoded(blob):
 
 
 def all_of(blob):
-    """The strings that the bytes are, one behind the other."""
+    """The strings that the bytes are, one after the other."""
     found = []
     while blob:
         first, blob = take(blob)

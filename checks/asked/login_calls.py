@@ -180,15 +180,15 @@ def rows(maker):
             yield f"{name} ({kind})", certificates.put_together(line=SecurityKey(kind, application).line()), wanted_of(wanted)
     flag, command = {"permit-pty": string(b"1")}, {"force-command": string(b"true")}
     for name, given, wanted in (
-        ("a zero byte in a principal behind the user", {"users": [b"alice", b"a\0b"]}, PRINCIPALS), ("a zero byte for a principal", {"users": [b"alice", b"\0"]}, PRINCIPALS),
+        ("a zero byte in a principal after the user", {"users": [b"alice", b"a\0b"]}, PRINCIPALS), ("a zero byte for a principal", {"users": [b"alice", b"\0"]}, PRINCIPALS),
         ("the user among too many principals at first", {"users": [b"alice", *[b"x"] * MOST]}, PRINCIPALS), ("a zero byte for a key id", {"key_id": b"\0"}, KEY_ID),
         ("a zero byte in the second of two extensions", {"extensions": {"permit-pty": b"", "x\0y": b""}}, EXTENSIONS),
         ("a zero byte in the data of an extension that is not known", {"extensions": {"x@example.com": zero}}, "ok touch-required"),
         ("a zero byte in the key id, and data in a flag", {"key_id": b"a\0b", "extensions": flag}, EXTENSIONS),
         ("data in a flag, and an option that is not known", {"extensions": flag, "critical": {"x@example.com": b""}}, CRITICAL),
         ("a command, and an option that is not known", {"critical": {**command, "x@example.com": b""}}, CRITICAL),
-        ("a zero byte behind the name of an option", {"critical": {"source-address\0": string(b"::/0")}}, CRITICAL),
-        ("a zero byte behind addresses", {"critical": {"source-address": string(b"::/0\0")}}, CRITICAL),
+        ("a zero byte after the name of an option", {"critical": {"source-address\0": string(b"::/0")}}, CRITICAL),
+        ("a zero byte after addresses", {"critical": {"source-address": string(b"::/0\0")}}, CRITICAL),
         ("a zero byte in the key id, and nobody listed", {"key_id": b"a\0b", "users": []}, KEY_ID),
     ):  # fmt: skip
         yield name, certificates.put_together(**given), wanted_of(wanted)
@@ -213,7 +213,7 @@ def keys(maker):
 
 
 def revocations(maker):
-    """Revocation files, which are asked behind the authority and before the signature: all that are given have to be read."""
+    """Revocation files, which are asked after the authority and before the signature: all that are given have to be read."""
     good, other = Certificates(maker).made("-n", "alice", "-z", "5"), maker.blob("user1")
     strange = hashlib.sha256(maker.blob("authority1")).digest()
     revoked, unlisted = (made_list(maker, "authority0", [f"serial: {it}"]) for it in (5, 6))

@@ -28,14 +28,14 @@ def granted(line=1, *more, command=None, permits=PERMITTED):
 # to what it lets in, or the number of what is wrong, with the line that refuses, or 0 where none does
 ROWS = [
     ("a line", "{key}", None, [], granted()),
-    ("a line behind others", "# a comment\n\n{other}\nrestrict,pty {key}", None, [], granted(4, permits=["any command", "pty"])),
+    ("a line after others", "# a comment\n\n{other}\nrestrict,pty {key}", None, [], granted(4, permits=["any command", "pty"])),
     ("the first of two", 'command="ls -l" {key}\n{key}', None, [], granted(command="ls -l")),
     ("a line that permits nothing", 'restrict,command="" {key}', None, [], granted(command="", permits=[])),
     ("a line for its network", 'from="192.0.2.0/24" {key}', None, [], granted()),
     ("a line for a name", 'from="*.example.org" {key}', None, ["--host", "db.example.org"], granted()),
     ("a line for a name that was not found", 'from="*.example.org" {key}', None, [], (93, 1)),
     ("a line for another network", '\nfrom="10.0.0.0/8" {key}', None, [], (93, 2)),
-    ("one behind that", 'from="10.0.0.0/8" {key}\n{key}', None, [], granted(2)),
+    ("one after that", 'from="10.0.0.0/8" {key}\n{key}', None, [], granted(2)),
     ("a line until a second", f"{FUTURE} {{key}}", None, [], granted(1, "Valid until: 2024-02-01T00:00:00")),
     ("a line that is over", f"{FUTURE} {{key}}", None, ["--at", "20240202Z"], (91, 1)),
     ("a line that may be over", 'expiry-time="20240201" {key}', None, ["--at", "20240201Z"], (96, 1)),
@@ -69,7 +69,7 @@ ROWS = [
 
 
 def asked_of(maker, lines, words, more):
-    """The words for the program, behind `login`."""
+    """The words for the program, after `login`."""
     keys = {"key": maker.read("entering.pub"), "other": maker.read("other-entering.pub"), "authority": maker.read("admitting.pub")}
     if words is not None:
         maker.certificate("admitting", "entering", *words)

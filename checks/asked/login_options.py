@@ -43,11 +43,11 @@ CASES = [
     ("a flag", {}, {"permit-pty": b""}, "ok touch-required permit-pty=", LET_IN),
     ("data in an extension that is not known", {}, {"x@example.com": string(b"1")}, "ok touch-required x@example.com=1", LET_IN),
     ("a zero byte in the name of an extension", {}, {"x\0y": b""}, EXTENSIONS, NO_OPTIONS),
-    ("data behind the name of a flag and a zero byte", {}, {"permit-pty\0": string(b"1")}, EXTENSIONS, DATA),
+    ("data after the name of a flag and a zero byte", {}, {"permit-pty\0": string(b"1")}, EXTENSIONS, DATA),
     # stricter here: a zero byte that ends a text is refused, and an empty value in either spelling
-    ("a zero byte behind the name of a flag", {}, {"permit-pty\0": b""}, EXTENSIONS, LET_IN),
+    ("a zero byte after the name of a flag", {}, {"permit-pty\0": b""}, EXTENSIONS, LET_IN),
     ("an empty string as a command", {"force-command": string(b"")}, {}, NO_NORMAL_FORM, LET_IN),
-    ("a zero byte behind a command", {"force-command": string(b"true\0")}, {}, CRITICAL, LET_IN),
+    ("a zero byte after a command", {"force-command": string(b"true\0")}, {}, CRITICAL, LET_IN),
     ("addresses that are none", {"source-address": string(b"nowhere")}, {}, CRITICAL, ADDRESSES),
     ("addresses, one of them none", {"source-address": string(b"0.0.0.0/0,x")}, {}, CRITICAL, ADDRESSES),
     ("addresses with bits beyond those that count", {"source-address": string(b"10.0.0.1/8")}, {}, CRITICAL, ADDRESSES),
@@ -61,15 +61,15 @@ TEXTS = [
     ("a zero byte in the key id", b"a\0b", [], KEY_ID, 1),
     ("a line end in the key id", b"a\nb", [], "ok touch-required", 0),
     # stricter here
-    ("a zero byte behind a principal", b"id", [b"a\0"], PRINCIPALS, 0),
-    ("a zero byte behind the key id", b"a\0", [], KEY_ID, 0),
+    ("a zero byte after a principal", b"id", [b"a\0"], PRINCIPALS, 0),
+    ("a zero byte after the key id", b"a\0", [], KEY_ID, 0),
 ]  # fmt: skip
 # of a security key: names, the application, what the program answers, and the status of `ssh-keygen -L`
 APPLICATIONS = [
     ("another application", b"ssh:x", "ok touch-required", 0),
     ("a zero byte in the application", b"a\0b", UNACCEPTED, 1),
     # stricter here
-    ("a zero byte behind the application", b"ssh:\0", UNACCEPTED, 0),
+    ("a zero byte after the application", b"ssh:\0", UNACCEPTED, 0),
 ]
 # by a security key: names, ssh-keygen's words, the flags that the key signs with, and what the program answers
 BY_DEVICE = [

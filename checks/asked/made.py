@@ -111,9 +111,9 @@ class Kind:
         """Names, authorities, principals, seconds, and what is wanted."""
         yield "good", self, "alice", MIDDLE, "DONE"
         yield "for another that is listed", self, "bob", MIDDLE, "DONE"
-        for name, second in (("the first second", FIRST), ("the second behind the first", FIRST + 1), ("the last second", END - 1)):
+        for name, second in (("the first second", FIRST), ("the second after the first", FIRST + 1), ("the last second", END - 1)):
             yield name, self, "alice", second, "DONE"
-        for name, second in (("a second too early", FIRST - 1), ("the second behind the last", END), ("one later", END + 1)):
+        for name, second in (("a second too early", FIRST - 1), ("the second after the last", END), ("one later", END + 1)):
             yield name, self, "alice", second, "OUT_OF_WINDOW"
         yield "another principal", self, "eve", MIDDLE, "UNLISTED_PRINCIPAL"
         yield "a beginning of a principal", self, "alic", MIDDLE, "UNLISTED_PRINCIPAL"

@@ -345,12 +345,12 @@ def takes_early(call, question, wanted, answer):
 
 
 def is_kept(call, wanted, answer):
-    """Whether the answer is the wanted one with memory, and SSHKEY_MEMORY where a request is refused with all behind it. Where it
+    """Whether the answer is the wanted one with memory, and SSHKEY_MEMORY where a request is refused with all after it. Where it
     alone is refused, a call answers that or, if it can do without, rightly; it may do without the first one, and some calls
     without all."""
-    number, made, once, behind = answer.split() if answer.count(" ") == 3 else ("none", *"000")
+    number, made, once, after = answer.split() if answer.count(" ") == 3 else ("none", *"000")
     if call in DOING_WITHOUT:
-        return number == str(int(wanted)) and once == behind == "0"
+        return number == str(int(wanted)) and once == after == "0"
     if (call, int(wanted)) in DECIDED:
-        return number == str(int(wanted)) and once == behind
-    return number == str(int(wanted)) and made == behind and int(made) - int(once) in (0, 1)
+        return number == str(int(wanted)) and once == after
+    return number == str(int(wanted)) and made == after and int(made) - int(once) in (0, 1)

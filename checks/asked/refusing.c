@@ -1,5 +1,5 @@
 /* In front of the C library's functions of these names, for checks/asked/checker.py: the request for
- * memory of the number in REFUSED is refused, and each behind it where a plus follows the number. */
+ * memory of the number in REFUSED is refused, and each after it where a plus follows the number. */
 #include <stddef.h>
 #include <stdlib.h>
 #include <string.h>

@@ -142,7 +142,7 @@ def check_faults(judge, files, lists):
         ("a short digest", of_section(3, string(bytes(19))), key, "LENGTH"), ("the number 0", of_part(0x20, bytes(8)), key, "FORMAT"),
         ("a long digest", of_section(5, string(bytes(33))), key, "TRAILING_DATA"),
         ("a range that falls", of_part(0x21, five, bytes(8)), key, "FORMAT"), ("another part", of_part(0x24, b""), key, "FORMAT"),
-        ("a byte behind bits", of_part(0x22, bits, b"!"), key, "TRAILING_DATA"), ("no key", EMPTY, b"", "LENGTH"),
+        ("a byte after bits", of_part(0x22, bits, b"!"), key, "TRAILING_DATA"), ("no key", EMPTY, b"", "LENGTH"),
         ("a key and a byte", EMPTY, key + b"!", "TRAILING_DATA"), ("neither is one", EMPTY[:-1], key + b"!", "LENGTH"),
         ("a certificate and a byte", EMPTY, certificate + b"!", "TRAILING_DATA"),
         ("a key by another name", lists["SHA-1"], renamed(rsa, b"rsa-sha2-512"), "0 1"),
@@ -166,7 +166,7 @@ def texts_of(maker):
     yes, no, no_file = ("0 1", "0 1"), ("0 0", "0 0"), (None, None)
     return [
         ("no bytes", "", no), ("a comment", f"# {key}\n", no), ("empty lines", "\n\n", no), ("its key", f"{key}\n", yes),
-        ("its key and no line end", key, yes), ("its key behind another", f"# x\n{other}\n \t{key}\r\n", yes),
+        ("its key and no line end", key, yes), ("its key after another", f"# x\n{other}\n \t{key}\r\n", yes),
         ("another key", f"{other}\n", no), ("its authority", f"{authority}\n", ("0 0", "0 1")), ("its certificate", f"{certificate}\n", yes),
         ("half a key", f"{key[:40]}\n", no_file), ("its key, and a line that is none", f"{key}\nx\n", no_file),
         ("a word", "x\n", no_file), ("a text that is not UTF-8", f"{other} \udcff\n", no_file), ("a list's first word", "SSHKRL\n", no_file),

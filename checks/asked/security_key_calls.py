@@ -260,7 +260,7 @@ def check_zero(judges, kind):
         status = status_of(judges.sshkey, judges.sshkey.judge_sshsig, file, "file", b"text", {hashlib.sha256(ended.blob()).digest()})
         judged = is_verified(judges.maker.folder, "zero", file, "text", "signer", MIDDLE, f"signer {ended.line()}")
         same = (status == 0) == is_one and judged != is_one
-        judges.count.check(f"a zero byte behind the application of {kind}, signed {name} it", same, status, f"ssh-keygen: {judged}")
+        judges.count.check(f"a zero byte after the application of {kind}, signed {name} it", same, status, f"ssh-keygen: {judged}")
     within = SecurityKey(kind, b"ssh:\0x")
     taken = ssh_keygen("-l", "-f", judges.maker.write("zero.pub", f"{within.line()}\n"), check=False).returncode == 0
     digest = judges.sshkey.fingerprint(within.blob())
@@ -269,7 +269,7 @@ def check_zero(judges, kind):
 
 
 def check_zero_in_principal(judges, key):
-    """The same of a principal: who is listed with a zero byte behind is nobody else here."""
+    """The same of a principal: who is listed with a zero byte after is nobody else here."""
     certified_key = blob_of(judges.maker.read("user0.pub"))
     for principal, is_taken in (("alice\0", True), ("al\0ice", False)):
         # the package makes none with a zero byte

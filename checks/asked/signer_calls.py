@@ -16,7 +16,7 @@ WANTED = {
 SAMPLED = 5
 # texts of revoked keys, which ssh-keygen takes in place of a list, and what is wanted; {broken} is no key
 TEXTS = [
-    ("her key in a text", "{key}\n", "REVOKED"), ("her key behind another", "# x\n\n \t{other}\r\n{key} x", "REVOKED"),
+    ("her key in a text", "{key}\n", "REVOKED"), ("her key after another", "# x\n\n \t{other}\r\n{key} x", "REVOKED"),
     ("another key in a text", "{other}\n", "DONE"), ("a comment", "# {key}\n", "DONE"), ("an empty file", "", "DONE"),
     ("a line that is no key", "{other}\nssh-ed25519 AAAA\n", "UNREADABLE_REVOCATIONS"),
     ("a text that is not UTF-8", "\xff", "UNREADABLE_REVOCATIONS"),

@@ -95,7 +95,7 @@ def lines_of(key, other):
     return [
         ("an entry", f"{name} {digits}", True), ("one with options", f'restrict,command="x y" {name} {digits} me', True),
         ("one with strange options", f"no-such-option {name} {digits}", True), ("options apart", f"no-pty no-user-rc {name} {digits}", True),
-        ("a zero byte behind it", f"{name} {digits} a\0b", True), ("a zero byte before it", f"\0 {name} {digits}", True),
+        ("a zero byte after it", f"{name} {digits} a\0b", True), ("a zero byte before it", f"\0 {name} {digits}", True),
         ("a CR within it", f"{name} {digits[:20]}\r{digits[20:]}", True), ("a form feed within it", f"{name} {digits[:-9]}\f{digits[-9:]}", True),
         ("another name", f"ssh-rsa {digits}", True), ("a byte that is no text", f"{name} {digits} caf\xe9", True),
         ("another key", line_of(other), False), ("junk", "hello world", False), ("a key that is cut", f"{name} {digits[:40]}", False), ("nothing", "", False),

@@ -140,7 +140,7 @@ def cases(maker):
         return options + b" " + key
 
     for name, text, wanted in (
-        ("alone", own, granted(1)), ("behind another", other + own, granted(2)), ("behind a comment", b"# x\n\n" + own, granted(3)),
+        ("alone", own, granted(1)), ("after another", other + own, granted(2)), ("after a comment", b"# x\n\n" + own, granted(3)),
         ("with a command", line(b'command="ls -l"'), granted(1, ALL - ANY_COMMAND, b"ls -l")),
         ("with an empty command", line(b'command=""'), granted(1, ALL - ANY_COMMAND)),
         ("restricted", line(b"restrict"), granted(1, RESTRICTED)), ("restricted, with a terminal", line(b"restrict,pty"), granted(1, RESTRICTED + 1)),
@@ -159,8 +159,8 @@ def cases(maker):
         ("for other places, and again", line(b'from="198.51.100.7"') + own, granted(2)),
         ("with a list that is none", line(b'from="*,"'), "96 1"), ("with a list that is none, and again", line(b'from="*,"') + own, "96 1"),
         ("with white space in it", own.replace(b"AAAAC3", b"AAAA\rC3"), "96 1"),
-        ("in a line that is no UTF-8", OF_NONE + own, "96 1"), ("behind another that is none", OF_NONE + other + own, granted(2)),
-        ("behind a comment that is none", b"# \xe9 " + own + own, granted(2)), ("before a line that is none", own + OF_NONE + own, granted(1)),
+        ("in a line that is no UTF-8", OF_NONE + own, "96 1"), ("after another that is none", OF_NONE + other + own, granted(2)),
+        ("after a comment that is none", b"# \xe9 " + own + own, granted(2)), ("before a line that is none", own + OF_NONE + own, granted(1)),
     ):  # fmt: skip
         yield f"a key {name}", replace(good, text=text), wanted
     for name, changes, wanted in (

@@ -9,7 +9,7 @@ from .user_key_questions import UNTOLD_FROM, UNTOLD_HOSTS, UNTOLD_LISTENED, UNTO
 UNTOLD = r"no: line (\d+) cannot be told"
 # options without a blank outside quotes
 OPTIONS = rb'(?:(?:[^ \t"]|"(?:\\"|[^"\\]|\\(?!"))*")+[ \t]+)?'
-# behind the key id stands the length of the names
+# after the key id stands the length of the names
 LISTS_NOBODY = re.compile(rb"id\d*\0\0\0\0")
 
 

@@ -16,18 +16,18 @@ class BadEdit(Exception):
 @dataclass
 class Change:
     file: str
-    # text behind which 'old' stands first, or none where it stands once in the file
-    behind: str
+    # text after which 'old' stands first, or none where it stands once in the file
+    after: str
     old: str
     new: str
 
     def made(self, text):
         """The text of the file with the change."""
         front, found, rest = "", "", text
-        if self.behind:
-            front, found, rest = text.partition(self.behind)
-            if text.count(self.behind) != 1 or self.old not in rest:
-                raise BadEdit(f"its old text stands nowhere behind '{self.behind}' in {self.file}")
+        if self.after:
+            front, found, rest = text.partition(self.after)
+            if text.count(self.after) != 1 or self.old not in rest:
+                raise BadEdit(f"its old text stands nowhere after '{self.after}' in {self.file}")
         elif text.count(self.old) != 1:
             count = text.count(self.old)
             raise BadEdit(f"its old text stands {count} times in {self.file}, and not once")
@@ -71,7 +71,7 @@ def written_out(path, block):
     names = names.split() if word == "for" else []
     lines = block[1:] if word == "for" else block
     turned = re.search(rf"\bcrates/\w+/(wrong|wrong-definitions)/(?:{MORE}/)?([^.]*)[.]edits$", path)
-    first = next((at for at, it in enumerate(lines) if it.startswith(("file:", "behind:", "old:"))), None)
+    first = next((at for at, it in enumerate(lines) if it.startswith(("file:", "after:", "old:"))), None)
     if turned and first is not None and not lines[first].startswith("file:"):
         file = f"src/{turned[2]}.rt" if turned[1] == "wrong" else f"specs/{turned[2]}.antt"
         lines = [*lines[:first], f"file: {file}", *lines[first:]]
@@ -79,7 +79,7 @@ def written_out(path, block):
 
 
 def for_name(lines, given):
-    """The lines with a name in place of '{kind}' and its type in place of '{Kind}': that behind the name and a colon, or the
+    """The lines with a name in place of '{kind}' and its type in place of '{Kind}': that after the name and a colon, or the
     name's own words with capitals."""
     name, _, kind = given.partition(":")
     kind = kind or "".join(word[:1].upper() + word[1:] for word in name.split("_"))
@@ -87,7 +87,7 @@ def for_name(lines, given):
 
 
 def read_edit(lines):
-    edit, file, behind, old = Edit(), "", "", None
+    edit, file, after, old = Edit(), "", "", None
     for line in lines:
         word, _, text = line.partition(":")
         text = text.removeprefix(" ")
@@ -95,13 +95,13 @@ def read_edit(lines):
             setattr(edit, word, text.strip())
         elif word == "file":
             file = text.strip()
-        elif word == "behind" and old is None:
-            behind = text
+        elif word == "after" and old is None:
+            after = text
         elif word == "old" and old is None:
             old = text
         elif word == "new" and file and old:
-            edit.changes.append(Change(file, behind, old, text))
-            behind, old = "", None
+            edit.changes.append(Change(file, after, old, text))
+            after, old = "", None
         else:
             raise BadEdit(f"cannot be read at: {line.strip()[:80]}")
     if not edit.changes or not edit.function or not edit.says or old is not None:
@@ -172,9 +172,9 @@ def is_in_bodies(crate, edit):
             continue
         if not change.file.endswith(".rt"):
             return False
-        front, behind, rest = text_of(crate, change.file).partition(change.behind or change.old)
-        above = front + behind + rest.partition(change.old)[0] if change.behind else front
-        # an edit may add something behind the line that begins the function
+        front, after, rest = text_of(crate, change.file).partition(change.after or change.old)
+        above = front + after + rest.partition(change.old)[0] if change.after else front
+        # an edit may add something after the line that begins the function
         above += change.old if change.new.startswith(change.old) else ""
         above = above.split("\n")
         if above[-1].startswith("#[tactic("):
@@ -184,7 +184,7 @@ def is_in_bodies(crate, edit):
             return False
         head, below = above[heads[-1]], above[heads[-1] + 1 :]
         indent = HEAD.match(head)[1]
-        # the body begins on the head's line, behind its parameters, or behind its clauses
+        # the body begins on the head's line, after its parameters, or after its clauses
         begins = [it for it in below if re.fullmatch(rf"{indent}(\).*)?{{", it)]
         if not (head.endswith("{") or begins) or f"{indent}}}" in below:
             return False

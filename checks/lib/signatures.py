@@ -71,7 +71,7 @@ AUTHORITIES = [b"ssh-ed25519", b"ssh-rsa", *(f"ecdsa-sha2-nistp{it}".encode() fo
 
 
 def told_of_certificate(line):
-    """The line that tells of a certificate's signature: it stands last, over all that stands before it, behind the key that
+    """The line that tells of a certificate's signature: it stands last, over all that stands before it, after the key that
     made it (PROTOCOL.certkeys)."""
     blob = blob_of(line)
     # the signature's own length tells where it begins

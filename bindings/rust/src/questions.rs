@@ -11,18 +11,18 @@ use crate::status::Status;
 #[non_exhaustive]
 #[repr(u32)]
 pub enum Algorithm {
-    /// With SHA-1. Behind the name p, q, g, y; signature: r and s, unsigned, 20 bytes each.
+    /// With SHA-1. After the name p, q, g, y; signature: r and s, unsigned, 20 bytes each.
     Dsa = raw::ASK_DSA,
-    /// ECDSA with SHA-256. Behind the name the curve's name, and the point as in SEC 1; signature:
+    /// ECDSA with SHA-256. After the name the curve's name, and the point as in SEC 1; signature:
     /// two strings, r and s.
     P256 = raw::ASK_P256,
     /// The same with SHA-384.
     P384 = raw::ASK_P384,
     /// The same with SHA-512.
     P521 = raw::ASK_P521,
-    /// Behind the name the key, 32 bytes; signature: 64 bytes.
+    /// After the name the key, 32 bytes; signature: 64 bytes.
     Ed25519 = raw::ASK_ED25519,
-    /// PKCS#1 v1.5 with SHA-256. Behind the name e and n; signature: an unsigned number.
+    /// PKCS#1 v1.5 with SHA-256. After the name e and n; signature: an unsigned number.
     RsaSha256 = raw::ASK_RSA_SHA256,
     /// The same with SHA-512.
     RsaSha512 = raw::ASK_RSA_SHA512,

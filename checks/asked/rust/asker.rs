@@ -47,7 +47,7 @@ fn digests(word: &str) -> Vec<Sha256> {
     data(word).chunks(32).map(digest).collect()
 }
 
-/// The words behind 0.
+/// The words after 0.
 fn words<I: IntoIterator<Item = String>>(found: I) -> Answer {
     Ok(std::iter::once("0".into()).chain(found).collect::<Vec<_>>().join(" "))
 }

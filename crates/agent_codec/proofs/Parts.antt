@@ -27,7 +27,7 @@ both_spelled f laws all T x y p q first second fits =
     let spelled = first (fits_first p q fits) in
     record {
       front = flat p;
-      behind = flat q;
+      after = flat q;
       first = spelled;
       second = second (fits_second p q fits);
       all = refl;
@@ -48,7 +48,7 @@ module _ {K M : Type 0} (kind_from : ℕ → Result K Fault) (Body : K → M →
         inner = (k, m);
         spelled = record {
           front = flat (number w8 n);
-          behind = flat p;
+          after = flat p;
           first = first;
           second = second (fits_second (number w8 n) p fits);
           all = refl;
@@ -63,7 +63,7 @@ module _ {K M : Type 0} (kind_from : ℕ → Result K Fault) (Body : K → M →
     inner = (k, m);
     spelled = record {
       front = flat (number w8 n);
-      behind = [];
+      after = [];
       first = record { inner = n; spelled = normal_is_spelling n tt fits; makes = is };
       second = second;
       all = sym (append-nil (flat (number w8 n)));
@@ -76,7 +76,7 @@ module _ {K M : Type 0} (kind_from : ℕ → Result K Fault) (Body : K → M →
   pub number_shows : (m : M) (b : List ℕ) → SpellsNumbered m b → 0 < length b
   number_shows m b s =
       let byte = s.spelled.first in
-      omega (arith, ap length s.spelled.all, length-append s.spelled.front s.spelled.behind, ap length byte.spelled.shape, length_number8 byte.inner)
+      omega (arith, ap length s.spelled.all, length-append s.spelled.front s.spelled.after, ap length byte.spelled.shape, length_number8 byte.inner)
 
 -- ---- a frame
 

@@ -26,18 +26,18 @@ no_word [] rest quoted plain (inr blank) e = cc (sym blank ∙ ap (λ (t : List 
 no_word (c ∷ word) rest quoted plain ends e = plain 0 (omega arith) (ap (λ (t : List ℕ). slice_index t 0) (sym e))
 
 -- after a quote come the principals and another quote
-behind_quote : (line quoted : List ℕ) (p : Parts) → line ≡ quote ∷ quoted → CutsFirst line p.0 p.1 → quoted ≡ p.0 ++ (quote ∷ p.1)
-behind_quote line quoted p e has = elim has.is [
+after_quote : (line quoted : List ℕ) (p : Parts) → line ≡ quote ∷ quoted → CutsFirst line p.0 p.1 → quoted ≡ p.0 ++ (quote ∷ p.1)
+after_quote line quoted p e has = elim has.is [
   | inl cut ↦ absurd (no_word p.0 p.1 quoted has.unquoted cut.ends (sym e ∙ cut.is))
   | inr is ↦ let same : quote ∷ quoted ≡ quote ∷ (p.0 ++ (quote ∷ p.1)) = sym e ∙ is in cc same
 ]
 
 pub quoted_front : (line quoted : List ℕ) (r : Option (Bor (List ℕ) × Bor (List ℕ))) → line ≡ quote ∷ quoted → IsSplitOnceResult quote quoted r → IsTheOne parts_of (IsFront line) r
-quoted_front line quoted None e split = λ p has. split_after quote quoted p.0 p.1 None split (lit< tt) (behind_quote line quoted p e has) has.unquoted
+quoted_front line quoted None e split = λ p has. split_after quote quoted p.0 p.1 None split (lit< tt) (after_quote line quoted p e has) has.unquoted
 quoted_front line quoted (Some x) e split =
     let parts = split_parts quote quoted (Some x) split (lit< tt) in (
       record { unquoted = parts.1; is = inr (e ∙ ap (λ (t : List ℕ). quote ∷ t) parts.0) },
-      λ p has. let same = split_after quote quoted p.0 p.1 (Some x) split (lit< tt) (behind_quote line quoted p e has) has.unquoted in
+      λ p has. let same = split_after quote quoted p.0 p.1 (Some x) split (lit< tt) (after_quote line quoted p e has) has.unquoted in
           same_parts p.0 x.0.now p.1 x.1.now (sym same.0) (sym same.1),
     )
 

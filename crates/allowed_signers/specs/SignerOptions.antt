@@ -62,7 +62,7 @@ pub record Permits (namespace : List ℕ) (time : ℕ) (t : Terms) : Type 0 wher
   pub no_authority : t.is_authority ≡ false
   pub in_namespace : IfSome t.namespaces (λ list. MatchesList (λ c. c) list namespace)
   pub not_before : IfSome t.valid_after (λ first. first ≤ time)
-  pub not_behind : IfSome t.valid_before (λ last. time ≤ last)
+  pub not_after : IfSome t.valid_before (λ last. time ≤ last)
 
 abbrev pub terms_of : SignerOptions → Terms
 terms_of o = record { namespaces = option_map string_bytes o.namespaces; valid_after = o.valid_after; valid_before = o.valid_before; is_authority = o.is_authority }

@@ -85,14 +85,14 @@ renamed o p (q ∷ os) same rising = (rw same rising.0, rising.1)
 -- beside the first one, by the two names
 beside : (o p : CertificateOption) (ps : List CertificateOption) (before : Option CertificateOption) → (is_below p.name o.name ≡ true → IsChain Rises (Some p) ps → IsChain Rises (Some p) (with_option o ps)) → IsText o.name × IsText o.value → is_after before o ≡ true → IsChain Rises before (p ∷ ps) → (s b : Bool) → bytes_eq o.name p.name ≡ s → is_below o.name p.name ≡ b → IsChain Rises before (with_option o (p ∷ ps))
 unfolding IsChain
-beside o p ps before rest texts behind rising true b e f = rw e ((texts, behind), renamed o p ps ((bytes_eq-Decides o.name p.name).0 e) rising.1)
-beside o p ps before rest texts behind rising false true e f = rw (e, f) ((texts, behind), ((rising.0.0, f), rising.1))
-beside o p ps before rest texts behind rising false false e f = rw (e, f) (rising.0, rest (turned o.name p.name e f) rising.1)
+beside o p ps before rest texts after rising true b e f = rw e ((texts, after), renamed o p ps ((bytes_eq-Decides o.name p.name).0 e) rising.1)
+beside o p ps before rest texts after rising false true e f = rw (e, f) ((texts, after), ((rising.0.0, f), rising.1))
+beside o p ps before rest texts after rising false false e f = rw (e, f) (rising.0, rest (turned o.name p.name e f) rising.1)
 
 inserted : (o : CertificateOption) (os : List CertificateOption) (before : Option CertificateOption) → IsText o.name × IsText o.value → is_after before o ≡ true → IsChain Rises before os → IsChain Rises before (with_option o os)
 unfolding IsChain
-inserted o [] before texts behind rising = ((texts, behind), tt)
-inserted o (p ∷ ps) before texts behind rising = beside o p ps before (inserted o ps (Some p) texts) texts behind rising (bytes_eq o.name p.name) (is_below o.name p.name) refl refl
+inserted o [] before texts after rising = ((texts, after), tt)
+inserted o (p ∷ ps) before texts after rising = beside o p ps before (inserted o ps (Some p) texts) texts after rising (bytes_eq o.name p.name) (is_below o.name p.name) refl refl
 
 with_one : (v : Option (List ℕ)) (name : List ℕ) (os : List CertificateOption) → IsText name → AreOptions os → AreOptions (with_flag v name os)
 with_one None name os is rising = inserted (flag name) os None (is, is_utf8-from_IsUtf8 [] IsUtf8-nil) refl rising

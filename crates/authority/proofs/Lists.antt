@@ -33,9 +33,9 @@ second false b e = e
 abbrev has : {Y : Type 0} → List ℕ → List (String Y) → Bool
 has name xs = list_any (λ x. bytes_eq name (string_bytes x)) xs
 
-here_or_behind : {Y : Type 0} (name : List ℕ) (x : String Y) (xs : List (String Y)) → (has name xs ≡ true → Contains (map string_bytes xs) name) → (bytes_eq name (string_bytes x) ≡ true) ⊎ (has name xs ≡ true) → Contains (map string_bytes (x ∷ xs)) name
-here_or_behind name x xs rest (inl here) = (0, omega arith, sym ((bytes_eq-Decides _ _).0 here))
-here_or_behind name x xs rest (inr e) = let (k, lt, is) = rest e in (suc k, omega arith, is)
+here_or_after : {Y : Type 0} (name : List ℕ) (x : String Y) (xs : List (String Y)) → (has name xs ≡ true → Contains (map string_bytes xs) name) → (bytes_eq name (string_bytes x) ≡ true) ⊎ (has name xs ≡ true) → Contains (map string_bytes (x ∷ xs)) name
+here_or_after name x xs rest (inl here) = (0, omega arith, sym ((bytes_eq-Decides _ _).0 here))
+here_or_after name x xs rest (inr e) = let (k, lt, is) = rest e in (suc k, omega arith, is)
 
 found : {Y : Type 0} (name : List ℕ) (x : String Y) (xs : List (String Y)) → (Contains (map string_bytes xs) name → has name xs ≡ true) → Contains (map string_bytes (x ∷ xs)) name → has name (x ∷ xs) ≡ true
 found name x xs rest (zero, lt, is) = let same : bytes_eq name (string_bytes x) ≡ true = (bytes_eq-Decides _ _).1 (sym is) in rw same refl
@@ -43,7 +43,7 @@ found name x xs rest (suc k, lt, is) = second _ _ (rest (k, omega arith, is))
 
 any_listed : {Y : Type 0} (name : List ℕ) (xs : List (String Y)) → (list_any (λ x. bytes_eq name (string_bytes x)) xs ≡ true) ↔ Contains (map string_bytes xs) name
 any_listed name [] = (λ e. absurd cc, λ some. absurd (omega (arith, some.1)))
-any_listed name (x ∷ xs) = (λ e. here_or_behind name x xs (any_listed name xs).0 (either _ _ e), found name x xs (any_listed name xs).1)
+any_listed name (x ∷ xs) = (λ e. here_or_after name x xs (any_listed name xs).0 (either _ _ e), found name x xs (any_listed name xs).1)
 
 pub some_mapped : {X Y : Type 0} (f : X → Y) (xs : List X) → (length xs == 0) ≡ false → map f xs ≢ []
 some_mapped f [] some = absurd cc

@@ -81,7 +81,7 @@ fn questions(alloc: Global, words: &[&str], told: &Told, hashes: &Hashes) -> Res
     Ok(format!(in alloc; "{}", told.asked().saturating_sub(before))?)
 }
 
-/// The answer to the question in the words behind the first, which is how many bits an RSA key has
+/// The answer to the question in the words after the first, which is how many bits an RSA key has
 /// at least.
 fn bits(alloc: Global, words: &[&str], told: &Told, hashes: &Hashes) -> Result<String> {
     let [least, question, words @ ..] = words else {

@@ -40,7 +40,7 @@ only_memory (Err e) answer (inr other) = rw other.1 tt
 
 -- the key of an entry is well-formed
 pub well_formed : (text : List ℕ) (a : AuthorizedKey) → IsAuthorizedLine text a → IsKey a.key
-well_formed text a read = elim read.is [ inl alone ↦ alone.fields.spelled.is | inr behind ↦ behind.fields.spelled.is ]
+well_formed text a read = elim read.is [ inl alone ↦ alone.fields.spelled.is | inr after ↦ after.fields.spelled.is ]
 
 -- the one entry of a line decides
 pub entry_decides : {Y : Type 0} (accepts : Question → Bool) (namespace content text : List ℕ) (f : SshSignature) (a : AuthorizedKey) → EntriesDetermineValues IsAuthorizedLine → IsAuthorizedLine text a → (r : Result (Option (String Y)) Error) → JudgesEntry accepts namespace content f a r → JudgesLine (IsSigner accepts namespace content f) text r

@@ -69,7 +69,7 @@ abbrev pub IsPort : List ℕ → Option ℕ → Type 0
 IsPort text None = text ≡ codes "*"
 IsPort text (Some n) = (text ≢ codes "*") × IsNumber 10 text n × (0 < n) × (n < 65536)
 
--- Any other text may be the name of a service, or a number behind spaces or a sign.
+-- Any other text may be the name of a service, or a number after spaces or a sign.
 abbrev pub MayBePort : List ℕ → Type 0
 MayBePort text = (text ≢ codes "*") × IsNoNumber text
 
@@ -120,6 +120,6 @@ IsAny text = map to_ascii_lowercase text ≡ codes "any"
 abbrev pub IsTunnel : List ℕ → ℕ → Type 0
 IsTunnel text n = (IsAny text × (n ≡ any_tunnel)) ⊎ ((IsAny text → ⊥) × IsNumber 10 text n × (n < 0x7ffffffe))
 
--- A number may stand behind spaces or a sign.
+-- A number may stand after spaces or a sign.
 abbrev pub MayBeTunnel : List ℕ → Type 0
 MayBeTunnel text = (IsAny text → ⊥) × IsNoNumber text

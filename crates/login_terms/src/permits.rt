@@ -86,15 +86,15 @@ fn split_host(text: &str) -> Option<(&str, &str)>
     }
 }
 
-/// What stands before the first `]`, and behind the colon that follows it.
+/// What stands before the first `]`, and after the colon that follows it.
 fn split_bracketed(inside: &str) -> Option<(&str, &str)>
     ensures { IsTheOne parts_of
         (λ p. IsInBrackets inside.now p.0 p.1 × (length p.0 + 2 < 1025)) result }
 {
-    let Some((host, behind)) = inside.split_once(']') else {
+    let Some((host, after)) = inside.split_once(']') else {
         return None;
     };
-    let Some(port) = behind.strip_prefix(':') else {
+    let Some(port) = after.strip_prefix(':') else {
         return None;
     };
     if host.len() >= TOO_LONG - 2 {
@@ -103,7 +103,7 @@ fn split_bracketed(inside: &str) -> Option<(&str, &str)>
     Some((host, port))
 }
 
-/// What stands before the first colon, and behind it.
+/// What stands before the first colon, and after it.
 fn split_plain(text: &str) -> Option<(&str, &str)>
     ensures { IsTheOne parts_of
         (λ p. IsPlainHost text.now p.0 p.1 × (length p.0 < 1025)) result }

@@ -1,5 +1,5 @@
 pub mod Acceptance
-pub mod Behind
+pub mod After
 pub mod Boxes
 pub mod Chosen
 pub mod CombinedReaders

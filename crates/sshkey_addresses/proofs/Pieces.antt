@@ -23,8 +23,8 @@ module _ {X : Type 0} (P : X → Type 0) (x : X) (xs : List X) where
   pub any_here : P x → Any P (x ∷ xs)
   any_here p = (0, x, omega arith, refl, p)
 
-  pub any_behind : Any P xs → Any P (x ∷ xs)
-  any_behind a = (suc a.0, a.1, omega (arith, a.2), a.3, a.4)
+  pub any_after : Any P xs → Any P (x ∷ xs)
+  any_after a = (suc a.0, a.1, omega (arith, a.2), a.3, a.4)
 
   at_place : (k : ℕ) (y : X) → k < length (x ∷ xs) → slice_index_or (x ∷ xs) k y ≡ y → P y → P x ⊎ Any P xs
   at_place zero y l e p = inl (subst P (sym e) p)
@@ -59,7 +59,7 @@ module _ {X : Type 0} (P : X → Type 0) (found here : Bool) (x : X) (all xs : L
       | inl before ↦ inl (or_found found here (inl before))
       | inr some ↦ elim (any_cases P x xs (subst (Any P) is some)) [
         | inl p ↦ inl (or_found found here (inr (judged.1 p)))
-        | inr behind ↦ inr behind
+        | inr after ↦ inr after
       ]
     ],
     λ h. elim h [
@@ -67,7 +67,7 @@ module _ {X : Type 0} (P : X → Type 0) (found here : Bool) (x : X) (all xs : L
         | inl before ↦ inl before
         | inr p ↦ inr (subst (Any P) (sym is) (any_here P x xs (judged.0 p)))
       ]
-      | inr behind ↦ inr (subst (Any P) (sym is) (any_behind P x xs behind))
+      | inr after ↦ inr (subst (Any P) (sym is) (any_after P x xs after))
     ],
   )
 

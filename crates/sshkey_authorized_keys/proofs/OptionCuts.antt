@@ -119,19 +119,19 @@ escape_last text value rest bytes new before same none is = is ∙ ap (λ (t : L
 
 -- ---- options
 
-module _ (text name behind : List ℕ) (cut : CutsName text name behind) where
-  same_parts : (o : KeyOption) (rest : List ℕ) (is : IsOptionAt text o rest) → (name ≡ o.name) × (behind ≡ is.behind)
-  same_parts o rest is = same_name name o.name behind is.behind cut.characters is.characters cut.ends (value_ends is.behind o.value rest is.value is.ends) (sym cut.is ∙ is.is)
+module _ (text name after : List ℕ) (cut : CutsName text name after) where
+  same_parts : (o : KeyOption) (rest : List ℕ) (is : IsOptionAt text o rest) → (name ≡ o.name) × (after ≡ is.after)
+  same_parts o rest is = same_name name o.name after is.after cut.characters is.characters cut.ends (value_ends is.after o.value rest is.value is.ends) (sym cut.is ∙ is.is)
 
-  pub no_value_there : ((v : Option (List ℕ)) (r : List ℕ) → IsValueAt behind v r → EndsOption r → ⊥) → (o : KeyOption) (rest : List ℕ) → IsOptionAt text o rest → ⊥
+  pub no_value_there : ((v : Option (List ℕ)) (r : List ℕ) → IsValueAt after v r → EndsOption r → ⊥) → (o : KeyOption) (rest : List ℕ) → IsOptionAt text o rest → ⊥
   no_value_there none o rest is = none o.value rest (subst (λ (t : List ℕ). IsValueAt t o.value rest) (sym (same_parts o rest is).1) is.value) is.ends
 
-  pub no_end_there : (here : List ℕ) → ((v : Option (List ℕ)) (r : List ℕ) → IsValueAt behind v r → EndsOption r → r ≡ here) → (EndsOption here → ⊥) → (o : KeyOption) (rest : List ℕ) → IsOptionAt text o rest → ⊥
+  pub no_end_there : (here : List ℕ) → ((v : Option (List ℕ)) (r : List ℕ) → IsValueAt after v r → EndsOption r → r ≡ here) → (EndsOption here → ⊥) → (o : KeyOption) (rest : List ℕ) → IsOptionAt text o rest → ⊥
   no_end_there here one other o rest is = other (subst EndsOption (one o.value rest (subst (λ (t : List ℕ). IsValueAt t o.value rest) (sym (same_parts o rest is).1) is.value) is.ends) is.ends)
 
-pub value_cut : (text behind quoted rest : List ℕ) → text ≡ equals_sign ∷ quote ∷ behind → (behind ≡ quoted ++ (quote ∷ rest)) × IsQuoted quoted
+pub value_cut : (text after quoted rest : List ℕ) → text ≡ equals_sign ∷ quote ∷ after → (after ≡ quoted ++ (quote ∷ rest)) × IsQuoted quoted
     → IsValueAt text (Some (unescaped quoted)) rest × ((value : Option (List ℕ)) (r : List ℕ) → IsValueAt text value r → EndsOption r → r ≡ rest)
-value_cut text behind quoted rest is cut = ((quoted, whole, cut.1, refl), one)
+value_cut text after quoted rest is cut = ((quoted, whole, cut.1, refl), one)
   where
     whole : text ≡ equals_sign ∷ quote ∷ (quoted ++ (quote ∷ rest))
     whole = is ∙ ap (λ (t : List ℕ). equals_sign ∷ quote ∷ t) cut.0
@@ -161,11 +161,11 @@ pub at_most : (text : List ℕ) → length (without_commas text) ≤ length text
 at_most [] = omega (arith, ap length (nothing_stays is_comma))
 at_most (c ∷ text) = at_most_by c text (is_comma c) refl (at_most text)
 
-not_longer : (behind : List ℕ) (v : Option (List ℕ)) (r : List ℕ) → IsValueAt behind v r → length r ≤ length behind
-not_longer behind None r a = omega (arith, ap length a)
-not_longer behind (Some v) r a = omega (arith, ap length a.1, length-append a.0 (quote ∷ r))
+not_longer : (after : List ℕ) (v : Option (List ℕ)) (r : List ℕ) → IsValueAt after v r → length r ≤ length after
+not_longer after None r a = omega (arith, ap length a)
+not_longer after (Some v) r a = omega (arith, ap length a.1, length-append a.0 (quote ∷ r))
 
 -- what follows an option is shorter
 pub shorter : (text commas rest : List ℕ) (o : KeyOption) → commas ≡ without_commas text → IsOptionAt commas o rest → length rest < length text
 shorter text commas rest o same is =
-    omega (arith, is.some, ap length is.is, length-append o.name is.behind, not_longer is.behind o.value rest is.value, ap length same, at_most text)
+    omega (arith, is.some, ap length is.is, length-append o.name is.after, not_longer is.after o.value rest is.value, ap length same, at_most text)

@@ -10,7 +10,7 @@ use Rattle.sshkey_base.specs.declared.error.Error.TheVariants.{FormatEncoding}
 use Rattle.sshkey_entries.specs.AuthorizedKeys.{AuthorizedKey}
 use Rattle.sshkey_entries.specs.Entries.{hash_sign}
 use Rattle.sshkey_entries.specs.Fields.{without_blanks, AreKeyFields, AreNoKeyFields}
-use Rattle.sshkey_entries.specs.OpenSshLines.{IsBehindOptions, IsAuthorizedLine}
+use Rattle.sshkey_entries.specs.OpenSshLines.{IsAfterOptions, IsAuthorizedLine}
 use Rattle.sshkey_entries.specs.OptionEnds.{EndsOptions, is_blank, is_inside}
 use Rattle.sshkey_entries.proofs.BlankPlaces.{blank_ascii}
 use Rattle.sshkey_entries.proofs.OneEntry.{one_end}
@@ -18,7 +18,7 @@ use Rattle.sshkey_entries.proofs.OneOpenSshLine.{same_front}
 use Rattle.sshkey_entries.specs.Answers.{ReadsEntry, RefusesFor}
 use Rattle.sshkey_model.specs.Keys.{Key}
 use Rattle.sshkey_entries.specs.KeyFields.{HasKeyFault, NeedsKeyFields}
-use Rattle.sshkey_authorized_keys.specs.OpenSshNeeds.{AsksFor, NeedsBehindOptions, NeedsEntry}
+use Rattle.sshkey_authorized_keys.specs.OpenSshNeeds.{AsksFor, NeedsAfterOptions, NeedsEntry}
 use Rattle.sshkey_authorized_keys.specs.OpenSshEntries.{openssh_entry_of}
 use Rattle.sshkey_authorized_keys.specs.OpenSshFaults.{EndsHere, HasNoEnd, HasTextFault, HasLineFault}
 use Rattle.sshkey_authorized_keys.specs.declared.openssh.OpenSshEntry.{OpenSshEntry}
@@ -60,7 +60,7 @@ options_cut text bytes front back n same e first rest =
 
 -- ---- after options
 
-pub uncut : (text : List ℕ) → HasNoEnd text → (a : AuthorizedKey) → IsBehindOptions text a → ⊥
+pub uncut : (text : List ℕ) → HasNoEnd text → (a : AuthorizedKey) → IsAfterOptions text a → ⊥
 uncut text none a is = none (length a.options) is.ends
 
 pub uncut_fault : (text : List ℕ) → HasNoEnd text → HasTextFault text FormatEncoding
@@ -70,7 +70,7 @@ module _ (text front rest fields : List ℕ) (cut : (text ≡ front ++ rest) × 
   same_parts : (options more : List ℕ) → text ≡ options ++ more → EndsOptions text (length options) → (front ≡ options) × (rest ≡ more)
   same_parts options more is ends = same_front front options rest more (one_end text (length front) (length options) cut.1 ends) (sym cut.0 ∙ is)
 
-  pub bad_key : (e : Error) → (cause e ≢ NoMemory → AreNoKeyFields fields) → cause e ≢ NoMemory → (a : AuthorizedKey) → IsBehindOptions text a → ⊥
+  pub bad_key : (e : Error) → (cause e ≢ NoMemory → AreNoKeyFields fields) → cause e ≢ NoMemory → (a : AuthorizedKey) → IsAfterOptions text a → ⊥
   bad_key e none other a is =
       let same = same_parts a.options is.rest is.is is.ends in
       none other a.key a.comment (subst (λ (t : List ℕ). AreKeyFields t a.key a.comment) (ap without_blanks (sym same.1) ∙ sym skips) is.fields)
@@ -81,13 +81,13 @@ module _ (text front rest fields : List ℕ) (cut : (text ≡ front ++ rest) × 
     fields = λ options more is ends. subst (λ (t : List ℕ). HasKeyFault t e) (skips ∙ ap without_blanks (same_parts options more is ends).1) fault;
   }
 
-  pub key_needs : NeedsKeyFields fields → NeedsBehindOptions text
+  pub key_needs : NeedsKeyFields fields → NeedsAfterOptions text
   key_needs needed = record { options = front; rest = rest; is = cut.0; ends = cut.1; needed = inl (subst NeedsKeyFields skips needed) }
 
-  pub options_need : (k : Key) (comment : List ℕ) → AreKeyFields fields k comment → NeedsBehindOptions text
+  pub options_need : (k : Key) (comment : List ℕ) → AreKeyFields fields k comment → NeedsAfterOptions text
   options_need k comment is = record { options = front; rest = rest; is = cut.0; ends = cut.1; needed = inr (k, comment, subst (λ (t : List ℕ). AreKeyFields t k comment) skips is) }
 
-  pub options_read : (a : AuthorizedKey) → AreNoKeyFields text → a.options ≡ front → AreKeyFields fields a.key a.comment → IsBehindOptions text a
+  pub options_read : (a : AuthorizedKey) → AreNoKeyFields text → a.options ≡ front → AreKeyFields fields a.key a.comment → IsAfterOptions text a
   options_read a none same is = record {
     rest = rest;
     is = cut.0 ∙ ap (λ (o : List ℕ). o ++ rest) (sym same);
@@ -112,23 +112,23 @@ module _ (line text : List ℕ) (skips : text ≡ without_blanks line) where
     pub alone_needs : NeedsKeyFields text → NeedsEntry line
     alone_needs needed = record { no_comment = not_comment; needed = inl (subst NeedsKeyFields skips needed) }
 
-    pub behind_needs : (r : Result OpenSshEntry Error) → AsksFor (NeedsBehindOptions text) r → AsksFor (NeedsEntry line) r
-    behind_needs (Ok x) h = tt
-    behind_needs (Err e) h = λ memory. record { no_comment = not_comment; needed = inr (subst NeedsBehindOptions skips (h memory)) }
+    pub after_needs : (r : Result OpenSshEntry Error) → AsksFor (NeedsAfterOptions text) r → AsksFor (NeedsEntry line) r
+    after_needs (Ok x) h = tt
+    after_needs (Err e) h = λ memory. record { no_comment = not_comment; needed = inr (subst NeedsAfterOptions skips (h memory)) }
 
     pub alone_read : (a : AuthorizedKey) → a.options ≡ [] → AreKeyFields text a.key a.comment → IsAuthorizedLine line a
     alone_read a none is = record { no_comment = not_comment; is = inl (record { options = none; fields = subst (λ (t : List ℕ). AreKeyFields t a.key a.comment) skips is }) }
 
-    pub behind_read : (r : Result OpenSshEntry Error) → AreNoKeyFields text → ReadsEntry openssh_entry_of IsBehindOptions text r → ReadsEntry openssh_entry_of IsAuthorizedLine line r
-    behind_read (Ok x) none h = record { no_comment = not_comment; is = inr (subst (λ (t : List ℕ). IsBehindOptions t (openssh_entry_of x)) skips h) }
-    behind_read (Err e) none h = λ other a is. elim is.is [
+    pub after_read : (r : Result OpenSshEntry Error) → AreNoKeyFields text → ReadsEntry openssh_entry_of IsAfterOptions text r → ReadsEntry openssh_entry_of IsAuthorizedLine line r
+    after_read (Ok x) none h = record { no_comment = not_comment; is = inr (subst (λ (t : List ℕ). IsAfterOptions t (openssh_entry_of x)) skips h) }
+    after_read (Err e) none h = λ other a is. elim is.is [
       | inl alone ↦ none a.key a.comment (subst (λ (t : List ℕ). AreKeyFields t a.key a.comment) (sym skips) alone.fields)
-      | inr behind ↦ h other a (subst (λ (t : List ℕ). IsBehindOptions t a) (sym skips) behind)
+      | inr after ↦ h other a (subst (λ (t : List ℕ). IsAfterOptions t a) (sym skips) after)
     ]
 
-    pub behind_fault : (r : Result OpenSshEntry Error) → RefusesFor HasTextFault text r → RefusesFor HasLineFault line r
-    behind_fault (Ok x) h = tt
-    behind_fault (Err e) h = λ other. record {
+    pub after_fault : (r : Result OpenSshEntry Error) → RefusesFor HasTextFault text r → RefusesFor HasLineFault line r
+    after_fault (Ok x) h = tt
+    after_fault (Err e) h = λ other. record {
       comment = λ here. absurd (not_comment here);
       text = λ _. subst (λ (t : List ℕ). HasTextFault t e) skips (h other);
     }

@@ -53,7 +53,7 @@ uncut_fault line none some = record {
   no_space = λ zero. refl;
   no_key = λ one few. absurd (omega (arith, some, few));
   no_options = λ front rest is without many bad. absurd (split_after space line front rest None none (omega arith) is without);
-  no_key_behind = λ front rest is without many are. absurd (split_after space line front rest None none (omega arith) is without);
+  no_key_after = λ front rest is without many are. absurd (split_after space line front rest None none (omega arith) is without);
 }
 
 module _ (line : List ℕ) (options rest : Bor (List ℕ)) (cut : IsSplitOnceResult space line (Some (options, rest))) (some : 3 ≤ count_by is_space line) where
@@ -65,9 +65,9 @@ module _ (line : List ℕ) (options rest : Bor (List ℕ)) (cut : IsSplitOnceRes
       | inl full ↦ absurd (other (ap cause full.1))
       | inr not_allowed ↦ not_allowed.0
     ];
-    no_key_behind = λ front behind is without many are. elim why [
+    no_key_after = λ front after is without many are. elim why [
       | inl full ↦ absurd (other (ap cause full.1))
-      | inr not_allowed ↦ absurd (not_allowed.1 (subst AreOptionCharacters (sym (split_after space line front behind (Some (options, rest)) cut (omega arith) is without).0) are))
+      | inr not_allowed ↦ absurd (not_allowed.1 (subst AreOptionCharacters (sym (split_after space line front after (Some (options, rest)) cut (omega arith) is without).0) are))
     ];
   }
 
@@ -76,8 +76,8 @@ module _ (line : List ℕ) (options rest : Bor (List ℕ)) (cut : IsSplitOnceRes
   key_fault e are fault = record {
     no_space = λ zero. absurd (omega (arith, some, zero));
     no_key = λ one few. absurd (omega (arith, some, few));
-    no_options = λ front behind is without many bad. absurd (bad (subst AreOptionCharacters (split_after space line front behind (Some (options, rest)) cut (omega arith) is without).0 are));
-    no_key_behind = λ front behind is without many allowed. subst (λ (t : List ℕ). HasFaultOfKey t e) (split_after space line front behind (Some (options, rest)) cut (omega arith) is without).1 fault;
+    no_options = λ front after is without many bad. absurd (bad (subst AreOptionCharacters (split_after space line front after (Some (options, rest)) cut (omega arith) is without).0 are));
+    no_key_after = λ front after is without many allowed. subst (λ (t : List ℕ). HasFaultOfKey t e) (split_after space line front after (Some (options, rest)) cut (omega arith) is without).1 fault;
   }
 
 pub no_space_fault : (line : List ℕ) → count_by is_space line ≡ 0 → HasFault line FormatEncoding
@@ -85,7 +85,7 @@ no_space_fault line zero = record {
   no_space = λ _. refl;
   no_key = λ one few. absurd (omega (arith, zero, one));
   no_options = λ front rest is without many bad. absurd (omega (arith, zero, many));
-  no_key_behind = λ front rest is without many are. absurd (omega (arith, zero, many));
+  no_key_after = λ front rest is without many are. absurd (omega (arith, zero, many));
 }
 
 -- one or two spaces: the fault of the key's line
@@ -94,7 +94,7 @@ line_fault line e some few fault = record {
   no_space = λ zero. absurd (some zero);
   no_key = λ _ _. fault;
   no_options = λ front rest is without many bad. absurd (omega (arith, few, many));
-  no_key_behind = λ front rest is without many are. absurd (omega (arith, few, many));
+  no_key_after = λ front rest is without many are. absurd (omega (arith, few, many));
 }
 
 -- ---- memory

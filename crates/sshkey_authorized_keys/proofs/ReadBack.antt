@@ -14,10 +14,10 @@ use Rattle.sshkey_authorized_keys.specs.ReadBack.{TellsNot, TellsWhether}
 -- ---- the key of an entry that was read is well-formed
 
 pub plain_form : (line : List ℕ) (a : AuthorizedKey) → IsAuthorizedKey line a → IsKey a.key
-plain_form line a s = elim s [ inl alone ↦ alone.line.spelled.is | inr behind ↦ behind.line.spelled.is ]
+plain_form line a s = elim s [ inl alone ↦ alone.line.spelled.is | inr after ↦ after.line.spelled.is ]
 
 pub openssh_form : (line : List ℕ) (a : AuthorizedKey) → IsAuthorizedLine line a → IsKey a.key
-openssh_form line a s = elim s.is [ inl alone ↦ alone.fields.spelled.is | inr behind ↦ behind.fields.spelled.is ]
+openssh_form line a s = elim s.is [ inl alone ↦ alone.fields.spelled.is | inr after ↦ after.fields.spelled.is ]
 
 -- ---- what comparing tells
 

@@ -21,4 +21,4 @@ pub record HasFault (line : List ℕ) (e : Error) : Type 0 where
   pub no_space : count_by is_space line ≡ 0 → e ≡ FormatEncoding
   pub no_key : 0 < count_by is_space line → count_by is_space line < 3 → HasFaultOfKey line e
   pub no_options : (front rest : List ℕ) → line ≡ front ++ (space ∷ rest) → IsWithout space front → 3 ≤ count_by is_space line → (AreOptionCharacters front → ⊥) → e ≡ Encoding CharacterEncoding
-  pub no_key_behind : (front rest : List ℕ) → line ≡ front ++ (space ∷ rest) → IsWithout space front → 3 ≤ count_by is_space line → AreOptionCharacters front → HasFaultOfKey rest e
+  pub no_key_after : (front rest : List ℕ) → line ≡ front ++ (space ∷ rest) → IsWithout space front → 3 ≤ count_by is_space line → AreOptionCharacters front → HasFaultOfKey rest e

@@ -15,7 +15,7 @@ use Rattle.sshkey_authorized_keys.specs.declared.openssh.OpenSshEntry.{OpenSshEn
 
 -- The text is options and what follows them; and that needs memory, or is a key's fields, and then
 -- the options do.
-pub record NeedsBehindOptions (text : List ℕ) : Type 0 where
+pub record NeedsAfterOptions (text : List ℕ) : Type 0 where
   pub options : List ℕ
   pub rest : List ℕ
   pub is : text ≡ options ++ rest
@@ -30,7 +30,7 @@ AsksFor Needed (Err e) = cause e ≡ NoMemory → Needed
 -- The line is no comment, and a key at its front needs it, or options before a key.
 pub record NeedsEntry (line : List ℕ) : Type 0 where
   pub no_comment : slice_index (without_blanks line) 0 ≢ hash_sign
-  pub needed : NeedsKeyFields (without_blanks line) ⊎ NeedsBehindOptions (without_blanks line)
+  pub needed : NeedsKeyFields (without_blanks line) ⊎ NeedsAfterOptions (without_blanks line)
 
 -- One answer of a reader of lines: the entry of the line, or why it is none; and memory was refused
 -- only where it was needed.

@@ -5,11 +5,11 @@ ghost use Rattle.std.specs.Iterator.{item_count};
 ghost use Rattle.sshkey_entries.specs.Entries.{hash_sign};
 ghost use Rattle.sshkey_entries.specs.Fields.{AreNoKeyFields, filled_lines};
 ghost use Rattle.sshkey_entries.specs.OptionEnds.{is_blank};
-ghost use Rattle.sshkey_entries.specs.OpenSshLines.{IsAuthorizedLine, IsBehindOptions};
+ghost use Rattle.sshkey_entries.specs.OpenSshLines.{IsAuthorizedLine, IsAfterOptions};
 ghost use Rattle.sshkey_entries.specs.Answers.{ReadsEntry, RefusesFor, YieldsAnswers};
 ghost use Rattle.sshkey_authorized_keys.specs.OpenSshEntries.{openssh_entry_of, openssh_key_in, openssh_options_of};
 ghost use Rattle.sshkey_authorized_keys.specs.OpenSshFaults.{CutsOptions, FindsEnd, HasLineFault, HasTextFault, EndsHere};
-ghost use Rattle.sshkey_authorized_keys.specs.OpenSshNeeds.{AnswersLine, AsksFor, NeedsBehindOptions, NeedsEntry};
+ghost use Rattle.sshkey_authorized_keys.specs.OpenSshNeeds.{AnswersLine, AsksFor, NeedsAfterOptions, NeedsEntry};
 
 use crate::entry::Entry;
 use crate::openssh_options::OpenSshOptions;
@@ -116,7 +116,7 @@ impl Entry {
         if error.is_memory() {
             return Err(error);
         }
-        OpenSshEntry::behind_options(alloc, text)
+        OpenSshEntry::after_options(alloc, text)
     }
 }
 
@@ -133,11 +133,11 @@ impl OpenSshEntry {
     }
 
     /// The entry of a text that no key begins.
-    fn behind_options(alloc: Global, text: &str) -> Result<OpenSshEntry>
+    fn after_options(alloc: Global, text: &str) -> Result<OpenSshEntry>
         requires { AreNoKeyFields text.now }
-        ensures reads { ReadsEntry openssh_entry_of IsBehindOptions text.now result }
+        ensures reads { ReadsEntry openssh_entry_of IsAfterOptions text.now result }
         ensures fault { RefusesFor HasTextFault text.now result }
-        ensures asks { AsksFor (NeedsBehindOptions text.now) result }
+        ensures asks { AsksFor (NeedsAfterOptions text.now) result }
     {
         let Some((front, rest)) = split_options(text) else {
             return Err(Error::FormatEncoding);

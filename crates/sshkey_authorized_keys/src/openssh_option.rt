@@ -24,11 +24,11 @@ impl<'a> OpenSshOption<'a> {
     fn split(text: &'a str) -> Option<(OpenSshOption<'a>, &'a str)>
         ensures { CutsOption text.now result }
     {
-        let (name, behind) = split_name(text);
+        let (name, after) = split_name(text);
         if name.is_empty() {
             return None;
         }
-        let Some((quoted, rest)) = split_value(behind) else {
+        let Some((quoted, rest)) = split_value(after) else {
             return None;
         };
         if !ends_option(rest) {

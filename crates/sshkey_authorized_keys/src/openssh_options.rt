@@ -116,7 +116,7 @@ fn find_option<'a>(text: &'a str, name: &str) -> Result<Option<OpenSshOption<'a>
 /// What is said once each option of a text has added to it, one after the other.
 ///
 /// `Rejected` where the text is no list of options, or one of them adds nothing; `Unclear` where
-/// one that OpenSSH may read stands behind options that all add. What follows that one is not read.
+/// one that OpenSSH may read stands after options that all add. What follows that one is not read.
 /// Fails only when out of memory.
 pub fn read_options<T: AddOptions>(
     alloc: Global,

@@ -95,10 +95,10 @@ fn split_quoted(text: &str) -> Option<(&str, &str)>
 pub(crate) fn split_value(text: &str) -> Option<(Option<&str>, &str)>
     ensures { CutsValue text.now result }
 {
-    let Some(behind) = text.strip_prefix("=\"") else {
+    let Some(after) = text.strip_prefix("=\"") else {
         return Some((None, text));
     };
-    match split_quoted(behind) {
+    match split_quoted(after) {
         Some((quoted, rest)) => Some((Some(quoted), rest)),
         None => None,
     }

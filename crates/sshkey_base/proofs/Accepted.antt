@@ -7,7 +7,7 @@ use Rattle.sshkey_model.specs.Reading.{Front, whole}
 use Rattle.sshkey_model.specs.Grammar.{IsGrammar, Grammar}
 use Rattle.sshkey_model.proofs.CombinedReaders.{ok_is}
 use Rattle.sshkey_model.proofs.Grammars.{none_spelled, by_itself, taken_before, whole_spells}
-use Rattle.sshkey_base.proofs.Boxes.{some_behind}
+use Rattle.sshkey_base.proofs.Boxes.{some_after}
 use Rattle.sshkey_base.specs.declared.encoding.Error.{Error}
 use Rattle.sshkey_base.specs.declared.encoding.Error.TheVariants as encoding
 use Rattle.sshkey_base.specs.Causes.{Cause, NoMemory, encoding_cause}
@@ -79,7 +79,7 @@ module _ {X Y E : Type 0} (means : X → Y) (cause : E → Cause) (read : Front 
         let some : 0 < announced_len t = omega (arith, eqb-false (announced_len t) 0 u.0) in
         let none : t.missing ≡ 0 = h.missing ∙ sound in
         let len : length t.left ≡ announced_len t = omega arith in
-        rw (h.value, some_behind (means x) t.left (announced_len t) len some) (says ∙ ap encoding_cause u.1);
+        rw (h.value, some_after (means x) t.left (announced_len t) len some) (says ∙ ap encoding_cause u.1);
   }
 
   -- what is not finished is not out of memory

@@ -24,9 +24,9 @@ same_outer : (a b : Outer) (xs ys : List Outer) → a ∷ xs ≡ b ∷ ys → (a
 same_outer a b xs ys e = (cc, cc)
 
 -- some bytes after a value
-pub some_behind : {A : Type 0} (x : A) (rest : List ℕ) (n : ℕ) → length rest ≡ n → 0 < n → end_of x rest ≡ Err (TrailingData n)
-some_behind x [] n e lt = absurd (omega arith)
-some_behind x (b ∷ rest) n e lt = rw (← e) refl
+pub some_after : {A : Type 0} (x : A) (rest : List ℕ) (n : ℕ) → length rest ≡ n → 0 < n → end_of x rest ≡ Err (TrailingData n)
+some_after x [] n e lt = absurd (omega arith)
+some_after x (b ∷ rest) n e lt = rw (← e) refl
 
 module _ {X Y : Type 0} (means : X → Y) (read : Front Y) (s t : Source) (n : ℕ) where
   box_few : (c : Cause) → Refuses s.missing c (number_at w32 s.left) → Refuses s.missing c (box_at (whole read) s.left)
@@ -67,7 +67,7 @@ module _ {X Y : Type 0} (means : X → Y) (read : Front Y) (s t : Source) (n : �
         | inr ge ↦
             let lacks : rest - length u.left ≡ n - length t.left = h.missing in
             let len : length (take rest u.left) ≡ rest = omega (arith, length-take rest u.left) in
-            record { met = TrailingData rest; is = box_within a ge ∙ rw (h.value, some_behind (means x) (take rest u.left) rest len lt) refl; same = λ _. refl }
+            record { met = TrailingData rest; is = box_within a ge ∙ rw (h.value, some_after (means x) (take rest u.left) rest len lt) refl; same = λ _. refl }
       ]
 
   box_read : (name other : ℕ) (u : Source) (x : X) → Reads (λ k. k) (number_at w32) s n t → Reads means read (part name n t) x (part other 0 u) → Reads means (box_at (whole read)) s x u

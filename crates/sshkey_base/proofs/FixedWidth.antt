@@ -8,7 +8,7 @@ use borrow.Rule.Slice.PartMut.{put_mid}
 use Rattle.sshkey_model.specs.Parts.{are_bytes}
 use Rattle.sshkey_model.specs.Reading.{Fault, Length, FormatEncoding, TrailingData, ◌>>=◌, Front, all_from, number_at, bytes_at, box_at, checked_at, checked_whole}
 use Rattle.sshkey_model.specs.Grammar.{value_at}
-use Rattle.sshkey_model.specs.KeyPairs.{LeadingZeros, Plain, WithoutZero, WithZero, is_high, is_natural, at_width, scalar_behind_zero, scalar_from, scalar_whole, scalar_at}
+use Rattle.sshkey_model.specs.KeyPairs.{LeadingZeros, Plain, WithoutZero, WithZero, is_high, is_natural, at_width, scalar_after_zero, scalar_from, scalar_whole, scalar_at}
 use Rattle.sshkey_model.proofs.CombinedReaders.{done, bind_assoc, bind_same}
 use Rattle.sshkey_base.proofs.Places.{advances_both}
 use Rattle.sshkey_base.proofs.Steps.{few_refused, front_reads, refuses_first}
@@ -85,8 +85,8 @@ no_sign size s a e one h =
     let few : length s.left < suc size = (let lt = h.few in omega arith) in
     refuses_first s.missing (encoding_cause e) (bytes_at (suc size) s.left) (judge size) (few_refused (suc size) s e (record { few = few; sound = h.sound }))
 
-pub few_behind : (size : ℕ) (s t : Source) (a b : List ℕ) (e : Error) → length a ≡ 1 → length b ≡ size → Advances s a t → TooFew t (length b) e → Refuses s.missing (encoding_cause e) (checked_at (fixed_from size) (bytes_at (suc size)) s.left)
-few_behind size s t a b e one len f h =
+pub few_after : (size : ℕ) (s t : Source) (a b : List ℕ) (e : Error) → length a ≡ 1 → length b ≡ size → Advances s a t → TooFew t (length b) e → Refuses s.missing (encoding_cause e) (checked_at (fixed_from size) (bytes_at (suc size)) s.left)
+few_after size s t a b e one len f h =
     let few : length s.left < suc size = (let lt = h.few in omega (arith, ap length f.taken, length-append a t.left)) in
     refuses_first s.missing (encoding_cause e) (bytes_at (suc size) s.left) (judge size) (few_refused (suc size) s e (record { few = few; sound = λ none. h.sound (f.missing ∙ none) }))
 
@@ -114,7 +114,7 @@ unsigned_pick b false = refl
 abbrev bare_scalar : Scalar → Result (List ℕ) Fault
 bare_scalar x = Ok x.0
 
-signed_from : (size c : ℕ) (b : List ℕ) → length b ≡ size → scalar_from size (c ∷ b) ≡ cond (eqb c 0) (Ok (scalar_behind_zero b)) (Err FormatEncoding)
+signed_from : (size c : ℕ) (b : List ℕ) → length b ≡ size → scalar_from size (c ∷ b) ≡ cond (eqb c 0) (Ok (scalar_after_zero b)) (Err FormatEncoding)
 signed_from size c b len = rw (ne_eqb (suc (length b)) size (λ e. omega arith), eq-eqb (suc (length b)) (suc size) (ap suc len)) refl
 
 pub sign_taken : (size : ℕ) (a b : List ℕ) → length a ≡ 1 → length b ≡ size → slice_index a 0 ≡ 0 → fixed_from size (a ++ b) ≡ Ok b
@@ -135,8 +135,8 @@ put_width size k b le len =
     let long : length zeros ≡ size = length-replicate {A = ℕ} size 0 in
     let none : drop size zeros ≡ [] = nil_from_length (drop size zeros) (omega (arith, length-drop size zeros)) in
     let front : take size (put_mid a k zeros b) ≡ replicate a 0 ++ b = take-put_mid a k zeros b size (omega arith) (omega arith) ∙ ap (λ (z : List ℕ). z ++ b) (take-replicate {X = ℕ} a size 0 (omega arith)) in
-    let behind : drop size (put_mid a k zeros b) ≡ [] = drop-put_mid a k zeros b size (omega arith) (omega arith) (sym len) ∙ none in
-    sym (take-append-drop size (put_mid a k zeros b)) ∙ rw (front, behind) (append-nil (replicate a 0 ++ b))
+    let after : drop size (put_mid a k zeros b) ≡ [] = drop-put_mid a k zeros b size (omega arith) (omega arith) (sym len) ∙ none in
+    sym (take-append-drop size (put_mid a k zeros b)) ∙ rw (front, after) (append-nil (replicate a 0 ++ b))
 
 pub put_full : (size k : ℕ) (b : List ℕ) → length b ≡ size → k ≡ length b → put_mid (size - length b) k (replicate size 0) b ≡ b
 put_full size k b len same = let none : size - length b ≡ 0 = omega arith in put_width size k b (omega arith) same ∙ rw none refl
@@ -152,10 +152,10 @@ step_within size n b le = go (ltb (length b) n) refl
     go true e = rw e refl
     go false e = rw (e, le-ltb (suc size) n le) refl
 
-pub behind_length : (size n : ℕ) (s t u : Source) (r : Result (List ℕ) WideError) → Reads (λ x. x) (number_at w32) s n t → n ≤ suc size → GivesAlways (λ b. b) cause (checked_at (fixed_from size) (bytes_at n)) t r u → GivesAlways (λ b. b) cause (fixed_at size) s r u
+pub after_length : (size n : ℕ) (s t u : Source) (r : Result (List ℕ) WideError) → Reads (λ x. x) (number_at w32) s n t → n ≤ suc size → GivesAlways (λ b. b) cause (checked_at (fixed_from size) (bytes_at n)) t r u → GivesAlways (λ b. b) cause (fixed_at size) s r u
 unfolding fixed_at
-behind_length size n s t u (Ok b) a le h = record { value = rw (a.value, step_within size n t.left le) h.value; missing = h.missing ∙ a.missing; outer = h.outer ∙ a.outer }
-behind_length size n s t u (Err e) a le h = record { met = h.met; is = rw (a.value, step_within size n t.left le) h.is; same = λ none. h.same (a.missing ∙ none) }
+after_length size n s t u (Ok b) a le h = record { value = rw (a.value, step_within size n t.left le) h.value; missing = h.missing ∙ a.missing; outer = h.outer ∙ a.outer }
+after_length size n s t u (Err e) a le h = record { met = h.met; is = rw (a.value, step_within size n t.left le) h.is; same = λ none. h.same (a.missing ∙ none) }
 
 -- ---- at most `size` bytes
 

@@ -6,23 +6,23 @@ use Rattle.std.proofs.lemmas.Bool.{le-ltb, and_parts}
 use Rattle.std.proofs.lemmas.List.{length-append, length-take, length-take-le, take-append-drop, take_at, drop_at}
 use Rattle.sshkey_model.specs.Parts.{are_bytes}
 use Rattle.sshkey_model.specs.Reading.{Fault, Length, bytes_at, checked_at}
-use Rattle.sshkey_base.specs.Source.{Source, Advances, Later, part, behind, all_of}
+use Rattle.sshkey_base.specs.Source.{Source, Advances, Later, part, after, all_of}
 use Rattle.sshkey_base.specs.Reading.{Reads}
 use Rattle.sshkey_base.specs.ShortStrings.{at_most}
 use Rattle.sshkey_base.proofs.Places.{part_later}
 use Rattle.sshkey_base.proofs.ShortStrings.{short_reads}
 
-abbrev stands_behind : (n : ℕ) (s : Source) → Later s (behind n s)
-stands_behind n s = record { passed = take n s.left; left = sym (take-append-drop n s.left); missing = refl; outer = refl }
+abbrev stands_after : (n : ℕ) (s : Source) → Later s (after n s)
+stands_after n s = record { passed = take n s.left; left = sym (take-append-drop n s.left); missing = refl; outer = refl }
 
-pub later_behind : (n : ℕ) (s t : Source) → t ≡ behind n s → Later s t
-later_behind n s t is = rw is (stands_behind n s)
+pub later_after : (n : ℕ) (s t : Source) → t ≡ after n s → Later s t
+later_after n s t is = rw is (stands_after n s)
 
 -- What was lent is read.
-pub lent_reads : (n : ℕ) (s t : Source) (b x : List ℕ) → Reads (λ x. x) (bytes_at n) s b (behind n s) → x ≡ b → t ≡ behind n s → Reads (λ x. x) (bytes_at n) s x t
+pub lent_reads : (n : ℕ) (s t : Source) (b x : List ℕ) → Reads (λ x. x) (bytes_at n) s b (after n s) → x ≡ b → t ≡ after n s → Reads (λ x. x) (bytes_at n) s x t
 lent_reads n s t b x h same is = rw (same, is) h
 
-pub ruleset lending = (later_behind, lent_reads)
+pub ruleset lending = (later_after, lent_reads)
 
 -- ---- what is lent
 
@@ -33,13 +33,13 @@ are_first (suc n) (c ∷ l) e =
     let p = and_parts (ltb c 256) (are_bytes l) e in
     rw (p.0, are_first n l p.1) refl
 
-pub lent_front : (n : ℕ) (s : Source) (b : List ℕ) → n ≤ length s.left → b ≡ take n s.left → are_bytes b ≡ true → Reads (λ x. x) (bytes_at n) s b (behind n s)
+pub lent_front : (n : ℕ) (s : Source) (b : List ℕ) → n ≤ length s.left → b ≡ take n s.left → are_bytes b ≡ true → Reads (λ x. x) (bytes_at n) s b (after n s)
 unfolding bytes_at
 lent_front n s b le is are =
     let front : are_bytes (take n s.left) ≡ true = rw (← is) are in
     record { value = rw (le-ltb (length s.left) n le, front, is) refl; missing = refl; outer = refl }
 
-pub lent_first : (n : ℕ) (l : List ℕ) → n ≤ length l → are_bytes l ≡ true → Reads (λ x. x) (bytes_at n) (all_of l) (take n l) (behind n (all_of l))
+pub lent_first : (n : ℕ) (l : List ℕ) → n ≤ length l → are_bytes l ≡ true → Reads (λ x. x) (bytes_at n) (all_of l) (take n l) (after n (all_of l))
 lent_first n l le are = lent_front n (all_of l) (take n l) le refl (are_first n l are)
 
 abbrev Taken : Type 0
@@ -67,34 +67,34 @@ front_is n l b r le e = go (are_bytes (take n l)) refl
         absurd (front_none Length b r h)
 
 -- what follows the first bytes of a source
-behind_is : (n : ℕ) (s t : Source) (l : Later s t) → length l.passed ≡ n → t ≡ behind n s
-behind_is n s t l len = rw (l.left, drop_at l.passed t.left n len, ← l.missing, ← l.outer) refl
+after_is : (n : ℕ) (s t : Source) (l : Later s t) → length l.passed ≡ n → t ≡ after n s
+after_is n s t l len = rw (l.left, drop_at l.passed t.left n len, ← l.missing, ← l.outer) refl
 
 -- Some more bytes were passed.
-pub behind_more : (k n : ℕ) (s t u : Source) (b : List ℕ) → k ≤ length s.left → t ≡ behind k s → length b ≡ n → Advances t b u → u ≡ behind (k + n) s
-behind_more k n s t u b within is len a =
-    let first : Later s t = later_behind k s t is in
+pub after_more : (k n : ℕ) (s t u : Source) (b : List ℕ) → k ≤ length s.left → t ≡ after k s → length b ≡ n → Advances t b u → u ≡ after (k + n) s
+after_more k n s t u b within is len a =
+    let first : Later s t = later_after k s t is in
     let rest : drop k s.left ≡ b ++ u.left = rw is at a.taken in
     let all : s.left ≡ (take k s.left ++ b) ++ u.left = sym (take-append-drop k s.left) ∙ ap (λ (l : List ℕ). take k s.left ++ l) rest ∙ sym (append_assoc (take k s.left) b u.left) in
     let size : length (take k s.left ++ b) ≡ k + n = omega (arith, length-append (take k s.left) b, length-take-le k s.left within) in
-    behind_is (k + n) s u (record { passed = take k s.left ++ b; left = all; missing = a.missing ∙ first.missing; outer = a.outer ∙ first.outer }) size
+    after_is (k + n) s u (record { passed = take k s.left ++ b; left = all; missing = a.missing ∙ first.missing; outer = a.outer ∙ first.outer }) size
 
 -- `len` bytes of a part
-abbrev part_front : (name n len : ℕ) (s : Source) → len ≤ n → len ≤ length s.left → Later (part name n s) (part name (n - len) (behind len s))
+abbrev part_front : (name n len : ℕ) (s : Source) → len ≤ n → len ≤ length s.left → Later (part name n s) (part name (n - len) (after len s))
 part_front name n len s le within =
     let size : length (take len s.left) ≡ len = length-take-le len s.left within in
     let sum : n ≡ length (take len s.left) + (n - len) = omega arith in
-    part_later name n (n - len) s (behind len s) (stands_behind len s) sum
+    part_later name n (n - len) s (after len s) (stands_after len s) sum
 
 -- short bytes
-pub lent_short : (max n : ℕ) (s : Source) (o : Option (Bor (List ℕ))) → n ≤ max → IfSome o (λ b. Reads (λ x. x) (bytes_at n) s b.now (behind n s)) → IfSome o (λ _. n ≤ length s.left) → IfSome o (λ b. Reads (λ x. x) (checked_at (at_most max) (bytes_at n)) s b.now (behind n s))
+pub lent_short : (max n : ℕ) (s : Source) (o : Option (Bor (List ℕ))) → n ≤ max → IfSome o (λ b. Reads (λ x. x) (bytes_at n) s b.now (after n s)) → IfSome o (λ _. n ≤ length s.left) → IfSome o (λ b. Reads (λ x. x) (checked_at (at_most max) (bytes_at n)) s b.now (after n s))
 lent_short max n s None le h within = tt
 lent_short max n s (Some b) le h within =
     let front = front_is n s.left b.now (drop n s.left) within h.value in
-    short_reads max n s (behind n s) b.now le (rw front.0 (length-take-le n s.left within)) h
+    short_reads max n s (after n s) b.now le (rw front.0 (length-take-le n s.left within)) h
 
 -- a part lends what the reader around it lends
-pub part_lends : (name n len : ℕ) (s : Source) (b : List ℕ) → len ≤ n → len ≤ length s.left → Reads (λ x. x) (bytes_at len) s b (behind len s) → Reads (λ x. x) (bytes_at len) (part name n s) b (behind len (part name n s))
+pub part_lends : (name n len : ℕ) (s : Source) (b : List ℕ) → len ≤ n → len ≤ length s.left → Reads (λ x. x) (bytes_at len) s b (after len s) → Reads (λ x. x) (bytes_at len) (part name n s) b (after len (part name n s))
 part_lends name n len s b le within h =
     let front = front_is len s.left b (drop len s.left) within h.value in
     let l = part_front name n len s le within in
@@ -102,8 +102,8 @@ part_lends name n len s b le within h =
     lent_front len (part name n s) b (omega (arith, length-take n s.left)) (front.0 ∙ sym same) front.1
 
 -- and the part is past the same `len` bytes as its source
-pub part_behind : (name n len : ℕ) (s t : Source) → len ≤ length (take n s.left) → t ≡ behind len s → part name (n - len) t ≡ behind len (part name n s)
-part_behind name n len s t within is =
+pub part_after : (name n len : ℕ) (s t : Source) → len ≤ length (take n s.left) → t ≡ after len s → part name (n - len) t ≡ after len (part name n s)
+part_after name n len s t within is =
     let sizes = length-take n s.left in
     let all : len ≤ length s.left = omega arith in
-    rw is (behind_is len (part name n s) (part name (n - len) (behind len s)) (part_front name n len s (omega arith) all) (length-take-le len s.left all))
+    rw is (after_is len (part name n s) (part name (n - len) (after len s)) (part_front name n len s (omega arith) all) (length-take-le len s.left all))

@@ -70,9 +70,9 @@ boxed_lengths h = filled_lengths (λ b m o. rw (h b m o) refl)
 -- ---- lists
 
 -- a step after a value that was read
-behind_lengths : {A : Type 0} (Passes : A → List ℕ → Type 0) (next : A → List ℕ → Result (List A) Fault) (r : Result (A × List ℕ) Fault) → IsOkAnd r (λ x. Passes x.0 x.1) → ((a : A) (rest : List ℕ) → Passes a rest → next a rest ≡ Err Length) → (r >>= λ x. next x.0 x.1 >>= with_first x.0) ≡ Err Length
-behind_lengths Passes next (Ok x) o met = rw (met x.0 x.1 o) refl
-behind_lengths Passes next (Err e) o met = absurd o
+after_lengths : {A : Type 0} (Passes : A → List ℕ → Type 0) (next : A → List ℕ → Result (List A) Fault) (r : Result (A × List ℕ) Fault) → IsOkAnd r (λ x. Passes x.0 x.1) → ((a : A) (rest : List ℕ) → Passes a rest → next a rest ≡ Err Length) → (r >>= λ x. next x.0 x.1 >>= with_first x.0) ≡ Err Length
+after_lengths Passes next (Ok x) o met = rw (met x.0 x.1 o) refl
+after_lengths Passes next (Err e) o met = absurd o
 
 module _ {A : Type 0} {item : Option A → Front A} {over : List ℕ → ℕ → Type 0} (lengths : (before : Option A) → AreLengths (item before) over) where
   within_lengths : (n k : ℕ) (before : Option A) (b : List ℕ) (m : ℕ) → OverrunsWithin item over n before b m → list_within item k before b ≡ Err Length
@@ -81,7 +81,7 @@ module _ {A : Type 0} {item : Option A → Front A} {over : List ℕ → ℕ →
   within_lengths zero k before (c ∷ b) m o = absurd o
   within_lengths (suc n) zero before (c ∷ b) m o = refl
   within_lengths (suc n) (suc k) before (c ∷ b) m (inl o) = rw (lengths before (c ∷ b) m o) refl
-  within_lengths (suc n) (suc k) before (c ∷ b) m (inr o) = behind_lengths (λ a rest. OverrunsWithin item over n (Some a) rest m) (λ a rest. list_within item k (Some a) rest) (item before (c ∷ b)) o (λ a rest w. within_lengths n k (Some a) rest m w)
+  within_lengths (suc n) (suc k) before (c ∷ b) m (inr o) = after_lengths (λ a rest. OverrunsWithin item over n (Some a) rest m) (λ a rest. list_within item k (Some a) rest) (item before (c ∷ b)) o (λ a rest w. within_lengths n k (Some a) rest m w)
 
   pub list_lengths : (b : List ℕ) (m : ℕ) → OverrunsList item over b m → list_whole item b ≡ Err Length
   list_lengths b m o = within_lengths o.0 (length b) None b m o.1

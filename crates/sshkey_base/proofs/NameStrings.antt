@@ -12,7 +12,7 @@ use Rattle.sshkey_base.specs.declared.encoding.Error.{Error}
 use Rattle.sshkey_base.specs.declared.short_bytes.ShortBytes.{ShortBytes}
 use Rattle.sshkey_base.specs.Answers.{Names}
 use Rattle.sshkey_base.specs.Causes.{Cause, NoMemory, Faulty, encoding_cause}
-use Rattle.sshkey_base.specs.Labels.{AsksNamed, LooksUp, NeedsBehind}
+use Rattle.sshkey_base.specs.Labels.{AsksNamed, LooksUp, NeedsAfter}
 use Rattle.sshkey_base.specs.NameBytes.{not_too_long, name_of, name_at, passed_at}
 use Rattle.sshkey_base.specs.Needs.{Asks}
 use Rattle.sshkey_base.specs.Reading.{Reads, Refuses, IsRefused, Gives}
@@ -154,17 +154,17 @@ module _ {N : Type 0} {IsNamed : N → Type 0} {name : N → List ℕ} {named : 
   }
 
 -- Where memory was refused for the value, the string of the name needs it.
-pub named_asked : (needs : List ℕ → ℕ → Type 0) (n : ℕ) (s t : Source) (b : List ℕ) (c : Cause) → Reads (λ x. x) (bytes_at n) s b t → (c ≡ NoMemory → (a rest : List ℕ) (m : ℕ) → string_at a ≡ Ok (b, rest) → needs a m) → c ≡ NoMemory → IsSound s → NeedsBehind needs n s.left s.missing
+pub named_asked : (needs : List ℕ → ℕ → Type 0) (n : ℕ) (s t : Source) (b : List ℕ) (c : Cause) → Reads (λ x. x) (bytes_at n) s b t → (c ≡ NoMemory → (a rest : List ℕ) (m : ℕ) → string_at a ≡ Ok (b, rest) → needs a m) → c ≡ NoMemory → IsSound s → NeedsAfter needs n s.left s.missing
 unfolding string_at
 named_asked needs n s t b c h asks memory sound a length = asks memory a t.left s.missing (rw (length, h.value) refl)
 
-pub named_asks : {X E : Type 0} (cause : E → Cause) (needs : List ℕ → ℕ → Type 0) (n : ℕ) (s t : Source) (b : List ℕ) (r : Result X E) → Reads (λ x. x) (bytes_at n) s b t → AsksNamed cause needs b r → Asks cause (NeedsBehind needs n) s r
+pub named_asks : {X E : Type 0} (cause : E → Cause) (needs : List ℕ → ℕ → Type 0) (n : ℕ) (s t : Source) (b : List ℕ) (r : Result X E) → Reads (λ x. x) (bytes_at n) s b t → AsksNamed cause needs b r → Asks cause (NeedsAfter needs n) s r
 named_asks cause needs n s t b (Ok x) h asks = tt
 named_asks cause needs n s t b (Err e) h asks = named_asked needs n s t b (cause e) h asks
 
-pub behind_asks : {X E : Type 0} (cause : E → Cause) (needs : List ℕ → ℕ → Type 0) (n : ℕ) (s t : Source) (r : Result X E) → Reads (λ k. k) (number_at w32) s n t → Asks cause (NeedsBehind needs n) t r → Asks cause needs s r
-behind_asks cause needs n s t (Ok x) h asks = tt
-behind_asks cause needs n s t (Err e) h asks = λ memory sound. rw (← h.missing) (asks memory (h.missing ∙ sound) s.left h.value)
+pub after_asks : {X E : Type 0} (cause : E → Cause) (needs : List ℕ → ℕ → Type 0) (n : ℕ) (s t : Source) (r : Result X E) → Reads (λ k. k) (number_at w32) s n t → Asks cause (NeedsAfter needs n) t r → Asks cause needs s r
+after_asks cause needs n s t (Ok x) h asks = tt
+after_asks cause needs n s t (Err e) h asks = λ memory sound. rw (← h.missing) (asks memory (h.missing ∙ sound) s.left h.value)
 
 -- what the bytes name
 pub named_gives : {X Y E : Type 0} (means : X → Y) (cause : E → Cause) (judge : Whole Y) (n : ℕ) (s t : Source) (b : List ℕ) (r : Result X E) → Reads (λ x. x) (bytes_at n) s b t → Names means cause (judge b) r → Gives means cause (checked_at judge (bytes_at n)) s r t
@@ -177,12 +177,12 @@ named_gives means cause judge n s t b (Err e) h l = record {
 
 -- ---- how they stop
 
-named_needed : (needs : List ℕ → ℕ → Type 0) (n : ℕ) (s t : Source) (b : List ℕ) → Reads (λ x. x) (bytes_at n) s b t → ((a rest : List ℕ) (m : ℕ) → string_at a ≡ Ok (b, rest) → needs a m) → NeedsBehind needs n s.left s.missing
+named_needed : (needs : List ℕ → ℕ → Type 0) (n : ℕ) (s t : Source) (b : List ℕ) → Reads (λ x. x) (bytes_at n) s b t → ((a rest : List ℕ) (m : ℕ) → string_at a ≡ Ok (b, rest) → needs a m) → NeedsAfter needs n s.left s.missing
 unfolding string_at
 named_needed needs n s t b h asks a length = asks a t.left s.missing (rw (length, h.value) refl)
 
 -- the bytes are there, and what they name is asked for
-pub named_stops : {X Y E : Type 0} (means : X → Y) (cause : E → Cause) (judge : Whole Y) (needs : List ℕ → ℕ → Type 0) (n : ℕ) (s t : Source) (b : List ℕ) (r : Result X E) → Reads (λ x. x) (bytes_at n) s b t → Names means cause (judge b) r → AsksNamed cause needs b r → StopsBy cause (checked_at judge (bytes_at n)) (NeedsBehind needs n) (OverrunsBytes n) s r
+pub named_stops : {X Y E : Type 0} (means : X → Y) (cause : E → Cause) (judge : Whole Y) (needs : List ℕ → ℕ → Type 0) (n : ℕ) (s t : Source) (b : List ℕ) (r : Result X E) → Reads (λ x. x) (bytes_at n) s b t → Names means cause (judge b) r → AsksNamed cause needs b r → StopsBy cause (checked_at judge (bytes_at n)) (NeedsAfter needs n) (OverrunsBytes n) s r
 named_stops means cause judge needs n s t b (Ok x) h l asks = tt
 named_stops means cause judge needs n s t b (Err e) h l asks = record {
   takes = λ ok.

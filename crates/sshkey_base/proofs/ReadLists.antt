@@ -91,17 +91,17 @@ module _ {A : Type 0} (item : Option A → Front A) (over : List ℕ → ℕ →
     pub overruns_more : StillOverruns s before t → Reads means read t x u → StillOverruns s (Some (means x)) u
     overruns_more still h o = next (still o).0 t.left refl (still o).1
       where
-        behind : (n : ℕ) (r : Result (A × List ℕ) Fault) → item before t.left ≡ r → IsOkAnd r (λ y. OverrunsWithin item over n (Some y.0) y.1 t.missing) → OverrunsWithin item over n (Some (means x)) u.left u.missing
-        behind n (Ok y) e w =
+        after : (n : ℕ) (r : Result (A × List ℕ) Fault) → item before t.left ≡ r → IsOkAnd r (λ y. OverrunsWithin item over n (Some y.0) y.1 t.missing) → OverrunsWithin item over n (Some (means x)) u.left u.missing
+        after n (Ok y) e w =
             let is : y ≡ (means x, u.left) = ok_is y (means x, u.left) (sym (same t.left y e) ∙ h.value) in
             rw h.missing (subst (λ (p : A × List ℕ). OverrunsWithin item over n (Some p.0) p.1 t.missing) is w)
-        behind n (Err f) e w = absurd w
+        after n (Err f) e w = absurd w
 
         next : (n : ℕ) (b : List ℕ) → b ≡ t.left → OverrunsWithin item over n before b t.missing → (k : ℕ) × OverrunsWithin item over k (Some (means x)) u.left u.missing
         next n [] is w = absurd w
         next zero (c ∷ b) is w = absurd w
         next (suc n) (c ∷ b) is (inl w) = let e = lengths (c ∷ b) t.missing w in let v = h.value in absurd (cc (is, e, v))
-        next (suc n) (c ∷ b) is (inr w) = (n, behind n (item before t.left) refl (rw is at w))
+        next (suc n) (c ∷ b) is (inr w) = (n, after n (item before t.left) refl (rw is at w))
 
 -- a value that has bytes leaves less
 pub leaves_less : {A : Type 0} {Is : A → Type 0} {spell : A → Parts} {read : Front A} → ReadsFront Is spell read → ((x : A) → 0 < length (flat (spell x))) → (b : List ℕ) (x : A) (rest : List ℕ) → read b ≡ Ok (x, rest) → length rest < length b

@@ -68,14 +68,14 @@ string_stood {X} means s t x h = go (number_at w32 s.left) h.value
         ]
 
 -- the bytes of a string, judged after its length
-pub behind_length : {B X E : Type 0} (means : X → B) (cause : E → Cause) (judge : List ℕ → Result B Fault) (n : ℕ) (s t u : Source) (r : Result X E) → Reads (λ k. k) (number_at w32) s n t → Gives means cause (checked_at judge (bytes_at n)) t r u → Gives means cause (checked_at judge string_at) s r u
+pub after_length : {B X E : Type 0} (means : X → B) (cause : E → Cause) (judge : List ℕ → Result B Fault) (n : ℕ) (s t u : Source) (r : Result X E) → Reads (λ k. k) (number_at w32) s n t → Gives means cause (checked_at judge (bytes_at n)) t r u → Gives means cause (checked_at judge string_at) s r u
 unfolding string_at
-behind_length means cause judge n s t u (Ok x) h k = record { value = rw h.value k.value; missing = k.missing ∙ h.missing; outer = k.outer ∙ h.outer }
-behind_length means cause judge n s t u (Err e) h k = rw (h.value, ← h.missing) k
+after_length means cause judge n s t u (Ok x) h k = record { value = rw h.value k.value; missing = k.missing ∙ h.missing; outer = k.outer ∙ h.outer }
+after_length means cause judge n s t u (Err e) h k = rw (h.value, ← h.missing) k
 
-pub behind_refused : {B : Type 0} (judge : List ℕ → Result B Fault) (n : ℕ) (s t : Source) (c : Cause) → Reads (λ k. k) (number_at w32) s n t → IsRefused t.missing c (checked_at judge (bytes_at n) t.left) → IsRefused s.missing c (checked_at judge string_at s.left)
+pub after_refused : {B : Type 0} (judge : List ℕ → Result B Fault) (n : ℕ) (s t : Source) (c : Cause) → Reads (λ k. k) (number_at w32) s n t → IsRefused t.missing c (checked_at judge (bytes_at n) t.left) → IsRefused s.missing c (checked_at judge string_at s.left)
 unfolding string_at
-behind_refused judge n s t c h k = rw (h.value, ← h.missing) k
+after_refused judge n s t c h k = rw (h.value, ← h.missing) k
 
 -- a string without its length
 pub length_refused : {B : Type 0} (judge : List ℕ → Result B Fault) (m : ℕ) (c : Cause) (b : List ℕ) → Refuses m c (number_at w32 b) → IsRefused m c (checked_at judge string_at b)

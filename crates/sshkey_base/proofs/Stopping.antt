@@ -7,7 +7,7 @@ use Rattle.sshkey_base.specs.Causes.{Cause, Faulty}
 use Rattle.sshkey_base.specs.Source.{Source, announced_len}
 use Rattle.sshkey_base.specs.Needs.{NeedsString, NeedsBytes}
 use Rattle.sshkey_base.specs.Reading.{Reads, Refuses, GivesAlways}
-use Rattle.sshkey_base.specs.Labels.{NeedsBehind}
+use Rattle.sshkey_base.specs.Labels.{NeedsAfter}
 use Rattle.sshkey_base.proofs.Lengths.{string_lengths}
 use Rattle.sshkey_base.specs.Stops.{NoOverrun, OverrunsString, OverrunsBytes, AreLengths, RanOut, Stopped, StopsBy}
 
@@ -70,9 +70,9 @@ passes n s t h o = rw (h.value, ← h.missing) at o
 
 -- its bytes are refused
 module _ (c : Cause) (n : ℕ) (s t : Source) (h : Reads (λ k. k) (number_at w32) s n t) where
-  behind_stopped : Stopped c (bytes_at n) (NeedsBytes n) (OverrunsBytes n) t → Stopped c string_at NeedsString OverrunsString s
+  after_stopped : Stopped c (bytes_at n) (NeedsBytes n) (OverrunsBytes n) t → Stopped c string_at NeedsString OverrunsString s
   unfolding string_at
-  behind_stopped k = record {
+  after_stopped k = record {
     takes = λ ok. more (k.takes (rw h.value at ok));
     past = λ o. elim (k.past (passes n s t h o)) [
       | inl is ↦ inl is
@@ -84,9 +84,9 @@ module _ (c : Cause) (n : ℕ) (s t : Source) (h : Reads (λ k. k) (number_at w3
       more m = record { memory = m.memory; needed = rw (h.value, ← h.missing) m.needed }
 
   -- the same of bytes that are judged
-  pub behind_judged_stopped : {B : Type 0} (judge : List ℕ → Result B Fault) (needs : List ℕ → ℕ → Type 0) → Stopped c (checked_at judge (bytes_at n)) (NeedsBehind needs n) (OverrunsBytes n) t → Stopped c (checked_at judge string_at) needs OverrunsString s
+  pub after_judged_stopped : {B : Type 0} (judge : List ℕ → Result B Fault) (needs : List ℕ → ℕ → Type 0) → Stopped c (checked_at judge (bytes_at n)) (NeedsAfter needs n) (OverrunsBytes n) t → Stopped c (checked_at judge string_at) needs OverrunsString s
   unfolding string_at
-  behind_judged_stopped judge needs k = record {
+  after_judged_stopped judge needs k = record {
     takes = λ ok. more (k.takes (rw h.value at ok));
     past = λ o. elim (k.past (passes n s t h o)) [
       | inl is ↦ inl is
@@ -94,16 +94,16 @@ module _ (c : Cause) (n : ℕ) (s t : Source) (h : Reads (λ k. k) (number_at w3
     ];
   }
     where
-      more : RanOut c (NeedsBehind needs n) t → RanOut c needs s
+      more : RanOut c (NeedsAfter needs n) t → RanOut c needs s
       more m = record { memory = m.memory; needed = rw (← h.missing) (m.needed s.left h.value) }
 
-pub behind_stops : {X E : Type 0} (cause : E → Cause) (n : ℕ) (s t : Source) (r : Result X E) → Reads (λ k. k) (number_at w32) s n t → StopsBy cause (bytes_at n) (NeedsBytes n) (OverrunsBytes n) t r → StopsBy cause string_at NeedsString OverrunsString s r
-behind_stops cause n s t (Ok x) h k = tt
-behind_stops cause n s t (Err e) h k = behind_stopped (cause e) n s t h k
+pub after_stops : {X E : Type 0} (cause : E → Cause) (n : ℕ) (s t : Source) (r : Result X E) → Reads (λ k. k) (number_at w32) s n t → StopsBy cause (bytes_at n) (NeedsBytes n) (OverrunsBytes n) t r → StopsBy cause string_at NeedsString OverrunsString s r
+after_stops cause n s t (Ok x) h k = tt
+after_stops cause n s t (Err e) h k = after_stopped (cause e) n s t h k
 
-pub behind_judged_stops : {B X E : Type 0} (cause : E → Cause) (judge : List ℕ → Result B Fault) (needs : List ℕ → ℕ → Type 0) (n : ℕ) (s t : Source) (r : Result X E) → Reads (λ k. k) (number_at w32) s n t → StopsBy cause (checked_at judge (bytes_at n)) (NeedsBehind needs n) (OverrunsBytes n) t r → StopsBy cause (checked_at judge string_at) needs OverrunsString s r
-behind_judged_stops cause judge needs n s t (Ok x) h k = tt
-behind_judged_stops cause judge needs n s t (Err e) h k = behind_judged_stopped (cause e) n s t h judge needs k
+pub after_judged_stops : {B X E : Type 0} (cause : E → Cause) (judge : List ℕ → Result B Fault) (needs : List ℕ → ℕ → Type 0) (n : ℕ) (s t : Source) (r : Result X E) → Reads (λ k. k) (number_at w32) s n t → StopsBy cause (checked_at judge (bytes_at n)) (NeedsAfter needs n) (OverrunsBytes n) t r → StopsBy cause (checked_at judge string_at) needs OverrunsString s r
+after_judged_stops cause judge needs n s t (Ok x) h k = tt
+after_judged_stops cause judge needs n s t (Err e) h k = after_judged_stopped (cause e) n s t h judge needs k
 
 pub judged_length_stopped : {B : Type 0} (c : Cause) (judge : List ℕ → Result B Fault) (needs : List ℕ → ℕ → Type 0) (s : Source) → Refuses s.missing c (number_at w32 s.left) → Stopped c (checked_at judge string_at) needs OverrunsString s
 judged_length_stopped c judge needs s h = checked_stopped c string_at judge needs OverrunsString s (length_stopped c needs s h)

@@ -23,8 +23,8 @@ AsksNamed cause needs name (Ok x) = Unit {0}
 AsksNamed cause needs name (Err e) = cause e ≡ NoMemory → (b rest : List ℕ) (m : ℕ) → string_at b ≡ Ok (name, rest) → needs b m
 
 -- Where what follows a length of n needs memory.
-abbrev pub NeedsBehind : (List ℕ → ℕ → Type 0) → ℕ → List ℕ → ℕ → Type 0
-NeedsBehind needs n b m = (a : List ℕ) → number_at w32 a ≡ Ok (n, b) → needs a m
+abbrev pub NeedsAfter : (List ℕ → ℕ → Type 0) → ℕ → List ℕ → ℕ → Type 0
+NeedsAfter needs n b m = (a : List ℕ) → number_at w32 a ≡ Ok (n, b) → needs a m
 
 -- a string that is looked up
 unfoldable pub label_at : {N : Type 0} → Whole N → Front N

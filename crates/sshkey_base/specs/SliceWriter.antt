@@ -8,5 +8,5 @@ abbrev pub slice_sink : SliceWriter → Sink
 slice_sink w = record { written = take w.len w.slice.now; limit = Some (length w.slice.now) }
 
 -- What follows all that is written now is what stood there before.
-abbrev pub KeepsBehind : SliceWriter → SliceWriter → Type 0
-KeepsBehind before w = drop w.len w.slice.now ≡ drop w.len before.slice.now
+abbrev pub KeepsAfter : SliceWriter → SliceWriter → Type 0
+KeepsAfter before w = drop w.len w.slice.now ≡ drop w.len before.slice.now

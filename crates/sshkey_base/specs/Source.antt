@@ -50,8 +50,8 @@ pub record Later (s t : Source) : Type 0 where
   pub outer : t.outer ≡ s.outer
 
 -- The source after its next `n` bytes.
-abbrev pub behind : ℕ → Source → Source
-behind n s = record { left = drop n s.left; missing = s.missing; outer = s.outer }
+abbrev pub after : ℕ → Source → Source
+after n s = record { left = drop n s.left; missing = s.missing; outer = s.outer }
 
 -- a call that takes as many bytes as it is given
 abbrev pub Takes : Source → List ℕ → Result (Unit {0}) Error → Source → Type 0

@@ -12,7 +12,7 @@ ghost use Rattle.sshkey_base.specs.Formats.{label_format};
 ghost use Rattle.sshkey_base.specs.Reading.{Decodes};
 ghost use Rattle.sshkey_base.specs.Source.{Later};
 ghost use Rattle.sshkey_base.specs.Stops.{OverrunsBytes, OverrunsString, StopsBy};
-ghost use Rattle.sshkey_base.specs.Labels.{AsksNamed, LooksUp, NeedsBehind, label_at};
+ghost use Rattle.sshkey_base.specs.Labels.{AsksNamed, LooksUp, NeedsAfter, label_at};
 
 use crate::decode::Decode;
 use crate::encode::{Encode, encode_string, string_len};
@@ -101,9 +101,9 @@ fn name_from<T: Label, R: Reader>(alloc: Global, len: usize, reader: &mut R) -> 
     ensures gives { Decodes T.stands_for (checked_at T.named (bytes_at len))
         R.source reader.old result reader.new }
     ensures later { Later (R.source reader.old) (R.source reader.new) }
-    ensures asks { Asks encoding_cause (NeedsBehind T.needs len) (R.source reader.old) result }
+    ensures asks { Asks encoding_cause (NeedsAfter T.needs len) (R.source reader.old) result }
     ensures past { StopsBy encoding_cause (checked_at T.named (bytes_at len))
-        (NeedsBehind T.needs len) (OverrunsBytes len) (R.source reader.old) result }
+        (NeedsAfter T.needs len) (OverrunsBytes len) (R.source reader.old) result }
 {
     T::lawful_names();
     if let Some(name) = reader.ahead(len) {

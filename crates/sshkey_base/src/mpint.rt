@@ -163,8 +163,8 @@ fn without_leading_zeros(bytes: &[u8]) -> &[u8]
     ensures first { 0 < length result.now → 0 < slice_index result.now 0 }
 {
     let mut rest = bytes;
-    while let [0, behind @ ..] = rest {
-        rest = behind;
+    while let [0, after @ ..] = rest {
+        rest = after;
     }
     rest
 }

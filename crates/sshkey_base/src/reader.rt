@@ -5,7 +5,7 @@ ghost use Rattle.std.specs.Int.{w32};
 ghost use Rattle.sshkey_model.specs.Reading.{bytes_at, number_at};
 ghost use Rattle.sshkey_base.specs.Nested.{PassesBy, Prefixed, PastIs, nested_source};
 ghost use Rattle.sshkey_base.specs.Reading.{DecodesAlways, Reads};
-ghost use Rattle.sshkey_base.specs.Source.{Source, Later, Takes, all_of, behind, announced_len};
+ghost use Rattle.sshkey_base.specs.Source.{Source, Later, Takes, all_of, after, announced_len};
 
 use crate::encoding::{Error, Result};
 use std::fmt;
@@ -31,7 +31,7 @@ pub trait Reader: Sized {
     /// reader that does not hold its bytes. That a reader lends any is promised of a slice alone.
     fn ahead(&self, len: usize) -> Option<&[u8]>
         ensures lent { IfSome result (λ bytes. Reads (λ x. x) (bytes_at len)
-            (source self.now) bytes.now (behind len (source self.now))) }
+            (source self.now) bytes.now (after len (source self.now))) }
         ensures within { IfSome result (λ _. len ≤ length (source self.now).left) }
     {
         let _ = len;
@@ -41,7 +41,7 @@ pub trait Reader: Sized {
     /// Skips the next `len` bytes; at least that many have to be left.
     fn skip(&mut self, len: usize)
         requires { len ≤ length (source self.old).left }
-        ensures { source self.new ≡ behind len (source self.old) }
+        ensures { source self.new ≡ after len (source self.old) }
     {
         let mut rest = len;
         'passes: while rest > 0 {
@@ -140,7 +140,7 @@ impl Reader for &[u8] {
     #[inline(always)]
     fn ahead(&self, len: usize) -> Option<&[u8]>
         ensures lent { IfSome result (λ bytes. Reads (λ x. x) (bytes_at len)
-            (all_of self.now.now) bytes.now (behind len (all_of self.now.now))) }
+            (all_of self.now.now) bytes.now (after len (all_of self.now.now))) }
         ensures within { IfSome result (λ _. len ≤ length self.now.now) }
         ensures lends { len ≤ length self.now.now → IsSome result }
     {
@@ -163,7 +163,7 @@ impl Reader for &[u8] {
 #[inline(always)]
 fn first(bytes: &[u8], len: usize) -> Option<&[u8]>
     ensures lent { IfSome result (λ front. Reads (λ x. x) (bytes_at len)
-        (all_of bytes.now) front.now (behind len (all_of bytes.now))) }
+        (all_of bytes.now) front.now (after len (all_of bytes.now))) }
     ensures within { IfSome result (λ _. len ≤ length bytes.now) }
     ensures lends { len ≤ length bytes.now → IsSome result }
 {

@@ -7,7 +7,7 @@ ghost use Rattle.sshkey_base.specs.Formats.{Stops, short_format};
 ghost use Rattle.sshkey_base.specs.Needs.{Asks, NoNeed};
 ghost use Rattle.sshkey_base.specs.Reading.{Decodes, DecodesAlways, GivesAlways, Reads};
 ghost use Rattle.sshkey_base.specs.ShortStrings.{at_most, short_at};
-ghost use Rattle.sshkey_base.specs.Source.{Later, behind, announced_len};
+ghost use Rattle.sshkey_base.specs.Source.{Later, after, announced_len};
 
 use crate::decode::Decode;
 use crate::encoding::{Error, Result};
@@ -39,7 +39,7 @@ impl<const MAX: usize> ShortBytes<MAX> {
     pub fn ahead<R: Reader>(len: usize, reader: &R) -> Option<&[u8]>
         ensures lent { IfSome result (λ bytes. Reads (λ x. x)
             (checked_at (at_most MAX) (bytes_at len)) (R.source reader.now)
-            bytes.now (behind len (R.source reader.now))) }
+            bytes.now (after len (R.source reader.now))) }
         ensures within { IfSome result (λ _. len ≤ length (R.source reader.now).left) }
     {
         if len > MAX {

@@ -82,7 +82,7 @@ impl fmt::Debug for SliceWriter<'_> {
 /// bytes after what is written are as they were in any case.
 #[tactic(auto, using(crate::proofs::Writing::wrote_none))]
 impl Writer for SliceWriter<'_> {
-    ghost use Rattle.sshkey_base.specs.SliceWriter.{slice_sink, KeepsBehind};
+    ghost use Rattle.sshkey_base.specs.SliceWriter.{slice_sink, KeepsAfter};
 
     ghost sink = { slice_sink };
 
@@ -94,7 +94,7 @@ impl Writer for SliceWriter<'_> {
         ensures unwritten { IfErr result (λ _. slice_sink self.new ≡ slice_sink self.old) }
         ensures same_reference { self.new.slice.ghost_name ≡ self.old.slice.ghost_name }
         ensures unchanged { OnErr result (self.new.slice.now ≡ self.old.slice.now) }
-        ensures behind { KeepsBehind self.old self.new }
+        ensures after { KeepsAfter self.old self.new }
     {
         let slice = &mut *self.slice;
         let len = self.len;

@@ -70,8 +70,8 @@ first_here a ns some = go (a == 0) refl
     go true e = absurd (let none = eqb-true a 0 e in omega (arith, some, none))
     go false e = refl
 
-pub first_behind : (a : ℕ) (ns : List ℕ) → a ≡ 0 → first_number (a ∷ ns) ≡ first_number ns
-first_behind a ns none = rw none refl
+pub first_after : (a : ℕ) (ns : List ℕ) → a ≡ 0 → first_number (a ∷ ns) ≡ first_number ns
+first_after a ns none = rw none refl
 
 first_alone : (a : ℕ) → first_number (a ∷ []) ≡ a
 first_alone a = go (a == 0) refl
@@ -81,7 +81,7 @@ first_alone a = go (a == 0) refl
     go false e = refl
 
 pub first_two : (a b : ℕ) → a ≡ 0 → first_number (a ∷ b ∷ []) ≡ b
-first_two a b none = first_behind a (b ∷ []) none ∙ first_alone b
+first_two a b none = first_after a (b ∷ []) none ∙ first_alone b
 
 -- one that is told of two is told of three
 pub first_three : (a b c n : ℕ) → 2 < n → n ≡ first_number (a ∷ b ∷ []) → n ≡ first_number (a ∷ b ∷ c ∷ [])
@@ -90,7 +90,7 @@ first_three a b c n big is = elim (cases_lt 0 a) [
   | inr most ↦
       let none : a ≡ 0 = omega (arith, most) in
       let second : n ≡ b = is ∙ first_two a b none in
-      second ∙ sym (first_behind a (b ∷ c ∷ []) none ∙ first_here b (c ∷ []) (omega (arith, big, second)))
+      second ∙ sym (first_after a (b ∷ c ∷ []) none ∙ first_here b (c ∷ []) (omega (arith, big, second)))
 ]
 
 -- the third is told where the first two are none
@@ -100,7 +100,7 @@ last_three a b c none last = elim (cases_lt 0 a) [
   | inr most ↦
       let first : a ≡ 0 = omega (arith, most) in
       let second : b ≡ 0 = sym (first_two a b first) ∙ none in
-      first_behind a (b ∷ c ∷ []) first ∙ first_behind b (c ∷ []) second ∙ first_here c [] last
+      first_after a (b ∷ c ∷ []) first ∙ first_after b (c ∷ []) second ∙ first_here c [] last
 ]
 
 -- ---- of one part

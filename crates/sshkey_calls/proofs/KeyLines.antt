@@ -21,13 +21,13 @@ use Rattle.sshkey_calls.specs.declared.line.Line.{Line}
 
 -- A blob, and a comment that was added after it.
 pub laid : (kind : ℕ) (blob comment before content : List ℕ) (line : Line) → before ≡ blob → content ≡ before ++ comment → line.kind ≡ kind → line.blob.start ≡ 0 → line.blob.length ≡ length before → line.comment.start ≡ length before → line.comment.length ≡ length comment → line.length ≡ length content → IsLaidOut line_bytes ArePlaced (content_of kind blob comment) content line
-laid kind blob comment before content line is added same at_front blob_length behind comment_length all =
+laid kind blob comment before content line is added same at_front blob_length after comment_length all =
     let content_is : content ≡ blob ++ comment = added ∙ ap (λ (x : List ℕ). x ++ comment) is in (
       content_is,
       record {
         kind = same;
         blob = (at_front, blob_length ∙ ap length is);
-        comment = (behind ∙ ap length is, comment_length);
+        comment = (after ∙ ap length is, comment_length);
         length = all ∙ ap length content_is;
       },
     )

@@ -28,5 +28,5 @@ module _ (s : List ℕ) (some : length s ≢ 0) where
   pub no_string : NoFront SpellsString s → (v : List ℕ) (n : Nesting) → HasNesting v n → Fits (option_value v n) → s ≡ flat (option_value v n) → ⊥
   no_string none v n place fits e = none v s [] (is_string v n fits e) (sym (append-nil s))
 
-  pub more_behind : (value rest : List ℕ) → IsSplit (SpellsString value) s rest → length rest ≢ 0 → (v : List ℕ) (n : Nesting) → HasNesting v n → Fits (option_value v n) → s ≡ flat (option_value v n) → ⊥
-  more_behind value rest split more v n place fits e = more (ap length (one_front string_grammar value v split.front s rest [] split.spelled (is_string v n fits e) (sym split.all ∙ sym (append-nil s))).2)
+  pub more_after : (value rest : List ℕ) → IsSplit (SpellsString value) s rest → length rest ≢ 0 → (v : List ℕ) (n : Nesting) → HasNesting v n → Fits (option_value v n) → s ≡ flat (option_value v n) → ⊥
+  more_after value rest split more v n place fits e = more (ap length (one_front string_grammar value v split.front s rest [] split.spelled (is_string v n fits e) (sym split.all ∙ sym (append-nil s))).2)

@@ -55,8 +55,8 @@ module _ (name value b rest : List ℕ) (h : BeginsWithOption name value b rest)
   pub one_name : (n left : List ℕ) → IsSplit (SpellsString n) b left → left ≡ flat (value_box value h.nesting) ++ rest
   one_name n left split = (one_front string_grammar n name split.front (flat (string name)) left (flat (value_box value h.nesting) ++ rest) split.spelled name_string (sym split.all ∙ strings_are)).2
 
-  pub one_value : (n left s behind : List ℕ) → IsSplit (SpellsString n) b left → IsSplit (SpellsString s) left behind → s ≡ flat (option_value value h.nesting)
-  one_value n left s behind split next = (one_front string_grammar s (flat (option_value value h.nesting)) next.front (flat (value_box value h.nesting)) behind rest next.spelled value_string (sym next.all ∙ one_name n left split)).0
+  pub one_value : (n left s after : List ℕ) → IsSplit (SpellsString n) b left → IsSplit (SpellsString s) left after → s ≡ flat (option_value value h.nesting)
+  one_value n left s after split next = (one_front string_grammar s (flat (option_value value h.nesting)) next.front (flat (value_box value h.nesting)) after rest next.spelled value_string (sym next.all ∙ one_name n left split)).0
 
 -- ---- where none begins
 
@@ -67,13 +67,13 @@ module _ (b : List ℕ) where
   pub no_value : (n left : List ℕ) → IsSplit (SpellsString n) b left → NoFront SpellsString left → (name value rest : List ℕ) → BeginsWithOption name value b rest → ⊥
   no_value n left split none name value rest h = none (flat (option_value value h.nesting)) (flat (value_box value h.nesting)) rest (value_string name value b rest h) (one_name name value b rest h n left split)
 
-  pub other_value : (n left s behind : List ℕ) → IsSplit (SpellsString n) b left → IsSplit (SpellsString s) left behind → ((v : List ℕ) (nesting : Nesting) → HasNesting v nesting → Fits (option_value v nesting) → s ≡ flat (option_value v nesting) → ⊥) → (name value rest : List ℕ) → BeginsWithOption name value b rest → ⊥
-  other_value n left s behind split next none name value rest h = none value h.nesting h.place (value_fits name value b rest h) (one_value name value b rest h n left s behind split next)
+  pub other_value : (n left s after : List ℕ) → IsSplit (SpellsString n) b left → IsSplit (SpellsString s) left after → ((v : List ℕ) (nesting : Nesting) → HasNesting v nesting → Fits (option_value v nesting) → s ≡ flat (option_value v nesting) → ⊥) → (name value rest : List ℕ) → BeginsWithOption name value b rest → ⊥
+  other_value n left s after split next none name value rest h = none value h.nesting h.place (value_fits name value b rest h) (one_value name value b rest h n left s after split next)
 
   -- there it does
-  pub begins : (name left s value behind : List ℕ) → IsSplit (SpellsString name) b left → IsSplit (SpellsString s) left behind → (nesting : Nesting) × HasNesting value nesting × Fits (option_value value nesting) × (s ≡ flat (option_value value nesting)) → BeginsWithOption name value b behind
+  pub begins : (name left s value after : List ℕ) → IsSplit (SpellsString name) b left → IsSplit (SpellsString s) left after → (nesting : Nesting) × HasNesting value nesting × Fits (option_value value nesting) × (s ≡ flat (option_value value nesting)) → BeginsWithOption name value b after
   unfolding flat InRange Rattle.sshkey_model.specs.Parts.BoxesFit
-  begins name left s value behind split next found =
+  begins name left s value after split next found =
       let inside = found.3 in
       record {
         nesting = found.0;
@@ -82,5 +82,5 @@ module _ (b : List ℕ) where
           range = (split.spelled.fits.range, found.2.range);
           boxes = (split.spelled.fits.boxes, (subst (λ (x : List ℕ). length x < 2 ^ 32) inside next.spelled.fits.boxes.0, found.2.boxes));
         };
-        all = split.all ∙ ap (λ (x : List ℕ). split.front ++ x) next.all ∙ rw (split.spelled.shape, next.spelled.shape, inside) (sym (append_assoc (flat (string name)) (flat (box (option_value value found.0))) behind));
+        all = split.all ∙ ap (λ (x : List ℕ). split.front ++ x) next.all ∙ rw (split.spelled.shape, next.spelled.shape, inside) (sym (append_assoc (flat (string name)) (flat (box (option_value value found.0))) after));
       }

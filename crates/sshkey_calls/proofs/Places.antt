@@ -42,18 +42,18 @@ module _ (c : Certificate) (s : CertificateChoices) where
   abbrev authority : List ℕ
   authority = flat (key c.signed.signature_key s.signature_key)
 
-  abbrev behind_window : List ℕ
-  behind_window = flat (string critical_options) ++ (flat (string extensions) ++ (flat (string c.signed.reserved) ++ (flat (string authority) ++ flat (string (flat (signature c.signature))))))
+  abbrev after_window : List ℕ
+  after_window = flat (string critical_options) ++ (flat (string extensions) ++ (flat (string c.signed.reserved) ++ (flat (string authority) ++ flat (string (flat (signature c.signature))))))
 
-  joined : flat (certificate c s) ≡ flat (beginning c) ++ (flat (string c.signed.key_id) ++ (flat (string principals) ++ (window ++ behind_window)))
+  joined : flat (certificate c s) ≡ flat (beginning c) ++ (flat (string c.signed.key_id) ++ (flat (string principals) ++ (window ++ after_window)))
   unfolding flat
   joined = regroup (flat (certificate_algorithm (key_algorithm c.signed.key))) (flat (string c.signed.nonce)) (flat (body c.signed.key)) (flat (number w64 c.signed.serial)) (flat (certificate_type c.signed.certificate_type)) (flat (string c.signed.key_id)) (flat (string principals)) (flat (number w64 c.signed.valid_after)) (flat (number w64 c.signed.valid_before)) (flat (string critical_options)) (flat (string extensions)) (flat (string c.signed.reserved)) (flat (string authority)) (flat (string (flat (signature c.signature))))
 
-  past_window : (b : List ℕ) (n : ℕ) → drop n b ≡ window ++ behind_window → drop (n + 16) b ≡ behind_window
+  past_window : (b : List ℕ) (n : ℕ) → drop n b ≡ window ++ after_window → drop (n + 16) b ≡ after_window
   unfolding flat
   past_window b n is =
       let sixteen : length window ≡ 16 = omega (arith, length-append (to_be_bytes w64 c.signed.valid_after) (to_be_bytes w64 c.signed.valid_before), wide64.len c.signed.valid_after, wide64.len c.signed.valid_before) in
-      sym (drop-drop 16 n b) ∙ ap (drop 16) is ∙ subst (λ (k : ℕ). drop k (window ++ behind_window) ≡ behind_window) sixteen (drop-append_seam window behind_window)
+      sym (drop-drop 16 n b) ∙ ap (drop 16) is ∙ subst (λ (k : ℕ). drop k (window ++ after_window) ≡ after_window) sixteen (drop-append_seam window after_window)
 
   abbrev pub parts : CertificateParts
   parts =
@@ -68,11 +68,11 @@ module _ (c : Certificate) (s : CertificateChoices) where
   stand b is texts critical others key =
       let f = flat (beginning c) in
       let key_id_is = string_stands b c.signed.key_id _ (length f) (ap (drop (length f)) (is ∙ joined) ∙ drop-append_seam f _) in
-      let texts_are = string_stands b principals _ _ key_id_is.behind in
-      let critical_are = string_stands b critical_options _ _ (past_window b _ texts_are.behind) in
-      let others_are = string_stands b extensions _ _ critical_are.behind in
-      let reserved_is = string_stands b c.signed.reserved _ _ others_are.behind in
-      let key_is = string_stands b authority _ _ reserved_is.behind in (
+      let texts_are = string_stands b principals _ _ key_id_is.after in
+      let critical_are = string_stands b critical_options _ _ (past_window b _ texts_are.after) in
+      let others_are = string_stands b extensions _ _ critical_are.after in
+      let reserved_is = string_stands b c.signed.reserved _ _ others_are.after in
+      let key_is = string_stands b authority _ _ reserved_is.after in (
         record {
           key_id = key_id_is.content;
           principals = rw texts_are.content texts;
@@ -82,7 +82,7 @@ module _ (c : Certificate) (s : CertificateChoices) where
           placed = record { key_id = refl; principals = refl; critical_options = refl; extensions = refl; authority = refl };
           within = (key_id_is.within, texts_are.within, critical_are.within, others_are.within, key_is.within);
         },
-        omega (arith, key_is.within, ap length key_is.behind, length-drop (part_end parts.authority) b, string_length (flat (signature c.signature))),
+        omega (arith, key_is.within, ap length key_is.after, length-drop (part_end parts.authority) b, string_length (flat (signature c.signature))),
       )
 
 pub same_part : (p q : Part) → p.start ≡ q.start → p.length ≡ q.length → p ≡ q

@@ -17,7 +17,7 @@ use Rattle.sshkey_calls.specs.declared.part.Part.{Part}
 -- The part has these bytes, and the rest follows it.
 pub record Stands (b s rest : List ℕ) (part : Part) : Type 0 where
   pub content : bytes_of part b ≡ s
-  pub behind : drop (part.start + part.length) b ≡ rest
+  pub after : drop (part.start + part.length) b ≡ rest
   pub within : IsPartOf part b
 
 pub stands : (b x s rest : List ℕ) (n : ℕ) → n ≤ length b → drop n b ≡ x ++ (s ++ rest) → Stands b s rest (record { start = n + length x; length = length s })
@@ -25,7 +25,7 @@ stands b x s rest n most is =
     let there : drop (n + length x) b ≡ s ++ rest = sym (drop-drop (length x) n b) ∙ ap (drop (length x)) is ∙ drop-append_seam x (s ++ rest) in
     record {
       content = ap (take (length s)) there ∙ take-append_seam s rest;
-      behind = sym (drop-drop (length s) (n + length x) b) ∙ ap (drop (length s)) there ∙ drop-append_seam s rest;
+      after = sym (drop-drop (length s) (n + length x) b) ∙ ap (drop (length s)) there ∙ drop-append_seam s rest;
       within = omega (arith, most, ap length is, length-drop n b, length-append x (s ++ rest), length-append s rest);
     }
 
@@ -42,8 +42,8 @@ empty : (x : List ℕ × List ℕ) → string_at [] ≢ Ok x
 unfolding string_at number_at bytes_at
 empty x e = cc e
 
-nothing_behind : (b : List ℕ) (place : ℕ) → length b ≤ place → (x : List ℕ × List ℕ) → string_at (drop place b) ≢ Ok x
-nothing_behind b place h x e = empty x (subst (λ (l : List ℕ). string_at l ≡ Ok x) (drop_of_length-le b h) e)
+nothing_after : (b : List ℕ) (place : ℕ) → length b ≤ place → (x : List ℕ × List ℕ) → string_at (drop place b) ≢ Ok x
+nothing_after b place h x e = empty x (subst (λ (l : List ℕ). string_at l ≡ Ok x) (drop_of_length-le b h) e)
 
 -- the slice from a place on
 pub whole_slice : (b : List ℕ) (place : ℕ) → take (length b - place) (drop place b) ≡ drop place b
@@ -55,10 +55,10 @@ pub finds : (b s rest : List ℕ) (place : ℕ) (was : Part) → drop place b �
 finds b s rest place was all is =
     let there = string_stands b s rest place all in
     record {
-      found = λ _. rw (there.content, there.behind) is;
+      found = λ _. rw (there.content, there.after) is;
       within = λ _. there.within;
       last = λ e. absurd (cc e);
-      at_end = λ e. absurd (nothing_behind b place (omega (arith, e)) (s, rest) is);
+      at_end = λ e. absurd (nothing_after b place (omega (arith, e)) (s, rest) is);
       none = λ some _ _. some refl;
       others = λ some _. absurd (some refl);
       stays = λ some. absurd (some refl);
@@ -73,7 +73,7 @@ module _ (b : List ℕ) (place : ℕ) (answer : Part) where
     within = λ z. absurd (some z);
     last = end_.0;
     at_end = end_.1;
-    none = λ _. nothing_behind b place past;
+    none = λ _. nothing_after b place past;
     others = λ _. others;
     stays = λ _. refl;
   }

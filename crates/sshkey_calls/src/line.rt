@@ -158,12 +158,12 @@ fn lay_out(alloc: Global, text: &str, comment: &str, kind: u32) -> Result<(Vec<u
 }
 
 /// The blob of a line, in memory that has room for that many bytes after it.
-fn blob_in(alloc: Global, text: &str, behind: usize) -> Result<Vec<u8>>
+fn blob_in(alloc: Global, text: &str, after: usize) -> Result<Vec<u8>>
     ensures { (first blob comment : List ℕ) → IsLine text.now first blob comment → IsBytes blob
         → IfOk result (λ read. read.items ≡ blob) }
 {
     let word = base64_word(text).as_bytes();
-    let capacity = decoded_len_estimate(word.len()).saturating_add(behind);
+    let capacity = decoded_len_estimate(word.len()).saturating_add(after);
     let mut blob = Vec::with_capacity(alloc, capacity)?;
     match STANDARD.decode_vec(word, &mut blob) {
         Ok(()) => Ok(blob),

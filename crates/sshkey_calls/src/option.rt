@@ -36,8 +36,8 @@ pub fn next_option(bytes: &[u8], place: usize, answer: &mut OptionParts) -> u32
         return LENGTH;
     }
     match split_option(&bytes[place..]) {
-        Some((name, value, behind)) => {
-            let next = bytes.len() - behind.len();
+        Some((name, value, after)) => {
+            let next = bytes.len() - after.len();
             *answer = OptionParts {
                 name: Part {
                     start: place + 4,
@@ -65,11 +65,11 @@ fn split_option(bytes: &[u8]) -> Option<(&[u8], &[u8], &[u8])>
     let Ok((name, rest)) = split_string(bytes) else {
         return None;
     };
-    let Ok((string, behind)) = split_string(rest) else {
+    let Ok((string, after)) = split_string(rest) else {
         return None;
     };
     match value_in(string) {
-        Some(value) => Some((name, value, behind)),
+        Some(value) => Some((name, value, after)),
         None => None,
     }
 }

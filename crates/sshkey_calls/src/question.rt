@@ -121,11 +121,11 @@ fn lay_out(alloc: Global, question: &Asked<'_>) -> Result<(Vec<u8>, Question)>
     ensures { IfOk result (λ laid. IsLaidOut question_bytes ArePlaced (question_of question.now)
         laid.0.items laid.1) }
 {
-    let behind = question
+    let after = question
         .message()
         .len()
         .saturating_add(question.signature().len());
-    let mut content = part::with_capacity(alloc, question.key(), behind)?;
+    let mut content = part::with_capacity(alloc, question.key(), after)?;
     let key = add_encoded(question.key(), &mut content)?;
     let message = add(question.message(), &mut content)?;
     let signature = add(question.signature(), &mut content)?;

@@ -35,8 +35,8 @@ pub(crate) fn answer_line<R: Files>(rt: &R, alloc: Global, line: &str) -> Result
         | "narrow"
         | "without-memory"
         | "with-memory" => {
-            let (kind, behind) = words.split_once(' ').unwrap_or((words, ""));
-            let mut parts = parts(alloc, behind)?;
+            let (kind, after) = words.split_once(' ').unwrap_or((words, ""));
+            let mut parts = parts(alloc, after)?;
             let answer = answer_about_kind(rt, alloc, question, kind, &parts);
             erase(&mut parts);
             answer

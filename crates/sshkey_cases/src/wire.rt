@@ -15,12 +15,12 @@ pub(crate) fn rest<T: Encode>(
     left: usize,
 ) -> Result<String> {
     let (read, _) = bytes.split_at(bytes.len().saturating_sub(left));
-    let behind = behind(alloc, left)?;
+    let after = after(alloc, left)?;
     let written = written(alloc, value, read)?;
-    Ok(format!(in alloc; "{behind}{written}")?)
+    Ok(format!(in alloc; "{after}{written}")?)
 }
 
-fn behind(alloc: Global, left: usize) -> Result<String> {
+fn after(alloc: Global, left: usize) -> Result<String> {
     match left {
         0 => Ok(String::new(alloc)),
         _ => Ok(format!(in alloc; ", {left} left")?),

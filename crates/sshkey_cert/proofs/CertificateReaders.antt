@@ -2,7 +2,7 @@
 use Rattle.std.proofs.Common.{◌≡◌, ℕ, List, refl}
 use Rattle.std.specs.Prelude.{◌↔◌}
 use Rattle.sshkey_model.specs.Parts.{Fits, flat}
-use Rattle.sshkey_model.specs.Reading.{behind_at}
+use Rattle.sshkey_model.specs.Reading.{after_at}
 use Rattle.sshkey_model.specs.Grammar.{IsGrammar, value_at}
 use Rattle.sshkey_model.specs.Certificates.{Certificate, IsCertificate, plain_choices, normal_certificate, certificate_at}
 use Rattle.sshkey_model.specs.Keys.{key_algorithm}
@@ -32,7 +32,7 @@ certificate_lawful = tested_lawful certificate_of_parts (then_lawful to_be_signe
 
 -- The reader that gives the choices of the spelling too reads the same certificate.
 certificate_is : (b : List ℕ) → value_at certificate_at b ≡ certificate_value_at b
-unfolding certificate_at behind_at
+unfolding certificate_at after_at
 certificate_is b = rw (← to_be_signed_is b) (simp bind_assoc)
 
 pub certificate_grammar : IsGrammar SpellsCertificate certificate_value_at

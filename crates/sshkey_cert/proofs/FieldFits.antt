@@ -1,7 +1,7 @@
 -- The fields of a certificate that was read fit in their normal form.
 use Rattle.std.proofs.Common.{◌≡◌, ℕ, List, Ok, true, subst}
 use Rattle.sshkey_model.specs.Certificates.{SignedFields}
-use Rattle.sshkey_model.specs.Reading.{whole, box_at, behind_at}
+use Rattle.sshkey_model.specs.Reading.{whole, box_at, after_at}
 use Rattle.sshkey_model.specs.Signatures.{Signature, signature_at}
 use Rattle.sshkey_model.proofs.CombinedReaders.{bind_ok, ok_is}
 use Rattle.sshkey_cert_fields.specs.ToBeSignedReaders.{to_be_signed_value_at}
@@ -10,7 +10,7 @@ use Rattle.sshkey_cert.specs.Fitting.{signed_fits}
 use Rattle.sshkey_cert.proofs.NormalFits.{read_fits}
 
 pub fields_fit : (b : List ℕ) (x : SignedFields × Signature) (rest : List ℕ) → signed_format.read b ≡ Ok (x, rest) → signed_fits x.0 ≡ true
-unfolding behind_at
+unfolding after_at
 fields_fit b x rest e =
     let c = bind_ok (to_be_signed_value_at b) _ (x, rest) e in
     let g = bind_ok (box_at (whole signature_at) c.0.1) _ (x, rest) c.2 in

@@ -4,7 +4,7 @@ use Rattle.std.specs.Prelude.{is_ok, IsOkAnd}
 use Rattle.sshkey_model.specs.CertificateNames.{certificate_algorithm_at}
 use Rattle.sshkey_model.specs.Certificates.{Certificate}
 use Rattle.sshkey_model.specs.Names.{Algorithm}
-use Rattle.sshkey_model.specs.Reading.{Fault, behind_at}
+use Rattle.sshkey_model.specs.Reading.{Fault, after_at}
 use Rattle.sshkey_base.specs.Causes.{NoMemory, cause}
 use Rattle.sshkey_base.specs.NameFormats.{certified_format}
 use Rattle.sshkey_base.specs.Reading.{NoSpelling}
@@ -18,7 +18,7 @@ use Rattle.sshkey_cert.specs.declared.key_or_certificate.KeyOrCertificate.TheVar
 
 -- what has no name in front is no certificate
 named_or : (bytes : List ℕ) (c : Certificate) (r : Result (Algorithm × List ℕ) Fault) → certificate_algorithm_at bytes ≡ r → certificate_value_at bytes ≡ Ok (c, []) → is_ok r ≡ true
-unfolding behind_at
+unfolding after_at
 named_or bytes c (Ok name) is read = refl
 named_or bytes c (Err f) is read = let none = rw is at read in absurd cc
 

@@ -40,15 +40,15 @@ other_name n None e =
 other_name n (Some p) e =
     let is = (cut_parts n p e).0 in
     let certified = certificate_name-cut n p e in
-    let behind = at_sign ∷ p.1 in (
+    let after = at_sign ∷ p.1 in (
       λ h.
           let whole = subst IsOneLine certified h in
-          let front = one_line_front p.0 suffix (one_line_front (p.0 ++ suffix) behind whole) in
-          subst IsOneLine (sym is) (one_line_both p.0 behind front (one_line_rest (p.0 ++ suffix) behind whole)),
+          let front = one_line_front p.0 suffix (one_line_front (p.0 ++ suffix) after whole) in
+          subst IsOneLine (sym is) (one_line_both p.0 after front (one_line_rest (p.0 ++ suffix) after whole)),
       λ h.
           let whole = subst IsOneLine is h in
-          let front = one_line_both p.0 suffix (one_line_front p.0 behind whole) (plain suffix refl refl) in
-          subst IsOneLine (sym certified) (one_line_both (p.0 ++ suffix) behind front (one_line_rest p.0 behind whole)),
+          let front = one_line_both p.0 suffix (one_line_front p.0 after whole) (plain suffix refl refl) in
+          subst IsOneLine (sym certified) (one_line_both (p.0 ++ suffix) after front (one_line_rest p.0 after whole)),
     )
 
 -- ---- all names

@@ -1,6 +1,6 @@
 -- What a certificate's signature is over is read exactly where it is spelled.
 use Rattle.std.proofs.Common.{◌≡◌, ℕ, List}
-use Rattle.sshkey_model.specs.Reading.{behind_at}
+use Rattle.sshkey_model.specs.Reading.{after_at}
 use Rattle.sshkey_model.specs.Grammar.{IsGrammar, value_at}
 use Rattle.sshkey_model.specs.Certificates.{signed_fields_at, type_at, time_at, end_at}
 use Rattle.sshkey_model.proofs.CertificateReaders.{signed_fields_reads}
@@ -20,7 +20,7 @@ to_be_signed_parts_read = checked_read to_be_signed_of_parts fields_format.read
 
 -- The reader that gives the choices of the spelling too reads the same fields.
 pub to_be_signed_is : (b : List ℕ) → value_at signed_fields_at b ≡ to_be_signed_value_at b
-unfolding signed_fields_at type_at time_at end_at options_value_at behind_at
+unfolding signed_fields_at type_at time_at end_at options_value_at after_at
 to_be_signed_is b = simp (bind_assoc, key_box)
 
 pub to_be_signed_grammar : IsGrammar SpellsToBeSigned to_be_signed_value_at

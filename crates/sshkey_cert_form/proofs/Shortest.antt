@@ -80,14 +80,14 @@ options_shorten os ns has = boxed (each_option os ns) (each_option os (plain_nes
 -- ---- certificates
 
 -- a part that is spelled in one way, and then the others
-behind : (p q s : Parts) → Shortens q s → Shortens (p & q) (p & s)
-behind p q s others = both p q p s (same p) others
+after : (p q s : Parts) → Shortens q s → Shortens (p & q) (p & s)
+after p q s others = both p q p s (same p) others
 
 signed_fields_shorten : (c : SignedFields) (s : CertificateChoices) → HaveSignedPlaces c s → Shortens (to_be_signed c s) (normal_to_be_signed c)
-signed_fields_shorten c s has = behind _ _ _ (behind _ _ _ (behind _ _ _ (behind _ _ _ (behind _ _ _ (behind _ _ _ (behind _ _ _ (behind _ _ _ (behind _ _ _ (
+signed_fields_shorten c s has = after _ _ _ (after _ _ _ (after _ _ _ (after _ _ _ (after _ _ _ (after _ _ _ (after _ _ _ (after _ _ _ (after _ _ _ (
     both _ _ _ _ (options_shorten c.critical_options s.critical_options has.critical_options) (
     both _ _ _ _ (options_shorten c.extensions s.extensions has.extensions) (
-    behind _ _ _ (boxed _ _ (key_shortens c.signature_key s.signature_key has.signature_key)))))))))))))
+    after _ _ _ (boxed _ _ (key_shortens c.signature_key s.signature_key has.signature_key)))))))))))))
 
 certificate_shortens : (c : Certificate) (s : CertificateChoices) → HasCertificatePlaces c s → Shortens (certificate c s) (normal_certificate c)
 certificate_shortens c s has = both _ _ _ _ (signed_fields_shorten c.signed s has) (same _)

@@ -31,19 +31,19 @@ signature_end c (Ok (g, [])) = refl
 signature_end c (Ok (g, (b ∷ rest))) = refl
 signature_end c (Err f) = refl
 
-pub behind_fields : (b rest : List ℕ) (c : SignedFields × CertificateChoices) → signed_fields_at b ≡ Ok (c, rest) → whole certificate_at b ≡ (whole (box_at (whole signature_at)) rest >>= signed_by c)
+pub after_fields : (b rest : List ℕ) (c : SignedFields × CertificateChoices) → signed_fields_at b ≡ Ok (c, rest) → whole certificate_at b ≡ (whole (box_at (whole signature_at)) rest >>= signed_by c)
 unfolding certificate_at
-behind_fields b rest c e = rw e (signature_end c (box_at (whole signature_at) rest))
+after_fields b rest c e = rw e (signature_end c (box_at (whole signature_at) rest))
 
 pub found_whole : (b rest : List ℕ) (c : SignedFields × CertificateChoices) (g : Signature) → signed_fields_at b ≡ Ok (c, rest) → whole (box_at (whole signature_at)) rest ≡ Ok g → whole certificate_at b ≡ Ok (record { signed = c.0; signature = g }, c.1)
-found_whole b rest c g e f = behind_fields b rest c e ∙ rw f refl
+found_whole b rest c g e f = after_fields b rest c e ∙ rw f refl
 
 pub no_fields : {cause : Cause} (b : List ℕ) → Refuses 0 cause (signed_fields_at b) → Refuses 0 cause (whole certificate_at b)
 unfolding certificate_at
 no_fields b h = record { met = h.met; is = rw h.is refl; same = h.same }
 
 pub no_signature : {cause : Cause} (b rest : List ℕ) (c : SignedFields × CertificateChoices) → signed_fields_at b ≡ Ok (c, rest) → Refuses 0 cause (whole (box_at (whole signature_at)) rest) → Refuses 0 cause (whole certificate_at b)
-no_signature b rest c e h = record { met = h.met; is = behind_fields b rest c e ∙ rw h.is refl; same = h.same }
+no_signature b rest c e h = record { met = h.met; is = after_fields b rest c e ∙ rw h.is refl; same = h.same }
 
 -- ---- what was found
 

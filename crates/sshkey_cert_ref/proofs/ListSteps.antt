@@ -43,11 +43,11 @@ module _ {A : Type 0} (item : Option A → Front A) (less : (before : Option A) 
   -- The first value, and the list of those after it.
   pub record IsStep (b : List ℕ) (xs : List A) : Type 0 where
     pub first : A
-    pub behind : List ℕ
+    pub after : List ℕ
     pub rest : List A
-    pub read : item None b ≡ Ok (first, behind)
+    pub read : item None b ≡ Ok (first, after)
     pub all : xs ≡ first ∷ rest
-    pub later : list_whole item behind ≡ Ok rest
+    pub later : list_whole item after ≡ Ok rest
 
   pub list_step : (b : List ℕ) (xs : List A) → 0 < length b → list_whole item b ≡ Ok xs → IsStep b xs
   unfolding list_within
@@ -58,7 +58,7 @@ module _ {A : Type 0} (item : Option A → Front A) (less : (before : Option A) 
       let l = less None (c ∷ b) x.0.0 x.0.1 x.1 in
       record {
         first = x.0.0;
-        behind = x.0.1;
+        after = x.0.1;
         rest = ys.0;
         read = x.1;
         all = sym (ok_is _ xs ys.2);
@@ -66,24 +66,24 @@ module _ {A : Type 0} (item : Option A → Front A) (less : (before : Option A) 
       }
 
   -- The first value of some bytes: the others follow it.
-  pub record IsFirst (b : List ℕ) (first : A) (behind : List ℕ) : Type 0 where
-    pub read : item None b ≡ Ok (first, behind)
-    pub all : found_or [] (list_whole item b) ≡ first ∷ found_or [] (list_whole item behind)
-    pub later : is_taken (list_whole item behind) ≡ true
-    pub shorter : length behind < length b
+  pub record IsFirst (b : List ℕ) (first : A) (after : List ℕ) : Type 0 where
+    pub read : item None b ≡ Ok (first, after)
+    pub all : found_or [] (list_whole item b) ≡ first ∷ found_or [] (list_whole item after)
+    pub later : is_taken (list_whole item after) ≡ true
+    pub shorter : length after < length b
 
-  pub first_of : (b : List ℕ) → 0 < length b → is_taken (list_whole item b) ≡ true → (first : A) × (behind : List ℕ) × IsFirst b first behind
+  pub first_of : (b : List ℕ) → 0 < length b → is_taken (list_whole item b) ≡ true → (first : A) × (after : List ℕ) × IsFirst b first after
   first_of b some taken =
       let xs = taken_value (list_whole item b) taken in
       let s = list_step b xs.0 some xs.1 in
-      let rest = taken_is (list_whole item s.behind) s.rest s.later in (
+      let rest = taken_is (list_whole item s.after) s.rest s.later in (
         s.first,
-        s.behind,
+        s.after,
         record {
           read = s.read;
           all = ap (found_or []) xs.1 ∙ s.all ∙ ap (λ (ys : List A). s.first ∷ ys) (sym rest.0);
           later = rest.1;
-          shorter = less None b s.first s.behind s.read;
+          shorter = less None b s.first s.after s.read;
         },
       )
 

@@ -10,7 +10,7 @@ use Rattle.sshkey_base.specs.declared.encoding.Error.{Error}
 use Rattle.sshkey_base.specs.declared.encoding.Error.TheVariants as encoding
 use Rattle.sshkey_base.specs.Answers.{AnswersAlways}
 use Rattle.sshkey_base.specs.Causes.{encoding_cause}
-use Rattle.sshkey_base.proofs.Boxes.{some_behind}
+use Rattle.sshkey_base.proofs.Boxes.{some_after}
 use Rattle.sshkey_keys_ref.specs.Taking.{TakesValue}
 use Rattle.sshkey_cert_ref.specs.SpelledOptions.{nesting, value_pair_of}
 use Rattle.sshkey_terms.proofs.SliceFronts.{answers_ok, answers_err}
@@ -35,7 +35,7 @@ module _ (b rest : List ℕ) (t : Bor (List ℕ)) (h : TakesValue (λ t. t.now) 
   pub whole_trails : is_empty ≡ false → Whole b (Err (encoding.TrailingData (length rest)))
   whole_trails more =
       let some : 0 < length rest = omega (arith, eqb-false (length rest) 0 (sym says ∙ more)) in
-      rw (h.value, some_behind t.now rest (length rest) refl some) refl
+      rw (h.value, some_after t.now rest (length rest) refl some) refl
 
   pub whole_taken : is_empty ≡ true → Whole b (Ok t)
   whole_taken none = rw (h.value, nil_from_length rest (eqb-true (length rest) 0 (sym says ∙ none))) refl

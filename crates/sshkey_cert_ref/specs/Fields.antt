@@ -51,5 +51,5 @@ spelled_signature_of r = found_or no_signature (whole signature_at (signature_by
 
 -- the serial number, the type, the key id and the principals; the two times; the options; the
 -- reserved bytes and the key that signs
-abbrev pub behind_key_format : Format (GrantFields × (Window × ((OptionsAsSpelled × OptionsAsSpelled) × (List ℕ × (Key × Head)))))
-behind_key_format = grant_format then window_format then (spelled_options_format then spelled_options_format) then string_format then boxed_key_format
+abbrev pub after_key_format : Format (GrantFields × (Window × ((OptionsAsSpelled × OptionsAsSpelled) × (List ℕ × (Key × Head)))))
+after_key_format = grant_format then window_format then (spelled_options_format then spelled_options_format) then string_format then boxed_key_format

@@ -153,11 +153,11 @@ fn find_value<'a>(options: &'a [u8], name: &str) -> Option<&'a str>
 {
     let mut rest = options;
     'options: while !rest.is_empty() {
-        let (option, behind) = first_option(rest);
+        let (option, after) = first_option(rest);
         if name == option.name {
             return Some(option.value);
         }
-        rest = behind;
+        rest = after;
     }
     None
 }

@@ -131,11 +131,11 @@ fn is_listed(texts: &[u8], wanted: &[u8]) -> bool
 {
     let mut rest = texts;
     'texts: while !rest.is_empty() {
-        let (text, behind) = first_text(rest);
+        let (text, after) = first_text(rest);
         if wanted == text {
             return true;
         }
-        rest = behind;
+        rest = after;
     }
     false
 }

@@ -32,15 +32,15 @@ type Limits<'a> = Then<OptionsRef<'a>, OptionsRef<'a>>;
 type Authority<'a> = Then<Wide<&'a [u8]>, KeyInString<'a>>;
 
 /// All fields between the key and the signature.
-type BehindKey<'a> = Then<Grant<'a>, Then<Window, Then<Limits<'a>, Authority<'a>>>>;
+type AfterKey<'a> = Then<Grant<'a>, Then<Window, Then<Limits<'a>, Authority<'a>>>>;
 
 /// All fields before the signature, and what stands after them.
 pub(crate) fn split_parts<'a>(bytes: &'a [u8]) -> Result<(Parts<'a>, &'a [u8])>
     ensures { Cuts AreCertificateParts cause signed_fields_at bytes.now result }
 {
-    let ((name, nonce, key), behind_subject) = split_subject(bytes)?;
-    let mut rest = behind_subject;
-    let Then(grant, Then(window, Then(limits, authority))) = BehindKey::<'a>::read_from(&mut rest)?;
+    let ((name, nonce, key), after_subject) = split_subject(bytes)?;
+    let mut rest = after_subject;
+    let Then(grant, Then(window, Then(limits, authority))) = AfterKey::<'a>::read_from(&mut rest)?;
     let Then(Then(serial, cert_type), Then(key_id, valid_principals)) = grant;
     let parts = Parts {
         name,

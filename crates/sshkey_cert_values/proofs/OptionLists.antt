@@ -13,7 +13,7 @@ use Rattle.sshkey_model.proofs.OptionReaders.{options_reads}
 use Rattle.sshkey_base.proofs.Lengths.{text_lengths, boxed_lengths, box_list_lengths}
 use Rattle.sshkey_base.specs.Stops.{OverrunsString, OverrunsBoxed, OverrunsList, AreLengths}
 use Rattle.sshkey_base.proofs.MappedBoxes.{on_value, made, box_map}
-use Rattle.sshkey_cert_values.specs.OptionReaders.{SpellsOptions, value_front, option_box_at, may_follow, option_behind, name_before, item, option_list_at, options_value_at, OverrunsValue, OverrunsOption}
+use Rattle.sshkey_cert_values.specs.OptionReaders.{SpellsOptions, value_front, option_box_at, may_follow, option_after, name_before, item, option_list_at, options_value_at, OverrunsValue, OverrunsOption}
 
 pub options_grammar : IsGrammar SpellsOptions options_value_at
 unfolding options_value_at
@@ -53,7 +53,7 @@ tested_then true x f = refl
 tested_then false x f = refl
 
 item_is : (before : Option Pair) (b : List ℕ) → item (option_before before) b ≡ (option_at before b >>= on_value plain)
-unfolding option_behind option_at
+unfolding option_after option_at
 item_is None b = simp (value_box, bind_assoc)
 item_is (Some x) b = simp (value_box, bind_assoc, tested_then)
 
@@ -63,8 +63,8 @@ list_is zero before [] = refl
 list_is (suc n) before [] = refl
 list_is zero before (c ∷ b) = refl
 list_is (suc n) before (c ∷ b) =
-    let behind : (x : Pair) (b : List ℕ) → list_within item n (Some x.0) b ≡ (list_within option_at n (Some x) b >>= made firsts) = λ x b. list_is n (Some x) b in
-    simp (item_is, behind, bind_assoc)
+    let after : (x : Pair) (b : List ℕ) → list_within item n (Some x.0) b ≡ (list_within option_at n (Some x) b >>= made firsts) = λ x b. list_is n (Some x) b in
+    simp (item_is, after, bind_assoc)
 
 pub options_is : (b : List ℕ) → box_at option_list_at b ≡ options_value_at b
 unfolding options_value_at options_at
@@ -81,7 +81,7 @@ abbrev in_turn : Option CertificateOption → List ℕ × List ℕ → Result (C
 in_turn before name = option_box_at name.1 >>= λ v. cond (may_follow (name_before before) name.0) (Ok (record { name = name.0; value = v.0 }, v.1)) (Err FormatEncoding)
 
 pub option_lengths : (before : Option CertificateOption) → AreLengths (item before) OverrunsOption
-unfolding option_behind option_box_at
+unfolding option_after option_box_at
 option_lengths before b m (inl o) = rw (text_lengths b m o) refl
 option_lengths before b m (inr o) = go (text_at b) o
   where

@@ -14,7 +14,7 @@ use Rattle.sshkey_base.specs.Source.{IsSound, Later, Source}
 use Rattle.sshkey_base.specs.Stops.{OverrunsList, OverrunsString, OverrunsWithin, RanOut, Stopped}
 use Rattle.sshkey_base.proofs.ReadLists.{StillOverruns}
 use Rattle.sshkey_base.proofs.Stopping.{not_taken, step_ok}
-use Rattle.sshkey_cert_values.specs.OptionReaders.{option_behind, item, NeedsOption, OverrunsOption}
+use Rattle.sshkey_cert_values.specs.OptionReaders.{option_after, item, NeedsOption, OverrunsOption}
 
 is_ok : {B : Type 0} (r : Result B Fault) (x : B) → r ≡ Ok x → IsOk r
 is_ok r x e = rw e refl
@@ -69,9 +69,9 @@ module _ {P : Type 0} (done : List P) (s t : Source) (begun : Begun done s t) wh
   options_ask c later asks memory sound = first_stands (asks memory (rw later.missing sound))
 
   -- an option was read
-  pub option_stands : {X : Type 0} (means : X → CertificateOption) (before : Option (List ℕ)) (x : X) (u : Source) → Reads means (option_behind before) t x u → HasString s.left s.missing
-  unfolding option_behind
-  option_stands means before x u r = first_stands (text_stands t.left t.missing (step_ok (text_at t.left) _ (is_ok (option_behind before t.left) (means x, u.left) r.value)))
+  pub option_stands : {X : Type 0} (means : X → CertificateOption) (before : Option (List ℕ)) (x : X) (u : Source) → Reads means (option_after before) t x u → HasString s.left s.missing
+  unfolding option_after
+  option_stands means before x u r = first_stands (text_stands t.left t.missing (step_ok (text_at t.left) _ (is_ok (option_after before t.left) (means x, u.left) r.value)))
 
   -- an option is refused
   pub options_stopped : (c : Cause) (before : Option CertificateOption) → StillOverruns item OverrunsOption s before t → Stopped c (item before) NeedsOption OverrunsOption t → OverrunsList item OverrunsOption s.left s.missing → (c ≡ Faulty Length) ⊎ RanOut c HasString s

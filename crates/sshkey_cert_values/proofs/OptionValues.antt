@@ -12,11 +12,11 @@ use Rattle.sshkey_base.specs.Source.{Source, announced_len}
 use Rattle.sshkey_base.specs.Reading.{Reads, Gives}
 use Rattle.sshkey_base.proofs.ReadLists.{leaves_less}
 use Rattle.sshkey_base.proofs.MappedBoxes.{box_leaves}
-use Rattle.sshkey_cert_values.specs.OptionReaders.{value_front, option_box_at, may_follow, option_behind}
+use Rattle.sshkey_cert_values.specs.OptionReaders.{value_front, option_box_at, may_follow, option_after}
 
 -- what was read may follow, and leaves less
-pub item_read : (before : Option (List ℕ)) (b : List ℕ) (o : CertificateOption) (rest : List ℕ) → option_behind before b ≡ Ok (o, rest) → (may_follow before o.name ≡ true) × (length rest < length b)
-unfolding option_behind option_box_at
+pub item_read : (before : Option (List ℕ)) (b : List ℕ) (o : CertificateOption) (rest : List ℕ) → option_after before b ≡ Ok (o, rest) → (may_follow before o.name ≡ true) × (length rest < length b)
+unfolding option_after option_box_at
 item_read before b o rest e =
     let t = bind_ok (text_at b) _ (o, rest) e in
     let v = bind_ok (option_box_at t.0.1) _ (o, rest) t.2 in

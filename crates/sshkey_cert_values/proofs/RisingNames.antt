@@ -33,8 +33,8 @@ module _ {K X : Type 0} (P : K → Type 0) (p : K × X) where
   all_end (e ∷ es) all = all_end es all.1
 
 -- the first of several pairs is not the last
-end_behind : {Y Z : Type 0} (e f : String Y × String Z) (es : List (String Y × String Z)) → name_at_end (e ∷ f ∷ es) ≡ name_at_end (f ∷ es)
-end_behind e f es =
+end_after : {Y Z : Type 0} (e f : String Y × String Z) (es : List (String Y × String Z)) → name_at_end (e ∷ f ∷ es) ≡ name_at_end (f ∷ es)
+end_after e f es =
     let at : length (e ∷ f ∷ es) - 1 ≡ suc (length (f ∷ es) - 1) = omega arith in
     rw at refl
 
@@ -51,7 +51,7 @@ module _ {Y : Type 0} where
   rise_more [] name value rise above = (tt, tt)
   rise_more (e ∷ []) name value rise above = ((follows e.0 name above, tt), (tt, tt))
   rise_more (e ∷ f ∷ es) name value rise above =
-      let rest : NamesRise (f ∷ es ++ (name, value) ∷ []) = rise_more (f ∷ es) name value rise.1 (rw (end_behind e f es) at above) in
+      let rest : NamesRise (f ∷ es ++ (name, value) ∷ []) = rise_more (f ∷ es) name value rise.1 (rw (end_after e f es) at above) in
       let last : string_cmp f.0 name ≡ Less = all_end (λ y. string_cmp f.0 y ≡ Less) (name, value) es rest.0 in
       let less : string_cmp e.0 name ≡ Less = string_cmp_total.trans e.0 f.0 name rise.0.0 last in
       (all_more (λ y. string_cmp e.0 y ≡ Less) (name, value) (f ∷ es) rise.0 less, rest)
@@ -77,8 +77,8 @@ module _ {Y Z : Type 0} where
   none_below : (name : String Y) (e : String Y × String Z) (es : List (String Y × String Z)) → NamesRise (e ∷ es) → string_cmp name e.0 ≡ Less → value_at name (e ∷ es) ≡ None
   none_below name e es rise less = lookup-none (is_at (string_cmp name)) (e ∷ es) (none_below_head string_cmp_total name e es rise less)
 
-  none_behind : (name : String Y) (e : String Y × String Z) (es : List (String Y × String Z)) → NamesRise (e ∷ es) → is_eq (string_cmp name e.0) ≡ true → value_at name es ≡ None
-  none_behind name e es rise same = lookup-none (is_at (string_cmp name)) es (none_past_head (eq_by_cmp_equiv string_cmp_total) name e es (IsDistinct-from_sorted string_cmp (keys_of (e ∷ es)) rise) same)
+  none_after : (name : String Y) (e : String Y × String Z) (es : List (String Y × String Z)) → NamesRise (e ∷ es) → is_eq (string_cmp name e.0) ≡ true → value_at name es ≡ None
+  none_after name e es rise same = lookup-none (is_at (string_cmp name)) es (none_past_head (eq_by_cmp_equiv string_cmp_total) name e es (IsDistinct-from_sorted string_cmp (keys_of (e ∷ es)) rise) same)
 
   -- two lists that have the same value at each name
   module _ (e f : String Y × String Z) (es fs : List (String Y × String Z)) (rise : NamesRise (e ∷ es)) (others : NamesRise (f ∷ fs)) (same : (name : String Y) → value_at name (e ∷ es) ≡ value_at name (f ∷ fs)) where
@@ -96,14 +96,14 @@ module _ {Y Z : Type 0} where
     one_value : e.1 ≡ f.1
     one_value = same_Some e.1 f.1 (sym (own e es) ∙ same e.0 ∙ lookup_head (is_at (string_cmp e.0)) f fs (ap is_eq one_name))
 
-    behind : (name : String Y) → value_at name es ≡ value_at name fs
-    behind name = go (is_eq (string_cmp name e.0)) refl
+    after : (name : String Y) → value_at name es ≡ value_at name fs
+    after name = go (is_eq (string_cmp name e.0)) refl
       where
         tied : is_eq (string_cmp name f.0) ≡ is_eq (string_cmp name e.0)
         tied = ap (λ (bs : List ℕ). is_eq (slice_cmp nat_cmp (string_bytes name) bs)) (sym one_text)
 
         go : (b : Bool) → is_eq (string_cmp name e.0) ≡ b → value_at name es ≡ value_at name fs
-        go true is = none_behind name e es rise is ∙ sym (none_behind name f fs others (tied ∙ is))
+        go true is = none_after name e es rise is ∙ sym (none_after name f fs others (tied ∙ is))
         go false is = sym (lookup_tail (is_at (string_cmp name)) e es is) ∙ same name ∙ lookup_tail (is_at (string_cmp name)) f fs (tied ∙ is)
 
   same_options : (es fs : List (String Y × String Z)) → NamesRise es → NamesRise fs → ((name : String Y) → value_at name es ≡ value_at name fs) → map option_of es ≡ map option_of fs
@@ -111,7 +111,7 @@ module _ {Y Z : Type 0} where
   same_options [] (f ∷ fs) rise others same = absurd (cc (own f fs, same f.0))
   same_options (e ∷ es) [] rise others same = absurd (cc (own e es, same e.0))
   same_options (e ∷ es) (f ∷ fs) rise others same =
-      rw (one_text e f es fs rise others same, one_value e f es fs rise others same, same_options es fs (sorted_tail string_cmp e.0 (keys_of es) rise) (sorted_tail string_cmp f.0 (keys_of fs) others) (behind e f es fs rise others same)) refl
+      rw (one_text e f es fs rise others same, one_value e f es fs rise others same, same_options es fs (sorted_tail string_cmp e.0 (keys_of es) rise) (sorted_tail string_cmp f.0 (keys_of fs) others) (after e f es fs rise others same)) refl
 
   -- A map that is built of pairs whose names rise has them as its options.
   pub built : (m : BTreeMap (String Y) (String Z)) (es : List (String Y × String Z)) → NamesRise es → IsFromIterResult string_cmp es m → map option_of m.entries ≡ map option_of es

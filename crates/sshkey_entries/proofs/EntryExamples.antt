@@ -30,8 +30,8 @@ use Rattle.sshkey_entries.proofs.OneHost.{bar_not}
 alone : (comment text : List ℕ) → IsKeyLine text rsa_key comment → IsAuthorizedKey text (authorized [] comment)
 alone comment text line = inl (record { options = refl; line = line })
 
-behind : (options rest comment text : List ℕ) → text ≡ options ++ (space ∷ rest) → all_characters is_option_character options ≡ true → IsKeyLine rest rsa_key comment → 3 ≤ count_by is_space text → IsNoKeyLine text → HasOptions text (authorized options comment)
-behind options rest comment text is allowed line count none = record { rest = rest; is = is; options = each is_option_character options allowed; line = line; spaces = count; no_line = none }
+after : (options rest comment text : List ℕ) → text ≡ options ++ (space ∷ rest) → all_characters is_option_character options ≡ true → IsKeyLine rest rsa_key comment → 3 ≤ count_by is_space text → IsNoKeyLine text → HasOptions text (authorized options comment)
+after options rest comment text is allowed line count none = record { rest = rest; is = is; options = each is_option_character options allowed; line = line; spaces = count; no_line = none }
 
 no_options : (text : List ℕ) → count_by is_space text < 3 → IsNoKeyLine text → IsNoEntry IsAuthorizedKey text
 no_options text few none a (inl x) = none a.key a.comment x.line
@@ -42,8 +42,8 @@ unfolding is_utf8 trim_end chars encode_utf8 groups_error scan_steps encode_symb
 options = (
   alone [] _ line_ends.0,
   alone (codes "me") _ line_ends.3,
-  inr (behind (codes "no-pty") _ (codes "me") _ refl refl line_ends.3 (omega arith) (no_base64 _ (codes "no-pty") (codes "ssh-rsa") (rsa_word ++ codes " me") (cut _ _ _ _ refl (omega arith) (omega arith) refl refl) refl)),
-  inr (behind (codes "no-pty") _ [] _ refl refl line_ends.1 (omega arith) (no_base64 _ (codes "no-pty") (codes "ssh-rsa") rsa_word (cut _ _ _ _ refl (omega arith) (omega arith) refl refl) refl)),
+  inr (after (codes "no-pty") _ (codes "me") _ refl refl line_ends.3 (omega arith) (no_base64 _ (codes "no-pty") (codes "ssh-rsa") (rsa_word ++ codes " me") (cut _ _ _ _ refl (omega arith) (omega arith) refl refl) refl)),
+  inr (after (codes "no-pty") _ [] _ refl refl line_ends.1 (omega arith) (no_base64 _ (codes "no-pty") (codes "ssh-rsa") rsa_word (cut _ _ _ _ refl (omega arith) (omega arith) refl refl) refl)),
   no_options _ (omega arith) (no_base64 _ (codes "no-pty") (codes "ssh-rsa") rsa_word (cut _ _ _ _ refl (omega arith) (omega arith) refl refl) refl),
   no_options _ (omega arith) (one_word _ refl),
   refl,

@@ -28,12 +28,12 @@ no_length n b e t = eqb-true n 0 (sym e ∙ t)
 pub some_length : (n : ℕ) (b : Bool) → b ≡ (n == 0) → b ≡ false → 0 < n
 some_length n b e t = let other : n ≢ 0 = eqb-false n 0 (sym e ∙ t) in omega arith
 
-module _ (text name behind skipped word rest : List ℕ) (first : CutsField text name behind) (skips : skipped ≡ without_blanks behind) (second : CutsField skipped word rest) where
+module _ (text name after skipped word rest : List ℕ) (first : CutsField text name after) (skips : skipped ≡ without_blanks after) (second : CutsField skipped word rest) where
   -- no other name and word stand there
   same_parts : (k : Key) (comment : List ℕ) (f : AreKeyFields text k comment) → (name ≡ key_name k) × (word ≡ encode_of standard f.blob)
   same_parts k comment f =
-      let names = same_field name (key_name k) behind f.behind_name first.one_word f.one_word first.ends f.name_ends (sym first.is ∙ f.is) in
-      let words = same_field word (encode_of standard f.blob) rest f.behind_key second.one_word (base64_field f.blob) second.ends f.key_ends (sym second.is ∙ skips ∙ ap without_blanks names.1 ∙ f.word) in
+      let names = same_field name (key_name k) after f.after_name first.one_word f.one_word first.ends f.name_ends (sym first.is ∙ f.is) in
+      let words = same_field word (encode_of standard f.blob) rest f.after_key second.one_word (base64_field f.blob) second.ends f.key_ends (sym second.is ∙ skips ∙ ap without_blanks names.1 ∙ f.word) in
       (names.0, words.0)
 
   pub no_word : length word ≡ 0 → AreNoKeyFields text
@@ -52,9 +52,9 @@ module _ (text name behind skipped word rest : List ℕ) (first : CutsField text
   pub fields_read : (k : Key) (comment : List ℕ) → IsWordOf SpellsKey word k → name ≡ key_name k → comment ≡ without_blanks rest → AreKeyFields text k comment
   fields_read k comment w named is = record {
     blob = w.blob;
-    behind_name = behind;
-    behind_key = rest;
-    is = first.is ∙ ap (λ (n : List ℕ). n ++ behind) named;
+    after_name = after;
+    after_key = rest;
+    is = first.is ∙ ap (λ (n : List ℕ). n ++ after) named;
     one_word = subst IsField named first.one_word;
     name_ends = first.ends;
     word = sym skips ∙ second.is ∙ ap (λ (v : List ℕ). v ++ rest) w.is;
@@ -64,18 +64,18 @@ module _ (text name behind skipped word rest : List ℕ) (first : CutsField text
   }
 
   pub fields_are : AreFields text name word rest
-  fields_are = record { behind = behind; first = first; second = subst (λ (t : List ℕ). CutsField t word rest) skips second }
+  fields_are = record { after = after; first = first; second = subst (λ (t : List ℕ). CutsField t word rest) skips second }
 
   same_word : (n w r : List ℕ) → AreFields text n w r → (name ≡ n) × (word ≡ w)
   same_word n w r f =
-      let names = same_field name n behind f.behind first.one_word f.first.one_word first.ends f.first.ends (sym first.is ∙ f.first.is) in
+      let names = same_field name n after f.after first.one_word f.first.one_word first.ends f.first.ends (sym first.is ∙ f.first.is) in
       let words = same_field word w rest r second.one_word f.second.one_word second.ends f.second.ends (sym second.is ∙ skips ∙ ap without_blanks names.1 ∙ f.second.is) in
       (names.0, words.0)
 
   -- where there is a word, no fault of a missing one is owed
   some_there : 0 < length word → (n r : List ℕ) → CutsField text n r → without_blanks r ≡ [] → ⊥
   some_there some n r cut none =
-      let names = same_field name n behind r first.one_word cut.one_word first.ends cut.ends (sym first.is ∙ cut.is) in
+      let names = same_field name n after r first.one_word cut.one_word first.ends cut.ends (sym first.is ∙ cut.is) in
       let nothing : [] ≡ word ++ rest = sym none ∙ ap without_blanks (sym names.1) ∙ sym skips ∙ second.is in
       omega (arith, some, ap length nothing, length-append word rest)
 

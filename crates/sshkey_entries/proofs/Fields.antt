@@ -32,7 +32,7 @@ base64_field b i l = not_blank (slice_index (encode_of standard b) i) (is_blank 
 
 pub one_fields : (text : List ℕ) (k l : Key) (m n : List ℕ) → AreKeyFields text k m → AreKeyFields text l n → (k ≡ l) × (m ≡ n)
 one_fields text k l m n f g =
-    let name = same_field (key_name k) (key_name l) f.behind_name g.behind_name f.one_word g.one_word f.name_ends g.name_ends (sym f.is ∙ g.is) in
-    let word = same_field (encode_of standard f.blob) (encode_of standard g.blob) f.behind_key g.behind_key (base64_field f.blob) (base64_field g.blob) f.key_ends g.key_ends (sym f.word ∙ ap without_blanks name.1 ∙ g.word) in
+    let name = same_field (key_name k) (key_name l) f.after_name g.after_name f.one_word g.one_word f.name_ends g.name_ends (sym f.is ∙ g.is) in
+    let word = same_field (encode_of standard f.blob) (encode_of standard g.blob) f.after_key g.after_key (base64_field f.blob) (base64_field g.blob) f.key_ends g.key_ends (sym f.word ∙ ap without_blanks name.1 ∙ g.word) in
     let blob = one_blob f.blob g.blob (bytes_fit f.blob (key_blobs.bytes k f.blob f.spelled)) (bytes_fit g.blob (key_blobs.bytes l g.blob g.spelled)) word.0 in
     (key_blobs.one k l g.blob (subst (SpellsWith IsKey HasKeyPlaces key k) blob f.spelled) g.spelled, f.comment_is ∙ ap without_blanks word.1 ∙ sym g.comment_is)

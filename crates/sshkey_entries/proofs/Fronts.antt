@@ -60,14 +60,14 @@ module _ (is : ℕ → Bool) where
   nothing_left text none = all_skipped text (λ k l. not-false _ (no_place (λ c. not (is c)) text (sym none) k l))
 
   module _ (ascii : (c : ℕ) → is c ≡ true → c < 128) where
-    behind : (text : List ℕ) (n : ℕ) → IsUtf8 text → n ≤ length text → ((k : ℕ) → k < n → is (slice_index text k) ≡ true) → IsCharBoundary text n
-    behind text zero utf8 l h = IsCharBoundary-start text utf8
-    behind text (suc n) utf8 l h =
+    after : (text : List ℕ) (n : ℕ) → IsUtf8 text → n ≤ length text → ((k : ℕ) → k < n → is (slice_index text k) ≡ true) → IsCharBoundary text n
+    after text zero utf8 l h = IsCharBoundary-start text utf8
+    after text (suc n) utf8 l h =
         let one : n + 1 ≡ suc n = omega arith in
         subst (IsCharBoundary text) one (IsCharBoundary-after_ascii text n utf8 (omega (arith, l)) (ascii (slice_index text n) (h n (omega arith))))
 
     pub left_place : (text : List ℕ) (n : ℕ) → IsUtf8 text → Some n ≡ position (λ c. not (is c)) text → IsCharBoundary text n
-    left_place text n utf8 found = let place = place_is text n found in behind text n utf8 (omega (arith, place.0)) place.1
+    left_place text n utf8 found = let place = place_is text n found in after text n utf8 (omega (arith, place.0)) place.1
 
 -- ---- words
 

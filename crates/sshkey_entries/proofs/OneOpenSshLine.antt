@@ -3,7 +3,7 @@ use Rattle.std.proofs.Common.{◌≡◌, ℕ, List, [], ◌∷◌, ◌++◌, len
 use Rattle.sshkey_entries.specs.AuthorizedKeys.{AuthorizedKey}
 use Rattle.sshkey_entries.specs.Fields.{without_blanks, AreKeyFields}
 use Rattle.sshkey_entries.specs.KnownHosts.{Marker, CertAuthority, Revoked, marker_text, IsHosts, KnownHost, at_sign}
-use Rattle.sshkey_entries.specs.OpenSshLines.{IsBehindOptions, IsAuthorizedLine, IsMarkedLine, IsHostLine}
+use Rattle.sshkey_entries.specs.OpenSshLines.{IsAfterOptions, IsAuthorizedLine, IsMarkedLine, IsHostLine}
 use Rattle.sshkey_entries.proofs.Fields.{same_field, one_fields}
 use Rattle.sshkey_entries.proofs.OneEntry.{one_end, same_entry}
 use Rattle.sshkey_entries.proofs.OneHost.{one_hosts, same_host}
@@ -21,7 +21,7 @@ same_front (c ∷ a) (d ∷ b) x y l e =
     let more = same_front a b x y (omega (arith, l)) rest in
     (ap (λ (n : ℕ). n ∷ a) here ∙ ap (λ (l : List ℕ). d ∷ l) more.0, more.1)
 
-pub one_text : (text : List ℕ) (a b : AuthorizedKey) → IsBehindOptions text a → IsBehindOptions text b → a ≡ b
+pub one_text : (text : List ℕ) (a b : AuthorizedKey) → IsAfterOptions text a → IsAfterOptions text b → a ≡ b
 one_text text a b x y =
     let size = one_end text (length a.options) (length b.options) x.ends y.ends in
     let parts = same_front a.options b.options x.rest y.rest size (sym x.is ∙ y.is) in
@@ -59,7 +59,7 @@ one_marked text (Some Revoked) (Some Revoked) r s a b = (refl, a.3 ∙ ap withou
 
 pub one_host_line : (line : List ℕ) (a b : KnownHost) → IsHostLine line a → IsHostLine line b → a ≡ b
 one_host_line line a b x y =
-    let marks = one_marked (without_blanks line) a.marker b.marker (x.hosts_part ++ x.behind_hosts) (y.hosts_part ++ y.behind_hosts) x.marked y.marked in
-    let parts = same_field x.hosts_part y.hosts_part x.behind_hosts y.behind_hosts x.one_word y.one_word x.hosts_end y.hosts_end marks.1 in
-    let key = one_fields (without_blanks y.behind_hosts) a.key b.key a.comment b.comment (subst (λ (t : List ℕ). AreKeyFields (without_blanks t) a.key a.comment) parts.1 x.fields) y.fields in
+    let marks = one_marked (without_blanks line) a.marker b.marker (x.hosts_part ++ x.after_hosts) (y.hosts_part ++ y.after_hosts) x.marked y.marked in
+    let parts = same_field x.hosts_part y.hosts_part x.after_hosts y.after_hosts x.one_word y.one_word x.hosts_end y.hosts_end marks.1 in
+    let key = one_fields (without_blanks y.after_hosts) a.key b.key a.comment b.comment (subst (λ (t : List ℕ). AreKeyFields (without_blanks t) a.key a.comment) parts.1 x.fields) y.fields in
     same_host a b marks.0 (one_hosts y.hosts_part a.hosts b.hosts (subst (λ (t : List ℕ). IsHosts t a.hosts) parts.0 x.hosts) y.hosts) key.0 key.1

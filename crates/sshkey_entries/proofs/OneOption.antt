@@ -29,8 +29,8 @@ quote_same a b (suc i) same =
 pub quote_front : (a x : List ℕ) (i : ℕ) → i < length a → is_plain_quote (a ++ x) i ≡ is_plain_quote a i
 quote_front a x i l = quote_same (a ++ x) a i (λ k le. get_or_append_left a x 0 k (omega (arith, l, le)))
 
-quote_behind : (q r : List ℕ) → IsQuoted q → is_plain_quote (q ++ (quote ∷ r)) (length q) ≡ true
-quote_behind q r is =
+quote_after : (q r : List ℕ) → IsQuoted q → is_plain_quote (q ++ (quote ∷ r)) (length q) ≡ true
+quote_after q r is =
     ap (λ (t : List ℕ). is_plain_quote t (length q)) (sym (append_assoc q (quote ∷ []) r))
     ∙ quote_front (q ++ (quote ∷ [])) r (length q) (omega (arith, length-append q (quote ∷ [])))
     ∙ is.ends
@@ -38,7 +38,7 @@ quote_behind q r is =
 -- where a text is quoted, it is not quoted further on
 not_shorter : (q p r s : List ℕ) → IsQuoted q → IsQuoted p → q ++ (quote ∷ r) ≡ p ++ (quote ∷ s) → length q < length p → ⊥
 not_shorter q p r s a b e l =
-    let here : is_plain_quote (p ++ (quote ∷ s)) (length q) ≡ true = ap (λ (t : List ℕ). is_plain_quote t (length q)) (sym e) ∙ quote_behind q r a in
+    let here : is_plain_quote (p ++ (quote ∷ s)) (length q) ≡ true = ap (λ (t : List ℕ). is_plain_quote t (length q)) (sym e) ∙ quote_after q r a in
     cc (sym here ∙ quote_front p (quote ∷ s) (length q) l ∙ b.inner (length q) l)
 
 pub same_quoted : (q p r s : List ℕ) → IsQuoted q → IsQuoted p → q ++ (quote ∷ r) ≡ p ++ (quote ∷ s) → (q ≡ p) × (r ≡ s)
@@ -84,13 +84,13 @@ same_option o p n v = λ j. record { name = n j; value = v j }
 
 pub one_option : (text : List ℕ) (o p : KeyOption) (r s : List ℕ) → IsOptionAt text o r → IsOptionAt text p s → (o ≡ p) × (r ≡ s)
 one_option text o p r s a b =
-    let names = same_name o.name p.name a.behind b.behind a.characters b.characters (value_ends a.behind o.value r a.value a.ends) (value_ends b.behind p.value s b.value b.ends) (sym a.is ∙ b.is) in
-    let values = same_value b.behind o.value p.value r s (subst (λ (t : List ℕ). IsValueAt t o.value r) names.1 a.value) b.value a.ends b.ends in
+    let names = same_name o.name p.name a.after b.after a.characters b.characters (value_ends a.after o.value r a.value a.ends) (value_ends b.after p.value s b.value b.ends) (sym a.is ∙ b.is) in
+    let values = same_value b.after o.value p.value r s (subst (λ (t : List ℕ). IsValueAt t o.value r) names.1 a.value) b.value a.ends b.ends in
     (same_option o p names.0 values.0, values.1)
 
 -- no option is nothing
 pub some_option : (text : List ℕ) (o : KeyOption) (r : List ℕ) → IsOptionAt text o r → 0 < length text
-some_option text o r a = omega (arith, a.some, ap length a.is, length-append o.name a.behind)
+some_option text o r a = omega (arith, a.some, ap length a.is, length-append o.name a.after)
 
 pub one_options : (text : List ℕ) (a b : List KeyOption) → AreKeyOptions text a → AreKeyOptions text b → a ≡ b
 one_options text [] [] x y = refl

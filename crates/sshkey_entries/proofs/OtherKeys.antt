@@ -95,15 +95,15 @@ not_blank c true e is = absurd (elim (blanks_are c e) [
 pub name_field : (name : List ℕ) → HasNameCharacters name → IsField name
 name_field name is i less = not_blank (slice_index name i) (is_blank (slice_index name i)) refl (is i less)
 
-behind : (c : ℕ) (name : List ℕ) → HasNameCharacters (c ∷ name) → HasNameCharacters name
-behind c name is i less = is (suc i) (omega (arith, less))
+after : (c : ℕ) (name : List ℕ) → HasNameCharacters (c ∷ name) → HasNameCharacters name
+after c name is i less = is (suc i) (omega (arith, less))
 
 small : (c : ℕ) → is_name_character c ≡ true → nat_lt c 256 ≡ true
 small c is = grind (arith, tests)
 
 name_bytes : (name : List ℕ) → HasNameCharacters name → are_bytes name ≡ true
 name_bytes [] is = refl
-name_bytes (c ∷ name) is = rw (small c (is 0 (omega arith)), name_bytes name (behind c name is)) refl
+name_bytes (c ∷ name) is = rw (small c (is 0 (omega arith)), name_bytes name (after c name is)) refl
 
 no_at : (c : ℕ) (b : Bool) → (c == at_sign) ≡ b → is_name_character c ≡ true → (c == at_sign) ≡ false
 no_at c false e is = e
@@ -111,7 +111,7 @@ no_at c true e is = absurd (cc (sym is ∙ ap is_name_character (eqb-true c at_s
 
 uncut : (name : List ℕ) → HasNameCharacters name → cut name ≡ None
 uncut [] is = refl
-uncut (c ∷ name) is = rw (no_at c (c == at_sign) refl (is 0 (omega arith)), uncut name (behind c name is)) refl
+uncut (c ∷ name) is = rw (no_at c (c == at_sign) refl (is 0 (omega arith)), uncut name (after c name is)) refl
 
 no_own : (name : List ℕ) → HasNameCharacters name → is_other_name name ≡ true → ⊥
 unfolding is_other_name is_own_name
@@ -151,13 +151,13 @@ no_key_begins k name blob rest o s is =
 
 -- ---- fields
 
-module _ (text name behind skipped word rest : List ℕ) (first : CutsField text name behind) (skips : skipped ≡ without_blanks behind) (second : CutsField skipped word rest) where
+module _ (text name after skipped word rest : List ℕ) (first : CutsField text name after) (skips : skipped ≡ without_blanks after) (second : CutsField skipped word rest) where
   pub fields_read : IsOtherName name → SpellsName name word → AreOtherKeyFields text
   fields_read other spelled = record {
     name = name;
     word = word;
-    behind_name = behind;
-    behind_word = rest;
+    after_name = after;
+    after_word = rest;
     is = first.is;
     name_ends = first.ends;
     of_other = other;
@@ -168,15 +168,15 @@ module _ (text name behind skipped word rest : List ℕ) (first : CutsField text
 
   pub fields_named : AreOtherKeyFields text → IsOtherName name × SpellsName name word
   fields_named f =
-      let names = same_field name f.name behind f.behind_name first.one_word (name_field f.name f.of_other.characters) first.ends f.name_ends (sym first.is ∙ f.is) in
-      let words = same_field word f.word rest f.behind_word second.one_word (subst IsField (sym f.spelled.is) (base64_field f.spelled.blob)) second.ends f.word_ends (sym second.is ∙ skips ∙ ap without_blanks names.1 ∙ f.word_is) in
+      let names = same_field name f.name after f.after_name first.one_word (name_field f.name f.of_other.characters) first.ends f.name_ends (sym first.is ∙ f.is) in
+      let words = same_field word f.word rest f.after_word second.one_word (subst IsField (sym f.spelled.is) (base64_field f.spelled.blob)) second.ends f.word_ends (sym second.is ∙ skips ∙ ap without_blanks names.1 ∙ f.word_is) in
       (subst IsOtherName (sym names.0) f.of_other, subst (λ (w : List ℕ). SpellsName name w) (sym words.0) (subst (λ (n : List ℕ). SpellsName n f.word) (sym names.0) f.spelled))
 
 -- No text is the fields of a key and of one of another kind.
 pub apart : (text : List ℕ) (k : Key) (comment : List ℕ) → AreOtherKeyFields text → AreKeyFields text k comment → ⊥
 apart text k comment f g =
-    let names = same_field f.name (key_name k) f.behind_name g.behind_name (name_field f.name f.of_other.characters) g.one_word f.name_ends g.name_ends (sym f.is ∙ g.is) in
-    let words = same_field f.word (encode_of standard g.blob) f.behind_word g.behind_key (subst IsField (sym f.spelled.is) (base64_field f.spelled.blob)) (base64_field g.blob) f.word_ends g.key_ends (sym f.word_is ∙ ap without_blanks names.1 ∙ g.word) in
+    let names = same_field f.name (key_name k) f.after_name g.after_name (name_field f.name f.of_other.characters) g.one_word f.name_ends g.name_ends (sym f.is ∙ g.is) in
+    let words = same_field f.word (encode_of standard g.blob) f.after_word g.after_key (subst IsField (sym f.spelled.is) (base64_field f.spelled.blob)) (base64_field g.blob) f.word_ends g.key_ends (sym f.word_is ∙ ap without_blanks names.1 ∙ g.word) in
     let blob = one_blob f.spelled.blob g.blob f.spelled.bytes (bytes_fit g.blob (key_blobs.bytes k g.blob g.spelled)) (sym f.spelled.is ∙ words.0) in
     no_key_begins k f.name g.blob f.spelled.rest f.of_other g.spelled (sym blob ∙ f.spelled.begins)
 
@@ -184,12 +184,12 @@ apart text k comment f g =
 
 pub other_line_none : (line : List ℕ) (m : Option Marker) (hosts : Hosts) → IsOtherHostLine line m hosts → IsNoEntry IsHostLine line
 other_line_none line m hosts f h r =
-    let marks = one_marked (without_blanks line) m h.marker (f.hosts_part ++ f.behind_hosts) (r.hosts_part ++ r.behind_hosts) f.marked r.marked in
-    let parts = same_field f.hosts_part r.hosts_part f.behind_hosts r.behind_hosts f.one_word r.one_word f.hosts_end r.hosts_end marks.1 in
-    apart (without_blanks r.behind_hosts) h.key h.comment (subst (λ (t : List ℕ). AreOtherKeyFields (without_blanks t)) parts.1 f.fields) r.fields
+    let marks = one_marked (without_blanks line) m h.marker (f.hosts_part ++ f.after_hosts) (r.hosts_part ++ r.after_hosts) f.marked r.marked in
+    let parts = same_field f.hosts_part r.hosts_part f.after_hosts r.after_hosts f.one_word r.one_word f.hosts_end r.hosts_end marks.1 in
+    apart (without_blanks r.after_hosts) h.key h.comment (subst (λ (t : List ℕ). AreOtherKeyFields (without_blanks t)) parts.1 f.fields) r.fields
 
 pub one_other_line : (line : List ℕ) (m n : Option Marker) (g h : Hosts) → IsOtherHostLine line m g → IsOtherHostLine line n h → (m ≡ n) × (g ≡ h)
 one_other_line line m n g h a b =
-    let marks = one_marked (without_blanks line) m n (a.hosts_part ++ a.behind_hosts) (b.hosts_part ++ b.behind_hosts) a.marked b.marked in
-    let parts = same_field a.hosts_part b.hosts_part a.behind_hosts b.behind_hosts a.one_word b.one_word a.hosts_end b.hosts_end marks.1 in
+    let marks = one_marked (without_blanks line) m n (a.hosts_part ++ a.after_hosts) (b.hosts_part ++ b.after_hosts) a.marked b.marked in
+    let parts = same_field a.hosts_part b.hosts_part a.after_hosts b.after_hosts a.one_word b.one_word a.hosts_end b.hosts_end marks.1 in
     (marks.0, one_hosts b.hosts_part g h (subst (λ (t : List ℕ). IsHosts t g) parts.0 a.are) b.are)

@@ -11,9 +11,9 @@ use denote.Ref.{Bor}
 pub not_so : (b : Bool) (P : Type 0) → (IsTrue b ↔ P) → b ≡ false → P → ⊥
 not_so b P judged never_so p = let chosen : b ≡ true = judged.1 p in cc (sym chosen ∙ never_so)
 
-pub behind : {W : Type 0} (row : List ℕ × W) (more : List (List ℕ × W)) (name : List ℕ) (r : Option W) → (IsSameName name row.0 → ⊥) → FindsWord more name r → FindsWord (row ∷ more) name r
-behind row more name None other none = λ w names. elim names [ inl same ↦ other same.0 | inr rest ↦ none w rest.1 ]
-behind row more name (Some w) other found = inr (other, found)
+pub after : {W : Type 0} (row : List ℕ × W) (more : List (List ℕ × W)) (name : List ℕ) (r : Option W) → (IsSameName name row.0 → ⊥) → FindsWord more name r → FindsWord (row ∷ more) name r
+after row more name None other none = λ w names. elim names [ inl same ↦ other same.0 | inr rest ↦ none w rest.1 ]
+after row more name (Some w) other found = inr (other, found)
 
 pub is_none_left : {W : Type 0} (table : List (Bor (List ℕ) × W)) (i : ℕ) (name : List ℕ) → length table ≤ i → FindsWord (map row_of (drop i table)) name None
 is_none_left {W} table i name past = subst (λ (l : List (Bor (List ℕ) × W)). FindsWord (map row_of l) name None) (sym (drop_all i table past)) (λ w named. named)
@@ -25,8 +25,8 @@ module _ {W : Type 0} (table : List (Bor (List ℕ) × W)) (i : ℕ) (name : Lis
   pub is_found : IsSameName name row.0.now → FindsWord (map row_of (drop i table)) name (Some row.1)
   is_found same = subst (λ (l : List (Bor (List ℕ) × W)). FindsWord (map row_of l) name (Some row.1)) first_row (inl (same, refl))
 
-  pub is_behind : (r : Option W) → (IsSameName name row.0.now → ⊥) → FindsWord (map row_of (drop (i + 1) table)) name r → FindsWord (map row_of (drop i table)) name r
-  is_behind r other found = subst (λ (l : List (Bor (List ℕ) × W)). FindsWord (map row_of l) name r) first_row (behind (row_of row) (map row_of (drop (i + 1) table)) name r other found)
+  pub is_after : (r : Option W) → (IsSameName name row.0.now → ⊥) → FindsWord (map row_of (drop (i + 1) table)) name r → FindsWord (map row_of (drop i table)) name r
+  is_after r other found = subst (λ (l : List (Bor (List ℕ) × W)). FindsWord (map row_of l) name r) first_row (after (row_of row) (map row_of (drop (i + 1) table)) name r other found)
 
 -- A name is one word.
 pub one_word : {W : Type 0} (table : List (List ℕ × W)) (name : List ℕ) (w v : W) → Names table name w → Names table name v → w ≡ v

@@ -27,15 +27,15 @@ EndsField text = (text ≡ []) ⊎ (is_blank (slice_index text 0) ≡ true)
 -- follows.
 pub record AreKeyFields (text : List ℕ) (k : Key) (comment : List ℕ) : Type 0 where
   pub blob : List ℕ
-  pub behind_name : List ℕ
-  pub behind_key : List ℕ
-  pub is : text ≡ key_name k ++ behind_name
+  pub after_name : List ℕ
+  pub after_key : List ℕ
+  pub is : text ≡ key_name k ++ after_name
   pub one_word : IsField (key_name k)
-  pub name_ends : EndsField behind_name
-  pub word : without_blanks behind_name ≡ encode_of standard blob ++ behind_key
+  pub name_ends : EndsField after_name
+  pub word : without_blanks after_name ≡ encode_of standard blob ++ after_key
   pub spelled : SpellsWith IsKey HasKeyPlaces key k blob
-  pub key_ends : EndsField behind_key
-  pub comment_is : comment ≡ without_blanks behind_key
+  pub key_ends : EndsField after_key
+  pub comment_is : comment ≡ without_blanks after_key
 
 -- No key's fields stand at the front.
 abbrev pub AreNoKeyFields : List ℕ → Type 0

@@ -35,11 +35,11 @@ pub record IsForOthers (hmac : List ℕ → List ℕ → List ℕ) (name line : 
   pub no_zero : IsWithout 0 line
   pub marker : Option Marker
   pub hosts_part : List ℕ
-  pub behind : List ℕ
+  pub after : List ℕ
   pub hosts : Hosts
-  pub marked : IsMarkedLine marker (without_blanks line) (hosts_part ++ behind)
+  pub marked : IsMarkedLine marker (without_blanks line) (hosts_part ++ after)
   pub one_word : IsField hosts_part
-  pub ends : EndsField behind
+  pub ends : EndsField after
   pub are : IsHosts hosts_part hosts
   pub not_for : AreFor hmac name hosts → ⊥
 

@@ -24,9 +24,9 @@ ReadsKeyFields text (Err e) = cause e ≢ NoMemory → AreNoKeyFields text
 
 -- The text is a name, a word and what follows it, with blanks between.
 pub record AreFields (text name word rest : List ℕ) : Type 0 where
-  pub behind : List ℕ
-  pub first : CutsField text name behind
-  pub second : CutsField (without_blanks behind) word rest
+  pub after : List ℕ
+  pub first : CutsField text name after
+  pub second : CutsField (without_blanks after) word rest
 
 -- `Length` where the Base64 is missing, the fault of a word that spells no key, and
 -- `AlgorithmUnknown` where it spells a key of another name.

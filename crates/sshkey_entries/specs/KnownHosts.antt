@@ -85,9 +85,9 @@ pub record IsKnownHost (entry : List ℕ) (h : KnownHost) : Type 0 where
 -- ---- writing
 
 -- the marker and a space, where there is one
-abbrev pub behind_marker : Option Marker → List ℕ → List ℕ
-behind_marker None rest = rest
-behind_marker (Some m) rest = marker_text m ++ (space ∷ rest)
+abbrev pub after_marker : Option Marker → List ℕ → List ℕ
+after_marker None rest = rest
+after_marker (Some m) rest = marker_text m ++ (space ∷ rest)
 
 abbrev pub known_text : KnownHost → List ℕ
-known_text h = behind_marker h.marker (hosts_text h.hosts ++ (space ∷ key_line h.key h.comment))
+known_text h = after_marker h.marker (hosts_text h.hosts ++ (space ∷ key_line h.key h.comment))

@@ -19,7 +19,7 @@ pub record IsKeyAlone (text : List ℕ) (a : AuthorizedKey) : Type 0 where
 
 -- The text begins with no key. It is options, which end at the first space or tab outside quotes,
 -- and a key's fields.
-pub record IsBehindOptions (text : List ℕ) (a : AuthorizedKey) : Type 0 where
+pub record IsAfterOptions (text : List ℕ) (a : AuthorizedKey) : Type 0 where
   pub rest : List ℕ
   pub is : text ≡ a.options ++ rest
   pub ends : EndsOptions text (length a.options)
@@ -28,42 +28,42 @@ pub record IsBehindOptions (text : List ℕ) (a : AuthorizedKey) : Type 0 where
 
 pub record IsAuthorizedLine (line : List ℕ) (a : AuthorizedKey) : Type 0 where
   pub no_comment : slice_index (without_blanks line) 0 ≢ hash_sign
-  pub is : IsKeyAlone (without_blanks line) a ⊎ IsBehindOptions (without_blanks line) a
+  pub is : IsKeyAlone (without_blanks line) a ⊎ IsAfterOptions (without_blanks line) a
 
 -- ---- known_hosts
 
 -- ssh ends a marker at the first space of the line, and at a tab only where no space follows. A
 -- revocation counts even with a tab after its marker.
 abbrev pub EndsMarker : Marker → List ℕ → Type 0
-EndsMarker CertAuthority behind = (slice_index behind 0 ≡ space) ⊎ IsWithout space behind
-EndsMarker Revoked behind = Unit {0}
+EndsMarker CertAuthority after = (slice_index after 0 ≡ space) ⊎ IsWithout space after
+EndsMarker Revoked after = Unit {0}
 
 -- one marker before the rest, which is a field of its own; or none, and then no at sign at the
 -- front
 abbrev pub IsMarkedLine : Option Marker → List ℕ → List ℕ → Type 0
 IsMarkedLine None text rest = (text ≡ rest) × (slice_index text 0 ≢ at_sign)
-IsMarkedLine (Some m) text rest = (behind : List ℕ) × (text ≡ marker_text m ++ behind) × (EndsField behind × EndsMarker m behind) × (rest ≡ without_blanks behind) × (slice_index rest 0 ≢ at_sign)
+IsMarkedLine (Some m) text rest = (after : List ℕ) × (text ≡ marker_text m ++ after) × (EndsField after × EndsMarker m after) × (rest ≡ without_blanks after) × (slice_index rest 0 ≢ at_sign)
 
 -- A marker or none, hosts, and a key's fields. No byte is 0, where ssh takes the hosts to end.
 pub record IsHostLine (line : List ℕ) (h : KnownHost) : Type 0 where
   pub no_zero : IsWithout 0 line
   pub hosts_part : List ℕ
-  pub behind_hosts : List ℕ
+  pub after_hosts : List ℕ
   pub no_comment : slice_index (without_blanks line) 0 ≢ hash_sign
-  pub marked : IsMarkedLine h.marker (without_blanks line) (hosts_part ++ behind_hosts)
+  pub marked : IsMarkedLine h.marker (without_blanks line) (hosts_part ++ after_hosts)
   pub one_word : IsField hosts_part
-  pub hosts_end : EndsField behind_hosts
+  pub hosts_end : EndsField after_hosts
   pub hosts : IsHosts hosts_part h.hosts
-  pub fields : AreKeyFields (without_blanks behind_hosts) h.key h.comment
+  pub fields : AreKeyFields (without_blanks after_hosts) h.key h.comment
 
 -- The same with the fields of a key whose kind is none here.
 pub record IsOtherHostLine (line : List ℕ) (marker : Option Marker) (hosts : Hosts) : Type 0 where
   pub no_zero : IsWithout 0 line
   pub hosts_part : List ℕ
-  pub behind_hosts : List ℕ
+  pub after_hosts : List ℕ
   pub no_comment : slice_index (without_blanks line) 0 ≢ hash_sign
-  pub marked : IsMarkedLine marker (without_blanks line) (hosts_part ++ behind_hosts)
+  pub marked : IsMarkedLine marker (without_blanks line) (hosts_part ++ after_hosts)
   pub one_word : IsField hosts_part
-  pub hosts_end : EndsField behind_hosts
+  pub hosts_end : EndsField after_hosts
   pub are : IsHosts hosts_part hosts
-  pub fields : AreOtherKeyFields (without_blanks behind_hosts)
+  pub fields : AreOtherKeyFields (without_blanks after_hosts)

@@ -54,11 +54,11 @@ EndsOption text = (text ≡ []) ⊎ (is_comma (slice_index text 0) ≡ true)
 
 -- The option stands before the rest.
 pub record IsOptionAt (text : List ℕ) (o : KeyOption) (rest : List ℕ) : Type 0 where
-  pub behind : List ℕ
-  pub is : text ≡ o.name ++ behind
+  pub after : List ℕ
+  pub is : text ≡ o.name ++ after
   pub some : 0 < length o.name
   pub characters : AreNameCharacters o.name
-  pub value : IsValueAt behind o.value rest
+  pub value : IsValueAt after o.value rest
   pub ends : EndsOption rest
 
 -- No option stands at the front.

@@ -44,11 +44,11 @@ pub record SpellsName (name word : List ℕ) : Type 0 where
 pub record AreOtherKeyFields (text : List ℕ) : Type 0 where
   pub name : List ℕ
   pub word : List ℕ
-  pub behind_name : List ℕ
-  pub behind_word : List ℕ
-  pub is : text ≡ name ++ behind_name
-  pub name_ends : EndsField behind_name
+  pub after_name : List ℕ
+  pub after_word : List ℕ
+  pub is : text ≡ name ++ after_name
+  pub name_ends : EndsField after_name
   pub of_other : IsOtherName name
-  pub word_is : without_blanks behind_name ≡ word ++ behind_word
+  pub word_is : without_blanks after_name ≡ word ++ after_word
   pub spelled : SpellsName name word
-  pub word_ends : EndsField behind_word
+  pub word_ends : EndsField after_word

@@ -33,8 +33,8 @@ pub fn read_key_fields(alloc: Global, text: &str) -> Result<PublicKey>
     ensures fault { RefusesFor HasKeyFault text.now result }
     ensures asks { AsksKeyFields text.now result }
 {
-    let (name, behind_name) = split_field(text);
-    let (word, behind_key) = split_field(skip_blanks(behind_name));
+    let (name, after_name) = split_field(text);
+    let (word, after_key) = split_field(skip_blanks(after_name));
     if word.is_empty() {
         return Err(Error::Encoding(encoding::Error::Length));
     }
@@ -42,6 +42,6 @@ pub fn read_key_fields(alloc: Global, text: &str) -> Result<PublicKey>
     if !is_named(&key_data, name) {
         return Err(Error::AlgorithmUnknown);
     }
-    let comment = copy_of_text(alloc, skip_blanks(behind_key))?;
+    let comment = copy_of_text(alloc, skip_blanks(after_key))?;
     Ok(PublicKey::new(key_data, comment))
 }

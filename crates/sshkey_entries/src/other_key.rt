@@ -119,7 +119,7 @@ fn spells_name(word: &str, name: &str) -> bool
 pub fn are_other_key_fields(text: &str) -> bool
     ensures { IsTrue result ↔ AreOtherKeyFields text.now }
 {
-    let (name, behind_name) = split_field(text);
-    let (word, _) = split_field(skip_blanks(behind_name));
+    let (name, after_name) = split_field(text);
+    let (word, _) = split_field(skip_blanks(after_name));
     is_other_name(name) && spells_name(word, name)
 }

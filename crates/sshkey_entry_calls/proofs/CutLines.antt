@@ -67,10 +67,10 @@ front_blanks (c ∷ text) = by_blank c text (is_blank c) refl (front_blanks text
 
 -- ---- the first line
 
-line_before : (front behind : List ℕ) → All (λ c. is_line_end c ≡ false) front → lines (front ++ (10 ∷ behind)) ≡ strip_carriage_return front ∷ lines behind
-line_before front behind none =
-    ap lines_of_parts (slice_split_at is_line_end front 10 behind none refl)
-    ∙ more_lines front (slice_split is_line_end behind) (omega (arith, length-slice_split is_line_end behind))
+line_before : (front after : List ℕ) → All (λ c. is_line_end c ≡ false) front → lines (front ++ (10 ∷ after)) ≡ strip_carriage_return front ∷ lines after
+line_before front after none =
+    ap lines_of_parts (slice_split_at is_line_end front 10 after none refl)
+    ∙ more_lines front (slice_split is_line_end after) (omega (arith, length-slice_split is_line_end after))
 
 last_line : (text : List ℕ) → 0 < length text → All (λ c. is_line_end c ≡ false) text → lines text ≡ text ∷ []
 last_line [] some none = absurd (omega arith)
@@ -96,26 +96,26 @@ stripped_by l true e =
     inr (last_part l (some_by l last) last ∙ ap (λ (x : List ℕ). x ++ (13 ∷ [])) (sym (ap (λ (b : Bool). cond b (take (length l - 1) l) l) e)))
 
 -- the line feed, and a carriage return before it
-ended : (front line : List ℕ) → line ≡ strip_carriage_return front → (strip_carriage_return front ≡ front) ⊎ (front ≡ strip_carriage_return front ++ (13 ∷ [])) → (end : List ℕ) × ((behind : List ℕ) → front ++ (10 ∷ behind) ≡ line ++ (end ++ behind)) × ((end ≡ 10 ∷ []) ⊎ (end ≡ 13 ∷ 10 ∷ []))
-ended front line is (inl same) = (10 ∷ [], λ behind. ap (λ (l : List ℕ). l ++ (10 ∷ behind)) (sym (is ∙ same)), inl refl)
-ended front line is (inr more) = (13 ∷ 10 ∷ [], λ behind. ap (λ (l : List ℕ). l ++ (10 ∷ behind)) (more ∙ ap (λ (l : List ℕ). l ++ (13 ∷ [])) (sym is)) ∙ append_assoc line (13 ∷ []) (10 ∷ behind), inr refl)
+ended : (front line : List ℕ) → line ≡ strip_carriage_return front → (strip_carriage_return front ≡ front) ⊎ (front ≡ strip_carriage_return front ++ (13 ∷ [])) → (end : List ℕ) × ((after : List ℕ) → front ++ (10 ∷ after) ≡ line ++ (end ++ after)) × ((end ≡ 10 ∷ []) ⊎ (end ≡ 13 ∷ 10 ∷ []))
+ended front line is (inl same) = (10 ∷ [], λ after. ap (λ (l : List ℕ). l ++ (10 ∷ after)) (sym (is ∙ same)), inl refl)
+ended front line is (inr more) = (13 ∷ 10 ∷ [], λ after. ap (λ (l : List ℕ). l ++ (10 ∷ after)) (more ∙ ap (λ (l : List ℕ). l ++ (13 ∷ [])) (sym is)) ∙ append_assoc line (13 ∷ []) (10 ∷ after), inr refl)
 
-pub cut_at : (text line behind : List ℕ) (n : ℕ) → Some n ≡ position is_line_end text → line ≡ strip_carriage_return (take n text) → behind ≡ drop (n + 1) text → CutsLine text line behind
-cut_at text line behind n at is rest =
+pub cut_at : (text line after : List ℕ) (n : ℕ) → Some n ≡ position is_line_end text → line ≡ strip_carriage_return (take n text) → after ≡ drop (n + 1) text → CutsLine text line after
+cut_at text line after n at is rest =
     let place = position-Some is_line_end text n 0 (sym at) in
     let one : n + 1 ≡ suc n = omega arith in
     let feed : get_or text n 0 ≡ 10 = (let e = place.1 in grind (arith, tests)) in
-    let from : drop n text ≡ 10 ∷ behind = drop-cons text n 0 place.0 ∙ ap (λ (c : ℕ). c ∷ drop (suc n) text) feed ∙ ap (λ (k : ℕ). 10 ∷ drop k text) (sym one) ∙ ap (λ (r : List ℕ). 10 ∷ r) (sym rest) in
-    let whole : text ≡ take n text ++ (10 ∷ behind) = sym (take-append-drop n text) ∙ ap (λ (r : List ℕ). take n text ++ r) from in
+    let from : drop n text ≡ 10 ∷ after = drop-cons text n 0 place.0 ∙ ap (λ (c : ℕ). c ∷ drop (suc n) text) feed ∙ ap (λ (k : ℕ). 10 ∷ drop k text) (sym one) ∙ ap (λ (r : List ℕ). 10 ∷ r) (sym rest) in
+    let whole : text ≡ take n text ++ (10 ∷ after) = sym (take-append-drop n text) ∙ ap (λ (r : List ℕ). take n text ++ r) from in
     let size : length (take n text) ≡ n = length-take-le n text (omega (arith, place.0)) in
     let none : All (λ c. is_line_end c ≡ false) (take n text) = All-from_get_or (λ c. is_line_end c ≡ false) (take n text) 0 (λ i l. ap is_line_end (get_or-take n text i 0 (omega (arith, l, size))) ∙ place.2 i (omega (arith, l, size))) in
     let end = ended (take n text) line is (stripped_by (take n text) (eqb (slice_index (take n text) (length (take n text) - 1)) 13) refl) in
     record {
       end = end.0;
-      is = whole ∙ end.1 behind;
+      is = whole ∙ end.1 after;
       ends = inr end.2;
-      first = ap lines whole ∙ line_before (take n text) behind none ∙ ap (λ (l : List ℕ). l ∷ lines behind) (sym is);
-      any_behind = λ _ x. ap lines (sym (end.1 x)) ∙ line_before (take n text) x none ∙ ap (λ (l : List ℕ). l ∷ lines x) (sym is);
+      first = ap lines whole ∙ line_before (take n text) after none ∙ ap (λ (l : List ℕ). l ∷ lines after) (sym is);
+      any_after = λ _ x. ap lines (sym (end.1 x)) ∙ line_before (take n text) x none ∙ ap (λ (l : List ℕ). l ∷ lines x) (sym is);
     }
 
 no_place : (p : ℕ → Bool) (xs : List ℕ) → None ≡ position p xs → (k : ℕ) → k < length xs → p (get_or xs k 0) ≡ false
@@ -130,34 +130,34 @@ cut_last text some is = record {
   is = sym (append-nil text);
   ends = inl (refl, refl);
   first = last_line text some (All-from_get_or (λ c. is_line_end c ≡ false) text 0 (no_place is_line_end text is));
-  any_behind = λ ended _. absurd (omega (arith, ended));
+  any_after = λ ended _. absurd (omega (arith, ended));
 }
 
 -- ---- filled lines
 
-step : (text line behind filled : List ℕ) (b : Bool) → lines text ≡ line ∷ lines behind → filled ≡ without_blanks line → is_filled filled ≡ b → filled_lines text ≡ cond b (filled ∷ filled_lines behind) (filled_lines behind)
-step text line behind filled b first is e =
+step : (text line after filled : List ℕ) (b : Bool) → lines text ≡ line ∷ lines after → filled ≡ without_blanks line → is_filled filled ≡ b → filled_lines text ≡ cond b (filled ∷ filled_lines after) (filled_lines after)
+step text line after filled b first is e =
     ap (λ (all : List (List ℕ)). filter is_filled (map without_blanks all)) first
-    ∙ ap (λ (l : List ℕ). cond (is_filled l) (l ∷ filled_lines behind) (filled_lines behind)) (sym is)
-    ∙ ap (λ (t : Bool). cond t (filled ∷ filled_lines behind) (filled_lines behind)) e
+    ∙ ap (λ (l : List ℕ). cond (is_filled l) (l ∷ filled_lines after) (filled_lines after)) (sym is)
+    ∙ ap (λ (t : Bool). cond t (filled ∷ filled_lines after) (filled_lines after)) e
 
-pub passed : (text line behind filled : List ℕ) → CutsLine text line behind → filled ≡ without_blanks line → is_filled filled ≡ false → filled_lines text ≡ filled_lines behind
-passed text line behind filled cut is e = step text line behind filled false cut.first is e
+pub passed : (text line after filled : List ℕ) → CutsLine text line after → filled ≡ without_blanks line → is_filled filled ≡ false → filled_lines text ≡ filled_lines after
+passed text line after filled cut is e = step text line after filled false cut.first is e
 
 -- the end of a line is no line of its own
-unfilled : (front behind : List ℕ) → All (λ c. is_line_end c ≡ false) front → strip_carriage_return front ≡ [] → filled_lines (front ++ (10 ∷ behind)) ≡ filled_lines behind
-unfilled front behind none is =
-    ap (λ (all : List (List ℕ)). filter is_filled (map without_blanks all)) (line_before front behind none ∙ ap (λ (l : List ℕ). l ∷ lines behind) is)
-    ∙ ap (λ (l : List ℕ). cond (is_filled l) (l ∷ filled_lines behind) (filled_lines behind)) (fronts.nothing_stays is_blank)
+unfilled : (front after : List ℕ) → All (λ c. is_line_end c ≡ false) front → strip_carriage_return front ≡ [] → filled_lines (front ++ (10 ∷ after)) ≡ filled_lines after
+unfilled front after none is =
+    ap (λ (all : List (List ℕ)). filter is_filled (map without_blanks all)) (line_before front after none ∙ ap (λ (l : List ℕ). l ∷ lines after) is)
+    ∙ ap (λ (l : List ℕ). cond (is_filled l) (l ∷ filled_lines after) (filled_lines after)) (fronts.nothing_stays is_blank)
 
 only_return : (i : ℕ) → i < 1 → is_line_end (get_or (13 ∷ []) i 0) ≡ false
 only_return zero l = refl
 only_return (suc i) l = absurd (omega (arith, l))
 
-end_skipped : (end behind : List ℕ) → IsLineEnd end behind → filled_lines (end ++ behind) ≡ filled_lines behind
-end_skipped end behind (inl none) = ap (λ (l : List ℕ). filled_lines (l ++ behind)) none.0
-end_skipped end behind (inr (inl feed)) = ap (λ (l : List ℕ). filled_lines (l ++ behind)) feed ∙ unfilled [] behind (All-from_get_or (λ c. is_line_end c ≡ false) [] 0 (λ i l. absurd (omega (arith, l)))) refl
-end_skipped end behind (inr (inr both)) = ap (λ (l : List ℕ). filled_lines (l ++ behind)) both ∙ unfilled (13 ∷ []) behind (All-from_get_or (λ c. is_line_end c ≡ false) (13 ∷ []) 0 only_return) refl
+end_skipped : (end after : List ℕ) → IsLineEnd end after → filled_lines (end ++ after) ≡ filled_lines after
+end_skipped end after (inl none) = ap (λ (l : List ℕ). filled_lines (l ++ after)) none.0
+end_skipped end after (inr (inl feed)) = ap (λ (l : List ℕ). filled_lines (l ++ after)) feed ∙ unfilled [] after (All-from_get_or (λ c. is_line_end c ≡ false) [] 0 (λ i l. absurd (omega (arith, l)))) refl
+end_skipped end after (inr (inr both)) = ap (λ (l : List ℕ). filled_lines (l ++ after)) both ∙ unfilled (13 ∷ []) after (All-from_get_or (λ c. is_line_end c ≡ false) (13 ∷ []) 0 only_return) refl
 
 -- nor are blanks
 only_blanks : (blanks : List ℕ) → AreBlanks blanks → filled_lines blanks ≡ []
@@ -167,10 +167,10 @@ only_blanks (c ∷ blanks) are =
     ∙ ap (λ (l : List ℕ). filter is_filled (l ∷ [])) are.skipped
 
 -- a line with others after it has an end
-has_end : (end behind : List ℕ) → IsLineEnd end behind → 0 < length behind → 0 < length end
-has_end end behind (inl none) more = absurd (omega (arith, more, ap length none.1))
-has_end end behind (inr (inl feed)) more = omega (arith, ap length feed)
-has_end end behind (inr (inr both)) more = omega (arith, ap length both)
+has_end : (end after : List ℕ) → IsLineEnd end after → 0 < length after → 0 < length end
+has_end end after (inl none) more = absurd (omega (arith, more, ap length none.1))
+has_end end after (inr (inl feed)) more = omega (arith, ap length feed)
+has_end end after (inr (inr both)) more = omega (arith, ap length both)
 
 -- ---- where it is
 
@@ -196,32 +196,32 @@ left_first text left place is = record {
   nothing = λ _ _. refl;
 }
 
-pub left_next : (text left line behind filled : List ℕ) (place : ℕ) → 0 < length left → IsLeft text place left → CutsLine left line behind → filled ≡ without_blanks line → is_filled filled ≡ false → IsLeft text place behind
-left_next text left line behind filled place some was cut is none = record {
+pub left_next : (text left line after filled : List ℕ) (place : ℕ) → 0 < length left → IsLeft text place left → CutsLine left line after → filled ≡ without_blanks line → is_filled filled ≡ false → IsLeft text place after
+left_next text left line after filled place some was cut is none = record {
   before = was.before ++ (line ++ cut.end);
-  is = was.is ∙ ap (λ (l : List ℕ). was.before ++ l) (cut.is ∙ sym (append_assoc line cut.end behind)) ∙ sym (append_assoc was.before (line ++ cut.end) behind);
+  is = was.is ∙ ap (λ (l : List ℕ). was.before ++ l) (cut.is ∙ sym (append_assoc line cut.end after)) ∙ sym (append_assoc was.before (line ++ cut.end) after);
   later = λ _. omega (arith, was.later some, length-append was.before (line ++ cut.end));
-  same = was.same ∙ passed left line behind filled cut is none;
+  same = was.same ∙ passed left line after filled cut is none;
   over = was.over ++ (line ++ cut.end);
   from_place = ap (λ (l : List ℕ). l ++ (line ++ cut.end)) was.from_place ∙ append_assoc (take place text) was.over (line ++ cut.end);
   nothing = λ more x.
       ap filled_lines (append_assoc was.over (line ++ cut.end) x)
       ∙ was.nothing some ((line ++ cut.end) ++ x)
       ∙ ap filled_lines (append_assoc line cut.end x)
-      ∙ step (line ++ (cut.end ++ x)) line x filled false (cut.any_behind (has_end cut.end behind cut.ends more) x) is none;
+      ∙ step (line ++ (cut.end ++ x)) line x filled false (cut.any_after (has_end cut.end after cut.ends more) x) is none;
 }
 
-module _ (text left line behind filled : List ℕ) (place : ℕ) (some : 0 < length left) (was : IsLeft text place left) (cut : CutsLine left line behind) (is : filled ≡ without_blanks line) where
+module _ (text left line after filled : List ℕ) (place : ℕ) (some : 0 < length left) (was : IsLeft text place left) (cut : CutsLine left line after) (is : filled ≡ without_blanks line) where
   abbrev blanks : List ℕ
   blanks = (front_blanks line).0
 
   line_is : line ≡ blanks ++ filled
   line_is = (front_blanks line).1 ∙ ap (λ (l : List ℕ). (front_blanks line).0 ++ l) (sym is)
 
-  text_is : text ≡ (was.before ++ blanks) ++ (filled ++ (cut.end ++ behind))
+  text_is : text ≡ (was.before ++ blanks) ++ (filled ++ (cut.end ++ after))
   text_is =
-      was.is ∙ ap (λ (l : List ℕ). was.before ++ l) (cut.is ∙ ap (λ (l : List ℕ). l ++ (cut.end ++ behind)) line_is ∙ append_assoc blanks filled (cut.end ++ behind))
-      ∙ sym (append_assoc was.before blanks (filled ++ (cut.end ++ behind)))
+      was.is ∙ ap (λ (l : List ℕ). was.before ++ l) (cut.is ∙ ap (λ (l : List ℕ). l ++ (cut.end ++ after)) line_is ∙ append_assoc blanks filled (cut.end ++ after))
+      ∙ sym (append_assoc was.before blanks (filled ++ (cut.end ++ after)))
 
   pub left_size : length left ≤ length text
   left_size = omega (arith, ap length was.is, length-append was.before left)
@@ -230,7 +230,7 @@ module _ (text left line behind filled : List ℕ) (place : ℕ) (some : 0 < len
   filled_size = omega (arith, ap length line_is, length-append blanks filled)
 
   line_size : length line ≤ length left
-  line_size = omega (arith, ap length cut.is, length-append line (cut.end ++ behind))
+  line_size = omega (arith, ap length cut.is, length-append line (cut.end ++ after))
 
   start_is : (length text - length left) + (length line - length filled) ≡ length (was.before ++ blanks)
   start_is = omega (arith, ap length was.is, length-append was.before left, ap length line_is, length-append blanks filled, length-append was.before blanks)
@@ -238,24 +238,24 @@ module _ (text left line behind filled : List ℕ) (place : ℕ) (some : 0 < len
   content : take (length filled) (drop ((length text - length left) + (length line - length filled)) text) ≡ filled
   content = rw start_is (subst (λ (t : List ℕ). take (length filled) (drop (length (was.before ++ blanks)) t) ≡ filled) (sym text_is) (simp (drop-append_seam, take-append_seam)))
 
-  rest : drop (((length text - length left) + (length line - length filled)) + length filled) text ≡ cut.end ++ behind
-  rest = rw start_is (subst (λ (t : List ℕ). drop (length (was.before ++ blanks) + length filled) t ≡ cut.end ++ behind) (sym text_is) (simp (drop-append-add, drop-append_seam)))
+  rest : drop (((length text - length left) + (length line - length filled)) + length filled) text ≡ cut.end ++ after
+  rest = rw start_is (subst (λ (t : List ℕ). drop (length (was.before ++ blanks) + length filled) t ≡ cut.end ++ after) (sym text_is) (simp (drop-append-add, drop-append_seam)))
 
   -- what was passed from the place on, and the blanks
-  passed_is : text ≡ take place text ++ ((was.over ++ blanks) ++ (filled ++ (cut.end ++ behind)))
+  passed_is : text ≡ take place text ++ ((was.over ++ blanks) ++ (filled ++ (cut.end ++ after)))
   passed_is =
-      text_is ∙ ap (λ (l : List ℕ). (l ++ blanks) ++ (filled ++ (cut.end ++ behind))) was.from_place
-      ∙ ap (λ (l : List ℕ). l ++ (filled ++ (cut.end ++ behind))) (append_assoc (take place text) was.over blanks)
-      ∙ append_assoc (take place text) (was.over ++ blanks) (filled ++ (cut.end ++ behind))
+      text_is ∙ ap (λ (l : List ℕ). (l ++ blanks) ++ (filled ++ (cut.end ++ after))) was.from_place
+      ∙ ap (λ (l : List ℕ). l ++ (filled ++ (cut.end ++ after))) (append_assoc (take place text) was.over blanks)
+      ∙ append_assoc (take place text) (was.over ++ blanks) (filled ++ (cut.end ++ after))
 
   place_is : length (take place text) ≡ place
   place_is = length-take-le place text (omega (arith, was.later some, ap length was.is, length-append was.before left))
 
-  dropped : drop place text ≡ (was.over ++ blanks) ++ (filled ++ (cut.end ++ behind))
+  dropped : drop place text ≡ (was.over ++ blanks) ++ (filled ++ (cut.end ++ after))
   dropped =
       ap (λ (n : ℕ). drop n text) (sym place_is)
       ∙ ap (λ (l : List ℕ). drop (length (take place text)) l) passed_is
-      ∙ drop-append_seam (take place text) ((was.over ++ blanks) ++ (filled ++ (cut.end ++ behind)))
+      ∙ drop-append_seam (take place text) ((was.over ++ blanks) ++ (filled ++ (cut.end ++ after)))
 
   count : ((length text - length left) + (length line - length filled)) - place ≡ length (was.over ++ blanks)
   count = omega (arith, start_is, place_is, ap length was.from_place, length-append (take place text) was.over, length-append was.before blanks, length-append was.over blanks)
@@ -264,13 +264,13 @@ module _ (text left line behind filled : List ℕ) (place : ℕ) (some : 0 < len
   none_before =
       ap (λ (n : ℕ). filled_lines (take n (drop place text))) count
       ∙ ap (λ (l : List ℕ). filled_lines (take (length (was.over ++ blanks)) l)) dropped
-      ∙ ap filled_lines (take-append_seam (was.over ++ blanks) (filled ++ (cut.end ++ behind)))
+      ∙ ap filled_lines (take-append_seam (was.over ++ blanks) (filled ++ (cut.end ++ after)))
       ∙ was.nothing some blanks
       ∙ only_blanks blanks (front_blanks line).2
 
   pub finds : (part : Part) → is_filled filled ≡ true → FindsLine text place 0 part (record { start = (length text - length left) + (length line - length filled); length = length filled })
   finds part full = record {
-    found = λ _. was.same ∙ step left line behind filled true cut.first is full ∙ (λ i. sym content i ∷ sym (ap filled_lines rest ∙ end_skipped cut.end behind cut.ends) i);
+    found = λ _. was.same ∙ step left line after filled true cut.first is full ∙ (λ i. sym content i ∷ sym (ap filled_lines rest ∙ end_skipped cut.end after cut.ends) i);
     within = λ _. (omega (arith, start_is, was.later some, length-append was.before blanks), omega (arith, left_size, filled_size, line_size));
     first = λ _. none_before;
     none = λ other. absurd (other refl);

@@ -12,7 +12,7 @@ use Rattle.sshkey_calls.specs.Rooms.{IsAtFront}
 use Rattle.sshkey_calls.proofs.Rooms.{give_one, none_given}
 use Rattle.sshkey_entry_calls.specs.Options.{ArePlaced, EndsAt, FindsFirst, FindsKeyOption, GivesOption, IsNoText, TellsOption, option_bytes}
 use Rattle.sshkey_entry_calls.specs.declared.options.OptionParts.{OptionParts}
-use Rattle.sshkey_entry_calls.proofs.OptionPlaces.{behind_place, found, one_end, only}
+use Rattle.sshkey_entry_calls.proofs.OptionPlaces.{after_place, found, one_end, only}
 
 -- ---- of a text
 
@@ -85,13 +85,13 @@ module _ (options : List ℕ) (place : ℕ) where
     finds utf8 n was answer before after tells = record {
       found = λ z.
           let g = tells.gives.given z in
-          let there : drop end_ left ≡ drop answer.next options = sym (behind_place options left place end_ skips ends.within) ∙ ap (λ (k : ℕ). drop k options) (sym g.2.placed.next) in
+          let there : drop end_ left ≡ drop answer.next options = sym (after_place options left place end_ skips ends.within) ∙ ap (λ (k : ℕ). drop k options) (sym g.2.placed.next) in
           (g.0, subst (IsOptionAt (without_commas (drop place options)) g.0) there (first g.0 g.1.0 g.1.1), subst (λ (k : ℕ). IsAtFront (option_bytes g.0) (ArePlaced k g.0 answer) before after) (sym g.2.placed.next) g.2);
       later = λ z.
           let g = tells.gives.given z in
           let less = shorter (drop place options) (without_commas (drop place options)) (drop end_ left) g.0 refl (first g.0 g.1.0 g.1.1) in
-          let behind = ap length (behind_place options left place end_ skips ends.within) in
-          (omega (arith, less, behind, length-drop next options, length-drop place options, g.2.placed.next), omega (arith, g.2.placed.next));
+          let after = ap length (after_place options left place end_ skips ends.within) in
+          (omega (arith, less, after, length-drop next options, length-drop place options, g.2.placed.next), omega (arith, g.2.placed.next));
       short = λ two. let g = tells.gives.short two in (g.0, (drop end_ left, first g.0 g.1.0 g.1.1), g.2);
       memory = λ one. let m = tells.memory one in (m.0, (drop end_ left, first m.0 m.1.0 m.1.1));
       last = (λ three. absurd (no_other 3 three (omega arith, omega arith)), λ nothing. absurd (something nothing));

@@ -31,25 +31,25 @@ module _ (line before rest : List ℕ) (is : line ≡ before ++ rest) where
       let size : length line - length rest ≡ length before = omega (arith, size_is) in
       ap (λ (n : ℕ). take n line) size ∙ ap (take (length before)) is ∙ take-append_seam before rest
 
-module _ (line name behind word rest : List ℕ) (first : CutsField line name behind) (second : CutsField (without_blanks behind) word rest) where
-  whole : (blanks : List ℕ) → behind ≡ blanks ++ without_blanks behind → line ≡ (name ++ (blanks ++ word)) ++ rest
+module _ (line name after word rest : List ℕ) (first : CutsField line name after) (second : CutsField (without_blanks after) word rest) where
+  whole : (blanks : List ℕ) → after ≡ blanks ++ without_blanks after → line ≡ (name ++ (blanks ++ word)) ++ rest
   whole blanks front =
       first.is ∙ ap (λ (t : List ℕ). name ++ t) (front ∙ ap (λ (t : List ℕ). blanks ++ t) second.is)
       ∙ sym (append_assoc name (blanks ++ word) rest ∙ ap (λ (t : List ℕ). name ++ t) (append_assoc blanks word rest))
 
   pub shorter : length rest ≤ length line
   shorter =
-      let front = front_of is_blank behind in
+      let front = front_of is_blank after in
       ends_in line (name ++ (front.0 ++ word)) rest (whole front.0 front.1)
 
   pub begins : BeginsWithFields line (take (length line - length rest) line)
   begins =
-      let front = front_of is_blank behind in
+      let front = front_of is_blank after in
       let is = whole front.0 front.1 in record {
         name = name;
         word = word;
         rest = rest;
-        two = record { behind = behind; first = first; second = second };
+        two = record { after = after; first = first; second = second };
         is = is ∙ ap (λ (t : List ℕ). t ++ rest) (sym (before_is line (name ++ (front.0 ++ word)) rest is));
       }
 

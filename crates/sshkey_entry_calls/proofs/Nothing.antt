@@ -9,7 +9,7 @@ use Rattle.sshkey_krl.specs.Revocation.{Grant, begun}
 use Rattle.sshkey_krl.specs.Revocation as krl
 use Rattle.sshkey_krl.specs.Serials.{significant}
 use Rattle.sshkey_krl.specs.declared.krl_ref.KrlRef.{KrlRef}
-use Rattle.sshkey_model.specs.Reading.{behind_at, box_at, bytes_at, list_within, literal_at, number_at, string_at}
+use Rattle.sshkey_model.specs.Reading.{after_at, box_at, bytes_at, list_within, literal_at, number_at, string_at}
 use Rattle.sshkey_revoked_keys.specs.declared.revoked_keys.RevokedKeys.{RevokedKeys}
 use Rattle.sshkey_revoked_keys.specs.declared.revoked_keys.RevokedKeys.TheVariants.{Keys, Krl}
 use Rattle.sshkey_entry_calls.specs.RevocationFiles.{is_only_nothing, nothing, one_revokes, one_revokes_key}
@@ -17,7 +17,7 @@ use Rattle.sshkey_entry_calls.specs.RevocationFiles.{is_only_nothing, nothing, o
 -- ---- the list
 
 read_nothing : krl_in nothing ≡ begun 0 0 []
-unfolding behind_at box_at bytes_at count_leading_zeros krl_in list_within literal_at number_at significant string_at
+unfolding after_at box_at bytes_at count_leading_zeros krl_in list_within literal_at number_at significant string_at
 read_nothing = refl
 
 module _ (k : KrlRef) (is : bytes_eq (krl_bytes k) nothing ≡ true) where

@@ -75,22 +75,22 @@ quote_later front text c (suc i) other =
 
 -- ---- where an option ends
 
-module _ (name behind : List ℕ) (are : AreNameCharacters name) where
-  in_name : (i : ℕ) → i < length name → slice_index (name ++ behind) i ≡ slice_index name i
-  in_name i l = get_or_append_left name behind 0 i l
+module _ (name after : List ℕ) (are : AreNameCharacters name) where
+  in_name : (i : ℕ) → i < length name → slice_index (name ++ after) i ≡ slice_index name i
+  in_name i l = get_or_append_left name after 0 i l
 
-  no_comma : (i : ℕ) → i < length name → is_comma (slice_index (name ++ behind) i) ≡ true → ⊥
+  no_comma : (i : ℕ) → i < length name → is_comma (slice_index (name ++ after) i) ≡ true → ⊥
   no_comma i l comma = name_comma (slice_index name i) (are i l) (ap is_comma (sym (in_name i l)) ∙ comma)
 
-  no_plain_quote : (i : ℕ) → i < length name → is_plain_quote (name ++ behind) (0 + i) ≡ false
+  no_plain_quote : (i : ℕ) → i < length name → is_plain_quote (name ++ after) (0 + i) ≡ false
   no_plain_quote i l =
       let e : 0 + i ≡ i = omega arith in
-      ap (is_plain_quote (name ++ behind)) e ∙ not_quote (name ++ behind) i (slice_index name i) (in_name i l) (name_quote (slice_index name i) (are i l))
+      ap (is_plain_quote (name ++ after)) e ∙ not_quote (name ++ after) i (slice_index name i) (in_name i l) (name_quote (slice_index name i) (are i l))
 
-  name_outside : is_inside (name ++ behind) (length name) ≡ false
+  name_outside : is_inside (name ++ after) (length name) ≡ false
   name_outside =
       let e : 0 + length name ≡ length name = omega arith in
-      sym (ap (is_inside (name ++ behind)) e) ∙ same_inside (name ++ behind) 0 (length name) no_plain_quote ∙ inside_first (name ++ behind)
+      sym (ap (is_inside (name ++ after)) e) ∙ same_inside (name ++ after) 0 (length name) no_plain_quote ∙ inside_first (name ++ after)
 
 -- without a value
 name_ends : (name rest : List ℕ) → AreNameCharacters name → EndsOption rest → EndsAt (name ++ rest) (length name)
@@ -174,10 +174,10 @@ module _ (name quoted rest : List ℕ) (are : AreNameCharacters name) (is : IsQu
       comma (inl none) l = absurd (omega (arith, l, ap length before_rest, length-append whole rest, ap length none))
       comma (inr here) l = ap is_comma (let e : length whole ≡ length whole + 0 = omega arith in (λ j. slice_index (before_rest j) (e j)) ∙ get_or-append-add whole rest 0 0) ∙ here
 
-      behind_name : (k : ℕ) → k < 2 → is_comma (slice_index all (length name + k)) ≡ true → ⊥
-      behind_name zero _ here = let e : length name + 0 ≡ length name = omega arith in cc (sym here ∙ ap is_comma (ap (slice_index all) e ∙ at_name))
-      behind_name (suc zero) _ here = cc (sym here ∙ ap is_comma at_quote)
-      behind_name (suc (suc k)) l here = absurd (omega (arith, l))
+      after_name : (k : ℕ) → k < 2 → is_comma (slice_index all (length name + k)) ≡ true → ⊥
+      after_name zero _ here = let e : length name + 0 ≡ length name = omega arith in cc (sym here ∙ ap is_comma (ap (slice_index all) e ∙ at_name))
+      after_name (suc zero) _ here = cc (sym here ∙ ap is_comma at_quote)
+      after_name (suc (suc k)) l here = absurd (omega (arith, l))
 
       first : (i : ℕ) → i < length whole → is_comma (slice_index all i) ≡ true → is_inside all i ≡ true
       first i l here = elim (cases_lt i (length name)) [
@@ -185,10 +185,10 @@ module _ (name quoted rest : List ℕ) (are : AreNameCharacters name) (is : IsQu
         | inr above ↦ elim (cases_lt i (length name + 2)) [
           | inl less ↦
               let e : i ≡ length name + (i - length name) = omega (arith, above) in
-              absurd (behind_name (i - length name) (omega (arith, less, above)) (ap (λ (n : ℕ). is_comma (slice_index all n)) (sym e) ∙ here))
-          | inr behind ↦
-              let e : i ≡ (length name + 2) + (i - (length name + 2)) = omega (arith, behind) in
-              ap (is_inside all) e ∙ value_inside (i - (length name + 2)) (omega (arith, l, whole_size, behind))
+              absurd (after_name (i - length name) (omega (arith, less, above)) (ap (λ (n : ℕ). is_comma (slice_index all n)) (sym e) ∙ here))
+          | inr after ↦
+              let e : i ≡ (length name + 2) + (i - (length name + 2)) = omega (arith, after) in
+              ap (is_inside all) e ∙ value_inside (i - (length name + 2)) (omega (arith, l, whole_size, after))
         ]
       ]
 
@@ -201,40 +201,40 @@ pub record Cut (text : List ℕ) (o : KeyOption) (rest : List ℕ) : Type 0 wher
   pub alone : IsOptionAt front o []
   pub ends : EndsAt text (length front)
 
-cut_by : (name behind rest : List ℕ) (v : Option (List ℕ)) → 0 < length name → AreNameCharacters name → IsValueAt behind v rest → EndsOption rest → Cut (name ++ behind) (record { name = name; value = v }) rest
-cut_by name behind rest None some are value ends =
-    let whole : name ++ behind ≡ name ++ rest = ap (λ (t : List ℕ). name ++ t) value in
+cut_by : (name after rest : List ℕ) (v : Option (List ℕ)) → 0 < length name → AreNameCharacters name → IsValueAt after v rest → EndsOption rest → Cut (name ++ after) (record { name = name; value = v }) rest
+cut_by name after rest None some are value ends =
+    let whole : name ++ after ≡ name ++ rest = ap (λ (t : List ℕ). name ++ t) value in
     record {
       front = name;
       is = whole;
-      alone = record { behind = []; is = sym (append-nil name); some = some; characters = are; value = refl; ends = inl refl };
+      alone = record { after = []; is = sym (append-nil name); some = some; characters = are; value = refl; ends = inl refl };
       ends = subst (λ (t : List ℕ). EndsAt t (length name)) (sym whole) (name_ends name rest are ends);
     }
-cut_by name behind rest (Some v) some are value ends =
+cut_by name after rest (Some v) some are value ends =
     let quoted = value.0 in
-    let whole : name ++ behind ≡ name ++ (equals_sign ∷ quote ∷ (quoted ++ (quote ∷ rest))) = ap (λ (t : List ℕ). name ++ t) value.1 in
+    let whole : name ++ after ≡ name ++ (equals_sign ∷ quote ∷ (quoted ++ (quote ∷ rest))) = ap (λ (t : List ℕ). name ++ t) value.1 in
     record {
       front = name ++ (equals_sign ∷ quote ∷ (quoted ++ (quote ∷ [])));
       is = whole ∙ before_rest name quoted rest are value.2;
-      alone = record { behind = equals_sign ∷ quote ∷ (quoted ++ (quote ∷ [])); is = refl; some = some; characters = are; value = (quoted, refl, value.2, value.3); ends = inl refl };
+      alone = record { after = equals_sign ∷ quote ∷ (quoted ++ (quote ∷ [])); is = refl; some = some; characters = are; value = (quoted, refl, value.2, value.3); ends = inl refl };
       ends = subst (λ (t : List ℕ). EndsAt t (length (name ++ (equals_sign ∷ quote ∷ (quoted ++ (quote ∷ [])))))) (sym whole) (value_ends name quoted rest are value.2 ends);
     }
 
 cut : (text : List ℕ) (o : KeyOption) (rest : List ℕ) → IsOptionAt text o rest → Cut text o rest
-cut text o rest is = subst (λ (t : List ℕ). Cut t o rest) (sym is.is) (cut_by o.name is.behind rest o.value is.some is.characters is.value is.ends)
+cut text o rest is = subst (λ (t : List ℕ). Cut t o rest) (sym is.is) (cut_by o.name is.after rest o.value is.some is.characters is.value is.ends)
 
-joined_value : (behind rest : List ℕ) (v : Option (List ℕ)) → IsValueAt behind v [] → IsValueAt (behind ++ rest) v rest
-joined_value behind rest None is = ap (λ (t : List ℕ). t ++ rest) is
-joined_value behind rest (Some v) is =
+joined_value : (after rest : List ℕ) (v : Option (List ℕ)) → IsValueAt after v [] → IsValueAt (after ++ rest) v rest
+joined_value after rest None is = ap (λ (t : List ℕ). t ++ rest) is
+joined_value after rest (Some v) is =
     (is.0, ap (λ (t : List ℕ). t ++ rest) is.1 ∙ ap (λ (t : List ℕ). equals_sign ∷ quote ∷ t) (append_assoc is.0 (quote ∷ []) rest), is.2, is.3)
 
 joined : (front rest : List ℕ) (o : KeyOption) → IsOptionAt front o [] → EndsOption rest → IsOptionAt (front ++ rest) o rest
 joined front rest o is ends = record {
-  behind = is.behind ++ rest;
-  is = ap (λ (t : List ℕ). t ++ rest) is.is ∙ append_assoc o.name is.behind rest;
+  after = is.after ++ rest;
+  is = ap (λ (t : List ℕ). t ++ rest) is.is ∙ append_assoc o.name is.after rest;
   some = is.some;
   characters = is.characters;
-  value = joined_value is.behind rest o.value is.value;
+  value = joined_value is.after rest o.value is.value;
   ends = ends;
 }
 
@@ -274,14 +274,14 @@ module _ (text left : List ℕ) (skips : left ≡ without_commas text) (end_ : �
       by zero = refl
       by (suc n) = ap is_comma (get_or-take (suc n) left 0 0 (omega arith)) ∙ no_comma_left
 
-  ends_behind : EndsOption (drop end_ left)
-  ends_behind = elim (cases_lt end_ (length left)) [
+  ends_after : EndsOption (drop end_ left)
+  ends_after = elim (cases_lt end_ (length left)) [
     | inl less ↦ inr (let e : end_ + 0 ≡ end_ = omega arith in ap is_comma (get_or-drop end_ left 0 0 ∙ ap (slice_index left) e) ∙ (ends.ends less).0)
     | inr above ↦ inl (drop_of_length-le left above)
   ]
 
   ends_more : (rest : List ℕ) → EndsOption rest → EndsOption (rest ++ drop end_ left)
-  ends_more [] is = ends_behind
+  ends_more [] is = ends_after
   ends_more (c ∷ rest) (inl none) = absurd (omega (arith, ap length none))
   ends_more (c ∷ rest) (inr comma) = inr comma
 
@@ -308,8 +308,8 @@ module _ (text left : List ℕ) (skips : left ≡ without_commas text) (end_ : �
 
 -- ---- its place in all options
 
-pub behind_place : (options left : List ℕ) (place end_ : ℕ) → left ≡ without_commas (drop place options) → end_ ≤ length left → drop (length options - (length left - end_)) options ≡ drop end_ left
-behind_place options left place end_ skips within =
+pub after_place : (options left : List ℕ) (place end_ : ℕ) → left ≡ without_commas (drop place options) → end_ ≤ length left → drop (length options - (length left - end_)) options ≡ drop end_ left
+after_place options left place end_ skips within =
     let commas = commas_before (drop place options) in
     let front = (take place options ++ commas.0) ++ take end_ left in
     let whole : options ≡ front ++ drop end_ left

@@ -10,16 +10,16 @@ is_line_end c = c == 10
 
 -- how a line ends: where the text does, or at a line feed, before which a carriage return may stand
 abbrev pub IsLineEnd : List ℕ → List ℕ → Type 0
-IsLineEnd end behind = ((end ≡ []) × (behind ≡ [])) ⊎ (end ≡ 10 ∷ []) ⊎ (end ≡ 13 ∷ 10 ∷ [])
+IsLineEnd end after = ((end ≡ []) × (after ≡ [])) ⊎ (end ≡ 10 ∷ []) ⊎ (end ≡ 13 ∷ 10 ∷ [])
 
 -- The text is its first line, the end of that, and what follows; and so with any bytes in place of
 -- these, if the line has an end.
-pub record CutsLine (text line behind : List ℕ) : Type 0 where
+pub record CutsLine (text line after : List ℕ) : Type 0 where
   pub end : List ℕ
-  pub is : text ≡ line ++ (end ++ behind)
-  pub ends : IsLineEnd end behind
-  pub first : lines text ≡ line ∷ lines behind
-  pub any_behind : 0 < length end → (x : List ℕ) → lines (line ++ (end ++ x)) ≡ line ∷ lines x
+  pub is : text ≡ line ++ (end ++ after)
+  pub ends : IsLineEnd end after
+  pub first : lines text ≡ line ∷ lines after
+  pub any_after : 0 < length end → (x : List ℕ) → lines (line ++ (end ++ x)) ≡ line ∷ lines x
 
 -- 0 and the first of the filled lines from that place on, which lies there; none comes before it,
 -- and the others are found after it. 3 exactly if there is none, and then the part is as it was.

@@ -59,8 +59,8 @@ pub fn user_authority(alloc: Global, line: &[u8], user: &[u8], answer: &mut Sha2
 fn key_fields(line: &[u8]) -> &[u8]
     ensures { BeginsWithFields line.now result.now }
 {
-    let (_, behind_name) = split_field(line);
-    let (_, rest) = split_field(skip_blanks(behind_name));
+    let (_, after_name) = split_field(line);
+    let (_, rest) = split_field(skip_blanks(after_name));
     &line[..line.len() - rest.len()]
 }
 

@@ -106,7 +106,7 @@ pub fn next_line(text: &[u8], place: usize, answer: &mut Part) -> u32
 {
     let mut left = rest_from(text, place);
     'lines: while !left.is_empty() {
-        let (line, behind) = split_line(left);
+        let (line, after) = split_line(left);
         let filled = skip_blanks(line);
         if is_filled(filled) {
             *answer = Part {
@@ -115,7 +115,7 @@ pub fn next_line(text: &[u8], place: usize, answer: &mut Part) -> u32
             };
             return DONE;
         }
-        left = behind;
+        left = after;
     }
     END
 }

@@ -55,13 +55,13 @@ module _ (a : Algorithm) where
       go (Ok x) o = refused x o.0 (numbers_lengths a x.0 o.1)
       go (Err f) o = absurd o
 
-  behind : (r : Result (List ℕ × List ℕ) Fault) (string : List ℕ) → IsOk r → string_from a string ≡ Err Length → (r >>= λ t. string_from a string >>= before_trailer t) ≡ Err Length
-  behind (Ok t) string there refused = rw refused refl
-  behind (Err f) string there refused = absurd cc
+  after : (r : Result (List ℕ × List ℕ) Fault) (string : List ℕ) → IsOk r → string_from a string ≡ Err Length → (r >>= λ t. string_from a string >>= before_trailer t) ≡ Err Length
+  after (Ok t) string there refused = rw refused refl
+  after (Err f) string there refused = absurd cc
 
   pub blob_lengths : AreLengths (signature_blob_at a) (OverrunsBlob a)
   blob_lengths = go (has_trailer a)
     where
       go : (t : Bool) → AreLengths (if t then trailed_at (string_from a) else checked_at (string_from a) string_at) (OverrunsInside (OverrunsNumbers a) (if t then 5 else 0))
-      go true = inside_lengths 5 (λ x. bytes_at 5 x.1 >>= λ t. string_from a x.0 >>= before_trailer t) (λ x. behind (bytes_at 5 x.1) x.0)
+      go true = inside_lengths 5 (λ x. bytes_at 5 x.1 >>= λ t. string_from a x.0 >>= before_trailer t) (λ x. after (bytes_at 5 x.1) x.0)
       go false = inside_lengths 0 (λ x. string_from a x.0 >>= with_rest x.1) (λ x there refused. rw refused refl)

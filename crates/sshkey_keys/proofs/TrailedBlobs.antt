@@ -111,15 +111,15 @@ module _ (judge : Whole (List ℕ)) (s t : Source) (b : List ℕ) (read : Reads 
       go (Ok n) is stands = by_length n.0 n.1 is stands
 
 -- both were read
-module _ (judge : Whole (List ℕ)) (s t u : Source) (b trailer : List ℕ) (r : Result (List ℕ) Error) (read : Reads (λ x. x) string_at s b t) (behind : Reads (λ x. x) (bytes_at 5) t trailer u) (answer : Answers (λ x. x) cause (joined_from judge trailer b) r) where
+module _ (judge : Whole (List ℕ)) (s t u : Source) (b trailer : List ℕ) (r : Result (List ℕ) Error) (read : Reads (λ x. x) string_at s b t) (after : Reads (λ x. x) (bytes_at 5) t trailer u) (answer : Answers (λ x. x) cause (joined_from judge trailer b) r) where
   pub both_gives : Gives (λ x. x) cause (trailed_at judge) s r u
   both_gives = go (judge b) refl r answer
     where
       go : (found : Result (List ℕ) Fault) → judge b ≡ found → (r : Result (List ℕ) Error) → Answers (λ x. x) cause (found >>= with_trailer trailer) r → Gives (λ x. x) cause (trailed_at judge) s r u
-      go (Ok c) is (Ok blob) h = record { value = rw (read.value, behind.value, is, h) refl; missing = behind.missing ∙ read.missing; outer = behind.outer ∙ read.outer }
+      go (Ok c) is (Ok blob) h = record { value = rw (read.value, after.value, is, h) refl; missing = after.missing ∙ read.missing; outer = after.outer ∙ read.outer }
       go (Ok c) is (Err e) h = record { fault = λ other sound. absurd (other h) }
       go (Err f) is (Ok blob) h = absurd h
-      go (Err f) is (Err e) h = record { fault = λ _ _. rw (read.value, behind.value, is) h }
+      go (Err f) is (Err e) h = record { fault = λ _ _. rw (read.value, after.value, is) h }
 
   pub both_asks : Asks cause (NeedsTrailed judge) s r
   both_asks = go (judge b) refl r answer
@@ -130,7 +130,7 @@ module _ (judge : Whole (List ℕ)) (s t u : Source) (b trailer : List ℕ) (r :
       go (Err f) is (Err e) h = λ memory sound. absurd cc
 
 pub both_stops : (a : Algorithm) (s t u : Source) (b trailer : List ℕ) (r : Result (List ℕ) Error) → Reads (λ x. x) string_at s b t → Reads (λ x. x) (bytes_at 5) t trailer u → Answers (λ x. x) cause (joined_from (string_from a) trailer b) r → StopsBy cause (trailed_at (string_from a)) (NeedsTrailed (string_from a)) (OverrunsInside (OverrunsNumbers a) 5) s r
-both_stops a s t u b trailer r read behind answer = go (string_from a b) refl r answer
+both_stops a s t u b trailer r read after answer = go (string_from a b) refl r answer
   where
     long : OverrunsInside (OverrunsNumbers a) 5 s.left s.missing → string_from a b ≡ Err Length
     long o = numbers_lengths a b (read_inside a 5 s t b read o).1
@@ -142,7 +142,7 @@ both_stops a s t u b trailer r read behind answer = go (string_from a b) refl r 
       past = λ o. let e = long o in absurd cc;
     }
     go (Err f) is (Err e) h = record {
-      takes = λ ok. not_taken (trailed_at (string_from a) s.left) f (rw (read.value, behind.value, is) refl) ok;
+      takes = λ ok. not_taken (trailed_at (string_from a) s.left) f (rw (read.value, after.value, is) refl) ok;
       past = λ o. let e = long o in inl cc;
     }
 

@@ -17,19 +17,19 @@ use Rattle.sshkey_keys_ref.proofs.PlainHeads.{whole_is}
 
 -- ---- the bytes of a signature are well-formed for the name before them
 
-pub signature_is : (s behind blob : List ℕ) (a : Algorithm) (g : Signature) → label_at algorithm_from s ≡ Ok (a, behind) → IsBlobIn behind blob → SpellsSignature g s → signature_by a blob ≡ g
+pub signature_is : (s after blob : List ℕ) (a : Algorithm) (g : Signature) → label_at algorithm_from s ≡ Ok (a, after) → IsBlobIn after blob → SpellsSignature g s → signature_by a blob ≡ g
 unfolding signature_at algorithm_at label_at
-signature_is s behind blob a g named holds gs =
+signature_is s after blob a g named holds gs =
     let read = whole_is signature_at s g (spelled_whole signature_grammar s g gs) in
-    let x = bind_ok (signature_blob_at a behind) (λ y. Ok (signature_by a y.0, y.1)) (g, []) (rw named at read) in
+    let x = bind_ok (signature_blob_at a after) (λ y. Ok (signature_by a y.0, y.1)) (g, []) (rw named at read) in
     let both = ok_is (signature_by a x.0.0, x.0.1) (g, []) x.2 in
     let is : signature_by a x.0.0 ≡ g = ap (λ (z : Signature × List ℕ). z.0) both in
     let ends : x.0.1 ≡ [] = ap (λ (z : Signature × List ℕ). z.1) both in
     let blob_is : blob ≡ x.0.0 = holds a x.0.0 (x.1 ∙ ap (λ (l : List ℕ). Ok (x.0.0, l)) ends) in
     ap (signature_by a) blob_is ∙ is
 
-pub blob_formed : (s behind blob : List ℕ) (a : Algorithm) (g : Signature) → label_at algorithm_from s ≡ Ok (a, behind) → IsBlobIn behind blob → SpellsSignature g s → IsSignatureBlob a blob
-blob_formed s behind blob a g named holds gs = subst (λ (z : Signature). IsSignatureBlob z.algorithm z.blob) (sym (signature_is s behind blob a g named holds gs)) gs.is.1
+pub blob_formed : (s after blob : List ℕ) (a : Algorithm) (g : Signature) → label_at algorithm_from s ≡ Ok (a, after) → IsBlobIn after blob → SpellsSignature g s → IsSignatureBlob a blob
+blob_formed s after blob a g named holds gs = subst (λ (z : Signature). IsSignatureBlob z.algorithm z.blob) (sym (signature_is s after blob a g named holds gs)) gs.is.1
 
 -- ---- keys that are asked about themselves
 

@@ -21,37 +21,37 @@ use Rattle.sshkey_keys_ref.proofs.PlainHeads.{broken, whole_is}
 
 -- ---- the bytes of a signature
 
-behind_four : (x t b : List ℕ) → b ≡ (to_be_bytes w32 (length x) ++ x) ++ t → (4 ≤ length b) × (drop 4 b ≡ x ++ t)
-behind_four x t b e = rw e (omega (arith, length-append (to_be_bytes w32 (length x) ++ x) t, length-append (to_be_bytes w32 (length x)) x), refl)
+after_four : (x t b : List ℕ) → b ≡ (to_be_bytes w32 (length x) ++ x) ++ t → (4 ≤ length b) × (drop 4 b ≡ x ++ t)
+after_four x t b e = rw e (omega (arith, length-append (to_be_bytes w32 (length x) ++ x) t, length-append (to_be_bytes w32 (length x)) x), refl)
 
-string_behind : (x b : List ℕ) → b ≡ (to_be_bytes w32 (length x) ++ x) ++ [] → (4 ≤ length b) × (drop 4 b ≡ x)
-string_behind x b e = let h = behind_four x [] b e in (h.0, h.1 ∙ append-nil x)
+string_after : (x b : List ℕ) → b ≡ (to_be_bytes w32 (length x) ++ x) ++ [] → (4 ≤ length b) × (drop 4 b ≡ x)
+string_after x b e = let h = after_four x [] b e in (h.0, h.1 ∙ append-nil x)
 
-trailed_behind : (x b : List ℕ) → b ≡ ((to_be_bytes w32 (length (without_trailer x)) ++ without_trailer x) ++ trailer x) ++ [] → (4 ≤ length b) × (drop 4 b ≡ x)
-trailed_behind x b e =
-    let h = behind_four (without_trailer x) (trailer x) b (e ∙ append-nil ((to_be_bytes w32 (length (without_trailer x)) ++ without_trailer x) ++ trailer x)) in
+trailed_after : (x b : List ℕ) → b ≡ ((to_be_bytes w32 (length (without_trailer x)) ++ without_trailer x) ++ trailer x) ++ [] → (4 ≤ length b) × (drop 4 b ≡ x)
+trailed_after x b e =
+    let h = after_four (without_trailer x) (trailer x) b (e ∙ append-nil ((to_be_bytes w32 (length (without_trailer x)) ++ without_trailer x) ++ trailer x)) in
     (h.0, h.1 ∙ take-append-drop (length x - 5) x)
 
-pub blob_behind : (a : Algorithm) (b x : List ℕ) → signature_blob_at a b ≡ Ok (x, []) → (4 ≤ length b) × (drop 4 b ≡ x)
+pub blob_after : (a : Algorithm) (b x : List ℕ) → signature_blob_at a b ≡ Ok (x, []) → (4 ≤ length b) × (drop 4 b ≡ x)
 unfolding flat
-blob_behind a b x e = go a (((signature_blob_reads a).takes b x [] e).2)
+blob_after a b x e = go a (((signature_blob_reads a).takes b x [] e).2)
   where
     go : (a : Algorithm) → b ≡ flat (signature_blob a x) ++ [] → (4 ≤ length b) × (drop 4 b ≡ x)
-    go Algorithm.SkEcdsa e = trailed_behind x b e
-    go Algorithm.SkEd25519 e = trailed_behind x b e
-    go _ e = string_behind x b e
+    go Algorithm.SkEcdsa e = trailed_after x b e
+    go Algorithm.SkEd25519 e = trailed_after x b e
+    go _ e = string_after x b e
 
 -- ---- from parts to the whole
 
 -- what is said of the parts of a signature is said of it
-from_parts : (Says : Signature → Type 0) (s behind blob : List ℕ) (a : Algorithm) (g : Signature) → label_at algorithm_from s ≡ Ok (a, behind) → IsBlobIn behind blob → SpellsSignature g s → (IsSignatureBlob a blob → Says (signature_by a blob)) → Says g
-from_parts Says s behind blob a g named holds gs said = subst Says (signature_is s behind blob a g named holds gs) (said (blob_formed s behind blob a g named holds gs))
+from_parts : (Says : Signature → Type 0) (s after blob : List ℕ) (a : Algorithm) (g : Signature) → label_at algorithm_from s ≡ Ok (a, after) → IsBlobIn after blob → SpellsSignature g s → (IsSignatureBlob a blob → Says (signature_by a blob)) → Says g
+from_parts Says s after blob a g named holds gs said = subst Says (signature_is s after blob a g named holds gs) (said (blob_formed s after blob a g named holds gs))
 
-pub dispatched : {E : Type 0} (accepts : Question → Bool) (key m s behind blob : List ℕ) (a : Algorithm) (r : Result Bool E) → label_at algorithm_from s ≡ Ok (a, behind) → IsBlobIn behind blob → DispatchesKey accepts key m a blob r → DispatchesBytes accepts key m s r
-dispatched accepts key m s behind blob a r named holds answered k g ks gs = from_parts (λ z. Dispatches accepts k m z r) s behind blob a g named holds gs (answered k (spelled_whole key_grammar key k ks))
+pub dispatched : {E : Type 0} (accepts : Question → Bool) (key m s after blob : List ℕ) (a : Algorithm) (r : Result Bool E) → label_at algorithm_from s ≡ Ok (a, after) → IsBlobIn after blob → DispatchesKey accepts key m a blob r → DispatchesBytes accepts key m s r
+dispatched accepts key m s after blob a r named holds answered k g ks gs = from_parts (λ z. Dispatches accepts k m z r) s after blob a g named holds gs (answered k (spelled_whole key_grammar key k ks))
 
-pub asked_bytes : {E : Type 0} (runs_out : Question → Type 0) (key m s behind blob : List ℕ) (a : Algorithm) (r : Result Bool E) → label_at algorithm_from s ≡ Ok (a, behind) → IsBlobIn behind blob → AsksKey runs_out key m a blob r → AsksBytes runs_out key m s r
-asked_bytes runs_out key m s behind blob a r named holds asked k g ks gs = from_parts (λ z. IfErr r (λ _. RunsOutFor runs_out k (question k m z))) s behind blob a g named holds gs (asked k (spelled_whole key_grammar key k ks))
+pub asked_bytes : {E : Type 0} (runs_out : Question → Type 0) (key m s after blob : List ℕ) (a : Algorithm) (r : Result Bool E) → label_at algorithm_from s ≡ Ok (a, after) → IsBlobIn after blob → AsksKey runs_out key m a blob r → AsksBytes runs_out key m s r
+asked_bytes runs_out key m s after blob a r named holds asked k g ks gs = from_parts (λ z. IfErr r (λ _. RunsOutFor runs_out k (question k m z))) s after blob a g named holds gs (asked k (spelled_whole key_grammar key k ks))
 
 pub no_signature : {X : Type 0} (s : List ℕ) (f : Fault) (g : Signature) → label_at algorithm_from s ≡ Err f → SpellsSignature g s → X
 unfolding signature_at algorithm_at label_at

@@ -31,9 +31,9 @@ unfolding ecdsa_at
 ecdsa_refused c b q f k e d = absurd (broken (any_ecdsa_at b) _ (k, q) f e d)
 
 -- the body of a key that is read to its end
-pub body_behind : (b rest : List ℕ) (a : Algorithm) (k : Key) → label_at algorithm_from b ≡ Ok (a, rest) → whole key_data_at b ≡ Ok k → body_at a rest ≡ Ok (k, [])
+pub body_after : (b rest : List ℕ) (a : Algorithm) (k : Key) → label_at algorithm_from b ≡ Ok (a, rest) → whole key_data_at b ≡ Ok k → body_at a rest ≡ Ok (k, [])
 unfolding key_data_at
-body_behind b rest a k named e =
+body_after b rest a k named e =
     let x = bind_ok (body_at a rest) (λ key. Ok (key.0, key.1)) (k, []) (rw named at (whole_is key_data_at b k e)) in
     x.1 ∙ x.2
 

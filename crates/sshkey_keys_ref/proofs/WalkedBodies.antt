@@ -57,8 +57,8 @@ skips_checked first read judge means narrow b rest x u h judged = go (judge (fir
     go (Ok z) e j = (z, rw (h.value, e) refl)
     go (Err f) e j = absurd j
 
-pub skips_trailed : {A B X D : Type 0} (first : A → List ℕ) (second : B → List ℕ) (judge : Whole (List ℕ)) (means : X → List ℕ) (narrow : D → Cause) (b behind rest : List ℕ) (x : A) (t : B) (u : X) → Reads first string_at (all_of b) x (all_of behind) → Reads second (bytes_at 5) (all_of behind) t (all_of rest) → AnswersAlways {E = D} means narrow (judge (first x)) (Ok u) → (z : List ℕ) × (trailed_at judge b ≡ Ok (z, rest))
-skips_trailed first second judge means narrow b behind rest x t u h k judged = go (judge (first x)) refl judged
+pub skips_trailed : {A B X D : Type 0} (first : A → List ℕ) (second : B → List ℕ) (judge : Whole (List ℕ)) (means : X → List ℕ) (narrow : D → Cause) (b after rest : List ℕ) (x : A) (t : B) (u : X) → Reads first string_at (all_of b) x (all_of after) → Reads second (bytes_at 5) (all_of after) t (all_of rest) → AnswersAlways {E = D} means narrow (judge (first x)) (Ok u) → (z : List ℕ) × (trailed_at judge b ≡ Ok (z, rest))
+skips_trailed first second judge means narrow b after rest x t u h k judged = go (judge (first x)) refl judged
   where
     go : (found : Result (List ℕ) Fault) → judge (first x) ≡ found → AnswersAlways means narrow found (Ok u) → (z : List ℕ) × (trailed_at judge b ≡ Ok (z, rest))
     go (Ok z) e j = (z ++ second t, rw (h.value, k.value, e) refl)

@@ -23,7 +23,7 @@ Finds means read b None = (f : Fault) × (read b ≡ Err f)
 -- ---- in the words of the grammar
 
 -- The bytes are a spelling of some value, and the rest follows it.
-pub record StandsBehind {Y : Type 0} (Spells : Y → List ℕ → Type 0) (b rest : List ℕ) : Type 0 where
+pub record StandsAfter {Y : Type 0} (Spells : Y → List ℕ → Type 0) (b rest : List ℕ) : Type 0 where
   pub value : Y
   pub front : List ℕ
   pub spelled : Spells value front
@@ -31,7 +31,7 @@ pub record StandsBehind {Y : Type 0} (Spells : Y → List ℕ → Type 0) (b res
 
 -- What follows a front that spells some value, or a refusal if no front does.
 abbrev pub PassesFront : {Y E : Type 0} → (Y → List ℕ → Type 0) → List ℕ → Result (Bor (List ℕ)) E → Type 0
-PassesFront Spells b (Ok rest) = StandsBehind Spells b rest.now
+PassesFront Spells b (Ok rest) = StandsAfter Spells b rest.now
 PassesFront Spells b (Err e) = NoFront Spells b
 
 -- The front spells some value, and the rest follows it.

@@ -12,7 +12,7 @@ ghost use Rattle.sshkey_keys_ref.specs.Taking.{Skips, PassesFront, CutsFront};
 
 use crate::kinds::{DsaRef, EcdsaRef, Ed25519Ref, RsaRef, SkEcdsaRef, SkEd25519Ref};
 use crate::name_ref::NameRef;
-use crate::walk::behind;
+use crate::walk::after;
 use sshkey_base::{Algorithm, EcdsaCurve, Error, Result};
 use sshkey_terms::ReadFrom;
 
@@ -45,51 +45,51 @@ pub fn skip_body<'a>(certificate_name: &str, bytes: &'a [u8]) -> Result<&'a [u8]
     ensures rest { Skips cause (certified_body_at certificate_name.now) bytes.now result }
     ensures spelled { PassesFront (SpellsCertifiedBody certificate_name.now) bytes.now result }
 {
-    behind_certified(certificate_name, bytes)
+    after_certified(certificate_name, bytes)
 }
 
 /// What stands after a body under that name in a certificate.
-fn behind_certified<'a>(name: &str, bytes: &'a [u8]) -> Result<&'a [u8]>
+fn after_certified<'a>(name: &str, bytes: &'a [u8]) -> Result<&'a [u8]>
     ensures { Skips cause (certified_body_at name.now) bytes.now result }
 {
     match Algorithm::from_fixed_certificate_name(name) {
-        Some(algorithm) => behind_kind(&algorithm, bytes),
+        Some(algorithm) => after_kind(&algorithm, bytes),
         None => {
             Algorithm::check_certificate(name)?;
-            behind_string(bytes)
+            after_string(bytes)
         }
     }
 }
 
 /// What stands after the body of a key whose name is that.
-pub(crate) fn behind_named<'a>(name: &NameRef<'_>, bytes: &'a [u8]) -> Result<&'a [u8]>
+pub(crate) fn after_named<'a>(name: &NameRef<'_>, bytes: &'a [u8]) -> Result<&'a [u8]>
     ensures { Skips cause (body_at (named_of name.now)) bytes.now result }
 {
     match name {
-        NameRef::Fixed(algorithm) => behind_kind(algorithm, bytes),
-        NameRef::Other(_) => behind_string(bytes),
+        NameRef::Fixed(algorithm) => after_kind(algorithm, bytes),
+        NameRef::Other(_) => after_string(bytes),
     }
 }
 
 /// What stands after the body of a key of that algorithm.
 #[tactic(auto, unfolding(sshkey_kinds::specs::Bodies::ed25519_body_at))]
-fn behind_kind<'a>(algorithm: &Algorithm, bytes: &'a [u8]) -> Result<&'a [u8]>
+fn after_kind<'a>(algorithm: &Algorithm, bytes: &'a [u8]) -> Result<&'a [u8]>
     ensures { Skips cause (body_at (algorithm_of algorithm.now)) bytes.now result }
 {
     match algorithm {
-        Algorithm::Dsa => behind::<DsaRef<'a>>(bytes),
-        Algorithm::Ecdsa { curve } => behind_ecdsa(*curve, bytes),
-        Algorithm::Ed25519 => behind::<Ed25519Ref>(bytes),
-        Algorithm::Rsa { hash: _ } => behind::<RsaRef<'a>>(bytes),
-        Algorithm::SkEcdsaSha2NistP256 => behind::<SkEcdsaRef<'a>>(bytes),
-        Algorithm::SkEd25519 => behind::<SkEd25519Ref<'a>>(bytes),
-        Algorithm::Other(_) => behind_string(bytes),
+        Algorithm::Dsa => after::<DsaRef<'a>>(bytes),
+        Algorithm::Ecdsa { curve } => after_ecdsa(*curve, bytes),
+        Algorithm::Ed25519 => after::<Ed25519Ref>(bytes),
+        Algorithm::Rsa { hash: _ } => after::<RsaRef<'a>>(bytes),
+        Algorithm::SkEcdsaSha2NistP256 => after::<SkEcdsaRef<'a>>(bytes),
+        Algorithm::SkEd25519 => after::<SkEd25519Ref<'a>>(bytes),
+        Algorithm::Other(_) => after_string(bytes),
     }
 }
 
 /// What stands after an ECDSA key of that curve. Fails with `AlgorithmUnknown` for another curve.
 #[tactic(auto, using(sshkey_terms::proofs::Walking::walking), unfolding(sshkey_model::specs::Keys::ecdsa_at))]
-fn behind_ecdsa<'a>(curve: EcdsaCurve, bytes: &'a [u8]) -> Result<&'a [u8]>
+fn after_ecdsa<'a>(curve: EcdsaCurve, bytes: &'a [u8]) -> Result<&'a [u8]>
     ensures { Skips cause (body_at (model.Ecdsa (curve_of curve))) bytes.now result }
 {
     let mut rest = bytes;
@@ -101,8 +101,8 @@ fn behind_ecdsa<'a>(curve: EcdsaCurve, bytes: &'a [u8]) -> Result<&'a [u8]>
 }
 
 /// What stands after a string.
-fn behind_string(bytes: &[u8]) -> Result<&[u8]>
+fn after_string(bytes: &[u8]) -> Result<&[u8]>
     ensures { Skips cause string_at bytes.now result }
 {
-    Ok(behind::<&[u8]>(bytes)?)
+    Ok(after::<&[u8]>(bytes)?)
 }

@@ -54,9 +54,9 @@ impl KeyDataRef<'_> {
         ensures asks { AsksBytes (V.runs_out verifier.now) (key_bytes self.now) message.now
             (signature_bytes signature.now) result }
     {
-        let mut behind_name = signature.as_bytes();
-        match take_name(&mut behind_name) {
-            Ok(name) => self.ask_named(alloc, message, &name, blob_in(behind_name), verifier),
+        let mut after_name = signature.as_bytes();
+        match take_name(&mut after_name) {
+            Ok(name) => self.ask_named(alloc, message, &name, blob_in(after_name), verifier),
             Err(_) => Ok(false),
         }
     }

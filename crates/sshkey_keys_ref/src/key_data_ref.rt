@@ -13,7 +13,7 @@ ghost use Rattle.sshkey_keys_ref.specs.NameRef.{named_of};
 ghost use Rattle.sshkey_keys_ref.specs.Taking.{Skips};
 ghost use Rattle.sshkey_terms.specs.Slices.{AcceptsSome, is_taken};
 
-use crate::body::behind_named;
+use crate::body::after_named;
 use crate::key_ref::{KeyRef, key_in};
 use crate::name_ref::{NameRef, take_name};
 use sshkey_base::{Algorithm, Error, HashAlg, Result, decode_whole, encoding};
@@ -116,7 +116,7 @@ impl<'a> KeyDataRef<'a> {
 fn check_key(bytes: &[u8]) -> Result<()>
     ensures { Judges cause (whole key_data_at bytes.now) result }
 {
-    let rest = behind_key(bytes)?;
+    let rest = after_key(bytes)?;
     if !rest.is_empty() {
         return Err(Error::Encoding(encoding::Error::TrailingData {
             remaining: rest.len(),
@@ -127,12 +127,12 @@ fn check_key(bytes: &[u8]) -> Result<()>
 
 /// What stands after a key.
 #[tactic(auto, using(sshkey_terms::proofs::Walking::walking), unfolding(sshkey_keys::specs::Keys::key_data_at))]
-fn behind_key(bytes: &[u8]) -> Result<&[u8]>
+fn after_key(bytes: &[u8]) -> Result<&[u8]>
     ensures { Skips cause key_data_at bytes.now result }
 {
     let mut rest = bytes;
     let name = take_name(&mut rest)?;
-    behind_named(&name, rest)
+    after_named(&name, rest)
 }
 
 /// Whether the name before a key is the one that is written.

@@ -76,7 +76,7 @@ impl<'a> SignatureRef<'a> {
 fn check_signature(bytes: &[u8]) -> Result<()>
     ensures { Judges cause (whole signature_at bytes.now) result }
 {
-    let rest = behind_signature(bytes)?;
+    let rest = after_signature(bytes)?;
     if !rest.is_empty() {
         return Err(Error::Encoding(encoding::Error::TrailingData {
             remaining: rest.len(),
@@ -87,22 +87,22 @@ fn check_signature(bytes: &[u8]) -> Result<()>
 
 /// What stands after a signature.
 #[tactic(auto, using(sshkey_terms::proofs::Walking::walking), unfolding(sshkey_model::specs::Signatures::signature_at, sshkey_model::specs::Names::algorithm_at, sshkey_base::specs::Labels::label_at))]
-fn behind_signature(bytes: &[u8]) -> Result<&[u8]>
+fn after_signature(bytes: &[u8]) -> Result<&[u8]>
     ensures { Skips cause signature_at bytes.now result }
 {
     let mut rest = bytes;
     let name = take_name(&mut rest)?;
-    behind_blob(&name, rest)
+    after_blob(&name, rest)
 }
 
 /// What stands after the bytes of a signature whose name is that.
-fn behind_blob<'a>(name: &NameRef<'_>, bytes: &'a [u8]) -> Result<&'a [u8]>
+fn after_blob<'a>(name: &NameRef<'_>, bytes: &'a [u8]) -> Result<&'a [u8]>
     ensures { Skips cause (signature_blob_at (named_of name.now)) bytes.now result }
 {
     if is_trailed(name) {
-        behind_trailed(name, bytes)
+        after_trailed(name, bytes)
     } else {
-        behind_checked(name, bytes)
+        after_checked(name, bytes)
     }
 }
 
@@ -134,7 +134,7 @@ fn check(name: &NameRef<'_>, bytes: &[u8]) -> Result<()>
 
 /// What stands after the string.
 #[tactic(auto, using(sshkey_terms::proofs::Walking::walking))]
-fn behind_checked<'a>(name: &NameRef<'_>, bytes: &'a [u8]) -> Result<&'a [u8]>
+fn after_checked<'a>(name: &NameRef<'_>, bytes: &'a [u8]) -> Result<&'a [u8]>
     ensures { Skips cause (checked_at (string_from (named_of name.now)) string_at)
         bytes.now result }
 {
@@ -146,7 +146,7 @@ fn behind_checked<'a>(name: &NameRef<'_>, bytes: &'a [u8]) -> Result<&'a [u8]>
 
 /// What stands after the string and the five bytes of flags and counter.
 #[tactic(auto, using(sshkey_terms::proofs::Walking::walking))]
-fn behind_trailed<'a>(name: &NameRef<'_>, bytes: &'a [u8]) -> Result<&'a [u8]>
+fn after_trailed<'a>(name: &NameRef<'_>, bytes: &'a [u8]) -> Result<&'a [u8]>
     ensures { Skips cause (trailed_at (string_from (named_of name.now))) bytes.now result }
 {
     let mut rest = bytes;

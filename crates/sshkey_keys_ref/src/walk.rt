@@ -5,9 +5,7 @@ ghost use Rattle.sshkey_keys_ref.specs.Taking.{Skips};
 use sshkey_terms::ReadFrom;
 
 /// What stands after a value.
-pub(crate) fn behind<'a, T: ReadFrom<&'a [u8]> + Drop>(
-    bytes: &'a [u8],
-) -> Result<&'a [u8], T::Error>
+pub(crate) fn after<'a, T: ReadFrom<&'a [u8]> + Drop>(bytes: &'a [u8]) -> Result<&'a [u8], T::Error>
     ensures { Skips T.Error.cause T.format.read bytes.now result }
 {
     let mut rest = bytes;

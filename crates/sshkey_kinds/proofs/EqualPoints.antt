@@ -9,8 +9,8 @@ use Rattle.sshkey_kinds.specs.declared.ec_point.EcPoint.{EcPoint}
 use Rattle.sshkey_kinds.specs.EcPoint.{point_of}
 
 module _ {n : ℕ} where
-  zeros_behind : (p : EcPoint n) → p.bytes ≡ point_of p ++ replicate (n - p.len) 0
-  zeros_behind p = sym (take-append-drop p.len p.bytes) ∙ ap (λ zeros. take p.len p.bytes ++ zeros) p.zeros
+  zeros_after : (p : EcPoint n) → p.bytes ≡ point_of p ++ replicate (n - p.len) 0
+  zeros_after p = sym (take-append-drop p.len p.bytes) ∙ ap (λ zeros. take p.len p.bytes ++ zeros) p.zeros
 
   pub same_arrays : (p q : EcPoint n) → p.len ≡ q.len → bytes_eq p.bytes q.bytes ≡ bytes_eq (point_of p) (point_of q)
   same_arrays p q len = same_from_decides _ _ (of_points, of_arrays) (bytes_eq-Decides (point_of p) (point_of q))
@@ -19,7 +19,7 @@ module _ {n : ℕ} where
       of_points same = let e = (bytes_eq-Decides p.bytes q.bytes).0 same in λ i. take (len i) (e i)
 
       of_arrays : point_of p ≡ point_of q → bytes_eq p.bytes q.bytes ≡ true
-      of_arrays e = (bytes_eq-Decides p.bytes q.bytes).1 (zeros_behind p ∙ (λ i. e i ++ replicate (n - len i) 0) ∙ sym (zeros_behind q))
+      of_arrays e = (bytes_eq-Decides p.bytes q.bytes).1 (zeros_after p ∙ (λ i. e i ++ replicate (n - len i) 0) ∙ sym (zeros_after q))
 
   its_length : (p : EcPoint n) → length p.bytes ≡ n → length (point_of p) ≡ p.len
   its_length p size = length-take-le p.len p.bytes (omega (arith, size, p.within))

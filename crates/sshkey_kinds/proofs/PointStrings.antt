@@ -5,7 +5,7 @@ use Rattle.sshkey_model.specs.Reading.{Fault, Length, Whole, number_at, bytes_at
 use Rattle.sshkey_base.specs.declared.error.Error.{Error}
 use Rattle.sshkey_base.specs.Answers.{AnswersAlways}
 use Rattle.sshkey_base.specs.Causes.{Cause, Faulty, cause}
-use Rattle.sshkey_base.specs.Labels.{NeedsBehind}
+use Rattle.sshkey_base.specs.Labels.{NeedsAfter}
 use Rattle.sshkey_base.specs.Needs.{NoNeed}
 use Rattle.sshkey_base.specs.Source.{Source, announced_len}
 use Rattle.sshkey_base.specs.Stops.{OverrunsBytes, OverrunsString, Stopped}
@@ -13,7 +13,7 @@ use Rattle.sshkey_base.specs.ShortStrings.{at_most}
 use Rattle.sshkey_base.specs.Reading.{Reads, Refuses, GivesAlways}
 use Rattle.sshkey_base.proofs.ShortStrings.{bounded}
 use Rattle.sshkey_base.proofs.Steps.{refuses_first}
-use Rattle.sshkey_base.proofs.Stopping.{refused_stopped, behind_judged_stopped}
+use Rattle.sshkey_base.proofs.Stopping.{refused_stopped, after_judged_stopped}
 use Rattle.sshkey_kinds.specs.PointStrings.{bounded_from}
 
 module _ {C : Type 0} (max n : ℕ) (judge : Whole C) (s : Source) where
@@ -32,5 +32,5 @@ module _ {C : Type 0} (max n : ℕ) (judge : Whole C) (s : Source) where
 -- ---- the length before it
 
 -- its bytes are refused: so `Length` where it passes
-pub behind_refused_stopped : {B : Type 0} (c : Cause) (n : ℕ) (s t : Source) (judge : Whole B) → Reads (λ k. k) (number_at w32) s n t → Refuses t.missing c (checked_at judge (bytes_at n) t.left) → (announced_len t < n → c ≡ Faulty Length) → Stopped c (checked_at judge string_at) NoNeed OverrunsString s
-behind_refused_stopped c n s t judge h refused past = behind_judged_stopped c n s t h judge NoNeed (refused_stopped c (checked_at judge (bytes_at n)) (NeedsBehind NoNeed n) (OverrunsBytes n) t refused past)
+pub after_refused_stopped : {B : Type 0} (c : Cause) (n : ℕ) (s t : Source) (judge : Whole B) → Reads (λ k. k) (number_at w32) s n t → Refuses t.missing c (checked_at judge (bytes_at n) t.left) → (announced_len t < n → c ≡ Faulty Length) → Stopped c (checked_at judge string_at) NoNeed OverrunsString s
+after_refused_stopped c n s t judge h refused past = after_judged_stopped c n s t h judge NoNeed (refused_stopped c (checked_at judge (bytes_at n)) (NeedsAfter NoNeed n) (OverrunsBytes n) t refused past)

@@ -150,7 +150,7 @@ impl Decode for P256Name {
 #[derive(Drop)]
 struct P256Point(EcdsaNistP256PublicKey);
 
-#[tactic(auto, using(crate::proofs::Lawful::p256_point_lawful, sshkey_base::proofs::Steps::steps, sshkey_terms::proofs::Stopping::handed, sshkey_base::proofs::Stopping::judged_length_stopped, crate::proofs::PointStrings::behind_refused_stopped), unfolding(sshkey_model::specs::Reading::string_at))]
+#[tactic(auto, using(crate::proofs::Lawful::p256_point_lawful, sshkey_base::proofs::Steps::steps, sshkey_terms::proofs::Stopping::handed, sshkey_base::proofs::Stopping::judged_length_stopped, crate::proofs::PointStrings::after_refused_stopped), unfolding(sshkey_model::specs::Reading::string_at))]
 impl Decode for P256Point {
     ghost use Rattle.sshkey_kinds.specs.KeyFormats.{p256_point_format};
 

@@ -80,14 +80,14 @@ module _ (hmac : List ℕ → List ℕ → List ℕ) (name : List ℕ) where
   )
   in_any_order (line ∷ lines) keys are key =
       let here = of_line line are.0 are.2 key in
-      let behind = in_any_order lines are.1 are.3 key in
+      let after = in_any_order lines are.1 are.3 key in
       let all : keys ≡ in_front are.0 [] ++ are.1 = are.4 ∙ sym (front_is are.0 are.1) in (
         λ s. elim (either (λ (x : PublicKey). public_of x ≡ key) (in_front are.0 []) are.1 (subst (Any (λ (k : PublicKey). public_of k ≡ key)) all s)) [
           | inl a ↦ first (Lists hmac name (Some CertAuthority) key) (line ∷ []) lines (here.0 a)
-          | inr b ↦ later (Lists hmac name (Some CertAuthority) key) (line ∷ []) lines (behind.0 b)
+          | inr b ↦ later (Lists hmac name (Some CertAuthority) key) (line ∷ []) lines (after.0 b)
         ],
         λ s. subst (Any (λ (k : PublicKey). public_of k ≡ key)) (sym all) (elim (either (Lists hmac name (Some CertAuthority) key) (line ∷ []) lines s) [
           | inl a ↦ first (λ (x : PublicKey). public_of x ≡ key) (in_front are.0 []) are.1 (here.1 a)
-          | inr b ↦ later (λ (x : PublicKey). public_of x ≡ key) (in_front are.0 []) are.1 (behind.1 b)
+          | inr b ↦ later (λ (x : PublicKey). public_of x ≡ key) (in_front are.0 []) are.1 (after.1 b)
         ]),
       )

@@ -21,19 +21,19 @@ module _ (hmac : List ℕ → List ℕ → List ℕ) (name line : List ℕ) wher
 
   module _ (f : IsForOthers hmac name line) where
     -- no hosts of the line are for the name
-    pub never_for : (m : Option Marker) (part behind : List ℕ) (h : Hosts) → IsMarkedLine m (without_blanks line) (part ++ behind) → IsField part → EndsField behind → IsHosts part h → AreFor hmac name h → ⊥
-    never_for m part behind h marked one_word ends are fits =
-        let rests = (one_marked (without_blanks line) f.marker m (f.hosts_part ++ f.behind) (part ++ behind) f.marked marked).1 in
-        let parts = same_field f.hosts_part part f.behind behind f.one_word one_word f.ends ends rests in
+    pub never_for : (m : Option Marker) (part after : List ℕ) (h : Hosts) → IsMarkedLine m (without_blanks line) (part ++ after) → IsField part → EndsField after → IsHosts part h → AreFor hmac name h → ⊥
+    never_for m part after h marked one_word ends are fits =
+        let rests = (one_marked (without_blanks line) f.marker m (f.hosts_part ++ f.after) (part ++ after) f.marked marked).1 in
+        let parts = same_field f.hosts_part part f.after after f.one_word one_word f.ends ends rests in
         let same = one_hosts part f.hosts h (subst (λ (t : List ℕ). IsHosts t f.hosts) parts.0 f.are) are in
         f.not_for (subst (AreFor hmac name) (sym same) fits)
 
     -- it lists no key for the name
     pub lists_none : (m : Option Marker) (k : Key) → Lists hmac name m k line → ⊥
-    lists_none m k l = let r = l.read in never_for l.entry.marker r.hosts_part r.behind_hosts l.entry.hosts r.marked r.one_word r.hosts_end r.hosts l.is_for
+    lists_none m k l = let r = l.read in never_for l.entry.marker r.hosts_part r.after_hosts l.entry.hosts r.marked r.one_word r.hosts_end r.hosts l.is_for
 
     pub lists_no_other : (m : Option Marker) → ListsOther hmac name m line → ⊥
-    lists_no_other m l = let r = l.read in never_for m r.hosts_part r.behind_hosts l.hosts r.marked r.one_word r.hosts_end r.are l.is_for
+    lists_no_other m l = let r = l.read in never_for m r.hosts_part r.after_hosts l.hosts r.marked r.one_word r.hosts_end r.are l.is_for
 
   -- ---- a line that is cut
 
@@ -47,25 +47,25 @@ module _ (hmac : List ℕ → List ℕ → List ℕ) (name line : List ℕ) wher
     pub marker_hides : ((m : Option Marker) (rest : List ℕ) → IsMarkedLine m text rest → ⊥) → HidesEntry hmac name line
     marker_hides none = (
       no_marker_read line text is none,
-      λ f. none f.marker (f.hosts_part ++ f.behind) (in_text f.marker (f.hosts_part ++ f.behind) f.marked),
-      λ l. none l.0 (l.2.hosts_part ++ l.2.behind_hosts) (in_text l.0 (l.2.hosts_part ++ l.2.behind_hosts) l.2.marked),
+      λ f. none f.marker (f.hosts_part ++ f.after) (in_text f.marker (f.hosts_part ++ f.after) f.marked),
+      λ l. none l.0 (l.2.hosts_part ++ l.2.after_hosts) (in_text l.0 (l.2.hosts_part ++ l.2.after_hosts) l.2.marked),
     )
 
     module _ (m : Option Marker) (unmarked hosts rest : List ℕ) (is_marked : IsMarkedLine m text unmarked) (cut : CutsField unmarked hosts rest) where
-      same : (n : Option Marker) (part behind : List ℕ) (h : Hosts) → IsMarkedLine n (without_blanks line) (part ++ behind) → IsField part → EndsField behind → IsHosts part h → IsHosts hosts h
-      same n part behind h marked one_word ends are =
-          let parts = same_hosts text m unmarked hosts rest (without_blanks rest) is_marked cut refl part behind
-          (record { marker = n; marked = in_text n (part ++ behind) marked; one_word = one_word; ends = ends }) in
+      same : (n : Option Marker) (part after : List ℕ) (h : Hosts) → IsMarkedLine n (without_blanks line) (part ++ after) → IsField part → EndsField after → IsHosts part h → IsHosts hosts h
+      same n part after h marked one_word ends are =
+          let parts = same_hosts text m unmarked hosts rest (without_blanks rest) is_marked cut refl part after
+          (record { marker = n; marked = in_text n (part ++ after) marked; one_word = one_word; ends = ends }) in
           subst (λ (t : List ℕ). IsHosts t h) (sym parts.0) are
 
       of_others : (f : IsForOthers hmac name line) → IsHosts hosts f.hosts
-      of_others f = same f.marker f.hosts_part f.behind f.hosts f.marked f.one_word f.ends f.are
+      of_others f = same f.marker f.hosts_part f.after f.hosts f.marked f.one_word f.ends f.are
 
       pub hosts_hide : IsNoEntry IsHosts hosts → HidesEntry hmac name line
       hosts_hide none = (
-        λ h k. none h.hosts (same h.marker k.hosts_part k.behind_hosts h.hosts k.marked k.one_word k.hosts_end k.hosts),
+        λ h k. none h.hosts (same h.marker k.hosts_part k.after_hosts h.hosts k.marked k.one_word k.hosts_end k.hosts),
         λ f. none f.hosts (of_others f),
-        λ l. none l.1 (same l.0 l.2.hosts_part l.2.behind_hosts l.1 l.2.marked l.2.one_word l.2.hosts_end l.2.are),
+        λ l. none l.1 (same l.0 l.2.hosts_part l.2.after_hosts l.1 l.2.marked l.2.one_word l.2.hosts_end l.2.are),
       )
 
       cut_line : IsMarkedLine m (without_blanks line) (hosts ++ rest)
@@ -77,7 +77,7 @@ module _ (hmac : List ℕ → List ℕ → List ℕ) (name line : List ℕ) wher
           no_zero = no_zero;
           marker = m;
           hosts_part = hosts;
-          behind = rest;
+          after = rest;
           hosts = h;
           marked = cut_line;
           one_word = cut.one_word;
@@ -98,7 +98,7 @@ module _ (hmac : List ℕ → List ℕ → List ℕ) (name line : List ℕ) wher
           named no_zero no_comment fields skips = record {
             no_zero = no_zero;
             hosts_part = hosts;
-            behind_hosts = rest;
+            after_hosts = rest;
             hosts = h;
             no_comment = λ here. no_comment (ap (λ (t : List ℕ). slice_index t 0) is ∙ here);
             marked = cut_line;
@@ -119,7 +119,7 @@ module _ (hmac : List ℕ → List ℕ → List ℕ) (name line : List ℕ) wher
         read = record {
           no_zero = c.no_zero;
           hosts_part = c.hosts_part;
-          behind_hosts = c.behind_hosts;
+          after_hosts = c.after_hosts;
           no_comment = c.no_comment;
           marked = c.marked;
           one_word = c.one_word;
@@ -140,7 +140,7 @@ module _ (hmac : List ℕ → List ℕ → List ℕ) (name line : List ℕ) wher
       read = record {
         no_zero = c.no_zero;
         hosts_part = c.hosts_part;
-        behind_hosts = c.behind_hosts;
+        after_hosts = c.after_hosts;
         no_comment = c.no_comment;
         marked = c.marked;
         one_word = c.one_word;
@@ -151,20 +151,20 @@ module _ (hmac : List ℕ → List ℕ → List ℕ) (name line : List ℕ) wher
       is_for = c.is_for;
     }
 
-    same_fields : (n : Option Marker) (part behind : List ℕ) → IsMarkedLine n (without_blanks line) (part ++ behind) → IsField part → EndsField behind → without_blanks behind ≡ fields
-    same_fields n part behind marked one_word ends =
-        let rests = (one_marked (without_blanks line) m n (c.hosts_part ++ c.behind_hosts) (part ++ behind) c.marked marked).1 in
-        let parts = same_field c.hosts_part part c.behind_hosts behind c.one_word one_word c.hosts_end ends rests in
+    same_fields : (n : Option Marker) (part after : List ℕ) → IsMarkedLine n (without_blanks line) (part ++ after) → IsField part → EndsField after → without_blanks after ≡ fields
+    same_fields n part after marked one_word ends =
+        let rests = (one_marked (without_blanks line) m n (c.hosts_part ++ c.after_hosts) (part ++ after) c.marked marked).1 in
+        let parts = same_field c.hosts_part part c.after_hosts after c.one_word one_word c.hosts_end ends rests in
         ap without_blanks (sym parts.1) ∙ sym c.fields_are
 
     pub no_others : IsForOthers hmac name line → ⊥
-    no_others f = never_for f m c.hosts_part c.behind_hosts c.hosts c.marked c.one_word c.hosts_end c.are c.is_for
+    no_others f = never_for f m c.hosts_part c.after_hosts c.hosts c.marked c.one_word c.hosts_end c.are c.is_for
 
     pub fields_hide : AreNoKeyFields fields → (AreOtherKeyFields fields → ⊥) → HidesEntry hmac name line
     fields_hide none no_other = (
-      λ h k. none h.key h.comment (subst (λ (t : List ℕ). AreKeyFields t h.key h.comment) (same_fields h.marker k.hosts_part k.behind_hosts k.marked k.one_word k.hosts_end) k.fields),
+      λ h k. none h.key h.comment (subst (λ (t : List ℕ). AreKeyFields t h.key h.comment) (same_fields h.marker k.hosts_part k.after_hosts k.marked k.one_word k.hosts_end) k.fields),
       no_others,
-      λ l. no_other (subst AreOtherKeyFields (same_fields l.0 l.2.hosts_part l.2.behind_hosts l.2.marked l.2.one_word l.2.hosts_end) l.2.fields),
+      λ l. no_other (subst AreOtherKeyFields (same_fields l.0 l.2.hosts_part l.2.after_hosts l.2.marked l.2.one_word l.2.hosts_end) l.2.fields),
     )
 
 -- whatever it is refused for

@@ -35,23 +35,23 @@ one_text CertAuthority Revoked e = let second : 0x63 ≡ 0x72 = ap (λ (l : List
 one_text Revoked CertAuthority e = let second : 0x72 ≡ 0x63 = ap (λ (l : List ℕ). slice_index l 1) e in absurd (omega (arith, second))
 one_text Revoked Revoked e = refl
 
-module _ (text word behind rest : List ℕ) (cut : CutsField text word behind) (skips : rest ≡ without_blanks behind) where
-  pub marked : (m : Marker) → word ≡ marker_text m → EndsMarker m behind → slice_index rest 0 ≢ at_sign → IsMarkedLine (Some m) text rest
-  marked m is ends one = (behind, cut.is ∙ ap (λ (w : List ℕ). w ++ behind) is, (cut.ends, ends), skips, one)
+module _ (text word after rest : List ℕ) (cut : CutsField text word after) (skips : rest ≡ without_blanks after) where
+  pub marked : (m : Marker) → word ≡ marker_text m → EndsMarker m after → slice_index rest 0 ≢ at_sign → IsMarkedLine (Some m) text rest
+  marked m is ends one = (after, cut.is ∙ ap (λ (w : List ℕ). w ++ after) is, (cut.ends, ends), skips, one)
 
-  same_word : (m : Marker) (other : List ℕ) → text ≡ marker_text m ++ other → EndsField other → (word ≡ marker_text m) × (behind ≡ other)
-  same_word m other is ends = same_field word (marker_text m) behind other cut.one_word (marker_field m) cut.ends ends (sym cut.is ∙ is)
+  same_word : (m : Marker) (other : List ℕ) → text ≡ marker_text m ++ other → EndsField other → (word ≡ marker_text m) × (after ≡ other)
+  same_word m other is ends = same_field word (marker_text m) after other cut.one_word (marker_field m) cut.ends ends (sym cut.is ∙ is)
 
   pub no_marker : slice_index text 0 ≡ at_sign → ((m : Marker) → word ≢ marker_text m) → (m : Option Marker) (r : List ℕ) → IsMarkedLine m text r → ⊥
   no_marker at none None r is = is.1 at
   no_marker at none (Some m) r is = none m (same_word m is.0 is.1 is.2.0).0
 
-  pub no_end : (n : Marker) → word ≡ marker_text n → (EndsMarker n behind → ⊥) → slice_index text 0 ≡ at_sign → (m : Option Marker) (r : List ℕ) → IsMarkedLine m text r → ⊥
+  pub no_end : (n : Marker) → word ≡ marker_text n → (EndsMarker n after → ⊥) → slice_index text 0 ≡ at_sign → (m : Option Marker) (r : List ℕ) → IsMarkedLine m text r → ⊥
   no_end n is none at None r line = line.1 at
   no_end n is none at (Some m) r line =
       let same = same_word m line.0 line.1 line.2.0 in
       let markers : m ≡ n = one_text m n (sym same.0 ∙ is) in
-      none (subst (λ (k : Marker). EndsMarker k behind) markers (subst (EndsMarker m) (sym same.1) line.2.1))
+      none (subst (λ (k : Marker). EndsMarker k after) markers (subst (EndsMarker m) (sym same.1) line.2.1))
 
   pub two_markers : slice_index text 0 ≡ at_sign → slice_index rest 0 ≡ at_sign → (m : Option Marker) (r : List ℕ) → IsMarkedLine m text r → ⊥
   two_markers at also None r is = is.1 at
@@ -97,7 +97,7 @@ module _ (line text : List ℕ) (is : text ≡ without_blanks line) where
   comment_fault here = record { zero = λ _. refl; comment = λ _. refl; text = λ _ other. absurd (other (ap (λ (t : List ℕ). slice_index t 0) (sym is) ∙ here)) }
 
   pub no_marker_read : ((m : Option Marker) (rest : List ℕ) → IsMarkedLine m text rest → ⊥) → IsNoEntry IsHostLine line
-  no_marker_read none h k = none h.marker (k.hosts_part ++ k.behind_hosts) (subst (λ (t : List ℕ). IsMarkedLine h.marker t (k.hosts_part ++ k.behind_hosts)) (sym is) k.marked)
+  no_marker_read none h k = none h.marker (k.hosts_part ++ k.after_hosts) (subst (λ (t : List ℕ). IsMarkedLine h.marker t (k.hosts_part ++ k.after_hosts)) (sym is) k.marked)
 
   module _ (no_zero : IsWithout 0 line) (no_comment : slice_index text 0 ≢ hash_sign) where
     not_comment : slice_index (without_blanks line) 0 ≢ hash_sign
@@ -107,9 +107,9 @@ module _ (line text : List ℕ) (is : text ≡ without_blanks line) where
     text_fault e fault = record { zero = λ zero. absurd (zero no_zero); comment = λ here. absurd (not_comment here); text = λ _ _. subst (λ (t : List ℕ). HasTextFault t e) is fault }
 
     module _ (m : Option Marker) (unmarked hosts rest fields : List ℕ) (is_marked : IsMarkedLine m text unmarked) (cut : CutsField unmarked hosts rest) (skips : fields ≡ without_blanks rest) where
-      parts : (h : KnownHost) (k : IsHostLine line h) → (hosts ≡ k.hosts_part) × (rest ≡ k.behind_hosts)
-      parts h k = same_hosts text m unmarked hosts rest fields is_marked cut skips k.hosts_part k.behind_hosts
-          (record { marker = h.marker; marked = subst (λ (t : List ℕ). IsMarkedLine h.marker t (k.hosts_part ++ k.behind_hosts)) (sym is) k.marked; one_word = k.one_word; ends = k.hosts_end })
+      parts : (h : KnownHost) (k : IsHostLine line h) → (hosts ≡ k.hosts_part) × (rest ≡ k.after_hosts)
+      parts h k = same_hosts text m unmarked hosts rest fields is_marked cut skips k.hosts_part k.after_hosts
+          (record { marker = h.marker; marked = subst (λ (t : List ℕ). IsMarkedLine h.marker t (k.hosts_part ++ k.after_hosts)) (sym is) k.marked; one_word = k.one_word; ends = k.hosts_end })
 
       pub bad_hosts : (e : Error) → (cause e ≢ NoMemory → IsNoEntry IsHosts hosts) → cause e ≢ NoMemory → IsNoEntry IsHostLine line
       bad_hosts e none other h k = none other h.hosts (subst (λ (t : List ℕ). IsHosts t h.hosts) (sym (parts h k).0) k.hosts)
@@ -136,7 +136,7 @@ module _ (line text : List ℕ) (is : text ≡ without_blanks line) where
       line_read h same are key = record {
         no_zero = no_zero;
         hosts_part = hosts;
-        behind_hosts = rest;
+        after_hosts = rest;
         no_comment = not_comment;
         marked = subst (λ (n : Option Marker). IsMarkedLine n (without_blanks line) (hosts ++ rest)) same (subst (IsMarkedLine m (without_blanks line)) cut.is (subst (λ (t : List ℕ). IsMarkedLine m t unmarked) is is_marked));
         one_word = cut.one_word;
@@ -149,7 +149,7 @@ module _ (line text : List ℕ) (is : text ≡ without_blanks line) where
 pub entry_needs : (line : List ℕ) (h : KnownHost) → IsHostLine line h → NeedsHostLine line
 entry_needs line h k = record {
   hosts = k.hosts_part;
-  rest = k.behind_hosts;
+  rest = k.after_hosts;
   no_zero = k.no_zero;
   no_comment = k.no_comment;
   field = record { marker = h.marker; marked = k.marked; one_word = k.one_word; ends = k.hosts_end };

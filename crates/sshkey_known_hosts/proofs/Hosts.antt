@@ -103,9 +103,9 @@ refused_is_none text Memory x other = absurd (other refl)
 refused_is_none text e x other = absurd x
 
 -- what is read after the mark
-pub reads_behind_mark : (text rest : List ℕ) (r : Result HostPatterns Error) → text ≡ hashed_mark ++ rest → ReadsHashed rest r → ReadsEntry hosts_of IsHosts text r
-reads_behind_mark text rest (Ok h) is x = subst (λ (t : List ℕ). IsHosts t (hosts_of h)) (sym is) x
-reads_behind_mark text rest (Err e) is x = λ other. subst (IsNoEntry IsHosts) (sym is) (refused_is_none (hashed_mark ++ rest) e x other)
+pub reads_after_mark : (text rest : List ℕ) (r : Result HostPatterns Error) → text ≡ hashed_mark ++ rest → ReadsHashed rest r → ReadsEntry hosts_of IsHosts text r
+reads_after_mark text rest (Ok h) is x = subst (λ (t : List ℕ). IsHosts t (hosts_of h)) (sym is) x
+reads_after_mark text rest (Err e) is x = λ other. subst (IsNoEntry IsHosts) (sym is) (refused_is_none (hashed_mark ++ rest) e x other)
 
 -- ---- memory
 

@@ -12,11 +12,11 @@ pub join_one : (c i : ℕ) (pieces : List (List ℕ)) (next : List ℕ) → i < 
 join_one c i pieces next l zero is = ap (join_with_byte c) (take_more pieces i next l ∙ (λ j. take (zero j) pieces ++ (is j ∷ [])))
 
 pub join_more : (c i : ℕ) (pieces : List (List ℕ)) (next : List ℕ) → i < length pieces → 0 < i → get_or pieces i next ≡ next → join_with_byte c (take (i + 1) pieces) ≡ join_with_byte c (take i pieces) ++ (c ∷ next)
-join_more c i pieces next l some is = ap (join_with_byte c) (take_more pieces i next l ∙ ap (λ (x : List ℕ). take i pieces ++ (x ∷ [])) is) ∙ behind (take i pieces) (omega (arith, length-take i pieces))
+join_more c i pieces next l some is = ap (join_with_byte c) (take_more pieces i next l ∙ ap (λ (x : List ℕ). take i pieces ++ (x ∷ [])) is) ∙ after (take i pieces) (omega (arith, length-take i pieces))
   where
-    behind : (front : List (List ℕ)) → 0 < length front → join_with_byte c (front ++ (next ∷ [])) ≡ join_with_byte c front ++ (c ∷ next)
-    behind [] none = absurd (omega arith)
-    behind (piece ∷ front) _ = more c piece next front
+    after : (front : List (List ℕ)) → 0 < length front → join_with_byte c (front ++ (next ∷ [])) ≡ join_with_byte c front ++ (c ∷ next)
+    after [] none = absurd (omega arith)
+    after (piece ∷ front) _ = more c piece next front
 
 module _ (c i : ℕ) (pieces : List (List ℕ)) (front next old mid new : List ℕ) (l : i < length pieces) (is : get_or pieces i next ≡ next) (was : old ≡ front ++ join_with_byte c (take i pieces)) (added : new ≡ mid ++ next) where
   -- the text grew by a character and a piece

@@ -18,15 +18,15 @@ use Rattle.sshkey_entries.specs.KnownHosts.{Marker, Hosts, IsHosts, KnownHost, I
 use Rattle.sshkey_known_hosts.specs.HostFaults.{HasFault, HasNoParts, NeedsLine, RefusesHosts}
 
 module _ (entry : List ℕ) (m : Option Marker) (unmarked : List ℕ) (marked : IsMarked m entry unmarked) where
-  behind : (h : KnownHost) (k : IsKnownHost entry h) → unmarked ≡ k.hosts_part ++ (space ∷ k.rest)
-  behind h k = (one_marker entry m h.marker unmarked (k.hosts_part ++ (space ∷ k.rest)) marked k.is).1
+  after : (h : KnownHost) (k : IsKnownHost entry h) → unmarked ≡ k.hosts_part ++ (space ∷ k.rest)
+  after h k = (one_marker entry m h.marker unmarked (k.hosts_part ++ (space ∷ k.rest)) marked k.is).1
 
   pub uncut_hosts : IsSplitOnceResult space unmarked None → (h : KnownHost) → IsKnownHost entry h → ⊥
-  uncut_hosts none h k = split_after space unmarked k.hosts_part k.rest None none (omega arith) (behind h k) k.one_word
+  uncut_hosts none h k = split_after space unmarked k.hosts_part k.rest None none (omega arith) (after h k) k.one_word
 
   module _ (hosts rest : Bor (List ℕ)) (cut : IsSplitOnceResult space unmarked (Some (hosts, rest))) where
     parts : (h : KnownHost) (k : IsKnownHost entry h) → (hosts.now ≡ k.hosts_part) × (rest.now ≡ k.rest)
-    parts h k = split_after space unmarked k.hosts_part k.rest (Some (hosts, rest)) cut (omega arith) (behind h k) k.one_word
+    parts h k = split_after space unmarked k.hosts_part k.rest (Some (hosts, rest)) cut (omega arith) (after h k) k.one_word
 
     pub bad_hosts : (e : Error) → (cause e ≢ NoMemory → (x : Hosts) → IsHosts hosts.now x → ⊥) → cause e ≢ NoMemory → (h : KnownHost) → IsKnownHost entry h → ⊥
     bad_hosts e none other h k = none other h.hosts (subst (λ (t : List ℕ). IsHosts t h.hosts) (sym (parts h k).0) k.hosts)
@@ -59,8 +59,8 @@ module _ (entry : List ℕ) (m : Option Marker) (unmarked : List ℕ) (marked : 
   }
 
   module _ (hosts rest : Bor (List ℕ)) (cut : IsSplitOnceResult space unmarked (Some (hosts, rest))) where
-    same_hosts : (n : Option Marker) (other behind : List ℕ) → IsMarked n entry (other ++ (space ∷ behind)) → IsWithout space other → hosts.now ≡ other
-    same_hosts n other behind is without = (split_after space unmarked other behind (Some (hosts, rest)) cut (omega arith) (same_rest n (other ++ (space ∷ behind)) is) without).0
+    same_hosts : (n : Option Marker) (other after : List ℕ) → IsMarked n entry (other ++ (space ∷ after)) → IsWithout space other → hosts.now ≡ other
+    same_hosts n other after is without = (split_after space unmarked other after (Some (hosts, rest)) cut (omega arith) (same_rest n (other ++ (space ∷ after)) is) without).0
 
     -- a space stands in what follows the marker
     no_lone_word : (n : Option Marker) (other : List ℕ) → IsMarked n entry other → IsWithout space other → ⊥
@@ -70,15 +70,15 @@ module _ (entry : List ℕ) (m : Option Marker) (unmarked : List ℕ) (marked : 
         without (length hosts.now) (omega (arith, ap length whole, length-append hosts.now (space ∷ rest.now)))
         (ap (λ (l : List ℕ). slice_index l (length hosts.now)) whole ∙ get_or-append_seam hosts.now space rest.now 0)
 
-    same_behind : (n : Option Marker) (other behind : List ℕ) → IsMarked n entry (other ++ (space ∷ behind)) → IsWithout space other → rest.now ≡ behind
-    same_behind n other behind is without = (split_after space unmarked other behind (Some (hosts, rest)) cut (omega arith) (same_rest n (other ++ (space ∷ behind)) is) without).1
+    same_after : (n : Option Marker) (other after : List ℕ) → IsMarked n entry (other ++ (space ∷ after)) → IsWithout space other → rest.now ≡ after
+    same_after n other after is without = (split_after space unmarked other after (Some (hosts, rest)) cut (omega arith) (same_rest n (other ++ (space ∷ after)) is) without).1
 
     pub hosts_fault : (e : Error) → IsNoEntry IsHosts hosts.now → RefusesHosts hosts.now e → HasFault entry e
     hosts_fault e none_are h = record {
       no_marker = λ none. absurd (none m unmarked marked);
       no_space = λ n other is without. absurd (no_lone_word n other is without);
-      no_hosts = λ n other behind is without bad. subst (λ (t : List ℕ). RefusesHosts t e) (same_hosts n other behind is without) h;
-      no_key = λ n other behind x is without are. absurd (none_are x (subst (λ (t : List ℕ). IsHosts t x) (sym (same_hosts n other behind is without)) are));
+      no_hosts = λ n other after is without bad. subst (λ (t : List ℕ). RefusesHosts t e) (same_hosts n other after is without) h;
+      no_key = λ n other after x is without are. absurd (none_are x (subst (λ (t : List ℕ). IsHosts t x) (sym (same_hosts n other after is without)) are));
     }
 
     -- hosts that are some, and the fault of the key's line
@@ -86,6 +86,6 @@ module _ (entry : List ℕ) (m : Option Marker) (unmarked : List ℕ) (marked : 
     host_key_fault e x h fault = record {
       no_marker = λ none. absurd (none m unmarked marked);
       no_space = λ n other is without. absurd (no_lone_word n other is without);
-      no_hosts = λ n other behind is without bad. absurd (bad x (subst (λ (t : List ℕ). IsHosts t x) (same_hosts n other behind is without) h));
-      no_key = λ n other behind y is without are. subst (λ (t : List ℕ). HasFaultOfLine key_format key_name SpellsKey t e) (same_behind n other behind is without) fault;
+      no_hosts = λ n other after is without bad. absurd (bad x (subst (λ (t : List ℕ). IsHosts t x) (same_hosts n other after is without) h));
+      no_key = λ n other after y is without are. subst (λ (t : List ℕ). HasFaultOfLine key_format key_name SpellsKey t e) (same_after n other after is without) fault;
     }

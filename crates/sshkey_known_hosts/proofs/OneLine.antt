@@ -6,7 +6,7 @@ use Rattle.base64.specs.GeneralPurpose.{encode_of}
 use Rattle.sshkey_model.specs.Lines.{space}
 use Rattle.sshkey_model.proofs.Base64Words.{word_lacks}
 use Rattle.sshkey_model.proofs.LineTests.{lacks}
-use Rattle.sshkey_entries.specs.KnownHosts.{Marker, CertAuthority, Revoked, marker_text, behind_marker, hashed_mark, hashed_text, bar, comma}
+use Rattle.sshkey_entries.specs.KnownHosts.{Marker, CertAuthority, Revoked, marker_text, after_marker, hashed_mark, hashed_text, bar, comma}
 use Rattle.sshkey_public.specs.OneLine.{IsOneLine, line_feed, carriage_return}
 use Rattle.sshkey_public.proofs.OneLines.{one_line_front, one_line_rest, one_line_both}
 
@@ -56,16 +56,16 @@ marker_so : (m : Marker) → IsOneLine (marker_text m)
 marker_so CertAuthority = (lacks line_feed (marker_text CertAuthority) refl, lacks carriage_return (marker_text CertAuthority) refl)
 marker_so Revoked = (lacks line_feed (marker_text Revoked) refl, lacks carriage_return (marker_text Revoked) refl)
 
-behind_space : (a b : List ℕ) → IsOneLine a → IsOneLine b → IsOneLine (a ++ (space ∷ b))
-behind_space a b h k = one_line_both a (space ∷ b) h (one_line_both (space ∷ []) b space_alone k)
+after_space : (a b : List ℕ) → IsOneLine a → IsOneLine b → IsOneLine (a ++ (space ∷ b))
+after_space a b h k = one_line_both a (space ∷ b) h (one_line_both (space ∷ []) b space_alone k)
 
 before_space : (a b : List ℕ) → IsOneLine (a ++ (space ∷ b)) → IsOneLine a × IsOneLine b
 before_space a b h = (one_line_front a (space ∷ b) h, one_line_rest (space ∷ []) b (one_line_rest a (space ∷ b) h))
 
-pub written_so : (m : Option Marker) (hosts line : List ℕ) → IsOneLine hosts → IsOneLine line → IsOneLine (behind_marker m (hosts ++ (space ∷ line)))
-written_so None hosts line h k = behind_space hosts line h k
-written_so (Some m) hosts line h k = behind_space (marker_text m) (hosts ++ (space ∷ line)) (marker_so m) (behind_space hosts line h k)
+pub written_so : (m : Option Marker) (hosts line : List ℕ) → IsOneLine hosts → IsOneLine line → IsOneLine (after_marker m (hosts ++ (space ∷ line)))
+written_so None hosts line h k = after_space hosts line h k
+written_so (Some m) hosts line h k = after_space (marker_text m) (hosts ++ (space ∷ line)) (marker_so m) (after_space hosts line h k)
 
-pub so_written : (m : Option Marker) (hosts line : List ℕ) → IsOneLine (behind_marker m (hosts ++ (space ∷ line))) → IsOneLine hosts × IsOneLine line
+pub so_written : (m : Option Marker) (hosts line : List ℕ) → IsOneLine (after_marker m (hosts ++ (space ∷ line))) → IsOneLine hosts × IsOneLine line
 so_written None hosts line h = before_space hosts line h
 so_written (Some m) hosts line h = before_space hosts line (before_space (marker_text m) (hosts ++ (space ∷ line)) h).1

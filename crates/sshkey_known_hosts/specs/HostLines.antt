@@ -14,19 +14,19 @@ use Rattle.sshkey_known_hosts.specs.declared.host_line.HostCut.TheVariants as cu
 use Rattle.sshkey_known_hosts.specs.declared.host_line.HostLine.{HostLine}
 use Rattle.sshkey_known_hosts.specs.declared.host_line.HostLine.TheVariants as is
 
--- Behind that marker or none the line has hosts that are for the name, and behind them the fields.
+-- After that marker or none the line has hosts that are for the name, and after them the fields.
 pub record HasNamedHosts (hmac : List ℕ → List ℕ → List ℕ) (name line : List ℕ) (marker : Option Marker) (fields : List ℕ) : Type 0 where
   pub no_zero : IsWithout 0 line
   pub hosts_part : List ℕ
-  pub behind_hosts : List ℕ
+  pub after_hosts : List ℕ
   pub hosts : Hosts
   pub no_comment : slice_index (without_blanks line) 0 ≢ hash_sign
-  pub marked : IsMarkedLine marker (without_blanks line) (hosts_part ++ behind_hosts)
+  pub marked : IsMarkedLine marker (without_blanks line) (hosts_part ++ after_hosts)
   pub one_word : IsField hosts_part
-  pub hosts_end : EndsField behind_hosts
+  pub hosts_end : EndsField after_hosts
   pub are : IsHosts hosts_part hosts
   pub is_for : AreFor hmac name hosts
-  pub fields_are : fields ≡ without_blanks behind_hosts
+  pub fields_are : fields ≡ without_blanks after_hosts
 
 abbrev pub IsCut : (List ℕ → List ℕ → List ℕ) → List ℕ → List ℕ → HostCut → Type 0
 IsCut hmac name line cut.ForOthers = IsForOthers hmac name line

@@ -45,12 +45,12 @@ impl HostLine {
 #[derive(Clone, Copy)]
 enum HostCut<'a> {
     ForOthers,
-    /// The marker before hosts for the name, and the text of the key's fields behind them.
+    /// The marker before hosts for the name, and the text of the key's fields after them.
     Named(Option<Marker>, &'a str),
     Unreadable,
 }
 
-/// The line, cut behind its hosts. Takes no memory.
+/// The line, cut after its hosts. Takes no memory.
 fn cut_hosts<'a, H: HmacSha1>(line: &'a str, name: &str, hmac: &H) -> HostCut<'a>
     ensures { IsCut (H.hmac hmac.now) name.now line.now result }
 {

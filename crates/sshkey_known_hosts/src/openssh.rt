@@ -47,11 +47,11 @@ fn is_without_space(text: &str) -> bool
 
 /// Whether ssh ends that marker before the text: the one of an authority at a tab only where no
 /// space follows.
-fn ends_marker(marker: Marker, behind: &str) -> bool
-    ensures { IsTrue result ↔ EndsMarker (marker_of marker) behind.now }
+fn ends_marker(marker: Marker, after: &str) -> bool
+    ensures { IsTrue result ↔ EndsMarker (marker_of marker) after.now }
 {
     match marker {
-        Marker::CertAuthority => begins_with_space(behind) || is_without_space(behind),
+        Marker::CertAuthority => begins_with_space(after) || is_without_space(after),
         Marker::Revoked => true,
     }
 }
@@ -63,12 +63,12 @@ pub(crate) fn split_marker_field(text: &str) -> Result<(Option<Marker>, &str)>
     if !is_marked(text) {
         return Ok((None, text));
     }
-    let (word, behind) = split_field(text);
+    let (word, after) = split_field(text);
     let marker = Marker::from_str(word)?;
-    if !ends_marker(marker, behind) {
+    if !ends_marker(marker, after) {
         return Err(Error::FormatEncoding);
     }
-    let rest = skip_blanks(behind);
+    let rest = skip_blanks(after);
     if is_marked(rest) {
         return Err(Error::FormatEncoding);
     }

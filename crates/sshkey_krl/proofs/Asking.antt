@@ -25,8 +25,8 @@ module _ {A : Type 0} (f : Format A) (says : A → Bool) where
   abbrev pub or : Bool → Bool → Result Bool Fault
   or found y = Ok (found || y)
 
-  abbrev behind : A × List ℕ → Result (Bool × List ℕ) Fault
-  behind x = said x.0 >>= λ y. Ok (y, x.1)
+  abbrev after : A × List ℕ → Result (Bool × List ℕ) Fault
+  after x = said x.0 >>= λ y. Ok (y, x.1)
 
   -- an item, and those after it
   onto : (x : A) (found : Result (List A) Fault) → ((found >>= λ xs. Ok (x ∷ xs)) >>= any) ≡ ((found >>= any) >>= or (says x))
@@ -60,7 +60,7 @@ module _ {A : Type 0} (f : Format A) (says : A → Bool) where
   item_of : (b : List ℕ) (y : Bool) (rest : List ℕ) → checked_at said f.read b ≡ Ok (y, rest) → (x : A) × (f.read b ≡ Ok (x, rest)) × (says x ≡ y)
   item_of b y rest e = go (f.read b) refl e
     where
-      go : (found : Result (A × List ℕ) Fault) → f.read b ≡ found → (found >>= behind) ≡ Ok (y, rest) → (x : A) × (f.read b ≡ Ok (x, rest)) × (says x ≡ y)
+      go : (found : Result (A × List ℕ) Fault) → f.read b ≡ found → (found >>= after) ≡ Ok (y, rest) → (x : A) × (f.read b ≡ Ok (x, rest)) × (says x ≡ y)
       go (Ok x) h e =
           let is = ok_is _ _ e in
           (x.0, h ∙ ap (λ (p : Bool × List ℕ). Ok (x.0, p.1)) is, ap (λ (p : Bool × List ℕ). p.0) is)
@@ -77,7 +77,7 @@ module _ {A : Type 0} (f : Format A) (says : A → Bool) where
   pub refused : (b left : List ℕ) (found : Bool) (e : Fault) → 0 < length left → Walks b found left → checked_at said f.read left ≡ Err e → asked b ≡ Err e
   refused b left found e some w h = w ∙ rw (stop left e some (go (f.read left) refl h)) refl
     where
-      go : (r : Result (A × List ℕ) Fault) → f.read left ≡ r → (r >>= behind) ≡ Err e → f.read left ≡ Err e
+      go : (r : Result (A × List ℕ) Fault) → f.read left ≡ r → (r >>= after) ≡ Err e → f.read left ≡ Err e
       go (Ok x) k h = absurd cc
       go (Err d) k h = cc
 

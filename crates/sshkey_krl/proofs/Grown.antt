@@ -72,11 +72,11 @@ grown k s b c list section =
       inner = (list.inner.0, list.inner.1 ++ s ∷ []);
       spelled = record {
         front = found.front;
-        behind = found.behind ++ c;
+        after = found.after ++ c;
         first = found.first;
-        second = more section_format section_lawful section_ends list.inner.1 s found.behind c found.second section;
-        all = ap (λ (l : List ℕ). l ++ c) found.all ∙ append_assoc found.front found.behind c;
-        may_follow = ends header_lawful.grammar header_ends list.inner.0 found.front (found.behind ++ c) found.first;
+        second = more section_format section_lawful section_ends list.inner.1 s found.after c found.second section;
+        all = ap (λ (l : List ℕ). l ++ c) found.all ∙ append_assoc found.front found.after c;
+        may_follow = ends header_lawful.grammar header_ends list.inner.0 found.front (found.after ++ c) found.first;
       };
       makes = ap (λ (z : Krl). Ok (with_section z s)) (ok_is _ k list.makes);
     }
@@ -100,7 +100,7 @@ module _ {K A : Type 0} (kinds : ℕ → Result K Fault) (within : K → Format 
         inner = (k, x);
         spelled = record {
           front = flat (number w8 n);
-          behind = flat (box p);
+          after = flat (box p);
           first = first;
           second = record { inside = flat p; spelled = s; short = fits_length p (fits_second (number w8 n) (box p) fits); whole = refl };
           all = refl;
@@ -121,7 +121,7 @@ string_spelled p fits = record {
 }
 
 spells_then : {A B : Type 0} (f : Format A) (g : Format B) → IsFormat f → AllEnd f.read f.delimited_at → (x : A) (y : B) (b c : List ℕ) → f.Spells x b → g.Spells y c → (f then g).Spells (x, y) (b ++ c)
-spells_then f g laws all x y b c s t = record { front = b; behind = c; first = s; second = t; all = refl; may_follow = ends laws.grammar all x b c s }
+spells_then f g laws all x y b c s t = record { front = b; after = c; first = s; second = t; all = refl; may_follow = ends laws.grammar all x b c s }
 
 string_ends : AllEnd string_format.read string_format.delimited_at
 string_ends b = refl
@@ -259,13 +259,13 @@ begun_spelled n date comment some fits =
     let opened = spells_then (literal_format magic) (tested version_from number32_format) magic_lawful (λ b. refl) magic 1 (flat (number w64 0x5353484b524c0a00)) (flat (number w32 1)) literal version in
     let counted = spells_then number64_format (number64_format then number64_format) number64_lawful (λ b. refl) n (date, 0) (flat (number w64 n)) (flat (number w64 date & number w64 0)) first (spells_then number64_format number64_format number64_lawful (λ b. refl) date 0 (flat (number w64 date)) (flat (number w64 0)) second third) in
     let told = spells_then string_format (tested text_from string_format) string_lawful (λ b. refl) [] comment (flat (string [])) (flat (string comment)) reserved text in
-    let behind = spells_then (number64_format then number64_format then number64_format) (string_format then tested text_from string_format) numbers_lawful (λ b. refl) (n, (date, 0)) ([], comment) (flat (number w64 n & number w64 date & number w64 0)) (flat texts) counted told in
-    let all = spells_then (literal_format magic then tested version_from number32_format) ((number64_format then number64_format then number64_format) then (string_format then tested text_from string_format)) opening_lawful (λ b. refl) (magic, 1) ((n, (date, 0)), ([], comment)) (flat opening) (flat (number w64 n & number w64 date & number w64 0) ++ flat texts) opened behind in
+    let after = spells_then (number64_format then number64_format then number64_format) (string_format then tested text_from string_format) numbers_lawful (λ b. refl) (n, (date, 0)) ([], comment) (flat (number w64 n & number w64 date & number w64 0)) (flat texts) counted told in
+    let all = spells_then (literal_format magic then tested version_from number32_format) ((number64_format then number64_format then number64_format) then (string_format then tested text_from string_format)) opening_lawful (λ b. refl) (magic, 1) ((n, (date, 0)), ([], comment)) (flat opening) (flat (number w64 n & number w64 date & number w64 0) ++ flat texts) opened after in
     record {
       inner = (((magic, 1), ((n, (date, 0)), ([], comment))), []);
       spelled = record {
         front = flat opening ++ (flat (number w64 n & number w64 date & number w64 0) ++ flat texts);
-        behind = [];
+        after = [];
         first = all;
         second = refl;
         all = ap (λ (l : List ℕ). flat opening ++ l) (regrouped (flat (number w64 n)) (flat (number w64 date)) (flat (number w64 0)) (flat texts)) ∙ sym (append-nil (flat opening ++ (flat (number w64 n & number w64 date & number w64 0) ++ flat texts)));

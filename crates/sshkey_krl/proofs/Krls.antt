@@ -8,7 +8,7 @@ use Rattle.sshkey_base.specs.Answers.{AnswersAlways, Judges}
 use Rattle.sshkey_base.specs.Causes.{Cause}
 use Rattle.sshkey_base.specs.Reading.{NoSpelling, Refuses}
 use Rattle.sshkey_krl.proofs.Wholes.{whole_is}
-use Rattle.sshkey_model.specs.Reading.{Fault, ◌>>=◌, Front, checked_at, checked_whole, end_of, list_whole, whole, behind_at}
+use Rattle.sshkey_model.specs.Reading.{Fault, ◌>>=◌, Front, checked_at, checked_whole, end_of, list_whole, whole, after_at}
 use Rattle.sshkey_terms.proofs.SliceFronts.{taken_value}
 use Rattle.sshkey_terms.specs.Slices.{found_or, is_taken}
 use Rattle.sshkey_terms.specs.ToEnd.{each_at}
@@ -32,15 +32,15 @@ module _ (a : Asked) where
   abbrev Header : Type 0
   Header = (List ℕ × ℕ) × ((ℕ × (ℕ × ℕ)) × (List ℕ × List ℕ))
 
-  with_header : (header : Front Header) (b : List ℕ) → checked_whole said (whole (checked_at krl_of (behind_at header (λ _. each_at section_format)))) b ≡ (header b >>= after_header)
-  unfolding behind_at
+  with_header : (header : Front Header) (b : List ℕ) → checked_whole said (whole (checked_at krl_of (after_at header (λ _. each_at section_format)))) b ≡ (header b >>= after_header)
+  unfolding after_at
   with_header header b = go (header b) refl
     where
-      sections : (h : Header × List ℕ) → header b ≡ Ok h → (found : Result (List Section) Fault) → list_whole (λ _. section_format.read) h.1 ≡ found → checked_whole said (whole (checked_at krl_of (behind_at header (λ _. each_at section_format)))) b ≡ (header b >>= after_header)
+      sections : (h : Header × List ℕ) → header b ≡ Ok h → (found : Result (List Section) Fault) → list_whole (λ _. section_format.read) h.1 ≡ found → checked_whole said (whole (checked_at krl_of (after_at header (λ _. each_at section_format)))) b ≡ (header b >>= after_header)
       sections h e (Err d) s = rw (e, s) refl
       sections h e (Ok xs) s = rw (e, s) refl
 
-      go : (found : Result (Header × List ℕ) Fault) → header b ≡ found → checked_whole said (whole (checked_at krl_of (behind_at header (λ _. each_at section_format)))) b ≡ (header b >>= after_header)
+      go : (found : Result (Header × List ℕ) Fault) → header b ≡ found → checked_whole said (whole (checked_at krl_of (after_at header (λ _. each_at section_format)))) b ≡ (header b >>= after_header)
       go (Err d) e = rw e refl
       go (Ok h) e = sections h e (list_whole (λ _. section_format.read) h.1) refl
 

@@ -30,7 +30,7 @@ numbered_lawful kind_from laws = called_lawful (tested_lawful kind_from byte_law
 number_shows : {K A : Type 0} (kind_from : ℕ → Result K Fault) (body : K → Format A) → HasBytes (numbered kind_from body)
 number_shows kind_from body x b s =
     let byte = s.spelled.first in
-    omega (arith, ap length s.spelled.all, length-append s.spelled.front s.spelled.behind, ap length byte.spelled.shape, length_number8 byte.inner)
+    omega (arith, ap length s.spelled.all, length-append s.spelled.front s.spelled.after, ap length byte.spelled.shape, length_number8 byte.inner)
 
 -- ---- parts
 

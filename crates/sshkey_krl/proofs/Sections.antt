@@ -8,7 +8,7 @@ use Rattle.sshkey_base.specs.Causes.{Cause, Faulty}
 use Rattle.sshkey_base.specs.Formats.{array_format, string_format}
 use Rattle.sshkey_model.specs.Keys.{Key, normal_key}
 use Rattle.sshkey_model.specs.Parts.{flat}
-use Rattle.sshkey_model.specs.Reading.{Fault, FormatEncoding, ◌>>=◌, checked_whole, list_whole, string_at, whole, behind_at}
+use Rattle.sshkey_model.specs.Reading.{Fault, FormatEncoding, ◌>>=◌, checked_whole, list_whole, string_at, whole, after_at}
 use denote.Ref.{Bor}
 use Rattle.sshkey_keys.proofs.KeyReaders.{key_grammar}
 use Rattle.sshkey_keys.specs.Keys.{SpellsKey, key_data_at}
@@ -57,32 +57,32 @@ module _ (a : Asked) where
   abbrev pub both : Bool → Bool → Result Bool Fault
   both x y = Ok (x && y)
 
-  abbrev pub after_reserved : Bool → List ℕ × List ℕ → Result Bool Fault
-  after_reserved x t = asked part_format (part_says a) t.1 >>= both x
+  abbrev pub read_after_reserved : Bool → List ℕ × List ℕ → Result Bool Fault
+  read_after_reserved x t = asked part_format (part_says a) t.1 >>= both x
 
-  abbrev pub after_authority : List ℕ → Bool → Result Bool Fault
-  after_authority rest x = string_at rest >>= after_reserved x
+  abbrev pub read_after_authority : List ℕ → Bool → Result Bool Fault
+  read_after_authority rest x = string_at rest >>= read_after_reserved x
 
-  abbrev pub after_string : List ℕ × List ℕ → Result Bool Fault
-  after_string s = about s.0 >>= after_authority s.1
+  abbrev pub read_after_string : List ℕ × List ℕ → Result Bool Fault
+  read_after_string s = about s.0 >>= read_after_authority s.1
 
-  pub certificates_said : (b : List ℕ) → checked_whole said (whole (body kinds.Certificates).read) b ≡ (string_at b >>= after_string)
-  unfolding behind_at
+  pub certificates_said : (b : List ℕ) → checked_whole said (whole (body kinds.Certificates).read) b ≡ (string_at b >>= read_after_string)
+  unfolding after_at
   certificates_said b = first (string_at b) refl
     where
-      parts : (s : List ℕ × List ℕ) → string_at b ≡ Ok s → (w : Authority) → authority_from s.0 ≡ Ok w → (t : List ℕ × List ℕ) → string_at s.1 ≡ Ok t → (found : Result (List Part) Fault) → list_whole (λ _. part_format.read) t.1 ≡ found → checked_whole said (whole (body kinds.Certificates).read) b ≡ (string_at b >>= after_string)
+      parts : (s : List ℕ × List ℕ) → string_at b ≡ Ok s → (w : Authority) → authority_from s.0 ≡ Ok w → (t : List ℕ × List ℕ) → string_at s.1 ≡ Ok t → (found : Result (List Part) Fault) → list_whole (λ _. part_format.read) t.1 ≡ found → checked_whole said (whole (body kinds.Certificates).read) b ≡ (string_at b >>= read_after_string)
       parts s h w i t k (Err d) e = rw (h, i, k, e) refl
       parts s h w i t k (Ok ps) e = rw (h, i, k, e) refl
 
-      reserved : (s : List ℕ × List ℕ) → string_at b ≡ Ok s → (w : Authority) → authority_from s.0 ≡ Ok w → (found : Result (List ℕ × List ℕ) Fault) → string_at s.1 ≡ found → checked_whole said (whole (body kinds.Certificates).read) b ≡ (string_at b >>= after_string)
+      reserved : (s : List ℕ × List ℕ) → string_at b ≡ Ok s → (w : Authority) → authority_from s.0 ≡ Ok w → (found : Result (List ℕ × List ℕ) Fault) → string_at s.1 ≡ found → checked_whole said (whole (body kinds.Certificates).read) b ≡ (string_at b >>= read_after_string)
       reserved s h w i (Err d) k = rw (h, i, k) refl
       reserved s h w i (Ok t) k = parts s h w i t k (list_whole (λ _. part_format.read) t.1) refl
 
-      authority : (s : List ℕ × List ℕ) → string_at b ≡ Ok s → (found : Result Authority Fault) → authority_from s.0 ≡ found → checked_whole said (whole (body kinds.Certificates).read) b ≡ (string_at b >>= after_string)
+      authority : (s : List ℕ × List ℕ) → string_at b ≡ Ok s → (found : Result Authority Fault) → authority_from s.0 ≡ found → checked_whole said (whole (body kinds.Certificates).read) b ≡ (string_at b >>= read_after_string)
       authority s h (Err d) i = rw (h, i) refl
       authority s h (Ok w) i = reserved s h w i (string_at s.1) refl
 
-      first : (found : Result (List ℕ × List ℕ) Fault) → string_at b ≡ found → checked_whole said (whole (body kinds.Certificates).read) b ≡ (string_at b >>= after_string)
+      first : (found : Result (List ℕ × List ℕ) Fault) → string_at b ≡ found → checked_whole said (whole (body kinds.Certificates).read) b ≡ (string_at b >>= read_after_string)
       first (Err d) h = rw h refl
       first (Ok s) h = authority s h (authority_from s.0) refl
 
@@ -102,28 +102,28 @@ module _ (a : Asked) where
     IsAbout s r = AnswersAlways (λ y. y) cause (about s) r
 
     pub no_string : (d : D) (e : E) → AnswersAlways string narrow (string_at b) (Err d) → cause e ≡ narrow d → Says (Err e)
-    no_string d e h same = rw (certificates_said b) (answers_first string narrow (λ y. y) cause (string_at b) after_string d e h same)
+    no_string d e h same = rw (certificates_said b) (answers_first string narrow (λ y. y) cause (string_at b) read_after_string d e h same)
 
-    behind_string : (p : Bor (List ℕ) × Bor (List ℕ)) (r : Result Bool E) → Begins p → AnswersAlways (λ y. y) cause (after_string (string p)) r → Says r
-    behind_string p r h g = rw (certificates_said b) (answers_later string narrow (λ y. y) cause (string_at b) after_string p r h g)
+    after_string : (p : Bor (List ℕ) × Bor (List ℕ)) (r : Result Bool E) → Begins p → AnswersAlways (λ y. y) cause (read_after_string (string p)) r → Says r
+    after_string p r h g = rw (certificates_said b) (answers_later string narrow (λ y. y) cause (string_at b) read_after_string p r h g)
 
     pub no_authority : (p : Bor (List ℕ) × Bor (List ℕ)) (e f : E) → Begins p → IsAbout p.0.now (Err e) → cause f ≡ cause e → Says (Err f)
-    no_authority p e f h i same = behind_string p (Err f) h (answers_first (λ y. y) cause (λ y. y) cause (about p.0.now) (after_authority p.1.now) e f i same)
+    no_authority p e f h i same = after_string p (Err f) h (answers_first (λ y. y) cause (λ y. y) cause (about p.0.now) (read_after_authority p.1.now) e f i same)
 
-    behind_authority : (p : Bor (List ℕ) × Bor (List ℕ)) (y : Bool) (r : Result Bool E) → Begins p → IsAbout p.0.now (Ok y) → AnswersAlways (λ y. y) cause (after_authority p.1.now y) r → Says r
-    behind_authority p y r h i g = behind_string p r h (answers_later (λ y. y) cause (λ y. y) cause (about p.0.now) (after_authority p.1.now) y r i g)
+    after_authority : (p : Bor (List ℕ) × Bor (List ℕ)) (y : Bool) (r : Result Bool E) → Begins p → IsAbout p.0.now (Ok y) → AnswersAlways (λ y. y) cause (read_after_authority p.1.now y) r → Says r
+    after_authority p y r h i g = after_string p r h (answers_later (λ y. y) cause (λ y. y) cause (about p.0.now) (read_after_authority p.1.now) y r i g)
 
     pub no_reserved : (p : Bor (List ℕ) × Bor (List ℕ)) (y : Bool) (d : D) (e : E) → Begins p → IsAbout p.0.now (Ok y) → AnswersAlways string narrow (string_at p.1.now) (Err d) → cause e ≡ narrow d → Says (Err e)
-    no_reserved p y d e h i k same = behind_authority p y (Err e) h i (answers_first string narrow (λ y. y) cause (string_at p.1.now) (after_reserved y) d e k same)
+    no_reserved p y d e h i k same = after_authority p y (Err e) h i (answers_first string narrow (λ y. y) cause (string_at p.1.now) (read_after_reserved y) d e k same)
 
-    behind_reserved : (p : Bor (List ℕ) × Bor (List ℕ)) (y : Bool) (q : Bor (List ℕ) × Bor (List ℕ)) (r : Result Bool E) → Begins p → IsAbout p.0.now (Ok y) → AnswersAlways string narrow (string_at p.1.now) (Ok q) → AnswersAlways (λ y. y) cause (after_reserved y (string q)) r → Says r
-    behind_reserved p y q r h i k g = behind_authority p y r h i (answers_later string narrow (λ y. y) cause (string_at p.1.now) (after_reserved y) q r k g)
+    after_reserved : (p : Bor (List ℕ) × Bor (List ℕ)) (y : Bool) (q : Bor (List ℕ) × Bor (List ℕ)) (r : Result Bool E) → Begins p → IsAbout p.0.now (Ok y) → AnswersAlways string narrow (string_at p.1.now) (Ok q) → AnswersAlways (λ y. y) cause (read_after_reserved y (string q)) r → Says r
+    after_reserved p y q r h i k g = after_authority p y r h i (answers_later string narrow (λ y. y) cause (string_at p.1.now) (read_after_reserved y) q r k g)
 
     pub no_parts : (p : Bor (List ℕ) × Bor (List ℕ)) (y : Bool) (q : Bor (List ℕ) × Bor (List ℕ)) (e f : E) → Begins p → IsAbout p.0.now (Ok y) → AnswersAlways string narrow (string_at p.1.now) (Ok q) → AnswersAlways {X = Bool} (λ y. y) cause (asked part_format (part_says a) q.1.now) (Err e) → cause f ≡ cause e → Says (Err f)
-    no_parts p y q e f h i k l same = behind_reserved p y q (Err f) h i k (answers_first (λ y. y) cause (λ y. y) cause (asked part_format (part_says a) q.1.now) (both y) e f l same)
+    no_parts p y q e f h i k l same = after_reserved p y q (Err f) h i k (answers_first (λ y. y) cause (λ y. y) cause (asked part_format (part_says a) q.1.now) (both y) e f l same)
 
     pub parts_say : (p : Bor (List ℕ) × Bor (List ℕ)) (y : Bool) (q : Bor (List ℕ) × Bor (List ℕ)) (z : Bool) → Begins p → IsAbout p.0.now (Ok y) → AnswersAlways string narrow (string_at p.1.now) (Ok q) → AnswersAlways {E = E} (λ y. y) cause (asked part_format (part_says a) q.1.now) (Ok z) → Says (Ok (y && z))
-    parts_say p y q z h i k l = behind_reserved p y q (Ok (y && z)) h i k (answers_later (λ y. y) cause (λ y. y) cause (asked part_format (part_says a) q.1.now) (both y) z (Ok (y && z)) l refl)
+    parts_say p y q z h i k l = after_reserved p y q (Ok (y && z)) h i k (answers_later (λ y. y) cause (λ y. y) cause (asked part_format (part_says a) q.1.now) (both y) z (Ok (y && z)) l refl)
 
   -- ---- the authority
 

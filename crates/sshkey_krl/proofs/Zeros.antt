@@ -3,17 +3,17 @@ use Rattle.std.proofs.Common.{◌≡◌, ℕ, zero, suc, List, [], ◌∷◌, le
 use Rattle.std.proofs.lemmas.List.{nil_from_length}
 use Rattle.sshkey_krl.specs.Serials.{significant}
 
-pub zero_first : (bytes rest behind : List ℕ) (c : ℕ) → rest ≡ c ∷ behind → c ≡ 0 → significant rest ≡ significant bytes → significant behind ≡ significant bytes
+pub zero_first : (bytes rest after : List ℕ) (c : ℕ) → rest ≡ c ∷ after → c ≡ 0 → significant rest ≡ significant bytes → significant after ≡ significant bytes
 unfolding significant
-zero_first bytes rest behind c is none same = rw (is, none) at same
+zero_first bytes rest after c is none same = rw (is, none) at same
 
-first : (c : ℕ) (behind : List ℕ) → (c ≡ 0 → ⊥) → significant (c ∷ behind) ≡ c ∷ behind
+first : (c : ℕ) (after : List ℕ) → (c ≡ 0 → ⊥) → significant (c ∷ after) ≡ c ∷ after
 unfolding significant
-first zero behind some = absurd (some refl)
-first (suc n) behind some = refl
+first zero after some = absurd (some refl)
+first (suc n) after some = refl
 
-pub other_first : (bytes rest behind : List ℕ) (c : ℕ) → rest ≡ c ∷ behind → (c ≡ 0 → ⊥) → significant rest ≡ significant bytes → rest ≡ significant bytes
-other_first bytes rest behind c is some same = is ∙ sym (first c behind some) ∙ subst (λ (z : List ℕ). significant z ≡ significant bytes) is same
+pub other_first : (bytes rest after : List ℕ) (c : ℕ) → rest ≡ c ∷ after → (c ≡ 0 → ⊥) → significant rest ≡ significant bytes → rest ≡ significant bytes
+other_first bytes rest after c is some same = is ∙ sym (first c after some) ∙ subst (λ (z : List ℕ). significant z ≡ significant bytes) is same
 
 pub none_left : (bytes rest : List ℕ) → rest ≡ [] → significant rest ≡ significant bytes → rest ≡ significant bytes
 unfolding significant

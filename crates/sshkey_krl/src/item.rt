@@ -47,9 +47,9 @@ pub(crate) fn any_of<I: Item>(query: &Query<'_>, bytes: &[u8]) -> Result<bool>
     let mut rest = bytes;
     let mut found = false;
     'items: while !rest.is_empty() {
-        let (yes, behind) = I::ask(query, rest)?;
+        let (yes, after) = I::ask(query, rest)?;
         found |= yes;
-        rest = behind;
+        rest = after;
     }
     Ok(found)
 }

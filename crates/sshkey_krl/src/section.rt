@@ -95,9 +95,9 @@ pub(crate) fn any_section(query: &Query<'_>, bytes: &[u8]) -> Result<bool>
     let mut found = false;
     'sections: while !rest.is_empty() {
         prepare(&mut prepared, rest);
-        let (yes, behind) = ask_numbered::<Section>(&prepared, rest)?;
+        let (yes, after) = ask_numbered::<Section>(&prepared, rest)?;
         found |= yes;
-        rest = behind;
+        rest = after;
     }
     Ok(found)
 }

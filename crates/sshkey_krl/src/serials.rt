@@ -91,11 +91,11 @@ fn significant(bytes: &[u8]) -> &[u8]
     ensures { result.now ≡ significant bytes.now }
 {
     let mut rest = bytes;
-    'zeros: while let Some((byte, behind)) = rest.split_first() {
+    'zeros: while let Some((byte, after)) = rest.split_first() {
         if *byte != 0 {
             return rest;
         }
-        rest = behind;
+        rest = after;
     }
     rest
 }

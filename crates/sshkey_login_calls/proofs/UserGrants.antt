@@ -56,5 +56,5 @@ first_permit permits i p lt is =
     spelled ∙ sym (append_assoc (flat (string (string_bytes p.host))) (flat (string (port_bytes p.port))) (spelled_permits (drop (i + 1) permits)))
 
 -- both of one are added, one after the other
-pub both_added : (p : Permit) (now behind new : List ℕ) → behind ≡ now ++ flat (string (string_bytes p.host)) → new ≡ behind ++ flat (string (port_bytes p.port)) → new ≡ now ++ spelled_permit p
-both_added p now behind new host port = port ∙ ap (λ (l : List ℕ). l ++ flat (string (port_bytes p.port))) host ∙ append_assoc now (flat (string (string_bytes p.host))) (flat (string (port_bytes p.port)))
+pub both_added : (p : Permit) (now after new : List ℕ) → after ≡ now ++ flat (string (string_bytes p.host)) → new ≡ after ++ flat (string (port_bytes p.port)) → new ≡ now ++ spelled_permit p
+both_added p now after new host port = port ∙ ap (λ (l : List ℕ). l ++ flat (string (port_bytes p.port))) host ∙ append_assoc now (flat (string (string_bytes p.host))) (flat (string (port_bytes p.port)))

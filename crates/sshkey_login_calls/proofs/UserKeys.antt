@@ -88,9 +88,9 @@ module _ (IsLine : Certificate → ℕ → Terms → List ℕ → Type 0) (given
   refuses_by : (IsWhyNone : Certificate → Refusal → Type 0) (r : Refusal) → IsWhyRefusedBy IsWhyNone IsLine given (certificate_login login files (λ _. is_yes_number n) blob) r → IsWhyRefusedBy IsWhyNone IsLine given (certificate_login login files accepts blob) r
   refuses_by IsWhyNone r (inl none) = inl none
   refuses_by IsWhyNone r (inr (c, spelled, accepted, inl lines)) = inr (c, spelled, accepted, inl lines)
-  refuses_by IsWhyNone r (inr (c, spelled, accepted, inr behind)) =
-      let p = policy_login (certificate_login login files accepts blob) (given c) behind.name in
-      inr (c, spelled, accepted, inr (record { number = behind.number; terms = behind.terms; name = behind.name; line = behind.line; refused = (behind.refused.0, refused p n accepts v behind.refused.0 behind.refused.1, behind.refused.2) }))
+  refuses_by IsWhyNone r (inr (c, spelled, accepted, inr after)) =
+      let p = policy_login (certificate_login login files accepts blob) (given c) after.name in
+      inr (c, spelled, accepted, inr (record { number = after.number; terms = after.terms; name = after.name; line = after.line; refused = (after.refused.0, refused p n accepts v after.refused.0 after.refused.1, after.refused.2) }))
 
 module _ (login : UserLogin) (authorities : List Fingerprint) (files : List (Result RevokedKeys Error)) (n : ℕ) (accepts : Question → Bool) where
   pub admits : (f : UserFile) (blob : List ℕ) (g : Grant) → Verified accepts blob n → AdmitsUser f login authorities files (λ _. is_yes_number n) blob g → AdmitsUser f login authorities files accepts blob g

@@ -44,12 +44,12 @@ some_key k h = omega (
 pub key_blobs : IsBlob (SpellsWith IsKey HasKeyPlaces key)
 key_blobs = blobs key_reads some_key
 
-some_behind : (p q : Parts) → 0 < length (flat q) → 0 < length (flat (p & q))
+some_after : (p q : Parts) → 0 < length (flat q) → 0 < length (flat (p & q))
 unfolding flat
-some_behind p q some = omega (arith, some, length-append (flat p) (flat q))
+some_after p q some = omega (arith, some, length-append (flat p) (flat q))
 
 some_certificate : (c : Certificate) (s : CertificateChoices) → 0 < length (flat (certificate c s))
-some_certificate c s = some_behind (to_be_signed c.signed s) (box (signature c.signature)) (box_shows (signature c.signature))
+some_certificate c s = some_after (to_be_signed c.signed s) (box (signature c.signature)) (box_shows (signature c.signature))
 
 pub certificate_blobs : IsBlob (SpellsWith IsCertificate HasCertificatePlaces certificate)
 certificate_blobs = blobs certificate_reads some_certificate

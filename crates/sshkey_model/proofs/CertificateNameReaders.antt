@@ -5,13 +5,13 @@ use Rattle.std.proofs.lemmas.Bool.{and_parts, eqb-true}
 use Rattle.std.proofs.lemmas.List.{take_at, drop_at, take-append-drop, length-append}
 use Rattle.sshkey_model.specs.Parts.{Any, bytes}
 use Rattle.sshkey_model.specs.Reading.{Fault, Label}
-use Rattle.sshkey_model.specs.Names.{Nistp256, Algorithm, Ecdsa, Rsa, Other, algorithms, algorithm_name, named, are_ascii, is_own_name, is_other_name, at_sign, cut, behind_first, is_split, algorithm_or}
+use Rattle.sshkey_model.specs.Names.{Nistp256, Algorithm, Ecdsa, Rsa, Other, algorithms, algorithm_name, named, are_ascii, is_own_name, is_other_name, at_sign, cut, after_first, is_split, algorithm_or}
 use Rattle.sshkey_model.specs.CertificateNames.{suffix, with_suffix, certificate_name, certified, IsCertified, certificate_algorithm, without_suffix, certified_or, certified_from, certificate_algorithm_at}
 use Rattle.sshkey_model.specs.Grammar.{Checks}
 use Rattle.sshkey_model.proofs.CombinedReaders.{ok_is, chosen, ReadsFront, checked_string_reads}
 use Rattle.sshkey_model.proofs.NameReaders.{found}
 
-cut_later : (c : ℕ) (rest : List ℕ) (p : List ℕ × List ℕ) (o : Option (List ℕ × List ℕ)) → ((q : List ℕ × List ℕ) → cut rest ≡ Some q → (rest ≡ q.0 ++ at_sign ∷ q.1) × (cut q.0 ≡ None)) → cut rest ≡ o → eqb c at_sign ≡ false → behind_first c o ≡ Some p → (c ∷ rest ≡ p.0 ++ at_sign ∷ p.1) × (cut p.0 ≡ None)
+cut_later : (c : ℕ) (rest : List ℕ) (p : List ℕ × List ℕ) (o : Option (List ℕ × List ℕ)) → ((q : List ℕ × List ℕ) → cut rest ≡ Some q → (rest ≡ q.0 ++ at_sign ∷ q.1) × (cut q.0 ≡ None)) → cut rest ≡ o → eqb c at_sign ≡ false → after_first c o ≡ Some p → (c ∷ rest ≡ p.0 ++ at_sign ∷ p.1) × (cut p.0 ≡ None)
 cut_later c rest p None below is no_ f = absurd (cc f)
 cut_later c rest p (Some q) below is no_ f =
     let b = below q is in
@@ -21,7 +21,7 @@ cut_later c rest p (Some q) below is no_ f =
 pub cut_parts : (t : List ℕ) (p : List ℕ × List ℕ) → cut t ≡ Some p → (t ≡ p.0 ++ at_sign ∷ p.1) × (cut p.0 ≡ None)
 cut_parts [] p e = absurd cc
 cut_parts (c ∷ rest) p e =
-    elim (chosen (eqb c at_sign) (Some ([], rest)) (behind_first c (cut rest)) (Some p) e) [
+    elim (chosen (eqb c at_sign) (Some ([], rest)) (after_first c (cut rest)) (Some p) e) [
       | inl here ↦ let same : ([], rest) ≡ p = cc here.1 in subst (λ (q : List ℕ × List ℕ). (c ∷ rest ≡ q.0 ++ at_sign ∷ q.1) × (cut q.0 ≡ None)) same (ap (λ (k : ℕ). k ∷ rest) (eqb-true _ _ here.0), refl)
       | inr later ↦ cut_later c rest p (cut rest) (λ q is. cut_parts rest q is) refl later.0 later.1
     ]
@@ -30,24 +30,24 @@ cut_parts (c ∷ rest) p e =
 pub cut_append : (a b : List ℕ) (q : List ℕ × List ℕ) → cut a ≡ None → cut b ≡ Some q → cut (a ++ b) ≡ Some (a ++ q.0, q.1)
 cut_append [] b q none e = e
 cut_append (c ∷ a) b q none e =
-    elim (chosen (eqb c at_sign) (Some ([], a)) (behind_first c (cut a)) None none) [
+    elim (chosen (eqb c at_sign) (Some ([], a)) (after_first c (cut a)) None none) [
       | inl here ↦ absurd (cc here.1)
       | inr later ↦ rw (later.0, cut_append a b q (rest_none c (cut a) later.1) e) refl
     ]
   where
-    rest_none : (c : ℕ) (o : Option (List ℕ × List ℕ)) → behind_first c o ≡ None → o ≡ None
+    rest_none : (c : ℕ) (o : Option (List ℕ × List ℕ)) → after_first c o ≡ None → o ≡ None
     rest_none c None e = refl
     rest_none c (Some q) e = absurd cc
 
 pub cut_left : (a b : List ℕ) → cut (a ++ b) ≡ None → cut a ≡ None
 cut_left [] b none = refl
 cut_left (c ∷ a) b none =
-    elim (chosen (eqb c at_sign) (Some ([], a ++ b)) (behind_first c (cut (a ++ b))) None none) [
+    elim (chosen (eqb c at_sign) (Some ([], a ++ b)) (after_first c (cut (a ++ b))) None none) [
       | inl here ↦ absurd (cc here.1)
       | inr later ↦ rw (later.0, cut_left a b (rest_none c (cut (a ++ b)) later.1)) refl
     ]
   where
-    rest_none : (c : ℕ) (o : Option (List ℕ × List ℕ)) → behind_first c o ≡ None → o ≡ None
+    rest_none : (c : ℕ) (o : Option (List ℕ × List ℕ)) → after_first c o ≡ None → o ≡ None
     rest_none c None e = refl
     rest_none c (Some q) e = absurd cc
 

@@ -3,7 +3,7 @@ use Rattle.std.proofs.Common.{◌≡◌, ℕ, eqb, Some, None, cond, Ok, Err, re
 use Rattle.std.specs.Int.{w32, w64}
 use Rattle.std.proofs.lemmas.Bool.{eqb-true}
 use Rattle.sshkey_model.specs.Parts.{number}
-use Rattle.sshkey_model.specs.Reading.{FormatEncoding, Time, behind_at}
+use Rattle.sshkey_model.specs.Reading.{FormatEncoding, Time, after_at}
 use Rattle.sshkey_model.specs.Grammar.{IsSpelled, spelled}
 use Rattle.sshkey_model.specs.Names.{Algorithm, Rsa}
 use Rattle.sshkey_model.specs.CertificateNames.{IsCertified}
@@ -49,7 +49,7 @@ certified_plain (Rsa (Some h)) is = absurd is
 certified_plain _ is = refl
 
 pub signed_fields_reads : ReadsFront (IsSpelled AreSignedFields HaveSignedPlaces) (spelled to_be_signed) signed_fields_at
-unfolding signed_fields_at behind_at
+unfolding signed_fields_at after_at
 signed_fields_reads = same_front (checked_reads (to_form
     (λ (name, (nonce, (key, (serial, (kind, (key_id, (principals, (after, (before, (critical, (extensions, (reserved, signer)))))))))))). (
       record { nonce = nonce; key = key; serial = serial; certificate_type = kind; key_id = key_id; valid_principals = principals; valid_after = after; valid_before = before; critical_options = critical.0; extensions = extensions.0; reserved = reserved; signature_key = signer.0 },
@@ -71,7 +71,7 @@ signed_fields_reads = same_front (checked_reads (to_form
     (then_reads certificate_algorithm_reads (λ a. then_reads string_reads (λ _. then_reads (body_reads a) (λ _. then_reads (number_reads w64 wide64) (λ _. then_reads type_reads (λ _. then_reads text_reads (λ _. then_reads texts_reads (λ _. then_reads time_reads (λ _. then_reads end_reads (λ _. then_reads options_reads (λ _. then_reads options_reads (λ _. then_reads string_reads (λ _. box_reads (whole_reads key_reads))))))))))))))) (λ b. simp bind_assoc)
 
 pub certificate_reads : ReadsFront (IsSpelled IsCertificate HasCertificatePlaces) (spelled certificate) certificate_at
-unfolding certificate_at behind_at
+unfolding certificate_at after_at
 certificate_reads = same_front (checked_reads (to_form
     (λ (c, g). (record { signed = c.0; signature = g }, c.1)) (λ a h. (record { is = (h.0.is, h.1); place = h.0.place }, refl)) (λ x h. (((x.0.signed, x.1), x.0.signature), (record { is = h.is.0; place = h.place }, h.is.1), refl, refl)))
     (then_reads signed_fields_reads (λ _. box_reads (whole_reads signature_reads)))) (λ b. simp bind_assoc)

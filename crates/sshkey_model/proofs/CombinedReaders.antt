@@ -4,7 +4,7 @@ use Rattle.std.specs.Int.{w32}
 use Rattle.std.proofs.lemmas.List.{length-append}
 use Rattle.std.proofs.lemmas.Slice.Eq.{bytes_eq-Decides}
 use Rattle.sshkey_model.specs.Parts.{Parts, HasLength, bytes, box, ◌&◌, flat, Fits, InRange, BoxesFit, are_bytes, each, IsPrefixFree}
-use Rattle.sshkey_model.specs.Reading.{Fault, Length, FormatEncoding, ◌>>=◌, Front, Whole, whole, behind_at, checked_at, checked_whole, list_within, IsChain, all_from, number_at, bytes_at, string_at, literal_from, literal_at, box_at}
+use Rattle.sshkey_model.specs.Reading.{Fault, Length, FormatEncoding, ◌>>=◌, Front, Whole, whole, after_at, checked_at, checked_whole, list_within, IsChain, all_from, number_at, bytes_at, string_at, literal_from, literal_at, box_at}
 use Rattle.sshkey_model.specs.Grammar.{Checks, normal_is_spelling}
 pub use Rattle.sshkey_model.proofs.LawfulReaders.{Any, bind_ok, bind_assoc, done, ok_is, chosen, passed, met, bytes_fit, fit_bytes, are_bytes-append, number_bytes, fits_both, fits_first, fits_second, fits_box, fits_inside, fits_length, fits_bytes, fits_number, ReadsFront, ReadsWhole, bytes_reads, all_reads, IsWide, wide8, wide32, wide64, number_reads}
 use Rattle.sshkey_model.proofs.LawfulReaders.{bind_ok, done, ok_is, met, fits_both, fits_first, fits_second, ReadsFront, ReadsWhole, bytes_reads, all_reads, Any}
@@ -61,7 +61,7 @@ module _ {A : Type 0} {Is : A → Type 0} {spell : A → Parts} {read : Front A}
 -- ---- one after the other
 
 module _ {A B : Type 0} {Is : A → Type 0} {spell : A → Parts} {read : Front A} {IsNext : A → B → Type 0} {spell_next : A → B → Parts} {next : A → Front B} (first : ReadsFront Is spell read) (second : (x : A) → ReadsFront (IsNext x) (spell_next x) (next x)) where
-  pub then_reads : ReadsFront (λ (p : A × B). Is p.0 × IsNext p.0 p.1) (λ (p : A × B). spell p.0 & spell_next p.0 p.1) (behind_at read next)
+  pub then_reads : ReadsFront (λ (p : A × B). Is p.0 × IsNext p.0 p.1) (λ (p : A × B). spell p.0 & spell_next p.0 p.1) (after_at read next)
   then_reads = tree_reads (tt, tt) (dependent_tree (ends (by_itself (grammar first)) (λ b. refl)) leaf_tree (λ _. leaf_tree)) (all_end (then_grammar (by_itself (grammar first)) (λ a. by_itself (grammar (second a)))) (λ b. refl))
 
 -- ---- a test on what was read, or another form of it

@@ -5,7 +5,7 @@ use Rattle.std.specs.Int.{w32, to_be_bytes}
 use Rattle.std.proofs.lemmas.Bool.{cases_lt, lt-ltb, le-ltb}
 use Rattle.std.proofs.lemmas.List.{append_cancel_right, length-append, length-take-le, take_at, drop_at, take-append-drop}
 use Rattle.sshkey_model.specs.Parts.{Parts, InRange, flat}
-use Rattle.sshkey_model.specs.Reading.{Fault, ◌>>=◌, Front, Whole, end_of, whole, number_at, box_at, behind_at, checked_at, never_at}
+use Rattle.sshkey_model.specs.Reading.{Fault, ◌>>=◌, Front, Whole, end_of, whole, number_at, box_at, after_at, checked_at, never_at}
 use Rattle.sshkey_model.specs.Grammar.{Spells, SpellsWith, IsSpelled, spelled, value_at, IsGrammar, Grammar, MayFollow, AllEnd, SpellsThen, SpellsTested, SpellsBoxed}
 use Rattle.sshkey_model.proofs.LawfulReaders.{ReadsFront, bind_ok, ok_is, done, number_reads, wide32, fits_number}
 
@@ -137,10 +137,10 @@ module _ {Y : Type 0} {Spells : Y → List ℕ → Type 0} {read : Whole Y} (spe
       let x = bind_ok (read (take n.0 n.1)) (before (drop n.0 n.1)) (y, rest) inside in
       let same : ◌≡◌ {A = Y × List ℕ} (x.0, drop n.0 n.1) (y, rest) = ok_is _ _ x.2 in
       let value : x.0 ≡ y = ap (λ (p : Y × List ℕ). p.0) same in
-      let behind : drop n.0 n.1 ≡ rest = ap (λ (p : Y × List ℕ). p.1) same in
+      let after : drop n.0 n.1 ≡ rest = ap (λ (p : Y × List ℕ). p.1) same in
       let len : length (take n.0 n.1) ≡ n.0 = length-take-le n.0 n.1 le in
       let lt : n.0 < 2 ^ 32 = num.1.fits.range in
-      let parts : n.1 ≡ take n.0 n.1 ++ rest = sym (take-append-drop n.0 n.1) ∙ ap (λ (l : List ℕ). take n.0 n.1 ++ l) behind in (
+      let parts : n.1 ≡ take n.0 n.1 ++ rest = sym (take-append-drop n.0 n.1) ∙ ap (λ (l : List ℕ). take n.0 n.1 ++ l) after in (
         to_be_bytes w32 (length (take n.0 n.1)) ++ take n.0 n.1,
         record { inside = take n.0 n.1; spelled = rw (← value) ((spells _ x.0).0 x.1); short = rw len lt; whole = refl },
         num.2 ∙ ap (λ (f : List ℕ). f ++ n.1) num.1.shape ∙ ap (λ (l : List ℕ). to_be_bytes w32 n.0 ++ l) parts ∙ ap (λ (k : ℕ). to_be_bytes w32 k ++ take n.0 n.1 ++ rest) (sym len),
@@ -176,17 +176,17 @@ none_in (x ∷ a) b e = absurd cc
 
 module _ {A B : Type 0} {S : A → List ℕ → Type 0} {T : A → B → List ℕ → Type 0} {read delimited_at : Front A} {next next_delimited_at : A → Front B} (f : Grammar S read delimited_at) (g : (a : A) → Grammar (T a) (next a) (next_delimited_at a)) where
   abbrev both_delimited_at : Front (A × B)
-  both_delimited_at = behind_at delimited_at next_delimited_at
+  both_delimited_at = after_at delimited_at next_delimited_at
 
-  pub both_same : (b : List ℕ) (x : (A × B) × List ℕ) → both_delimited_at b ≡ Ok x → behind_at read next b ≡ Ok x
-  unfolding behind_at
+  pub both_same : (b : List ℕ) (x : (A × B) × List ℕ) → both_delimited_at b ≡ Ok x → after_at read next b ≡ Ok x
+  unfolding after_at
   both_same b x e =
       let y = bind_ok (delimited_at b) _ x e in
       let z = bind_ok (next_delimited_at y.0.0 y.0.1) _ x y.2 in
       rw (f.same b y.0 y.1, (g y.0.0).same y.0.1 z.0 z.1) z.2
 
   pub both_before : (b : List ℕ) (value : A × B) (rest more : List ℕ) → both_delimited_at b ≡ Ok (value, rest) → both_delimited_at (b ++ more) ≡ Ok (value, rest ++ more)
-  unfolding behind_at
+  unfolding after_at
   both_before b value rest more e =
       let y = bind_ok (delimited_at b) _ (value, rest) e in
       let z = bind_ok (next_delimited_at y.0.0 y.0.1) _ (value, rest) y.2 in
@@ -194,18 +194,18 @@ module _ {A B : Type 0} {S : A → List ℕ → Type 0} {T : A → B → List �
       (rw (f.before b y.0.0 y.0.1 more y.1, (g y.0.0).before y.0.1 z.0.0 z.0.1 more z.1) refl)
 
   -- what may follow both
-  both_ends : (a : A) (c : B) (front behind rest : List ℕ) → MayFollow delimited_at a front (behind ++ rest) → MayFollow (next_delimited_at a) c behind rest → MayFollow both_delimited_at (a, c) (front ++ behind) rest
-  unfolding behind_at
-  both_ends a c front behind rest (inl none) k = inl (none_in behind rest none).1
-  both_ends a c front behind rest (inr h) (inl none) = inl none
-  both_ends a c front behind rest (inr h) (inr k) = inr (rw (f.before front a [] behind h, k) refl)
+  both_ends : (a : A) (c : B) (front after rest : List ℕ) → MayFollow delimited_at a front (after ++ rest) → MayFollow (next_delimited_at a) c after rest → MayFollow both_delimited_at (a, c) (front ++ after) rest
+  unfolding after_at
+  both_ends a c front after rest (inl none) k = inl (none_in after rest none).1
+  both_ends a c front after rest (inr h) (inl none) = inl none
+  both_ends a c front after rest (inr h) (inr k) = inr (rw (f.before front a [] after h, k) refl)
 
-  first_ends : (a : A) (front behind rest : List ℕ) → MayFollow delimited_at a front (behind ++ rest) → MayFollow delimited_at a front behind
-  first_ends a front behind rest (inl none) = inl (none_in behind rest none).0
-  first_ends a front behind rest (inr h) = inr h
+  first_ends : (a : A) (front after rest : List ℕ) → MayFollow delimited_at a front (after ++ rest) → MayFollow delimited_at a front after
+  first_ends a front after rest (inl none) = inl (none_in after rest none).0
+  first_ends a front after rest (inr h) = inr h
 
-  pub both_takes : (b : List ℕ) (value : A × B) (rest : List ℕ) → behind_at read next b ≡ Ok (value, rest) → (front : List ℕ) × SpellsThen S delimited_at T value front × (b ≡ front ++ rest) × MayFollow both_delimited_at value front rest
-  unfolding behind_at
+  pub both_takes : (b : List ℕ) (value : A × B) (rest : List ℕ) → after_at read next b ≡ Ok (value, rest) → (front : List ℕ) × SpellsThen S delimited_at T value front × (b ≡ front ++ rest) × MayFollow both_delimited_at value front rest
+  unfolding after_at
   both_takes b value rest e =
       let x = bind_ok (read b) _ (value, rest) e in
       let y = bind_ok (next x.0.0 x.0.1) _ (value, rest) x.2 in
@@ -214,17 +214,17 @@ module _ {A B : Type 0} {S : A → List ℕ → Type 0} {T : A → B → List �
       let ends : MayFollow delimited_at x.0.0 a.0 (c.0 ++ y.0.1) = rw (← c.2) a.3 in
       subst (λ (p : (A × B) × List ℕ). (front : List ℕ) × SpellsThen S delimited_at T p.0 front × (b ≡ front ++ p.1) × MayFollow both_delimited_at p.0 front p.1) (ok_is ((x.0.0, y.0.0), y.0.1) (value, rest) y.2) (
         a.0 ++ c.0,
-        record { front = a.0; behind = c.0; first = a.1; second = c.1; all = refl; may_follow = first_ends x.0.0 a.0 c.0 y.0.1 ends },
+        record { front = a.0; after = c.0; first = a.1; second = c.1; all = refl; may_follow = first_ends x.0.0 a.0 c.0 y.0.1 ends },
         a.2 ∙ ap (λ (l : List ℕ). a.0 ++ l) c.2 ∙ sym (append_assoc a.0 c.0 y.0.1),
         both_ends x.0.0 y.0.0 a.0 c.0 y.0.1 ends c.3,
       )
 
-  pub both_alone : (value : A × B) (front : List ℕ) → SpellsThen S delimited_at T value front → behind_at read next front ≡ Ok (value, [])
-  unfolding behind_at
+  pub both_alone : (value : A × B) (front : List ℕ) → SpellsThen S delimited_at T value front → after_at read next front ≡ Ok (value, [])
+  unfolding after_at
   both_alone value front s =
-      rw (s.all, taken_before f value.0 s.front s.behind s.first s.may_follow, (g value.0).alone value.1 s.behind s.second) refl
+      rw (s.all, taken_before f value.0 s.front s.after s.first s.may_follow, (g value.0).alone value.1 s.after s.second) refl
 
-  abbrev pub then_grammar : Grammar (SpellsThen S delimited_at T) (behind_at read next) (behind_at delimited_at next_delimited_at)
+  abbrev pub then_grammar : Grammar (SpellsThen S delimited_at T) (after_at read next) (after_at delimited_at next_delimited_at)
   then_grammar = record { same = both_same; before = both_before; takes = both_takes; alone = both_alone }
 
 -- ---- a test on what was read

@@ -5,14 +5,14 @@ use Rattle.std.proofs.lemmas.Bool.{eqb-true, eq-eqb, ne_eqb, ltb-true, lt-ltb, l
 use Rattle.std.proofs.lemmas.List.{take_at, drop_at, take-append-drop, length-append, length-take, length-replicate}
 use Rattle.std.proofs.lemmas.Slice.Eq.{bytes_eq-Decides}
 use Rattle.sshkey_model.specs.Parts.{bytes, ◌&◌, flat, HasLength}
-use Rattle.sshkey_model.specs.Reading.{FormatEncoding, AlgorithmUnknown, Crypto, TrailingData, all_from, checked_whole, behind_at}
+use Rattle.sshkey_model.specs.Reading.{FormatEncoding, AlgorithmUnknown, Crypto, TrailingData, all_from, checked_whole, after_at}
 use Rattle.sshkey_model.specs.Grammar.{IsSpelled, spelled, Checks}
 use Rattle.sshkey_model.specs.Texts.{string, IsText}
 use Rattle.sshkey_model.specs.Names.{Curve, Nistp256, Hash, Algorithm, IsAlgorithm, algorithm, curve}
 use Rattle.sshkey_model.specs.Mpints.{IsMpint, of_positive}
 use Rattle.sshkey_model.specs.Points.{field_size, IsPoint, curve_eq, IsPointOf}
 use Rattle.sshkey_model.specs.Keys.{Head, headed, head_of, has_curve}
-use Rattle.sshkey_model.specs.KeyPairs.{LeadingZeros, Plain, WithoutZero, WithZero, Short, is_high, is_natural, at_width, short_scalar, scalar_whole, zero_if, scalar_bytes, scalar, IsScalar, HasScalarPlaces, RsaPrivate, SecurityPrivate, KeyPair, DsaPair, EcdsaPair, Ed25519Pair, RsaPair, SkEcdsaPair, SkEd25519Pair, OpaquePair, public_half, pair_algorithm, rsa_private, security_private, pair, IsRsaPrivate, IsEcdsaPair, HasPairPlaces, IsPairUnder, KeyPairChoices, plain_pair, IsKeyPair, HasKeyPairPlaces, keypair, scalar_alone, scalar_behind_zero, after_zero, scalar_from, scalar_at, dsa_pair_at, any_ecdsa_pair_at, ecdsa_pair_at, private_before, ed25519_pair_at, rsa_private_at, rsa_pair_at, security_private_at, sk_ecdsa_pair_at, sk_ed25519_pair_at, opaque_pair_at, pair_at, keypair_at}
+use Rattle.sshkey_model.specs.KeyPairs.{LeadingZeros, Plain, WithoutZero, WithZero, Short, is_high, is_natural, at_width, short_scalar, scalar_whole, zero_if, scalar_bytes, scalar, IsScalar, HasScalarPlaces, RsaPrivate, SecurityPrivate, KeyPair, DsaPair, EcdsaPair, Ed25519Pair, RsaPair, SkEcdsaPair, SkEd25519Pair, OpaquePair, public_half, pair_algorithm, rsa_private, security_private, pair, IsRsaPrivate, IsEcdsaPair, HasPairPlaces, IsPairUnder, KeyPairChoices, plain_pair, IsKeyPair, HasKeyPairPlaces, keypair, scalar_alone, scalar_after_zero, after_zero, scalar_from, scalar_at, dsa_pair_at, any_ecdsa_pair_at, ecdsa_pair_at, private_before, ed25519_pair_at, rsa_private_at, rsa_pair_at, security_private_at, sk_ecdsa_pair_at, sk_ed25519_pair_at, opaque_pair_at, pair_at, keypair_at}
 use Rattle.sshkey_model.proofs.CombinedReaders.{bind_assoc, done, ok_is, chosen, met, passed, ReadsFront, ReadsWhole, all_reads, checked_whole_reads, Any, wide8, number_reads, string_reads, whole_reads, bytes_reads, box_reads, then_reads, checked_reads, checked_string_reads, to_form, kept, same_front, as_front_form}
 use Rattle.sshkey_model.proofs.NameReaders.{curve_reads, algorithm_reads}
 use Rattle.sshkey_model.proofs.TextReaders.{text_reads}
@@ -33,19 +33,19 @@ alone_shows : (s : List ℕ) (h : Bool) → is_high s ≡ h → Shows s s (cond 
 alone_shows s true is = (is, refl, refl)
 alone_shows s false is = (tt, ap (λ (h : Bool). zero_if h s) is, refl)
 
-behind_zero_shows : (s : List ℕ) (h : Bool) → is_high s ≡ h → Shows (0 ∷ s) s (cond h (s, Plain) (s, WithZero))
-behind_zero_shows s true is = (tt, ap (λ (h : Bool). zero_if h s) is, refl)
-behind_zero_shows s false is = (is, refl, refl)
+after_zero_shows : (s : List ℕ) (h : Bool) → is_high s ≡ h → Shows (0 ∷ s) s (cond h (s, Plain) (s, WithZero))
+after_zero_shows s true is = (tt, ap (λ (h : Bool). zero_if h s) is, refl)
+after_zero_shows s false is = (is, refl, refl)
 
 shown : (size : ℕ) (b s : List ℕ) (x : List ℕ × LeadingZeros) → length s ≡ size → Shows b s x → IsSpelledScalar size x × (b ≡ scalar_bytes x.0 x.1)
 shown size b s x len w = (record { is = ap length w.2 ∙ len; place = w.0 }, sym w.1)
 
-behind_takes : (size : ℕ) (b : List ℕ) (x : List ℕ × LeadingZeros) → length b ≡ suc size → after_zero b ≡ Ok x → IsSpelledScalar size x × (b ≡ scalar_bytes x.0 x.1)
-behind_takes size [] x len e = absurd cc
-behind_takes size (c ∷ s) x len e =
-    let h = met (eqb c 0) FormatEncoding (Ok (scalar_behind_zero s)) x e in
-    let is = shown size (0 ∷ s) s (scalar_behind_zero s) (omega arith) (behind_zero_shows s (is_high s) refl) in
-    subst (λ (z : List ℕ × LeadingZeros). IsSpelledScalar size z × (c ∷ s ≡ scalar_bytes z.0 z.1)) (ok_is (scalar_behind_zero s) x h.1) (is.0, ap (λ (k : ℕ). k ∷ s) (eqb-true _ _ h.0) ∙ is.1)
+after_takes : (size : ℕ) (b : List ℕ) (x : List ℕ × LeadingZeros) → length b ≡ suc size → after_zero b ≡ Ok x → IsSpelledScalar size x × (b ≡ scalar_bytes x.0 x.1)
+after_takes size [] x len e = absurd cc
+after_takes size (c ∷ s) x len e =
+    let h = met (eqb c 0) FormatEncoding (Ok (scalar_after_zero s)) x e in
+    let is = shown size (0 ∷ s) s (scalar_after_zero s) (omega arith) (after_zero_shows s (is_high s) refl) in
+    subst (λ (z : List ℕ × LeadingZeros). IsSpelledScalar size z × (c ∷ s ≡ scalar_bytes z.0 z.1)) (ok_is (scalar_after_zero s) x h.1) (is.0, ap (λ (k : ℕ). k ∷ s) (eqb-true _ _ h.0) ∙ is.1)
 
 -- ---- short scalars
 
@@ -128,7 +128,7 @@ scalar_takes size b x e =
     elim (chosen (eqb (length b) size) (Ok (scalar_alone b)) (cond (eqb (length b) (suc size)) (after_zero b) (cond (ltb (length b) size) (short_scalar size b) (Err (TrailingData (length b - size))))) (done x) e) [
       | inl same ↦ subst (λ (z : List ℕ × LeadingZeros). IsSpelledScalar size z × (b ≡ scalar_bytes z.0 z.1)) (ok_is (scalar_alone b) x same.1) (shown size b b (scalar_alone b) (eqb-true _ _ same.0) (alone_shows b (is_high b) refl))
       | inr other ↦ elim (chosen (eqb (length b) (suc size)) (after_zero b) (cond (ltb (length b) size) (short_scalar size b) (Err (TrailingData (length b - size)))) (done x) other.1) [
-        | inl more ↦ behind_takes size b x (eqb-true _ _ more.0) more.1
+        | inl more ↦ after_takes size b x (eqb-true _ _ more.0) more.1
         | inr none ↦ elim (chosen (ltb (length b) size) (short_scalar size b) (Err (TrailingData (length b - size))) (done x) none.1) [
           | inl short ↦ short_takes size b x (ltb-true _ _ short.0) short.1
           | inr long ↦ absurd (cc long.1)
@@ -190,7 +190,7 @@ plain : (k : KeyPair) (s : LeadingZeros) → s ≡ Plain → ◌≡◌ {A = KeyP
 plain k s e = ap (λ (z : LeadingZeros). (k, z)) (sym e)
 
 dsa_pair_reads : ReadsFront (IsSpelledUnder Algorithm.Dsa) (spelled pair) dsa_pair_at
-unfolding dsa_pair_at behind_at
+unfolding dsa_pair_at after_at
 dsa_pair_reads = same_front (checked_reads (to_form
     (λ a. (DsaPair (record { p = a.0.0; q = a.0.1.0; g = a.0.1.1.0; y = a.0.1.1.1 }) a.1, Plain))
     (λ a h. (record { is = (refl, ((h.0.0, h.0.1.0, h.0.1.1.0, h.0.1.1.1), h.1)); place = refl }, refl))
@@ -210,7 +210,7 @@ dsa_pair_reads = same_front (checked_reads (to_form
 -- ---- ECDSA
 
 pub any_ecdsa_pair_reads : ReadsFront (IsSpelled IsEcdsaPair HasPairPlaces) (spelled pair) any_ecdsa_pair_at
-unfolding any_ecdsa_pair_at behind_at
+unfolding any_ecdsa_pair_at after_at
 any_ecdsa_pair_reads = same_front (checked_reads (to_form
     (λ a. (EcdsaPair a.0.1.0 a.0.1.1 a.1.0, a.1.1))
     (λ a h. (record { is = (h.0.1.0, h.1.is); place = h.1.place }, ap (λ (c : Curve). (curve c & string a.0.1.1) & scalar a.1.0 a.1.1) (sym (same_curve _ _ h.0.1.1))))
@@ -264,7 +264,7 @@ private_before_checks public = record { takes = there; again = back }
         (x ++ public, omega (arith, is.0, is.1, length-append x public), rw (drop_at x public 32 is.0, take_at x public 32 is.0, same) refl, refl)
 
 ed25519_pair_reads : ReadsFront (IsSpelledUnder Algorithm.Ed25519) (spelled pair) ed25519_pair_at
-unfolding ed25519_pair_at behind_at
+unfolding ed25519_pair_at after_at
 ed25519_pair_reads = same_front (checked_reads (to_form
     (λ a. (Ed25519Pair a.0 a.1, Plain))
     (λ a h. (record { is = (refl, (h.0, h.1.0)); place = refl }, refl))
@@ -278,7 +278,7 @@ ed25519_pair_reads = same_front (checked_reads (to_form
 -- ---- RSA
 
 pub rsa_private_reads : ReadsFront IsRsaPrivate rsa_private rsa_private_at
-unfolding rsa_private_at behind_at
+unfolding rsa_private_at after_at
 rsa_private_reads = same_front (checked_reads (to_form
     (λ a. record { d = a.0; iqmp = a.1.0; p = a.1.1.0; q = a.1.1.1 })
     (λ a h. ((h.0, h.1.0, h.1.1.0, h.1.1.1), refl))
@@ -286,7 +286,7 @@ rsa_private_reads = same_front (checked_reads (to_form
     (then_reads mpint_reads (λ _. then_reads mpint_reads (λ _. then_reads mpint_reads (λ _. mpint_reads))))) (λ b. simp bind_assoc)
 
 rsa_pair_reads : (hash : Option Hash) → ReadsFront (IsSpelledUnder (Algorithm.Rsa hash)) (spelled pair) rsa_pair_at
-unfolding rsa_pair_at behind_at
+unfolding rsa_pair_at after_at
 rsa_pair_reads hash = same_front (checked_reads (to_form
     (λ a. (RsaPair (record { e = a.1.0; n = a.0 }) a.1.1, Plain))
     (λ a h. (record { is = (refl, ((h.1.0, h.0), h.1.1)); place = refl }, refl))
@@ -300,7 +300,7 @@ rsa_pair_reads hash = same_front (checked_reads (to_form
 -- ---- keys that a security key holds
 
 pub security_private_reads : ReadsFront Any security_private security_private_at
-unfolding security_private_at behind_at
+unfolding security_private_at after_at
 security_private_reads = same_front (checked_reads (to_form
     (λ a. record { flags = a.0; handle = a.1.0; reserved = a.1.1 })
     (λ a h. (tt, refl))
@@ -308,7 +308,7 @@ security_private_reads = same_front (checked_reads (to_form
     (then_reads (number_reads w8 wide8) (λ _. then_reads string_reads (λ _. string_reads)))) (λ b. simp bind_assoc)
 
 sk_ecdsa_pair_reads : ReadsFront (IsSpelledUnder Algorithm.SkEcdsa) (spelled pair) sk_ecdsa_pair_at
-unfolding sk_ecdsa_pair_at behind_at
+unfolding sk_ecdsa_pair_at after_at
 sk_ecdsa_pair_reads = same_front (checked_reads (to_form
     (λ a. (SkEcdsaPair (record { key = a.0.1.0; application = a.0.1.1 }) a.1, Plain))
     (λ a h. (record { is = (refl, ((h.0.1.0, h.0.1.1), tt)); place = refl }, refl))
@@ -326,7 +326,7 @@ sk_ecdsa_pair_reads = same_front (checked_reads (to_form
     back _ s h place = absurd (cc h.0)
 
 sk_ed25519_pair_reads : ReadsFront (IsSpelledUnder Algorithm.SkEd25519) (spelled pair) sk_ed25519_pair_at
-unfolding sk_ed25519_pair_at behind_at
+unfolding sk_ed25519_pair_at after_at
 sk_ed25519_pair_reads = same_front (checked_reads (to_form
     (λ a. (SkEd25519Pair (record { key = a.0.0; application = a.0.1 }) a.1, Plain))
     (λ a h. (record { is = (refl, ((h.0.0, h.0.1), tt)); place = refl }, refl))
@@ -340,7 +340,7 @@ sk_ed25519_pair_reads = same_front (checked_reads (to_form
 -- ---- pairs of other algorithms
 
 opaque_pair_reads : (name : List ℕ) → ReadsFront (IsSpelledUnder (Algorithm.Other name)) (spelled pair) (opaque_pair_at name)
-unfolding opaque_pair_at behind_at
+unfolding opaque_pair_at after_at
 opaque_pair_reads name = same_front (checked_reads (to_form
     (λ a. (OpaquePair name a.0 a.1, Plain))
     (λ a h. (record { is = (refl, (tt, tt)); place = refl }, refl))
@@ -363,7 +363,7 @@ pair_reads (Algorithm.Other name) = opaque_pair_reads name
 -- ---- the name before it
 
 pub keypair_reads : ReadsFront (IsSpelled IsKeyPair HasKeyPairPlaces) (spelled keypair) keypair_at
-unfolding keypair_at behind_at
+unfolding keypair_at after_at
 keypair_reads = same_front (checked_reads (to_form (λ a. (a.1.0, record { head = head_of a.0; zeros = a.1.1 })) there (λ x h. back x.0 x.1 h.is h.place)) (then_reads algorithm_reads pair_reads)) (λ b. simp bind_assoc)
   where
     there : (a : Algorithm × (KeyPair × LeadingZeros)) → IsAlgorithm a.0 × IsSpelledUnder a.0 a.1 → IsSpelled IsKeyPair HasKeyPairPlaces (a.1.0, record { head = head_of a.0; zeros = a.1.1 }) × (algorithm a.0 & spelled pair a.1 ≡ spelled keypair (a.1.0, record { head = head_of a.0; zeros = a.1.1 }))

@@ -1,7 +1,7 @@
 -- Public keys are read as they are spelled.
 use Rattle.std.proofs.Common.{◌≡◌, ℕ, Option, Some, true, List, Ok, refl, sym, ap, ◌∙◌}
 use Rattle.sshkey_model.specs.Parts.{◌&◌, HasLength}
-use Rattle.sshkey_model.specs.Reading.{AlgorithmUnknown, ◌>>=◌, string_at, behind_at}
+use Rattle.sshkey_model.specs.Reading.{AlgorithmUnknown, ◌>>=◌, string_at, after_at}
 use Rattle.sshkey_model.specs.Grammar.{IsSpelled, spelled, Checks}
 use Rattle.sshkey_model.specs.Texts.{string, IsText}
 use Rattle.sshkey_model.specs.Names.{Curve, Nistp256, Hash, Sha256, Sha512, Algorithm, IsAlgorithm, algorithm, curve}
@@ -15,7 +15,7 @@ use Rattle.sshkey_model.proofs.MpintReaders.{mpint_reads}
 use Rattle.sshkey_model.proofs.PointReaders.{same_curve, curve_itself, of_curve_reads, p256_point_checks}
 
 pub rsa_reads : (hash : Option Hash) → ReadsFront (IsBodyUnder (Algorithm.Rsa hash)) body rsa_at
-unfolding rsa_at behind_at
+unfolding rsa_at after_at
 rsa_reads hash = same_front (checked_reads (to_form (λ p. Rsa (record { e = p.0; n = p.1 })) (λ a h. ((refl, h), refl)) back) (then_reads mpint_reads (λ _. mpint_reads))) (λ b. simp bind_assoc)
   where
     back : (k : Key) → IsBodyUnder (Algorithm.Rsa hash) k → (a : List ℕ × List ℕ) × (IsMpint a.0 × IsMpint a.1) × (Rsa (record { e = a.0; n = a.1 }) ≡ k) × (string a.0 & string a.1 ≡ body k)
@@ -23,7 +23,7 @@ rsa_reads hash = same_front (checked_reads (to_form (λ p. Rsa (record { e = p.0
     back _ h = absurd (cc h.0)
 
 pub dsa_reads : ReadsFront (IsBodyUnder Algorithm.Dsa) body dsa_at
-unfolding dsa_at behind_at
+unfolding dsa_at after_at
 dsa_reads = same_front (checked_reads (to_form (λ a. Dsa (record { p = a.0; q = a.1.0; g = a.1.1.0; y = a.1.1.1 })) (λ a h. ((refl, (h.0, h.1.0, h.1.1.0, h.1.1.1)), refl)) back) (then_reads mpint_reads (λ _. then_reads mpint_reads (λ _. then_reads mpint_reads (λ _. mpint_reads))))) (λ b. simp bind_assoc)
   where
     back : (k : Key) → IsBodyUnder Algorithm.Dsa k → (a : List ℕ × (List ℕ × (List ℕ × List ℕ))) × (IsMpint a.0 × (IsMpint a.1.0 × (IsMpint a.1.1.0 × IsMpint a.1.1.1))) × (Dsa (record { p = a.0; q = a.1.0; g = a.1.1.0; y = a.1.1.1 }) ≡ k) × (string a.0 & string a.1.0 & string a.1.1.0 & string a.1.1.1 ≡ body k)
@@ -42,7 +42,7 @@ ed25519_reads = checked_reads (to_form Ed25519 (λ a h. ((refl, h), refl)) back)
     back _ h = absurd (cc h.0)
 
 pub sk_ed25519_reads : ReadsFront (IsBodyUnder Algorithm.SkEd25519) body sk_ed25519_at
-unfolding sk_ed25519_at behind_at
+unfolding sk_ed25519_at after_at
 sk_ed25519_reads = same_front (checked_reads (to_form (λ a. SkEd25519 (record { key = a.0; application = a.1 })) (λ a h. ((refl, h), refl)) back) (then_reads ed25519_string_reads (λ _. text_reads))) (λ b. simp bind_assoc)
   where
     back : (k : Key) → IsBodyUnder Algorithm.SkEd25519 k → (a : List ℕ × List ℕ) × (HasLength 32 a.0 × IsText a.1) × (SkEd25519 (record { key = a.0; application = a.1 }) ≡ k) × (string a.0 & string a.1 ≡ body k)
@@ -57,7 +57,7 @@ opaque_reads name = checked_reads (to_form (Opaque name) (λ a h. ((refl, tt), r
     back _ h = absurd (cc h.0)
 
 pub any_ecdsa_reads : ReadsFront IsEcdsa body any_ecdsa_at
-unfolding any_ecdsa_at behind_at
+unfolding any_ecdsa_at after_at
 any_ecdsa_reads = same_front (checked_reads (to_form (λ (stated, on). Ecdsa on.0 on.1) (λ a h. (h.1.0, ap (λ (c : Curve). curve c & string a.1.1) (sym (same_curve a.1.0 a.0 h.1.1)))) back) (then_reads curve_reads (λ stated. of_curve_reads stated))) (λ b. simp bind_assoc)
   where
     back : (k : Key) → IsEcdsa k → (a : Curve × (Curve × List ℕ)) × (Any a.0 × (IsPointOf a.1 × (curve_eq a.1.0 a.0 ≡ true))) × (Ecdsa a.1.0 a.1.1 ≡ k) × (curve a.0 & string a.1.1 ≡ body k)
@@ -84,7 +84,7 @@ p256_checks = record { takes = λ a b was e. only a b e; again = λ b is. (Nistp
     only _ b e = absurd cc
 
 pub sk_ecdsa_reads : ReadsFront (IsBodyUnder Algorithm.SkEcdsa) body sk_ecdsa_at
-unfolding sk_ecdsa_at behind_at
+unfolding sk_ecdsa_at after_at
 sk_ecdsa_reads = same_front (checked_reads (to_form (λ a. SkEcdsa (record { key = a.1.0; application = a.1.1 })) (λ a h. ((refl, h.1), refl)) back) (then_reads (checked_reads p256_checks curve_reads) (λ _. then_reads (checked_string_reads p256_point_checks) (λ _. text_reads)))) (λ b. simp bind_assoc)
   where
     back : (k : Key) → IsBodyUnder Algorithm.SkEcdsa k → (a : Curve × (List ℕ × List ℕ)) × ((a.0 ≡ Nistp256) × (IsPoint Nistp256 a.1.0 × IsText a.1.1)) × (SkEcdsa (record { key = a.1.0; application = a.1.1 }) ≡ k) × (curve Nistp256 & string a.1.0 & string a.1.1 ≡ body k)
@@ -115,7 +115,7 @@ join_head _ Plain is place = (is, refl, refl)
 join_head k _ is place = (tt, place, refl)
 
 pub key_reads : ReadsFront (IsSpelled IsKey HasKeyPlaces) (spelled key) key_at
-unfolding key_at behind_at
+unfolding key_at after_at
 key_reads = same_front (checked_reads (to_form (λ a. (a.1, head_of a.0)) there back) (then_reads algorithm_reads body_reads)) (λ b. simp bind_assoc)
   where
     there : (a : Algorithm × Key) → IsAlgorithm a.0 × IsBodyUnder a.0 a.1 → IsSpelled IsKey HasKeyPlaces (a.1, head_of a.0) × (algorithm a.0 & body a.1 ≡ spelled key (a.1, head_of a.0))

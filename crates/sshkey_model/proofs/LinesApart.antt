@@ -51,10 +51,10 @@ pub blobs_apart : (k : Key) (c : Certificate) (bytes : List ℕ) → SpellsWith 
 blobs_apart k c bytes a b =
     let name = algorithm_name (headed a.choices (key_algorithm k)) in
     let certified = certificate_name (key_algorithm c.signed.key) in
-    let behind = fits_first (to_be_signed c.signed b.choices) (box (signature c.signature)) b.fits in
+    let after = fits_first (to_be_signed c.signed b.choices) (box (signature c.signature)) b.fits in
     let first = first_string name certified (body k) _ (box (signature c.signature)) a.fits b.fits (sym a.shape ∙ b.shape) in
     let is_certified : certified_from name ≡ found (key_algorithm c.signed.key) = ap certified_from first.0 ∙ certified_again (key_algorithm c.signed.key) b.is.0.name in
-    other_name k a.choices (key_algorithm c.signed.key) c.signed.nonce _ (signature c.signature) a.place (fits_second (string name) (body k) a.fits) (fits_second (string certified) _ behind) is_certified first.1
+    other_name k a.choices (key_algorithm c.signed.key) c.signed.nonce _ (signature c.signature) a.place (fits_second (string name) (body k) a.fits) (fits_second (string certified) _ after) is_certified first.1
 
 pub lines_apart : LinesAreApart
 unfolding LinesAreApart

@@ -82,14 +82,14 @@ options_fit os ns is has f = (options_shrink os ns has f).0
 -- ---- certificates
 
 -- a part that is spelled in one way, and then the others
-behind : (p q s : Parts) → Shrinks q s → Shrinks (p & q) (p & s)
-behind p q s others = both p q p s (same p) others
+after : (p q s : Parts) → Shrinks q s → Shrinks (p & q) (p & s)
+after p q s others = both p q p s (same p) others
 
 signed_fields_shrink : (c : SignedFields) (s : CertificateChoices) → HaveSignedPlaces c s → Shrinks (to_be_signed c s) (normal_to_be_signed c)
-signed_fields_shrink c s has = behind _ _ _ (behind _ _ _ (behind _ _ _ (behind _ _ _ (behind _ _ _ (behind _ _ _ (behind _ _ _ (behind _ _ _ (behind _ _ _ (
+signed_fields_shrink c s has = after _ _ _ (after _ _ _ (after _ _ _ (after _ _ _ (after _ _ _ (after _ _ _ (after _ _ _ (after _ _ _ (after _ _ _ (
     both _ _ _ _ (options_shrink c.critical_options s.critical_options has.critical_options) (
     both _ _ _ _ (options_shrink c.extensions s.extensions has.extensions) (
-    behind _ _ _ (boxed _ _ (key_shrinks c.signature_key s.signature_key has.signature_key)))))))))))))
+    after _ _ _ (boxed _ _ (key_shrinks c.signature_key s.signature_key has.signature_key)))))))))))))
 
 pub signed_fields_fit : NormalFits AreSignedFields HaveSignedPlaces to_be_signed normal_to_be_signed
 signed_fields_fit c s is has f = (signed_fields_shrink c s has f).0
@@ -100,4 +100,4 @@ certificate_fits c s is has f = (both _ _ _ _ (signed_fields_shrink c.signed s h
 -- ---- SSH signatures
 
 pub ssh_signature_fits : NormalFits IsSshSignature HasSshSignaturePlaces ssh_signature normal_ssh_signature
-ssh_signature_fits g h is has f = (behind _ _ _ (behind _ _ _ (both _ _ _ _ (boxed _ _ (key_shrinks g.key h has)) (same (string g.namespace & string g.reserved & hash g.hash & box (signature g.signature))))) f).0
+ssh_signature_fits g h is has f = (after _ _ _ (after _ _ _ (both _ _ _ _ (boxed _ _ (key_shrinks g.key h has)) (same (string g.namespace & string g.reserved & hash g.hash & box (signature g.signature))))) f).0

@@ -2,7 +2,7 @@
 use Rattle.std.proofs.Common.{◌≡◌, ℕ, ◌<◌, Option, Some, None, true, List, [], ◌∷◌, length, Result, Ok, refl, sym, ap, subst, ◌∙◌, arith}
 use Rattle.std.proofs.lemmas.Str.{is_utf8-from_IsUtf8, IsUtf8-nil}
 use Rattle.sshkey_model.specs.Parts.{Parts, ◌&◌, each, flat, Fits, InRange, BoxesFit}
-use Rattle.sshkey_model.specs.Reading.{Fault, FormatEncoding, ◌>>=◌, whole, checked_whole, list_whole, IsChain, behind_at}
+use Rattle.sshkey_model.specs.Reading.{Fault, FormatEncoding, ◌>>=◌, whole, checked_whole, list_whole, IsChain, after_at}
 use Rattle.sshkey_model.specs.Grammar.{IsSpelled, spelled, Checks}
 use Rattle.sshkey_model.specs.Texts.{string, IsText, text_at}
 use Rattle.sshkey_model.specs.Options.{CertificateOption, Nesting, Plain, Nested, option_value, option, each_option, options, is_after, Rises, AreOptions, HasNesting, HasOptionPlaces, nesting_of, option_value_from, option_before, option_at, firsts, seconds, options_at}
@@ -52,7 +52,7 @@ abbrev Follows : Option Pair → Pair → Type 0
 Follows before x = ((IsText x.0.name × IsText x.0.value) × HasNesting x.0.value x.1) × (is_after (option_before before) x.0 ≡ true)
 
 pub option_reads : (before : Option Pair) → ReadsFront (Follows before) (λ x. option x.0 x.1) (option_at before)
-unfolding option_at IsOptionValue behind_at
+unfolding option_at IsOptionValue after_at
 option_reads before = same_front (checked_reads (kept (λ x. is_after (option_before before) x.0) FormatEncoding) (checked_reads (to_form
     (λ a. (record { name = a.0; value = a.1.0 }, a.1.1)) (λ a h. (((h.0, h.1.0), h.1.1), refl)) (λ x h. ((x.0.name, (x.0.value, x.1)), (h.0.0, (h.0.1, h.1)), refl, refl)))
     (then_reads text_reads (λ _. box_reads option_value_reads)))) (λ b. simp bind_assoc)

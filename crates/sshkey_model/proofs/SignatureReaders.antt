@@ -3,7 +3,7 @@ use Rattle.std.proofs.Common.{◌≡◌, ℕ, suc, ◌-◌, ◌<◌, ◌≤◌, 
 use Rattle.std.proofs.lemmas.Bool.{eqb-true, eq-eqb, ltb-true, lt-ltb}
 use Rattle.std.proofs.lemmas.List.{take_at, drop_at, take-append-drop, length-append, length-take, length-drop, nil_from_length}
 use Rattle.sshkey_model.specs.Parts.{Parts, bytes, box, ◌&◌, flat, Fits, HasLength}
-use Rattle.sshkey_model.specs.Reading.{Fault, Length, FormatEncoding, Crypto, ◌>>=◌, Whole, string_at, behind_at}
+use Rattle.sshkey_model.specs.Reading.{Fault, Length, FormatEncoding, Crypto, ◌>>=◌, Whole, string_at, after_at}
 use Rattle.sshkey_model.specs.Texts.{string}
 use Rattle.sshkey_model.specs.Names.{Algorithm}
 use Rattle.sshkey_model.specs.Mpints.{is_mpint, mpint_from, positive_part}
@@ -71,8 +71,8 @@ none_checks = record { takes = λ a b was e. absurd cc; again = λ b is. absurd 
 front_of : (x t : List ℕ) → HasLength 5 t → without_trailer (x ++ t) ≡ x
 front_of x t len = take_at x t (length (x ++ t) - 5) (omega (arith, length-append x t))
 
-behind : (x t : List ℕ) → HasLength 5 t → trailer (x ++ t) ≡ t
-behind x t len = drop_at x t (length (x ++ t) - 5) (omega (arith, length-append x t))
+after : (x t : List ℕ) → HasLength 5 t → trailer (x ++ t) ≡ t
+after x t len = drop_at x t (length (x ++ t) - 5) (omega (arith, length-append x t))
 
 abbrev IsTrailed : (List ℕ → Type 0) → List ℕ → Type 0
 IsTrailed Is d = (5 ≤ length d) × Is (without_trailer d)
@@ -89,7 +89,7 @@ module _ {Is : List ℕ → Type 0} {judge : Whole (List ℕ)} (checks : Checks 
       let x = bind_ok (judge p.0) (λ blob. Ok (blob ++ p.1)) d e in
       let c = checks.takes p.0 x.0 tt x.1 in
       let made : IsTrailed Is (x.0 ++ p.1) × (string p.0 & bytes p.1 ≡ trailed (x.0 ++ p.1)) =
-      ((omega (arith, length-append x.0 p.1, h.1), subst Is (sym (front_of x.0 p.1 h.1)) c.0), ap (λ (q : Parts). box q & bytes p.1) c.1 ∙ rw (front_of x.0 p.1 h.1, behind x.0 p.1 h.1) refl) in
+      ((omega (arith, length-append x.0 p.1, h.1), subst Is (sym (front_of x.0 p.1 h.1)) c.0), ap (λ (q : Parts). box q & bytes p.1) c.1 ∙ rw (front_of x.0 p.1 h.1, after x.0 p.1 h.1) refl) in
       subst (λ (z : List ℕ). IsTrailed Is z × (string p.0 & bytes p.1 ≡ trailed z)) (ok_is (x.0 ++ p.1) d x.2) made
 
   back : (d : List ℕ) → IsTrailed Is d → (p : List ℕ × List ℕ) × (Any p.0 × HasLength 5 p.1) × (judged judge p ≡ Ok d) × (string p.0 & bytes p.1 ≡ trailed d)
@@ -98,7 +98,7 @@ module _ {Is : List ℕ → Type 0} {judge : Whole (List ℕ)} (checks : Checks 
       ((c.0, trailer d), (tt, omega (arith, length-drop (length d - 5) d)), rw c.2 (ap (λ (z : List ℕ). done z) (take-append-drop (length d - 5) d)), ap (λ (q : Parts). box q & bytes (trailer d)) c.3)
 
   pub trailed_reads : ReadsFront (IsTrailed Is) trailed (trailed_at judge)
-  unfolding behind_at
+  unfolding after_at
   trailed_reads = same_front (checked_reads (record { takes = there; again = back }) (then_reads string_reads (λ _. bytes_reads 5))) (λ b. simp bind_assoc)
 
 -- ---- all kinds
@@ -114,5 +114,5 @@ signature_blob_reads Algorithm.SkEd25519 = as_front_form (λ d h. omega (arith, 
 signature_blob_reads (Algorithm.Other n) = checked_string_reads some_checks
 
 pub signature_reads : ReadsFront IsSignature signature signature_at
-unfolding signature_at behind_at
+unfolding signature_at after_at
 signature_reads = same_front (checked_reads (to_form (λ (name, blob). record { algorithm = name; blob = blob }) (λ a h. (h, refl)) (λ g h. ((g.algorithm, g.blob), h, refl, refl))) (then_reads algorithm_reads signature_blob_reads)) (λ b. simp bind_assoc)

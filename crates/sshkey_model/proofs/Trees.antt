@@ -61,12 +61,12 @@ module _ {A B S T : Type 0} {First : A → List ℕ → Type 0} {delimited_at : 
   dependent_tree = record {
     takes = λ p b s.
         let x = first.takes p.0 s.front s.first in
-        let y = (second p.0).takes p.1 s.behind s.second in
-        ((x.0, y.0), (x.1, y.1), fits_both (tree (p.0, x.0)) (next p.0 (p.1, y.0)) x.2 y.2, s.all ∙ ap (λ (l : List ℕ). l ++ s.behind) x.3 ∙ ap (λ (l : List ℕ). flat (tree (p.0, x.0)) ++ l) y.3);
+        let y = (second p.0).takes p.1 s.after s.second in
+        ((x.0, y.0), (x.1, y.1), fits_both (tree (p.0, x.0)) (next p.0 (p.1, y.0)) x.2 y.2, s.all ∙ ap (λ (l : List ℕ). l ++ s.after) x.3 ∙ ap (λ (l : List ℕ). flat (tree (p.0, x.0)) ++ l) y.3);
     again = λ x is fits.
         let a = first.again (x.0.0, x.1.0) is.0 (fits_first (tree (x.0.0, x.1.0)) (next x.0.0 (x.0.1, x.1.1)) fits) in
         let c = (second x.0.0).again (x.0.1, x.1.1) is.1 (fits_second (tree (x.0.0, x.1.0)) (next x.0.0 (x.0.1, x.1.1)) fits) in
-        record { front = flat (tree (x.0.0, x.1.0)); behind = flat (next x.0.0 (x.0.1, x.1.1)); first = a; second = c; all = refl; may_follow = ends x.0.0 (flat (tree (x.0.0, x.1.0))) (flat (next x.0.0 (x.0.1, x.1.1))) a };
+        record { front = flat (tree (x.0.0, x.1.0)); after = flat (next x.0.0 (x.0.1, x.1.1)); first = a; second = c; all = refl; may_follow = ends x.0.0 (flat (tree (x.0.0, x.1.0))) (flat (next x.0.0 (x.0.1, x.1.1))) a };
   }
 
 module _ {A B S T : Type 0} {First : A → List ℕ → Type 0} {delimited_at : Front A} {Second : B → List ℕ → Type 0} {Is : A × S → Type 0} {IsNext : B × T → Type 0} {tree : A × S → Parts} {next : B × T → Parts} (ends : (a : A) (front rest : List ℕ) → First a front → MayFollow delimited_at a front rest) (first : IsTree First Is tree) (second : IsTree Second IsNext next) where

@@ -34,9 +34,9 @@ kept c cs ds e some =
     left true = refl
     left false = refl
 
-settled_behind : (xs ys : List ℕ) → 0 < length ys → Settled ys → Settled (xs ++ ys)
-settled_behind [] ys some h = h
-settled_behind (x ∷ xs) ys some h = kept x (xs ++ ys) (xs ++ ys) (settled_behind xs ys some h) (omega (arith, length-append xs ys))
+settled_after : (xs ys : List ℕ) → 0 < length ys → Settled ys → Settled (xs ++ ys)
+settled_after [] ys some h = h
+settled_after (x ∷ xs) ys some h = kept x (xs ++ ys) (xs ++ ys) (settled_after xs ys some h) (omega (arith, length-append xs ys))
 
 settled_later : (x : ℕ) (xs : List ℕ) → Settled (x ∷ xs) → Settled xs
 settled_later x xs h =
@@ -89,8 +89,8 @@ unfolding trim_end
 not_trimmed text u h = ap encode_utf8_all h ∙ encodes-chars text u
 
 -- a text that is cut after a space
-cut_behind : (a r : List ℕ) → IsUtf8 (a ++ (space ∷ r)) → IsUtf8 (a ++ (space ∷ [])) × IsUtf8 r
-cut_behind a r u =
+cut_after : (a r : List ℕ) → IsUtf8 (a ++ (space ∷ r)) → IsUtf8 (a ++ (space ∷ [])) × IsUtf8 r
+cut_after a r u =
     let here : get_or (a ++ (space ∷ r)) (length a) 0 ≡ space = get_or-append_seam a space r 0 in
     let edge = IsCharBoundary-after_ascii (a ++ (space ∷ r)) (length a) u (omega (arith, length-append a (space ∷ r))) (omega (arith, here)) in
     let parts : a ++ (space ∷ r) ≡ (a ++ (space ∷ [])) ++ r = sym (append_assoc a (space ∷ []) r) in
@@ -125,8 +125,8 @@ space_ascii (suc i) = omega arith
 abbrev IsDone : List ℕ → Type 0
 IsDone text = IsUtf8 text × Settled (chars text)
 
-done_behind : (front end : List ℕ) → IsUtf8 front → IsUtf8 end → 0 < length (chars end) → Settled (chars end) → IsDone (front ++ end)
-done_behind front end u v some h = (IsUtf8-append front end u v, subst Settled (sym (chars-append front end u)) (settled_behind (chars front) (chars end) some h))
+done_after : (front end : List ℕ) → IsUtf8 front → IsUtf8 end → 0 < length (chars end) → Settled (chars end) → IsDone (front ++ end)
+done_after front end u v some h = (IsUtf8-append front end u v, subst Settled (sym (chars-append front end u)) (settled_after (chars front) (chars end) some h))
 
 some_chars : (cs : List ℕ) (c : ℕ) (rest : List ℕ) → encode_utf8_all cs ≡ c ∷ rest → 0 < length cs
 some_chars [] c rest e = absurd (cc e)
@@ -140,24 +140,24 @@ abbrev fronted : List ℕ → List ℕ → List ℕ
 fronted first w = (first ++ (space ∷ [])) ++ w
 
 front_utf8 : (first w m : List ℕ) (b : List ℕ) → IsUtf8 (joined first w m) → IsUtf8 (fronted first (word b))
-front_utf8 first w m b u = IsUtf8-append (first ++ (space ∷ [])) (word b) (cut_behind first (w ++ after_space m) u).0 (IsUtf8-from_ascii (word b) (word_ascii b))
+front_utf8 first w m b u = IsUtf8-append (first ++ (space ∷ [])) (word b) (cut_after first (w ++ after_space m) u).0 (IsUtf8-from_ascii (word b) (word_ascii b))
 
 -- another word of Base64 in the place of the one that stands there
 other_word : (first w m b : List ℕ) → 0 < length b → IsDone (joined first w m) → IsDone (joined first (word b) m)
 other_word first w [] b some h =
     let shape : first ++ (space ∷ (word b ++ [])) ≡ fronted first (word b) = ap (λ (z : List ℕ). first ++ (space ∷ z)) (append-nil (word b)) ∙ sym (append_assoc first (space ∷ []) (word b)) in
     let codes_ : chars (word b) ≡ word b = chars-IsAscii (word b) (word_ascii b) in
-    let front = (cut_behind first (w ++ []) h.0).0 in
-    subst IsDone (sym shape) (done_behind (first ++ (space ∷ [])) (word b) front (IsUtf8-from_ascii (word b) (word_ascii b))
+    let front = (cut_after first (w ++ []) h.0).0 in
+    subst IsDone (sym shape) (done_after (first ++ (space ∷ [])) (word b) front (IsUtf8-from_ascii (word b) (word_ascii b))
     (omega (arith, ap length codes_, some_word b some)) (subst Settled (sym codes_) (dark_settled (word b) (word_symbols b))))
 other_word first w (c ∷ m) b some h =
     let comment = c ∷ m in
-    let was = cut_behind (fronted first w) comment (subst IsUtf8 (from_left first w comment) h.0) in
+    let was = cut_after (fronted first w) comment (subst IsUtf8 (from_left first w comment) h.0) in
     let split : joined first w comment ≡ (fronted first w ++ (space ∷ [])) ++ comment = from_left first w comment ∙ sym (append_assoc (fronted first w) (space ∷ []) comment) in
     let settled : Settled (chars comment) = settled_end (chars (fronted first w ++ (space ∷ []))) (chars comment) (subst Settled (ap chars split ∙ chars-append (fronted first w ++ (space ∷ [])) comment was.0) h.1) in
     let front : IsUtf8 (fronted first (word b) ++ (space ∷ [])) = IsUtf8-append (fronted first (word b)) (space ∷ []) (front_utf8 first w comment b h.0) (IsUtf8-from_ascii (space ∷ []) space_ascii) in
     let shape : joined first (word b) comment ≡ (fronted first (word b) ++ (space ∷ [])) ++ comment = from_left first (word b) comment ∙ sym (append_assoc (fronted first (word b)) (space ∷ []) comment) in
-    subst IsDone (sym shape) (done_behind (fronted first (word b) ++ (space ∷ [])) comment front was.1 (some_chars (chars comment) c m (encodes-chars comment was.1)) settled)
+    subst IsDone (sym shape) (done_after (fronted first (word b) ++ (space ∷ [])) comment front was.1 (some_chars (chars comment) c m (encodes-chars comment was.1)) settled)
 
 -- the line of another blob, which is not trimmed
 line_again : (text first blob comment other : List ℕ) → IsLine text first blob comment → 0 < length other → IsLine (written first other comment) first other comment

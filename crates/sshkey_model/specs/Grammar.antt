@@ -74,11 +74,11 @@ AllEnd read delimited_at = (b : List ℕ) → delimited_at b ≡ read b
 -- If the second has bytes, the first ends by itself.
 pub record SpellsThen {A B : Type 0} (First : A → List ℕ → Type 0) (delimited_at : Front A) (Second : A → B → List ℕ → Type 0) (value : A × B) (bytes : List ℕ) : Type 0 where
   pub front : List ℕ
-  pub behind : List ℕ
+  pub after : List ℕ
   pub first : First value.0 front
-  pub second : Second value.0 value.1 behind
-  pub all : bytes ≡ front ++ behind
-  pub may_follow : MayFollow delimited_at value.0 front behind
+  pub second : Second value.0 value.1 after
+  pub all : bytes ≡ front ++ after
+  pub may_follow : MayFollow delimited_at value.0 front after
 
 -- the same where the second is spelled alike whatever the first is
 abbrev pub SpellsBoth : {A B : Type 0} → (A → List ℕ → Type 0) → Front A → (B → List ℕ → Type 0) → A × B → List ℕ → Type 0

@@ -187,12 +187,12 @@ written_checkint None k = derived_checkint k
 abbrev pub scalar_alone : List ℕ → List ℕ × LeadingZeros
 scalar_alone s = if is_high s then (s, WithoutZero) else (s, Plain)
 
-abbrev pub scalar_behind_zero : List ℕ → List ℕ × LeadingZeros
-scalar_behind_zero s = if is_high s then (s, Plain) else (s, WithZero)
+abbrev pub scalar_after_zero : List ℕ → List ℕ × LeadingZeros
+scalar_after_zero s = if is_high s then (s, Plain) else (s, WithZero)
 
 abbrev pub after_zero : List ℕ → Result (List ℕ × LeadingZeros) Fault
 after_zero [] = Err Length
-after_zero (b ∷ s) = if b == 0 then Ok (scalar_behind_zero s) else Err FormatEncoding
+after_zero (b ∷ s) = if b == 0 then Ok (scalar_after_zero s) else Err FormatEncoding
 
 -- an mpint that is not negative: it is empty, or its first bit is not set
 abbrev pub is_natural : List ℕ → Bool

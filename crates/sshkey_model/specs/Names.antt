@@ -81,14 +81,14 @@ abbrev pub are_ascii : List ℕ → Bool
 are_ascii [] = true
 are_ascii (c ∷ rest) = nat_lt c 0x80 && are_ascii rest
 
-abbrev pub behind_first : ℕ → Option (List ℕ × List ℕ) → Option (List ℕ × List ℕ)
-behind_first c None = None
-behind_first c (Some p) = Some (c ∷ p.0, p.1)
+abbrev pub after_first : ℕ → Option (List ℕ × List ℕ) → Option (List ℕ × List ℕ)
+after_first c None = None
+after_first c (Some p) = Some (c ∷ p.0, p.1)
 
 -- what stands before the first at sign, and after it
 abbrev pub cut : List ℕ → Option (List ℕ × List ℕ)
 cut [] = None
-cut (c ∷ rest) = if c == at_sign then Some ([], rest) else behind_first c (cut rest)
+cut (c ∷ rest) = if c == at_sign then Some ([], rest) else after_first c (cut rest)
 
 -- one at sign, neither first nor last
 abbrev pub is_split : Option (List ℕ × List ℕ) → Bool

@@ -68,15 +68,15 @@ box_at read b = do
   if nat_lt (length n.1) n.0 then Err Length else (read (take n.0 n.1) >>= λ x. Ok (x, drop n.0 n.1))
 
 -- a value, and what it asks for after it
-unfoldable pub behind_at : {A B : Type 0} → Front A → (A → Front B) → Front (A × B)
-behind_at read next b = do
+unfoldable pub after_at : {A B : Type 0} → Front A → (A → Front B) → Front (A × B)
+after_at read next b = do
   x ← read b
   y ← next x.0 x.1
   Ok ((x.0, y.0), y.1)
 
 -- The same where the second is read alike whatever the first is.
 abbrev pub both_at : {A B : Type 0} → Front A → Front B → Front (A × B)
-both_at read next = behind_at read (λ _. next)
+both_at read next = after_at read (λ _. next)
 
 -- the plain reader of no value
 abbrev pub never_at : {A : Type 0} → Front A

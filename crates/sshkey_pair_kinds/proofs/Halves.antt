@@ -17,8 +17,8 @@ put_second a z b a-len z-len b-len =
     let long : length (a ++ z) ≡ 64 = omega (arith, length-append a z) in
     let none : drop 64 (a ++ z) ≡ [] = nil_from_length (drop 64 (a ++ z)) (omega (arith, length-drop 64 (a ++ z))) in
     let front : take 64 all ≡ a ++ b = take-put_mid 32 32 (a ++ z) b 64 (omega arith) (omega arith) ∙ ap (λ (w : List ℕ). w ++ b) (take_at a z 32 a-len) in
-    let behind : drop 64 all ≡ [] = drop-put_mid 32 32 (a ++ z) b 64 (omega arith) (omega arith) b-len ∙ none in
-    sym (take-append-drop 64 all) ∙ rw (front, behind) (append-nil (a ++ b))
+    let after : drop 64 all ≡ [] = drop-put_mid 32 32 (a ++ z) b 64 (omega arith) (omega arith) b-len ∙ none in
+    sym (take-append-drop 64 all) ∙ rw (front, after) (append-nil (a ++ b))
 
 abbrev differ : List ℕ → List ℕ → Bool
 differ p b = not (bytes_eq (take 32 (drop 32 b)) p)

@@ -1,7 +1,7 @@
 -- The readers of pairs without the choices of their spelling take exactly the spellings, and read the
 -- parts that their terms have.
 use Rattle.std.proofs.Common.{ℕ, List, Result, Ok, Err, refl}
-use Rattle.sshkey_model.specs.Reading.{Fault, Length, box_at, whole, bytes_at, both_at, behind_at}
+use Rattle.sshkey_model.specs.Reading.{Fault, Length, box_at, whole, bytes_at, both_at, after_at}
 use Rattle.sshkey_model.specs.Grammar.{IsGrammar, value_at}
 use Rattle.sshkey_model.specs.Keys.{Key, Dsa, SkEcdsa, SkEd25519, dsa_at, any_ecdsa_at, ed25519_at, sk_ecdsa_at, sk_ed25519_at}
 use Rattle.sshkey_model.specs.Mpints.{mpint_at}
@@ -39,25 +39,25 @@ dsa_pair_of_parts (Dsa k, x) = Ok (DsaPair k x)
 dsa_pair_of_parts _ = Err Length
 
 pub dsa_pair_parts_read : IsMapped (value_at dsa_pair_at) dsa_pair_of_parts (both_at dsa_at mpint_at)
-unfolding dsa_pair_at dsa_at behind_at
+unfolding dsa_pair_at dsa_at after_at
 dsa_pair_parts_read = record { same = λ b. simp bind_assoc }
 
 abbrev rsa_private_of_parts : List ℕ × (List ℕ × (List ℕ × List ℕ)) → Result RsaPrivate Fault
 rsa_private_of_parts a = Ok (record { d = a.0; iqmp = a.1.0; p = a.1.1.0; q = a.1.1.1 })
 
 pub rsa_private_parts_read : IsMapped rsa_private_at rsa_private_of_parts (both_at mpint_at (both_at mpint_at (both_at mpint_at mpint_at)))
-unfolding rsa_private_at behind_at
+unfolding rsa_private_at after_at
 rsa_private_parts_read = record { same = λ b. simp bind_assoc }
 
 abbrev rsa_pair_of_parts : List ℕ × (List ℕ × RsaPrivate) → Result KeyPair Fault
 rsa_pair_of_parts a = Ok (RsaPair (record { e = a.1.0; n = a.0 }) a.1.1)
 
 pub rsa_pair_parts_read : IsMapped (value_at rsa_pair_at) rsa_pair_of_parts (both_at mpint_at (both_at mpint_at rsa_private_at))
-unfolding rsa_pair_at behind_at
+unfolding rsa_pair_at after_at
 rsa_pair_parts_read = record { same = λ b. simp bind_assoc }
 
 pub ed25519_pair_parts_read : IsMapped (value_at ed25519_pair_at) ed25519_pair_of_parts (both_at (box_at (whole (bytes_at 32))) (box_at (whole (bytes_at 64))))
-unfolding ed25519_pair_at ed25519_at behind_at
+unfolding ed25519_pair_at ed25519_at after_at
 ed25519_pair_parts_read = record { same = λ b. simp bind_assoc }
 
 pub ecdsa_pair_chosen : IsChosen (value_at any_ecdsa_pair_at) any_ecdsa_at (λ k. (pair_of_key k).read)
@@ -70,9 +70,9 @@ security_pair_of_parts (SkEd25519 k, r) = Ok (SkEd25519Pair k r)
 security_pair_of_parts _ = Err Length
 
 pub sk_ecdsa_pair_parts_read : IsMapped (value_at sk_ecdsa_pair_at) security_pair_of_parts (both_at sk_ecdsa_at held_format.read)
-unfolding security_private_at sk_ecdsa_pair_at sk_ecdsa_at behind_at
+unfolding security_private_at sk_ecdsa_pair_at sk_ecdsa_at after_at
 sk_ecdsa_pair_parts_read = record { same = λ b. simp bind_assoc }
 
 pub sk_ed25519_pair_parts_read : IsMapped (value_at sk_ed25519_pair_at) security_pair_of_parts (both_at sk_ed25519_at held_format.read)
-unfolding security_private_at sk_ed25519_pair_at sk_ed25519_at behind_at
+unfolding security_private_at sk_ed25519_pair_at sk_ed25519_at after_at
 sk_ed25519_pair_parts_read = record { same = λ b. simp bind_assoc }

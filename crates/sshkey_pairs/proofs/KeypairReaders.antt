@@ -1,6 +1,6 @@
 -- The reader of pairs of any kind, after their names, takes exactly the spellings.
 use Rattle.std.proofs.Common.{◌≡◌, ℕ, Bool, true, false, cond, Option, Some, None, List, [], ◌++◌, Result, Ok, Err, refl, sym, subst}
-use Rattle.sshkey_model.specs.Reading.{Fault, AlgorithmUnknown, ◌>>=◌, Front, checked_at, string_at, both_at, behind_at}
+use Rattle.sshkey_model.specs.Reading.{Fault, AlgorithmUnknown, ◌>>=◌, Front, checked_at, string_at, both_at, after_at}
 use Rattle.sshkey_model.specs.Grammar.{IsGrammar, SpellsWith, value_at}
 use Rattle.sshkey_model.specs.Names.{Algorithm, Curve, algorithm_from, algorithm_at}
 use Rattle.sshkey_model.specs.Names as names
@@ -20,7 +20,7 @@ abbrev opaque_pair_of_parts : List ℕ → List ℕ × List ℕ → Result KeyPa
 opaque_pair_of_parts name a = Ok (OpaquePair name a.0 a.1)
 
 pub opaque_pair_parts_read : (name : List ℕ) → IsMapped (value_at (opaque_pair_at name)) (opaque_pair_of_parts name) (both_at string_at string_at)
-unfolding opaque_pair_at behind_at
+unfolding opaque_pair_at after_at
 opaque_pair_parts_read name = record { same = λ b. simp bind_assoc }
 
 -- under the empty name
@@ -29,7 +29,7 @@ nameless_parts_read = opaque_pair_parts_read []
 
 -- the same, as a pair that is not encrypted
 pub some_opaque_parts_read : (name : List ℕ) → IsMapped (some_at (value_at (opaque_pair_at name))) (λ a. Ok (Some (OpaquePair name a.0 a.1))) (both_at string_at string_at)
-unfolding opaque_pair_at behind_at
+unfolding opaque_pair_at after_at
 some_opaque_parts_read name = record { same = λ b. simp bind_assoc }
 
 -- ---- a pair on the curve that the algorithm names, step by step

@@ -329,9 +329,9 @@ fn checkint_from(bytes: &[u8]) -> u32
 {
     let mut rest = bytes;
     let mut checkint = 0;
-    'words: while let [a, b, c, d, behind @ ..] = rest {
+    'words: while let [a, b, c, d, after @ ..] = rest {
         checkint ^= u32::from_be_bytes([*a, *b, *c, *d]);
-        rest = behind;
+        rest = after;
     }
     checkint
 }

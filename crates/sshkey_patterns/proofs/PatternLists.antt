@@ -44,8 +44,8 @@ module _ {X : Type 0} (P : X → Type 0) (x : X) (xs : List X) where
   any_here : P x → Any P (x ∷ xs)
   any_here p = (0, x, omega arith, refl, p)
 
-  any_behind : Any P xs → Any P (x ∷ xs)
-  any_behind a = (suc a.0, a.1, omega (arith, a.2), a.3, a.4)
+  any_after : Any P xs → Any P (x ∷ xs)
+  any_after a = (suc a.0, a.1, omega (arith, a.2), a.3, a.4)
 
   at_place : (k : ℕ) (y : X) → k < length (x ∷ xs) → slice_index_or (x ∷ xs) k y ≡ y → P y → P x ⊎ Any P xs
   at_place zero y l e p = inl (subst P (sym e) p)
@@ -97,10 +97,10 @@ module _ (fold : ℕ → ℕ) (found : Bool) (text pattern : List ℕ) (all ps :
           | inl before ↦ inl (or_named found named_here (inl before))
           | inr some ↦ elim (any_cases (MatchesUnnegated fold text) pattern ps (subst (Any (MatchesUnnegated fold text)) is some)) [
             | inl here ↦ inl (or_named found named_here (inr (names.1 here)))
-            | inr behind ↦ inr behind
+            | inr after ↦ inr after
           ]
         ];
-        not_refused = λ refusal. still.not_refused (subst (Any (MatchesNegated fold text)) (sym is) (any_behind (MatchesNegated fold text) pattern ps refusal));
+        not_refused = λ refusal. still.not_refused (subst (Any (MatchesNegated fold text)) (sym is) (any_after (MatchesNegated fold text) pattern ps refusal));
         short = All-tail IsShortPattern pattern ps (subst (All IsShortPattern) is still.short);
       },
       λ still. record {
@@ -109,11 +109,11 @@ module _ (fold : ℕ → ℕ) (found : Bool) (text pattern : List ℕ) (all ps :
             | inl found_before ↦ inl found_before
             | inr here ↦ inr (subst (Any (MatchesUnnegated fold text)) (sym is) (any_here (MatchesUnnegated fold text) pattern ps (names.0 here)))
           ]
-          | inr behind ↦ inr (subst (Any (MatchesUnnegated fold text)) (sym is) (any_behind (MatchesUnnegated fold text) pattern ps behind))
+          | inr after ↦ inr (subst (Any (MatchesUnnegated fold text)) (sym is) (any_after (MatchesUnnegated fold text) pattern ps after))
         ];
         not_refused = λ refusal. elim (any_cases (MatchesNegated fold text) pattern ps (subst (Any (MatchesNegated fold text)) is refusal)) [
           | inl here ↦ kept here
-          | inr behind ↦ still.not_refused behind
+          | inr after ↦ still.not_refused after
         ];
         short = subst (All IsShortPattern) (sym is) (All-cons IsShortPattern pattern ps short still.short);
       },

@@ -78,7 +78,7 @@ fn unmarked(pattern: &[u8]) -> &[u8]
     ensures { result.now ≡ unmarked pattern.now }
 {
     match pattern {
-        [b'!', behind @ ..] => behind,
+        [b'!', after @ ..] => after,
         _ => pattern,
     }
 }

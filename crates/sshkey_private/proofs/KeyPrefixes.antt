@@ -43,23 +43,23 @@ one_content (Unencrypted k) s u n m is s-has u-has n-has m-has s-fits u-fits e =
 one_content (Encrypted k) s u n m is s-has u-has n-has m-has s-fits u-fits e = (s-has ∙ sym u-has, n-has ∙ sym m-has)
 
 -- the public key follows the number of keys, and the private part follows it
-behind_fits : (k : PrivateKey) (s : PaddedChoices) → Fits (padded_private_key k s) → Fits (box (key (public_key k) s.key.outer) & padded_content k s.key.pair s.padding)
-behind_fits k s fits = fits_second (number w32 1) _ (fits_second (kdf (key_kdf k)) _ (fits_second (cipher (key_cipher k)) _ (fits_second (bytes private_key_magic) _ fits)))
+after_fits : (k : PrivateKey) (s : PaddedChoices) → Fits (padded_private_key k s) → Fits (box (key (public_key k) s.key.outer) & padded_content k s.key.pair s.padding)
+after_fits k s fits = fits_second (number w32 1) _ (fits_second (kdf (key_kdf k)) _ (fits_second (cipher (key_cipher k)) _ (fits_second (bytes private_key_magic) _ fits)))
 
 one_choice : (k : PrivateKey) (s u : PaddedChoices) → IsSpelled IsPrivateKey HasPaddedPlaces (k, s) → Fits (padded_private_key k s) → IsSpelled IsPrivateKey HasPaddedPlaces (k, u) → Fits (padded_private_key k u) → flat (padded_private_key k s) ≡ flat (padded_private_key k u) → s ≡ u
 unfolding flat
 one_choice k s u s-is s-fits u-is u-fits e =
-    let s-behind = behind_fits k s s-fits in
-    let u-behind = behind_fits k u u-fits in
+    let s-after = after_fits k s s-fits in
+    let u-after = after_fits k u u-fits in
     let s-content = padded_content k s.key.pair s.padding in
     let u-content = padded_content k u.key.pair u.padding in
     let s-key = box (key (public_key k) s.key.outer) in
     let u-key = box (key (public_key k) u.key.outer) in
     let sealing = append_cancel_left (flat (cipher (key_cipher k))) _ _ (append_cancel_left private_key_magic _ _ e) in
     let keys = append_cancel_left (flat (number w32 1)) _ _ (append_cancel_left (flat (kdf (key_kdf k))) _ _ sealing) in
-    let one = prefix (box_reads (whole_reads key_reads)) (public_key k, s.key.outer) (public_key k, u.key.outer) (flat s-content) (flat u-content) (record { is = of_formed k s-is.is; place = s-is.place.0.0 }) (fits_first s-key s-content s-behind) (record { is = of_formed k u-is.is; place = u-is.place.0.0 }) (fits_first u-key u-content u-behind) keys in
+    let one = prefix (box_reads (whole_reads key_reads)) (public_key k, s.key.outer) (public_key k, u.key.outer) (flat s-content) (flat u-content) (record { is = of_formed k s-is.is; place = s-is.place.0.0 }) (fits_first s-key s-content s-after) (record { is = of_formed k u-is.is; place = u-is.place.0.0 }) (fits_first u-key u-content u-after) keys in
     let outer : s.key.outer ≡ u.key.outer = ap (λ (x : Key × Head). x.1) one.0 in
-    let content = one_content k s.key.pair u.key.pair s.padding u.padding s-is.is s-is.place.0.1 u-is.place.0.1 s-is.place.1 u-is.place.1 (fits_second s-key s-content s-behind) (fits_second u-key u-content u-behind) one.1 in
+    let content = one_content k s.key.pair u.key.pair s.padding u.padding s-is.is s-is.place.0.1 u-is.place.0.1 s-is.place.1 u-is.place.1 (fits_second s-key s-content s-after) (fits_second u-key u-content u-after) one.1 in
     λ i. record { key = record { outer = outer i; pair = content.0 i }; padding = content.1 i }
 
 pub padded_prefix : IsPrefixFree (IsSpelled IsPrivateKey HasPaddedPlaces) (spelled padded_private_key)

@@ -14,9 +14,9 @@ module _ {X : Type 0} (parts : X → List ℕ × List ℕ) (c : Cipher) (k : Kdf
   abbrev sealed : PrivateKey
   sealed = sealed_with c k public (parts x).0 (parts x).1
 
-  pub behind_refused : (n : ℕ) → n ≡ announced_len t → 0 < n → IsRefused s.missing (Faulty (TrailingKeyData n)) (last_encrypted_at c k public s.left)
+  pub after_refused : (n : ℕ) → n ≡ announced_len t → 0 < n → IsRefused s.missing (Faulty (TrailingKeyData n)) (last_encrypted_at c k public s.left)
   unfolding last_encrypted_at
-  behind_refused n e some = record {
+  after_refused n e some = record {
     fault = λ other sound.
         let len : length t.left ≡ n = omega (arith, e, a.missing, sound) in
         rw a.value (go t.left len);
@@ -26,9 +26,9 @@ module _ {X : Type 0} (parts : X → List ℕ × List ℕ) (c : Cipher) (k : Kdf
       go [] len = absurd (omega arith)
       go (d ∷ rest) len = ap (λ (m : ℕ). Faulty (TrailingKeyData m)) (sym len)
 
-  pub none_behind : {Z : Type 0} (means : Z → PrivateKey) (z : Z) → means z ≡ sealed → announced_len t ≡ 0 → Reads means (last_encrypted_at c k public) s z t
+  pub none_after : {Z : Type 0} (means : Z → PrivateKey) (z : Z) → means z ≡ sealed → announced_len t ≡ 0 → Reads means (last_encrypted_at c k public) s z t
   unfolding last_encrypted_at
-  none_behind {Z} means z same none = record {
+  none_after {Z} means z same none = record {
     value = rw a.value (go t.left (omega (arith, none)));
     missing = a.missing;
     outer = a.outer;

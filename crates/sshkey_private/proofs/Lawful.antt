@@ -1,6 +1,6 @@
 -- The formats of private keys are lawful.
 use Rattle.std.proofs.Common.{◌≡◌, inl, ℕ, List, Err, refl}
-use Rattle.sshkey_model.specs.Reading.{Fault, behind_at}
+use Rattle.sshkey_model.specs.Reading.{Fault, after_at}
 use Rattle.sshkey_model.specs.Grammar.{IsGrammar, AllEnd}
 use Rattle.sshkey_model.specs.Keys.{Key}
 use Rattle.sshkey_model.specs.KeyDerivation.{Cipher, NoCipher, Kdf, NoKdf, Bcrypt}
@@ -40,7 +40,7 @@ pub pair_lawful : (public : Key) → IsFormat (pair_format public)
 pair_lawful public = read_as_lawful (tested_lawful (half_of public) keypair_lawful) (pair_is public) (λ b. refl)
 
 pub inner_is : (public : Key) (b : List ℕ) → inner_at public b ≡ (inner_term public).read b
-unfolding inner_at behind_at
+unfolding inner_at after_at
 inner_is public b = simp bind_assoc
 
 pub inner_lawful : (public : Key) → IsFormat (inner_format public)

@@ -51,9 +51,9 @@ steps_are limit b = go (opening_at b) ∙ ap (λ (r : Result (PrivateKey × List
 
 -- ---- from the front
 
-nothing_behind : (k : PrivateKey) → may_precede k [] ≡ true
-nothing_behind (Unencrypted k) = refl
-nothing_behind (Encrypted k) = refl
+nothing_after : (k : PrivateKey) → may_precede k [] ≡ true
+nothing_after (Unencrypted k) = refl
+nothing_after (Encrypted k) = refl
 
 kept : (k l : PrivateKey) → not_encrypted k ≡ Ok l → k ≡ l
 kept (Unencrypted k) l e = ok_is (Unencrypted k) l e
@@ -74,7 +74,7 @@ module _ (limit : ℕ) where
   }
 
   pub file_alone : (k : PrivateKey) (front : List ℕ) → (SpellsFile limit) k front → steps_at limit front ≡ Ok (k, [])
-  file_alone k front s = ap (steps_at limit) (sym (append-nil front)) ∙ decoder.again k front [] s (nothing_behind k)
+  file_alone k front s = ap (steps_at limit) (sym (append-nil front)) ∙ decoder.again k front [] s (nothing_after k)
 
   may_follow : (k : PrivateKey) (front rest : List ℕ) → (SpellsFile limit) k front → may_precede k rest ≡ true → MayFollow (delimited_by (steps_at limit)) k front rest
   may_follow (Unencrypted k) front rest s may = inr (rw (file_alone (Unencrypted k) front s) refl)

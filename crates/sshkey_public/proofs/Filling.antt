@@ -29,17 +29,17 @@ room_is_left fault p name slice k t e boxes le h =
 some_same : (m n : ℕ) → Some (suc m) ≡ Some (suc n) → m ≡ n
 some_same m n e = cc
 
-added_behind : (p : Parts) (name other : ℕ) (slice new : List ℕ) (k len : ℕ) → Written p (filled name k slice) (filled other len new) → other ∷ take len new ≡ name ∷ (take k slice ++ flat p)
+added_after : (p : Parts) (name other : ℕ) (slice new : List ℕ) (k len : ℕ) → Written p (filled name k slice) (filled other len new) → other ∷ take len new ≡ name ∷ (take k slice ++ flat p)
 unfolding after
-added_behind p name other slice new k len h = ap (λ (s : Sink). s.written) h.1
+added_after p name other slice new k len h = ap (λ (s : Sink). s.written) h.1
 
 pub same_slice : (p : Parts) (name other : ℕ) (slice new : List ℕ) (k len : ℕ) → Written p (filled name k slice) (filled other len new) → other ≡ name
-same_slice p name other slice new k len h = let is = added_behind p name other slice new k len h in cc
+same_slice p name other slice new k len h = let is = added_after p name other slice new k len h in cc
 
 pub fills : (p : Parts) (name other : ℕ) (slice new : List ℕ) (k len : ℕ) → k ≡ 0 → length slice ≡ length (flat p) → len ≤ length new → Written p (filled name k slice) (filled other len new) → new ≡ flat p
 unfolding after
 fills p name other slice new k len none all within h =
-    let seen = added_behind p name other slice new k len h in
+    let seen = added_after p name other slice new k len h in
     let is : take len new ≡ take k slice ++ flat p = cc in
     let begun : take len new ≡ flat p = is ∙ ap (λ (n : ℕ). take n slice ++ flat p) none in
     let limit : Some (suc (length new)) ≡ Some (suc (length slice)) = ap (λ (s : Sink). s.limit) h.1 in
@@ -54,7 +54,7 @@ put_added slice put bytes start n end le long at same = rw same (record {
   is = take-put_mid start n slice bytes end (omega arith) (omega arith);
   len = omega arith;
   room = omega (arith, length-append (take start slice) (bytes ++ drop n (drop start slice)), length-append bytes (drop n (drop start slice)), length-drop n (drop start slice), length-drop start slice, length-take-le start slice (omega arith));
-  behind = drop-put_mid start n slice bytes end (omega arith) (omega arith) long;
+  after = drop-put_mid start n slice bytes end (omega arith) (omega arith) long;
 })
 
 -- ---- the line
@@ -64,7 +64,7 @@ added_both k n m slice new last a b h l = record {
   is = l.is ∙ ap (λ (x : List ℕ). x ++ b) h.is ∙ append_assoc (take k slice) a b;
   len = omega (arith, h.len, l.len, length-append a b);
   room = l.room ∙ h.room;
-  behind = l.behind ∙ ap (λ (x : ℕ). drop x new) l.len ∙ sym (drop-drop (length b) n new) ∙ ap (drop (length b)) h.behind ∙ drop-drop (length b) n slice ∙ ap (λ (x : ℕ). drop x slice) (sym l.len);
+  after = l.after ∙ ap (λ (x : ℕ). drop x new) l.len ∙ sym (drop-drop (length b) n new) ∙ ap (drop (length b)) h.after ∙ drop-drop (length b) n slice ∙ ap (λ (x : ℕ). drop x slice) (sym l.len);
 }
 
 pub comment_added : (comment given : List ℕ) (k n m : ℕ) (s t u : List ℕ) → (length comment == 0) ≡ false → given ≡ comment → Added k s (space ∷ []) n t → Added n t given m u → Added k s (after_space comment) m u
@@ -82,7 +82,7 @@ length_line name blob comment =
 
 pub utf8_line : (name blob comment : List ℕ) → IsUtf8 name → IsUtf8 comment → IsUtf8 (written name blob comment)
 utf8_line name blob comment n c =
-    IsUtf8-append name _ n (IsUtf8-append (space ∷ []) _ (IsUtf8-from_ascii (space ∷ []) one) (IsUtf8-append (encode_of standard blob) (after_space comment) (IsUtf8-from_ascii (encode_of standard blob) (IsAscii-encode_of standard blob)) (behind comment c)))
+    IsUtf8-append name _ n (IsUtf8-append (space ∷ []) _ (IsUtf8-from_ascii (space ∷ []) one) (IsUtf8-append (encode_of standard blob) (after_space comment) (IsUtf8-from_ascii (encode_of standard blob) (IsAscii-encode_of standard blob)) (spaced comment c)))
   where
     one : IsAscii (space ∷ [])
     one = λ i. below i
@@ -91,9 +91,9 @@ utf8_line name blob comment n c =
         below zero = omega arith
         below (suc i) = omega arith
 
-    behind : (m : List ℕ) → IsUtf8 m → IsUtf8 (after_space m)
-    behind [] u = u
-    behind (x ∷ m) u = IsUtf8-append (space ∷ []) (x ∷ m) (IsUtf8-from_ascii (space ∷ []) one) u
+    spaced : (m : List ℕ) → IsUtf8 m → IsUtf8 (after_space m)
+    spaced [] u = u
+    spaced (x ∷ m) u = IsUtf8-append (space ∷ []) (x ∷ m) (IsUtf8-from_ascii (space ∷ []) one) u
 
 line_added : (first blob comment : List ℕ) (k n m i j : ℕ) (s t u v w : List ℕ) → Added k s first n t → Added n t (space ∷ []) m u → Added m u (encode_of standard blob) i v → Added i v (after_space comment) j w
     → Added k s (first ++ (space ∷ (encode_of standard blob ++ after_space comment))) j w
@@ -110,5 +110,5 @@ line_filled name first blob comment k n m i j s t u v w none same a b c d =
       front = all.is ∙ ap (λ (x : ℕ). take x s ++ (first ++ rest)) none ∙ ap (λ (l : List ℕ). l ++ rest) same;
       len = omega (arith, all.len, none, ap (λ (l : List ℕ). length (l ++ rest)) same);
       room = all.room;
-      behind = all.behind;
+      after = all.after;
     }

@@ -31,7 +31,7 @@ use borrow.Rule.Slice.Lend.{kept_f, sl_relend, sl_relent_backˡ}
 use borrow.Table.Owned as bare
 use Rattle.sshkey_model.specs.Parts.{Parts}
 use Rattle.sshkey_base.specs.declared.error.Error.{Error}
-use Rattle.sshkey_public.specs.PublicKeys.{FillsSlice, GivesFront, WritesLine, IsBehind, StaysBehind}
+use Rattle.sshkey_public.specs.PublicKeys.{FillsSlice, GivesFront, WritesLine, IsAfter, StaysAfter}
 
 byte_laws : laws.Laws u8
 byte_laws = laws.of_field u8-field u8-laws refl (copy_shared u8-field u8-copy)
@@ -91,15 +91,15 @@ is_written name p comment old new (Ok n) (Err e) f g = absurd g
 is_written name p comment old new (Err d) (Ok text) f g = absurd g
 is_written name p comment old new (Err d) (Err e) f g = (g ∙ f.0, f.1)
 
-is_behind : (name : List ℕ) (p : Parts) (comment old new : List ℕ) (h : Result ℕ Error) (r : Result (Bor (List ℕ)) Error) → FillsSlice name p comment old h new → GivesFront new h r → IsBehind old r new
-is_behind name p comment old new (Ok n) (Ok text) f g =
+is_after : (name : List ℕ) (p : Parts) (comment old new : List ℕ) (h : Result ℕ Error) (r : Result (Bor (List ℕ)) Error) → FillsSlice name p comment old h new → GivesFront new h r → IsAfter old r new
+is_after name p comment old new (Ok n) (Ok text) f g =
     let at : n ≡ length text.now = f.1.len ∙ sym (ap length f.1.front) ∙ sym (ap length g) in
-    sym (take-append-drop n new) ∙ ap (λ (l : List ℕ). l ++ drop n new) (sym g) ∙ ap (λ (l : List ℕ). text.now ++ l) (f.1.behind ∙ ap (λ (m : ℕ). drop m old) at)
-is_behind name p comment old new (Ok n) (Err e) f g = absurd g
-is_behind name p comment old new (Err d) (Ok text) f g = absurd g
-is_behind name p comment old new (Err d) (Err e) f g = f.2
+    sym (take-append-drop n new) ∙ ap (λ (l : List ℕ). l ++ drop n new) (sym g) ∙ ap (λ (l : List ℕ). text.now ++ l) (f.1.after ∙ ap (λ (m : ℕ). drop m old) at)
+is_after name p comment old new (Ok n) (Err e) f g = absurd g
+is_after name p comment old new (Err d) (Ok text) f g = absurd g
+is_after name p comment old new (Err d) (Err e) f g = f.2
 
 module _ {M : Type 1} {𝓤 : Ura M} (𝓛 : Logic 𝓤) (s : MutBor (List ℕ)) (new : List ℕ) (h : Result ℕ Error) (r : Result (Bor (List ℕ)) Error) where
-  pub stays : (name : List ℕ) (p : Parts) (comment : List ℕ) → FillsSlice name p comment s.now h new → GivesFront new h r → ent 𝓤 (sem 𝓛 (fres s.ghost_name ((coded_list u8.coded).code new))) (sem 𝓛 (StaysBehind s r))
+  pub stays : (name : List ℕ) (p : Parts) (comment : List ℕ) → FillsSlice name p comment s.now h new → GivesFront new h r → ent 𝓤 (sem 𝓛 (fres s.ghost_name ((coded_list u8.coded).code new))) (sem 𝓛 (StaysAfter s r))
   unfolding such_by follows_by
-  stays name p comment f g = ex_i 𝓤 (λ (d : (d : (List ℕ → List ℕ) × List ℕ) × ((w : List ℕ) → Unit {0}) × IsBehind s.now r d.1). sem 𝓛 (fres s.ghost_name ((coded_list u8.coded).code d.0.1))) (((λ w. new), new), (λ w. tt), is_behind name p comment s.now new h r f g)
+  stays name p comment f g = ex_i 𝓤 (λ (d : (d : (List ℕ → List ℕ) × List ℕ) × ((w : List ℕ) → Unit {0}) × IsAfter s.now r d.1). sem 𝓛 (fres s.ghost_name ((coded_list u8.coded).code d.0.1))) (((λ w. new), new), (λ w. tt), is_after name p comment s.now new h r f g)

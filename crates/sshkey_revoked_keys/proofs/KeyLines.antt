@@ -15,8 +15,8 @@ module _ (key : List ℕ) where
   abbrev AreOf : List (List ℕ) → List (Vec ℕ Global) → Type 0
   AreOf lines keys = AreEntries (λ (v : Vec ℕ Global). v.items) RevokesKey lines keys
 
-  behind : (line : List ℕ) (lines : List (List ℕ)) → Any Revokes lines → Any Revokes (line ∷ lines)
-  behind line lines a = (suc a.0, a.1, omega (arith, a.2), a.3, a.4)
+  after : (line : List ℕ) (lines : List (List ℕ)) → Any Revokes lines → Any Revokes (line ∷ lines)
+  after line lines a = (suc a.0, a.1, omega (arith, a.2), a.3, a.4)
 
   at_place : (line : List ℕ) (lines : List (List ℕ)) (k : ℕ) (x : List ℕ) → k < length (line ∷ lines) → slice_index_or (line ∷ lines) k x ≡ x → Revokes x → Revokes line ⊎ Any Revokes lines
   at_place line lines zero x l e r = inl (subst Revokes (sym e) r)
@@ -32,7 +32,7 @@ module _ (key : List ℕ) where
   line_found (line ∷ lines) [] are has = absurd are
   line_found (line ∷ lines) (v ∷ keys) are has = elim (same v.items (bytes_eq v.items key) refl) [
     | inl is ↦ (0, line, omega arith, refl, subst (λ (k : List ℕ). RevokesKey line k) is are.0)
-    | inr other ↦ behind line lines (line_found lines keys are.1 (subst (λ (b : Bool). (b || has_key keys key) ≡ true) other has))
+    | inr other ↦ after line lines (line_found lines keys are.1 (subst (λ (b : Bool). (b || has_key keys key) ≡ true) other has))
   ]
 
   pub key_found : (lines : List (List ℕ)) (keys : List (Vec ℕ Global)) → AreOf lines keys → Any Revokes lines → has_key keys key ≡ true

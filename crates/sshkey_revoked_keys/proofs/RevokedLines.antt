@@ -13,13 +13,13 @@ use Rattle.sshkey_revoked_keys.proofs.NamedWords.{no_key, one_said}
 use Rattle.sshkey_revoked_keys.specs.NamedWords.{HasNamedFault, NeedsKey, SaysKey}
 use Rattle.sshkey_revoked_keys.specs.RevokedLines.{BeginsWithWord, HasLineFault, NeedsEntry, RevokesKey, is_certified_name}
 
-pub begins : (line name behind skipped field rest word : List ℕ) → CutsField line name behind → skipped ≡ without_blanks behind → CutsField skipped field rest → word ≡ strip_carriage_return field → BeginsWithWord line name word
-begins line name behind skipped field rest word first skips second is = record { field = field; rest = rest; fields = fields_are line name behind skipped field rest first skips second; word_is = is }
+pub begins : (line name after skipped field rest word : List ℕ) → CutsField line name after → skipped ≡ without_blanks after → CutsField skipped field rest → word ≡ strip_carriage_return field → BeginsWithWord line name word
+begins line name after skipped field rest word first skips second is = record { field = field; rest = rest; fields = fields_are line name after skipped field rest first skips second; word_is = is }
 
 -- A line begins with one name and one word.
 one_begin : (line n w m v : List ℕ) → BeginsWithWord line n w → BeginsWithWord line m v → (n ≡ m) × (w ≡ v)
 one_begin line n w m v a b =
-    let names = same_field n m a.fields.behind b.fields.behind a.fields.first.one_word b.fields.first.one_word a.fields.first.ends b.fields.first.ends (sym a.fields.first.is ∙ b.fields.first.is) in
+    let names = same_field n m a.fields.after b.fields.after a.fields.first.one_word b.fields.first.one_word a.fields.first.ends b.fields.first.ends (sym a.fields.first.is ∙ b.fields.first.is) in
     let words = same_field a.field b.field a.rest b.rest a.fields.second.one_word b.fields.second.one_word a.fields.second.ends b.fields.second.ends (sym a.fields.second.is ∙ ap without_blanks names.1 ∙ b.fields.second.is) in
     (names.0, a.word_is ∙ ap strip_carriage_return words.0 ∙ sym b.word_is)
 

@@ -30,11 +30,11 @@ pub(crate) fn read_lines(alloc: Global, text: &str) -> Result<Vec<Vec<u8>>>
     let mut keys = Vec::new(alloc);
     let mut rest = text;
     'lines: while !rest.is_empty() {
-        let (line, behind) = split_line(rest);
+        let (line, after) = split_line(rest);
         if is_filled(line) {
             keys.push(read_line(alloc, line)?)?;
         }
-        rest = behind;
+        rest = after;
     }
     Ok(keys)
 }
@@ -65,8 +65,8 @@ fn read_line(alloc: Global, line: &str) -> Result<Vec<u8>>
     ensures fault { RefusesFor HasLineFault line.now result }
     ensures asks { AsksEntry NeedsEntry line.now result }
 {
-    let (name, behind) = split_field(line);
-    let (word, _) = split_field(skip_blanks(behind));
+    let (name, after) = split_field(line);
+    let (word, _) = split_field(skip_blanks(after));
     let word = without_return(word);
     if word.is_empty() {
         return Err(Error::Encoding(encoding::Error::Length));

@@ -27,11 +27,11 @@ module _ {A : Type 0} (item : Format A) (laws : IsFormat item) where
   unfolding times_at
   times_lengths zero b m o = absurd o
   times_lengths (suc n) b m (inl o) = rw (laws.lengths b m o) refl
-  times_lengths (suc n) b m (inr o) = behind (λ rest. times_lengths n rest m) (item.delimited_at b) refl o
+  times_lengths (suc n) b m (inr o) = after (λ rest. times_lengths n rest m) (item.delimited_at b) refl o
     where
-      behind : ((rest : List ℕ) → OverrunsValues item n rest m → times_at item.read n rest ≡ Err Length) → (r : Result (A × List ℕ) Fault) → item.delimited_at b ≡ r → IsOkAnd r (λ x. OverrunsValues item n x.1 m) → (item.read b >>= λ x. times_at item.read n x.1 >>= before_others x.0) ≡ Err Length
-      behind met (Ok x) e o = rw (laws.grammar.same b x e, met x.1 o) refl
-      behind met (Err fault) e o = absurd o
+      after : ((rest : List ℕ) → OverrunsValues item n rest m → times_at item.read n rest ≡ Err Length) → (r : Result (A × List ℕ) Fault) → item.delimited_at b ≡ r → IsOkAnd r (λ x. OverrunsValues item n x.1 m) → (item.read b >>= λ x. times_at item.read n x.1 >>= before_others x.0) ≡ Err Length
+      after met (Ok x) e o = rw (laws.grammar.same b x e, met x.1 o) refl
+      after met (Err fault) e o = absurd o
 
   pub values_lengths : (n : ℕ) → AreLengths (values_at item.read n) (OverrunsCounted item n)
   unfolding values_at
@@ -66,11 +66,11 @@ module _ {A : Type 0} {S : A → List ℕ → Type 0} {read delimited_at : Front
   Times n b xs rest = (front : List ℕ) × (length xs ≡ n) × SpellsEach S delimited_at xs front × (b ≡ front ++ rest) × MayFollow (times_at delimited_at n) xs front rest
 
   -- a value, and those after it
-  one_more : (n : ℕ) (x : A) (xs : List A) (front behind rest : List ℕ) → MayFollow delimited_at x front (behind ++ rest) → MayFollow (times_at delimited_at n) xs behind rest → MayFollow delimited_at x front behind × MayFollow (times_at delimited_at (suc n)) (x ∷ xs) (front ++ behind) rest
+  one_more : (n : ℕ) (x : A) (xs : List A) (front after rest : List ℕ) → MayFollow delimited_at x front (after ++ rest) → MayFollow (times_at delimited_at n) xs after rest → MayFollow delimited_at x front after × MayFollow (times_at delimited_at (suc n)) (x ∷ xs) (front ++ after) rest
   unfolding times_at
-  one_more n x xs front behind rest (inl none) k = let both = none_in behind rest none in (inl both.0, inl both.1)
-  one_more n x xs front behind rest (inr h) (inl none) = (inr h, inl none)
-  one_more n x xs front behind rest (inr h) (inr k) = (inr h, inr (rw (g.before front x [] behind h, k) refl))
+  one_more n x xs front after rest (inl none) k = let both = none_in after rest none in (inl both.0, inl both.1)
+  one_more n x xs front after rest (inr h) (inl none) = (inr h, inl none)
+  one_more n x xs front after rest (inr h) (inr k) = (inr h, inr (rw (g.before front x [] after h, k) refl))
 
   times_takes : (n : ℕ) (b : List ℕ) (xs : List A) (rest : List ℕ) → times_at read n b ≡ Ok (xs, rest) → Times n b xs rest
   unfolding times_at
@@ -162,7 +162,7 @@ module _ {X A : Type 0} (means : X → A) (normal : X → Parts) (Is : X → Typ
           inner = (length xs, map means xs);
           spelled = record {
             front = flat (count (length xs));
-            behind = flat (each normal xs);
+            after = flat (each normal xs);
             first = first;
             second = record { number = len; each = each_normal xs is (fits_second (count (length xs)) (each normal xs) fits); bytes = each_shows xs };
             all = refl;

@@ -57,8 +57,8 @@ module _ {A : Type 0} (f : Format A) where
       go : (r : Result (A × List ℕ) Fault) → delimited_at b ≡ r → IsOk {T = List A × List ℕ} (r >>= λ y. times_at delimited_at k y.1 >>= λ ys. Ok (y.0 ∷ ys.0, ys.1)) → IsOk (times_at delimited_at k rest)
       go (Ok y) is ok =
           let same : y ≡ (x, rest) = ok_is y (x, rest) (sym (laws.grammar.same b y is) ∙ e) in
-          let behind : rest ≡ y.1 = sym (ap (λ (p : A × List ℕ). p.1) same) in
-          rw behind (step_ok (times_at delimited_at k y.1) _ ok)
+          let after : rest ≡ y.1 = sym (ap (λ (p : A × List ℕ). p.1) same) in
+          rw after (step_ok (times_at delimited_at k y.1) _ ok)
       go (Err fault) is ok = absurd cc
 
   -- what overruns does so after a value that was read

@@ -1,7 +1,7 @@
 -- Terms of lawful formats are lawful.
 use Rattle.std.proofs.Common.{◌≡◌, inl, inr, ℕ, List, Result, Ok, Err, refl, sym, ◌∙◌}
 use Rattle.std.specs.Prelude.{IsOkAnd}
-use Rattle.sshkey_model.specs.Reading.{Fault, Length, ◌>>=◌, Front, checked_at, literal_at, behind_at}
+use Rattle.sshkey_model.specs.Reading.{Fault, Length, ◌>>=◌, Front, checked_at, literal_at, after_at}
 use Rattle.sshkey_model.specs.Grammar.{IsGrammar, AllEnd}
 use Rattle.sshkey_model.proofs.CombinedReaders.{literal_reads}
 use Rattle.sshkey_model.proofs.Grammars.{grammar, same_grammar, all_end, by_itself, box_grammar, whole_spells, then_grammar, tested_grammar}
@@ -36,22 +36,22 @@ module _ {A B : Type 0} where
   abbrev second_of : (A × B) × List ℕ → Result (B × List ℕ) Fault
   second_of z = Ok (z.0.1, z.1)
 
-  pub called_chosen : (first : Front A) (second : A → Front B) → IsChosen (checked_at (λ (x : A × B). Ok x.1) (behind_at first second)) first second
-  unfolding behind_at
+  pub called_chosen : (first : Front A) (second : A → Front B) → IsChosen (checked_at (λ (x : A × B). Ok x.1) (after_at first second)) first second
+  unfolding after_at
   called_chosen first second = record { same = λ b. go (first b) }
     where
-      behind : (a : A) (r : Result (B × List ℕ) Fault) → ((r >>= with_first a) >>= second_of) ≡ r
-      behind a (Ok y) = refl
-      behind a (Err e) = refl
+      after : (a : A) (r : Result (B × List ℕ) Fault) → ((r >>= with_first a) >>= second_of) ≡ r
+      after a (Ok y) = refl
+      after a (Err e) = refl
 
       go : (r : Result (A × List ℕ) Fault) → ((r >>= λ x. second x.0 x.1 >>= with_first x.0) >>= second_of) ≡ (r >>= λ x. second x.0 x.1)
-      go (Ok x) = behind x.0 (second x.0 x.1)
+      go (Ok x) = after x.0 (second x.0 x.1)
       go (Err e) = refl
 
 module _ {A B : Type 0} (first : Format A) (second : A → Format B) where
   -- where both always do, it ends by itself
   pub called_ends : AllEnd first.read first.delimited_at → ((a : A) → AllEnd (second a).read (second a).delimited_at) → AllEnd (called first second).read (called first second).delimited_at
-  unfolding behind_at
+  unfolding after_at
   called_ends f g b = rw (f b) (go (first.read b))
     where
       go : (r : Result (A × List ℕ) Fault) → ((r >>= λ x. (second x.0).delimited_at x.1 >>= with_first x.0) >>= second_of) ≡ ((r >>= λ x. (second x.0).read x.1 >>= with_first x.0) >>= second_of)
@@ -70,8 +70,8 @@ module _ {A Z : Type 0} {record_at : Front Z} {read delimited_at : Front A} {nex
       go (Ok x) e o = rw (same b x e) (g x.0 x.1 m o)
       go (Err fault) e o = absurd o
 
-then_lengths : {A B : Type 0} {over : List ℕ → ℕ → Type 0} {read delimited_at : Front A} {overs : A → List ℕ → ℕ → Type 0} {next : A → Front B} → ((b : List ℕ) (x : A × List ℕ) → delimited_at b ≡ Ok x → read b ≡ Ok x) → AreLengths read over → ((a : A) → AreLengths (next a) (overs a)) → AreLengths (behind_at read next) (OverrunsThen over delimited_at overs)
-unfolding behind_at
+then_lengths : {A B : Type 0} {over : List ℕ → ℕ → Type 0} {read delimited_at : Front A} {overs : A → List ℕ → ℕ → Type 0} {next : A → Front B} → ((b : List ℕ) (x : A × List ℕ) → delimited_at b ≡ Ok x → read b ≡ Ok x) → AreLengths read over → ((a : A) → AreLengths (next a) (overs a)) → AreLengths (after_at read next) (OverrunsThen over delimited_at overs)
+unfolding after_at
 then_lengths {next = next} same f g = chosen_lengths {next = λ a b. next a b >>= with_first a} same (record { same = λ b. refl }) f (λ a b m o. rw (g a b m o) refl)
 
 -- ---- terms

@@ -9,7 +9,7 @@ pub mod Needless
 pub mod Walking
 pub mod Each
 pub mod Gathering
-pub mod Behind
+pub mod After
 mod Measured
 mod Filled
 mod Past

@@ -63,8 +63,8 @@ module _ {A : Type 0} {S : A → List ℕ → Type 0} {read delimited_at : Front
   over_read over (suc n) before (c ∷ b) m (inr o) = inr (go (delimited_at (c ∷ b)) refl o (λ x. over_read over n (Some x.0) x.1 m))
     where
       go : (r : Result (A × List ℕ) Fault) → delimited_at (c ∷ b) ≡ r → IsOkAnd r (λ x. OverrunsWithin (λ _. delimited_at) over n (Some x.0) x.1 m) → ((x : A × List ℕ) → OverrunsWithin (λ _. delimited_at) over n (Some x.0) x.1 m → OverrunsWithin (λ _. read) over n (Some x.0) x.1 m) → IsOkAnd (read (c ∷ b)) (λ x. OverrunsWithin (λ _. read) over n (Some x.0) x.1 m)
-      go (Ok x) e o behind = rw (g.same (c ∷ b) x e) (behind x o)
-      go (Err f) e o behind = absurd o
+      go (Ok x) e o after = rw (g.same (c ∷ b) x e) (after x o)
+      go (Err f) e o after = absurd o
 
   pub each_lengths : (over : List ℕ → ℕ → Type 0) → AreLengths read over → AreLengths (to_end (list_whole (λ _. read))) (OverrunsList (λ _. delimited_at) over)
   each_lengths over lengths b m o = to_end_lengths (λ _. lengths) b m (o.0, over_read over o.0 None b m o.1)

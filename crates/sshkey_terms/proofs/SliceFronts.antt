@@ -35,9 +35,9 @@ are_front : (a b : List ℕ) → are_bytes (a ++ b) ≡ true → are_bytes a ≡
 are_front [] b e = refl
 are_front (x ∷ a) b e = let p = and_parts (ltb x 256) (are_bytes (a ++ b)) e in rw (p.0, are_front a b p.1) refl
 
-are_behind : (a b : List ℕ) → are_bytes (a ++ b) ≡ true → are_bytes b ≡ true
-are_behind [] b e = e
-are_behind (x ∷ a) b e = are_behind a b (and_parts _ _ e).1
+are_after : (a b : List ℕ) → are_bytes (a ++ b) ≡ true → are_bytes b ≡ true
+are_after [] b e = e
+are_after (x ∷ a) b e = are_after a b (and_parts _ _ e).1
 
 pub too_few : (n : ℕ) (b : List ℕ) → length b < n → bytes_at n b ≡ Err Length
 unfolding bytes_at
@@ -72,16 +72,16 @@ pub box_string : {Y : Type 0} (read : Whole Y) (b : List ℕ) → are_bytes b �
 unfolding box_at
 box_string {Y} read b are = go (number_at w32 b) refl
   where
-    behind : (n : ℕ) (rest : List ℕ) → number_at w32 b ≡ Ok (n, rest) → are_bytes rest ≡ true
-    behind n rest e =
+    after : (n : ℕ) (rest : List ℕ) → number_at w32 b ≡ Ok (n, rest) → are_bytes rest ≡ true
+    after n rest e =
         let taken = (number_reads w32 wide32).takes b n rest e in
-        are_behind (flat (number w32 n)) rest (subst (λ (z : List ℕ). are_bytes z ≡ true) taken.2 are)
+        are_after (flat (number w32 n)) rest (subst (λ (z : List ℕ). are_bytes z ≡ true) taken.2 are)
 
     go : (found : Result (ℕ × List ℕ) Fault) → number_at w32 b ≡ found → box_at read b ≡ checked_at read string_at b
     go (Err f) e = rw (e, no_length b f e) refl
     go (Ok n) e = elim (cases_lt (length n.1) n.0) [
       | inl few ↦ rw (e, string_is b n.1 n.0 e, too_few n.0 n.1 few, lt-ltb (length n.1) n.0 few) refl
-      | inr enough ↦ rw (e, string_is b n.1 n.0 e, cut_off n.0 n.1 (behind n.0 n.1 e) enough, le-ltb (length n.1) n.0 enough) refl
+      | inr enough ↦ rw (e, string_is b n.1 n.0 e, cut_off n.0 n.1 (after n.0 n.1 e) enough, le-ltb (length n.1) n.0 enough) refl
     ]
 
 -- ---- what was cut off is judged

@@ -1,7 +1,7 @@
 -- How a term stops on any source.
 use Rattle.std.proofs.Common.{◌≡◌, ◌⊎◌, inl, inr, ℕ, List, IsOk, IsErrAnd, Result, Ok, Err, refl, sym, subst, ◌∙◌}
 use Rattle.std.specs.Prelude.{IsOkAnd}
-use Rattle.sshkey_model.specs.Reading.{Fault, Length, ◌>>=◌, Front, behind_at}
+use Rattle.sshkey_model.specs.Reading.{Fault, Length, ◌>>=◌, Front, after_at}
 use Rattle.sshkey_model.proofs.CombinedReaders.{ok_is}
 use Rattle.sshkey_base.specs.declared.encoding.Error as encoding
 use Rattle.sshkey_base.specs.declared.error.Error.{Error}
@@ -36,8 +36,8 @@ module _ {A : Type 0} (first : List ℕ → ℕ → Type 0) (over : List ℕ →
       go (inr o) = inr (more (h.takes (some_ok (λ x. overs x.0 x.1 s.missing) (delimited_at s.left) o)))
 
   module _ {B : Type 0} (next : A → Front B) where
-    pub stopped_first : (c : Cause) (s : Source) → Stopped c delimited_at first over s → Stopped c (behind_at delimited_at next) (NeedsThen first read needs) (OverrunsThen over delimited_at overs) s
-    unfolding behind_at
+    pub stopped_first : (c : Cause) (s : Source) → Stopped c delimited_at first over s → Stopped c (after_at delimited_at next) (NeedsThen first read needs) (OverrunsThen over delimited_at overs) s
+    unfolding after_at
     stopped_first = step_stopped (λ x. next x.0 x.1 >>= with_first x.0)
 
     -- the first was read
@@ -63,8 +63,8 @@ module _ {A : Type 0} (first : List ℕ → ℕ → Type 0) (over : List ℕ →
       ]
 
       -- the second is refused
-      pub stopped_later : Stopped c (next (means x)) (needs (means x)) (overs (means x)) t → Stopped c (behind_at delimited_at next) (NeedsThen first read needs) (OverrunsThen over delimited_at overs) s
-      unfolding behind_at
+      pub stopped_later : Stopped c (next (means x)) (needs (means x)) (overs (means x)) t → Stopped c (after_at delimited_at next) (NeedsThen first read needs) (OverrunsThen over delimited_at overs) s
+      unfolding after_at
       stopped_later h = record { takes = λ ok. took (delimited_at s.left) refl ok; past = later_past h.past }
         where
           took : (r : Result (A × List ℕ) Fault) → delimited_at s.left ≡ r → IsOk (r >>= λ y. next y.0 y.1 >>= with_first y.0) → RanOut c (NeedsThen first read needs) s

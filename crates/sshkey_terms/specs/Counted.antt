@@ -16,7 +16,7 @@ counted spell xs = count (length xs) & each spell xs
 -- The bytes spell the values, one after the other. Each that bytes follow ends by itself.
 abbrev pub SpellsEach : {A : Type 0} → (A → List ℕ → Type 0) → Front A → List A → List ℕ → Type 0
 SpellsEach Spells delimited_at [] b = b ≡ []
-SpellsEach Spells delimited_at (x ∷ xs) b = (front : List ℕ) × (behind : List ℕ) × Spells x front × SpellsEach Spells delimited_at xs behind × (b ≡ front ++ behind) × MayFollow delimited_at x front behind
+SpellsEach Spells delimited_at (x ∷ xs) b = (front : List ℕ) × (after : List ℕ) × Spells x front × SpellsEach Spells delimited_at xs after × (b ≡ front ++ after) × MayFollow delimited_at x front after
 
 -- `n` values, with at least a byte each.
 pub record SpellsValues {A : Type 0} (Spells : A → List ℕ → Type 0) (delimited_at : Front A) (n : ℕ) (xs : List A) (b : List ℕ) : Type 0 where

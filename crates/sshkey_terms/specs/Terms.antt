@@ -1,7 +1,7 @@
 -- The terms that formats are made of. A format is read aloud as it stands: `mpint_format then
 -- mpint_format` is two numbers, one after the other.
 use Rattle.std.specs.Prelude.{◌≡◌, ℕ, List, Result, Ok}
-use Rattle.sshkey_model.specs.Reading.{Fault, Front, whole, box_at, checked_at, literal_at, behind_at}
+use Rattle.sshkey_model.specs.Reading.{Fault, Front, whole, box_at, checked_at, literal_at, after_at}
 use Rattle.sshkey_model.specs.Grammar.{Spells, SpellsBoxed, SpellsThen, SpellsTested}
 use Rattle.sshkey_model.specs.Parts.{bytes}
 use Rattle.sshkey_base.specs.Formats.{Format}
@@ -13,8 +13,8 @@ use Rattle.sshkey_base.specs.Stops.{NoOverrun, OverrunsThen, OverrunsBoxed}
 abbrev pub dependent : {A B : Type 0} → Format A → (A → Format B) → Format (A × B)
 dependent first second = record {
   Spells = SpellsThen first.Spells first.delimited_at (λ a. (second a).Spells);
-  read = behind_at first.read (λ a. (second a).read);
-  delimited_at = behind_at first.delimited_at (λ a. (second a).delimited_at);
+  read = after_at first.read (λ a. (second a).read);
+  delimited_at = after_at first.delimited_at (λ a. (second a).delimited_at);
   needs = NeedsThen first.needs first.read (λ a. (second a).needs);
   overruns = OverrunsThen first.overruns first.delimited_at (λ a. (second a).overruns);
 }

@@ -16,7 +16,7 @@ use std::alloc::Global;
 #[derive(Drop)]
 pub struct Then<A, B>(pub A, pub B);
 
-#[tactic(auto, using(crate::proofs::Lawful::then_lawful, sshkey_base::proofs::Steps::steps, crate::proofs::Stopping::stopping), unfolding(sshkey_model::specs::Reading::behind_at))]
+#[tactic(auto, using(crate::proofs::Lawful::then_lawful, sshkey_base::proofs::Steps::steps, crate::proofs::Stopping::stopping), unfolding(sshkey_model::specs::Reading::after_at))]
 impl<A: Decode + Drop, B: Decode<Error = A::Error>> Decode for Then<A, B> {
     type Error = A::Error;
 
@@ -40,7 +40,7 @@ impl<A: Decode + Drop, B: Decode<Error = A::Error>> Decode for Then<A, B> {
     }
 }
 
-#[tactic(auto, using(crate::proofs::Lawful::then_lawful, sshkey_base::proofs::Steps::steps), unfolding(sshkey_model::specs::Reading::behind_at))]
+#[tactic(auto, using(crate::proofs::Lawful::then_lawful, sshkey_base::proofs::Steps::steps), unfolding(sshkey_model::specs::Reading::after_at))]
 impl<R: Reader, A: ReadFrom<R> + Drop, B: ReadFrom<R, Error = A::Error>> ReadFrom<R>
     for Then<A, B> {
     type Error = A::Error;

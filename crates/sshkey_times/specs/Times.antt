@@ -70,10 +70,10 @@ moment text = record {
 abbrev pub ahead : List ℕ → ℕ
 ahead zone = if length zone == 0 then 50400 else 0
 
--- and by which one is behind it at most: 12 hours, and one of summer. By that hour OpenSSH 10.6
+-- and by which one is after it at most: 12 hours, and one of summer. By that hour OpenSSH 10.6
 -- differs from those before it.
-abbrev pub behind : List ℕ → ℕ
-behind zone = if length zone == 0 then 46800 else 0
+abbrev pub after : List ℕ → ℕ
+after zone = if length zone == 0 then 46800 else 0
 
 -- None is named, or UTC is.
 abbrev pub IsZone : List ℕ → Type 0
@@ -95,7 +95,7 @@ pub record IsTimeText (text : List ℕ) (s : Span) : Type 0 where
   pub in_utc : IsZone (zone text)
   pub valid : IsMoment (moment (digits text))
   pub first : seconds_before (moment (digits text)) ≡ epoch + ahead (zone text) + s.first
-  pub last : seconds_before (moment (digits text)) + behind (zone text) ≡ epoch + s.last
+  pub last : seconds_before (moment (digits text)) + after (zone text) ≡ epoch + s.last
   pub later : 0 < s.first
 
 -- the one span that it is; or it is none

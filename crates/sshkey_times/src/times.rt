@@ -3,7 +3,7 @@
 ghost use Rattle.std.specs.Prelude.{◌≡◌, ◌+◌, ◌-◌, ◌*◌, ◌^◌, ◌<◌, ◌≤◌, ◌↔◌, IsTrue, slice_index};
 ghost use Rattle.std.specs.Char.{is_ascii_digit};
 ghost use Rattle.std.specs.List.{prefix_len};
-ghost use Rattle.sshkey_times.specs.Times.{IsMoment, IsZone, ReadsTime, ahead, behind, days_of_months, days_of_years, digits, is_leap, moment, month_days, seconds_before, two_digits, zone};
+ghost use Rattle.sshkey_times.specs.Times.{IsMoment, IsZone, ReadsTime, ahead, after, days_of_months, days_of_years, digits, is_leap, moment, month_days, seconds_before, two_digits, zone};
 
 const SECONDS_A_DAY: u64 = 86_400;
 
@@ -60,7 +60,7 @@ pub fn read_time(text: &str) -> Option<Span>
     }
     Some(Span {
         first: seconds - start,
-        last: seconds - epoch + behind(zone),
+        last: seconds - epoch + after(zone),
     })
 }
 
@@ -76,9 +76,9 @@ fn ahead(zone: &[u8]) -> u64
     }
 }
 
-/// How many seconds one is behind it at most.
-fn behind(zone: &[u8]) -> u64
-    ensures value { result ≡ behind zone.now }
+/// How many seconds one is after it at most.
+fn after(zone: &[u8]) -> u64
+    ensures value { result ≡ after zone.now }
     ensures short { result ≤ 46800 }
 {
     if zone.is_empty() {

@@ -26,8 +26,8 @@ module _ {Z : Type 0} where
 
   -- the line of the next principal after those so far
   pub principal_more : (ps : List (String Z)) (i : ℕ) (p : String Z) (text now : List ℕ) → i < length ps → p ≡ get_or ps i p → text ≡ principal_line (string_bytes p) ++ line_end → now ≡ shown (take i ps) ++ text → now ≡ shown (take (i + 1) ps)
-  principal_more ps i p text now below is line behind =
-      behind
+  principal_more ps i p text now below is line after =
+      after
       ∙ ap (λ (l : List ℕ). shown (take i ps) ++ l) line
       ∙ sym (shown_one_more (take i ps) p)
       ∙ ap (λ (q : String Z). shown (take i ps ++ q ∷ [])) is

@@ -21,7 +21,7 @@ use Rattle.sshkey_entries.proofs.AnswerLists.{answered_more}
 use Rattle.sshkey_tool.specs.EntryLines.{ShowsEntries, ShowsEntry, ShowsFirst}
 use Rattle.sshkey_tool.specs.Faults.{IsBegun, WritesWhole, WritesWithStatus}
 use Rattle.sshkey_tool.specs.Lines.{in_lines, line_end, refusal_line}
-use Rattle.sshkey_tool.specs.Outcomes.{PushesEntry, RefusesBehind, WritesEntry, WritesEntryOf, WritesEntries, WritesAllEntries, entries_status}
+use Rattle.sshkey_tool.specs.Outcomes.{PushesEntry, RefusesAfter, WritesEntry, WritesEntryOf, WritesEntries, WritesAllEntries, entries_status}
 use Rattle.sshkey_tool.specs.Table.{AreFirstLines, IsRefusalLine, ShowsFile, ShowsFileEntry, ShowsFileFirst}
 use Rattle.sshkey_tool.specs.declared.command.EntryFile.{EntryFile}
 use Rattle.sshkey_tool.specs.declared.command.EntryFile.TheVariants.{AuthorizedKeys, KnownHosts}
@@ -104,11 +104,11 @@ pub record WrittenSoFar (file : EntryFile) (text : List ℕ) (left : List (List 
   pub shows : ShowsFileFirst file text left shown refused
   pub front : List ℕ
   pub written : Appends old now front
-  pub behind : shown ≡ front ++ kept
+  pub after : shown ≡ front ++ kept
   pub is : status ≡ entries_status refused
 
 pub nothing_written : (file : EntryFile) (text : List ℕ) (old : Option (List ℕ)) → WrittenSoFar file text (entries text) old old [] 0
-nothing_written file text old = record { shown = []; refused = false; shows = nothing_yet file text; front = []; written = Appends-nil old; behind = refl; is = refl }
+nothing_written file text old = record { shown = []; refused = false; shows = nothing_yet file text; front = []; written = Appends-nil old; after = refl; is = refl }
 
 one_is : (refused : Bool) → 1 ≡ entries_status (refused || true)
 one_is true = refl
@@ -136,7 +136,7 @@ keeps_more file text left rest entry kept more also old now status after h next 
   shows = one_more file text left rest entry h.shown it.0 h.refused also h.shows next it.1;
   front = h.front;
   written = h.written;
-  behind = ap (λ (l : List ℕ). l ++ (it.0 ++ line_end)) h.behind ∙ append_assoc h.front kept (it.0 ++ line_end) ∙ ap (λ (l : List ℕ). h.front ++ l) (sym it.2);
+  after = ap (λ (l : List ℕ). l ++ (it.0 ++ line_end)) h.after ∙ append_assoc h.front kept (it.0 ++ line_end) ∙ ap (λ (l : List ℕ). h.front ++ l) (sym it.2);
   is = more_status h.refused also status after h.is said;
 }
 
@@ -148,13 +148,13 @@ writes_kept file text left kept old now new status h w = record {
   shows = h.shows;
   front = h.front ++ kept;
   written = Appends-trans old now new h.front kept h.written w;
-  behind = h.behind ∙ sym (append-nil (h.front ++ kept));
+  after = h.after ∙ sym (append-nil (h.front ++ kept));
   is = h.is;
 }
 
 -- all that is shown so far stands in the output
 so_far : (file : EntryFile) (text : List ℕ) (left : List (List ℕ)) (kept : List ℕ) (old now new : Option (List ℕ)) (status : ℕ) (h : WrittenSoFar file text left old now kept status) → Appends now new kept → Appends old new h.shown
-so_far file text left kept old now new status h w = subst (Appends old new) (sym h.behind) (Appends-trans old now new h.front kept h.written w)
+so_far file text left kept old now new status h w = subst (Appends old new) (sym h.after) (Appends-trans old now new h.front kept h.written w)
 
 written_all : (file : EntryFile) (text kept : List ℕ) (left : List (List ℕ)) (old now new : Option (List ℕ)) (status : ℕ) → WrittenSoFar file text left old now kept status → left ≡ [] → Appends now new kept → WritesAllEntries file text old new status
 written_all file text kept left old now new status h none w = record {
@@ -174,8 +174,8 @@ pub begun_line : (old new : Option (List ℕ)) (bytes line : List ℕ) (whole : 
 begun_line old new bytes line whole is same w = subst (IsBegun old new) same (rw is at w)
 
 -- a beginning of the second text, and so of both
-begun_behind : (old now new : Option (List ℕ)) (front kept : List ℕ) → Appends old now front → IsBegun now new kept → IsBegun old new (front ++ kept)
-begun_behind old now new front kept w begun = (
+begun_after : (old now new : Option (List ℕ)) (front kept : List ℕ) → Appends old now front → IsBegun now new kept → IsBegun old new (front ++ kept)
+begun_after old now new front kept w begun = (
   length front + begun.0,
   omega (arith, begun.1, length-append front kept),
   subst (Appends old new) (sym (take-append-add front kept begun.0)) (Appends-trans old now new front (take begun.0 kept) w begun.2),
@@ -255,7 +255,7 @@ cut_within KnownHosts text left old new shown refused h begun =
 -- a beginning of what is kept was written
 pub cut_lines : (file : EntryFile) (text : List ℕ) (left : List (List ℕ)) (kept : List ℕ) (old now new : Option (List ℕ)) (before status : ℕ) → WrittenSoFar file text left old now kept before → IsBegun now new kept → status ≡ 1 → WritesEntries file text old new status
 cut_lines file text left kept old now new before status h begun one =
-    let all = subst (IsBegun old new) (sym h.behind) (begun_behind old now new h.front kept h.written begun) in
+    let all = subst (IsBegun old new) (sym h.after) (begun_after old now new h.front kept h.written begun) in
     let it = cut_within file text left old new h.shown h.refused h.shows all in
     inr (record {
       shown = it.shown;
@@ -279,7 +279,7 @@ all_written file text kept left old now new before status h none w = elim w [
 first_lines : (file : EntryFile) (text : List ℕ) (left rest : List (List ℕ)) (entry shown : List ℕ) (refused : Bool) → left ≡ entry ∷ rest → ShowsFileFirst file text left shown refused → AreFirstLines file (entry ∷ rest) shown text
 first_lines file text left rest entry shown refused next h = (refused, subst (λ (l : List (List ℕ)). ShowsFileFirst file text l shown refused) next h)
 
-pub cut_entries : (file : EntryFile) (text kept : List ℕ) (left rest : List (List ℕ)) (entry : List ℕ) (old now new : Option (List ℕ)) (before status : ℕ) (e : Error) → WrittenSoFar file text left old now kept before → left ≡ entry ∷ rest → IsMachineFault e → RefusesBehind e now new kept status → WritesEntries file text old new status
+pub cut_entries : (file : EntryFile) (text kept : List ℕ) (left rest : List (List ℕ)) (entry : List ℕ) (old now new : Option (List ℕ)) (before status : ℕ) (e : Error) → WrittenSoFar file text left old now kept before → left ≡ entry ∷ rest → IsMachineFault e → RefusesAfter e now new kept status → WritesEntries file text old new status
 cut_entries file text kept left rest entry old now new before status e h next fault w = elim w [
   | inl begun ↦ cut_lines file text left kept old now new before status h begun.0 begun.1
   | inr said ↦ elim said.2 [

@@ -99,8 +99,8 @@ abbrev pub WritesRefusal : Error → Option (List ℕ) → Option (List ℕ) →
 WritesRefusal e old new status = ((IsMachineFault e → ⊥) × ((why : List ℕ) × HasNoLineEnd why × WritesWithStatus old new (answer_line (Refused why)) 1 status)) ⊎ WritesFault old new status
 
 -- The lines are written whole, and then a refusal; or a beginning of them with status 1.
-abbrev pub RefusesBehind : Error → Option (List ℕ) → Option (List ℕ) → List ℕ → ℕ → Type 0
-RefusesBehind e old new lines status =
+abbrev pub RefusesAfter : Error → Option (List ℕ) → Option (List ℕ) → List ℕ → ℕ → Type 0
+RefusesAfter e old new lines status =
     (IsBegun old new lines × (status ≡ 1)) ⊎ ((between : Option (List ℕ)) × Appends old between lines × WritesRefusal e between new status)
 
 -- What is shown is written with status 0, or why nothing is.

@@ -3,7 +3,7 @@
 ghost use Rattle.sshkey_entries.specs.AuthorizedKeys.{IsAuthorizedKey, authorized_text};
 ghost use Rattle.sshkey_entries.specs.KnownHosts.{IsKnownHost, known_text};
 ghost use Rattle.std.specs.Prelude.{string_bytes};
-ghost use Rattle.sshkey_tool.specs.Outcomes.{PushesEntry, PushesLine, RefusesBehind, RefusesEntry, WritesEntries, WritesEntry, WritesEntryOf};
+ghost use Rattle.sshkey_tool.specs.Outcomes.{PushesEntry, PushesLine, RefusesAfter, RefusesEntry, WritesEntries, WritesEntry, WritesEntryOf};
 
 use crate::command::EntryFile;
 use crate::output::{is_written, write_line};
@@ -88,8 +88,8 @@ fn push_entry(
 }
 
 /// Writes the lines that were made before the machine failed, and the line that says why.
-fn refuse_behind<W: Write>(alloc: Global, lines: &str, error: &Error, output: &mut W) -> u8
-    ensures { RefusesBehind error.now
+fn refuse_after<W: Write>(alloc: Global, lines: &str, error: &Error, output: &mut W) -> u8
+    ensures { RefusesAfter error.now
         (W.contents output.old) (W.contents output.new) lines.now result }
 {
     if is_written(output, lines.as_bytes()) {
@@ -117,7 +117,7 @@ pub(crate) fn write_entries<W: Write>(
     for entry in EntryTexts::new(text) {
         let refused = match push_entry(alloc, file, entry, &mut lines) {
             Ok(refused) => refused,
-            Err(error) => return refuse_behind(alloc, &lines, &error, output),
+            Err(error) => return refuse_after(alloc, &lines, &error, output),
         };
         if refused {
             status = 1;

@@ -1,6 +1,6 @@
 -- A value, and what it calls for, in two calls that take no memory.
 use Rattle.std.proofs.Common.{ℕ, List, Result, Ok, Err, ◌∙◌}
-use Rattle.sshkey_model.specs.Reading.{Front, checked_at, behind_at}
+use Rattle.sshkey_model.specs.Reading.{Front, checked_at, after_at}
 use Rattle.sshkey_base.specs.Causes.{Cause}
 use Rattle.sshkey_base.specs.Reading.{Reads, Refuses, GivesAlways}
 use Rattle.sshkey_base.specs.Source.{Source}
@@ -9,7 +9,7 @@ use Rattle.sshkey_terms.proofs.Lawful.{called_chosen}
 
 module _ {A B : Type 0} (first : Front A) (second : A → Front B) where
   abbrev pub call_at : Front B
-  call_at = checked_at (λ (x : A × B). Ok x.1) (behind_at first second)
+  call_at = checked_at (λ (x : A × B). Ok x.1) (after_at first second)
 
   -- the first value is refused
   pub call_refused : (m : ℕ) (c : Cause) (b : List ℕ) → Refuses m c (first b) → Refuses m c (call_at b)

@@ -5,7 +5,7 @@ use Rattle.std.proofs.lemmas.Slice.Eq.{bytes_eq-Decides}
 use Rattle.sshkey_model.specs.Parts.{Any, Parts, bytes, ◌&◌, flat, Fits, InRange, BoxesFit}
 use Rattle.sshkey_model.specs.Texts.{string}
 use Rattle.sshkey_model.specs.Grammar.{IsGrammar, AllEnd}
-use Rattle.sshkey_model.specs.Reading.{Fault, ◌>>=◌, Label, behind_at}
+use Rattle.sshkey_model.specs.Reading.{Fault, ◌>>=◌, Label, after_at}
 use Rattle.sshkey_model.proofs.LawfulReaders.{ok_is}
 use Rattle.sshkey_model.proofs.Grammars.{all_end, ends}
 use Rattle.sshkey_model.proofs.Trees.{IsTree, Alike, alike, leaf_tree, then_tree, dependent_tree, tested_tree, made_tree}
@@ -72,11 +72,11 @@ credential_tree : (m : Method) → IsTree (credential_format m).Spells (IsFor m)
 credential_tree Publickey = plain_tree
 credential_tree Hostbound = bound_tree
 
-behind_service : Credential → Parts
-behind_service c = string (method_name (method_of c.host_key)) & after_method c
+after_service : Credential → Parts
+after_service c = string (method_name (method_of c.host_key)) & after_method c
 
-called_tree : IsTree method_and_credential.Spells (λ (x : Credential × Unit {0}). Unit {0}) (λ x. behind_service x.0)
-unfolding behind_service IsFor
+called_tree : IsTree method_and_credential.Spells (λ (x : Credential × Unit {0}). Unit {0}) (λ x. after_service x.0)
+unfolding after_service IsFor
 called_tree = made_tree
     (dependent_tree {First = method_format.Spells} {delimited_at = method_format.delimited_at} (ends method_lawful.grammar (λ _. refl)) method_tree credential_tree)
     (λ x. x.1)
@@ -101,20 +101,20 @@ four p q r s t = record {
 }
 
 pub userauth_tree : IsTree userauth_format.Spells (λ (x : UserauthRequest × Unit {0}). Any x.0) (λ x. userauth_request x.0)
-unfolding behind_service after_method
+unfolding after_service after_method
 userauth_tree = made_tree
     (then_tree {First = opening_format.Spells} {delimited_at = opening_format.delimited_at} (ends opening_lawful.grammar (λ _. refl)) opening_tree called_tree)
     request_with
     (λ x is. (
       tt,
       tt,
-      subst (λ (b : List ℕ). Alike ((string x.0.0.0 & bytes x.0.0.1.0 & string x.0.0.1.1.0 & string x.0.0.1.1.1) & behind_service x.0.1) (string x.0.0.0 & bytes b & string x.0.0.1.1.0 & string x.0.0.1.1.1 & behind_service x.0.1)) is.0.1.0 (four (string x.0.0.0) (bytes x.0.0.1.0) (string x.0.0.1.1.0) (string x.0.0.1.1.1) (behind_service x.0.1)),
+      subst (λ (b : List ℕ). Alike ((string x.0.0.0 & bytes x.0.0.1.0 & string x.0.0.1.1.0 & string x.0.0.1.1.1) & after_service x.0.1) (string x.0.0.0 & bytes b & string x.0.0.1.1.0 & string x.0.0.1.1.1 & after_service x.0.1)) is.0.1.0 (four (string x.0.0.0) (bytes x.0.0.1.0) (string x.0.0.1.1.0) (string x.0.0.1.1.1) (after_service x.0.1)),
     ))
     (λ y is. (
       (((y.0.session_id, (message_number, (y.0.user, y.0.service))), record { algorithm = y.0.algorithm; public_key = y.0.public_key; host_key = y.0.host_key }), ((tt, (tt, (tt, tt))), tt)),
       ((tt, (refl, (tt, tt))), tt),
       refl,
-      four (string y.0.session_id) (bytes message_number) (string y.0.user) (string y.0.service) (behind_service (record { algorithm = y.0.algorithm; public_key = y.0.public_key; host_key = y.0.host_key })),
+      four (string y.0.session_id) (bytes message_number) (string y.0.user) (string y.0.service) (after_service (record { algorithm = y.0.algorithm; public_key = y.0.public_key; host_key = y.0.host_key })),
     ))
 
 -- ---- all of it ends by itself
@@ -124,7 +124,7 @@ credential_ends Publickey b = refl
 credential_ends Hostbound b = refl
 
 userauth_ends : AllEnd userauth_format.read userauth_format.delimited_at
-unfolding behind_at
+unfolding after_at
 userauth_ends b = go (opening_format.read b)
   where
     made : (Opening × Credential) × List ℕ → Result (UserauthRequest × List ℕ) Fault

@@ -24,13 +24,13 @@ publickey = hex "00000009 7075626c69636b6579"
 abbrev pub hostbound : List ℕ
 hostbound = hex "00000023 7075626c69636b65792d686f7374626f756e642d763030406f70656e7373682e636f6d"
 
-abbrev pub behind : List ℕ
-behind = hex "01 00000001 61 00000001 01"
+abbrev pub after : List ℕ
+after = hex "01 00000001 61 00000001 01"
 
 abbrev pub Methods : Type 0
-Methods = (flat (userauth_request (request None)) ≡ front ++ publickey ++ behind)
-    × (flat (userauth_request (request (Some (hex "02")))) ≡ front ++ hostbound ++ behind ++ hex "00000001 02")
-    × (flat (userauth_request (request (Some []))) ≡ front ++ hostbound ++ behind ++ hex "00000000")
+Methods = (flat (userauth_request (request None)) ≡ front ++ publickey ++ after)
+    × (flat (userauth_request (request (Some (hex "02")))) ≡ front ++ hostbound ++ after ++ hex "00000001 02")
+    × (flat (userauth_request (request (Some []))) ≡ front ++ hostbound ++ after ++ hex "00000000")
 
 -- ---- names
 

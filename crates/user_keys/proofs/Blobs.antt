@@ -34,8 +34,8 @@ abbrev HasPart : List ℕ → List ℕ → Type 0
 HasPart part text = (front : List ℕ) × (back : List ℕ) × (text ≡ front ++ (part ++ back))
 
 module _ (part : List ℕ) where
-  behind : (p q : List ℕ) → HasPart part q → HasPart part (p ++ q)
-  behind p q h = (p ++ h.0, h.1, ap (λ (t : List ℕ). p ++ t) h.2 ∙ sym (append_assoc p h.0 (part ++ h.1)))
+  after : (p q : List ℕ) → HasPart part q → HasPart part (p ++ q)
+  after p q h = (p ++ h.0, h.1, ap (λ (t : List ℕ). p ++ t) h.2 ∙ sym (append_assoc p h.0 (part ++ h.1)))
 
   before : (p q : List ℕ) → HasPart part p → HasPart part (p ++ q)
   before p q h = (h.0, h.1 ++ q, ap (λ (t : List ℕ). t ++ q) h.2 ∙ append_assoc h.0 (part ++ h.1) q ∙ ap (λ (t : List ℕ). h.0 ++ t) (append_assoc part h.1 q))
@@ -48,7 +48,7 @@ in_string b = (to_be_bytes w32 (length b), [], ap (λ (t : List ℕ). to_be_byte
 
 later : (part : List ℕ) (p q : Parts) → HasPart part (flat q) → HasPart part (flat (p & q))
 unfolding flat
-later part p q h = behind part (flat p) (flat q) h
+later part p q h = after part (flat p) (flat q) h
 
 earlier : (part : List ℕ) (p q : Parts) → HasPart part (flat p) → HasPart part (flat (p & q))
 unfolding flat
@@ -165,7 +165,7 @@ module _ (part : List ℕ) (long : 17 ≤ length part) where
   ]
     where
       within : (w : List ℕ) → HasPart w (encode_of standard blob) → HasPart w text
-      within w x = subst (HasPart w) (sym has.2) (behind w has.0 (encode_of standard blob ++ has.1) (before w (encode_of standard blob) has.1 x))
+      within w x = subst (HasPart w) (sym has.2) (after w has.0 (encode_of standard blob ++ has.1) (before w (encode_of standard blob) has.1 x))
 
       one : (n : ℕ) → n ≤ 2 → (length h.0 + (length part - 15)) % 3 ≡ n → StandIn (mark part n) text
       one n few third = stands (mark part n) text (plain_word _) (some_symbols n few) (within (mark part n) (subst (λ (b : List ℕ). HasPart (mark part n) (encode_of standard b)) (sym h.2) (marked part long h.0 h.1 n few third)))
@@ -181,20 +181,20 @@ front_of is (c ∷ text) = go (is c) refl (front_of is text)
     go true e more = (c ∷ more.0, ap (λ (t : List ℕ). c ∷ t) more.1 ∙ ap (λ (t : List ℕ). c ∷ (more.0 ++ t)) (sym (skipped is c text e)))
     go false e more = ([], sym (stays is c text e))
 
-has_behind : (word text : List ℕ) → HasPart word (without_blanks text) → HasPart word text
-has_behind word text h = let front = front_of is_blank text in subst (HasPart word) (sym front.1) (behind word front.0 (without_blanks text) h)
+has_after : (word text : List ℕ) → HasPart word (without_blanks text) → HasPart word text
+has_after word text h = let front = front_of is_blank text in subst (HasPart word) (sym front.1) (after word front.0 (without_blanks text) h)
 
 fields_have : (text : List ℕ) (k : Key) (comment : List ℕ) (f : AreKeyFields text k comment) → HasPart (encode_of standard f.blob) text
-fields_have text k comment f = subst (HasPart (encode_of standard f.blob)) (sym f.is) (behind (encode_of standard f.blob) (key_name k) f.behind_name (has_behind (encode_of standard f.blob) f.behind_name ([], f.behind_key, f.word)))
+fields_have text k comment f = subst (HasPart (encode_of standard f.blob)) (sym f.is) (after (encode_of standard f.blob) (key_name k) f.after_name (has_after (encode_of standard f.blob) f.after_name ([], f.after_key, f.word)))
 
 fields_spell : (text : List ℕ) (k : Key) (comment : List ℕ) → AreKeyFields text k comment → 17 ≤ length (own_part k) → (line : List ℕ) → ((word : List ℕ) → HasPart word text → HasPart word line) → MaySpell (own_part k) line
 fields_spell text k comment f long line lies = marks (own_part k) long line f.blob (blob_has k f.blob f.spelled) (lies (encode_of standard f.blob) (fields_have text k comment f))
 
 pub entry_spells : (line : List ℕ) (a : AuthorizedKey) → IsAuthorizedLine line a → 17 ≤ length (own_part a.key) → MaySpell (own_part a.key) line
 entry_spells line a read long = elim read.is [
-  | inl alone ↦ fields_spell (without_blanks line) a.key a.comment alone.fields long line (λ word. has_behind word line)
+  | inl alone ↦ fields_spell (without_blanks line) a.key a.comment alone.fields long line (λ word. has_after word line)
   | inr options ↦ fields_spell (without_blanks options.rest) a.key a.comment options.fields long line
-      (λ word h. has_behind word line (subst (HasPart word) (sym options.is) (behind word a.options options.rest (has_behind word options.rest h))))
+      (λ word h. has_after word line (subst (HasPart word) (sym options.is) (after word a.options options.rest (has_after word options.rest h))))
 ]
 
 -- ---- up to a place
@@ -286,8 +286,8 @@ on_front : (front symbols text : List ℕ) → StandIn symbols text → StandIn 
 on_front [] symbols text x = x
 on_front (c ∷ front) symbols text x = one_on c symbols (front ++ text) (on_front front symbols text x)
 
-pub words_marked : (part blob before behind front word back : List ℕ) → 17 ≤ length part → blob ≡ before ++ (part ++ behind) → dark word ≡ encode_of standard blob → MaySpell part (front ++ (word ++ back))
-words_marked part blob before behind front word back long is dark_is = elim (thirds (length before + (length part - 15))) [
+pub words_marked : (part blob before after front word back : List ℕ) → 17 ≤ length part → blob ≡ before ++ (part ++ after) → dark word ≡ encode_of standard blob → MaySpell part (front ++ (word ++ back))
+words_marked part blob before after front word back long is dark_is = elim (thirds (length before + (length part - 15))) [
   | inl none ↦ inr (inr (one 0 (omega arith) none))
   | inr (inl one_more) ↦ inr (inl (one 1 (omega arith) one_more))
   | inr (inr two) ↦ inl (one 2 (omega arith) two)
@@ -295,6 +295,6 @@ words_marked part blob before behind front word back long is dark_is = elim (thi
   where
     one : (n : ℕ) → n ≤ 2 → (length before + (length part - 15)) % 3 ≡ n → StandIn (mark part n) (front ++ (word ++ back))
     one n few third =
-        let m = marked part long before behind n few third in
+        let m = marked part long before after n few third in
         let e : dark word ≡ m.0 ++ (mark part n ++ m.1) = dark_is ∙ ap (encode_of standard) is ∙ m.2 in
         on_front front (mark part n) (word ++ back) (stands_with (mark part n) word back (stand_dark word m.0 (mark part n) m.1 (some_symbols part long n few) e))

@@ -19,7 +19,7 @@ use Rattle.sshkey_entries.proofs.TextLines.{more_lines}
 use Rattle.sshkey_entries.specs.Fields.{without_blanks}
 use Rattle.sshkey_entries.specs.OptionEnds.{is_blank}
 use Rattle.user_keys.proofs.ListedNames.{none_there}
-use Rattle.user_keys.specs.Principals.{AreFrontOptions, AreOptionsIn, HasOptions, SplitsAt, SplitsLine, behind_last, entry_in, is_feed, is_space, is_tab, last_word, lines_at_feeds, name_in, trimmed}
+use Rattle.user_keys.specs.Principals.{AreFrontOptions, AreOptionsIn, HasOptions, SplitsAt, SplitsLine, after_last, entry_in, is_feed, is_space, is_tab, last_word, lines_at_feeds, name_in, trimmed}
 
 -- ---- lines
 
@@ -89,7 +89,7 @@ pub empty_kept : (text : List ℕ) → length text ≡ 0 → trimmed text ≡ te
 empty_kept [] none = ap reverse (nothing_stays is_blank)
 empty_kept (c ∷ text) none = absurd (omega (arith, none))
 
--- ---- behind the last
+-- ---- after the last
 
 or_more : (b : Bool) → (b || true) ≡ true
 or_more true = refl
@@ -100,27 +100,27 @@ module _ (is : ℕ → Bool) where
   some_in [] more c e = ap (λ (b : Bool). b || list_any is more) e
   some_in (d ∷ front) more c e = ap (λ (b : Bool). is d || b) (some_in front more c e) ∙ or_more (is d)
 
-  on : (c : ℕ) (text : List ℕ) → list_any is (c ∷ text) ≡ true → behind_last is (c ∷ text) ≡ behind_last is text
-  unfolding behind_last
-  on c text e = ap (λ (b : Bool). cond b (behind_last is text) (c ∷ text)) e
+  on : (c : ℕ) (text : List ℕ) → list_any is (c ∷ text) ≡ true → after_last is (c ∷ text) ≡ after_last is text
+  unfolding after_last
+  on c text e = ap (λ (b : Bool). cond b (after_last is text) (c ∷ text)) e
 
-  pub behind_none : (text : List ℕ) → list_any is text ≡ false → behind_last is text ≡ text
-  unfolding behind_last
-  behind_none [] e = refl
-  behind_none (c ∷ text) e = ap (λ (b : Bool). cond b (behind_last is text) (c ∷ text)) e
+  pub after_none : (text : List ℕ) → list_any is text ≡ false → after_last is text ≡ text
+  unfolding after_last
+  after_none [] e = refl
+  after_none (c ∷ text) e = ap (λ (b : Bool). cond b (after_last is text) (c ∷ text)) e
 
-  pub behind_one : (front more : List ℕ) (c : ℕ) → is c ≡ true → behind_last is (front ++ (c ∷ more)) ≡ behind_last is more
-  behind_one [] more c e = on c more (some_in [] more c e)
-  behind_one (d ∷ front) more c e = on d (front ++ (c ∷ more)) (some_in (d ∷ front) more c e) ∙ behind_one front more c e
+  pub after_one : (front more : List ℕ) (c : ℕ) → is c ≡ true → after_last is (front ++ (c ∷ more)) ≡ after_last is more
+  after_one [] more c e = on c more (some_in [] more c e)
+  after_one (d ∷ front) more c e = on d (front ++ (c ∷ more)) (some_in (d ∷ front) more c e) ∙ after_one front more c e
 
 same_divider : (c : ℕ) → (c == c) ≡ true
 same_divider c = grind arith
 
-pub some_divider : (c : ℕ) (text : List ℕ) (front rest : Bor (List ℕ)) → SplitsAt c text (Some (front, rest)) → (list_any (λ x. x == c) text ≡ true) × (behind_last (λ x. x == c) text ≡ behind_last (λ x. x == c) rest.now) × (length rest.now < length text)
+pub some_divider : (c : ℕ) (text : List ℕ) (front rest : Bor (List ℕ)) → SplitsAt c text (Some (front, rest)) → (list_any (λ x. x == c) text ≡ true) × (after_last (λ x. x == c) text ≡ after_last (λ x. x == c) rest.now) × (length rest.now < length text)
 some_divider c text front rest cut =
     let is = cut.0 in (
       ap (λ (t : List ℕ). list_any (λ x. x == c) t) is ∙ some_in (λ x. x == c) front.now rest.now c (same_divider c),
-      ap (λ (t : List ℕ). behind_last (λ x. x == c) t) is ∙ behind_one (λ x. x == c) front.now rest.now c (same_divider c),
+      ap (λ (t : List ℕ). after_last (λ x. x == c) t) is ∙ after_one (λ x. x == c) front.now rest.now c (same_divider c),
       omega (arith, ap length is, length-append front.now (c ∷ rest.now)),
     )
 
@@ -128,7 +128,7 @@ pub no_divider : (c : ℕ) (text : List ℕ) → SplitsAt c text None → list_a
 no_divider c text none = list_any_none (λ x. x == c) text (All-from_get_or (λ x. (x == c) ≡ false) text 0 (λ k l. ne_eqb _ c (none k l)))
 
 pub one_word : (text : List ℕ) → list_any is_space text ≡ false → list_any is_tab text ≡ false → last_word text ≡ text
-one_word text s t = ap (λ (b : Bool). cond b (without_blanks (behind_last is_space text)) (behind_last is_tab text)) s ∙ behind_none is_tab text t
+one_word text s t = ap (λ (b : Bool). cond b (without_blanks (after_last is_space text)) (after_last is_tab text)) s ∙ after_none is_tab text t
 
 -- ---- the options
 

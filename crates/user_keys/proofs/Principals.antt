@@ -71,7 +71,7 @@ module _ (c : Certificate) (name : List ℕ) where
       (λ d. (options, are, subst (λ (n : List ℕ). MayDecideBy c n options) is d))
       (λ d. subst (λ (n : List ℕ). MayDecideBy c n options) (sym is) (subst (λ (o : Option (List ℕ)). MayDecideBy c (name_in line) o) (one_options line d.0 options d.1 are) d.2))
 
--- what is left behind the first line
+-- what is left after the first line
 pub first_of : (text line : List ℕ) (r : Option (Bor (List ℕ))) → SplitsLine text line r → (more : List (List ℕ)) × (lines_at_feeds text ≡ line ∷ more)
 first_of text line None is = ([], is)
 first_of text line (Some rest) is = (lines_at_feeds rest.now, is.0)

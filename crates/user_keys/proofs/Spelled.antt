@@ -16,14 +16,14 @@ module _ (symbols : List ℕ) (i symbol : ℕ) (less : i < length symbols) (here
   pub one_before : (rest : List ℕ) → without_front is_white text ≡ symbol ∷ rest → Follow (drop (i + 1) symbols) rest → Follow (drop i symbols) text
   one_before rest is more = subst (λ (l : List ℕ). Follow l text) (sym left) (rest, is, more)
 
-  pub one_behind : (rest : List ℕ) → without_front is_white text ≡ symbol ∷ rest → Follow (drop i symbols) text → Follow (drop (i + 1) symbols) rest
-  one_behind rest is all =
+  pub one_after : (rest : List ℕ) → without_front is_white text ≡ symbol ∷ rest → Follow (drop i symbols) text → Follow (drop (i + 1) symbols) rest
+  one_after rest is all =
       let f = subst (λ (l : List ℕ). Follow l text) left all in
       let same : symbol ∷ f.0 ≡ symbol ∷ rest = sym f.1 ∙ is in
       subst (Follow (drop (i + 1) symbols)) (ap (drop 1) same) f.2
 
-  pub none_behind : ((rest : List ℕ) → without_front is_white text ≡ symbol ∷ rest → ⊥) → Follow (drop i symbols) text → ⊥
-  none_behind none all = let f = subst (λ (l : List ℕ). Follow l text) left all in none f.0 f.1
+  pub none_after : ((rest : List ℕ) → without_front is_white text ≡ symbol ∷ rest → ⊥) → Follow (drop i symbols) text → ⊥
+  none_after none all = let f = subst (λ (l : List ℕ). Follow l text) left all in none f.0 f.1
 
 pub none_left : (symbols : List ℕ) (i : ℕ) (text : List ℕ) → length symbols ≤ i → Follow (drop i symbols) text
 none_left symbols i text end = subst (λ (l : List ℕ). Follow l text) (sym (drop_all i symbols end)) tt

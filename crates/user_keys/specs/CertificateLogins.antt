@@ -110,7 +110,7 @@ abbrev pub RefusesByPolicy : policy.Login → Refusal → Type 0
 RefusesByPolicy p r = (e : policies.Refusal) × RefusesLogin p e × (r ≡ refusal.Certificate e)
 
 -- A line lets the certificate in, and the policy refuses it for that.
-pub record IsRefusedBehind (IsLine : ℕ → Terms → List ℕ → Type 0) (authorities : List Fingerprint) (l : CertificateLogin) (r : Refusal) : Type 0 where
+pub record IsRefusedAfter (IsLine : ℕ → Terms → List ℕ → Type 0) (authorities : List Fingerprint) (l : CertificateLogin) (r : Refusal) : Type 0 where
   pub number : ℕ
   pub terms : Terms
   pub name : List ℕ
@@ -120,7 +120,7 @@ pub record IsRefusedBehind (IsLine : ℕ → Terms → List ℕ → Type 0) (aut
 -- No such certificate is read; or one is, and no line lets it in for that, or the policy refuses.
 abbrev pub IsWhyRefusedBy : (Certificate → Refusal → Type 0) → (Certificate → ℕ → Terms → List ℕ → Type 0) → (Certificate → List Fingerprint) → CertificateLogin → Refusal → Type 0
 IsWhyRefusedBy IsWhyNone IsLine authorities l r = IsWhyUnread l.blob r
-    ⊎ ((c : Certificate) × SpellsCertificate c l.blob × IsTrue (is_let_in 0 c.signed.signature_key) × (IsWhyNone c r ⊎ IsRefusedBehind (IsLine c) (authorities c) l r))
+    ⊎ ((c : Certificate) × SpellsCertificate c l.blob × IsTrue (is_let_in 0 c.signed.signature_key) × (IsWhyNone c r ⊎ IsRefusedAfter (IsLine c) (authorities c) l r))
 
 -- The bytes need memory to be read; or one of the lines may need some.
 abbrev pub NeedsMemoryBy : (Certificate → List ℕ → Type 0) → CertificateLogin → Type 0

@@ -32,7 +32,7 @@ Together = (joined Yes false Yes ≡ judgement.Allows)
 abbrev part : List ℕ
 part = hex "b33eaef37ea2df7caa010defdea34e241f65f1b529a4f43ed14327f5c54aab62"
 
--- One of its marks stands in its Base64 behind the name `ssh-ed25519`, and another behind the short
+-- One of its marks stands in its Base64 after the name `ssh-ed25519`, and another after the short
 -- name `ED25519`.
 abbrev pub Marks : Type 0
 Marks = (codes "AAAAC3NzaC1lZDI1NTE5AAAAILM+rvN+ot98qgEN796jTiQfZfG1KaT0PtFDJ/XFSqti" ≡ codes "AAAAC3NzaC1lZDI1NTE5AAAAILM+rvN+ot98qgEN796jTiQf" ++ mark part 0)
@@ -56,7 +56,7 @@ Merged = (judged_by (agree (Some (codes "ls")) (Some (codes "ls -l"))) true judg
     × (judged_by false false (judgement.Refuses reason.Expired) ≡ judgement.Refuses reason.Expired)
     × (both_permit all_permitted (record { name = codes "permit-pty"; value = [] } ∷ []) ≡ record none_permitted { pty = true; tunnels = true })
 
--- A name stands behind the last space, or else behind the last tab; a `#` ends its line, also one
+-- A name stands after the last space, or else after the last tab; a `#` ends its line, also one
 -- within quotes; and a carriage return belongs to it.
 abbrev pub Names : Type 0
 Names = (name_in (codes "restrict,pty alice  # the owner") ≡ codes "alice")

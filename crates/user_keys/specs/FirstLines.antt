@@ -4,7 +4,7 @@ use Rattle.std.specs.Prelude.{◌≡◌, ◌⊎◌, ◌+◌, ℕ, List, ◌∷�
 use Rattle.std.specs.List.{Any}
 use Rattle.login_terms.specs.Terms.{Terms}
 
--- It lets in or may do so: no line behind such a one is asked.
+-- It lets in or may do so: no line after such a one is asked.
 abbrev pub EndsBy : (List ℕ → Terms → Type 0) → (List ℕ → Type 0) → List ℕ → Type 0
 EndsBy Lets MayLet line = ((t : Terms) × Lets line t) ⊎ MayLet line
 

@@ -5,6 +5,6 @@ use Rattle.base64.specs.GeneralPurpose.{encode_of}
 use Rattle.user_keys.specs.Spellings.{MaySpell, is_white}
 
 -- A word of a line is, white space within aside, the Base64 of bytes in which a key's own part
--- stands, whatever stands before and behind it. Then the key may be spelled in the line.
+-- stands, whatever stands before and after it. Then the key may be spelled in the line.
 abbrev pub WordsAreMarked : Type 0
-WordsAreMarked = (part blob before behind front word back : List ℕ) → 17 ≤ length part → blob ≡ before ++ (part ++ behind) → filter (λ c. not (is_white c)) word ≡ encode_of standard blob → MaySpell part (front ++ (word ++ back))
+WordsAreMarked = (part blob before after front word back : List ℕ) → 17 ≤ length part → blob ≡ before ++ (part ++ after) → filter (λ c. not (is_white c)) word ≡ encode_of standard blob → MaySpell part (front ++ (word ++ back))

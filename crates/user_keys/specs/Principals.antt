@@ -31,10 +31,10 @@ trimmed text = reverse (without_blanks (reverse text))
 
 -- ---- the name
 
--- what stands behind the last character that passes the test, or all
-unfoldable pub behind_last : (ℕ → Bool) → List ℕ → List ℕ
-behind_last is [] = []
-behind_last is (c ∷ text) = if list_any is (c ∷ text) then behind_last is text else c ∷ text
+-- what stands after the last character that passes the test, or all
+unfoldable pub after_last : (ℕ → Bool) → List ℕ → List ℕ
+after_last is [] = []
+after_last is (c ∷ text) = if list_any is (c ∷ text) then after_last is text else c ∷ text
 
 abbrev pub is_space : ℕ → Bool
 is_space c = c == 0x20
@@ -42,9 +42,9 @@ is_space c = c == 0x20
 abbrev pub is_tab : ℕ → Bool
 is_tab c = c == 0x09
 
--- behind the last space, or else behind the last tab
+-- after the last space, or else after the last tab
 abbrev pub last_word : List ℕ → List ℕ
-last_word text = if list_any is_space text then without_blanks (behind_last is_space text) else behind_last is_tab text
+last_word text = if list_any is_space text then without_blanks (after_last is_space text) else after_last is_tab text
 
 abbrev pub name_in : List ℕ → List ℕ
 name_in line = last_word (trimmed (entry_in line))
@@ -93,7 +93,7 @@ MayDecide c line = (options : Option (List ℕ)) × HasOptions line options × M
 
 -- ---- how a line is taken apart
 
--- what stands before the first such byte, and what behind it, if there is one
+-- what stands before the first such byte, and what after it, if there is one
 abbrev pub SplitsAt : ℕ → List ℕ → Option (Bor (List ℕ) × Bor (List ℕ)) → Type 0
 SplitsAt c text None = (k : ℕ) → k < length text → slice_index text k ≢ c
 SplitsAt c text (Some x) = (text ≡ x.0.now ++ (c ∷ x.1.now)) × ((k : ℕ) → k < length x.0.now → slice_index x.0.now k ≢ c)
@@ -113,7 +113,7 @@ abbrev pub DropsLast : List ℕ → Option (Bor (List ℕ)) → Type 0
 DropsLast text None = trimmed text ≡ text
 DropsLast text (Some front) = (trimmed text ≡ trimmed front.now) × (length front.now < length text)
 
--- what stands behind the last that passes the test, if one does
+-- what stands after the last that passes the test, if one does
 abbrev pub FindsLast : (ℕ → Bool) → List ℕ → Option (Bor (List ℕ)) → Type 0
 FindsLast is text None = list_any is text ≡ false
-FindsLast is text (Some rest) = (list_any is text ≡ true) × (rest.now ≡ behind_last is text)
+FindsLast is text (Some rest) = (list_any is text ≡ true) × (rest.now ≡ after_last is text)

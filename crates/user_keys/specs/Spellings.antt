@@ -20,10 +20,10 @@ own_part (SkEcdsa k) = k.key
 own_part (SkEd25519 k) = k.key
 own_part (Opaque name k) = k
 
--- The Base64 of 15 of its last 17 bytes, behind which so many stand. One of three such texts stands
+-- The Base64 of 15 of its last 17 bytes, after which so many stand. One of three such texts stands
 -- in the Base64 of any bytes that have these 17, wherever they stand in them.
 abbrev pub mark : List ℕ → ℕ → List ℕ
-mark part behind = encode_of standard (slice_range part (length part - (15 + behind)) (length part - behind))
+mark part after = encode_of standard (slice_range part (length part - (15 + after)) (length part - after))
 
 -- ---- where it stands
 
@@ -60,6 +60,6 @@ abbrev pub HasMarkAt : Marks → List ℕ → ℕ → Type 0
 HasMarkAt m text place = StandAt m.first.symbols text place ⊎ StandAt m.second.symbols text place ⊎ StandAt m.third.symbols text place
 
 -- What follows the symbol, if it comes first.
-abbrev pub FindsBehind : List ℕ → ℕ → Option (Bor (List ℕ)) → Type 0
-FindsBehind text symbol None = (rest : List ℕ) → without_front is_white text ≡ symbol ∷ rest → ⊥
-FindsBehind text symbol (Some rest) = without_front is_white text ≡ symbol ∷ rest.now
+abbrev pub FindsAfter : List ℕ → ℕ → Option (Bor (List ℕ)) → Type 0
+FindsAfter text symbol None = (rest : List ℕ) → without_front is_white text ≡ symbol ∷ rest → ⊥
+FindsAfter text symbol (Some rest) = without_front is_white text ≡ symbol ∷ rest.now

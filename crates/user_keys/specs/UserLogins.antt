@@ -79,7 +79,7 @@ pub record MayAllow (login : UserLogin) (line : List ℕ) : Type 0 where
 abbrev pub MayLet : UserLogin → List ℕ → Type 0
 MayLet login line = MayBeFor (listed_key login) line ⊎ MayAllow login line
 
--- no line behind such a one is asked
+-- no line after such a one is asked
 abbrev pub Ends : UserLogin → List ℕ → Type 0
 Ends login line = EndsBy (Lets login) (MayLet login) line
 

@@ -1,5 +1,5 @@
 //! Worked examples of the definitions, on both sides of each edge.
-#![tactic(auto, unfolding(crate::specs::Computed::encode_symbols, crate::specs::Computed::without_front, crate::specs::Principals::behind_last))]
+#![tactic(auto, unfolding(crate::specs::Computed::encode_symbols, crate::specs::Computed::without_front, crate::specs::Principals::after_last))]
 
 ghost use Rattle.user_keys.specs.Examples.{Listed, Marks, Merged, Names, Times, Together, White};
 

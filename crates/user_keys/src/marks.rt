@@ -5,7 +5,7 @@ ghost use Rattle.base64.specs.Engines.{standard};
 ghost use Rattle.base64.specs.GeneralPurpose.{encode_of};
 ghost use Rattle.sshkey_entries.specs.Fronts.{without_front};
 ghost use Rattle.sshkey_keys.specs.Keys.{key_of};
-ghost use Rattle.user_keys.specs.Spellings.{AreMarks, FindsBehind, Follow, HasMark, HasMarkAt, StandAt, is_white, own_part};
+ghost use Rattle.user_keys.specs.Spellings.{AreMarks, FindsAfter, Follow, HasMark, HasMarkAt, StandAt, is_white, own_part};
 
 use base64::engine::general_purpose::STANDARD;
 use sshkey_keys::KeyData;
@@ -51,8 +51,8 @@ fn skip_white(text: &[u8]) -> &[u8]
 }
 
 /// What follows the symbol, if it comes first, white space before it aside.
-fn behind_symbol(text: &[u8], symbol: u8) -> Option<&[u8]>
-    ensures { FindsBehind text.now symbol result }
+fn after_symbol(text: &[u8], symbol: u8) -> Option<&[u8]>
+    ensures { FindsAfter text.now symbol result }
 {
     match skip_white(text) {
         [first, rest @ ..] if *first == symbol => Some(rest),
@@ -66,10 +66,10 @@ fn follow(text: &[u8], symbols: &[u8]) -> bool
 {
     let mut rest = text;
     for symbol in symbols {
-        let Some(behind) = behind_symbol(rest, *symbol) else {
+        let Some(after) = after_symbol(rest, *symbol) else {
             return false;
         };
-        rest = behind;
+        rest = after;
     }
     true
 }

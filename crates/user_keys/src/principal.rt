@@ -45,7 +45,7 @@ use std::alloc::{AllocError, Global};
 /// neither. So ask about one file after the other as long as the answer is `NotListed`. A line
 /// whose options sshd rejects is passed over.
 ///
-/// A line is a name, or options and a name, which stands behind its last space, or else behind its
+/// A line is a name, or options and a name, which stands after its last space, or else after its
 /// last tab. It ends at a `#`, also at one within quotes, and only a line feed divides lines: a
 /// carriage return belongs to the name. Names are compared byte by byte, and a line for a principal
 /// is `Unclear` where it is no UTF-8 up to a `#`.

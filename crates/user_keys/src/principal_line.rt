@@ -2,7 +2,7 @@
 
 ghost use Rattle.std.specs.Prelude.{◌≡◌, ◌==◌, [], MatchOption, false, option_map, true};
 ghost use Rattle.std.specs.Str.{IsUtf8};
-ghost use Rattle.user_keys.specs.Principals.{AreFrontOptions, DropsLast, FindsLast, HasOptions, behind_last, last_word, name_in, trimmed};
+ghost use Rattle.user_keys.specs.Principals.{AreFrontOptions, DropsLast, FindsLast, HasOptions, after_last, last_word, name_in, trimmed};
 
 use crate::text::{before_first, is_blank, skip_blanks, split_once};
 use sshkey_authorized_keys::split_options;
@@ -66,32 +66,32 @@ fn without_last(text: &[u8]) -> Option<&[u8]>
     if is_blank(*last) { Some(front) } else { None }
 }
 
-/// What stands behind the last space, or else behind the last tab.
+/// What stands after the last space, or else after the last tab.
 fn last_word(text: &[u8]) -> &[u8]
     ensures { result.now ≡ last_word text.now }
 {
-    match behind_last(text, b' ') {
+    match after_last(text, b' ') {
         Some(word) => skip_blanks(word),
-        None => match behind_last(text, b'\t') {
+        None => match after_last(text, b'\t') {
             Some(word) => word,
             None => text,
         },
     }
 }
 
-/// What stands behind the last divider, if there is one.
-fn behind_last(text: &[u8], divider: u8) -> Option<&[u8]>
+/// What stands after the last divider, if there is one.
+fn after_last(text: &[u8], divider: u8) -> Option<&[u8]>
     ensures { FindsLast (λ c. c == divider) text.now result }
 {
     match split_once(text, divider) {
-        Some((_, rest)) => Some(behind_all(rest, divider)),
+        Some((_, rest)) => Some(after_all(rest, divider)),
         None => None,
     }
 }
 
-/// What stands behind all dividers.
-fn behind_all(text: &[u8], divider: u8) -> &[u8]
-    ensures { result.now ≡ behind_last (λ c. c == divider) text.now }
+/// What stands after all dividers.
+fn after_all(text: &[u8], divider: u8) -> &[u8]
+    ensures { result.now ≡ after_last (λ c. c == divider) text.now }
 {
     let mut rest = text;
     while let Some((_, more)) = split_once(rest, divider) {

@@ -7,7 +7,7 @@ ghost use Rattle.sshkey_entries.specs.Fields.{without_blanks};
 ghost use Rattle.sshkey_entries.specs.OptionEnds.{is_blank};
 ghost use Rattle.user_keys.specs.Principals.{SplitsAt, SplitsLine, TakesLine};
 
-/// The text before the first such byte, and what stands behind it, if there is one.
+/// The text before the first such byte, and what stands after it, if there is one.
 pub(crate) fn split_once(text: &[u8], divider: u8) -> Option<(&[u8], &[u8])>
     ensures { SplitsAt divider text.now result }
 {

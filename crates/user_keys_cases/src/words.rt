@@ -28,7 +28,7 @@ pub(crate) struct Words {
 }
 
 impl Words {
-    /// Reads the words of a line behind those that say what it asks.
+    /// Reads the words of a line after those that say what it asks.
     pub(crate) fn read(alloc: Global, words: &[&str]) -> Result<Words> {
         let [second, keys, user, shown, client, host, revoked] = words else {
             return Err(NO_LINE);

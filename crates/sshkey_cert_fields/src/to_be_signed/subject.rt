@@ -45,7 +45,7 @@ pub(super) struct Subject {
 }
 
 /// The name of the key's algorithm, the nonce, and the key's body under that name.
-#[tactic(auto, using(sshkey_base::proofs::Steps::steps, sshkey_terms::proofs::Stopping::stopping, sshkey_terms::proofs::Mapped::mapped, crate::proofs::ToBeSignedReaders::subject_parts_read, crate::proofs::Lawful::subject_lawful), unfolding(sshkey_model::specs::Reading::behind_at))]
+#[tactic(auto, using(sshkey_base::proofs::Steps::steps, sshkey_terms::proofs::Stopping::stopping, sshkey_terms::proofs::Mapped::mapped, crate::proofs::ToBeSignedReaders::subject_parts_read, crate::proofs::Lawful::subject_lawful), unfolding(sshkey_model::specs::Reading::after_at))]
 impl Decode for Subject {
     ghost use Rattle.sshkey_cert_fields.specs.ToBeSignedValues.{subject_of};
 

@@ -7,7 +7,7 @@ ghost use Rattle.sshkey_base.specs.Reading.{Decodes, DecodesWide, Gives, to_end}
 ghost use Rattle.sshkey_base.specs.Needs.{Asks, HasString};
 ghost use Rattle.sshkey_base.specs.Source.{Later};
 ghost use Rattle.sshkey_base.specs.Stops.{OverrunsString, OverrunsList, StopsBy, StopsPast, StopsToEnd};
-ghost use Rattle.sshkey_cert_values.specs.OptionReaders.{may_follow, value_front, option_box_at, option_behind, item, option_list_at, NeedsOption, OverrunsValue, OverrunsOption};
+ghost use Rattle.sshkey_cert_values.specs.OptionReaders.{may_follow, value_front, option_box_at, option_after, item, option_list_at, NeedsOption, OverrunsValue, OverrunsOption};
 ghost use Rattle.sshkey_cert_values.specs.OptionMaps.{option_of, options_of};
 
 use super::OptionsMap;
@@ -35,18 +35,18 @@ pub(super) fn options_from<R: Reader>(alloc: Global, reader: &mut R) -> Result<O
 }
 
 /// An option that stands after that of the name before.
-#[tactic(auto, using(sshkey_base::proofs::Steps::steps), unfolding(crate::specs::OptionReaders::option_behind))]
+#[tactic(auto, using(sshkey_base::proofs::Steps::steps), unfolding(crate::specs::OptionReaders::option_after))]
 fn option_from<R: Reader>(
     alloc: Global,
     reader: &mut R,
     before: Option<&str>,
 ) -> Result<(String, String)>
     ensures gives { Gives option_of cause
-        (option_behind (option_map (λ name. name.now) before.entry))
+        (option_after (option_map (λ name. name.now) before.entry))
         (R.source reader.old) result (R.source reader.new) }
     ensures later { Later (R.source reader.old) (R.source reader.new) }
     ensures asks { Asks cause HasString (R.source reader.old) result }
-    ensures past { StopsBy cause (option_behind (option_map (λ name. name.now) before.entry))
+    ensures past { StopsBy cause (option_after (option_map (λ name. name.now) before.entry))
         NeedsOption OverrunsOption (R.source reader.old) result }
 {
     let name = String::decode(alloc, reader)?;

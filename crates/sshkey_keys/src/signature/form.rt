@@ -94,9 +94,9 @@ fn check_len(len: usize, bytes: &[u8]) -> Result<()>
 fn check_ecdsa(size: usize, bytes: &[u8]) -> Result<()>
     ensures { AnswersAlways (λ _. bytes.now) cause (ecdsa_blob_from size bytes.now) result }
 {
-    let behind_r = after_component(size, bytes)?;
-    let behind_s = after_component(size, behind_r)?;
-    if !behind_s.is_empty() {
+    let after_r = after_component(size, bytes)?;
+    let after_s = after_component(size, after_r)?;
+    if !after_s.is_empty() {
         return Err(Error::Encoding(encoding::Error::Length));
     }
     Ok(())

@@ -189,7 +189,7 @@ fn last_sealed_from<R: Reader>(
 }
 
 /// A ciphertext in its string, and its tag after it.
-#[tactic(auto, using(sshkey_base::proofs::Steps::steps, sshkey_ciphers::proofs::Lawful::blocks_lengths, sshkey_base::proofs::Stopping::read_past), unfolding(sshkey_model::specs::Reading::behind_at))]
+#[tactic(auto, using(sshkey_base::proofs::Steps::steps, sshkey_ciphers::proofs::Lawful::blocks_lengths, sshkey_base::proofs::Stopping::read_past), unfolding(sshkey_model::specs::Reading::after_at))]
 fn sealed_from<R: Reader>(
     alloc: Global,
     reader: &mut R,

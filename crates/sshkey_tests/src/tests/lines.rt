@@ -85,7 +85,7 @@ fn is_refused(alloc: Global, end: &str) -> bool {
 }
 
 #[test]
-fn words_with_more_behind_them_are_refused(rt: HostRuntime) {
+fn words_with_more_after_them_are_refused(rt: HostRuntime) {
     for end in ["AAAA", "A=AA", "@AAA", "====", "AA==", "="] {
         assert!(rt; is_refused(rt.alloc(), end), "{end}");
     }

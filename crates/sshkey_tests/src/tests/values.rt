@@ -35,7 +35,7 @@ fn are_equal(alloc: Global, string: &Bytes, bytes: &[u8]) -> bool {
 }
 
 /// The bytes come after the string.
-fn are_behind(alloc: Global, string: &Bytes, bytes: &[u8]) -> bool {
+fn are_after(alloc: Global, string: &Bytes, bytes: &[u8]) -> bool {
     match Bytes::from_slice(alloc, bytes) {
         Ok(other) => *string < other && *string != other,
         Err(_) => false,
@@ -49,7 +49,7 @@ fn byte_strings(alloc: Global) -> bool {
             string.as_slice() == b"testing".as_slice()
                 && are_copied(alloc, &string)
                 && are_equal(alloc, &string, b"testing")
-                && are_behind(alloc, &string, b"testinh")
+                && are_after(alloc, &string, b"testinh")
         }
         Err(_) => false,
     }
@@ -64,7 +64,7 @@ fn is_copied(alloc: Global, text: &Text) -> bool {
 }
 
 /// The letters come after the text.
-fn is_behind(alloc: Global, text: &Text, letters: &str) -> bool {
+fn is_after(alloc: Global, text: &Text, letters: &str) -> bool {
     match String::from_str(alloc, letters) {
         Ok(letters) => is_less(text, &Text::new(letters)),
         Err(_) => false,
@@ -81,7 +81,7 @@ fn texts(alloc: Global) -> bool {
         Ok(text) => {
             text.as_str() == "testing"
                 && is_copied(alloc, &text)
-                && is_behind(alloc, &text, "testinh")
+                && is_after(alloc, &text, "testinh")
         }
         Err(_) => false,
     }

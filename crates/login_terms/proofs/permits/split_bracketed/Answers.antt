@@ -9,21 +9,21 @@ returns-in_default c = λ p is. split_after closing_bracket c.args.inside.now p.
 
 pub returns-in_default-strip_prefix : goal.returns-in_default-strip_prefix
 returns-in_default-strip_prefix c = λ p is.
-    let same = split_after closing_bracket c.args.inside.now p.0 (colon ∷ p.1) (Some (c.in-Some.host, c.in-Some.behind)) c.in-Some.ensures.cases (lit< tt) is.0.is is.0.one_host in
-    strip_prefix_char colon c.in-Some.behind.now None c.in_default-strip_prefix.ensures.cases (lit< tt) p.1 same.1
+    let same = split_after closing_bracket c.args.inside.now p.0 (colon ∷ p.1) (Some (c.in-Some.host, c.in-Some.after)) c.in-Some.ensures.cases (lit< tt) is.0.is is.0.one_host in
+    strip_prefix_char colon c.in-Some.after.now None c.in_default-strip_prefix.ensures.cases (lit< tt) p.1 same.1
 
 pub returns-then-host : goal.returns-then-host
 returns-then-host c = λ p is.
-    let same = split_after closing_bracket c.args.inside.now p.0 (colon ∷ p.1) (Some (c.in-Some.host, c.in-Some.behind)) c.in-Some.ensures.cases (lit< tt) is.0.is is.0.one_host in
+    let same = split_after closing_bracket c.args.inside.now p.0 (colon ∷ p.1) (Some (c.in-Some.host, c.in-Some.after)) c.in-Some.ensures.cases (lit< tt) is.0.is is.0.one_host in
     omega (arith, is.1, c.if-host.true, ap length same.0)
 
 pub returns : goal.returns
 returns c =
-    let parts = split_parts closing_bracket c.args.inside.now (Some (c.in-Some.host, c.in-Some.behind)) c.in-Some.ensures.cases (lit< tt) in
-    let behind = strip_prefix_char colon c.in-Some.behind.now (Some c.in-Some-strip_prefix.port) c.in-Some-strip_prefix.ensures.cases (lit< tt) in (
-      (record { is = parts.0 ∙ ap (λ (b : List ℕ). c.in-Some.host.now ++ (closing_bracket ∷ b)) behind; one_host = parts.1 }, omega (arith, c.if-host.false)),
+    let parts = split_parts closing_bracket c.args.inside.now (Some (c.in-Some.host, c.in-Some.after)) c.in-Some.ensures.cases (lit< tt) in
+    let after = strip_prefix_char colon c.in-Some.after.now (Some c.in-Some-strip_prefix.port) c.in-Some-strip_prefix.ensures.cases (lit< tt) in (
+      (record { is = parts.0 ∙ ap (λ (b : List ℕ). c.in-Some.host.now ++ (closing_bracket ∷ b)) after; one_host = parts.1 }, omega (arith, c.if-host.false)),
       λ p is.
-          let same = split_after closing_bracket c.args.inside.now p.0 (colon ∷ p.1) (Some (c.in-Some.host, c.in-Some.behind)) c.in-Some.ensures.cases (lit< tt) is.0.is is.0.one_host in
-          let rest : colon ∷ p.1 ≡ colon ∷ c.in-Some-strip_prefix.port.now = sym same.1 ∙ behind in
+          let same = split_after closing_bracket c.args.inside.now p.0 (colon ∷ p.1) (Some (c.in-Some.host, c.in-Some.after)) c.in-Some.ensures.cases (lit< tt) is.0.is is.0.one_host in
+          let rest : colon ∷ p.1 ≡ colon ∷ c.in-Some-strip_prefix.port.now = sym same.1 ∙ after in
           same_parts p.0 c.in-Some.host.now p.1 c.in-Some-strip_prefix.port.now (sym same.0) (cc rest),
     )

@@ -2,7 +2,7 @@ use Rattle.std.proofs.Common.{List}
 use Rattle.sshkey_entries.specs.OptionItems.{KeyOption}
 use Rattle.sshkey_entries.specs.OptionItems.{HasKeyOptions}
 use Rattle.sshkey_authorized_keys.specs.OpenSshItems.{FindsNamed}
-use Rattle.sshkey_authorized_keys.proofs.FoundOptions.{Behind}
+use Rattle.sshkey_authorized_keys.proofs.FoundOptions.{After}
 use Rattle.sshkey_authorized_keys.proofs.openssh_options.find_option.Given as goal
 
 -- what was read, what was found in it, and that the rest is options where all of it is
@@ -10,5 +10,5 @@ abbrev pub invariant-loop-option : goal.invariant-loop-option
 invariant-loop-option l =
     goal.iterator-loop-option.can_next l.option-iterator ×
     goal.iterator-loop-option.is_finite l.option-iterator ×
-    ((before : List KeyOption) × Behind l.text before l.option-iterator × FindsNamed l.name before l.found) ×
+    ((before : List KeyOption) × After l.text before l.option-iterator × FindsNamed l.name before l.found) ×
     (HasKeyOptions l.text → HasKeyOptions l.option-iterator)

@@ -5,5 +5,5 @@ use Rattle.sshkey_authorized_keys.proofs.option_syntax.split_value.Goals as goal
 
 pub returns-in-Some-split_quoted : goal.returns-in-Some-split_quoted
 returns-in-Some-split_quoted c =
-    let behind = c.in-Some.ensures.cases in
-    value_cut c.args.text.now c.in-Some.behind.now c.in-Some-split_quoted.quoted.now c.in-Some-split_quoted.rest.now (behind.1.1 ∙ (λ j. equals_sign ∷ quote ∷ sym behind.2 j)) c.in-Some-split_quoted.ensures
+    let after = c.in-Some.ensures.cases in
+    value_cut c.args.text.now c.in-Some.after.now c.in-Some-split_quoted.quoted.now c.in-Some-split_quoted.rest.now (after.1.1 ∙ (λ j. equals_sign ∷ quote ∷ sym after.2 j)) c.in-Some-split_quoted.ensures

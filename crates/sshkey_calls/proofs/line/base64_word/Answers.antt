@@ -6,8 +6,8 @@ use Rattle.sshkey_calls.proofs.line.base64_word.Goals as goal
 
 pub returns-in-Some : goal.returns-in-Some
 returns-in-Some c first w m cut =
-    let behind = split_after space c.trim_end.result.now first (w ++ after_space m) (Some c.in-Some.cut) c.in-Some.ensures.cases (omega arith) (c.trim_end.ensures.trim ∙ cut.is) (without_space first cut.characters) in
-    c.first_word.ensures w m cut.one_word behind.1
+    let after = split_after space c.trim_end.result.now first (w ++ after_space m) (Some c.in-Some.cut) c.in-Some.ensures.cases (omega arith) (c.trim_end.ensures.trim ∙ cut.is) (without_space first cut.characters) in
+    c.first_word.ensures w m cut.one_word after.1
 
 pub returns-in-None : goal.returns-in-None
 returns-in-None c first w m cut = absurd (split_after space c.trim_end.result.now first (w ++ after_space m) None c.in-None.ensures.cases (omega arith) (c.trim_end.ensures.trim ∙ cut.is) (without_space first cut.characters))

@@ -8,7 +8,7 @@ pub returns-in_default-split_string-clause-none : goal.returns-in_default-split_
 returns-in_default-split_string-clause-none c = no_value c.args.bytes.now c.in-Ok.name.now c.in-Ok.rest.now c.in-Ok.ensures.accepts c.in_default-split_string.ensures.accepts
 
 pub returns-in-Some-clause-split : goal.returns-in-Some-clause-split
-returns-in-Some-clause-split c = begins c.args.bytes.now c.in-Ok.name.now c.in-Ok.rest.now c.in-Ok-split_string.string.now c.in-Some.value.now c.in-Ok-split_string.behind.now c.in-Ok.ensures.accepts c.in-Ok-split_string.ensures.accepts c.in-Some.ensures.value
+returns-in-Some-clause-split c = begins c.args.bytes.now c.in-Ok.name.now c.in-Ok.rest.now c.in-Ok-split_string.string.now c.in-Some.value.now c.in-Ok-split_string.after.now c.in-Ok.ensures.accepts c.in-Ok-split_string.ensures.accepts c.in-Some.ensures.value
 
 pub returns-in-None-clause-none : goal.returns-in-None-clause-none
-returns-in-None-clause-none c = other_value c.args.bytes.now c.in-Ok.name.now c.in-Ok.rest.now c.in-Ok-split_string.string.now c.in-Ok-split_string.behind.now c.in-Ok.ensures.accepts c.in-Ok-split_string.ensures.accepts c.in-None.ensures.none
+returns-in-None-clause-none c = other_value c.args.bytes.now c.in-Ok.name.now c.in-Ok.rest.now c.in-Ok-split_string.string.now c.in-Ok-split_string.after.now c.in-Ok.ensures.accepts c.in-Ok-split_string.ensures.accepts c.in-None.ensures.none

@@ -1,5 +1,5 @@
 use Rattle.std.proofs.Common.{◌≡◌, ◌≢◌, length, rules}
-use Rattle.sshkey_calls.proofs.OptionValues.{empty_value, more_behind, no_string}
+use Rattle.sshkey_calls.proofs.OptionValues.{empty_value, more_after, no_string}
 use Rattle.sshkey_calls.proofs.option.value_in.Goals as goal
 
 pub returns-then-is_empty-clause-value : goal.returns-then-is_empty-clause-value
@@ -11,7 +11,7 @@ pub returns-else-is_empty-2-clause-none : goal.returns-else-is_empty-2-clause-no
 returns-else-is_empty-2-clause-none c =
     let some : length c.args.string.now ≢ 0 = search rules in
     let more : length c.in-Ok.rest.now ≢ 0 = search rules in
-    more_behind c.args.string.now some c.in-Ok.value.now c.in-Ok.rest.now c.in-Ok.ensures.accepts more
+    more_after c.args.string.now some c.in-Ok.value.now c.in-Ok.rest.now c.in-Ok.ensures.accepts more
 
 pub returns-in-Err-clause-none : goal.returns-in-Err-clause-none
 returns-in-Err-clause-none c =

@@ -4,7 +4,7 @@ use Rattle.sshkey_base.proofs.Steps.{refuses_first}
 use Rattle.sshkey_cert_values.specs.CertTypes.{type_of}
 use Rattle.sshkey_cert_values.specs.Times.{time_of, end_of}
 use Rattle.sshkey_cert_ref.specs.Views.{texts_of, spelled_options_of}
-use Rattle.sshkey_cert_ref.specs.Fields.{behind_key_format, spelled_key_of}
+use Rattle.sshkey_cert_ref.specs.Fields.{after_key_format, spelled_key_of}
 use Rattle.sshkey_cert_fields.specs.ToBeSignedFormats.{subject_format}
 use Rattle.sshkey_cert_ref.proofs.Boxed.{key_is}
 use Rattle.sshkey_cert_ref.proofs.Fields.{fields_at, fields_are}
@@ -20,7 +20,7 @@ pub returns-in_err-grant : goal.returns-in_err-grant
 unfolding fields_at
 returns-in_err-grant c =
     let p = err_from_is_err_and c.from_residual-in_err-grant.result c.from_residual-in_err-grant.ensures.1 in
-    rw (p.1, p.2, ← fields_are c.args.bytes.now, c.in_ok-name.ensures.2) (refuses_first 0 _ (behind_key_format.read c.in_ok-name.behind_subject.now) _ c.in_err-grant.ensures.gives)
+    rw (p.1, p.2, ← fields_are c.args.bytes.now, c.in_ok-name.ensures.2) (refuses_first 0 _ (after_key_format.read c.in_ok-name.after_subject.now) _ c.in_err-grant.ensures.gives)
 
 pub returns : goal.returns
 unfolding fields_at

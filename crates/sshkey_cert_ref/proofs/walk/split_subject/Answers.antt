@@ -1,7 +1,7 @@
 use Rattle.std.proofs.Common.{refl}
 use Rattle.std.proofs.lemmas.Result.{err_from_is_err_and}
 use Rattle.sshkey_base.proofs.Steps.{refuses_first}
-use Rattle.sshkey_model.specs.Reading.{behind_at}
+use Rattle.sshkey_model.specs.Reading.{after_at}
 use Rattle.sshkey_model.specs.CertificateNames.{certified_from}
 use Rattle.sshkey_model.specs.Keys.{body_at}
 use Rattle.sshkey_model.specs.Names.{Dsa}
@@ -11,20 +11,20 @@ use Rattle.sshkey_cert_ref.proofs.Subjects.{known, certified_body, refused_body,
 use Rattle.sshkey_cert_ref.proofs.walk.split_subject.Goals as goal
 
 pub returns-in_err-opening : goal.returns-in_err-opening
-unfolding behind_at
+unfolding after_at
 returns-in_err-opening c =
     let p = err_from_is_err_and c.from_residual.result c.from_residual.ensures.1 in
     rw (p.1, p.2) (refuses_first 0 _ (named_format.read c.args.bytes.now) _ (refuses_first 0 _ (opening_format.read c.args.bytes.now) _ c.in_err-opening.ensures.gives))
 
 pub returns-in_err-key : goal.returns-in_err-key
-unfolding behind_at
+unfolding after_at
 returns-in_err-key c =
     let p = err_from_is_err_and c.from_residual-in_err-key.result c.from_residual-in_err-key.ensures.1 in
     let name = c.in_ok-opening.field-0.0 in
     rw (p.1, p.2, c.in_ok-opening.ensures.gives.value) (refuses_first 0 _ _ _ (refuses_first 0 _ (body_at (certified_in name.name.now) _) _ (refused_body _ _ _ _ (known Dsa (certified_from name.name.now) name.form) c.in_err-key.ensures.front)))
 
 pub returns : goal.returns
-unfolding behind_at
+unfolding after_at
 returns c =
     let opening = c.in_ok-opening.field-0 in
     let named = known Dsa (certified_from opening.0.name.now) opening.0.form in

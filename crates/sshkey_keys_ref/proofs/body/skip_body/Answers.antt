@@ -3,4 +3,4 @@ use Rattle.sshkey_keys_ref.proofs.Accepting.{passed, certified_grammar}
 use Rattle.sshkey_keys_ref.proofs.body.skip_body.Goals as goal
 
 pub returns-clause-spelled : goal.returns-clause-spelled
-returns-clause-spelled c = passed (certified_grammar c.args.certificate_name.now) cause c.args.bytes.now c.behind_certified.result c.behind_certified.ensures
+returns-clause-spelled c = passed (certified_grammar c.args.certificate_name.now) cause c.args.bytes.now c.after_certified.result c.after_certified.ensures

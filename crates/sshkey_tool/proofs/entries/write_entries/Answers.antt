@@ -1,6 +1,6 @@
 use Rattle.std.proofs.Common.{◌≡◌, true, false, inl, inr, refl, ◌∙◌, subst, List, ℕ}
 use Rattle.std.specs.Prelude.{string_bytes}
-use Rattle.sshkey_tool.specs.Outcomes.{RefusesBehind}
+use Rattle.sshkey_tool.specs.Outcomes.{RefusesAfter}
 use Rattle.sshkey_tool.specs.Faults.{WritesWithStatus}
 use Rattle.sshkey_tool.proofs.ShownEntries.{IsMoreStatus, nothing_written, keeps_more, writes_kept, whole_line, begun_line, all_written, cut_lines, cut_entries}
 use Rattle.sshkey_tool.proofs.entries.write_entries.Goals as goal
@@ -10,9 +10,9 @@ pub loop-entry-init : goal.loop-entry-init
 loop-entry-init g c = (tt, tt, rw (c.into_iter-entry-iterator.ensures.into_iter_gives, c.new-entry-items.ensures, c.new-lines.ensures.bytes) (nothing_written c.args.file c.args.text.now (g.W.Write.contents c.args.output.now)))
 
 pub returns-in-Err : goal.returns-in-Err
-returns-in-Err g c = cut_entries c.args.file c.args.text.now (string_bytes c.loop-entry.lines) c.loop-entry.entry-iterator c.next.new.self c.in-Some.entry.now _ (g.W.Write.contents c.loop-entry.output) _ c.loop-entry.status c.refuse_behind.result c.in-Err.error
+returns-in-Err g c = cut_entries c.args.file c.args.text.now (string_bytes c.loop-entry.lines) c.loop-entry.entry-iterator c.next.new.self c.in-Some.entry.now _ (g.W.Write.contents c.loop-entry.output) _ c.loop-entry.status c.refuse_after.result c.in-Err.error
     c.loop-entry.invariant.2 c.in-Some.ensures.steps c.in-Err.ensures.0
-    (subst (λ (l : List ℕ). RefusesBehind c.in-Err.error (g.W.Write.contents c.loop-entry.output) (g.W.Write.contents c.refuse_behind.new.output) l c.refuse_behind.result) (c.deref.ensures ∙ c.in-Err.ensures.1) c.refuse_behind.ensures)
+    (subst (λ (l : List ℕ). RefusesAfter c.in-Err.error (g.W.Write.contents c.loop-entry.output) (g.W.Write.contents c.refuse_after.new.output) l c.refuse_after.result) (c.deref.ensures ∙ c.in-Err.ensures.1) c.refuse_after.ensures)
 
 pub returns-then-not-is_written : goal.returns-then-not-is_written
 returns-then-not-is_written g c =

@@ -1,6 +1,6 @@
 use Rattle.std.proofs.Common.{inl, map, refl}
 use Rattle.std.proofs.lemmas.Result.{err_from_is_err_and}
-use Rattle.ssh_key.proofs.Behind.{both_reads, both_refused_first, both_refused_later}
+use Rattle.ssh_key.proofs.After.{both_reads, both_refused_first, both_refused_later}
 use Rattle.ssh_key.proofs.Mapped.{mapped_reads, mapped_refused}
 use Rattle.ssh_key.proofs.Places.{later_then}
 use Rattle.ssh_key.proofs.Steps.{asks_later}

@@ -1,7 +1,7 @@
 use Rattle.std.proofs.lemmas.Result.{err_from_is_err_and}
 use Rattle.sshkey_base.specs.Causes.{encoding_cause}
 use Rattle.sshkey_base.specs.Needs.{NeedsString}
-use Rattle.sshkey_base.proofs.Stopping.{length_stopped, behind_stops}
+use Rattle.sshkey_base.proofs.Stopping.{length_stopped, after_stops}
 use Rattle.sshkey_base.proofs.bytes.Bytes.decode_with_spare.Goals as goal
 
 pub returns-in_err-len-clause-past : goal.returns-in_err-len-clause-past
@@ -10,4 +10,4 @@ returns-in_err-len-clause-past g c =
     rw (p.1, p.2) (length_stopped _ NeedsString (g.R.Reader.source c.args.reader.now) c.in_err-len.ensures.gives)
 
 pub returns-clause-past : goal.returns-clause-past
-returns-clause-past g c = behind_stops encoding_cause c.in_ok-len.len _ _ _ c.in_ok-len.ensures.gives c.bytes_from.ensures.past
+returns-clause-past g c = after_stops encoding_cause c.in_ok-len.len _ _ _ c.in_ok-len.ensures.gives c.bytes_from.ensures.past

@@ -1,17 +1,17 @@
 use Rattle.std.proofs.lemmas.Result.{err_from_is_err_and}
 use Rattle.sshkey_base.specs.Causes.{encoding_cause}
 use Rattle.sshkey_base.specs.Labels.{label_at}
-use Rattle.sshkey_base.proofs.NameStrings.{behind_asks}
-use Rattle.sshkey_base.proofs.Steps.{behind_length}
-use Rattle.sshkey_base.proofs.Stopping.{judged_length_stopped, behind_judged_stops}
+use Rattle.sshkey_base.proofs.NameStrings.{after_asks}
+use Rattle.sshkey_base.proofs.Steps.{after_length}
+use Rattle.sshkey_base.proofs.Stopping.{judged_length_stopped, after_judged_stops}
 use Rattle.sshkey_base.proofs.label.AnyDecode.decode.Goals as goal
 
 pub returns-clause-gives : goal.returns-clause-gives
 unfolding label_at
-returns-clause-gives g c = behind_length g.T.Label.stands_for encoding_cause g.T.Label.named c.in_ok-len.len _ _ _ _ c.in_ok-len.ensures.gives c.name_from.ensures.gives
+returns-clause-gives g c = after_length g.T.Label.stands_for encoding_cause g.T.Label.named c.in_ok-len.len _ _ _ _ c.in_ok-len.ensures.gives c.name_from.ensures.gives
 
 pub returns-clause-asks : goal.returns-clause-asks
-returns-clause-asks g c = behind_asks encoding_cause g.T.Label.needs c.in_ok-len.len _ _ _ c.in_ok-len.ensures.gives c.name_from.ensures.asks
+returns-clause-asks g c = after_asks encoding_cause g.T.Label.needs c.in_ok-len.len _ _ _ c.in_ok-len.ensures.gives c.name_from.ensures.asks
 
 pub returns-in_err-len-clause-past : goal.returns-in_err-len-clause-past
 unfolding label_at
@@ -21,4 +21,4 @@ returns-in_err-len-clause-past g c =
 
 pub returns-clause-past : goal.returns-clause-past
 unfolding label_at
-returns-clause-past g c = behind_judged_stops encoding_cause g.T.Label.named g.T.Label.needs c.in_ok-len.len _ _ _ c.in_ok-len.ensures.gives c.name_from.ensures.past
+returns-clause-past g c = after_judged_stops encoding_cause g.T.Label.named g.T.Label.needs c.in_ok-len.len _ _ _ c.in_ok-len.ensures.gives c.name_from.ensures.past

@@ -1,7 +1,7 @@
 use Rattle.std.proofs.Common.{rules, ◌≡◌, length, arith, refl, suc}
 use Rattle.std.proofs.lemmas.Result.{err_from_is_err_and}
 use Rattle.sshkey_base.specs.Causes.{same_cause}
-use Rattle.sshkey_base.proofs.FixedWidth.{no_sign, few_behind, both_read, sign_taken, sign_refused}
+use Rattle.sshkey_base.proofs.FixedWidth.{no_sign, few_after, both_read, sign_taken, sign_refused}
 use Rattle.sshkey_base.proofs.mpint.fixed_width.signed_from.Goals as goal
 
 pub returns-in_err-read-clause-gives : goal.returns-in_err-read-clause-gives
@@ -12,7 +12,7 @@ returns-in_err-read-clause-gives g c =
 pub returns-in_err-read-2-clause-gives : goal.returns-in_err-read-2-clause-gives
 returns-in_err-read-2-clause-gives g c =
     let p = err_from_is_err_and c.from_residual-in_err-read-2.result c.from_residual-in_err-read-2.ensures.1 in
-    rw (p.1, p.2, same_cause) (few_behind g.row.SIZE _ _ c.read.new.buffer c.read-2.new.buffer _ (search rules) (search rules) c.in_ok-read.ensures.takes c.in_err-read-2.ensures.takes)
+    rw (p.1, p.2, same_cause) (few_after g.row.SIZE _ _ c.read.new.buffer c.read-2.new.buffer _ (search rules) (search rules) c.in_ok-read.ensures.takes c.in_err-read-2.ensures.takes)
 
 pub returns-then-sign-ne0-clause-gives : goal.returns-then-sign-ne0-clause-gives
 returns-then-sign-ne0-clause-gives g c =

@@ -5,7 +5,7 @@ use Rattle.sshkey_ciphers.specs.Ciphers.{cipher_of}
 use Rattle.sshkey_ciphers.specs.Ciphertexts.{sealed_format}
 use Rattle.sshkey_ciphers.proofs.Lawful.{sealed_lawful}
 use Rattle.sshkey_private.specs.PrivateKeyFormats.{last_encrypted_at}
-use Rattle.sshkey_private.proofs.KeyValues.{behind_refused, none_behind}
+use Rattle.sshkey_private.proofs.KeyValues.{after_refused, none_after}
 use Rattle.sshkey_base.specs.Stops.{OverrunsString}
 use Rattle.sshkey_base.proofs.Stopping.{read_past}
 use Rattle.sshkey_private.proofs.private_key.read.last_sealed_from.Goals as goal
@@ -17,10 +17,10 @@ returns-in_err-sealed-clause-gives g c =
     rw (p.1, p.2) (λ k public. refused_first _ _ _ _ c.in_err-sealed.ensures.gives)
 
 pub returns-then-remaining-gt0-clause-gives : goal.returns-then-remaining-gt0-clause-gives
-returns-then-remaining-gt0-clause-gives g c = λ k public. behind_refused _ (cipher_of c.args.cipher) k public _ _ _ c.in_ok-sealed.ensures.gives _ c.remaining_len-remaining.ensures c.if-remaining-gt0.true
+returns-then-remaining-gt0-clause-gives g c = λ k public. after_refused _ (cipher_of c.args.cipher) k public _ _ _ c.in_ok-sealed.ensures.gives _ c.remaining_len-remaining.ensures c.if-remaining-gt0.true
 
 pub returns-clause-gives : goal.returns-clause-gives
-returns-clause-gives g c = λ k public. none_behind _ (cipher_of c.args.cipher) k public _ _ _ c.in_ok-sealed.ensures.gives _ _ refl (let n = c.remaining_len-remaining.ensures in let few = c.if-remaining-gt0.false in omega arith)
+returns-clause-gives g c = λ k public. none_after _ (cipher_of c.args.cipher) k public _ _ _ c.in_ok-sealed.ensures.gives _ _ refl (let n = c.remaining_len-remaining.ensures in let few = c.if-remaining-gt0.false in omega arith)
 
 pub returns-in_err-sealed-clause-past : goal.returns-in_err-sealed-clause-past
 returns-in_err-sealed-clause-past g c =

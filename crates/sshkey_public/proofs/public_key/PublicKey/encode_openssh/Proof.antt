@@ -47,7 +47,7 @@ use Rattle.sshkey_public.proofs.public_key.PublicKey.encode_openssh.Code as code
 use Rattle.sshkey_public.proofs.public_key.PublicKey.encode_openssh.Statement.{statement}
 use Rattle.sshkey_public.proofs.public_key.PublicKey.write_openssh.Met as g_met
 use Rattle.sshkey_public.proofs.public_key.filled_text.Met as k_met
-use Rattle.sshkey_public.specs.PublicKeys.{public_of, comment_of, FillsSlice, IsTextUpTo, GivesFront, WritesLine, StaysBehind}
+use Rattle.sshkey_public.specs.PublicKeys.{public_of, comment_of, FillsSlice, IsTextUpTo, GivesFront, WritesLine, StaysAfter}
 use Rattle.sshkey_public.specs.contracts.public_key.PublicKey.{the_row as R}
 use Rattle.sshkey_public.specs.contracts.public_key.PublicKey.encode_openssh as F
 use Rattle.sshkey_public.specs.contracts.public_key.PublicKey.write_openssh as g
@@ -120,7 +120,7 @@ encode_openssh_spec 𝓤 𝓛 𝓜 𝓡 wired =
     move ! (1 ∷ []) $ peeks ! (Text κ) (Is (Text κ)) (shows 𝓛 (Text κ)) r (u ∷ []) (λ is_r.
     lands_as ! refl refl (((text_laws κ).lawful 𝓛).typed r (u ∷ []) is_r).0 $ returns ! (look_at ! 0 refl) $ free_all ! refl $
     let Line = WritesLine name parts comment (length s.now) r in
-    move ! (2 ∷ []) $ use1 𝓛 (‵ (StaysBehind s r)) (stays 𝓛 s new h r name parts comment fills front) $
+    move ! (2 ∷ []) $ use1 𝓛 (‵ (StaysAfter s r)) (stays 𝓛 s new h r name parts comment fills front) $
     use0 𝓛 (raw (fact 𝓤 Line)) (fact_i 𝓤 Line (emp 𝓤) (is_written name parts comment s.now new h r fills front)) $
     -- [the line; how the slice ends; the result; the token of κ; self's token]
     keep ! (1 ∷ 0 ∷ 2 ∷ 3 ∷ 4 ∷ []) $ join ! $ move ! (3 ∷ 2 ∷ []) $ join ! $ move ! (2 ∷ []) $

@@ -1,6 +1,6 @@
 use Rattle.std.proofs.lemmas.Result.{err_from_is_err_and}
 use Rattle.sshkey_authorized_keys.proofs.OptionEnds.{uncut, uncut_fault, bad_key, key_fault, key_needs, options_need, options_read}
-use Rattle.sshkey_authorized_keys.proofs.openssh.OpenSshEntry.behind_options.Goals as goal
+use Rattle.sshkey_authorized_keys.proofs.openssh.OpenSshEntry.after_options.Goals as goal
 
 pub returns-in_default-clause-reads : goal.returns-in_default-clause-reads
 returns-in_default-clause-reads c = λ _. uncut c.args.text.now c.in_default.ensures

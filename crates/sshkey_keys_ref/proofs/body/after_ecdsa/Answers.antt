@@ -1,7 +1,7 @@
 use Rattle.std.proofs.Common.{refl}
 use Rattle.sshkey_kinds.specs.EcdsaPublicKey.{ecdsa_key_of}
 use Rattle.sshkey_model.specs.Keys.{ecdsa_at}
-use Rattle.sshkey_keys_ref.proofs.body.behind_ecdsa.Goals as goal
+use Rattle.sshkey_keys_ref.proofs.body.after_ecdsa.Goals as goal
 
 pub returns : goal.returns
 unfolding ecdsa_at

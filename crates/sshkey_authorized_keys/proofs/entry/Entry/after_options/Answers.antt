@@ -1,6 +1,6 @@
 use Rattle.std.proofs.lemmas.Result.{err_from_is_err_and}
 use Rattle.sshkey_authorized_keys.proofs.Options.{uncut, bad_options, bad_key, uncut_fault, options_asked, options_fault, options_needed, key_fault}
-use Rattle.sshkey_authorized_keys.proofs.entry.Entry.behind_options.Goals as goal
+use Rattle.sshkey_authorized_keys.proofs.entry.Entry.after_options.Goals as goal
 
 pub returns-in_default-clause-reads : goal.returns-in_default-clause-reads
 returns-in_default-clause-reads c = λ _. uncut c.args.line.now c.in_default.ensures.cases

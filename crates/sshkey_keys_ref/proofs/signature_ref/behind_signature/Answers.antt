@@ -1,7 +1,0 @@
-use Rattle.sshkey_base.specs.Causes.{cause}
-use Rattle.sshkey_keys_ref.specs.NameRef.{named_of}
-use Rattle.sshkey_keys_ref.proofs.WalkedBodies.{skips_signature}
-use Rattle.sshkey_keys_ref.proofs.signature_ref.behind_signature.Goals as goal
-
-pub returns : goal.returns
-returns c = skips_signature cause named_of c.args.bytes.now _ c.in_ok-name.name c.behind_blob.result c.in_ok-name.ensures c.behind_blob.ensures
