@@ -13,7 +13,6 @@ ghost use Rattle.host_keys.specs.Hosts.{lines_of};
 
 use sshkey_base::Result;
 use sshkey_keys::KeyData;
-use sshkey_keys::laws::compared_keys;
 use sshkey_known_hosts::{HmacSha1, Verdict, authorities, judge_key};
 use sshkey_public::PublicKey;
 use std::alloc::Global;
@@ -70,18 +69,9 @@ fn has_key(keys: &[PublicKey], key: &KeyData) -> bool
     ensures { IsTrue result ↔ Any (λ k. public_of k ≡ key_of key.now) keys.now }
 {
     for listed in keys {
-        if is_same(key, listed.key_data()) {
+        if key.is(listed.key_data()) {
             return true;
         }
     }
     false
-}
-
-/// Whether a key, which is well-formed, is the same as another.
-fn is_same(key: &KeyData, other: &KeyData) -> bool
-    requires { IsKey (key_of key.now) }
-    ensures { IsTrue result ↔ (key_of other.now ≡ key_of key.now) }
-{
-    compared_keys();
-    key == other
 }

@@ -22,6 +22,7 @@ mod from;
 mod kinds;
 mod name_string;
 
+use crate::laws::compared_keys;
 use sshkey_base::{
     Algorithm, Decode, EcdsaCurve, Encode, Error, HashAlg, NormalForm, Reader, Result, Writer,
     encoding, names, string_len,
@@ -110,6 +111,19 @@ impl KeyData {
             KeyData::SkEd25519(_) => Algorithm::SkEd25519,
             KeyData::Other(key) => key.algorithm.try_clone(alloc)?,
         })
+    }
+
+    /// Whether both are the same key: as `==`, of which contracts know nothing without
+    /// `laws::compared_keys`. Where it says so they mean the same, and a well-formed key is the
+    /// same as each that means the same. Does not allocate.
+    pub fn is(&self, other: &KeyData) -> bool
+        ensures is { result ≡ ⟦<KeyData as PartialEq>⟧.eq self.now other.now }
+        ensures same { IsTrue result → key_of self.now ≡ key_of other.now }
+        ensures equal { IsKey (key_of self.now) → key_of self.now ≡ key_of other.now →
+            IsTrue result }
+    {
+        compared_keys();
+        self == other
     }
 
     /// A copy of the key. Fails only when out of memory, and of an ECDSA or an Ed25519 key never.

@@ -18,7 +18,6 @@ ghost use Rattle.sshkey_sshsig.specs.SshSignatures.{ssh_signature_of, signer_of,
 use super::PublicKey;
 use crate::line::is_same;
 use sshkey_base::{Error, Result};
-use sshkey_keys::laws::compared_keys;
 use sshkey_keys::{KeyData, RawVerifier};
 use sshkey_sshsig::SshSig;
 use sshkey_sshsig::laws::signed_parts_fit;
@@ -66,7 +65,7 @@ impl PublicKey {
             namespace.now message.now (ssh_signature_of signature.now)) result }
     {
         signed_parts_fit();
-        if !is_same_key(&self.key_data, signature.public_key()) {
+        if !self.key_data.is(signature.public_key()) {
             return Err(Error::PublicKey);
         }
         if !is_same(namespace.as_bytes(), signature.namespace().as_bytes()) {
@@ -93,16 +92,4 @@ fn judge<V: RawVerifier>(
     let signed = signature.signed_bytes(alloc, message)?;
     let key = signature.public_key();
     key.verify(alloc, &signed, signature.signature(), verifier)
-}
-
-/// Whether the keys are equal. Those that are mean the same, and well-formed ones that mean the
-/// same are.
-fn is_same_key(left: &KeyData, right: &KeyData) -> bool
-    ensures is { result ≡ ⟦<KeyData as PartialEq>⟧.eq left.now right.now }
-    ensures same { IsTrue result → key_of left.now ≡ key_of right.now }
-    ensures equal { IsKey (key_of left.now) → IsKey (key_of right.now) →
-        key_of left.now ≡ key_of right.now → IsTrue result }
-{
-    compared_keys();
-    left == right
 }
