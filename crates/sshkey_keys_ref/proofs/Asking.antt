@@ -1,18 +1,17 @@
 -- What the verifier is asked is a question about a key and a well-formed signature.
-use Rattle.std.proofs.Common.{◌≡◌, ℕ, ◌≤◌, List, [], length, true, Some, Ok, refl, sym, ap, subst, ◌∙◌, arith}
-use Rattle.sshkey_model.specs.Names.{Curve, Nistp256, Hash, Algorithm, algorithm_from, algorithm_at}
-use Rattle.sshkey_model.specs.Points.{curve_eq}
-use Rattle.sshkey_model.specs.Keys.{Key, Dsa, Ecdsa, Ed25519, Rsa, SkEcdsa, SkEd25519, SecurityKey}
+use Rattle.std.proofs.Common.{◌≡◌, ◌||◌, ℕ, ◌≤◌, List, [], length, true, false, is_some, IsTrue, Some, None, Ok, refl, sym, ap, subst, ◌∙◌, arith}
+use Rattle.sshkey_model.specs.Names.{Algorithm, algorithm_from, algorithm_at}
+use Rattle.sshkey_model.specs.Keys.{Key, Dsa, Ecdsa, Ed25519, Rsa, SkEcdsa, SkEd25519, Opaque}
 use Rattle.sshkey_model.specs.Signatures.{Signature, IsSignatureBlob, signature_at, signature_blob_at, without_trailer}
-use Rattle.sshkey_model.specs.Verification.{security_key_message}
+use Rattle.sshkey_model.specs.Verification.{Question, asked_within, question, question_under, security_key_message}
 use Rattle.sshkey_model.proofs.CombinedReaders.{bind_ok, ok_is}
 use Rattle.sshkey_base.specs.Labels.{label_at}
 use Rattle.sshkey_base.proofs.Accepted.{spelled_whole}
 use Rattle.sshkey_keys.specs.Asked.{IsAsked}
-use Rattle.sshkey_keys.specs.KeyKinds.{is_dsa, is_rsa}
+use Rattle.sshkey_keys.specs.KeyKinds.{is_dsa, is_ecdsa, is_ed25519, is_rsa}
 use Rattle.sshkey_keys.specs.SignatureReaders.{SpellsSignature}
 use Rattle.sshkey_keys.proofs.SignatureReaders.{signature_grammar}
-use Rattle.sshkey_keys_ref.specs.Dispatch.{IsAskedItself, IsBlobIn, signature_by}
+use Rattle.sshkey_keys_ref.specs.Dispatch.{IsAskedAs, IsBlobIn, is_within, signature_by}
 use Rattle.sshkey_keys_ref.proofs.PlainHeads.{whole_is}
 
 -- ---- the bytes of a signature are well-formed for the name before them
@@ -31,41 +30,34 @@ signature_is s after blob a g named holds gs =
 pub blob_formed : (s after blob : List ℕ) (a : Algorithm) (g : Signature) → label_at algorithm_from s ≡ Ok (a, after) → IsBlobIn after blob → SpellsSignature g s → IsSignatureBlob a blob
 blob_formed s after blob a g named holds gs = subst (λ (z : Signature). IsSignatureBlob z.algorithm z.blob) (sym (signature_is s after blob a g named holds gs)) gs.is.1
 
--- ---- keys that are asked about themselves
+-- ---- what is asked under a key, if anything is
 
-pub dsa_itself : (k : Key) → is_dsa k ≡ true → IsAskedItself Algorithm.Dsa k
-dsa_itself (Dsa d) is = λ m b. refl
-dsa_itself _ is = absurd (cc is)
+never_asked : (n d m : List ℕ) (a : Algorithm) (g : Signature) → question_under a (Opaque n d) m g ≡ None
+never_asked n d m (Algorithm.Rsa None) g = refl
+never_asked n d m _ g = refl
 
-pub rsa_itself : (h : Hash) (k : Key) → is_rsa k ≡ true → IsAskedItself (Algorithm.Rsa (Some h)) k
-rsa_itself h (Rsa d) is = λ m b. refl
-rsa_itself h _ is = absurd (cc is)
+-- a plain key that is asked about takes memory of its own, or none
+pub takes_memory : (k : Key) (m : List ℕ) (g : Signature) → is_within k ≡ false → is_some (question k m g) ≡ true → (IsTrue (is_ecdsa k || is_ed25519 k) → false ≡ true) → IsTrue (is_dsa k || is_rsa k)
+takes_memory (Dsa d) m g plain is never = refl
+takes_memory (Rsa d) m g plain is never = refl
+takes_memory (Ecdsa c p) m g plain is never = absurd (cc (never refl))
+takes_memory (Ed25519 d) m g plain is never = absurd (cc (never refl))
+takes_memory (Opaque n d) m g plain is never = absurd (cc (rw (never_asked n d m g.algorithm g) at is))
+takes_memory _ m g plain is never = absurd (cc plain)
 
-pub itself_asked : (a : Algorithm) (k : Key) (m blob : List ℕ) → IsSignatureBlob a blob → IsAskedItself a k → IsAsked (record { algorithm = a; key = k; message = m; blob = blob })
-itself_asked a k m blob form itself = record { key = k; message = m; signature = signature_by a blob; form = form; is = itself m blob }
+-- a signature of a security key has flags and a counter
+trailed : (k : Key) (m blob : List ℕ) (a : Algorithm) → is_within k ≡ true → is_some (question k m (signature_by a blob)) ≡ true → IsSignatureBlob a blob → 5 ≤ length blob
+trailed (SkEcdsa d) m blob Algorithm.SkEcdsa within is form = form.0
+trailed (SkEcdsa d) m blob (Algorithm.Rsa None) within is form = absurd (cc is)
+trailed (SkEcdsa d) m blob _ within is form = absurd (cc is)
+trailed (SkEd25519 d) m blob Algorithm.SkEd25519 within is form = omega (arith, form)
+trailed (SkEd25519 d) m blob (Algorithm.Rsa None) within is form = absurd (cc is)
+trailed (SkEd25519 d) m blob _ within is form = absurd (cc is)
+trailed _ m blob a within is form = absurd (cc within)
 
--- ---- plain keys within security keys
+-- The question that the code asks about the plain key within.
+pub within_asked : (k : Key) (m blob signed string application : List ℕ) (a w : Algorithm) (p : Key) → IsSignatureBlob a blob → true ≡ is_some (question k m (signature_by a blob)) → (is_within k ≡ true) × IsAskedAs k (asked_within w p application) → (5 ≤ length blob → signed ≡ security_key_message application m blob) → string ≡ without_trailer blob → question k m (signature_by a blob) ≡ Some (record { algorithm = w; key = p; message = signed; blob = string })
+within_asked k m blob signed string application a w p form is held says cut = rw (says (trailed k m blob a held.0 (sym is) form), cut) (held.1 m (signature_by a blob) (sym is))
 
-pub sk_ecdsa_asked : (k : SecurityKey) (m blob : List ℕ) → IsSignatureBlob Algorithm.SkEcdsa blob → IsAsked (record { algorithm = Algorithm.Ecdsa Nistp256; key = Ecdsa Nistp256 k.key; message = security_key_message k.application m blob; blob = without_trailer blob })
-sk_ecdsa_asked k m blob form = record { key = SkEcdsa k; message = m; signature = signature_by Algorithm.SkEcdsa blob; form = form; is = refl }
-
-pub sk_ed25519_asked : (k : SecurityKey) (m blob : List ℕ) → IsSignatureBlob Algorithm.SkEd25519 blob → IsAsked (record { algorithm = Algorithm.Ed25519; key = Ed25519 k.key; message = security_key_message k.application m blob; blob = without_trailer blob })
-sk_ed25519_asked k m blob form = record { key = SkEd25519 k; message = m; signature = signature_by Algorithm.SkEd25519 blob; form = form; is = refl }
-
--- ---- the same by what the code knows of the algorithm
-
-pub ed25519_asked : (a : Algorithm) (key m blob : List ℕ) → a ≡ Algorithm.Ed25519 → IsSignatureBlob a blob → IsAsked (record { algorithm = a; key = Ed25519 key; message = m; blob = blob })
-ed25519_asked a key m blob is form = itself_asked a (Ed25519 key) m blob form (λ m b. rw is refl)
-
-pub ecdsa_asked : (a : Algorithm) (c d : Curve) (point m blob : List ℕ) → a ≡ Algorithm.Ecdsa d → curve_eq c d ≡ true → IsSignatureBlob a blob → IsAsked (record { algorithm = a; key = Ecdsa c point; message = m; blob = blob })
-ecdsa_asked a c d point m blob is on form = itself_asked a (Ecdsa c point) m blob form (λ m b. rw (is, on) refl)
-
-pub sk_ecdsa_within : (a : Algorithm) (key application m blob signed string : List ℕ) → a ≡ Algorithm.SkEcdsa → IsSignatureBlob a blob → (5 ≤ length blob → signed ≡ security_key_message application m blob) → string ≡ without_trailer blob → IsAsked (record { algorithm = Algorithm.Ecdsa Nistp256; key = Ecdsa Nistp256 key; message = signed; blob = string })
-sk_ecdsa_within a key application m blob signed string is form says cut =
-    let f : IsSignatureBlob Algorithm.SkEcdsa blob = rw is at form in
-    rw (says f.0, cut) (sk_ecdsa_asked (record { key = key; application = application }) m blob f)
-
-pub sk_ed25519_within : (a : Algorithm) (key application m blob signed string : List ℕ) → a ≡ Algorithm.SkEd25519 → IsSignatureBlob a blob → (5 ≤ length blob → signed ≡ security_key_message application m blob) → string ≡ without_trailer blob → IsAsked (record { algorithm = Algorithm.Ed25519; key = Ed25519 key; message = signed; blob = string })
-sk_ed25519_within a key application m blob signed string is form says cut =
-    let f : IsSignatureBlob Algorithm.SkEd25519 blob = rw is at form in
-    rw (says (omega (arith, f)), cut) (sk_ed25519_asked (record { key = key; application = application }) m blob f)
+pub well_asked : (q : Question) (k : Key) (m blob : List ℕ) (a : Algorithm) → IsSignatureBlob a blob → question k m (signature_by a blob) ≡ Some q → IsAsked q
+well_asked q k m blob a form is = record { key = k; message = m; signature = signature_by a blob; form = form; is = is }

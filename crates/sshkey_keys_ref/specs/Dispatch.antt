@@ -1,11 +1,11 @@
 -- What is answered about a key and a signature that are slices.
-use Rattle.std.specs.Prelude.{◌≡◌, ◌≢◌, ◌⊎◌, ◌||◌, ℕ, List, [], Bool, Option, Some, None, Result, Ok, Err, IfOk, IfErr, IsTrue}
+use Rattle.std.specs.Prelude.{◌≡◌, ◌≢◌, ◌⊎◌, ◌||◌, ℕ, List, [], Bool, true, is_some, Option, Some, None, Result, Ok, Err, IfErr, IsTrue}
 use Rattle.sshkey_model.specs.Keys.{Key}
 use Rattle.sshkey_model.specs.Names.{Algorithm}
 use Rattle.sshkey_model.specs.Reading.{whole}
-use Rattle.sshkey_model.specs.Signatures.{Signature, IsSignatureBlob, signature_blob_at}
-use Rattle.sshkey_model.specs.Verification.{Question, asked, question, is_yes, IsAccepted}
-use Rattle.sshkey_keys.specs.KeyKinds.{is_dsa, is_rsa}
+use Rattle.sshkey_model.specs.Signatures.{Signature, signature_blob_at}
+use Rattle.sshkey_model.specs.Verification.{Question, question, is_yes, IsAccepted}
+use Rattle.sshkey_keys.specs.KeyKinds.{is_dsa, is_rsa, is_sk_ecdsa, is_sk_ed25519}
 use Rattle.sshkey_keys.specs.Keys.{SpellsKey, key_data_at}
 use Rattle.sshkey_keys.specs.SignatureReaders.{SpellsSignature}
 
@@ -42,29 +42,18 @@ pub record AreAccepted (accepts : Question → Bool) (key message signature : Li
 abbrev pub signature_by : Algorithm → List ℕ → Signature
 signature_by a blob = record { algorithm = a; blob = blob }
 
--- The same of the key that the bytes spell, and a signature whose bytes are well-formed.
-abbrev pub DispatchesKey : {E : Type 0} → (Question → Bool) → List ℕ → List ℕ → Algorithm → List ℕ → Result Bool E → Type 0
-DispatchesKey accepts key message a blob r = (k : Key) → whole key_data_at key ≡ Ok k → IsSignatureBlob a blob → Dispatches accepts k message (signature_by a blob) r
+-- Both of the key that the bytes spell: the verifier's answer, or memory that may run out.
+abbrev pub AnswersKey : {E : Type 0} → (Question → Bool) → (Question → Type 0) → List ℕ → List ℕ → Signature → Result Bool E → Type 0
+AnswersKey accepts runs_out key message g (Ok answer) = (k : Key) → whole key_data_at key ≡ Ok k → answer ≡ is_yes accepts (question k message g)
+AnswersKey accepts runs_out key message g (Err e) = (k : Key) → whole key_data_at key ≡ Ok k → RunsOutFor runs_out k (question k message g)
 
--- Memory was refused only where it may run out for that key.
-abbrev pub AsksKey : {E : Type 0} → (Question → Type 0) → List ℕ → List ℕ → Algorithm → List ℕ → Result Bool E → Type 0
-AsksKey runs_out key message a blob r = (k : Key) → whole key_data_at key ≡ Ok k → IsSignatureBlob a blob → IfErr r (λ _. RunsOutFor runs_out k (question k message (signature_by a blob)))
+-- A security key holds it.
+abbrev pub is_within : Key → Bool
+is_within k = is_sk_ecdsa k || is_sk_ed25519 k
 
--- What the verifier answers, where the key is one of those.
-abbrev pub DispatchesKind : {E : Type 0} → (Key → Type 0) → (Question → Bool) → List ℕ → List ℕ → Signature → Result Bool E → Type 0
-DispatchesKind Is accepts key message g r = (k : Key) → whole key_data_at key ≡ Ok k → Is k → Dispatches accepts k message g r
-
--- The verifier's answer about a signature by this algorithm under the key that the bytes spell.
-abbrev pub Answered : {E : Type 0} → (Question → Bool) → List ℕ → List ℕ → Signature → Result Bool E → Type 0
-Answered accepts key message g r = (k : Key) → whole key_data_at key ≡ Ok k → IfOk r (λ answer. answer ≡ accepts (record { algorithm = g.algorithm; key = k; message = message; blob = g.blob }))
-
--- So is the key that the bytes spell.
-abbrev pub IsOfKind : (Key → Type 0) → List ℕ → Type 0
-IsOfKind Is key = (k : Key) → whole key_data_at key ≡ Ok k → Is k
-
--- A signature by that algorithm is asked about under the key itself.
-abbrev pub IsAskedItself : Algorithm → Key → Type 0
-IsAskedItself a k = (message blob : List ℕ) → question k message (signature_by a blob) ≡ Some (asked k message (signature_by a blob))
+-- What is asked about a signature under the key, if anything is, is that question.
+abbrev pub IsAskedAs : Key → (List ℕ → Signature → Question) → Type 0
+IsAskedAs k ask = (message : List ℕ) (g : Signature) → is_some (question k message g) ≡ true → question k message g ≡ Some (ask message g)
 
 -- These bytes follow the length of a string.
 abbrev pub IsBlobIn : List ℕ → List ℕ → Type 0

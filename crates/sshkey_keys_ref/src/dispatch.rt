@@ -1,21 +1,19 @@
 //! Which question the caller's verifier is asked about a signature, without a copy of either.
 
-ghost use Rattle.std.specs.Prelude.{◌≡◌, ◌↔◌, true, IfOk, IfErr, IsTrue};
+ghost use Rattle.std.specs.Prelude.{◌≡◌, ◌↔◌, ℕ, List, true, false, is_some, IfOk, IsTrue, MatchOption};
 ghost use Rattle.sshkey_base.specs.Names.{algorithm_of};
-ghost use Rattle.sshkey_model.specs.Signatures.{IsSignatureBlob};
-ghost use Rattle.sshkey_model.specs.Verification.{question};
-ghost use Rattle.sshkey_kinds.specs.EcdsaPublicKey.{ecdsa_key_of};
-ghost use Rattle.sshkey_kinds.specs.Kinds.{ed25519_of};
-ghost use Rattle.sshkey_keys.specs.KeyKinds.{is_dsa, is_rsa};
-ghost use Rattle.sshkey_keys_ref.specs.Dispatch.{Answered, AreAccepted, AsksBytes, AsksKey, Dispatches, DispatchesBytes, DispatchesKey, DispatchesKind, IsAskedItself, IsBlobIn, IsOfKind, RunsOutFor, signature_by};
+ghost use Rattle.sshkey_model.specs.Keys.{Key};
+ghost use Rattle.sshkey_model.specs.Signatures.{IsSignatureBlob, Signature};
+ghost use Rattle.sshkey_model.specs.Verification.{asked, asked_within, question_under};
+ghost use Rattle.sshkey_keys.specs.Keys.{key_of};
+ghost use Rattle.sshkey_keys_ref.specs.Dispatch.{AnswersKey, AreAccepted, AsksBytes, DispatchesBytes, IsAskedAs, IsBlobIn, is_within, signature_by};
 ghost use Rattle.sshkey_keys_ref.specs.KeyDataRef.{key_bytes};
-ghost use Rattle.sshkey_keys_ref.specs.Kinds.{sk_ecdsa_of, sk_ed25519_of};
+ghost use Rattle.sshkey_keys_ref.specs.KeyRef.{Means};
 ghost use Rattle.sshkey_keys_ref.specs.NameRef.{named_of};
 ghost use Rattle.sshkey_keys_ref.specs.SignatureRef.{signature_bytes};
 
 use crate::key_data_ref::KeyDataRef;
 use crate::key_ref::{KeyRef, key_in};
-use crate::kinds::{SkEcdsaRef, SkEd25519Ref};
 use crate::name_ref::{NameRef, take_name};
 use crate::signature_ref::SignatureRef;
 use sshkey_base::{Algorithm, EcdsaCurve};
@@ -71,10 +69,8 @@ impl KeyDataRef<'_> {
         verifier: &V,
     ) -> std::result::Result<bool, AllocError>
         requires { IsSignatureBlob (named_of name.now) blob.now }
-        ensures answer { DispatchesKey (V.accepts verifier.now) (key_bytes self.now) message.now
-            (named_of name.now) blob.now result }
-        ensures asks { AsksKey (V.runs_out verifier.now) (key_bytes self.now) message.now
-            (named_of name.now) blob.now result }
+        ensures { AnswersKey (V.accepts verifier.now) (V.runs_out verifier.now)
+            (key_bytes self.now) message.now (signature_by (named_of name.now) blob.now) result }
     {
         match name {
             NameRef::Fixed(algorithm) => self.ask(alloc, message, algorithm, blob, verifier),
@@ -92,81 +88,23 @@ impl KeyDataRef<'_> {
         verifier: &V,
     ) -> std::result::Result<bool, AllocError>
         requires { IsSignatureBlob (algorithm_of algorithm.now) blob.now }
-        ensures answer { DispatchesKey (V.accepts verifier.now) (key_bytes self.now) message.now
-            (algorithm_of algorithm.now) blob.now result }
-        ensures asks { AsksKey (V.runs_out verifier.now) (key_bytes self.now) message.now
-            (algorithm_of algorithm.now) blob.now result }
+        ensures { AnswersKey (V.accepts verifier.now) (V.runs_out verifier.now) (key_bytes self.now)
+            message.now (signature_by (algorithm_of algorithm.now) blob.now) result }
     {
-        match key_in(self.as_bytes()) {
-            KeyRef::Dsa(_) => self.ask_dsa(alloc, message, algorithm, blob, verifier),
-            KeyRef::Ecdsa(key) => ask_ecdsa(key, message, algorithm, blob, verifier),
-            KeyRef::Ed25519(key) => ask_ed25519(key, message, algorithm, blob, verifier),
-            KeyRef::Rsa(_) => self.ask_rsa(alloc, message, algorithm, blob, verifier),
-            KeyRef::SkEcdsa(key) => ask_sk_ecdsa(&key, message, algorithm, blob, verifier),
-            KeyRef::SkEd25519(key) => ask_sk_ed25519(&key, message, algorithm, blob, verifier),
-            KeyRef::Other => Ok(false),
+        let parts = key_in(self.as_bytes());
+        if !goes_with(&parts, algorithm) {
+            return Ok(false);
         }
-    }
-
-    /// The answer of a DSA key.
-    fn ask_dsa<V: RawVerifier>(
-        &self,
-        alloc: Global,
-        message: &[u8],
-        algorithm: &Algorithm,
-        blob: &[u8],
-        verifier: &V,
-    ) -> std::result::Result<bool, AllocError>
-        requires form { IsSignatureBlob (algorithm_of algorithm.now) blob.now }
-        requires kind { IsOfKind (λ k. is_dsa k ≡ true) (key_bytes self.now) }
-        ensures { DispatchesKind (λ k. is_dsa k ≡ true) (V.accepts verifier.now)
-            (key_bytes self.now) message.now
-            (signature_by (algorithm_of algorithm.now) blob.now) result }
-    {
-        if let Algorithm::Dsa = algorithm {
-            return self.ask_in_memory(alloc, message, algorithm, blob, verifier);
-        }
-        Ok(false)
-    }
-
-    /// The answer of an RSA key.
-    fn ask_rsa<V: RawVerifier>(
-        &self,
-        alloc: Global,
-        message: &[u8],
-        algorithm: &Algorithm,
-        blob: &[u8],
-        verifier: &V,
-    ) -> std::result::Result<bool, AllocError>
-        requires form { IsSignatureBlob (algorithm_of algorithm.now) blob.now }
-        requires kind { IsOfKind (λ k. is_rsa k ≡ true) (key_bytes self.now) }
-        ensures { DispatchesKind (λ k. is_rsa k ≡ true) (V.accepts verifier.now)
-            (key_bytes self.now) message.now
-            (signature_by (algorithm_of algorithm.now) blob.now) result }
-    {
-        if let Algorithm::Rsa { hash: Some(_) } = algorithm {
-            return self.ask_in_memory(alloc, message, algorithm, blob, verifier);
-        }
-        Ok(false)
-    }
-
-    /// The verifier's answer, for which the key is made in memory of its own.
-    fn ask_in_memory<V: RawVerifier>(
-        &self,
-        alloc: Global,
-        message: &[u8],
-        algorithm: &Algorithm,
-        blob: &[u8],
-        verifier: &V,
-    ) -> std::result::Result<bool, AllocError>
-        requires form { IsSignatureBlob (algorithm_of algorithm.now) blob.now }
-        requires kind { IsOfKind (IsAskedItself (algorithm_of algorithm.now)) (key_bytes self.now) }
-        ensures { Answered (V.accepts verifier.now) (key_bytes self.now) message.now
-            (signature_by (algorithm_of algorithm.now) blob.now) result }
-    {
-        match self.to_key_data(alloc) {
-            Ok(key) => verifier.verify(algorithm, &key, message, blob),
-            Err(_) => Err(AllocError),
+        match plain_within(&parts) {
+            Some((plain, key, application)) => {
+                let signed = security_key_message(application, blob, message);
+                let (string, _) = split_trailer(blob);
+                verifier.verify(&plain, &key, &signed, string)
+            }
+            None => match self.to_key_data(alloc) {
+                Ok(key) => verifier.verify(algorithm, &key, message, blob),
+                Err(_) => Err(AllocError),
+            },
         }
     }
 }
@@ -181,97 +119,42 @@ fn blob_in(bytes: &[u8]) -> &[u8]
     }
 }
 
-/// The answer of an ECDSA key.
-#[tactic(auto, using(crate::proofs::Asking::ecdsa_asked))]
-fn ask_ecdsa<V: RawVerifier>(
-    key: EcdsaPublicKey,
-    message: &[u8],
-    algorithm: &Algorithm,
-    blob: &[u8],
-    verifier: &V,
-) -> std::result::Result<bool, AllocError>
-    requires { IsSignatureBlob (algorithm_of algorithm.now) blob.now }
-    ensures answer { Dispatches (V.accepts verifier.now) (ecdsa_key_of key) message.now
-        (signature_by (algorithm_of algorithm.now) blob.now) result }
-    ensures asks { IfErr result (λ _. RunsOutFor (V.runs_out verifier.now) (ecdsa_key_of key)
-        (question (ecdsa_key_of key) message.now
-        (signature_by (algorithm_of algorithm.now) blob.now))) }
+/// Whether the verifier is asked about signatures by that algorithm under the key.
+fn goes_with(key: &KeyRef<'_>, algorithm: &Algorithm) -> bool
+    ensures { (k : Key) (message : List ℕ) (g : Signature) → Means key.now k →
+        result ≡ is_some (question_under (algorithm_of algorithm.now) k message g) }
 {
-    if !matches!(algorithm, Algorithm::Ecdsa { curve } if key.is_on(*curve)) {
-        return Ok(false);
+    match key {
+        KeyRef::Dsa(_) => matches!(algorithm, Algorithm::Dsa),
+        KeyRef::Ecdsa(key) => {
+            matches!(algorithm, Algorithm::Ecdsa { curve } if key.is_on(*curve))
+        }
+        KeyRef::Ed25519(_) => matches!(algorithm, Algorithm::Ed25519),
+        KeyRef::Rsa(_) => matches!(algorithm, Algorithm::Rsa { hash: Some(_) }),
+        KeyRef::SkEcdsa(_) => matches!(algorithm, Algorithm::SkEcdsaSha2NistP256),
+        KeyRef::SkEd25519(_) => matches!(algorithm, Algorithm::SkEd25519),
+        KeyRef::Other => false,
     }
-    verifier.verify(algorithm, &KeyData::Ecdsa(key), message, blob)
 }
 
-/// The answer of an Ed25519 key.
-#[tactic(auto, using(crate::proofs::Asking::ed25519_asked))]
-fn ask_ed25519<V: RawVerifier>(
-    key: Ed25519PublicKey,
-    message: &[u8],
-    algorithm: &Algorithm,
-    blob: &[u8],
-    verifier: &V,
-) -> std::result::Result<bool, AllocError>
-    requires { IsSignatureBlob (algorithm_of algorithm.now) blob.now }
-    ensures answer { Dispatches (V.accepts verifier.now) (ed25519_of key) message.now
-        (signature_by (algorithm_of algorithm.now) blob.now) result }
-    ensures asks { IfErr result (λ _. RunsOutFor (V.runs_out verifier.now) (ed25519_of key)
-        (question (ed25519_of key) message.now
-        (signature_by (algorithm_of algorithm.now) blob.now))) }
+/// The plain algorithm, the plain key and the application of a security key; `None` for others.
+fn plain_within<'a>(key: &KeyRef<'a>) -> Option<(Algorithm, KeyData, &'a str)>
+    ensures { (k : Key) → Means key.now k →
+        MatchOption result ((is_within k ≡ false) × IsAskedAs k (asked k)) (λ w.
+        (is_within k ≡ true)
+        × IsAskedAs k (asked_within (algorithm_of w.0) (key_of w.1) w.2.now)) }
 {
-    if !matches!(algorithm, Algorithm::Ed25519) {
-        return Ok(false);
+    match key {
+        KeyRef::SkEcdsa(key) => {
+            let curve = EcdsaCurve::NistP256;
+            let plain = KeyData::Ecdsa(EcdsaPublicKey::NistP256(key.key));
+            Some((Algorithm::Ecdsa { curve }, plain, key.application))
+        }
+        KeyRef::SkEd25519(key) => {
+            let plain = KeyData::Ed25519(Ed25519PublicKey(key.key));
+            Some((Algorithm::Ed25519, plain, key.application))
+        }
+        KeyRef::Dsa(_) | KeyRef::Ecdsa(_) | KeyRef::Ed25519(_) | KeyRef::Rsa(_) | KeyRef::Other =>
+            None,
     }
-    verifier.verify(algorithm, &KeyData::Ed25519(key), message, blob)
-}
-
-/// The answer of a P-256 key that a security key holds.
-#[tactic(auto, using(crate::proofs::Asking::sk_ecdsa_within))]
-fn ask_sk_ecdsa<V: RawVerifier>(
-    key: &SkEcdsaRef<'_>,
-    message: &[u8],
-    algorithm: &Algorithm,
-    blob: &[u8],
-    verifier: &V,
-) -> std::result::Result<bool, AllocError>
-    requires { IsSignatureBlob (algorithm_of algorithm.now) blob.now }
-    ensures answer { Dispatches (V.accepts verifier.now) (sk_ecdsa_of key.now) message.now
-        (signature_by (algorithm_of algorithm.now) blob.now) result }
-    ensures asks { IfErr result (λ _. RunsOutFor (V.runs_out verifier.now) (sk_ecdsa_of key.now)
-        (question (sk_ecdsa_of key.now) message.now
-        (signature_by (algorithm_of algorithm.now) blob.now))) }
-{
-    if !matches!(algorithm, Algorithm::SkEcdsaSha2NistP256) {
-        return Ok(false);
-    }
-    let (string, _) = split_trailer(blob);
-    let curve = EcdsaCurve::NistP256;
-    let plain = KeyData::Ecdsa(EcdsaPublicKey::NistP256(key.key));
-    let signed = security_key_message(key.application, blob, message);
-    verifier.verify(&Algorithm::Ecdsa { curve }, &plain, &signed, string)
-}
-
-/// The answer of an Ed25519 key that a security key holds.
-#[tactic(auto, using(crate::proofs::Asking::sk_ed25519_within))]
-fn ask_sk_ed25519<V: RawVerifier>(
-    key: &SkEd25519Ref<'_>,
-    message: &[u8],
-    algorithm: &Algorithm,
-    blob: &[u8],
-    verifier: &V,
-) -> std::result::Result<bool, AllocError>
-    requires { IsSignatureBlob (algorithm_of algorithm.now) blob.now }
-    ensures answer { Dispatches (V.accepts verifier.now) (sk_ed25519_of key.now) message.now
-        (signature_by (algorithm_of algorithm.now) blob.now) result }
-    ensures asks { IfErr result (λ _. RunsOutFor (V.runs_out verifier.now) (sk_ed25519_of key.now)
-        (question (sk_ed25519_of key.now) message.now
-        (signature_by (algorithm_of algorithm.now) blob.now))) }
-{
-    if !matches!(algorithm, Algorithm::SkEd25519) {
-        return Ok(false);
-    }
-    let (string, _) = split_trailer(blob);
-    let plain = KeyData::Ed25519(Ed25519PublicKey(key.key));
-    let signed = security_key_message(key.application, blob, message);
-    verifier.verify(&Algorithm::Ed25519, &plain, &signed, string)
 }

@@ -7,13 +7,13 @@ use Rattle.sshkey_keys_ref.proofs.Spelled.{accepted_exactly, some_spelled}
 use Rattle.sshkey_keys_ref.proofs.key_data_ref.KeyDataRef.accepts.Goals as goal
 
 pub returns-in-Ok-clause-answer : goal.returns-in-Ok-clause-answer
-returns-in-Ok-clause-answer g c = dispatched (g.V.RawVerifier.accepts c.args.verifier.now) c.args.self.now.bytes.now c.args.message.now c.args.signature.now.bytes.now c.take_name.new.bytes.now c.blob_in.result.now (named_of c.in-Ok.name) c.ask_named.result (rw c.as_bytes-after_name.ensures.bytes at c.in-Ok.ensures.value) c.blob_in.ensures c.ask_named.ensures.answer
+returns-in-Ok-clause-answer g c = dispatched (g.V.RawVerifier.accepts c.args.verifier.now) (g.V.RawVerifier.runs_out c.args.verifier.now) c.args.self.now.bytes.now c.args.message.now c.args.signature.now.bytes.now c.take_name.new.bytes.now c.blob_in.result.now (named_of c.in-Ok.name) c.ask_named.result (rw c.as_bytes-after_name.ensures.bytes at c.in-Ok.ensures.value) c.blob_in.ensures c.ask_named.ensures
 
 pub returns-in-Ok-clause-exactly : goal.returns-in-Ok-clause-exactly
 returns-in-Ok-clause-exactly g c = accepted_exactly (g.V.RawVerifier.accepts c.args.verifier.now) c.args.self.now.bytes.now c.args.message.now c.args.signature.now.bytes.now c.ask_named.result (some_spelled key_grammar c.args.self.now.bytes.now c.args.self.now.form) (some_spelled signature_grammar c.args.signature.now.bytes.now c.args.signature.now.form) (returns-in-Ok-clause-answer g c)
 
 pub returns-in-Ok-clause-asks : goal.returns-in-Ok-clause-asks
-returns-in-Ok-clause-asks g c = asked_bytes (g.V.RawVerifier.runs_out c.args.verifier.now) c.args.self.now.bytes.now c.args.message.now c.args.signature.now.bytes.now c.take_name.new.bytes.now c.blob_in.result.now (named_of c.in-Ok.name) c.ask_named.result (rw c.as_bytes-after_name.ensures.bytes at c.in-Ok.ensures.value) c.blob_in.ensures c.ask_named.ensures.asks
+returns-in-Ok-clause-asks g c = asked_bytes (g.V.RawVerifier.accepts c.args.verifier.now) (g.V.RawVerifier.runs_out c.args.verifier.now) c.args.self.now.bytes.now c.args.message.now c.args.signature.now.bytes.now c.take_name.new.bytes.now c.blob_in.result.now (named_of c.in-Ok.name) c.ask_named.result (rw c.as_bytes-after_name.ensures.bytes at c.in-Ok.ensures.value) c.blob_in.ensures c.ask_named.ensures
 
 pub returns-clause-answer : goal.returns-clause-answer
 returns-clause-answer g c = λ k s ks ss. no_signature c.args.signature.now.bytes.now c.in-Err.ensures.met s (rw c.as_bytes-after_name.ensures.bytes at c.in-Err.ensures.is) ss
