@@ -39,4 +39,4 @@ is_named P (Err f) needs = absurd needs
 
 -- a certificate's name is the first that it needs memory for
 pub name_needs : (bytes : List ℕ) (missing : ℕ) → certified_format.needs bytes missing → NeedsEither bytes missing
-name_needs bytes missing needs = inl (is_named _ (certificate_algorithm_at bytes) needs, inl (inl (inl (inl (inl needs)))))
+name_needs bytes missing needs = inl (is_named _ (certificate_algorithm_at bytes) needs, inl (inl needs))

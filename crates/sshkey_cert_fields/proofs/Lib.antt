@@ -2,3 +2,4 @@ pub mod Names
 pub mod Copies
 pub mod ToBeSignedReaders
 pub mod Lawful
+mod Refusals

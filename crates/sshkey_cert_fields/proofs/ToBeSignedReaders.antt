@@ -6,17 +6,9 @@ use Rattle.sshkey_model.specs.Certificates.{signed_fields_at, type_at, time_at, 
 use Rattle.sshkey_model.proofs.CertificateReaders.{signed_fields_reads}
 use Rattle.sshkey_model.proofs.CombinedReaders.{bind_assoc}
 use Rattle.sshkey_model.proofs.Grammars.{grammar_with, same_grammar}
-use Rattle.sshkey_terms.proofs.Lawful.{checked_read, IsMapped}
 use Rattle.sshkey_keys.proofs.BoxedKeys.{key_box}
 use Rattle.sshkey_cert_values.specs.OptionReaders.{options_value_at}
-use Rattle.sshkey_cert_fields.specs.ToBeSignedFormats.{fields_format, named_format, subject_format, subject_of_parts, to_be_signed_format, to_be_signed_of_parts}
 use Rattle.sshkey_cert_fields.specs.ToBeSignedReaders.{SpellsToBeSigned, to_be_signed_value_at}
-
-pub subject_parts_read : IsMapped subject_format.read subject_of_parts named_format.read
-subject_parts_read = checked_read subject_of_parts named_format.read
-
-pub to_be_signed_parts_read : IsMapped to_be_signed_format.read to_be_signed_of_parts fields_format.read
-to_be_signed_parts_read = checked_read to_be_signed_of_parts fields_format.read
 
 -- The reader that gives the choices of the spelling too reads the same fields.
 pub to_be_signed_is : (b : List ℕ) → value_at signed_fields_at b ≡ to_be_signed_value_at b

@@ -1,11 +1,8 @@
 -- What a certificate's value means.
-use Rattle.std.specs.Prelude.{ℕ, List}
 use Rattle.sshkey_model.specs.Certificates as model
-use Rattle.sshkey_model.specs.Keys.{Key}
 use Rattle.sshkey_base.specs.TextLists.{texts_of}
 use Rattle.sshkey_keys.specs.Keys.{key_of}
 use Rattle.sshkey_cert_fields.specs.declared.to_be_signed.ToBeSigned.{ToBeSigned}
-use Rattle.sshkey_cert_fields.specs.declared.to_be_signed.subject.Subject.{Subject}
 use Rattle.sshkey_cert_values.specs.CertTypes.{type_of}
 use Rattle.sshkey_cert_values.specs.OptionMaps.{options_of}
 use Rattle.sshkey_cert_values.specs.Times.{time_of, end_of}
@@ -25,7 +22,3 @@ to_be_signed_of u = record {
   reserved = u.reserved;
   signature_key = key_of u.signature_key;
 }
-
--- the nonce and the certified key
-abbrev pub subject_of : Subject → List ℕ × Key
-subject_of s = (s.nonce, key_of s.key)

@@ -6,17 +6,17 @@ ghost use Rattle.sshkey_keys.specs.Blobs.{MakesBlob};
 ghost use Rattle.sshkey_cert_fields.specs.ToBeSignedFormats.{to_be_signed_format};
 
 mod copy;
-mod subject;
+mod limits;
 mod write;
 
+use limits::Limits;
 use sshkey_base::{
-    Bytes, Decode, Encode, Error, Reader, Result, Text, Writer, encode_vec, encoding,
+    Algorithm, Bytes, Decode, Encode, Error, Reader, Result, Text, Writer, encode_vec, encoding,
 };
 use sshkey_cert_values::{CertType, EndTime, OptionsMap, UnixTime};
 use sshkey_keys::KeyData;
 use sshkey_terms::{Boxed, Then, Wide};
 use std::alloc::Global;
-use subject::Subject;
 
 /// All of a certificate but its signature and its comment (PROTOCOL.certkeys).
 #[derive(Debug, Drop, PartialEq, Eq, PartialOrd, Ord)]
@@ -69,7 +69,7 @@ impl ToBeSigned {
 /// type other than 1 and 2 and for options that are not in ascending order of their names, `Time`
 /// for a time above 2^63 - 1 (but 2^64 - 1 is allowed as `valid_before`), the faults of keys, and
 /// `TrailingData` with the number of bytes that follow a key or a value in its string.
-#[tactic(auto, using(sshkey_terms::proofs::Mapped::mapped, crate::proofs::ToBeSignedReaders::to_be_signed_parts_read, crate::proofs::Lawful::to_be_signed_lawful))]
+#[tactic(auto, using(sshkey_base::proofs::Places::places, crate::proofs::Lawful::to_be_signed_lawful))]
 impl Decode for ToBeSigned {
     ghost use Rattle.sshkey_cert_fields.specs.ToBeSignedValues.{to_be_signed_of};
 
@@ -84,22 +84,18 @@ impl Decode for ToBeSigned {
     fn lawful() {}
 
     fn decode<R: Reader>(alloc: Global, reader: &mut R) -> Result<ToBeSigned> {
-        type Grant = Then<Then<Wide<u64>, CertType>, Then<Wide<Text>, Wide<Vec<String>>>>;
-        type Window = Then<UnixTime, EndTime>;
-        type Limits = Then<OptionsMap, OptionsMap>;
-        type Authority = Then<Wide<Bytes>, Boxed<KeyData>>;
-        type Fields = Then<Then<Subject, Grant>, Then<Window, Then<Limits, Authority>>>;
-        let Then(Then(subject, grant), Then(window, Then(limits, authority))) = Fields::decode(
-            alloc, reader,
-        )?;
-        let Subject { nonce, key } = subject;
-        let Then(Then(Wide(serial), cert_type), Then(Wide(key_id), Wide(valid_principals))) = grant;
-        let Then(valid_after, valid_before) = window;
-        let Then(critical_options, extensions) = limits;
-        let Then(Wide(reserved), Boxed(signature_key)) = authority;
+        type Names = Then<Wide<Text>, Then<Wide<Vec<String>>, Limits>>;
+        type AfterKey = Then<Wide<u64>, Then<CertType, Names>>;
+        let algorithm = Algorithm::decode_certificate(alloc, reader)?;
+        let Wide(nonce) = Wide::<Bytes>::decode(alloc, reader)?;
+        let public_key = KeyData::decode_as(alloc, reader, algorithm)?;
+        let Then(Wide(serial), Then(cert_type, names)) = AfterKey::decode(alloc, reader)?;
+        let Then(Wide(key_id), Then(Wide(valid_principals), Limits(limits))) = names;
+        let Then(valid_after, Then(valid_before, Then(critical_options, options))) = limits;
+        let Then(extensions, Then(Wide(reserved), Boxed(signature_key))) = options;
         Ok(ToBeSigned {
             nonce,
-            public_key: key,
+            public_key,
             serial,
             cert_type,
             key_id,

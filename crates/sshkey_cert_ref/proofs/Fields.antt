@@ -1,18 +1,31 @@
--- The fields before the signature: the name, the nonce and the key, and what follows them.
+-- The fields before the signature, as a walk takes them: the name and the nonce, the key, and what
+-- follows it in the groups that the code reads.
 use Rattle.std.proofs.Common.{◌≡◌, ℕ, List, Ok}
+use Rattle.sshkey_model.specs.Keys.{Head, Key, body_at}
+use Rattle.sshkey_model.specs.Names.{Algorithm}
 use Rattle.sshkey_model.specs.Reading.{◌>>=◌, Front, after_at}
-use Rattle.sshkey_model.specs.Certificates.{SignedFields, CertificateChoices, signed_fields_at, type_at, time_at, end_at}
+use Rattle.sshkey_model.specs.Certificates.{SignedFields, CertificateChoices, CertificateType, signed_fields_at, type_at, time_at, end_at}
 use Rattle.sshkey_model.proofs.CombinedReaders.{bind_assoc}
-use Rattle.sshkey_cert_fields.specs.ToBeSignedFormats.{subject_format}
-use Rattle.sshkey_cert_ref.specs.Fields.{after_key_format}
+use Rattle.sshkey_base.specs.Formats.{Format, number64_format, string_format, text_format, texts_format}
+use Rattle.sshkey_base.specs.NameFormats.{certified_format}
+use Rattle.sshkey_terms.specs.Terms.{◌then◌}
+use Rattle.sshkey_cert_values.specs.Leaves.{type_format, time_format, end_format}
+use Rattle.sshkey_cert_ref.specs.Fields.{OptionsAsSpelled, boxed_key_format, spelled_options_format}
+
+abbrev pub opening_format : Format (Algorithm × List ℕ)
+opening_format = certified_format then string_format
+
+abbrev pub after_key_format : Format (((ℕ × CertificateType) × (List ℕ × List (List ℕ))) × ((ℕ × ℕ) × ((OptionsAsSpelled × OptionsAsSpelled) × (List ℕ × (Key × Head)))))
+after_key_format = ((number64_format then type_format) then text_format then texts_format) then (time_format then end_format) then (spelled_options_format then spelled_options_format) then string_format then boxed_key_format
 
 unfoldable pub fields_at : Front (SignedFields × CertificateChoices)
 fields_at b = do
-  subject ← subject_format.read b
-  rest ← after_key_format.read subject.1
+  opening ← opening_format.read b
+  key ← body_at opening.0.0 opening.1
+  rest ← after_key_format.read key.1
   Ok (
     (
-      record { nonce = subject.0.0; key = subject.0.1; serial = rest.0.0.0.0; certificate_type = rest.0.0.0.1; key_id = rest.0.0.1.0; valid_principals = rest.0.0.1.1; valid_after = rest.0.1.0.0; valid_before = rest.0.1.0.1; critical_options = rest.0.1.1.0.0.0; extensions = rest.0.1.1.0.1.0; reserved = rest.0.1.1.1.0; signature_key = rest.0.1.1.1.1.0 },
+      record { nonce = opening.0.1; key = key.0; serial = rest.0.0.0.0; certificate_type = rest.0.0.0.1; key_id = rest.0.0.1.0; valid_principals = rest.0.0.1.1; valid_after = rest.0.1.0.0; valid_before = rest.0.1.0.1; critical_options = rest.0.1.1.0.0.0; extensions = rest.0.1.1.0.1.0; reserved = rest.0.1.1.1.0; signature_key = rest.0.1.1.1.1.0 },
       record { critical_options = rest.0.1.1.0.0.1; extensions = rest.0.1.1.0.1.1; signature_key = rest.0.1.1.1.1.1 },
     ),
     rest.1,

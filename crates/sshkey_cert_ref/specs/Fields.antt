@@ -1,5 +1,4 @@
--- The fields of a certificate after its key, with the choices of their spelling, by the term that
--- they are read as.
+-- The fields of a certificate that are spelled in several ways, with the choices of their spelling.
 use Rattle.std.specs.Prelude.{ℕ, List, []}
 use Rattle.sshkey_model.specs.Grammar.{SpellsAs}
 use Rattle.sshkey_model.specs.Keys.{Head, Key, IsKey, HasKeyPlaces, Opaque, Plain, key, key_at}
@@ -7,19 +6,18 @@ use Rattle.sshkey_model.specs.Names.{Dsa}
 use Rattle.sshkey_model.specs.Options.{CertificateOption, Nesting, options_at}
 use Rattle.sshkey_model.specs.Reading.{whole}
 use Rattle.sshkey_model.specs.Signatures.{Signature, signature_at}
-use Rattle.sshkey_base.specs.Formats.{Format, string_format}
+use Rattle.sshkey_base.specs.Formats.{Format}
 use Rattle.sshkey_base.specs.Needs.{NoNeed}
 use Rattle.sshkey_base.specs.Stops.{NoOverrun}
-use Rattle.sshkey_terms.specs.Terms.{◌then◌, boxed}
+use Rattle.sshkey_terms.specs.Terms.{boxed}
 use Rattle.sshkey_keys_ref.specs.KeyDataRef.{key_bytes}
 use Rattle.sshkey_keys_ref.specs.SignatureRef.{signature_bytes}
 use Rattle.sshkey_keys_ref.specs.declared.key_data_ref.KeyDataRef.{KeyDataRef}
 use Rattle.sshkey_keys_ref.specs.declared.signature_ref.SignatureRef.{SignatureRef}
 use Rattle.sshkey_cert_ref.specs.OptionLists.{SpellsOptionString}
 use Rattle.sshkey_terms.specs.Slices.{found_or}
-use Rattle.sshkey_cert_fields.specs.ToBeSignedFormats.{GrantFields, Window, grant_format, window_format}
 
-abbrev OptionsAsSpelled : Type 0
+abbrev pub OptionsAsSpelled : Type 0
 OptionsAsSpelled = List CertificateOption × List Nesting
 
 -- options in a string, each empty value as its choice says
@@ -48,8 +46,3 @@ no_signature = record { algorithm = Dsa; blob = [] }
 -- the signature that the bytes spell
 abbrev pub spelled_signature_of : SignatureRef → Signature
 spelled_signature_of r = found_or no_signature (whole signature_at (signature_bytes r))
-
--- the serial number, the type, the key id and the principals; the two times; the options; the
--- reserved bytes and the key that signs
-abbrev pub after_key_format : Format (GrantFields × (Window × ((OptionsAsSpelled × OptionsAsSpelled) × (List ℕ × (Key × Head)))))
-after_key_format = grant_format then window_format then (spelled_options_format then spelled_options_format) then string_format then boxed_key_format

@@ -38,11 +38,3 @@ pub record AreCertificateParts (p : Parts) (x : SignedFields × CertificateChoic
   pub extensions : spelled_options_of p.extensions ≡ (x.0.extensions, x.1.extensions)
   pub reserved : p.reserved.now ≡ x.0.reserved
   pub signature_key : IsKeyIn p.signature_key (x.0.signature_key, x.1.signature_key)
-
--- ---- part by part
-
--- the name, the nonce, and the bytes of the key's body
-pub record AreSubject (p : Bor (List ℕ) × Bor (List ℕ) × Bor (List ℕ)) (x : List ℕ × Key) : Type 0 where
-  pub name : p.0.now ≡ certificate_name (key_algorithm x.1)
-  pub nonce : p.1.now ≡ x.0
-  pub key : p.2.now ≡ flat (body x.1)

@@ -2,9 +2,8 @@
 
 ghost use Rattle.sshkey_base.specs.Causes.{cause};
 ghost use Rattle.sshkey_model.specs.Certificates.{signed_fields_at};
-ghost use Rattle.sshkey_cert_ref.specs.Parts.{AreCertificateParts, AreSubject};
+ghost use Rattle.sshkey_cert_ref.specs.Parts.{AreCertificateParts};
 ghost use Rattle.sshkey_cert_ref.specs.Taking.{Cuts};
-ghost use Rattle.sshkey_cert_fields.specs.ToBeSignedFormats.{subject_format};
 
 use crate::certificate_name::CertificateName;
 use crate::leaves::{Field, KeyInString};
@@ -38,13 +37,14 @@ type AfterKey<'a> = Then<Grant<'a>, Then<Window, Then<Limits<'a>, Authority<'a>>
 pub(crate) fn split_parts<'a>(bytes: &'a [u8]) -> Result<(Parts<'a>, &'a [u8])>
     ensures { Cuts AreCertificateParts cause signed_fields_at bytes.now result }
 {
-    let ((name, nonce, key), after_subject) = split_subject(bytes)?;
-    let mut rest = after_subject;
+    let mut rest = bytes;
+    let Then(opening, nonce) = Opening::<'a>::read_from(&mut rest)?;
+    let key = take_body(opening.name, &mut rest)?;
     let Then(grant, Then(window, Then(limits, authority))) = AfterKey::<'a>::read_from(&mut rest)?;
     let Then(Then(serial, cert_type), Then(key_id, valid_principals)) = grant;
     let parts = Parts {
-        name,
-        nonce,
+        name: opening.name,
+        nonce: nonce.0,
         key,
         serial: serial.0,
         cert_type: cert_type.0,
@@ -58,14 +58,4 @@ pub(crate) fn split_parts<'a>(bytes: &'a [u8]) -> Result<(Parts<'a>, &'a [u8])>
         signature_key: authority.1.0,
     };
     Ok((parts, rest))
-}
-
-/// The name, the nonce, and the key's body.
-fn split_subject<'a>(bytes: &'a [u8]) -> Result<((&'a str, &'a [u8], &'a [u8]), &'a [u8])>
-    ensures { Cuts AreSubject cause subject_format.read bytes.now result }
-{
-    let mut rest = bytes;
-    let Then(opening, nonce) = Opening::<'a>::read_from(&mut rest)?;
-    let key = take_body(opening.name, &mut rest)?;
-    Ok(((opening.name, nonce.0, key), rest))
 }
