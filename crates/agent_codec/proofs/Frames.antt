@@ -9,7 +9,7 @@ use Rattle.ssh_key.specs.base.Sink.{IsLength, MeasuresBoxed}
 use Rattle.ssh_key.specs.base.Source.{IsSound, Source}
 use Rattle.ssh_key.specs.base.Stops.{Stopped}
 use Rattle.ssh_key.specs.model.Parts.{Parts, box, number, ◌&◌, flat, BoxesFit}
-use Rattle.ssh_key.specs.format.Terms.{tested}
+use Rattle.ssh_key.specs.terms.Terms.{tested}
 use Rattle.ssh_key.specs.types.Error as wide
 use Rattle.ssh_key.specs.types.encoding.Error.{Error}
 use Rattle.agent_codec.specs.Parts.{nothing_at}

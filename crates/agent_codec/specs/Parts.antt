@@ -3,8 +3,8 @@ use Rattle.std.specs.Prelude.{◌≡◌, ℕ, List, [], Result, Ok}
 use Rattle.ssh_key.specs.base.Formats.{Format, byte_format}
 use Rattle.ssh_key.specs.base.Needs.{NoNeed}
 use Rattle.ssh_key.specs.base.Stops.{NoOverrun}
-use Rattle.ssh_key.specs.format.Terms.{boxed, called, tested}
 use Rattle.ssh_key.specs.model.Reading.{Fault, Front}
+use Rattle.ssh_key.specs.terms.Terms.{boxed, called, tested}
 
 -- ---- no bytes, which spell that value
 

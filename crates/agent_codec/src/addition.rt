@@ -1,7 +1,7 @@
 //! A key pair that an agent is given.
 
 ghost use Rattle.std.specs.Prelude.{◌≡◌, ◌+◌, ◌^◌, false};
-ghost use Rattle.ssh_key.specs.keypairs.PairKinds.{is_encrypted};
+ghost use Rattle.ssh_key.specs.pairs.PairKinds.{is_encrypted};
 
 use ssh_key::encoding::{
     Bytes, Decode, Encode, NormalForm, Reader, Then, Wide, Writer, both_len, encode_both,

@@ -1,9 +1,9 @@
 -- What a builder that was told of a request signs.
 use Rattle.std.proofs.Common.{◌≡◌, ◌≢◌, ◌∙◌, ℕ, List, [], ◌∷◌, Bool, Result, Ok, Err, IfOk, IfErr, subst, sym}
 use Rattle.std.specs.Prelude.{Option, None, Some, IsNone, IsSome, option_map, string_bytes}
-use Rattle.ssh_key.specs.builder.Builders.{IsValidExactlyIn, RefusesAlways, field_error, no_principals}
 use Rattle.ssh_key.specs.cert.CertificateValues.{certificate_of, comment_of}
 use Rattle.ssh_key.specs.cert.Signing.{PermitsToSign, RefusesToSign}
+use Rattle.ssh_key.specs.cert_builder.Builders.{IsValidExactlyIn, RefusesAlways, field_error, no_principals}
 use Rattle.ssh_key.specs.keys.Keys.{key_of}
 use Rattle.ssh_key.specs.model.Certificates.{SignedFields}
 use Rattle.ssh_key.specs.model.Drafts.{Draft, DraftField, IsSignedDraft, KeyId, Serial, after_step, begun, drafted, or_default}

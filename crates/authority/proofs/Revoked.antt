@@ -26,7 +26,7 @@ said true n ns some = go (n == 0) refl
     go true e = rw (eqb-true n 0 e) (sym some)
 
 pub takes_back : (authority : Key) (serials : List ℕ) (n d : ℕ) (comment : List ℕ) (k : Krl) → has_zero serials ≡ false → k ≡ with_section (begun n d comment) (Certificates (Signer authority) (Numbers (Listed serials) ∷ [])) → TakesBack authority serials k
-takes_back authority serials n d comment k some is = rw is (record { keys = λ key. refl; certificates = λ key grant. said (bytes_eq grant.signer (flat (normal_key authority))) grant.serial serials some })
+takes_back authority serials n d comment k some is = rw is (record { keys = λ key. refl; certificates = λ key identity. said (bytes_eq identity.signer (flat (normal_key authority))) identity.serial serials some })
 
 pub stated : (n d : ℕ) (comment : List ℕ) (s : Section) (k : Krl) → k ≡ with_section (begun n d comment) s → IsStated n d k
 stated n d comment s k is = rw is (refl, refl)

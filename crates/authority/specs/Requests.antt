@@ -2,9 +2,9 @@
 use Rattle.std.specs.Prelude.{◌≡◌, ◌≢◌, ◌⊎◌, ◌==◌, ◌&&◌, ℕ, ◌+◌, ◌^◌, ◌<◌, ◌≤◌, List, [], ◌∷◌, length, Bool, not, All, Contains, Option, Result, Ok, Err, None, Some, String, map, string_bytes, bytes_eq}
 use Rattle.std.specs.List.{list_all, list_any}
 use Rattle.std.specs.NonZero.{non_zero_u64_get}
-use Rattle.ssh_key.specs.builder.Builders.{IsValidExactlyIn, draft_of}
 use Rattle.ssh_key.specs.cert.CertificateValues.{certificate_of, comment_of}
 use Rattle.ssh_key.specs.cert.Signing.{PermitsToSign, RefusesToSign}
+use Rattle.ssh_key.specs.cert_builder.Builders.{IsValidExactlyIn, draft_of}
 use Rattle.ssh_key.specs.keys.Keys.{key_of}
 use Rattle.ssh_key.specs.model.Certificates.{SignedFields, User}
 use Rattle.ssh_key.specs.model.Drafts.{Extension, Principal, Step, after_steps, bad_window}

@@ -1,7 +1,7 @@
 -- The list of what an authority took back.
 use Rattle.std.specs.Prelude.{◌≡◌, ◌⊎◌, ◌&&◌, ◌==◌, ℕ, List, Bool, false, bytes_eq}
 use Rattle.std.specs.List.{list_any}
-use Rattle.ssh_key.specs.krl.Revocation.{Grant, Krl, Signer, revokes, revokes_key}
+use Rattle.ssh_key.specs.krl.Revocation.{CertificateIdentity, Krl, Signer, revokes, revokes_key}
 use Rattle.ssh_key.specs.krl.Sections.{is_read_signer}
 use Rattle.ssh_key.specs.krl.Written.{certificates_section, serials_part}
 use Rattle.ssh_key.specs.model.Keys.{Key, normal_key}
@@ -15,13 +15,13 @@ abbrev pub IsStated : ℕ → ℕ → Krl → Type 0
 IsStated number date k = (k.number ≡ number) × (k.date ≡ date)
 
 -- The authority signed the certificate, and took its serial number back.
-abbrev pub is_taken_back : Key → List ℕ → Grant → Bool
-is_taken_back authority serials grant = bytes_eq grant.signer (flat (normal_key authority)) && list_any (λ n. n == grant.serial) serials
+abbrev pub is_taken_back : Key → List ℕ → CertificateIdentity → Bool
+is_taken_back authority serials identity = bytes_eq identity.signer (flat (normal_key authority)) && list_any (λ n. n == identity.serial) serials
 
 -- The list revokes no key, and exactly the certificates that were taken back.
 pub record TakesBack (authority : Key) (serials : List ℕ) (k : Krl) : Type 0 where
   pub keys : (key : List ℕ) → revokes_key k key ≡ false
-  pub certificates : (key : List ℕ) (grant : Grant) → revokes k key grant ≡ is_taken_back authority serials grant
+  pub certificates : (key : List ℕ) (identity : CertificateIdentity) → revokes k key identity ≡ is_taken_back authority serials identity
 
 -- OpenSSH does not read the key; or the key or the numbers are too long for a list, or memory ran
 -- out.

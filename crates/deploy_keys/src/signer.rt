@@ -2,9 +2,9 @@
 
 ghost use Rattle.std.specs.Prelude.{◌≡◌, ◌≢◌, ◌↔◌, ℕ, List, [], IfErr, IfOk, IsTrue, string_bytes};
 ghost use Rattle.ssh_key.specs.authorized_keys.OpenSshEntries.{openssh_entry_of};
+ghost use Rattle.ssh_key.specs.entries.Answers.{ReadsEntry};
 ghost use Rattle.ssh_key.specs.entries.Fields.{filled_lines};
 ghost use Rattle.ssh_key.specs.entries.OpenSshLines.{IsAuthorizedLine};
-ghost use Rattle.ssh_key.specs.files.Answers.{ReadsEntry};
 ghost use Rattle.ssh_key.specs.model.Keys.{IsKey};
 ghost use Rattle.ssh_key.specs.model.SignedMessages.{IsVerified};
 ghost use Rattle.ssh_key.specs.sshsig.SshSignatures.{ssh_signature_of};

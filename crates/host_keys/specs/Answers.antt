@@ -4,7 +4,7 @@ use Rattle.openssh_limits.specs.Keys.{is_let_in}
 use Rattle.sshkey_base.specs.Reading.{NoSpelling}
 use Rattle.sshkey_cert.specs.CertificateReaders.{SpellsCertificate}
 use Rattle.sshkey_cert_form.specs.Faults.{IsFaultOf}
-use Rattle.sshkey_krl.specs.Revocation.{Grant}
+use Rattle.sshkey_krl.specs.Revocation.{CertificateIdentity}
 use Rattle.sshkey_krl.specs.Revocations.{is_certificate_revoked, is_key_revoked}
 use Rattle.sshkey_model.specs.Certificates.{Certificate, normal_certificate}
 use Rattle.sshkey_model.specs.Keys.{Key}
@@ -65,10 +65,10 @@ IsWhy Said revoked accepted Bad refusal.Memory = Unit {0}
 abbrev pub IsWhyNoKey : HostLogin → (List ℕ → Bool) → Key → Refusal → Type 0
 IsWhyNoKey login revokes_key key = IsWhy (IsSaidOfKey login.hmac login.host login.port key login.lines) (is_key_revoked revokes_key key) (is_let_in login.least_rsa_bits key) (λ r. ⊥)
 
-abbrev pub IsWhyNoCertificate : HostLogin → (Question → Bool) → (List ℕ → Grant → Bool) → Certificate → Refusal → Type 0
+abbrev pub IsWhyNoCertificate : HostLogin → (Question → Bool) → (List ℕ → CertificateIdentity → Bool) → Certificate → Refusal → Type 0
 IsWhyNoCertificate login accepts revokes c = IsWhy (IsSaidOfSigned login.hmac login.host login.port c.signed.key c.signed.signature_key login.lines) (is_certificate_revoked revokes c) (is_let_in login.least_rsa_bits c.signed.key) (IsBadFor accepts login.time (plain_name login.host) c)
 
 -- The bytes spell no certificate, and have that fault. Or they spell one: they are not its normal
 -- form; or they are, and it is refused.
-abbrev pub RefusesHostCertificate : HostLogin → (Question → Bool) → (List ℕ → Grant → Bool) → List ℕ → Refusal → Type 0
+abbrev pub RefusesHostCertificate : HostLogin → (Question → Bool) → (List ℕ → CertificateIdentity → Bool) → List ℕ → Refusal → Type 0
 RefusesHostCertificate login accepts revokes blob r = (NoSpelling SpellsCertificate blob × ((e : Error) × IsFaultOf blob e × IsRefusalFor e r)) ⊎ ((c : Certificate) × SpellsCertificate c blob × (((blob ≢ flat (normal_certificate c)) × (r ≡ refusal.NotNormalForm)) ⊎ ((blob ≡ flat (normal_certificate c)) × IsWhyNoCertificate login accepts revokes c r)))

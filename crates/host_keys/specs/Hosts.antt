@@ -12,7 +12,7 @@ use Rattle.sshkey_entries.specs.Fields.{filled_lines}
 use Rattle.sshkey_entries.specs.HostNames.{known_name, standard_port}
 use Rattle.sshkey_entries.specs.HostVerdicts.{HidesSome, IsAuthority, IsRevoked}
 use Rattle.sshkey_known_hosts.specs.Verdicts.{IsVerdict}
-use Rattle.sshkey_krl.specs.Revocation.{Grant}
+use Rattle.sshkey_krl.specs.Revocation.{CertificateIdentity}
 use Rattle.sshkey_krl.specs.Revocations.{is_certificate_revoked, is_key_revoked}
 use Rattle.sshkey_model.specs.Certificates.{Certificate, Host, normal_certificate}
 use Rattle.sshkey_model.specs.Fingerprints.{Fingerprint, fingerprint}
@@ -120,14 +120,14 @@ pub record IsTrustedKey (login : HostLogin) (revokes_key : List ℕ → Bool) (k
 
 -- The certificate is the host's: by an authority of the host, not revoked, of a key that ssh
 -- accepts, and good for the host.
-pub record IsTrustedCertificate (login : HostLogin) (accepts : Question → Bool) (revokes : List ℕ → Grant → Bool) (c : Certificate) : Type 0 where
+pub record IsTrustedCertificate (login : HostLogin) (accepts : Question → Bool) (revokes : List ℕ → CertificateIdentity → Bool) (c : Certificate) : Type 0 where
   pub by_authority : IsSaidOfSigned login.hmac login.host login.port c.signed.key c.signed.signature_key login.lines Trusted
   pub unrevoked : is_certificate_revoked revokes c ≡ false
   pub accepted : IsTrue (is_let_in login.least_rsa_bits c.signed.key)
   pub good : IsGoodFor accepts login.time (plain_name login.host) c
 
 -- The bytes are those of a certificate, in its normal form, that is the host's.
-pub record IsHostCertificate (login : HostLogin) (accepts : Question → Bool) (revokes : List ℕ → Grant → Bool) (blob : List ℕ) : Type 0 where
+pub record IsHostCertificate (login : HostLogin) (accepts : Question → Bool) (revokes : List ℕ → CertificateIdentity → Bool) (blob : List ℕ) : Type 0 where
   pub certificate : Certificate
   pub spelled : SpellsCertificate certificate blob
   pub normal : blob ≡ flat (normal_certificate certificate)

@@ -34,7 +34,7 @@ use Rattle.login_policy.specs.declared.refusal.Refusal.TheVariants.{Memory}
 -- has to have so many bits.
 pub record Login : Type 0 where
   pub accepts : Question → Bool
-  pub revokes : List ℕ → krl.Grant → Bool
+  pub revokes : List ℕ → krl.CertificateIdentity → Bool
   pub authorities : List Fingerprint
   pub time : ℕ
   pub user : List ℕ
@@ -44,7 +44,7 @@ pub record Login : Type 0 where
   pub client : Client
 
 -- the login of a call, of its verifier and of who says what is revoked
-abbrev pub login_of : code.Login → (Question → Bool) → (List ℕ → krl.Grant → Bool) → Login
+abbrev pub login_of : code.Login → (Question → Bool) → (List ℕ → krl.CertificateIdentity → Bool) → Login
 login_of l accepts revokes = record { accepts = accepts; revokes = revokes; authorities = fingerprints_of l.authorities.now; time = l.unix_timestamp; user = l.user.now; offered = key_of l.offered.now; blob = l.certificate.now; least_rsa_bits = l.least_rsa_bits; client = l.client }
 
 -- The fields are those of a certificate for users, of the offered key, which is let in, with only

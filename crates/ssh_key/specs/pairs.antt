@@ -1,7 +1,6 @@
-pub use Rattle.sshkey_pair_kinds.specs.PairReaders
-pub use Rattle.sshkey_pair_kinds.specs.PairFormats
-pub use Rattle.sshkey_pair_kinds.specs.PrivateHalves
-pub use Rattle.sshkey_pair_kinds.specs.Pairs
-pub use Rattle.sshkey_pair_kinds.specs.SkEcdsaSha2NistP256
-pub use Rattle.sshkey_pair_kinds.specs.SkEd25519
-pub use Rattle.sshkey_pair_kinds.specs.SecurityPairs
+pub use Rattle.sshkey_pairs.specs.OpaquePairs
+pub use Rattle.sshkey_pairs.specs.KeypairFormats
+pub use Rattle.sshkey_pairs.specs.KeypairReaders
+pub use Rattle.sshkey_pairs.specs.Keypairs
+pub use Rattle.sshkey_pairs.specs.PairKinds
+pub use Rattle.sshkey_pairs.specs.NormalPairs

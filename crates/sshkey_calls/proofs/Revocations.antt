@@ -4,7 +4,7 @@ use Rattle.sshkey_base.specs.Acceptance.{SpellsSome}
 use Rattle.sshkey_base.specs.Causes.{Cause, Faulty, NoMemory, Other}
 use Rattle.sshkey_keys.specs.Keys.{SpellsKey}
 use Rattle.sshkey_keys_ref.specs.NormalBytes.{IsRenamed}
-use Rattle.sshkey_krl.specs.Revocation.{Krl, grant, revokes, revokes_certificate}
+use Rattle.sshkey_krl.specs.Revocation.{Krl, certificate_identity, revokes, revokes_certificate}
 use Rattle.sshkey_model.specs.Certificates.{Certificate}
 use Rattle.sshkey_model.specs.Keys.{normal_key}
 use Rattle.sshkey_model.specs.Parts.{flat}
@@ -30,5 +30,5 @@ pub renamed_key : (own bytes : List ℕ) → own ≡ bytes → SpellsSome Spells
 renamed_key own bytes same some renamed = (some.0, some.1, (subst IsRenamed same renamed some.0 some.1).1)
 
 -- the list is asked about the certificate
-pub certificate_said : (l : Krl) (c : Certificate) (key signer key_id : List ℕ) (serial : ℕ) → key ≡ flat (normal_key c.signed.key) → signer ≡ flat (normal_key c.signed.signature_key) → serial ≡ c.signed.serial → key_id ≡ c.signed.key_id → revokes l key (grant signer serial key_id) ≡ revokes_certificate l c
+pub certificate_said : (l : Krl) (c : Certificate) (key signer key_id : List ℕ) (serial : ℕ) → key ≡ flat (normal_key c.signed.key) → signer ≡ flat (normal_key c.signed.signature_key) → serial ≡ c.signed.serial → key_id ≡ c.signed.key_id → revokes l key (certificate_identity signer serial key_id) ≡ revokes_certificate l c
 certificate_said l c key signer key_id serial k s n i = rw (k, s, n, i) refl

@@ -5,7 +5,7 @@ use Rattle.std.specs.Int.Count.{count_leading_zeros}
 use Rattle.sshkey_base.specs.declared.error.Error.{Error}
 use Rattle.sshkey_krl.specs.KrlRef.{krl_bytes, krl_of}
 use Rattle.sshkey_krl.specs.Krls.{krl_in}
-use Rattle.sshkey_krl.specs.Revocation.{Grant, begun}
+use Rattle.sshkey_krl.specs.Revocation.{CertificateIdentity, begun}
 use Rattle.sshkey_krl.specs.Revocation as krl
 use Rattle.sshkey_krl.specs.Serials.{significant}
 use Rattle.sshkey_krl.specs.declared.krl_ref.KrlRef.{KrlRef}
@@ -27,7 +27,7 @@ module _ (k : KrlRef) (is : bytes_eq (krl_bytes k) nothing ≡ true) where
   no_key : (key : List ℕ) → krl.revokes_key (krl_of k) key ≡ false
   no_key key = rw is_begun refl
 
-  no_certificate : (key : List ℕ) (asked : Grant) → krl.revokes (krl_of k) key asked ≡ false
+  no_certificate : (key : List ℕ) (asked : CertificateIdentity) → krl.revokes (krl_of k) key asked ≡ false
   no_certificate key asked = rw is_begun refl
 
 -- ---- the files
@@ -39,7 +39,7 @@ no_keys (Ok (Keys keys) ∷ []) e key = absurd cc
 no_keys (Err f ∷ []) e key = absurd cc
 no_keys (read ∷ other ∷ reads) e key = absurd cc
 
-pub no_certificates : (reads : List (Result RevokedKeys Error)) → is_only_nothing reads ≡ true → (key : List ℕ) (asked : Grant) → one_revokes reads key asked ≡ false
+pub no_certificates : (reads : List (Result RevokedKeys Error)) → is_only_nothing reads ≡ true → (key : List ℕ) (asked : CertificateIdentity) → one_revokes reads key asked ≡ false
 no_certificates [] e key asked = absurd cc
 no_certificates (Ok (Krl k) ∷ []) e key asked = rw (no_certificate k e key asked) refl
 no_certificates (Ok (Keys keys) ∷ []) e key asked = absurd cc

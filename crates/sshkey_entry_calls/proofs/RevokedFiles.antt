@@ -10,7 +10,7 @@ use Rattle.sshkey_base.specs.declared.encoding.Error.TheVariants.{CharacterEncod
 use Rattle.sshkey_base.specs.declared.error.Error.{Error}
 use Rattle.sshkey_base.specs.declared.error.Error.TheVariants.{Encoding}
 use Rattle.sshkey_krl.specs.Krls.{krl_format}
-use Rattle.sshkey_krl.specs.Revocation.{Grant, Krl, grant}
+use Rattle.sshkey_krl.specs.Revocation.{CertificateIdentity, Krl, certificate_identity}
 use Rattle.sshkey_krl.specs.Revocations.{is_certificate_revoked}
 use Rattle.sshkey_model.specs.Certificates.{Certificate}
 use Rattle.sshkey_model.specs.Keys.{normal_key}
@@ -61,5 +61,5 @@ high_number reads = go (are_read reads)
     go false = omega arith
 
 -- the files are asked about the certificate
-pub certificate_said : (says : List ℕ → Grant → Bool) (c : Certificate) (key signer key_id : List ℕ) (serial : ℕ) → key ≡ flat (normal_key c.signed.key) → signer ≡ flat (normal_key c.signed.signature_key) → serial ≡ c.signed.serial → key_id ≡ c.signed.key_id → says key (grant signer serial key_id) ≡ is_certificate_revoked says c
+pub certificate_said : (says : List ℕ → CertificateIdentity → Bool) (c : Certificate) (key signer key_id : List ℕ) (serial : ℕ) → key ≡ flat (normal_key c.signed.key) → signer ≡ flat (normal_key c.signed.signature_key) → serial ≡ c.signed.serial → key_id ≡ c.signed.key_id → says key (certificate_identity signer serial key_id) ≡ is_certificate_revoked says c
 certificate_said says c key signer key_id serial k s n i = rw (k, s, n, i) refl

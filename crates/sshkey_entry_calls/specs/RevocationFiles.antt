@@ -11,7 +11,7 @@ use Rattle.sshkey_base.specs.declared.error.Error.TheVariants.{Encoding}
 use Rattle.sshkey_entries.specs.Answers.{NeedsFirstLine}
 use Rattle.sshkey_krl.specs.KrlRef.{krl_bytes}
 use Rattle.sshkey_krl.specs.Krls.{krl_format, magic}
-use Rattle.sshkey_krl.specs.Revocation.{Grant}
+use Rattle.sshkey_krl.specs.Revocation.{CertificateIdentity}
 use Rattle.sshkey_krl.specs.Revocations.{unless_read}
 use Rattle.sshkey_model.specs.Reading.{whole}
 use Rattle.sshkey_revoked_keys.specs.RevokedKeys.{ReadsKrl, ReadsRevokedKeys, begins_krl, revokes, revokes_key}
@@ -47,7 +47,7 @@ abbrev pub one_revokes_key : List (Result RevokedKeys Error) → List ℕ → Bo
 one_revokes_key reads key = list_any (λ read. unless_read (λ file. revokes_key file key) read) reads
 
 -- whether a file revokes the certificate
-abbrev pub one_revokes : List (Result RevokedKeys Error) → List ℕ → Grant → Bool
+abbrev pub one_revokes : List (Result RevokedKeys Error) → List ℕ → CertificateIdentity → Bool
 one_revokes reads key asked = list_any (λ read. unless_read (λ file. revokes file key asked) read) reads
 
 -- the list of nothing: a header, and no section

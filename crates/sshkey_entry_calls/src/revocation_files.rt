@@ -3,7 +3,7 @@
 ghost use Rattle.std.specs.List.{AllZip};
 ghost use Rattle.std.specs.Prelude.{◌≡◌, ◌<◌, ℕ, IfErr, IfOk, List, false, length, true};
 ghost use Rattle.sshkey_base.specs.declared.error.Error.TheVariants as error;
-ghost use Rattle.sshkey_krl.specs.Revocation.{Grant, grant};
+ghost use Rattle.sshkey_krl.specs.Revocation.{CertificateIdentity, certificate_identity};
 ghost use Rattle.sshkey_entry_calls.specs.RevocationFiles as files;
 ghost use Rattle.sshkey_entry_calls.specs.declared.revocation_files.RevocationFiles as declared;
 ghost use Rattle.sshkey_entry_calls.specs.RevocationFiles.{AreReadOf, IsReadOf, NeedsFile, NeedsFiles, are_read, is_nothing, is_only_nothing, reads_of, revoked_number};
@@ -133,7 +133,7 @@ fn one_revokes(
     key_id: &str,
 ) -> bool
     ensures { result ≡ files.one_revokes reads.now key.now
-        (grant signature_key.now serial key_id.now) }
+        (certificate_identity signature_key.now serial key_id.now) }
 {
     reads.iter().any(|read| read.revokes_certificate(key, signature_key, serial, key_id))
 }
@@ -147,7 +147,7 @@ impl Revocations for RevocationFiles<'_> {
     ghost revokes_none = { λ it. is_only_nothing (reads_of it) };
 
     fn whole()
-        ensures { (it : declared.RevocationFiles) (key : List ℕ) (asked : Grant) →
+        ensures { (it : declared.RevocationFiles) (key : List ℕ) (asked : CertificateIdentity) →
             files.one_revokes_key (reads_of it) key ≡ true →
             files.one_revokes (reads_of it) key asked ≡ true }
     {}

@@ -4,7 +4,7 @@ use Rattle.std.specs.Prelude.{IsErrAnd}
 use Rattle.ssh_key.specs.base.Causes.{Faulty, NoMemory, cause}
 use Rattle.ssh_key.specs.base.Source.{IsSound, all_of}
 use Rattle.ssh_key.specs.model.Reading.{Fault}
-use Rattle.ssh_key.specs.slices.Slices.{Keeps}
+use Rattle.ssh_key.specs.terms.Slices.{Keeps}
 use Rattle.ssh_key.specs.types.Error.{Error}
 use Rattle.ssh_key.specs.types.Error.TheVariants.{Memory}
 use Rattle.sshkey_examples.specs.Signed.{AnswersYesOrNo}

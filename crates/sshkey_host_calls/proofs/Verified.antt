@@ -7,7 +7,7 @@ use Rattle.host_keys.specs.declared.refusal.Refusal.TheVariants as refusal
 use Rattle.sshkey_cert.specs.CertificateReaders.{SpellsCertificate}
 use Rattle.sshkey_calls.specs.Validations.{Verified, is_yes_number}
 use Rattle.sshkey_calls.proofs.Validations.{same_first_of}
-use Rattle.sshkey_krl.specs.Revocation.{Grant}
+use Rattle.sshkey_krl.specs.Revocation.{CertificateIdentity}
 use Rattle.sshkey_model.specs.Certificates.{Certificate}
 use Rattle.sshkey_model.specs.Refusals.{first_refusal_for}
 use Rattle.sshkey_model.specs.Verification.{Question}
@@ -24,7 +24,7 @@ module _ (one other : Question → Bool) (t : ℕ) (host : List ℕ) (c : Certif
       let none : first_refusal_for one (signers c) t host c ≡ None = (none_where_wanted one (signers c) t host c).1 is.valid in
       record { fields = is.fields; valid = (none_where_wanted other (signers c) t host c).0 (sym same ∙ none) }
 
-module _ (login : HostLogin) (one other : Question → Bool) (revokes : List ℕ → Grant → Bool) (c : Certificate) (same : first_refusal_for one (signers c) login.time (plain_name login.host) c ≡ first_refusal_for other (signers c) login.time (plain_name login.host) c) where
+module _ (login : HostLogin) (one other : Question → Bool) (revokes : List ℕ → CertificateIdentity → Bool) (c : Certificate) (same : first_refusal_for one (signers c) login.time (plain_name login.host) c ≡ first_refusal_for other (signers c) login.time (plain_name login.host) c) where
   trusted_there : IsTrustedCertificate login one revokes c → IsTrustedCertificate login other revokes c
   trusted_there is = record { by_authority = is.by_authority; unrevoked = is.unrevoked; accepted = is.accepted; good = good_there one other login.time (plain_name login.host) c same is.good }
 
@@ -41,7 +41,7 @@ module _ (login : HostLogin) (one other : Question → Bool) (revokes : List ℕ
 
 -- ---- what is told
 
-module _ (login : HostLogin) (accepts : Question → Bool) (revokes : List ℕ → Grant → Bool) (bytes : List ℕ) (is_verified : ℕ) (v : Verified accepts bytes is_verified) where
+module _ (login : HostLogin) (accepts : Question → Bool) (revokes : List ℕ → CertificateIdentity → Bool) (bytes : List ℕ) (is_verified : ℕ) (v : Verified accepts bytes is_verified) where
   abbrev said : Question → Bool
   said _ = is_yes_number is_verified
 

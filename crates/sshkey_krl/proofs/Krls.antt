@@ -12,17 +12,16 @@ use Rattle.sshkey_model.specs.Reading.{Fault, ◌>>=◌, Front, checked_at, chec
 use Rattle.sshkey_terms.proofs.SliceFronts.{taken_value}
 use Rattle.sshkey_terms.specs.Slices.{found_or, is_taken}
 use Rattle.sshkey_terms.specs.ToEnd.{each_at}
-use Rattle.sshkey_krl.specs.Asked.{Asked, asked_certificate, asked_key, says}
+use Rattle.sshkey_krl.specs.Query.{Query, certificate_query, key_query, says}
 use Rattle.sshkey_krl.specs.Krls.{SpellsKrl, header_format, krl_format, krl_in, krl_of, no_krl}
-use Rattle.sshkey_krl.specs.Revocation.{Certificates, Grant, Keys, Krl, Section, Sha1s, Sha256s, has_key, lists, revokes, revokes_key}
-use Rattle.sshkey_krl.specs.Revocation.{grant as granted}
+use Rattle.sshkey_krl.specs.Revocation.{CertificateIdentity, Certificates, Keys, Krl, Section, Sha1s, Sha256s, certificate_identity, has_key, lists, revokes, revokes_key}
 use Rattle.sshkey_krl.specs.Sections.{section_format}
 use Rattle.sshkey_krl.proofs.Asking.{asked}
 use Rattle.sshkey_krl.proofs.Lawful.{krl_lawful}
 
 -- ---- the header, and the sections
 
-module _ (a : Asked) where
+module _ (a : Query) where
   abbrev pub said : Krl → Result Bool Fault
   said k = Ok (list_any (says a) k.sections)
 
@@ -154,40 +153,40 @@ or_false : (a : Bool) → (a || false) ≡ a
 or_false true = refl
 or_false false = refl
 
-by_key : (key : List ℕ) (s : Section) → says (asked_key key) s ≡ has_key key s
+by_key : (key : List ℕ) (s : Section) → says (key_query key) s ≡ has_key key s
 by_key key (Certificates authority parts) = refl
 by_key key (Keys keys) = any_same _ _ (λ x. or_self (bytes_eq key x)) keys
 by_key key (Sha1s ds) = any_same _ _ (λ x. or_self (bytes_eq (sha1 key) x)) ds
 by_key key (Sha256s ds) = any_same _ _ (λ x. or_self (bytes_eq (sha256 key) x)) ds
 
-pub key_revoked : (key : List ℕ) (ss : List Section) → list_any (says (asked_key key)) ss ≡ list_any (has_key key) ss
+pub key_revoked : (key : List ℕ) (ss : List Section) → list_any (says (key_query key)) ss ≡ list_any (has_key key) ss
 key_revoked key ss = any_same _ _ (by_key key) ss
 
 module _ (key signer : List ℕ) (serial : ℕ) (key_id : List ℕ) where
-  abbrev grant : Grant
-  grant = granted signer serial key_id
+  abbrev identity : CertificateIdentity
+  identity = certificate_identity signer serial key_id
 
   with_none : (a b c : Bool) → a ≡ (b || c) → a ≡ (b || (c || false))
   with_none a b c e = e ∙ ap (λ (d : Bool). b || d) (sym (or_false c))
 
-  by_certificate : (s : Section) → says (asked_certificate key signer serial key_id) s ≡ (has_key key s || (has_key signer s || lists grant s))
+  by_certificate : (s : Section) → says (certificate_query key signer serial key_id) s ≡ (has_key key s || (has_key signer s || lists identity s))
   by_certificate (Certificates authority parts) = refl
   by_certificate (Keys keys) = with_none _ _ _ (any_or (bytes_eq key) (bytes_eq signer) keys)
   by_certificate (Sha1s ds) = with_none _ _ _ (any_or (bytes_eq (sha1 key)) (bytes_eq (sha1 signer)) ds)
   by_certificate (Sha256s ds) = with_none _ _ _ (any_or (bytes_eq (sha256 key)) (bytes_eq (sha256 signer)) ds)
 
-  pub certificate_revoked : (ss : List Section) → list_any (says (asked_certificate key signer serial key_id)) ss ≡ (list_any (has_key key) ss || (list_any (has_key signer) ss || list_any (lists grant) ss))
+  pub certificate_revoked : (ss : List Section) → list_any (says (certificate_query key signer serial key_id)) ss ≡ (list_any (has_key key) ss || (list_any (has_key signer) ss || list_any (lists identity) ss))
   certificate_revoked ss =
       any_same _ _ by_certificate ss
-      ∙ any_or (has_key key) (λ s. has_key signer s || lists grant s) ss
-      ∙ ap (λ (d : Bool). list_any (has_key key) ss || d) (any_or (has_key signer) (lists grant) ss)
+      ∙ any_or (has_key key) (λ s. has_key signer s || lists identity s) ss
+      ∙ ap (λ (d : Bool). list_any (has_key key) ss || d) (any_or (has_key signer) (lists identity) ss)
 
 -- ---- what the calls of a list say
 
-pub key_said : (k : Krl) (key : List ℕ) (about : Asked) (y : Bool) → about ≡ asked_key key → y ≡ list_any (says about) k.sections → y ≡ revokes_key k key
+pub key_said : (k : Krl) (key : List ℕ) (about : Query) (y : Bool) → about ≡ key_query key → y ≡ list_any (says about) k.sections → y ≡ revokes_key k key
 key_said k key about y asks said = (rw asks at said) ∙ key_revoked key k.sections
 
-pub certificate_said : (k : Krl) (key signer : List ℕ) (serial : ℕ) (key_id : List ℕ) (about : Asked) (y : Bool) → about ≡ asked_certificate key signer serial key_id → y ≡ list_any (says about) k.sections → y ≡ revokes k key (granted signer serial key_id)
+pub certificate_said : (k : Krl) (key signer : List ℕ) (serial : ℕ) (key_id : List ℕ) (about : Query) (y : Bool) → about ≡ certificate_query key signer serial key_id → y ≡ list_any (says about) k.sections → y ≡ revokes k key (certificate_identity signer serial key_id)
 certificate_said k key signer serial key_id about y asks said = (rw asks at said) ∙ certificate_revoked key signer serial key_id k.sections
 
 pub ruleset krls = (answered, sections_asked, header_refused, judged, judged_none, key_said, certificate_said)

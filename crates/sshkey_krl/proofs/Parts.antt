@@ -6,14 +6,14 @@ use Rattle.sshkey_base.specs.Answers.{AnswersAlways}
 use Rattle.sshkey_base.specs.Causes.{Cause}
 use Rattle.sshkey_model.specs.Reading.{Fault, ◌>>=◌, checked_whole, end_of, list_whole, number_at, string_at, whole, after_at}
 use denote.Ref.{Bor}
-use Rattle.sshkey_krl.specs.Asked.{Asked, key_id_says, part_says}
+use Rattle.sshkey_krl.specs.Query.{Query, key_id_says, part_says}
 use Rattle.sshkey_krl.specs.Parts.{body, key_id_format}
 use Rattle.sshkey_krl.specs.Revocation.{Numbers, Part}
 use Rattle.sshkey_krl.specs.Serials.{Serials, bitmap_from, range_from}
 use Rattle.sshkey_krl.specs.declared.part.PartKind.TheVariants as kinds
 use Rattle.sshkey_krl.proofs.Asking.{asked}
 
-module _ (a : Asked) where
+module _ (a : Query) where
   abbrev pub said : Part → Result Bool Fault
   said v = Ok (part_says a v)
 

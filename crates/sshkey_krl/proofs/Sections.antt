@@ -15,14 +15,14 @@ use Rattle.sshkey_keys.specs.Keys.{SpellsKey, key_data_at}
 use Rattle.sshkey_keys_ref.specs.KeyDataRef.{key_bytes}
 use Rattle.sshkey_keys_ref.specs.declared.key_data_ref.KeyDataRef.{KeyDataRef}
 use Rattle.sshkey_terms.specs.Slices.{Keeps}
-use Rattle.sshkey_krl.specs.Asked.{Asked, authority_says, key_says, part_says, says, sha1_says, sha256_says, signer_says}
+use Rattle.sshkey_krl.specs.Query.{Query, authority_says, key_says, part_says, says, sha1_says, sha256_says, signer_says}
 use Rattle.sshkey_krl.specs.Parts.{part_format}
 use Rattle.sshkey_krl.specs.Revocation.{Authority, Everybody, Part, Section, Signer}
 use Rattle.sshkey_krl.specs.Sections.{authority_from, body, is_read_signer}
 use Rattle.sshkey_krl.specs.declared.section.SectionKind.TheVariants as kinds
 use Rattle.sshkey_krl.proofs.Asking.{asked}
 
-module _ (a : Asked) where
+module _ (a : Query) where
   abbrev pub said : Section → Result Bool Fault
   said v = Ok (says a v)
 

@@ -7,7 +7,7 @@ use Rattle.sshkey_model.specs.Reading.{FormatEncoding, Version, whole}
 use Rattle.sshkey_krl.specs.Krls.{krl_format, version_from}
 use Rattle.sshkey_krl.specs.Parts as parts
 use Rattle.sshkey_krl.specs.Parts.{text_from}
-use Rattle.sshkey_krl.specs.Revocation.{Certificates, Everybody, KeyIds, Numbers, grant, has_grant, without_zero}
+use Rattle.sshkey_krl.specs.Revocation.{Certificates, Everybody, KeyIds, Numbers, certificate_identity, has_certificate, without_zero}
 use Rattle.sshkey_krl.specs.Sections as sections
 use Rattle.sshkey_krl.specs.Sections.{is_read_signer}
 use Rattle.sshkey_krl.specs.Serials.{Bitmap, Listed, Range, fits, has_serial, is_bitmap, range_from, serial_from}
@@ -36,7 +36,7 @@ SerialEdges = (has_serial 4 (Range 5 10) ≡ false) × (has_serial 5 (Range 5 10
 abbrev pub NumberEdges : Type 0
 NumberEdges = (serial_from 0 ≡ Err FormatEncoding) × (serial_from 1 ≡ Ok 1)
     × (range_from (0, 1) ≡ Err FormatEncoding) × (range_from (1, 1) ≡ Ok (Range 1 1)) × (range_from (2, 1) ≡ Err FormatEncoding)
-    × (has_grant (grant [] 0 []) (Numbers (Range 0 9)) ≡ false) × (has_grant (grant [] 1 []) (Numbers (Range 0 9)) ≡ true)
+    × (has_certificate (certificate_identity [] 0 []) (Numbers (Range 0 9)) ≡ false) × (has_certificate (certificate_identity [] 1 []) (Numbers (Range 0 9)) ≡ true)
 
 -- A bitmap is not negative, and has at most 2,048 bytes without zeros in front. No bit is for 0, nor for
 -- a number of more than eight bytes.
@@ -52,7 +52,7 @@ BitmapSizes = (fits 1 (replicate 2048 1) ≡ true) × (fits 1 (replicate 2049 1)
 abbrev pub TextEdges : Type 0
 TextEdges = (without_zero (codes "id") ≡ codes "id") × (without_zero (codes "id\0") ≡ codes "id") × (without_zero (codes "id\0\0") ≡ codes "id\0") × (without_zero [] ≡ [])
     × (text_from (codes "id\0") ≡ Ok (codes "id")) × (text_from (codes "i\0d") ≡ Err FormatEncoding) × (text_from (codes "id\0\0") ≡ Err FormatEncoding)
-    × (has_grant (grant [] 1 (codes "id\0")) (KeyIds (codes "id" ∷ [])) ≡ true) × (has_grant (grant [] 1 (codes "ID")) (KeyIds (codes "id" ∷ [])) ≡ false)
+    × (has_certificate (certificate_identity [] 1 (codes "id\0")) (KeyIds (codes "id" ∷ [])) ≡ true) × (has_certificate (certificate_identity [] 1 (codes "ID")) (KeyIds (codes "id" ∷ [])) ≡ false)
 
 -- the numbers of PROTOCOL.krl; 4 is a signature
 abbrev pub Kinds : Type 0

@@ -4,7 +4,7 @@ pub mod Parts
 pub mod Renamed
 pub mod Sections
 pub mod Krls
-pub mod Asked
+pub mod Query
 pub mod KrlRef
 pub mod Written
 pub mod Owned

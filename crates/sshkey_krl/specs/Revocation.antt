@@ -51,13 +51,13 @@ without_zero b = if slice_index b (length b - 1) == 0 then take (length b - 1) b
 
 -- what a list asks of a certificate beside its key: who signed it, as the bytes of the key's normal
 -- form, its serial number and its key id, without a zero byte at its end
-pub record Grant : Type 0 where
+pub record CertificateIdentity : Type 0 where
   pub signer : List ℕ
   pub serial : ℕ
   pub key_id : List ℕ
 
-abbrev pub grant : List ℕ → ℕ → List ℕ → Grant
-grant signer serial key_id = record { signer = signer; serial = serial; key_id = without_zero key_id }
+abbrev pub certificate_identity : List ℕ → ℕ → List ℕ → CertificateIdentity
+certificate_identity signer serial key_id = record { signer = signer; serial = serial; key_id = without_zero key_id }
 
 -- The section is about the authority's certificates.
 abbrev pub is_by : List ℕ → Authority → Bool
@@ -65,27 +65,27 @@ is_by signer Everybody = true
 is_by signer (Signer key) = bytes_eq signer (flat (normal_key key))
 
 -- The number 0, which stands for none, is never revoked.
-abbrev pub has_grant : Grant → Part → Bool
-has_grant grant (Numbers serials) = not (grant.serial == 0) && has_serial grant.serial serials
-has_grant grant (KeyIds ids) = list_any (bytes_eq grant.key_id) ids
+abbrev pub has_certificate : CertificateIdentity → Part → Bool
+has_certificate identity (Numbers serials) = not (identity.serial == 0) && has_serial identity.serial serials
+has_certificate identity (KeyIds ids) = list_any (bytes_eq identity.key_id) ids
 
-abbrev pub lists : Grant → Section → Bool
-lists grant (Certificates authority parts) = is_by grant.signer authority && list_any (has_grant grant) parts
-lists grant (Keys keys) = false
-lists grant (Sha1s digests) = false
-lists grant (Sha256s digests) = false
+abbrev pub lists : CertificateIdentity → Section → Bool
+lists identity (Certificates authority parts) = is_by identity.signer authority && list_any (has_certificate identity) parts
+lists identity (Keys keys) = false
+lists identity (Sha1s digests) = false
+lists identity (Sha256s digests) = false
 
 -- The list revokes a certificate of the key, which the signer's key signed: either key, or the serial
 -- number or the key id among the certificates of the signer. Keys are the bytes of their normal form.
-abbrev pub revokes : Krl → List ℕ → Grant → Bool
-revokes krl key grant = revokes_key krl key || (revokes_key krl grant.signer || list_any (lists grant) krl.sections)
+abbrev pub revokes : Krl → List ℕ → CertificateIdentity → Bool
+revokes krl key identity = revokes_key krl key || (revokes_key krl identity.signer || list_any (lists identity) krl.sections)
 
 -- The same of a certificate. Nothing else in it is asked.
-abbrev pub grant_of : Certificate → Grant
-grant_of c = grant (flat (normal_key c.signed.signature_key)) c.signed.serial c.signed.key_id
+abbrev pub certificate_identity_of : Certificate → CertificateIdentity
+certificate_identity_of c = certificate_identity (flat (normal_key c.signed.signature_key)) c.signed.serial c.signed.key_id
 
 abbrev pub revokes_certificate : Krl → Certificate → Bool
-revokes_certificate krl c = revokes krl (flat (normal_key c.signed.key)) (grant_of c)
+revokes_certificate krl c = revokes krl (flat (normal_key c.signed.key)) (certificate_identity_of c)
 
 -- ---- lists that are made
 

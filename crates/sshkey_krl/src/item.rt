@@ -8,7 +8,8 @@ ghost use Rattle.sshkey_base.specs.Formats.{Format, IsFormat};
 ghost use Rattle.sshkey_model.specs.Reading.{checked_at, checked_whole, list_whole};
 ghost use Rattle.sshkey_terms.specs.Slices.{Splits};
 ghost use Rattle.sshkey_terms.specs.ToEnd.{HasBytes};
-ghost use Rattle.sshkey_krl.specs.Asked.{Asked, asked_of};
+ghost use Rattle.sshkey_krl.specs.Query as model;
+ghost use Rattle.sshkey_krl.specs.Query.{query_of};
 
 use crate::query::Query;
 use sshkey_base::Result;
@@ -22,7 +23,7 @@ pub(crate) trait Item {
     ghost format: { Format Value };
 
     /// What an item says to a query.
-    ghost says: { Asked → Value → Bool };
+    ghost says: { model.Query → Value → Bool };
 
     /// The format is lawful: its plain reader accepts exactly its spellings. No item is empty. Does
     /// nothing.
@@ -33,14 +34,14 @@ pub(crate) trait Item {
     /// What the item at the front says to the query, and what stands after it.
     fn ask<'a>(query: &Query<'_>, bytes: &'a [u8]) -> Result<(bool, &'a [u8])>
         ensures { Splits (λ y. y) cause
-            (checked_at (λ v. Ok (says (asked_of query.now) v)) format.read)
+            (checked_at (λ v. Ok (says (query_of query.now) v)) format.read)
             bytes.now result };
 }
 
 /// Whether an item says yes to the query, of those that the bytes spell.
 pub(crate) fn any_of<I: Item>(query: &Query<'_>, bytes: &[u8]) -> Result<bool>
     ensures { AnswersAlways (λ y. y) cause
-        (checked_whole (λ vs. Ok (list_any (I.says (asked_of query.now)) vs))
+        (checked_whole (λ vs. Ok (list_any (I.says (query_of query.now)) vs))
         (list_whole (λ _. I.format.read)) bytes.now) result }
 {
     I::lawful();

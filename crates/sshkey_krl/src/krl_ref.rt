@@ -6,7 +6,7 @@ ghost use Rattle.sshkey_base.specs.Answers.{AnswersAlways, Judges};
 ghost use Rattle.sshkey_base.specs.Causes.{cause};
 ghost use Rattle.sshkey_model.specs.Reading.{checked_whole, whole};
 ghost use Rattle.sshkey_terms.specs.Slices.{is_taken};
-ghost use Rattle.sshkey_krl.specs.Asked.{asked_of, says};
+ghost use Rattle.sshkey_krl.specs.Query.{query_of, says};
 ghost use Rattle.sshkey_krl.specs.Krls.{krl_format};
 
 use crate::header::Header;
@@ -26,7 +26,7 @@ impl<'a> KrlRef<'a> {
     ghost use Rattle.sshkey_terms.specs.Slices.{AcceptsAll, Keeps};
     ghost use Rattle.sshkey_krl.specs.KrlRef.{krl_bytes, krl_of};
     ghost use Rattle.sshkey_krl.specs.Krls.{SpellsKrl};
-    ghost use Rattle.sshkey_krl.specs.Revocation.{grant, revokes, revokes_key};
+    ghost use Rattle.sshkey_krl.specs.Revocation.{certificate_identity, revokes, revokes_key};
 
     /// The list that all the bytes together spell, read once from left to right. Does not allocate.
     ///
@@ -85,7 +85,7 @@ impl<'a> KrlRef<'a> {
         key_id: &str,
     ) -> bool
         ensures { result ≡ revokes (krl_of self.now) key.now
-            (grant signature_key.now serial key_id.now) }
+            (certificate_identity signature_key.now serial key_id.now) }
     {
         self.answers(&Query::about_certificate(key, signature_key, serial, key_id))
     }
@@ -93,7 +93,7 @@ impl<'a> KrlRef<'a> {
     /// What the list says to the query.
     #[tactic(auto, using(crate::proofs::Krls::krls))]
     fn answers(&self, query: &Query<'_>) -> bool
-        ensures { result ≡ list_any (says (asked_of query.now)) (krl_of self.now).sections }
+        ensures { result ≡ list_any (says (query_of query.now)) (krl_of self.now).sections }
     {
         match ask(query, self.bytes) {
             Ok(yes) => yes,
@@ -115,7 +115,7 @@ fn check_krl(bytes: &[u8]) -> Result<()>
 #[tactic(auto, using(crate::proofs::Krls::krls))]
 fn ask(query: &Query<'_>, bytes: &[u8]) -> Result<bool>
     ensures { AnswersAlways (λ y. y) cause
-        (checked_whole (λ k. Ok (list_any (says (asked_of query.now)) k.sections))
+        (checked_whole (λ k. Ok (list_any (says (query_of query.now)) k.sections))
         (whole krl_format.read) bytes.now) result }
 {
     let mut rest = bytes;

@@ -2,7 +2,7 @@
 
 ghost use Rattle.std.specs.Prelude.{◌≡◌, ◌||◌, ℕ, List, false};
 ghost use Rattle.sshkey_krl.specs.Krls.{SpellsKrl};
-ghost use Rattle.sshkey_krl.specs.Revocation.{Grant, Krl, Section, begun, has_key, joined, lists, revokes, revokes_key, with_section};
+ghost use Rattle.sshkey_krl.specs.Revocation.{CertificateIdentity, Krl, Section, begun, has_key, joined, lists, revokes, revokes_key, with_section};
 
 /// No bytes spell two lists.
 pub fn one_krl()
@@ -14,18 +14,19 @@ pub fn one_krl()
 pub fn joined_krls()
     ensures keys { (k l : Krl) (key : List ℕ) →
         revokes_key (joined k l) key ≡ (revokes_key k key || revokes_key l key) }
-    ensures certificates { (k l : Krl) (key : List ℕ) (grant : Grant) →
-        revokes (joined k l) key grant ≡ (revokes k key grant || revokes l key grant) }
+    ensures certificates { (k l : Krl) (key : List ℕ) (identity : CertificateIdentity) →
+        revokes (joined k l) key identity ≡ (revokes k key identity || revokes l key identity) }
 {}
 
 /// A list without sections revokes nothing. One section more revokes what it has, beside what the
 /// list did.
 pub fn grown_krls()
-    ensures nothing { (number date : ℕ) (comment key : List ℕ) (grant : Grant) →
-        revokes (begun number date comment) key grant ≡ false }
+    ensures nothing { (number date : ℕ) (comment key : List ℕ) (identity : CertificateIdentity) →
+        revokes (begun number date comment) key identity ≡ false }
     ensures keys { (k : Krl) (s : Section) (key : List ℕ) →
         revokes_key (with_section k s) key ≡ (revokes_key k key || has_key key s) }
-    ensures certificates { (k : Krl) (s : Section) (key : List ℕ) (grant : Grant) →
-        revokes (with_section k s) key grant
-        ≡ (revokes k key grant || (has_key key s || (has_key grant.signer s || lists grant s))) }
+    ensures certificates { (k : Krl) (s : Section) (key : List ℕ) (identity : CertificateIdentity) →
+        revokes (with_section k s) key identity
+        ≡ (revokes k key identity
+        || (has_key key s || (has_key identity.signer s || lists identity s))) }
 {}

@@ -7,7 +7,8 @@ ghost use Rattle.sshkey_base.specs.Formats.{Format};
 ghost use Rattle.sshkey_model.specs.Reading.{Fault, checked_at, checked_whole, end_of, number_at, whole};
 ghost use Rattle.sshkey_terms.specs.Slices.{Splits};
 ghost use Rattle.std.specs.Int.{w8};
-ghost use Rattle.sshkey_krl.specs.Asked.{Asked, asked_of};
+ghost use Rattle.sshkey_krl.specs.Query as model;
+ghost use Rattle.sshkey_krl.specs.Query.{query_of};
 ghost use Rattle.sshkey_krl.specs.Parts.{numbered};
 
 use crate::query::Query;
@@ -29,7 +30,7 @@ pub(crate) trait Numbered {
     ghost body: { Self.Kind → Format Value };
 
     /// What a value says to a query.
-    ghost says: { Asked → Value → Bool };
+    ghost says: { model.Query → Value → Bool };
 
     /// What that number calls for. Fails with `FormatEncoding` if it calls for nothing.
     fn kind(number: u8) -> Result<Self::Kind>
@@ -38,7 +39,7 @@ pub(crate) trait Numbered {
     /// What the value that all the bytes spell says to the query.
     fn ask_body(query: &Query<'_>, kind: Self::Kind, bytes: &[u8]) -> Result<bool>
         ensures { AnswersAlways (λ y. y) cause
-            (checked_whole (λ v. Ok (says (asked_of query.now) v)) (whole (body kind).read)
+            (checked_whole (λ v. Ok (says (query_of query.now) v)) (whole (body kind).read)
             bytes.now) result };
 }
 
@@ -48,7 +49,7 @@ pub(crate) fn ask_numbered<'a, N: Numbered>(
     bytes: &'a [u8],
 ) -> Result<(bool, &'a [u8])>
     ensures { Splits (λ y. y) cause
-        (checked_at (λ v. Ok (N.says (asked_of query.now) v))
+        (checked_at (λ v. Ok (N.says (query_of query.now) v))
         (numbered N.kind_from N.body).read) bytes.now result }
 {
     let (number, rest) = split_byte(bytes)?;

@@ -4,7 +4,7 @@ ghost use Rattle.std.specs.Prelude.{◌≡◌, ℕ, List, Ok};
 ghost use Rattle.sshkey_base.specs.Answers.{AnswersAlways};
 ghost use Rattle.sshkey_base.specs.Causes.{cause};
 ghost use Rattle.sshkey_model.specs.Reading.{checked_whole, whole};
-ghost use Rattle.sshkey_krl.specs.Asked.{asked_of, key_id_says, part_says, serial_says};
+ghost use Rattle.sshkey_krl.specs.Query.{key_id_says, part_says, query_of, serial_says};
 ghost use Rattle.sshkey_krl.specs.Parts.{body, key_id_format, kind_from, part_format, serial_format};
 ghost use Rattle.sshkey_krl.specs.Revocation as model;
 ghost use Rattle.sshkey_krl.specs.declared.part.PartKind.TheVariants as kinds;
@@ -78,7 +78,7 @@ impl Item for Part {
 /// Whether one of the numbers is the serial number that is asked about.
 fn ask_serials(query: &Query<'_>, bytes: &[u8]) -> Result<bool>
     ensures { AnswersAlways (λ y. y) cause
-        (checked_whole (λ v. Ok (part_says (asked_of query.now) v))
+        (checked_whole (λ v. Ok (part_says (query_of query.now) v))
         (whole (body kinds.Serials).read) bytes.now) result }
 {
     let listed = any_of::<Serial>(query, bytes)?;
@@ -88,7 +88,7 @@ fn ask_serials(query: &Query<'_>, bytes: &[u8]) -> Result<bool>
 /// Whether the range has the serial number that is asked about.
 fn ask_range(query: &Query<'_>, bytes: &[u8]) -> Result<bool>
     ensures { AnswersAlways (λ y. y) cause
-        (checked_whole (λ v. Ok (part_says (asked_of query.now) v))
+        (checked_whole (λ v. Ok (part_says (query_of query.now) v))
         (whole (body kinds.Range).read) bytes.now) result }
 {
     let (first, rest) = split_u64(bytes)?;
@@ -100,7 +100,7 @@ fn ask_range(query: &Query<'_>, bytes: &[u8]) -> Result<bool>
 /// Whether the bitmap has the serial number that is asked about.
 fn ask_bitmap(query: &Query<'_>, bytes: &[u8]) -> Result<bool>
     ensures { AnswersAlways (λ y. y) cause
-        (checked_whole (λ v. Ok (part_says (asked_of query.now) v))
+        (checked_whole (λ v. Ok (part_says (query_of query.now) v))
         (whole (body kinds.Bitmap).read) bytes.now) result }
 {
     let (first, rest) = split_u64(bytes)?;

@@ -5,7 +5,7 @@ ghost use Rattle.sshkey_model.specs.Keys.{Key as PublicKey, normal_key};
 ghost use Rattle.sshkey_model.specs.Parts.{flat};
 ghost use Rattle.sshkey_keys.specs.Keys.{SpellsKey};
 ghost use Rattle.sshkey_keys_ref.specs.KeyDataRef.{key_bytes};
-ghost use Rattle.sshkey_krl.specs.Asked.{asked_certificate, asked_key, asked_of, grant_in, key_says, part_says, sha1_says, sha256_says, signer_says};
+ghost use Rattle.sshkey_krl.specs.Query.{certificate_query, identity_in, key_query, key_says, part_says, query_of, sha1_says, sha256_says, signer_says};
 ghost use Rattle.sshkey_krl.specs.Revocation.{Numbers};
 ghost use Rattle.sshkey_krl.specs.Serials.{Bitmap, Range};
 
@@ -34,7 +34,7 @@ pub(crate) struct Query<'q> {
 impl<'q> Query<'q> {
     /// About the key of those bytes.
     pub(crate) fn about_key(bytes: &'q [u8]) -> Query<'q>
-        ensures { asked_of result ≡ asked_key bytes.now }
+        ensures { query_of result ≡ key_query bytes.now }
     {
         Query {
             key: Key::new(bytes),
@@ -49,7 +49,7 @@ impl<'q> Query<'q> {
         serial: u64,
         key_id: &'q str,
     ) -> Query<'q>
-        ensures { asked_of result ≡ asked_certificate key.now signer.now serial key_id.now }
+        ensures { query_of result ≡ certificate_query key.now signer.now serial key_id.now }
     {
         Query {
             key: Key::new(key),
@@ -63,7 +63,7 @@ impl<'q> Query<'q> {
 
     /// The same, with the digests of the keys kept.
     pub(crate) fn with_digests(&self) -> Query<'q>
-        ensures { asked_of result ≡ asked_of self.now }
+        ensures { query_of result ≡ query_of self.now }
     {
         let certificate = match self.certificate {
             Some(certificate) => Some(CertificateIdentity {
@@ -81,7 +81,7 @@ impl<'q> Query<'q> {
 
     /// The key that signed the certificate, or the key where no certificate is asked about.
     fn signer(&self) -> &Key<'q>
-        ensures { result.now.bytes.now ≡ (asked_of self.now).signer }
+        ensures { result.now.bytes.now ≡ (query_of self.now).signer }
     {
         match &self.certificate {
             Some(certificate) => &certificate.signer,
@@ -91,21 +91,21 @@ impl<'q> Query<'q> {
 
     /// Whether they are the bytes of one of the keys.
     pub(crate) fn is_key(&self, bytes: &[u8]) -> bool
-        ensures { result ≡ key_says (asked_of self.now) bytes.now }
+        ensures { result ≡ key_says (query_of self.now) bytes.now }
     {
         self.key.bytes == bytes || self.has_certificate() && self.signer().bytes == bytes
     }
 
     /// Whether it is the digest of one of the keys.
     pub(crate) fn is_sha1(&self, digest: &[u8]) -> bool
-        ensures { result ≡ sha1_says (asked_of self.now) digest.now }
+        ensures { result ≡ sha1_says (query_of self.now) digest.now }
     {
         self.key.has_sha1(digest) || self.has_certificate() && self.signer().has_sha1(digest)
     }
 
     /// Whether it is the digest of one of the keys.
     pub(crate) fn is_sha256(&self, digest: &[u8]) -> bool
-        ensures { result ≡ sha256_says (asked_of self.now) digest.now }
+        ensures { result ≡ sha256_says (query_of self.now) digest.now }
     {
         self.key.has_sha256(digest) || self.has_certificate() && self.signer().has_sha256(digest)
     }
@@ -113,21 +113,21 @@ impl<'q> Query<'q> {
     /// Whether the key signed a certificate that is asked about.
     pub(crate) fn is_signer(&self, key: &KeyDataRef<'_>) -> bool
         ensures { (k : PublicKey) → SpellsKey k (key_bytes key.now) →
-            result ≡ signer_says (asked_of self.now) (flat (normal_key k)) }
+            result ≡ signer_says (query_of self.now) (flat (normal_key k)) }
     {
         self.certificate.is_some() && is_normal_form(self.signer().bytes, key)
     }
 
     /// Whether a certificate is asked about.
     pub(crate) fn has_certificate(&self) -> bool
-        ensures { result ≡ is_some (asked_of self.now).certificate }
+        ensures { result ≡ is_some (query_of self.now).certificate }
     {
         self.certificate.is_some()
     }
 
     /// The serial number that is asked about; 0 if there is none.
     pub(crate) fn serial(&self) -> u64
-        ensures { result ≡ (grant_in (asked_of self.now)).serial }
+        ensures { result ≡ (identity_in (query_of self.now)).serial }
     {
         match self.certificate {
             Some(certificate) => certificate.number,
@@ -137,7 +137,7 @@ impl<'q> Query<'q> {
 
     /// Whether it lies in the range, both ends included.
     pub(crate) fn is_in_range(&self, first: u64, last: u64) -> bool
-        ensures { result ≡ part_says (asked_of self.now) (Numbers (Range first last)) }
+        ensures { result ≡ part_says (query_of self.now) (Numbers (Range first last)) }
     {
         let serial = self.serial();
         serial != 0 && first <= serial && serial <= last
@@ -145,7 +145,7 @@ impl<'q> Query<'q> {
 
     /// Whether its bit is a one, of those that stand for that number and those after it.
     pub(crate) fn is_in_bitmap(&self, first: u64, bitmap: &[u8]) -> bool
-        ensures { result ≡ part_says (asked_of self.now) (Numbers (Bitmap first bitmap.now)) }
+        ensures { result ≡ part_says (query_of self.now) (Numbers (Bitmap first bitmap.now)) }
     {
         let serial = self.serial();
         serial != 0 && first <= serial && has_bit(bitmap, serial - first)
@@ -153,7 +153,7 @@ impl<'q> Query<'q> {
 
     /// The key id that is asked about, which is empty if there is none.
     pub(crate) fn key_id(&self) -> &'q [u8]
-        ensures { result.now ≡ (grant_in (asked_of self.now)).key_id }
+        ensures { result.now ≡ (identity_in (query_of self.now)).key_id }
     {
         match self.certificate {
             Some(certificate) => certificate.key_id,

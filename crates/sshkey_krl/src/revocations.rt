@@ -8,7 +8,7 @@ ghost use Rattle.sshkey_keys.specs.Keys.{key_of};
 ghost use Rattle.sshkey_krl.specs.KrlRef.{krl_of};
 ghost use Rattle.sshkey_krl.specs.declared.krl_ref.KrlRef as slices;
 ghost use Rattle.sshkey_krl.specs.Revocation as list;
-ghost use Rattle.sshkey_krl.specs.Revocation.{Grant, grant};
+ghost use Rattle.sshkey_krl.specs.Revocation.{CertificateIdentity, certificate_identity};
 ghost use Rattle.sshkey_krl.specs.Revocations as values;
 ghost use Rattle.sshkey_krl.specs.Revocations.{only_if_read, unless_read};
 ghost use Rattle.sshkey_model.specs.Keys.{normal_key};
@@ -27,7 +27,7 @@ use std::alloc::{AllocError, Global};
 /// list that could not be read lets nobody in.
 pub trait Revocations {
     /// Whether a certificate of the key with those bytes is revoked.
-    ghost revokes: { Self → List ℕ → Grant → Bool };
+    ghost revokes: { Self → List ℕ → CertificateIdentity → Bool };
 
     /// Whether the key with those bytes is revoked.
     ghost revokes_key: { Self → List ℕ → Bool };
@@ -37,8 +37,8 @@ pub trait Revocations {
 
     /// Whoever revokes a key revokes each certificate of it. Does nothing.
     fn whole()
-        ensures { (s : Self) (key : List ℕ) (asked : Grant) → revokes_key s key ≡ true →
-            revokes s key asked ≡ true };
+        ensures { (s : Self) (key : List ℕ) (asked : CertificateIdentity) →
+            revokes_key s key ≡ true → revokes s key asked ≡ true };
 
     /// Returns whether nothing is revoked, whatever is asked. `false` is always right. Does not
     /// allocate.
@@ -46,8 +46,8 @@ pub trait Revocations {
         ensures said { result ≡ revokes_none self.now }
         ensures key { revokes_none self.now ≡ true → (key : List ℕ) →
             revokes_key self.now key ≡ false }
-        ensures certificate { revokes_none self.now ≡ true → (key : List ℕ) → (asked : Grant) →
-            revokes self.now key asked ≡ false };
+        ensures certificate { revokes_none self.now ≡ true → (key : List ℕ) →
+            (asked : CertificateIdentity) → revokes self.now key asked ≡ false };
 
     /// Returns whether the key is revoked. The bytes are its normal form. Does not allocate.
     fn revokes_key(&self, key: &[u8]) -> bool
@@ -63,7 +63,8 @@ pub trait Revocations {
         serial: u64,
         key_id: &str,
     ) -> bool
-        ensures { result ≡ revokes self.now key.now (grant signature_key.now serial key_id.now) };
+        ensures { result ≡ revokes self.now key.now
+            (certificate_identity signature_key.now serial key_id.now) };
 
     /// Returns whether the key is revoked. Fails with `AllocError` if it runs out of memory, or if
     /// a part of the key has more than 2^32 - 1 bytes, which no reader gives.
@@ -159,7 +160,7 @@ impl Revocations for KrlRef<'_> {
     ghost revokes_none = { λ _. false };
 
     fn whole()
-        ensures { (krl : slices.KrlRef) (key : List ℕ) (asked : Grant) →
+        ensures { (krl : slices.KrlRef) (key : List ℕ) (asked : CertificateIdentity) →
             list.revokes_key (krl_of krl) key ≡ true → list.revokes (krl_of krl) key asked ≡ true }
     {}
 
@@ -232,7 +233,7 @@ impl<R: Revocations> Revocations for &[R] {
     ghost revokes_none = { λ _. false };
 
     fn whole()
-        ensures { (all : Bor (List R)) (key : List ℕ) (asked : Grant) →
+        ensures { (all : Bor (List R)) (key : List ℕ) (asked : CertificateIdentity) →
             list_any (λ it. R.revokes_key it key) all.now ≡ true →
             list_any (λ it. R.revokes it key asked) all.now ≡ true }
     {

@@ -6,7 +6,7 @@ ghost use Rattle.sshkey_base.specs.Answers.{AnswersAlways};
 ghost use Rattle.sshkey_base.specs.Causes.{cause};
 ghost use Rattle.sshkey_base.specs.Formats.{array_format, string_format};
 ghost use Rattle.sshkey_model.specs.Reading.{checked_whole, list_whole, whole};
-ghost use Rattle.sshkey_krl.specs.Asked.{asked_of, authority_says, key_says, says, sha1_says, sha256_says};
+ghost use Rattle.sshkey_krl.specs.Query.{authority_says, key_says, query_of, says, sha1_says, sha256_says};
 ghost use Rattle.sshkey_krl.specs.Revocation as model;
 ghost use Rattle.sshkey_krl.specs.Sections.{authority_from, body, kind_from, section_format};
 ghost use Rattle.sshkey_krl.specs.declared.section.SectionKind.TheVariants as kinds;
@@ -76,7 +76,7 @@ fn has_digests(sections: &[u8]) -> bool {
 
 /// Keeps the digests of the query's keys if a section of digests is at the front.
 fn prepare(query: &mut Query<'_>, sections: &[u8])
-    ensures { asked_of query.new ≡ asked_of query.old }
+    ensures { query_of query.new ≡ query_of query.old }
 {
     if has_digests(sections) {
         *query = query.with_digests();
@@ -87,7 +87,7 @@ fn prepare(query: &mut Query<'_>, sections: &[u8])
 /// digests makes those of the query, for all sections.
 pub(crate) fn any_section(query: &Query<'_>, bytes: &[u8]) -> Result<bool>
     ensures { AnswersAlways (λ y. y) cause
-        (checked_whole (λ vs. Ok (list_any (says (asked_of query.now)) vs))
+        (checked_whole (λ vs. Ok (list_any (says (query_of query.now)) vs))
         (list_whole (λ _. section_format.read)) bytes.now) result }
 {
     let mut prepared = *query;
@@ -105,7 +105,7 @@ pub(crate) fn any_section(query: &Query<'_>, bytes: &[u8]) -> Result<bool>
 /// Whether a part says yes, of a section that is about the certificates of the authority.
 fn ask_certificates(query: &Query<'_>, bytes: &[u8]) -> Result<bool>
     ensures { AnswersAlways (λ y. y) cause
-        (checked_whole (λ v. Ok (says (asked_of query.now) v))
+        (checked_whole (λ v. Ok (says (query_of query.now) v))
         (whole (body kinds.Certificates).read) bytes.now) result }
 {
     let (authority, rest) = split_string(bytes)?;
@@ -120,7 +120,7 @@ fn ask_certificates(query: &Query<'_>, bytes: &[u8]) -> Result<bool>
 /// for a key that OpenSSH does not read.
 fn is_about(query: &Query<'_>, authority: &[u8]) -> Result<bool>
     ensures { AnswersAlways (λ y. y) cause
-        (checked_whole (λ w. Ok (authority_says (asked_of query.now) w)) authority_from
+        (checked_whole (λ w. Ok (authority_says (query_of query.now) w)) authority_from
         authority.now) result }
 {
     if authority.is_empty() {

@@ -8,7 +8,7 @@ use Rattle.sshkey_entries.specs.Answers.{AreEntries, AsksEntries, FirstIsNone}
 use Rattle.sshkey_krl.specs.KrlRef.{krl_bytes, krl_of}
 use Rattle.sshkey_krl.specs.Krls.{magic}
 use Rattle.sshkey_krl.specs.Revocation as list
-use Rattle.sshkey_krl.specs.Revocation.{Grant}
+use Rattle.sshkey_krl.specs.Revocation.{CertificateIdentity}
 use Rattle.sshkey_model.specs.Reading.{Fault}
 use Rattle.sshkey_revoked_keys.specs.RevokedLines.{HasLineFault, NeedsLine, RevokesKey, revoked_lines}
 use Rattle.sshkey_revoked_keys.specs.declared.revoked_keys.RevokedKeys.{RevokedKeys}
@@ -45,9 +45,9 @@ revokes_key (Krl k) key = list.revokes_key (krl_of k) key
 revokes_key (Keys keys) key = has_key keys.items key
 
 -- a certificate by its key, or by the key that signed it
-abbrev pub revokes : RevokedKeys → List ℕ → Grant → Bool
-revokes (Krl k) key grant = list.revokes (krl_of k) key grant
-revokes (Keys keys) key grant = has_key keys.items key || has_key keys.items grant.signer
+abbrev pub revokes : RevokedKeys → List ℕ → CertificateIdentity → Bool
+revokes (Krl k) key identity = list.revokes (krl_of k) key identity
+revokes (Keys keys) key identity = has_key keys.items key || has_key keys.items identity.signer
 
 -- ---- answers of the reader
 

@@ -1,7 +1,7 @@
 //! What holds of all revocation files: functions without code, each with a law as its contract.
 
 ghost use Rattle.std.specs.Prelude.{◌≡◌, ◌↔◌, ◌⊎◌, ℕ, IsTrue, List};
-ghost use Rattle.sshkey_krl.specs.Revocation.{Grant};
+ghost use Rattle.sshkey_krl.specs.Revocation.{CertificateIdentity};
 ghost use Rattle.sshkey_revoked_keys.specs.RevokedKeys.{AreKeys, HasLineOf, revokes, revokes_key};
 ghost use Rattle.sshkey_revoked_keys.specs.RevokedLines.{RevokesKey};
 ghost use Rattle.sshkey_revoked_keys.specs.declared.revoked_keys.RevokedKeys.{RevokedKeys};
@@ -16,7 +16,7 @@ pub fn one_revoked_key()
 pub fn lines_revoke()
     ensures keys { (text key : List ℕ) (file : RevokedKeys) → AreKeys text file →
         IsTrue (revokes_key file key) ↔ HasLineOf text key }
-    ensures certificates { (text key : List ℕ) (grant : Grant) (file : RevokedKeys) →
-        AreKeys text file →
-        IsTrue (revokes file key grant) ↔ (HasLineOf text key ⊎ HasLineOf text grant.signer) }
+    ensures certificates { (text key : List ℕ) (identity : CertificateIdentity)
+        (file : RevokedKeys) → AreKeys text file →
+        IsTrue (revokes file key identity) ↔ (HasLineOf text key ⊎ HasLineOf text identity.signer) }
 {}

@@ -5,7 +5,7 @@ ghost use Rattle.std.specs.Str.{is_utf8};
 ghost use Rattle.sshkey_base.specs.declared.encoding.Error.TheVariants.{CharacterEncoding};
 ghost use Rattle.sshkey_base.specs.declared.error.Error.TheVariants.{Encoding};
 ghost use Rattle.sshkey_krl.specs.Krls.{krl_format};
-ghost use Rattle.sshkey_krl.specs.Revocation.{Grant};
+ghost use Rattle.sshkey_krl.specs.Revocation.{CertificateIdentity};
 ghost use Rattle.sshkey_model.specs.Reading.{whole};
 ghost use Rattle.sshkey_revoked_keys.specs.RevokedKeys as file;
 ghost use Rattle.sshkey_revoked_keys.specs.declared.revoked_keys.RevokedKeys as declared;
@@ -88,7 +88,7 @@ impl Revocations for RevokedKeys<'_> {
     ghost revokes_none = { λ _. false };
 
     fn whole()
-        ensures { (it : declared.RevokedKeys) (key : List ℕ) (asked : Grant) →
+        ensures { (it : declared.RevokedKeys) (key : List ℕ) (asked : CertificateIdentity) →
             file.revokes_key it key ≡ true → file.revokes it key asked ≡ true }
     {}
 

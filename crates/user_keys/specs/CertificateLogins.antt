@@ -43,10 +43,10 @@ pub record CertificateLogin : Type 0 where
   pub login : UserLogin
   pub blob : List ℕ
   pub accepts : Question → Bool
-  pub revokes : List ℕ → krl.Grant → Bool
+  pub revokes : List ℕ → krl.CertificateIdentity → Bool
 
 -- that of a call
-abbrev pub login_with : code.UserLogin → List ℕ → (Question → Bool) → (List ℕ → krl.Grant → Bool) → CertificateLogin
+abbrev pub login_with : code.UserLogin → List ℕ → (Question → Bool) → (List ℕ → krl.CertificateIdentity → Bool) → CertificateLogin
 login_with l blob accepts revokes = record { login = login_of l None; blob = blob; accepts = accepts; revokes = revokes }
 
 -- the login by that certificate

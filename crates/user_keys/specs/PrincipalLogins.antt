@@ -27,7 +27,7 @@ use Rattle.user_keys.specs.declared.refusal.Refusal.{Refusal}
 use Rattle.user_keys.specs.declared.refusal.Refusal.TheVariants as refusal
 
 -- that of a call
-abbrev pub principal_login : code.UserLogin → List ℕ → (Question → Bool) → (List ℕ → krl.Grant → Bool) → CertificateLogin
+abbrev pub principal_login : code.UserLogin → List ℕ → (Question → Bool) → (List ℕ → krl.CertificateIdentity → Bool) → CertificateLogin
 principal_login l blob accepts revokes = record { login = record (login_of l None) { lines = lines_at_feeds l.text.now }; blob = blob; accepts = accepts; revokes = revokes }
 
 -- ---- the line that decides

@@ -1,7 +1,7 @@
 use Rattle.std.proofs.Common.{◌≡◌, map}
 use Rattle.std.specs.Prelude.{string_bytes}
 use Rattle.std.specs.Vec.Iter.{into_iter_items}
-use Rattle.ssh_key.specs.builder.Builders.{draft_of}
+use Rattle.ssh_key.specs.cert_builder.Builders.{draft_of}
 use Rattle.ssh_key.specs.model.Drafts.{after_steps}
 use Rattle.authority.specs.Requests.{added}
 use Rattle.authority.proofs.certify.add_extensions.Given as goal

@@ -1,7 +1,7 @@
 use Rattle.std.proofs.Common.{Result, subst}
 use Rattle.ssh_key.specs.authorized_keys.OpenSshEntries.{openssh_entry_of}
+use Rattle.ssh_key.specs.entries.Answers.{ReadsEntry}
 use Rattle.ssh_key.specs.entries.OpenSshLines.{IsAuthorizedLine}
-use Rattle.ssh_key.specs.files.Answers.{ReadsEntry}
 use Rattle.ssh_key.specs.types.Error.{Error}
 use Rattle.ssh_key.specs.types.authorized_keys.OpenSshEntry.{OpenSshEntry}
 use Rattle.deploy_keys.proofs.Signers.{entry_decides, no_entry, well_formed}

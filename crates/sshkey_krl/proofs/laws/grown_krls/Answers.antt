@@ -14,4 +14,4 @@ pub returns-clause-keys : goal.returns-clause-keys
 returns-clause-keys c = λ k s key. rw (list_any-append (has_key key) k.sections (s ∷ []), or_one (list_any (has_key key) k.sections) (has_key key s)) refl
 
 pub returns-clause-certificates : goal.returns-clause-certificates
-returns-clause-certificates c = λ k s key grant. rw (list_any-append (has_key key) k.sections (s ∷ []), list_any-append (has_key grant.signer) k.sections (s ∷ []), list_any-append (lists grant) k.sections (s ∷ []), or_one (list_any (has_key key) k.sections) (has_key key s), or_one (list_any (has_key grant.signer) k.sections) (has_key grant.signer s), or_one (list_any (lists grant) k.sections) (lists grant s)) (of_both (list_any (has_key key) k.sections) (list_any (has_key grant.signer) k.sections) (list_any (lists grant) k.sections) (has_key key s) (has_key grant.signer s) (lists grant s))
+returns-clause-certificates c = λ k s key identity. rw (list_any-append (has_key key) k.sections (s ∷ []), list_any-append (has_key identity.signer) k.sections (s ∷ []), list_any-append (lists identity) k.sections (s ∷ []), or_one (list_any (has_key key) k.sections) (has_key key s), or_one (list_any (has_key identity.signer) k.sections) (has_key identity.signer s), or_one (list_any (lists identity) k.sections) (lists identity s)) (of_both (list_any (has_key key) k.sections) (list_any (has_key identity.signer) k.sections) (list_any (lists identity) k.sections) (has_key key s) (has_key identity.signer s) (lists identity s))

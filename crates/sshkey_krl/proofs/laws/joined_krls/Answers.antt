@@ -8,4 +8,4 @@ pub returns-clause-keys : goal.returns-clause-keys
 returns-clause-keys c = λ k l key. list_any-append (has_key key) k.sections l.sections
 
 pub returns-clause-certificates : goal.returns-clause-certificates
-returns-clause-certificates c = λ k l key grant. rw (list_any-append (has_key key) k.sections l.sections, list_any-append (has_key grant.signer) k.sections l.sections, list_any-append (lists grant) k.sections l.sections) (of_both (list_any (has_key key) k.sections) (list_any (has_key grant.signer) k.sections) (list_any (lists grant) k.sections) (list_any (has_key key) l.sections) (list_any (has_key grant.signer) l.sections) (list_any (lists grant) l.sections))
+returns-clause-certificates c = λ k l key identity. rw (list_any-append (has_key key) k.sections l.sections, list_any-append (has_key identity.signer) k.sections l.sections, list_any-append (lists identity) k.sections l.sections) (of_both (list_any (has_key key) k.sections) (list_any (has_key identity.signer) k.sections) (list_any (lists identity) k.sections) (list_any (has_key key) l.sections) (list_any (has_key identity.signer) l.sections) (list_any (lists identity) l.sections))

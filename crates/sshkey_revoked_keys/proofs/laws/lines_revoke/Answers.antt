@@ -1,5 +1,5 @@
 use Rattle.std.proofs.Common.{◌⊎◌, ◌↔◌, ℕ, List, IsTrue, inl, inr}
-use Rattle.sshkey_krl.specs.Revocation.{Grant}
+use Rattle.sshkey_krl.specs.Revocation.{CertificateIdentity}
 use Rattle.sshkey_revoked_keys.proofs.KeyLines.{either, key_found, left, line_found, right}
 use Rattle.sshkey_revoked_keys.specs.RevokedKeys.{AreKeys, HasLineOf, has_key, revokes, revokes_key}
 use Rattle.sshkey_revoked_keys.specs.RevokedLines.{revoked_lines}
@@ -11,16 +11,16 @@ keys_of : (text key : List ℕ) (file : RevokedKeys) → AreKeys text file → I
 keys_of text key (Krl k) are = absurd are
 keys_of text key (Keys v) are = (line_found key (revoked_lines text) v.items are, key_found key (revoked_lines text) v.items are)
 
-certificates_of : (text key : List ℕ) (grant : Grant) (file : RevokedKeys) → AreKeys text file → IsTrue (revokes file key grant) ↔ (HasLineOf text key ⊎ HasLineOf text grant.signer)
-certificates_of text key grant (Krl k) are = absurd are
-certificates_of text key grant (Keys v) are = (
-  λ has. elim (either (has_key v.items key) (has_key v.items grant.signer) has) [
+certificates_of : (text key : List ℕ) (identity : CertificateIdentity) (file : RevokedKeys) → AreKeys text file → IsTrue (revokes file key identity) ↔ (HasLineOf text key ⊎ HasLineOf text identity.signer)
+certificates_of text key identity (Krl k) are = absurd are
+certificates_of text key identity (Keys v) are = (
+  λ has. elim (either (has_key v.items key) (has_key v.items identity.signer) has) [
     | inl one ↦ inl (line_found key (revoked_lines text) v.items are one)
-    | inr other ↦ inr (line_found grant.signer (revoked_lines text) v.items are other)
+    | inr other ↦ inr (line_found identity.signer (revoked_lines text) v.items are other)
   ],
   λ found. elim found [
-    | inl one ↦ left (has_key v.items key) (has_key v.items grant.signer) (key_found key (revoked_lines text) v.items are one)
-    | inr other ↦ right (has_key v.items key) (has_key v.items grant.signer) (key_found grant.signer (revoked_lines text) v.items are other)
+    | inl one ↦ left (has_key v.items key) (has_key v.items identity.signer) (key_found key (revoked_lines text) v.items are one)
+    | inr other ↦ right (has_key v.items key) (has_key v.items identity.signer) (key_found identity.signer (revoked_lines text) v.items are other)
   ],
 )
 

@@ -1,1 +1,0 @@
-pub use Rattle.sshkey_entries.specs.KeyFields

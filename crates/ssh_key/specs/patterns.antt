@@ -1,0 +1,2 @@
+pub use Rattle.sshkey_patterns.specs.Patterns
+pub use Rattle.sshkey_patterns.specs.LetterCases
