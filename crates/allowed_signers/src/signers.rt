@@ -15,7 +15,6 @@ use sshkey_authorized_keys::{Entry, OpenSshEntry, OpenSshOptions};
 use sshkey_base::{Error, Result};
 use sshkey_entries::laws::one_authorized_line;
 use sshkey_entries::{FilledLines, LetterCase, matches_pattern_list};
-use sshkey_keys::laws::compared_keys;
 use sshkey_keys::{KeyData, RawVerifier};
 use sshkey_krl::Revocations;
 use sshkey_sshsig::SshSig;
@@ -262,7 +261,7 @@ fn is_entry_for(
         (key_of key.now) (openssh_entry_of entry.now)) }
     ensures memory { IfErr result (λ e. e ≡ Memory) }
 {
-    if !is_same(key, entry.public_key().key_data()) {
+    if !key.is(entry.public_key().key_data()) {
         return Ok(false);
     }
     if !has_read_application(key) {
@@ -287,13 +286,4 @@ fn options_permit(
         Some(said) => Ok(said.permit(namespace, unix_timestamp)),
         None => Ok(false),
     }
-}
-
-/// Whether a key, which is well-formed, is the same as another.
-fn is_same(key: &KeyData, other: &KeyData) -> bool
-    requires { IsKey (key_of key.now) }
-    ensures { IsTrue result ↔ (key_of other.now ≡ key_of key.now) }
-{
-    compared_keys();
-    key == other
 }

@@ -8,7 +8,6 @@ ghost use Rattle.sshkey_model.specs.Keys.{IsKey};
 
 use sshkey_cert::Certificate;
 use sshkey_keys::KeyData;
-use sshkey_keys::laws::compared_keys;
 
 /// Whether the offered key is the one that is certified.
 pub(crate) fn is_key_of(certificate: &Certificate, offered: &KeyData) -> bool
@@ -16,15 +15,5 @@ pub(crate) fn is_key_of(certificate: &Certificate, offered: &KeyData) -> bool
     requires offered { IsKey (key_of offered.now) }
     ensures { IsTrue result ↔ ((certificate_of certificate.now).signed.key ≡ key_of offered.now) }
 {
-    is_same(certificate.public_key(), offered)
-}
-
-/// Whether both are the same key.
-fn is_same(key: &KeyData, other: &KeyData) -> bool
-    requires key { IsKey (key_of key.now) }
-    requires other { IsKey (key_of other.now) }
-    ensures { IsTrue result ↔ (key_of key.now ≡ key_of other.now) }
-{
-    compared_keys();
-    key == other
+    certificate.public_key().is(offered)
 }

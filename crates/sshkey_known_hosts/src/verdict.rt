@@ -6,7 +6,6 @@ ghost use Rattle.sshkey_entries.specs.Fields.{filled_lines};
 ghost use Rattle.sshkey_entries.specs.HostNames.{known_name};
 ghost use Rattle.sshkey_entries.specs.HostVerdicts.{IsForOthers};
 ghost use Rattle.sshkey_keys.specs.Keys.{key_of};
-ghost use Rattle.sshkey_model.specs.Keys.{IsKey};
 ghost use Rattle.sshkey_known_hosts.specs.Verdicts.{IsVerdict, SayTogether, graver_of, marked_verdict_of};
 
 use crate::hmac_sha1::HmacSha1;
@@ -16,7 +15,6 @@ use crate::marker::Marker;
 use sshkey_base::Result;
 use sshkey_entries::FilledLines;
 use sshkey_keys::KeyData;
-use sshkey_keys::laws::compared_keys;
 use std::alloc::Global;
 
 /// What a text of known_hosts says of a host's key: the first of these that holds.
@@ -58,14 +56,6 @@ fn graver(one: Verdict, other: Verdict) -> Verdict
     }
 }
 
-/// Whether the first key, which is well-formed, means the same as the other.
-fn is_same_key(one: &KeyData, other: &KeyData) -> bool
-    ensures { IsKey (key_of one.now) → IsTrue result ↔ (key_of one.now ≡ key_of other.now) }
-{
-    compared_keys();
-    one == other
-}
-
 /// What an entry for the name says of a key, which is its own or not.
 fn marked_verdict(marker: Option<Marker>, same: bool) -> Verdict
     ensures { result ≡ marked_verdict_of marker same }
@@ -94,7 +84,7 @@ fn line_verdict<H: HmacSha1>(
     match read_host_line(alloc, line, name, hmac)? {
         HostLine::ForOthers => Ok(Verdict::Unknown),
         HostLine::Entry { marker, public_key } => {
-            let same = is_same_key(public_key.key_data(), key);
+            let same = public_key.key_data().is(key);
             Ok(marked_verdict(marker, same))
         }
         HostLine::OtherKey { marker } => Ok(marked_verdict(marker, false)),

@@ -24,7 +24,6 @@ use login_terms::{Reading, Terms};
 use sshkey_authorized_keys::{Entry, OpenSshEntry};
 use sshkey_entries::laws::one_authorized_line;
 use sshkey_keys::KeyData;
-use sshkey_keys::laws::compared_keys;
 use std::alloc::{AllocError, Global};
 use std::str;
 
@@ -98,7 +97,7 @@ fn terms_of_entry(
         (MayBeEntryFor (key_of key.now) (openssh_entry_of entry.now))) }
 {
     let listed = entry.public_key().key_data();
-    if !is_same(listed, key) {
+    if !listed.is(key) {
         return Ok(other_terms(listed, key));
     }
     match read_terms(alloc, entry.options().as_str())? {
@@ -111,15 +110,6 @@ fn terms_of_entry(
         Reading::Rejected => Ok(Reading::Rejected),
         Reading::Unclear => Ok(Reading::Unclear),
     }
-}
-
-/// Whether a key, which is well-formed, is the same as another.
-fn is_same(key: &KeyData, other: &KeyData) -> bool
-    requires { IsKey (key_of key.now) }
-    ensures { IsTrue result ↔ (key_of key.now ≡ key_of other.now) }
-{
-    compared_keys();
-    key == other
 }
 
 /// What an entry of another key says: sshd(8) may take it for one of the key where both have the

@@ -19,9 +19,9 @@ returns-in-Entry-clause-answer g c =
     let it = subst (IsToHost hmac c.args.name.now c.args.line.now) c.in-Entry.is c.in_ok-read_host_line.ensures.answer in
     let l = it.0 in
     let own = ap key_of c.key_data.ensures ∙ sym l.key_is in
-    let equal = c.is_same_key-same.ensures (subst IsKey (sym own) l.read.fields.spelled.is) in
+    let well_formed = subst IsKey (sym own) l.read.fields.spelled.is in
     subst (IsVerdict hmac c.args.name.now key (c.args.line.now ∷ [])) (sym c.marked_verdict.ensures)
-    (by_marker hmac c.args.name.now key c.args.line.now l.entry l.read c.in-Entry.marker c.is_same_key-same.result l.marker_is (λ t. sym own ∙ equal.0 t, λ e. equal.1 (own ∙ e)) l.is_for)
+    (by_marker hmac c.args.name.now key c.args.line.now l.entry l.read c.in-Entry.marker c.is-same.result l.marker_is (λ t. sym own ∙ c.is-same.ensures.same t, λ e. c.is-same.ensures.equal well_formed (own ∙ e)) l.is_for)
 
 pub returns-in-OtherKey-clause-answer : goal.returns-in-OtherKey-clause-answer
 returns-in-OtherKey-clause-answer g c =

@@ -13,7 +13,7 @@ use Rattle.user_keys.proofs.line.terms_of_entry.Goals as goal
 pub returns-then-terms-is_authority : goal.returns-then-terms-is_authority
 returns-then-terms-is_authority c =
     let entry = openssh_entry_of c.args.entry.now in
-    let same : entry.key ≡ key_of c.args.key.now = ap key_of (sym (c.key_data-listed.ensures ∙ ap data_of c.public_key.ensures)) ∙ c.is_same.ensures.0 c.if-not-is_same.false in
+    let same : entry.key ≡ key_of c.args.key.now = ap key_of (sym (c.key_data-listed.ensures ∙ ap data_of c.public_key.ensures)) ∙ c.is.ensures.same c.if-not-is.false in
     let read = subst (λ (text : List ℕ). Tells terms_of (AreTerms text) (MayBeTerms text) c.in_ok-terms.field-0) (c.as_str.ensures ∙ c.options.ensures) c.in_ok-terms.ensures in
     let told = subst (λ (r : Reading code.Terms). Tells terms_of (AreTerms entry.options) (MayBeTerms entry.options) r) c.in-Is.is read in
     of_other c.args.is_authority (key_of c.args.key.now) entry same c.in-Is.terms told (other_bit c.in-Is.terms.is_authority c.args.is_authority c.if-terms-is_authority.true)
@@ -21,7 +21,7 @@ returns-then-terms-is_authority c =
 pub returns-else-terms-is_authority : goal.returns-else-terms-is_authority
 returns-else-terms-is_authority c =
     let entry = openssh_entry_of c.args.entry.now in
-    let same : entry.key ≡ key_of c.args.key.now = ap key_of (sym (c.key_data-listed.ensures ∙ ap data_of c.public_key.ensures)) ∙ c.is_same.ensures.0 c.if-not-is_same.false in
+    let same : entry.key ≡ key_of c.args.key.now = ap key_of (sym (c.key_data-listed.ensures ∙ ap data_of c.public_key.ensures)) ∙ c.is.ensures.same c.if-not-is.false in
     let read = subst (λ (text : List ℕ). Tells terms_of (AreTerms text) (MayBeTerms text) c.in_ok-terms.field-0) (c.as_str.ensures ∙ c.options.ensures) c.in_ok-terms.ensures in
     let told = subst (λ (r : Reading code.Terms). Tells terms_of (AreTerms entry.options) (MayBeTerms entry.options) r) c.in-Is.is read in
     is_own c.args.is_authority (key_of c.args.key.now) entry same c.in-Is.terms told (same_bit c.in-Is.terms.is_authority c.args.is_authority c.if-terms-is_authority.false)
@@ -29,13 +29,13 @@ returns-else-terms-is_authority c =
 pub returns-in-Rejected : goal.returns-in-Rejected
 returns-in-Rejected c =
     let entry = openssh_entry_of c.args.entry.now in
-    let same : entry.key ≡ key_of c.args.key.now = ap key_of (sym (c.key_data-listed.ensures ∙ ap data_of c.public_key.ensures)) ∙ c.is_same.ensures.0 c.if-not-is_same.false in
+    let same : entry.key ≡ key_of c.args.key.now = ap key_of (sym (c.key_data-listed.ensures ∙ ap data_of c.public_key.ensures)) ∙ c.is.ensures.same c.if-not-is.false in
     let read = subst (λ (text : List ℕ). Tells terms_of (AreTerms text) (MayBeTerms text) c.in_ok-terms.field-0) (c.as_str.ensures ∙ c.options.ensures) c.in_ok-terms.ensures in
     is_rejected c.args.is_authority (key_of c.args.key.now) entry same (subst (λ (r : Reading code.Terms). Tells terms_of (AreTerms entry.options) (MayBeTerms entry.options) r) c.in-Rejected.is read)
 
 pub returns-in-Unclear : goal.returns-in-Unclear
 returns-in-Unclear c =
     let entry = openssh_entry_of c.args.entry.now in
-    let same : entry.key ≡ key_of c.args.key.now = ap key_of (sym (c.key_data-listed.ensures ∙ ap data_of c.public_key.ensures)) ∙ c.is_same.ensures.0 c.if-not-is_same.false in
+    let same : entry.key ≡ key_of c.args.key.now = ap key_of (sym (c.key_data-listed.ensures ∙ ap data_of c.public_key.ensures)) ∙ c.is.ensures.same c.if-not-is.false in
     let read = subst (λ (text : List ℕ). Tells terms_of (AreTerms text) (MayBeTerms text) c.in_ok-terms.field-0) (c.as_str.ensures ∙ c.options.ensures) c.in_ok-terms.ensures in
     is_unclear c.args.is_authority (key_of c.args.key.now) entry same (subst (λ (r : Reading code.Terms). Tells terms_of (AreTerms entry.options) (MayBeTerms entry.options) r) c.in-Unclear.is read)
