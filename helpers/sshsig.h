@@ -18,8 +18,8 @@ uint32_t judge_read_armour(judge_blob text, judge_blob *answer);
 size_t judge_digest_length(judge_blob signature);
 
 /* Whether the signature counts, in that namespace, for a message with that digest: SSHKEY_DONE, or
- * what is wrong first, SSHKEY_SIGNER_NOT_ALLOWED where it is by none of the keys. No cryptography
- * runs over the key of such a one. With reserved bytes it is SSHKEY_NOT_SIGNED: ssh-keygen verifies
+ * what is wrong first. SSHKEY_SIGNER_NOT_ALLOWED says that none of the keys made it: then no
+ * cryptography runs over its key. With reserved bytes it is SSHKEY_NOT_SIGNED: ssh-keygen verifies
  * it as if there were none. */
 uint32_t judge_sshsig_of_digest(judge_blob signature, const char *name_space, judge_blob digest,
                                 judge_authorities keys);

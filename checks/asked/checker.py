@@ -78,7 +78,7 @@ def check_shown(count, programs, maker):
 
 
 def check_sha1(count, programs, maker):
-    """Of a certificate that RSA with SHA-1 signed all is shown that ssh-keygen shows; it is named as such a one, and valid for nobody.
+    """Of a certificate that RSA with SHA-1 signed all is shown that ssh-keygen shows; it is named as that, and valid for nobody.
     So is an SSH signature, and what is cut or turned is named as what it is."""
     maker.key("sha1-authority", "rsa -b 2048")
     ca, told = maker.path("sha1-authority.pub"), "sshkey-check: {}: signed by RSA with SHA-1 (24)\n"
