@@ -1,12 +1,11 @@
 -- What is read is no encrypted pair.
 use Rattle.std.proofs.Common.{◌≡◌, ℕ, List, Ok, false, refl}
 use Rattle.ssh_key.proofs.Lawful.{keypair_lawful, string_lawful, then_lawful}
-use Rattle.ssh_key.specs.base.Formats.{string_format}
-use Rattle.ssh_key.specs.pairs.KeypairFormats.{keypair_format}
-use Rattle.ssh_key.specs.pairs.KeypairReaders.{SpellsKeypair}
+use Rattle.ssh_key.specs.model.Leaves.{string_format}
+use Rattle.ssh_key.specs.model.KeyPairs.{keypair_format, SpellsKeypair}
 use Rattle.ssh_key.specs.pairs.Keypairs.{pair_of}
 use Rattle.ssh_key.specs.pairs.PairKinds.{is_encrypted}
-use Rattle.ssh_key.specs.terms.Terms.{◌then◌}
+use Rattle.ssh_key.specs.model.Terms.{◌then◌}
 use Rattle.ssh_key.specs.types.private.KeypairData.{KeypairData}
 use Rattle.ssh_key.specs.types.private.KeypairData.TheVariants as kinds
 

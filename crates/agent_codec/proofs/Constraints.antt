@@ -1,15 +1,14 @@
 -- How constraints are read, and that what is written of them is a spelling.
-use Rattle.std.proofs.Common.{ℕ, List, Ok, refl}
-use Rattle.std.specs.Int.{w8, w32}
+use Rattle.std.proofs.Common.{ℕ, List, refl}
+use Rattle.std.specs.Int.{w32}
 use Rattle.std.specs.List.{AllByRecursion}
 use Rattle.std.specs.Prelude.{map}
 use Rattle.ssh_key.proofs.Counted.{each_normal}
 use Rattle.ssh_key.proofs.Lawful.{IsChosen, called_chosen, called_ends, text_lawful}
-use Rattle.ssh_key.specs.base.Formats.{text_format}
-use Rattle.ssh_key.specs.base.Leaves.{SpellsString}
+use Rattle.ssh_key.specs.model.Leaves.{SpellsString}
 use Rattle.ssh_key.specs.model.Grammar.{AllEnd, normal_is_spelling}
 use Rattle.ssh_key.specs.model.Parts.{number, ◌&◌, each, flat, Fits}
-use Rattle.ssh_key.specs.model.Texts.{string}
+use Rattle.ssh_key.specs.model.Texts.{string, text_format}
 use Rattle.agent_codec.specs.Constraints.{Confirm, Constraint, Extension, IsWellFormedConstraint, Lifetime, body_format, constraint, constraint_format, constraint_of, constraints, kind_format, kind_from}
 use Rattle.agent_codec.specs.declared.constraint.Constraint as code
 use Rattle.agent_codec.specs.declared.constraint.Constraint.TheVariants as variants

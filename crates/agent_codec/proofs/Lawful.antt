@@ -3,10 +3,11 @@ use Rattle.std.proofs.Common.{ℕ, Result, ap, arith, length}
 use Rattle.ssh_key.proofs.Grammars.{by_itself}
 use Rattle.ssh_key.proofs.Lawful.{boxed_lawful, byte_lawful, called_lawful, counted_lawful, keypair_lawful, no_lengths, number32_lawful, signature_lawful, string_lawful, tested_lawful, text_lawful, then_lawful, values_to_end_lawful}
 use Rattle.ssh_key.proofs.Writing.{length_box}
-use Rattle.ssh_key.specs.base.Formats.{Format, IsFormat, string_format}
+use Rattle.ssh_key.specs.model.Formats.{Format, IsFormat}
+use Rattle.ssh_key.specs.model.Leaves.{string_format}
 use Rattle.ssh_key.specs.model.Parts.{bytes}
 use Rattle.ssh_key.specs.model.Reading.{Fault}
-use Rattle.ssh_key.specs.terms.ToEnd.{HasBytes}
+use Rattle.ssh_key.specs.model.ToEnd.{HasBytes}
 use Rattle.agent_codec.specs.Constraints.{body_format, constraint_format, constraints}
 use Rattle.agent_codec.specs.Constraints as constraint
 use Rattle.agent_codec.specs.Parts.{message, nothing_at, nothing_format}

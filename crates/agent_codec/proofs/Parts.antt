@@ -6,8 +6,8 @@ use Rattle.ssh_key.proofs.CombinedReaders.{fits_first, fits_inside, fits_length,
 use Rattle.ssh_key.proofs.Grammars.{ends}
 use Rattle.ssh_key.proofs.Lawful.{byte_lawful, tested_lawful}
 use Rattle.ssh_key.proofs.Writing.{length_number8}
-use Rattle.ssh_key.specs.base.Formats.{Format, IsFormat}
-use Rattle.ssh_key.specs.base.Leaves.{SpellsByte}
+use Rattle.ssh_key.specs.model.Formats.{Format, IsFormat}
+use Rattle.ssh_key.specs.model.Leaves.{SpellsByte}
 use Rattle.ssh_key.specs.model.Grammar.{AllEnd, IsGrammar, SpellsBoth, SpellsBoxed, SpellsTested, SpellsThen, normal_is_spelling}
 use Rattle.ssh_key.specs.model.Parts.{Parts, ◌&◌, box, flat, number, Fits}
 use Rattle.ssh_key.specs.model.Reading.{Fault}

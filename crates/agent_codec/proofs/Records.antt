@@ -3,14 +3,13 @@ use Rattle.std.proofs.Common.{refl}
 use Rattle.std.specs.Int.{w32}
 use Rattle.ssh_key.proofs.Counted.{keypair_normal}
 use Rattle.ssh_key.proofs.Lawful.{keypair_lawful, string_lawful}
-use Rattle.ssh_key.specs.base.Formats.{number32_format, string_format}
-use Rattle.ssh_key.specs.base.Leaves.{SpellsNumber32, SpellsString}
+use Rattle.ssh_key.specs.model.Leaves.{number32_format, string_format, SpellsNumber32, SpellsString}
 use Rattle.ssh_key.specs.model.Grammar.{normal_is_spelling}
 use Rattle.ssh_key.specs.model.Parts.{number, ◌&◌, flat, Fits}
 use Rattle.ssh_key.specs.model.Texts.{string}
-use Rattle.ssh_key.specs.pairs.KeypairFormats.{keypair_format}
+use Rattle.ssh_key.specs.model.KeyPairs.{keypair_format}
 use Rattle.ssh_key.specs.pairs.Keypairs.{keypair_parts, pair_of}
-use Rattle.ssh_key.specs.terms.Terms.{◌then◌}
+use Rattle.ssh_key.specs.model.Terms.{◌then◌}
 use Rattle.agent_codec.specs.Records.{IsWellFormedAddition, addition, addition_format, addition_of, identity, identity_format, identity_of, sign_request, sign_request_format, sign_request_of}
 use Rattle.agent_codec.specs.declared.addition.Addition as code_addition
 use Rattle.agent_codec.specs.declared.identity.Identity as code_identity

@@ -1,20 +1,18 @@
 -- How responses are read, and that what is written of them is a spelling.
 use Rattle.std.proofs.Common.{◌≡◌, ◌<◌, ◌+◌, ℕ, List, [], ◌∷◌, length, map, map-id, Ok, refl, subst, arith}
-use Rattle.std.specs.Int.{w8}
 use Rattle.std.specs.List.{AllByRecursion}
 use Rattle.ssh_key.proofs.Counted.{counted_normal, each_normal}
 use Rattle.ssh_key.proofs.Grammars.{all_end}
 use Rattle.ssh_key.proofs.Lawful.{IsMapped, string_lawful}
 use Rattle.ssh_key.proofs.Writing.{length_both, length_box}
-use Rattle.ssh_key.specs.base.Formats.{string_format}
-use Rattle.ssh_key.specs.keys.SignatureReaders.{SpellsSignature}
+use Rattle.ssh_key.specs.model.Leaves.{string_format}
 use Rattle.ssh_key.specs.keys.Signatures.{signature_of}
 use Rattle.ssh_key.specs.model.Grammar.{IsGrammar, normal_is_spelling}
 use Rattle.ssh_key.specs.model.Parts.{box, bytes, each, flat, Fits, ◌&◌}
 use Rattle.ssh_key.specs.model.Reading.{both_at}
-use Rattle.ssh_key.specs.model.Signatures.{signature}
+use Rattle.ssh_key.specs.model.Signatures.{signature, SpellsSignature}
 use Rattle.ssh_key.specs.model.Texts.{string}
-use Rattle.ssh_key.specs.terms.Counted.{counted_format}
+use Rattle.ssh_key.specs.model.Counted.{counted_format}
 use Rattle.agent_codec.specs.Parts.{message}
 use Rattle.agent_codec.specs.Records.{identity, identity_format, identity_of}
 use Rattle.agent_codec.specs.Responses.{Extension, ExtensionFailure, Failure, Identities, IsWellFormed, Response, Signed, Success, answer, body, extension_body, kind_from, response, response_format, response_of, signed, strings}

@@ -2,12 +2,13 @@
 -- 4.2.6), and their numbers.
 use Rattle.std.specs.Prelude.{ℕ, List, Result, Ok, Err, ◌==◌, if◌then◌else◌}
 use Rattle.std.specs.Int.{w8, w32}
-use Rattle.ssh_key.specs.base.Formats.{Format, number32_format, string_format, text_format}
+use Rattle.ssh_key.specs.model.Formats.{Format}
+use Rattle.ssh_key.specs.model.Leaves.{number32_format, string_format}
 use Rattle.ssh_key.specs.model.Parts.{Parts, number, ◌&◌}
 use Rattle.ssh_key.specs.model.Reading.{Fault, FormatEncoding}
-use Rattle.ssh_key.specs.model.Texts.{string, IsText}
-use Rattle.ssh_key.specs.terms.Terms.{◌then◌, called, tested}
-use Rattle.ssh_key.specs.terms.ToEnd.{values_to_end}
+use Rattle.ssh_key.specs.model.Texts.{string, IsText, text_format}
+use Rattle.ssh_key.specs.model.Terms.{◌then◌, called, tested}
+use Rattle.ssh_key.specs.model.ToEnd.{values_to_end}
 use Rattle.agent_codec.specs.Parts.{nothing_format, numbered}
 use Rattle.agent_codec.specs.declared.constraint.Constraint as code
 use Rattle.agent_codec.specs.declared.constraint.Constraint.TheVariants as variants

@@ -1,10 +1,11 @@
 -- Formats of messages: nothing at all, and a number and what it calls for.
 use Rattle.std.specs.Prelude.{◌≡◌, ℕ, List, [], Result, Ok}
-use Rattle.ssh_key.specs.base.Formats.{Format, byte_format}
-use Rattle.ssh_key.specs.base.Needs.{NoNeed}
-use Rattle.ssh_key.specs.base.Stops.{NoOverrun}
+use Rattle.ssh_key.specs.model.Formats.{Format}
+use Rattle.ssh_key.specs.model.Leaves.{byte_format}
+use Rattle.ssh_key.specs.model.Needs.{NoNeed}
+use Rattle.ssh_key.specs.model.Overruns.{NoOverrun}
 use Rattle.ssh_key.specs.model.Reading.{Fault, Front}
-use Rattle.ssh_key.specs.terms.Terms.{boxed, called, tested}
+use Rattle.ssh_key.specs.model.Terms.{boxed, called, tested}
 
 -- ---- no bytes, which spell that value
 

@@ -2,16 +2,16 @@
 -- written, and their formats.
 use Rattle.std.specs.Prelude.{◌≡◌, ℕ, List, Option, Result, Ok, Err, true, false}
 use Rattle.std.specs.Int.{w32}
-use Rattle.ssh_key.specs.base.Formats.{Format, number32_format, string_format}
-use Rattle.ssh_key.specs.model.KeyPairs.{KeyPair}
+use Rattle.ssh_key.specs.model.Formats.{Format}
+use Rattle.ssh_key.specs.model.Leaves.{number32_format, string_format}
+use Rattle.ssh_key.specs.model.KeyPairs.{KeyPair, keypair_format}
 use Rattle.ssh_key.specs.model.Parts.{Parts, number, ◌&◌}
 use Rattle.ssh_key.specs.model.Reading.{Fault}
 use Rattle.ssh_key.specs.model.Texts.{string}
-use Rattle.ssh_key.specs.pairs.KeypairFormats.{keypair_format}
 use Rattle.ssh_key.specs.pairs.Keypairs.{keypair_parts, pair_of}
 use Rattle.ssh_key.specs.pairs.NormalPairs.{IsWellFormedPair}
 use Rattle.ssh_key.specs.pairs.PairKinds.{is_encrypted}
-use Rattle.ssh_key.specs.terms.Terms.{◌then◌, tested}
+use Rattle.ssh_key.specs.model.Terms.{◌then◌, tested}
 use Rattle.ssh_key.specs.types.Error.{Error}
 use Rattle.ssh_key.specs.types.Error.TheVariants.{Encrypted}
 use Rattle.ssh_key.specs.types.private.KeypairData.{KeypairData}

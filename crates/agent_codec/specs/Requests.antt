@@ -3,11 +3,12 @@
 use Rattle.std.specs.Prelude.{ℕ, List, Result, Ok, Err, ◌==◌, if◌then◌else◌, map}
 use Rattle.std.specs.Int.{w8}
 use Rattle.std.specs.List.{AllByRecursion}
-use Rattle.ssh_key.specs.base.Formats.{Format, string_format}
+use Rattle.ssh_key.specs.model.Formats.{Format}
+use Rattle.ssh_key.specs.model.Leaves.{string_format}
 use Rattle.ssh_key.specs.model.Parts.{Parts, each, number, ◌&◌}
 use Rattle.ssh_key.specs.model.Reading.{Fault, FormatEncoding}
 use Rattle.ssh_key.specs.model.Texts.{string}
-use Rattle.ssh_key.specs.terms.Terms.{◌then◌, tested}
+use Rattle.ssh_key.specs.model.Terms.{◌then◌, tested}
 use Rattle.agent_codec.specs.Constraints.{Constraint, IsWellFormedConstraint, constraint, constraint_of, constraints}
 use Rattle.agent_codec.specs.Parts.{framed, nothing_format}
 use Rattle.agent_codec.specs.Records.{Addition, IsWellFormedAddition, SignRequest, addition, addition_format, addition_of, sign_request, sign_request_format, sign_request_of}

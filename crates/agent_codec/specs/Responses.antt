@@ -2,16 +2,16 @@
 -- and how they stand in a frame.
 use Rattle.std.specs.Prelude.{ℕ, List, map, Option, Some, None, Result, Ok, Err, ◌==◌, if◌then◌else◌}
 use Rattle.std.specs.Int.{w8}
-use Rattle.ssh_key.specs.base.Formats.{Format, string_format}
-use Rattle.ssh_key.specs.keys.KeyFormats.{signature_format}
+use Rattle.ssh_key.specs.model.Formats.{Format}
+use Rattle.ssh_key.specs.model.Leaves.{string_format}
 use Rattle.ssh_key.specs.keys.Signatures.{signature_of}
 use Rattle.ssh_key.specs.model.Parts.{Parts, box, each, number, ◌&◌}
 use Rattle.ssh_key.specs.model.Reading.{Fault, FormatEncoding}
-use Rattle.ssh_key.specs.model.Signatures.{Signature, IsSignature, signature}
+use Rattle.ssh_key.specs.model.Signatures.{Signature, IsSignature, signature, signature_format}
 use Rattle.ssh_key.specs.model.Texts.{string}
-use Rattle.ssh_key.specs.terms.Counted.{counted, counted_format}
-use Rattle.ssh_key.specs.terms.Terms.{◌then◌, boxed, tested}
-use Rattle.ssh_key.specs.terms.ToEnd.{values_to_end}
+use Rattle.ssh_key.specs.model.Counted.{counted, counted_format}
+use Rattle.ssh_key.specs.model.Terms.{◌then◌, boxed, tested}
+use Rattle.ssh_key.specs.model.ToEnd.{values_to_end}
 use Rattle.ssh_key.specs.types.Signature as code_signature
 use Rattle.agent_codec.specs.Parts.{framed, nothing_format}
 use Rattle.agent_codec.specs.Records.{Identity, identity, identity_format, identity_of}

@@ -2,11 +2,10 @@
 use Rattle.std.specs.Prelude.{◌≡◌, ◌≢◌, ◌⊎◌, ◌<◌, length, ℕ, List, Bool, true, false, IsTrue, Result, Ok, Err}
 use Rattle.openssh_limits.specs.Keys.{is_let_in}
 use Rattle.sshkey_base.specs.Reading.{NoSpelling}
-use Rattle.sshkey_cert.specs.CertificateReaders.{SpellsCertificate}
 use Rattle.sshkey_cert_form.specs.Faults.{IsFaultOf}
 use Rattle.sshkey_krl.specs.Revocation.{CertificateIdentity}
 use Rattle.sshkey_krl.specs.Revocations.{is_certificate_revoked, is_key_revoked}
-use Rattle.sshkey_model.specs.Certificates.{Certificate, normal_certificate}
+use Rattle.sshkey_model.specs.Certificates.{Certificate, normal_certificate, SpellsCertificate}
 use Rattle.sshkey_model.specs.Keys.{Key}
 use Rattle.sshkey_model.specs.Parts.{flat}
 use Rattle.sshkey_model.specs.Verification.{Question}

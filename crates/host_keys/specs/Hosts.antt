@@ -6,7 +6,6 @@ use Rattle.openssh_limits.specs.Keys.{is_let_in}
 use Rattle.openssh_limits.specs.Read.{AreReadPrincipals}
 use Rattle.std.specs.List.{flat_map}
 use Rattle.std.specs.Prelude.{◌≡◌, ◌≢◌, ◌⊎◌, ℕ, List, [], ◌∷◌, Bool, false, IsTrue, Some}
-use Rattle.sshkey_cert.specs.CertificateReaders.{SpellsCertificate}
 use Rattle.sshkey_cert.specs.Validity.{refusal_of}
 use Rattle.sshkey_entries.specs.Fields.{filled_lines}
 use Rattle.sshkey_entries.specs.HostNames.{known_name, standard_port}
@@ -14,7 +13,7 @@ use Rattle.sshkey_entries.specs.HostVerdicts.{HidesSome, IsAuthority, IsRevoked}
 use Rattle.sshkey_known_hosts.specs.Verdicts.{IsVerdict}
 use Rattle.sshkey_krl.specs.Revocation.{CertificateIdentity}
 use Rattle.sshkey_krl.specs.Revocations.{is_certificate_revoked, is_key_revoked}
-use Rattle.sshkey_model.specs.Certificates.{Certificate, Host, normal_certificate}
+use Rattle.sshkey_model.specs.Certificates.{Certificate, Host, normal_certificate, SpellsCertificate}
 use Rattle.sshkey_model.specs.Fingerprints.{Fingerprint, fingerprint}
 use Rattle.sshkey_model.specs.Keys.{Key}
 use Rattle.sshkey_model.specs.Lines.{IsWithout}

@@ -1,11 +1,9 @@
 //! Whether a certificate is the host's.
 
 ghost use Rattle.std.specs.Prelude.{◌≡◌, ◌≢◌, ◌↔◌, IfErr, IsOk, IsTrue, map, string_bytes};
-ghost use Rattle.sshkey_cert.specs.CertificateFormats.{certificate_format};
-ghost use Rattle.sshkey_cert.specs.CertificateReaders.{SpellsCertificate};
 ghost use Rattle.sshkey_cert.specs.CertificateValues.{certificate_of};
 ghost use Rattle.sshkey_cert.specs.Validity.{FindsRefusal};
-ghost use Rattle.sshkey_model.specs.Certificates.{IsCertificate, normal_certificate};
+ghost use Rattle.sshkey_model.specs.Certificates.{IsCertificate, normal_certificate, certificate_format, SpellsCertificate};
 ghost use Rattle.sshkey_model.specs.Keys.{normal_key};
 ghost use Rattle.sshkey_model.specs.Parts.{BoxesFit, flat};
 ghost use Rattle.sshkey_model.specs.Refusals.{first_refusal_for};

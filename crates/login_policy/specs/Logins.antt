@@ -2,13 +2,12 @@
 -- sshd_config(5), TrustedUserCAKeys and RevokedKeys).
 use Rattle.std.specs.Prelude.{◌≡◌, ◌≢◌, ℕ, List, Bool, not, All, Contains, IsTrue, Result, Ok, Err, Option, Some, None, false, is_some, option_map, string_bytes}
 use Rattle.sshkey_addresses.specs.SourceAddresses.{ComesFrom, IsNetworks}
-use Rattle.sshkey_cert.specs.CertificateReaders.{SpellsCertificate}
 use Rattle.sshkey_cert.specs.Validity.{fingerprints_of}
 use Rattle.sshkey_keys.specs.Fingerprints.{IsFingerprint}
 use Rattle.sshkey_keys.specs.Keys.{key_of}
 use Rattle.sshkey_krl.specs.Revocation as krl
 use Rattle.sshkey_krl.specs.Revocations.{is_certificate_revoked}
-use Rattle.sshkey_model.specs.Certificates.{Certificate, User, normal_certificate}
+use Rattle.sshkey_model.specs.Certificates.{Certificate, User, normal_certificate, SpellsCertificate}
 use Rattle.sshkey_model.specs.Fingerprints.{Fingerprint}
 use Rattle.sshkey_model.specs.Keys.{Key}
 use Rattle.sshkey_model.specs.Lines.{IsWithout}

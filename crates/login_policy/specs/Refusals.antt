@@ -1,14 +1,12 @@
 -- Why a login is refused, and where memory is needed.
 use Rattle.std.specs.Prelude.{◌≡◌, ◌≢◌, ◌⊎◌, ℕ, List, All, Some, false, IsTrue}
-use Rattle.sshkey_cert.specs.CertificateFormats.{certificate_format}
-use Rattle.sshkey_cert.specs.CertificateReaders.{SpellsCertificate}
 use Rattle.sshkey_cert.specs.Validity.{refusal_of}
 use Rattle.sshkey_cert.specs.declared.certificate.refusal.CertificateRefusal.{CertificateRefusal}
 use Rattle.sshkey_cert.specs.declared.certificate.refusal.CertificateRefusal.TheVariants.{Authority}
 use Rattle.sshkey_cert_form.specs.Faults.{IsFaultOf}
 use Rattle.sshkey_keys.specs.Fingerprints.{IsShort}
 use Rattle.sshkey_krl.specs.Revocations.{is_certificate_revoked}
-use Rattle.sshkey_model.specs.Certificates.{Certificate, User, normal_certificate}
+use Rattle.sshkey_model.specs.Certificates.{Certificate, User, normal_certificate, certificate_format, SpellsCertificate}
 use Rattle.sshkey_model.specs.Fingerprints.{Fingerprint}
 use Rattle.sshkey_model.specs.Keys.{Key}
 use Rattle.sshkey_model.specs.Lines.{IsWithout}

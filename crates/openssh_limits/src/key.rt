@@ -1,11 +1,11 @@
 //! The public keys that OpenSSH reads and lets in.
 
 ghost use Rattle.std.specs.Prelude.{◌≡◌};
-ghost use Rattle.sshkey_keys.specs.Keys.{SpellsKey, key_of};
+ghost use Rattle.sshkey_keys.specs.Keys.{key_of};
 ghost use Rattle.sshkey_keys_ref.specs.KeyDataRef.{key_bytes};
 ghost use Rattle.sshkey_keys_ref.specs.KeyRef.{Means};
 ghost use Rattle.sshkey_keys_ref.specs.Kinds.{dsa_of, rsa_of};
-ghost use Rattle.sshkey_model.specs.Keys.{Key};
+ghost use Rattle.sshkey_model.specs.Keys.{Key, SpellsKey};
 ghost use Rattle.openssh_limits.specs.Keys.{is_let_in, is_read_key, is_uncompressed, required};
 
 use crate::number::{is_read_number, read_bits};

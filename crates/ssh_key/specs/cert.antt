@@ -1,6 +1,4 @@
 pub use Rattle.sshkey_cert.specs.Fitting
-pub use Rattle.sshkey_cert.specs.CertificateReaders
-pub use Rattle.sshkey_cert.specs.CertificateFormats
 pub use Rattle.sshkey_cert.specs.CertificateValues
 pub use Rattle.sshkey_cert.specs.Validity
 pub use Rattle.sshkey_cert.specs.Questions

@@ -1,5 +1,3 @@
-pub use Rattle.sshkey_cert_fields.specs.ToBeSignedReaders
-pub use Rattle.sshkey_cert_fields.specs.ToBeSignedFormats
 pub use Rattle.sshkey_cert_fields.specs.ToBeSignedValues
 pub use Rattle.sshkey_cert_fields.specs.ToBeSignedParts
 pub use Rattle.sshkey_cert_fields.specs.Comparisons

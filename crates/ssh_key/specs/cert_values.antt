@@ -1,6 +1,4 @@
-pub use Rattle.sshkey_cert_values.specs.Leaves
 pub use Rattle.sshkey_cert_values.specs.Times
 pub use Rattle.sshkey_cert_values.specs.CertTypes
-pub use Rattle.sshkey_cert_values.specs.OptionReaders
 pub use Rattle.sshkey_cert_values.specs.OptionMaps
 pub use Rattle.sshkey_cert_values.specs.Comparisons

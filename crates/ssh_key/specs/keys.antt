@@ -1,5 +1,4 @@
 pub use Rattle.sshkey_keys.specs.Keys
-pub use Rattle.sshkey_keys.specs.KeyFormats
 pub use Rattle.sshkey_keys.specs.KeyKinds
 pub use Rattle.sshkey_keys.specs.NameStrings
 pub use Rattle.sshkey_keys.specs.Comparisons
@@ -9,4 +8,3 @@ pub use Rattle.sshkey_keys.specs.Signatures
 pub use Rattle.sshkey_keys.specs.Questions
 pub use Rattle.sshkey_keys.specs.Verdicts
 pub use Rattle.sshkey_keys.specs.Blobs
-pub use Rattle.sshkey_keys.specs.SignatureReaders

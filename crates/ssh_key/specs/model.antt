@@ -1,7 +1,16 @@
 pub use Rattle.sshkey_model.specs.Parts
 pub use Rattle.sshkey_model.specs.Reading
 pub use Rattle.sshkey_model.specs.Grammar
+pub use Rattle.sshkey_model.specs.Needs
+pub use Rattle.sshkey_model.specs.Overruns
+pub use Rattle.sshkey_model.specs.Formats
 pub use Rattle.sshkey_model.specs.Texts
+pub use Rattle.sshkey_model.specs.Leaves
+pub use Rattle.sshkey_model.specs.ShortStrings
+pub use Rattle.sshkey_model.specs.Terms
+pub use Rattle.sshkey_model.specs.Counted
+pub use Rattle.sshkey_model.specs.ToEnd
+pub use Rattle.sshkey_model.specs.Labels
 pub use Rattle.sshkey_model.specs.Names
 pub use Rattle.sshkey_model.specs.CertificateNames
 pub use Rattle.sshkey_model.specs.Mpints

@@ -1,5 +1,3 @@
-pub use Rattle.sshkey_pair_kinds.specs.PairReaders
-pub use Rattle.sshkey_pair_kinds.specs.PairFormats
 pub use Rattle.sshkey_pair_kinds.specs.PrivateHalves
 pub use Rattle.sshkey_pair_kinds.specs.Pairs
 pub use Rattle.sshkey_pair_kinds.specs.SkEcdsaSha2NistP256

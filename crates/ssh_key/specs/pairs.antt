@@ -1,6 +1,4 @@
 pub use Rattle.sshkey_pairs.specs.OpaquePairs
-pub use Rattle.sshkey_pairs.specs.KeypairFormats
-pub use Rattle.sshkey_pairs.specs.KeypairReaders
 pub use Rattle.sshkey_pairs.specs.Keypairs
 pub use Rattle.sshkey_pairs.specs.PairKinds
 pub use Rattle.sshkey_pairs.specs.NormalPairs

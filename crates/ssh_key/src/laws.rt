@@ -15,24 +15,21 @@ ghost use Rattle.std.specs.List.{AllByRecursion};
 ghost use Rattle.ssh_key.specs.NormalForms.{AreNormalForms};
 ghost use Rattle.ssh_key.specs.OpenLaws.{IsOfOneValue, IsReadBack, NoneBegins};
 ghost use Rattle.sshkey_model.specs.CertificateNames.{IsCertified, certificate_algorithm, certificate_algorithm_at};
-ghost use Rattle.sshkey_model.specs.Certificates.{AreSignedFields, Certificate, CertificateChoices, HasCertificatePlaces, IsCertificate, IsEnd, IsTime, SignedFields, certificate, certificate_at, certificate_type, end_at, normal_certificate, normal_to_be_signed, signed_fields_at, time_at, to_be_signed, type_at};
+ghost use Rattle.sshkey_model.specs.Certificates.{AreSignedFields, Certificate, CertificateChoices, HasCertificatePlaces, IsCertificate, IsEnd, IsTime, SignedFields, certificate, certificate_at, certificate_type, end_at, normal_certificate, normal_to_be_signed, signed_fields_at, time_at, to_be_signed, type_at, certificate_format, SpellsCertificate};
 ghost use Rattle.sshkey_model.specs.Grammar.{IsSpelled, spelled, value_at};
 ghost use Rattle.sshkey_model.specs.KeyDerivation.{cipher, kdf, kdf_algorithm};
 ghost use Rattle.sshkey_model.specs.KeyPairs.{HasKeyPairPlaces, HasPairPlaces, HasScalarPlaces, IsEcdsaPair, IsKeyPair, IsPairUnder, IsRsaPrivate, IsScalar, Plain, keypair, keypair_at, normal_keypair, pair, pair_at, rsa_private, rsa_private_at, scalar, scalar_at};
-ghost use Rattle.sshkey_model.specs.Keys.{HasKeyPlaces, IsBodyUnder, IsKey, Key, body, body_at, key, key_at, normal_key};
+ghost use Rattle.sshkey_model.specs.Keys.{HasKeyPlaces, IsBodyUnder, IsKey, Key, body, body_at, key, key_at, normal_key, SpellsKey};
 ghost use Rattle.sshkey_model.specs.Lines.{IsCertificateLine, IsKeyLine, key_name, name_of_certificate};
 ghost use Rattle.sshkey_model.specs.Mpints.{IsMpint, mpint_at};
 ghost use Rattle.sshkey_model.specs.Names.{Algorithm, Curve, Hash, IsAlgorithm, algorithm, algorithm_at, curve, curve_at, hash, hash_at};
 ghost use Rattle.sshkey_model.specs.Options.{AreOptions, HasOptionPlaces, normal_options, options, options_at};
 ghost use Rattle.sshkey_model.specs.Parts.{Any, flat, number};
-ghost use Rattle.sshkey_model.specs.Points.{IsPoint, IsPointOf, point_at};
+ghost use Rattle.sshkey_model.specs.Points.{IsPoint, IsPointOf, point_format};
 ghost use Rattle.sshkey_model.specs.PrivateKeys.{HasPrivateKeyPlaces, IsPrivateKey, normal_private_key, private_key};
 ghost use Rattle.sshkey_model.specs.Signatures.{IsSignature, signature, signature_at};
 ghost use Rattle.sshkey_model.specs.SshSignatures.{HasSshSignaturePlaces, IsSshSignature, normal_ssh_signature, signed_data, ssh_signature};
 ghost use Rattle.sshkey_model.specs.Texts.{IsText, string, text_at, texts, texts_at};
-ghost use Rattle.sshkey_keys.specs.Keys.{SpellsKey};
-ghost use Rattle.sshkey_cert.specs.CertificateFormats.{certificate_format};
-ghost use Rattle.sshkey_cert.specs.CertificateReaders.{SpellsCertificate};
 ghost use Rattle.sshkey_ciphers.specs.KdfFormats.{cipher_at, kdf_algorithm_at, kdf_at};
 ghost use Rattle.sshkey_private.specs.PaddedKeys.{HasPaddedPlaces, padded_private_key};
 ghost use Rattle.sshkey_private.specs.PrivateKeyGrammars.{private_value_at};
@@ -200,7 +197,7 @@ pub fn normal_forms()
     ensures mpints { AreNormalForms IsMpint string mpint_at }
     ensures texts { AreNormalForms IsText string text_at }
     ensures text_lists { AreNormalForms (AllByRecursion IsText) texts texts_at }
-    ensures points { AreNormalForms IsPointOf (λ x. string x.1) point_at }
+    ensures points { AreNormalForms IsPointOf (λ x. string x.1) point_format.read }
     ensures curves { AreNormalForms Any curve curve_at }
     ensures hashes { AreNormalForms Any hash hash_at }
     ensures names { AreNormalForms IsAlgorithm algorithm algorithm_at }

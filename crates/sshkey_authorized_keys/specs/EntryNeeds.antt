@@ -2,8 +2,7 @@
 use Rattle.std.specs.Prelude.{◌≡◌, ◌⊎◌, ℕ, ◌≤◌, List, ◌∷◌, ◌++◌, count_by}
 use Rattle.sshkey_entries.specs.AuthorizedKeys.{is_space}
 use Rattle.sshkey_entries.specs.ConfigOptions.{AreOptionCharacters}
-use Rattle.sshkey_keys.specs.KeyFormats.{key_format}
-use Rattle.sshkey_keys.specs.Keys.{SpellsKey}
+use Rattle.sshkey_model.specs.Keys.{key_format, SpellsKey}
 use Rattle.sshkey_model.specs.Lines.{space, key_name, IsWithout}
 use Rattle.sshkey_public.specs.LineNeeds.{HasComment, NeedsValue}
 

@@ -11,7 +11,8 @@ use Rattle.sshkey_base.proofs.Boxes.{some_after}
 use Rattle.sshkey_base.specs.declared.encoding.Error.{Error}
 use Rattle.sshkey_base.specs.declared.encoding.Error.TheVariants as encoding
 use Rattle.sshkey_base.specs.Causes.{Cause, NoMemory, encoding_cause}
-use Rattle.sshkey_base.specs.Formats.{Format, IsFormat, Begins, AcceptsBeginning}
+use Rattle.sshkey_base.specs.Formats.{Begins, AcceptsBeginning}
+use Rattle.sshkey_model.specs.Formats.{Format, IsFormat}
 use Rattle.sshkey_base.specs.Source.{Source, announced_len}
 use Rattle.sshkey_base.specs.Laws.{OneBeginning}
 use Rattle.sshkey_base.specs.Reading.{Gives, GivesWhole, Reads, IsRefused, AcceptsFront, AcceptsWhole}

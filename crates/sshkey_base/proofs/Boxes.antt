@@ -12,8 +12,10 @@ use Rattle.sshkey_base.specs.declared.encoding.Error.TheVariants as encoding
 use Rattle.sshkey_base.specs.Causes.{Cause, NoMemory, Faulty, encoding_cause}
 use Rattle.sshkey_base.specs.Source.{Outer, Source, IsSound, announced_len, part}
 use Rattle.sshkey_base.specs.Reading.{Reads, Refuses, IsRefused, Gives, GivesAlways}
-use Rattle.sshkey_base.specs.Needs.{Asks, HasString, NeedsBoxed}
-use Rattle.sshkey_base.specs.Stops.{OverrunsString, OverrunsBoxed, AreLengths, RanOut, Stopped, StopsBy, StopsToEnd}
+use Rattle.sshkey_base.specs.Needs.{Asks}
+use Rattle.sshkey_model.specs.Needs.{HasString, NeedsBoxed}
+use Rattle.sshkey_base.specs.Stops.{RanOut, Stopped, StopsBy, StopsToEnd}
+use Rattle.sshkey_model.specs.Overruns.{OverrunsString, OverrunsBoxed, AreLengths}
 use Rattle.sshkey_base.specs.Nested.{ReadsBy, AsksBy, Calls, Past, Trails, Finishes, NoLength, Prefixed}
 use Rattle.sshkey_base.proofs.Judging.{only_memory}
 use Rattle.sshkey_base.proofs.Stopping.{passes, step_ok, not_taken, refused_stopped}

@@ -5,7 +5,7 @@ use Rattle.std.specs.Prelude.{IsOk}
 use Rattle.std.proofs.lemmas.Bool.{and_parts, le-leb}
 use Rattle.sshkey_model.specs.Reading.{Fault, Label, string_at}
 use Rattle.sshkey_model.specs.Names.{Nistp256, Algorithm, Ecdsa, Other, algorithm_name, algorithms, named, are_ascii, at_sign, is_own_name, is_other_name}
-use Rattle.sshkey_model.specs.CertificateNames.{IsCertified, suffix, certificate_name, certified, certified_or, certified_from, certificate_algorithm_at}
+use Rattle.sshkey_model.specs.CertificateNames.{IsCertified, suffix, certificate_name, certified, certified_or, certified_from, certificate_algorithm_at, NeedsCertified}
 use Rattle.sshkey_model.proofs.CertificateNameReaders.{IsStripped, certified_again, certified_checks, certified_is}
 use Rattle.sshkey_model.proofs.NameReaders.{found}
 use Rattle.sshkey_model.proofs.ShortNames.{other_parts, short_certificate_name}
@@ -16,7 +16,6 @@ use Rattle.sshkey_base.specs.declared.encoding.Error.TheVariants as encoding
 use Rattle.sshkey_base.specs.declared.error.Error as wide-error
 use Rattle.sshkey_base.specs.declared.error.Error.TheVariants as wide
 use Rattle.sshkey_base.specs.Labels.{AsksNamed}
-use Rattle.sshkey_base.specs.NameNeeds.{NeedsCertified}
 use Rattle.sshkey_base.proofs.Labels.{not_named}
 use Rattle.sshkey_base.specs.AlgorithmName.{HasCertificateName, JudgesCertified}
 use Rattle.sshkey_base.specs.Answers.{Judges}

@@ -5,7 +5,7 @@ use Rattle.std.proofs.lemmas.List.{length-replicate}
 use Rattle.std.specs.Int.{w32}
 use Rattle.sshkey_model.specs.Parts.{Any, number, flat, Fits, BoxesFit}
 use Rattle.sshkey_model.specs.Grammar.{normal_is_spelling}
-use Rattle.sshkey_base.specs.Leaves.{SpellsNumber32, count}
+use Rattle.sshkey_model.specs.Leaves.{SpellsNumber32, count}
 
 pub count_is : (n : ℕ) → n < 2 ^ 32 → count n ≡ number w32 n
 unfolding count

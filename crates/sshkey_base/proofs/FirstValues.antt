@@ -3,10 +3,11 @@ use Rattle.std.proofs.Common.{◌≡◌, ◌⊎◌, inl, inr, ℕ, zero, suc, Op
 use Rattle.std.specs.Prelude.{IsOkAnd}
 use Rattle.sshkey_model.specs.Reading.{Fault, Front, Length}
 use Rattle.sshkey_base.specs.Causes.{Cause, NoMemory, Faulty}
-use Rattle.sshkey_base.specs.Needs.{NeedsFirst}
+use Rattle.sshkey_model.specs.Needs.{NeedsFirst}
 use Rattle.sshkey_base.specs.Reading.{Reads}
 use Rattle.sshkey_base.specs.Source.{Source, IsSound}
-use Rattle.sshkey_base.specs.Stops.{OverrunsWithin, OverrunsList, RanOut, Stopped}
+use Rattle.sshkey_base.specs.Stops.{RanOut, Stopped}
+use Rattle.sshkey_model.specs.Overruns.{OverrunsWithin, OverrunsList}
 use Rattle.sshkey_base.proofs.ReadLists.{StillOverruns}
 
 -- Nothing was read yet, or the first value stands there.

@@ -18,8 +18,9 @@ use Rattle.sshkey_base.specs.Causes.{Cause, cause, encoding_cause}
 use Rattle.sshkey_base.specs.Source.{Source, Advances, TooFew, announced_len}
 use Rattle.sshkey_base.specs.Reading.{Reads, Refuses, GivesAlways}
 use Rattle.sshkey_base.specs.FixedWidth.{fixed_from, fixed_step, fixed_at, LengthIs}
-use Rattle.sshkey_base.specs.Needs.{NoNeed}
-use Rattle.sshkey_base.specs.Stops.{OverrunsString, StopsBy}
+use Rattle.sshkey_model.specs.Needs.{NoNeed}
+use Rattle.sshkey_base.specs.Stops.{StopsBy}
+use Rattle.sshkey_model.specs.Overruns.{OverrunsString}
 use Rattle.sshkey_base.proofs.Stopping.{passes, refused_stopped}
 
 abbrev Scalar : Type 0

@@ -5,8 +5,13 @@ use Rattle.sshkey_model.specs.Grammar.{Checks}
 use Rattle.sshkey_model.specs.Parts.{Any, bytes}
 use Rattle.sshkey_model.specs.Reading.{Whole, whole, bytes_at, number_at}
 use Rattle.sshkey_model.proofs.Grammars.{by_itself}
-use Rattle.sshkey_base.specs.Formats.{IsFormat, byte_format, number32_format, number64_format, string_format, array_format, short_format, text_format, mpint_format, texts_format, label_format}
-use Rattle.sshkey_base.specs.NameFormats.{certified_format}
+use Rattle.sshkey_model.specs.Formats.{IsFormat}
+use Rattle.sshkey_model.specs.Leaves.{byte_format, number32_format, number64_format, string_format, array_format}
+use Rattle.sshkey_model.specs.ShortStrings.{short_format}
+use Rattle.sshkey_model.specs.Texts.{text_format, texts_format}
+use Rattle.sshkey_model.specs.Mpints.{mpint_format}
+use Rattle.sshkey_model.specs.Labels.{label_format}
+use Rattle.sshkey_model.specs.CertificateNames.{certified_format}
 use Rattle.sshkey_base.proofs.Leaves.{byte_grammar, number32_grammar, number64_grammar, string_grammar, array_grammar, short_grammar, text_grammar, texts_grammar, mpint_grammar, label_grammar, certified_grammar}
 use Rattle.sshkey_base.proofs.Lengths.{no_lengths, string_lengths, box_lengths, short_lengths, text_lengths, mpint_lengths, label_lengths, texts_lengths, certified_lengths}
 

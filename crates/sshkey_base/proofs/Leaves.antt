@@ -3,20 +3,18 @@ use Rattle.std.specs.Prelude.{ℕ, List, length, nat_le}
 use Rattle.std.specs.Int.{w8, w32, w64}
 use Rattle.sshkey_model.specs.CertificateNames.{IsCertified, certificate_algorithm, certificate_algorithm_at}
 use Rattle.sshkey_model.specs.Grammar.{IsGrammar, Spells, Checks}
-use Rattle.sshkey_model.specs.Mpints.{mpint_at}
+use Rattle.sshkey_model.specs.Mpints.{mpint_at, SpellsMpint}
 use Rattle.sshkey_model.specs.Parts.{Any, bytes}
 use Rattle.sshkey_model.specs.Reading.{Length, Whole, whole, bytes_at, number_at, string_at, box_at}
-use Rattle.sshkey_model.specs.Texts.{string, text_at, texts_at}
+use Rattle.sshkey_model.specs.Texts.{string, text_at, texts_at, SpellsTexts, SpellsText}
 use Rattle.sshkey_model.proofs.CertificateNameReaders.{certificate_algorithm_reads}
 use Rattle.sshkey_model.proofs.CombinedReaders.{wide8, wide32, wide64, bytes_reads, number_reads, string_reads, box_reads, whole_reads, checked_string_reads, kept_bytes}
 use Rattle.sshkey_model.proofs.Grammars.{grammar}
 use Rattle.sshkey_model.proofs.MpintReaders.{mpint_reads}
 use Rattle.sshkey_model.proofs.TextReaders.{text_reads, texts_reads}
-use Rattle.sshkey_base.specs.Labels.{label_at}
-use Rattle.sshkey_base.specs.Leaves.{SpellsByte, SpellsNumber32, SpellsNumber64, SpellsString, SpellsArray, SpellsMpint}
-use Rattle.sshkey_base.specs.ShortStrings.{SpellsShort, short_at}
-use Rattle.sshkey_base.specs.TextLists.{SpellsTexts}
-use Rattle.sshkey_base.specs.Texts.{SpellsText}
+use Rattle.sshkey_model.specs.Labels.{label_at}
+use Rattle.sshkey_model.specs.Leaves.{SpellsByte, SpellsNumber32, SpellsNumber64, SpellsString, SpellsArray}
+use Rattle.sshkey_model.specs.ShortStrings.{SpellsShort, short_at}
 
 pub byte_grammar : IsGrammar SpellsByte (number_at w8)
 byte_grammar = grammar (number_reads w8 wide8)

@@ -8,7 +8,7 @@ use Rattle.sshkey_model.specs.Parts.{are_bytes}
 use Rattle.sshkey_model.specs.Reading.{Fault, Length, bytes_at, checked_at}
 use Rattle.sshkey_base.specs.Source.{Source, Advances, Later, part, after, all_of}
 use Rattle.sshkey_base.specs.Reading.{Reads}
-use Rattle.sshkey_base.specs.ShortStrings.{at_most}
+use Rattle.sshkey_model.specs.ShortStrings.{at_most}
 use Rattle.sshkey_base.proofs.Places.{part_later}
 use Rattle.sshkey_base.proofs.ShortStrings.{short_reads}
 

@@ -3,14 +3,13 @@ use Rattle.std.proofs.Common.{◌≡◌, inl, inr, ◌≤◌, ◌<◌, ◌+◌, 
 use Rattle.std.specs.Prelude.{IsOkAnd, cond}
 use Rattle.std.specs.Int.{w32}
 use Rattle.std.proofs.lemmas.Bool.{lt-ltb}
-use Rattle.sshkey_model.specs.Reading.{Fault, Length, ◌>>=◌, Front, Whole, whole, number_at, bytes_at, string_at, box_at, checked_at, list_within, list_whole}
+use Rattle.sshkey_model.specs.Reading.{Fault, Length, ◌>>=◌, Front, Whole, whole, number_at, bytes_at, string_at, box_at, checked_at, list_within, list_whole, to_end}
 use Rattle.sshkey_model.specs.CertificateNames.{certified_from, certificate_algorithm_at}
 use Rattle.sshkey_model.specs.Mpints.{mpint_at, mpint_from}
 use Rattle.sshkey_model.specs.Texts.{text_at, text_from, texts_at}
-use Rattle.sshkey_base.specs.Labels.{label_at}
-use Rattle.sshkey_base.specs.Reading.{to_end}
-use Rattle.sshkey_base.specs.ShortStrings.{short_at, at_most}
-use Rattle.sshkey_base.specs.Stops.{NoOverrun, OverrunsBytes, OverrunsString, OverrunsBoxed, OverrunsWithin, OverrunsList, AreLengths}
+use Rattle.sshkey_model.specs.Labels.{label_at}
+use Rattle.sshkey_model.specs.ShortStrings.{short_at, at_most}
+use Rattle.sshkey_model.specs.Overruns.{NoOverrun, OverrunsBytes, OverrunsString, OverrunsBoxed, OverrunsWithin, OverrunsList, AreLengths}
 
 pub no_lengths : {A : Type 0} (read : Front A) → AreLengths read NoOverrun
 no_lengths read b m o = absurd o

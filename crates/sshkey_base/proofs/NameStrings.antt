@@ -20,7 +20,8 @@ use Rattle.sshkey_base.specs.ShortBytes.{short_of}
 use Rattle.sshkey_base.specs.Source.{Source, IsSound, Advances, TooFew}
 use Rattle.sshkey_base.proofs.Labels.{same_bytes}
 use Rattle.sshkey_base.proofs.Lengths.{bytes_lengths}
-use Rattle.sshkey_base.specs.Stops.{OverrunsBytes, Stopped, StopsBy}
+use Rattle.sshkey_base.specs.Stops.{Stopped, StopsBy}
+use Rattle.sshkey_model.specs.Overruns.{OverrunsBytes}
 use Rattle.sshkey_base.proofs.Judging.{only_memory}
 use Rattle.sshkey_base.proofs.Stopping.{not_taken, read_past}
 use Rattle.sshkey_base.proofs.Places.{advances_both}

@@ -4,12 +4,11 @@ use Rattle.std.specs.List.{AllByRecursion}
 use Rattle.std.proofs.lemmas.Str.{is_utf8-from_IsUtf8, IsUtf8-string_bytes}
 use Rattle.sshkey_model.specs.Grammar.{normal_is_spelling}
 use Rattle.sshkey_model.specs.Parts.{Fits, flat}
-use Rattle.sshkey_model.specs.Texts.{string, texts, IsText}
+use Rattle.sshkey_model.specs.Texts.{string, texts, IsText, SpellsTexts, SpellsText}
 use Rattle.sshkey_base.specs.declared.mpint.Mpint.{Mpint}
-use Rattle.sshkey_base.specs.Leaves.{SpellsMpint}
+use Rattle.sshkey_model.specs.Mpints.{SpellsMpint}
 use Rattle.sshkey_base.specs.Mpint.{mpint_of}
-use Rattle.sshkey_base.specs.TextLists.{SpellsTexts, texts_of}
-use Rattle.sshkey_base.specs.Texts.{SpellsText}
+use Rattle.sshkey_base.specs.TextLists.{texts_of}
 
 -- its bytes are a number's
 pub mpint_normal : (m : Mpint) → Unit {0} → Fits (string (mpint_of m)) → SpellsMpint (mpint_of m) (flat (string (mpint_of m)))

@@ -4,11 +4,11 @@ use Rattle.std.specs.List.{AllByRecursion}
 use Rattle.std.proofs.lemmas.Bool.{false_from_ne_true}
 use Rattle.std.proofs.lemmas.Slice.Eq.{bytes_eq-Decides}
 use Rattle.sshkey_model.specs.Reading.{Fault, Label, string_at}
-use Rattle.sshkey_model.specs.Names.{Algorithm, Other, algorithm_name, algorithms, named, is_own_name, is_other_name, algorithm_or, algorithm_from}
+use Rattle.sshkey_model.specs.Names.{Algorithm, Other, algorithm_name, algorithms, named, is_own_name, is_other_name, algorithm_or, algorithm_from, NeedsAlgorithm}
 use Rattle.sshkey_model.proofs.CombinedReaders.{chosen}
 use Rattle.sshkey_base.specs.Causes.{Cause, NoMemory, Faulty, cause}
-use Rattle.sshkey_base.specs.Labels.{LooksUp, label_at}
-use Rattle.sshkey_base.specs.NameNeeds.{NeedsAlgorithm}
+use Rattle.sshkey_base.specs.Labels.{LooksUp}
+use Rattle.sshkey_model.specs.Labels.{label_at}
 use Rattle.sshkey_base.specs.declared.encoding.Error as narrow
 use Rattle.sshkey_base.specs.declared.encoding.Error.TheVariants as encoding
 use Rattle.sshkey_base.specs.Answers.{IsUnknown, Judges, Names}

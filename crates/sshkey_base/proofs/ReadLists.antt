@@ -3,13 +3,13 @@ use Rattle.std.proofs.Common.{◌≡◌, ◌≢◌, inl, inr, ◌≤◌, ◌<◌
 use Rattle.std.specs.Prelude.{IsOkAnd}
 use Rattle.std.proofs.lemmas.List.{nil_from_length, length-append}
 use Rattle.std.proofs.lemmas.Result.{err_from_is_err_and}
-use Rattle.sshkey_model.specs.Reading.{Fault, ◌>>=◌, Front, Whole, whole, box_at, list_within, list_whole}
+use Rattle.sshkey_model.specs.Reading.{Fault, ◌>>=◌, Front, Whole, whole, box_at, list_within, list_whole, to_end}
 use Rattle.sshkey_model.specs.Parts.{Parts, flat}
 use Rattle.sshkey_model.proofs.CombinedReaders.{ReadsFront, ok_is}
 use Rattle.sshkey_base.specs.Causes.{Cause}
 use Rattle.sshkey_base.specs.Source.{Source, announced_len}
-use Rattle.sshkey_base.specs.Reading.{Reads, IsRefused, Gives, to_end}
-use Rattle.sshkey_base.specs.Stops.{OverrunsWithin, OverrunsList, AreLengths}
+use Rattle.sshkey_base.specs.Reading.{Reads, IsRefused, Gives}
+use Rattle.sshkey_model.specs.Overruns.{OverrunsWithin, OverrunsList, AreLengths}
 
 module _ {A : Type 0} (item : Option A → Front A) where
   first_step : (n : ℕ) (before : Option A) (b : List ℕ) → 0 < length b → list_within item (suc n) before b ≡ (item before b >>= λ x. list_within item n (Some x.0) x.1 >>= λ xs. Ok (x.0 ∷ xs))

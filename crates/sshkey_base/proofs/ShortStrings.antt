@@ -7,7 +7,7 @@ use Rattle.sshkey_model.specs.Reading.{Fault, Length, Front, bytes_at, checked_a
 use Rattle.sshkey_base.specs.Causes.{Faulty}
 use Rattle.sshkey_base.specs.Source.{Source}
 use Rattle.sshkey_base.specs.Reading.{Reads, Refuses}
-use Rattle.sshkey_base.specs.ShortStrings.{at_most}
+use Rattle.sshkey_model.specs.ShortStrings.{at_most}
 
 -- more bytes than may be are `Length`, whether they are there or not
 long_is_length : (max n : ℕ) (b : List ℕ) → max < n → checked_at (at_most max) (bytes_at n) b ≡ Err Length

@@ -9,7 +9,7 @@ use Rattle.sshkey_model.specs.Reading.{Fault, Length, ◌>>=◌, Front, number_a
 use Rattle.sshkey_base.specs.declared.encoding.Error.{Error}
 use Rattle.sshkey_base.specs.Causes.{Cause, NoMemory, encoding_cause}
 use Rattle.sshkey_base.specs.Source.{Source, IsSound, Advances, TooFew}
-use Rattle.sshkey_base.specs.Needs.{HasString, NeedsBytes, NeedsString, NeedsThen}
+use Rattle.sshkey_model.specs.Needs.{HasString, NeedsBytes, NeedsString, NeedsThen}
 use Rattle.sshkey_base.specs.Reading.{Reads, Refuses, IsRefused, Gives, GivesAlways}
 use Rattle.sshkey_base.proofs.Places.{later_none, later_then}
 

@@ -5,11 +5,12 @@ use Rattle.sshkey_model.specs.Reading.{Fault, Length, ◌>>=◌, Front, number_a
 use Rattle.sshkey_base.specs.Answers.{AnswersAlways}
 use Rattle.sshkey_base.specs.Causes.{Cause, Faulty}
 use Rattle.sshkey_base.specs.Source.{Source, announced_len}
-use Rattle.sshkey_base.specs.Needs.{NeedsString, NeedsBytes}
+use Rattle.sshkey_model.specs.Needs.{NeedsString, NeedsBytes}
 use Rattle.sshkey_base.specs.Reading.{Reads, Refuses, GivesAlways}
 use Rattle.sshkey_base.specs.Labels.{NeedsAfter}
 use Rattle.sshkey_base.proofs.Lengths.{string_lengths}
-use Rattle.sshkey_base.specs.Stops.{NoOverrun, OverrunsString, OverrunsBytes, AreLengths, RanOut, Stopped, StopsBy}
+use Rattle.sshkey_base.specs.Stops.{RanOut, Stopped, StopsBy}
+use Rattle.sshkey_model.specs.Overruns.{NoOverrun, OverrunsString, OverrunsBytes, AreLengths}
 
 -- a step before one that was done
 pub step_ok : {X Y : Type 0} (r : Result X Fault) (k : X → Result Y Fault) → IsOk (r >>= k) → IsOk r

@@ -1,7 +1,7 @@
--- A name that is read and written as a string (RFC 4251, section 6).
+-- What a call says that looks a name up.
 use Rattle.std.specs.Prelude.{◌≡◌, ◌≢◌, ℕ, List, Result, Ok, Err}
 use Rattle.std.specs.Int.{w32}
-use Rattle.sshkey_model.specs.Reading.{Whole, Label, Front, number_at, string_at, checked_at}
+use Rattle.sshkey_model.specs.Reading.{Whole, Label, number_at, string_at}
 use Rattle.sshkey_base.specs.Causes.{Cause, NoMemory}
 use Rattle.sshkey_base.specs.declared.encoding.Error.{Error}
 use Rattle.sshkey_base.specs.declared.encoding.Error.TheVariants as encoding
@@ -25,7 +25,3 @@ AsksNamed cause needs name (Err e) = cause e ≡ NoMemory → (b rest : List ℕ
 -- Where what follows a length of n needs memory.
 abbrev pub NeedsAfter : (List ℕ → ℕ → Type 0) → ℕ → List ℕ → ℕ → Type 0
 NeedsAfter needs n b m = (a : List ℕ) → number_at w32 a ≡ Ok (n, b) → needs a m
-
--- a string that is looked up
-unfoldable pub label_at : {N : Type 0} → Whole N → Front N
-label_at named = checked_at named string_at

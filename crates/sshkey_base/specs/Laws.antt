@@ -2,7 +2,8 @@
 use Rattle.std.specs.Prelude.{◌≡◌, ℕ, List, ◌++◌, Ok}
 use Rattle.sshkey_model.specs.Parts.{Parts, flat, Fits}
 use Rattle.sshkey_model.specs.Reading.{Front}
-use Rattle.sshkey_base.specs.Formats.{Format, Begins}
+use Rattle.sshkey_base.specs.Formats.{Begins}
+use Rattle.sshkey_model.specs.Formats.{Format}
 use Rattle.sshkey_model.specs.Grammar.{MayFollow}
 
 -- What is written of a value begins bytes that are read back as that value, where nothing follows

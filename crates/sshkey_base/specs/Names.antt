@@ -36,11 +36,6 @@ abbrev pub is_rsa : model.Algorithm → Bool
 is_rsa (model.Rsa hash) = true
 is_rsa _ = false
 
--- a private-use one
-abbrev pub IsPrivateUse : model.Algorithm → Type 0
-IsPrivateUse (model.Other name) = Unit {0}
-IsPrivateUse _ = ⊥
-
 -- no private-use one
 abbrev pub IsFixed : model.Algorithm → Type 0
 IsFixed (model.Other name) = ⊥

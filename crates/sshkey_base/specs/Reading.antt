@@ -1,6 +1,6 @@
 -- What a reading call gives, measured by a plain reader on lists, and in the words of the grammar.
-use Rattle.std.specs.Prelude.{◌≡◌, ◌≢◌, ℕ, IsErrAnd, List, [], Result, Ok, Err, ◌++◌}
-use Rattle.sshkey_model.specs.Reading.{Fault, ◌>>=◌, Front, Whole}
+use Rattle.std.specs.Prelude.{◌≡◌, ◌≢◌, ℕ, IsErrAnd, List, Result, Ok, Err, ◌++◌}
+use Rattle.sshkey_model.specs.Reading.{Fault, Front, Whole}
 use Rattle.sshkey_base.specs.declared.encoding.Error.{Error}
 use Rattle.sshkey_base.specs.declared.error.Error as wide
 use Rattle.sshkey_base.specs.Causes.{Cause, NoMemory, Faulty, encoding_cause, cause}
@@ -57,12 +57,6 @@ pub record ReadsAll {X Y : Type 0} (means : X → Y) (read : Whole Y) (s : Sourc
 abbrev pub GivesWhole : {X Y E : Type 0} → (X → Y) → (E → Cause) → Whole Y → Source → Result X E → Type 0
 GivesWhole means cause read s (Ok x) = ReadsAll means read s x
 GivesWhole means cause read s (Err e) = IsRefused s.missing (cause e) (read s.left)
-
--- A reader of all bytes, as one that leaves none.
-abbrev pub to_end : {A : Type 0} → Whole A → Front A
-to_end read b = do
-  x ← read b
-  Ok (x, [])
 
 -- ---- in the words of the grammar
 

@@ -1,13 +1,12 @@
 //! Algorithms of keys and signatures.
 
 ghost use Rattle.std.specs.Prelude.{◌≡◌, ◌↔◌, IsTrue, IsOk, IfOk, option_map, IfErr, Err, Some};
-ghost use Rattle.sshkey_model.specs.Names.{Dsa, Ed25519, algorithm_name, IsAlgorithm, algorithms, algorithm_from, named};
+ghost use Rattle.sshkey_model.specs.Names.{Dsa, Ed25519, algorithm_name, IsAlgorithm, algorithms, algorithm_from, named, NeedsAlgorithm};
 ghost use Rattle.sshkey_model.specs.Names as model;
 ghost use Rattle.sshkey_model.specs.Reading as fault;
 ghost use Rattle.sshkey_base.specs.Causes.{cause, encoding_cause};
 ghost use Rattle.sshkey_base.specs.Names.{IsFixed, is_ecdsa, is_rsa, algorithm_of};
 ghost use Rattle.sshkey_base.specs.Labels.{AsksNamed, LooksUp};
-ghost use Rattle.sshkey_base.specs.NameNeeds.{NeedsAlgorithm};
 ghost use Rattle.sshkey_base.specs.Answers.{Judges, Names};
 ghost use Rattle.sshkey_base.specs.declared.encoding.Error.TheVariants as encoding;
 

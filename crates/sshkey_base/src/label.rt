@@ -8,11 +8,12 @@ ghost use Rattle.sshkey_model.specs.Texts.{string};
 ghost use Rattle.sshkey_model.specs.Grammar.{Checks};
 ghost use Rattle.sshkey_base.specs.Causes.{encoding_cause};
 ghost use Rattle.sshkey_base.specs.Needs.{Asks};
-ghost use Rattle.sshkey_base.specs.Formats.{label_format};
+ghost use Rattle.sshkey_model.specs.Labels.{label_format, label_at};
 ghost use Rattle.sshkey_base.specs.Reading.{Decodes};
 ghost use Rattle.sshkey_base.specs.Source.{Later};
-ghost use Rattle.sshkey_base.specs.Stops.{OverrunsBytes, OverrunsString, StopsBy};
-ghost use Rattle.sshkey_base.specs.Labels.{AsksNamed, LooksUp, NeedsAfter, label_at};
+ghost use Rattle.sshkey_base.specs.Stops.{StopsBy};
+ghost use Rattle.sshkey_model.specs.Overruns.{OverrunsBytes, OverrunsString};
+ghost use Rattle.sshkey_base.specs.Labels.{AsksNamed, LooksUp, NeedsAfter};
 
 use crate::decode::Decode;
 use crate::encode::{Encode, encode_string, string_len};
@@ -65,7 +66,7 @@ pub trait Label: Sized {
 
 /// The string of a name. Fails with `Label`, and allocates nothing, for a string that is none of
 /// the names.
-#[tactic(auto, using(crate::proofs::Steps::steps), unfolding(crate::specs::Labels::label_at, sshkey_model::specs::Reading::string_at))]
+#[tactic(auto, using(crate::proofs::Steps::steps), unfolding(sshkey_model::specs::Labels::label_at, sshkey_model::specs::Reading::string_at))]
 impl<T: Label> Decode for T {
     type Error = Error;
 

@@ -2,16 +2,19 @@
 
 ghost use Rattle.std.specs.Prelude.{◌+◌, ◌<◌, ◌^◌, ℕ, List, IfOk};
 ghost use Rattle.sshkey_model.specs.Parts.{box, each};
-ghost use Rattle.sshkey_model.specs.Texts.{texts, text_at, texts_at};
+ghost use Rattle.sshkey_model.specs.Texts.{texts, text_at, texts_at, texts_format, NeedsTexts, text_list_at};
 ghost use Rattle.sshkey_base.specs.Causes.{encoding_cause};
-ghost use Rattle.sshkey_base.specs.Formats.{Stops, texts_format};
+ghost use Rattle.sshkey_base.specs.Formats.{Stops};
 ghost use Rattle.sshkey_base.specs.Nested.{nested_source};
-ghost use Rattle.sshkey_base.specs.Needs.{Asks, NeedsBoxed};
-ghost use Rattle.sshkey_base.specs.Reading.{Decodes, to_end};
+ghost use Rattle.sshkey_base.specs.Needs.{Asks};
+ghost use Rattle.sshkey_model.specs.Needs.{NeedsBoxed};
+ghost use Rattle.sshkey_base.specs.Reading.{Decodes};
+ghost use Rattle.sshkey_model.specs.Reading.{to_end};
 ghost use Rattle.sshkey_base.specs.Source.{Later};
-ghost use Rattle.sshkey_base.specs.Stops.{OverrunsList, OverrunsString, StopsPast};
+ghost use Rattle.sshkey_base.specs.Stops.{StopsPast};
+ghost use Rattle.sshkey_model.specs.Overruns.{OverrunsList, OverrunsString};
 ghost use Rattle.sshkey_base.specs.Sink.{Encodes, Measures, MeasuresBoxed};
-ghost use Rattle.sshkey_base.specs.TextLists.{NeedsTexts, texts_of, text_list_at};
+ghost use Rattle.sshkey_base.specs.TextLists.{texts_of};
 
 use crate::decode::Decode;
 use crate::encode::{Encode, u32_of};

@@ -231,10 +231,11 @@ impl Decode for Mpint {
     ghost use Rattle.std.specs.Prelude.{ℕ, List};
     ghost use Rattle.sshkey_base.specs.Causes.{cause};
     ghost use Rattle.sshkey_base.specs.Mpint.{mpint_of};
-    ghost use Rattle.sshkey_model.specs.Mpints.{mpint_at};
+    ghost use Rattle.sshkey_model.specs.Mpints.{mpint_at, mpint_format};
     ghost use Rattle.sshkey_base.specs.Reading.{DecodesWide};
-    ghost use Rattle.sshkey_base.specs.Formats.{Stops, mpint_format};
-    ghost use Rattle.sshkey_base.specs.Needs.{Asks, NeedsString};
+    ghost use Rattle.sshkey_base.specs.Formats.{Stops};
+    ghost use Rattle.sshkey_base.specs.Needs.{Asks};
+    ghost use Rattle.sshkey_model.specs.Needs.{NeedsString};
     ghost use Rattle.sshkey_base.specs.Source.{Later};
 
     type Error = Error;

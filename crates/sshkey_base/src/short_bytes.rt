@@ -3,10 +3,11 @@
 ghost use Rattle.std.specs.Prelude.{◌≡◌, ◌<◌, ◌≤◌, ℕ, List, Err, IfSome, length};
 ghost use Rattle.sshkey_model.specs.Reading.{bytes_at, checked_at};
 ghost use Rattle.sshkey_base.specs.Causes.{encoding_cause};
-ghost use Rattle.sshkey_base.specs.Formats.{Stops, short_format};
-ghost use Rattle.sshkey_base.specs.Needs.{Asks, NoNeed};
+ghost use Rattle.sshkey_base.specs.Formats.{Stops};
+ghost use Rattle.sshkey_model.specs.ShortStrings.{short_format, at_most, short_at};
+ghost use Rattle.sshkey_base.specs.Needs.{Asks};
+ghost use Rattle.sshkey_model.specs.Needs.{NoNeed};
 ghost use Rattle.sshkey_base.specs.Reading.{Decodes, DecodesAlways, GivesAlways, Reads};
-ghost use Rattle.sshkey_base.specs.ShortStrings.{at_most, short_at};
 ghost use Rattle.sshkey_base.specs.Source.{Later, after, announced_len};
 
 use crate::decode::Decode;
@@ -71,7 +72,7 @@ impl<const MAX: usize> ShortBytes<MAX> {
 ///
 /// Fails with `Length` for a longer one, and for a length that passes what is left. Does not
 /// allocate.
-#[tactic(auto, using(crate::proofs::Lawful::short_lawful, crate::proofs::Steps::steps, crate::proofs::Stopping::stopping), unfolding(crate::specs::ShortStrings::short_at, sshkey_model::specs::Reading::string_at))]
+#[tactic(auto, using(crate::proofs::Lawful::short_lawful, crate::proofs::Steps::steps, crate::proofs::Stopping::stopping), unfolding(sshkey_model::specs::ShortStrings::short_at, sshkey_model::specs::Reading::string_at))]
 impl<const MAX: usize> Decode for ShortBytes<MAX> {
     ghost use Rattle.sshkey_base.specs.ShortBytes.{short_of};
 

@@ -4,7 +4,7 @@ ghost use Rattle.std.specs.Prelude.{◌≡◌, ◌≢◌, Err};
 ghost use Rattle.std.specs.Str.{IsUtf8};
 ghost use Rattle.sshkey_base.specs.Acceptance.{SpellsSome};
 ghost use Rattle.sshkey_calls.specs.Numbers.{fault_number};
-ghost use Rattle.sshkey_keys.specs.Keys.{SpellsKey, key_data_at};
+ghost use Rattle.sshkey_model.specs.Keys.{SpellsKey, key_data_at};
 ghost use Rattle.sshkey_login_calls.specs.Grants.{TellsGrant};
 ghost use Rattle.sshkey_login_calls.specs.Logins.{TellsLogin};
 ghost use Rattle.sshkey_login_calls.specs.Questions.{TellsLoginQuestion};

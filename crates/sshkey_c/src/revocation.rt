@@ -2,10 +2,9 @@
 
 ghost use Rattle.std.specs.Prelude.{◌≡◌, ◌⊎◌, Err};
 ghost use Rattle.sshkey_base.specs.Acceptance.{SpellsSome};
-ghost use Rattle.sshkey_cert.specs.CertificateReaders.{SpellsCertificate};
-ghost use Rattle.sshkey_keys.specs.Keys.{key_data_at};
+ghost use Rattle.sshkey_model.specs.Keys.{key_data_at};
 ghost use Rattle.sshkey_krl.specs.Krls.{SpellsKrl, krl_format};
-ghost use Rattle.sshkey_model.specs.Certificates.{certificate_at};
+ghost use Rattle.sshkey_model.specs.Certificates.{certificate_at, SpellsCertificate};
 ghost use Rattle.sshkey_model.specs.Reading.{Fault, whole};
 ghost use Rattle.sshkey_calls.specs.NormalForms.{IsRenamedKey};
 ghost use Rattle.sshkey_calls.specs.Numbers.{fault_number};

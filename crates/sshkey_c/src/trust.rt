@@ -3,13 +3,12 @@
 
 ghost use Rattle.std.specs.Prelude.{◌≡◌};
 ghost use Rattle.sshkey_calls.specs.Outcomes.{TellsOf};
-ghost use Rattle.sshkey_cert.specs.CertificateReaders.{SpellsCertificate};
 ghost use Rattle.sshkey_entry_calls.specs.Authorities.{TellsAuthority, TellsUserAuthority};
 ghost use Rattle.sshkey_entry_calls.specs.Modes.{mode_number};
 ghost use Rattle.sshkey_entry_calls.specs.Verifiers.{verifier_number};
-ghost use Rattle.sshkey_keys.specs.Keys.{SpellsKey, key_data_at};
+ghost use Rattle.sshkey_model.specs.Keys.{SpellsKey, key_data_at};
 ghost use Rattle.sshkey_line_calls.specs.Lines.{TellsLine};
-ghost use Rattle.sshkey_model.specs.Certificates.{certificate_at};
+ghost use Rattle.sshkey_model.specs.Certificates.{certificate_at, SpellsCertificate};
 
 use sshkey_calls::Sha256Digest;
 use sshkey_entry_calls::{authority, may_verify, strict_mode, user_authority};

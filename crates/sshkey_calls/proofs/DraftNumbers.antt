@@ -5,8 +5,8 @@ use Rattle.std.proofs.Math.Bool.{beq}
 use Rattle.std.proofs.lemmas.Bool.{cases_lt, eqb-true, eqb-false}
 use Rattle.sshkey_model.specs.Certificates.{CertificateType, IsEnd, IsTime, SignedFields, User, Host, is_end, is_time, type_from, type_number}
 use Rattle.std.specs.Str.{is_utf8}
-use Rattle.sshkey_model.specs.Keys.{Key, Opaque}
-use Rattle.sshkey_model.specs.Options.{each_option}
+use Rattle.sshkey_model.specs.Keys.{Key, Opaque, SpellsKey, key_data_at}
+use Rattle.sshkey_model.specs.Options.{each_option, options_value_at}
 use Rattle.sshkey_model.specs.Parts.{each, flat}
 use Rattle.sshkey_model.specs.Reading.{Fault, Front, Time, whole}
 use Rattle.sshkey_model.specs.Texts.{string, texts_at}
@@ -16,8 +16,6 @@ use Rattle.sshkey_base.specs.Reading.{IsRefused}
 use Rattle.sshkey_base.proofs.Leaves.{texts_grammar}
 use Rattle.sshkey_terms.specs.Slices.{Keeps}
 use Rattle.sshkey_keys.proofs.KeyReaders.{key_grammar}
-use Rattle.sshkey_keys.specs.Keys.{SpellsKey, key_data_at}
-use Rattle.sshkey_cert_values.specs.OptionReaders.{options_value_at}
 use Rattle.sshkey_cert_values.proofs.OptionLists.{options_grammar}
 use Rattle.sshkey_calls.specs.Drafts.{IsCertifiable, IsWrong, TellsFields, certifiable_number, draft_fault, first_number, key_number, list_number, number_of, parts_fault, string_number, text_number}
 use Rattle.sshkey_calls.specs.Numbers.{fault_number}

@@ -6,19 +6,16 @@ use Rattle.sshkey_base.specs.declared.encoding.Error as narrow
 use Rattle.sshkey_base.specs.declared.encoding.Error.TheVariants as encoding
 use Rattle.sshkey_base.specs.declared.error.Error.{Error}
 use Rattle.sshkey_base.specs.declared.error.Error.TheVariants as wide
-use Rattle.sshkey_base.specs.TextLists.{SpellsTexts}
 use Rattle.sshkey_base.proofs.Leaves.{texts_grammar}
-use Rattle.sshkey_keys.specs.Keys.{SpellsKey}
 use Rattle.sshkey_keys.proofs.KeyReaders.{key_grammar}
 use Rattle.sshkey_model.specs.Certificates.{CertificateType, SignedFields, User, Host, normal_to_be_signed, type_number}
-use Rattle.sshkey_model.specs.Keys.{Key}
-use Rattle.sshkey_model.specs.Options.{CertificateOption}
+use Rattle.sshkey_model.specs.Keys.{Key, SpellsKey}
+use Rattle.sshkey_model.specs.Options.{CertificateOption, SpellsOptions}
 use Rattle.sshkey_model.specs.Parts.{BoxesFit, Fits, Parts, box, flat}
 use Rattle.sshkey_model.specs.Reading.{Fault, Length}
-use Rattle.sshkey_model.specs.Texts.{string}
+use Rattle.sshkey_model.specs.Texts.{string, SpellsTexts}
 use Rattle.sshkey_model.proofs.CombinedReaders.{fits_length, wide32}
 use Rattle.sshkey_model.proofs.Grammars.{one_front}
-use Rattle.sshkey_cert_values.specs.OptionReaders.{SpellsOptions}
 use Rattle.sshkey_cert_values.proofs.OptionLists.{options_grammar}
 use Rattle.sshkey_calls.specs.Drafts.{FitsString, IsToBeSigned, IsWrong, TellsFields, string_number}
 use Rattle.sshkey_calls.specs.Numbers.{fault_number}

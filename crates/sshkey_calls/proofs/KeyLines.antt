@@ -1,17 +1,13 @@
 -- What a line holds, and stands in the room.
 use Rattle.std.proofs.Common.{◌≡◌, ◌≢◌, ◌<◌, ℕ, ◌⊎◌, List, ◌++◌, length, inl, inr, refl, sym, ap, ◌∙◌, subst, arith}
 use Rattle.base64.specs.GeneralPurpose.{IsBytes}
-use Rattle.sshkey_model.specs.Certificates.{Certificate}
-use Rattle.sshkey_model.specs.Keys.{Key}
+use Rattle.sshkey_model.specs.Certificates.{Certificate, certificate_format, SpellsCertificate}
+use Rattle.sshkey_model.specs.Keys.{Key, key_format, SpellsKey}
 use Rattle.sshkey_model.specs.Lines.{IsLine, IsLineOf, IsNoLine, key_name, name_of_certificate}
 use Rattle.sshkey_model.specs.Texts.{IsText}
 use Rattle.sshkey_model.proofs.Blobs.{certificate_blobs, key_blobs}
 use Rattle.sshkey_model.proofs.CombinedReaders.{bytes_fit}
-use Rattle.sshkey_keys.specs.KeyFormats.{key_format}
-use Rattle.sshkey_keys.specs.Keys.{SpellsKey}
 use Rattle.sshkey_public.specs.LineNeeds.{HasComment, NeedsValue}
-use Rattle.sshkey_cert.specs.CertificateFormats.{certificate_format}
-use Rattle.sshkey_cert.specs.CertificateReaders.{SpellsCertificate}
 use Rattle.sshkey_calls.specs.KeyLines.{ArePlaced, Content, HoldsContent, NeedsLine, ReadsContent, TellsLineFault, content_of, line_bytes}
 use Rattle.sshkey_calls.specs.Rooms.{GivesValue, IsLaidOut}
 use Rattle.sshkey_calls.proofs.Rooms.{give_one, none_given, no_memory as nothing_said}

@@ -3,7 +3,7 @@ use Rattle.std.proofs.Common.{◌≡◌, ◌≢◌, ℕ, List, [], ◌∷◌, le
 use Rattle.sshkey_model.specs.Options.{HasNesting, Nesting, Plain, Nested, option_value}
 use Rattle.sshkey_model.specs.Parts.{Fits, flat}
 use Rattle.sshkey_model.proofs.Grammars.{one_front}
-use Rattle.sshkey_base.specs.Leaves.{SpellsString}
+use Rattle.sshkey_model.specs.Leaves.{SpellsString}
 use Rattle.sshkey_base.proofs.Leaves.{string_grammar}
 use Rattle.sshkey_base.specs.Reading.{NoFront}
 use Rattle.sshkey_terms.specs.Slices.{IsSplit}

@@ -6,7 +6,7 @@ use Rattle.sshkey_model.specs.Parts.{Fits, Parts, are_bytes, bytes, box, flat, I
 use Rattle.sshkey_model.specs.Texts.{string}
 use Rattle.sshkey_model.proofs.CombinedReaders.{are_bytes-append, fits_box, fits_bytes, fits_first, fits_second, fits_inside, fits_length, wide32}
 use Rattle.sshkey_model.proofs.Grammars.{one_front}
-use Rattle.sshkey_base.specs.Leaves.{SpellsString}
+use Rattle.sshkey_model.specs.Leaves.{SpellsString}
 use Rattle.sshkey_base.proofs.Leaves.{string_grammar}
 use Rattle.sshkey_base.specs.Reading.{NoFront}
 use Rattle.sshkey_terms.specs.Slices.{IsSplit}

@@ -5,7 +5,7 @@ use Rattle.std.proofs.lemmas.List.{drop-drop}
 use Rattle.std.proofs.Math.Seq.{drop-append_seam}
 use Rattle.sshkey_model.specs.CertificateNames.{certificate_algorithm}
 use Rattle.sshkey_model.specs.Certificates.{Certificate, CertificateChoices, certificate, certificate_type}
-use Rattle.sshkey_model.specs.Keys.{body, key, key_algorithm}
+use Rattle.sshkey_model.specs.Keys.{body, key, key_algorithm, SpellsKey}
 use Rattle.sshkey_model.specs.Options.{each_option}
 use Rattle.sshkey_model.specs.Parts.{each, flat, number}
 use Rattle.sshkey_model.specs.Signatures.{signature}
@@ -13,7 +13,6 @@ use Rattle.sshkey_model.specs.Texts.{string}
 use Rattle.sshkey_model.proofs.CombinedReaders.{wide32, wide64}
 use Rattle.sshkey_cert_ref.specs.OptionLists.{SpellsEachOption}
 use Rattle.sshkey_cert_ref.specs.TextLists.{SpellsEachText}
-use Rattle.sshkey_keys.specs.Keys.{SpellsKey}
 use Rattle.sshkey_calls.specs.Lists.{ArePartsOf, beginning, part_end}
 use Rattle.sshkey_calls.specs.declared.lists.CertificateParts.{CertificateParts}
 use Rattle.sshkey_calls.specs.declared.part.Part.{Part}

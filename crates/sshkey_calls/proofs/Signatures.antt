@@ -1,12 +1,10 @@
 -- The one question about a key and a signature that bytes spell.
 use Rattle.std.proofs.Common.{◌≡◌, List, ℕ, [], refl, ap, ◌∙◌}
-use Rattle.sshkey_model.specs.Keys.{Key}
-use Rattle.sshkey_model.specs.Signatures.{Signature}
+use Rattle.sshkey_model.specs.Keys.{Key, SpellsKey}
+use Rattle.sshkey_model.specs.Signatures.{Signature, SpellsSignature}
 use Rattle.sshkey_model.specs.Verification as model
 use Rattle.sshkey_model.proofs.Blobs.{key_blobs}
 use Rattle.sshkey_model.proofs.Grammars.{one_front}
-use Rattle.sshkey_keys.specs.Keys.{SpellsKey}
-use Rattle.sshkey_keys.specs.SignatureReaders.{SpellsSignature}
 use Rattle.sshkey_keys.proofs.SignatureReaders.{signature_grammar}
 
 -- each reading raises the same

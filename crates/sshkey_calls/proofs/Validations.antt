@@ -5,7 +5,7 @@ use Rattle.sshkey_model.specs.Keys.{Dsa, Ecdsa, Ed25519, Key, Plain, Rsa, SkEcds
 use Rattle.sshkey_model.specs.Names.{Algorithm, Sha256}
 use Rattle.sshkey_model.specs.Points.{curve_eq}
 use Rattle.sshkey_model.specs.Signatures.{Signature}
-use Rattle.sshkey_model.specs.Certificates.{Certificate}
+use Rattle.sshkey_model.specs.Certificates.{Certificate, SpellsCertificate}
 use Rattle.sshkey_model.specs.Fingerprints.{Fingerprint, same_fingerprint}
 use Rattle.sshkey_model.specs.Principals.{Allows, IsValidFor}
 use Rattle.sshkey_model.specs.Refusals.{Refusal, NotSigned, UntrustedAuthority, InvalidTime, OutOfWindow, UnlistedPrincipal, allows, first_refusal, first_refusal_for, has_trusted_authority, is_signed, or_else, refusal_of_authority_or_time, unless}
@@ -15,7 +15,6 @@ use Rattle.sshkey_model.specs.Verification as model
 use Rattle.sshkey_model.proofs.Grammars.{one_front}
 use Rattle.sshkey_model.proofs.Refusals.{none_where_valid, none_where_wanted}
 use Rattle.sshkey_base.specs.Acceptance.{SpellsSome}
-use Rattle.sshkey_cert.specs.CertificateReaders.{SpellsCertificate}
 use Rattle.sshkey_cert.proofs.CertificateReaders.{certificate_grammar}
 use Rattle.sshkey_cert.specs.Questions.{certificate_question}
 use Rattle.sshkey_cert_ref.specs.CertificateRef.{certificate_bytes, certificate_of, choices_of}

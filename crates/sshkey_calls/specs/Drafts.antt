@@ -2,16 +2,13 @@
 use Rattle.std.specs.Prelude.{◌≡◌, ◌≢◌, ◌⊎◌, ◌↔◌, ◌<◌, ◌^◌, ℕ, List, [], ◌∷◌, ◌++◌, length, nat_lt, ◌==◌, if◌then◌else◌, Result, Ok, Err}
 use Rattle.std.specs.Str.{is_utf8}
 use Rattle.std.proofs.Math.Bool.{beq}
-use Rattle.sshkey_base.specs.TextLists.{SpellsTexts}
-use Rattle.sshkey_cert.specs.CertificateReaders.{SpellsCertificate}
-use Rattle.sshkey_keys.specs.Keys.{SpellsKey, key_data_at}
-use Rattle.sshkey_model.specs.Certificates.{SignedFields, IsTime, IsEnd, certificate_at, end_from, normal_to_be_signed, time_from, type_from, type_number}
-use Rattle.sshkey_model.specs.Keys.{Key, Dsa, Ecdsa, Ed25519, Rsa, SkEcdsa, SkEd25519, Opaque}
+use Rattle.sshkey_model.specs.Certificates.{SignedFields, IsTime, IsEnd, certificate_at, end_from, normal_to_be_signed, time_from, type_from, type_number, SpellsCertificate}
+use Rattle.sshkey_model.specs.Keys.{Key, Dsa, Ecdsa, Ed25519, Rsa, SkEcdsa, SkEd25519, Opaque, SpellsKey, key_data_at}
 use Rattle.sshkey_model.specs.Parts.{Fits, flat}
 use Rattle.sshkey_model.specs.Reading.{Fault, Front, whole}
-use Rattle.sshkey_model.specs.Texts.{string, texts_at, IsText}
+use Rattle.sshkey_model.specs.Texts.{string, texts_at, IsText, SpellsTexts}
 use Rattle.sshkey_cert_values.specs.CertTypes.{type_of}
-use Rattle.sshkey_cert_values.specs.OptionReaders.{SpellsOptions, options_value_at}
+use Rattle.sshkey_model.specs.Options.{SpellsOptions, options_value_at}
 use Rattle.sshkey_cert_values.specs.Times.{end_of, time_of}
 use Rattle.sshkey_cert_values.specs.declared.cert_type.CertType.{CertType}
 use Rattle.sshkey_cert_values.specs.declared.end_time.EndTime.{EndTime}

@@ -1,7 +1,6 @@
 -- What is answered of the fields of a certificate (PROTOCOL.certkeys).
 use Rattle.std.specs.Prelude.{◌≡◌, ◌≢◌, ℕ, List, []}
-use Rattle.sshkey_model.specs.Certificates.{Certificate, certificate_at, type_number}
-use Rattle.sshkey_cert.specs.CertificateReaders.{SpellsCertificate}
+use Rattle.sshkey_model.specs.Certificates.{Certificate, certificate_at, type_number, SpellsCertificate}
 use Rattle.sshkey_calls.specs.Outcomes.{TellsOf}
 use Rattle.sshkey_calls.specs.declared.fields.CertificateFields.{CertificateFields}
 

@@ -1,12 +1,11 @@
 -- What is answered of a fingerprint.
 use Rattle.std.specs.Prelude.{◌≡◌, ◌≢◌, ◌⊎◌, ◌<◌, ℕ, List, ◌++◌, length, drop, Result, Ok, Err}
 use Rattle.sshkey_model.specs.Fingerprints.{fingerprint}
-use Rattle.sshkey_model.specs.Keys.{Key, normal_key}
+use Rattle.sshkey_model.specs.Keys.{Key, normal_key, SpellsKey, key_data_at}
 use Rattle.sshkey_model.specs.Names.{Hash}
 use Rattle.sshkey_model.specs.Parts.{flat}
 use Rattle.sshkey_fingerprints.specs.declared.fingerprint.Fingerprint.{Fingerprint}
 use Rattle.sshkey_keys.specs.Fingerprints.{IsFingerprint}
-use Rattle.sshkey_keys.specs.Keys.{SpellsKey, key_data_at}
 use Rattle.sshkey_calls.specs.Outcomes.{TellsOf}
 
 -- it is the digest of the key's fingerprint by that hash

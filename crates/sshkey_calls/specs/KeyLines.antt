@@ -2,12 +2,10 @@
 use Rattle.std.specs.Prelude.{◌≡◌, ◌≢◌, ◌⊎◌, ℕ, ◌<◌, ◌==◌, if◌then◌else◌, List, ◌++◌, length}
 use Rattle.sshkey_base.specs.declared.error.Error.{Error}
 use Rattle.sshkey_model.specs.Lines.{IsLine, key_name, name_of_certificate}
-use Rattle.sshkey_keys.specs.KeyFormats.{key_format}
-use Rattle.sshkey_keys.specs.Keys.{SpellsKey}
+use Rattle.sshkey_model.specs.Keys.{key_format, SpellsKey}
 use Rattle.sshkey_public.specs.LineFaults.{HasFaultOfLine}
 use Rattle.sshkey_public.specs.LineNeeds.{NeedsValue}
-use Rattle.sshkey_cert.specs.CertificateFormats.{certificate_format}
-use Rattle.sshkey_cert.specs.CertificateReaders.{SpellsCertificate}
+use Rattle.sshkey_model.specs.Certificates.{certificate_format, SpellsCertificate}
 use Rattle.sshkey_calls.specs.Numbers.{error_number}
 use Rattle.sshkey_calls.specs.Rooms.{GivesValue, IsPlaced}
 use Rattle.sshkey_calls.specs.declared.line.Line.{Line}

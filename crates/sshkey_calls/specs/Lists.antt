@@ -1,13 +1,11 @@
 -- Where the parts of a certificate stand in its bytes (PROTOCOL.certkeys).
 use Rattle.std.specs.Int.{w64}
 use Rattle.std.specs.Prelude.{◌≡◌, ◌+◌, ℕ, List, length}
-use Rattle.sshkey_cert.specs.CertificateReaders.{SpellsCertificate}
 use Rattle.sshkey_cert_ref.specs.OptionLists.{SpellsEachOption}
 use Rattle.sshkey_cert_ref.specs.TextLists.{SpellsEachText}
-use Rattle.sshkey_keys.specs.Keys.{SpellsKey}
 use Rattle.sshkey_model.specs.CertificateNames.{certificate_algorithm}
-use Rattle.sshkey_model.specs.Certificates.{Certificate, certificate_at, certificate_type}
-use Rattle.sshkey_model.specs.Keys.{body, key_algorithm}
+use Rattle.sshkey_model.specs.Certificates.{Certificate, certificate_at, certificate_type, SpellsCertificate}
+use Rattle.sshkey_model.specs.Keys.{body, key_algorithm, SpellsKey}
 use Rattle.sshkey_model.specs.Options.{CertificateOption, Nesting}
 use Rattle.sshkey_model.specs.Parts.{Parts, ◌&◌, flat, number}
 use Rattle.sshkey_model.specs.Texts.{string}

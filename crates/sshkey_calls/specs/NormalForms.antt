@@ -1,12 +1,9 @@
 -- What is answered of a normal form.
 use Rattle.std.specs.Prelude.{◌≢◌, ℕ, List}
-use Rattle.sshkey_model.specs.Certificates.{certificate_at, normal_certificate}
-use Rattle.sshkey_model.specs.Keys.{Key, normal_key}
+use Rattle.sshkey_model.specs.Certificates.{certificate_at, normal_certificate, SpellsCertificate}
+use Rattle.sshkey_model.specs.Keys.{Key, normal_key, SpellsKey, key_data_at}
 use Rattle.sshkey_model.specs.Parts.{flat}
-use Rattle.sshkey_model.specs.Signatures.{signature, signature_at}
-use Rattle.sshkey_keys.specs.Keys.{SpellsKey, key_data_at}
-use Rattle.sshkey_keys.specs.SignatureReaders.{SpellsSignature}
-use Rattle.sshkey_cert.specs.CertificateReaders.{SpellsCertificate}
+use Rattle.sshkey_model.specs.Signatures.{signature, signature_at, SpellsSignature}
 use Rattle.sshkey_calls.specs.Writing.{WritesOf}
 
 -- that of the key that the bytes spell

@@ -1,10 +1,9 @@
 -- What is answered of a key revocation list (OpenSSH's PROTOCOL.krl).
 use Rattle.std.specs.Prelude.{◌≡◌, ◌≢◌, ℕ, List, Bool, true, false}
-use Rattle.sshkey_cert.specs.CertificateReaders.{SpellsCertificate}
-use Rattle.sshkey_keys.specs.Keys.{SpellsKey}
+use Rattle.sshkey_model.specs.Certificates.{SpellsCertificate}
 use Rattle.sshkey_krl.specs.Krls.{SpellsKrl}
 use Rattle.sshkey_krl.specs.Revocation.{Krl, revokes_certificate, revokes_key}
-use Rattle.sshkey_model.specs.Keys.{normal_key}
+use Rattle.sshkey_model.specs.Keys.{normal_key, SpellsKey}
 use Rattle.sshkey_model.specs.Parts.{flat}
 
 -- The bytes spell a list and a value, and this is whether the list revokes the value.

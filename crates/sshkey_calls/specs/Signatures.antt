@@ -1,10 +1,8 @@
 -- What is answered of a signature under a key (RFC 4253, section 6.6).
 use Rattle.std.specs.Prelude.{◌≡◌, ℕ, List}
-use Rattle.sshkey_model.specs.Keys.{Key}
-use Rattle.sshkey_model.specs.Signatures.{signature_at}
+use Rattle.sshkey_model.specs.Keys.{Key, SpellsKey, key_data_at}
+use Rattle.sshkey_model.specs.Signatures.{signature_at, SpellsSignature}
 use Rattle.sshkey_model.specs.Verification as model
-use Rattle.sshkey_keys.specs.Keys.{SpellsKey, key_data_at}
-use Rattle.sshkey_keys.specs.SignatureReaders.{SpellsSignature}
 use Rattle.sshkey_calls.specs.Outcomes.{TellsOf}
 use Rattle.sshkey_calls.specs.Questions.{TellsQuestion}
 use Rattle.sshkey_calls.specs.declared.question.Question.{Question}

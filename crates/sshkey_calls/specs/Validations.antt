@@ -1,6 +1,6 @@
 -- Whether a certificate is valid, given what the caller's verification said.
 use Rattle.std.specs.Prelude.{◌≡◌, ◌≢◌, ℕ, List, map, Bool, ◌==◌, Option, Some, None, option_map, Result, Ok, Err}
-use Rattle.sshkey_model.specs.Certificates.{Certificate}
+use Rattle.sshkey_model.specs.Certificates.{Certificate, SpellsCertificate}
 use Rattle.sshkey_model.specs.Fingerprints.{Fingerprint}
 use Rattle.sshkey_model.specs.Keys.{Plain}
 use Rattle.sshkey_model.specs.Names.{Sha256}
@@ -9,7 +9,6 @@ use Rattle.sshkey_model.specs.Refusals.{Refusal, first_refusal, first_refusal_fo
 use Rattle.sshkey_model.specs.Validity.{IsValid}
 use Rattle.sshkey_model.specs.Verification.{Question}
 use Rattle.sshkey_base.specs.declared.error.Error.{Error}
-use Rattle.sshkey_cert.specs.CertificateReaders.{SpellsCertificate}
 use Rattle.sshkey_cert.specs.Questions.{certificate_question}
 use Rattle.sshkey_cert.specs.Validity.{refusal_of}
 use Rattle.sshkey_cert.specs.declared.certificate.refusal.CertificateRefusal.{CertificateRefusal}

@@ -2,7 +2,7 @@
 
 ghost use Rattle.std.specs.Prelude.{◌≡◌, ◌≢◌};
 ghost use Rattle.sshkey_base.specs.Acceptance.{SpellsSome};
-ghost use Rattle.sshkey_keys.specs.Keys.{SpellsKey};
+ghost use Rattle.sshkey_model.specs.Keys.{SpellsKey};
 ghost use Rattle.sshkey_model.specs.Certificates.{normal_to_be_signed};
 ghost use Rattle.sshkey_model.specs.Parts.{Fits, flat};
 ghost use Rattle.sshkey_cert_fields.specs.ToBeSignedValues.{to_be_signed_of};

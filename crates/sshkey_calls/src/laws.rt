@@ -1,10 +1,8 @@
 //! What holds of all bytes: a function without code, with a law as its contract.
 
-ghost use Rattle.sshkey_cert.specs.CertificateReaders.{SpellsCertificate};
-ghost use Rattle.sshkey_keys.specs.Keys.{SpellsKey, key_data_at};
-ghost use Rattle.sshkey_keys.specs.SignatureReaders.{SpellsSignature};
-ghost use Rattle.sshkey_model.specs.Certificates.{certificate_at};
-ghost use Rattle.sshkey_model.specs.Signatures.{signature_at};
+ghost use Rattle.sshkey_model.specs.Keys.{SpellsKey, key_data_at};
+ghost use Rattle.sshkey_model.specs.Certificates.{certificate_at, SpellsCertificate};
+ghost use Rattle.sshkey_model.specs.Signatures.{signature_at, SpellsSignature};
 ghost use Rattle.sshkey_sshsig.specs.SshSignatureReaders.{SpellsSshSignature, ssh_signature_value_at};
 ghost use Rattle.sshkey_calls.specs.Outcomes.{HasOneOutcome};
 

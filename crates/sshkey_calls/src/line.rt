@@ -3,7 +3,7 @@
 ghost use Rattle.std.specs.Prelude.{◌≡◌, ◌≢◌, ◌⊎◌, ◌<◌, ◌++◌, IfOk, List, ℕ};
 ghost use Rattle.std.specs.Str.{IsUtf8};
 ghost use Rattle.base64.specs.GeneralPurpose.{IsBytes};
-ghost use Rattle.sshkey_keys.specs.Keys.{SpellsKey};
+ghost use Rattle.sshkey_model.specs.Keys.{SpellsKey};
 ghost use Rattle.sshkey_model.specs.Lines.{IsCut, IsLine, IsNoLine, IsWithout, after_space, key_name, space};
 ghost use Rattle.sshkey_calls.specs.KeyLines.{ArePlaced, HoldsContent, NeedsLine, NumbersKeyFault, ReadsContent, TellsLineFault, content_of, fault_of_either, line_bytes};
 ghost use Rattle.sshkey_calls.specs.Rooms.{IsLaidOut};

@@ -3,11 +3,10 @@
 ghost use Rattle.std.specs.Prelude.{◌≡◌, ◌≢◌};
 ghost use Rattle.sshkey_base.specs.Acceptance.{SpellsSome};
 ghost use Rattle.sshkey_cert_ref.specs.CertificateRef.{certificate_of};
-ghost use Rattle.sshkey_keys.specs.Keys.{SpellsKey};
 ghost use Rattle.sshkey_keys_ref.specs.KeyDataRef.{key_bytes};
 ghost use Rattle.sshkey_keys_ref.specs.NormalBytes.{IsRenamed};
 ghost use Rattle.sshkey_model.specs.Certificates.{normal_certificate};
-ghost use Rattle.sshkey_model.specs.Keys.{Key, normal_key};
+ghost use Rattle.sshkey_model.specs.Keys.{Key, normal_key, SpellsKey};
 ghost use Rattle.sshkey_model.specs.Parts.{flat};
 ghost use Rattle.sshkey_calls.specs.NormalForms.{IsRenamedKey, WritesNormalCertificate, WritesNormalKey, WritesNormalSignature};
 ghost use Rattle.sshkey_calls.specs.SshSignatures.{WritesNormalSshSignature};

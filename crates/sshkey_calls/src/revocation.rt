@@ -3,11 +3,10 @@
 ghost use Rattle.std.specs.Prelude.{◌≡◌, ◌≢◌, Bool, Err, IfErr, IfOk, IsErrAnd};
 ghost use Rattle.sshkey_base.specs.Acceptance.{SpellsSome};
 ghost use Rattle.sshkey_base.specs.Causes.{Faulty, NoMemory, cause};
-ghost use Rattle.sshkey_cert.specs.CertificateReaders.{SpellsCertificate};
-ghost use Rattle.sshkey_keys.specs.Keys.{key_data_at, key_of};
+ghost use Rattle.sshkey_keys.specs.Keys.{key_of};
 ghost use Rattle.sshkey_krl.specs.Krls.{SpellsKrl, krl_format};
-ghost use Rattle.sshkey_model.specs.Certificates.{certificate_at};
-ghost use Rattle.sshkey_model.specs.Keys.{normal_key};
+ghost use Rattle.sshkey_model.specs.Certificates.{certificate_at, SpellsCertificate};
+ghost use Rattle.sshkey_model.specs.Keys.{normal_key, key_data_at};
 ghost use Rattle.sshkey_model.specs.Parts.{flat};
 ghost use Rattle.sshkey_model.specs.Reading.{Fault, whole};
 ghost use Rattle.sshkey_calls.specs.NormalForms.{IsRenamedKey};

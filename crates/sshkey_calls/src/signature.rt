@@ -1,11 +1,9 @@
 //! What has to be verified of a signature under a key.
 
-ghost use Rattle.sshkey_keys.specs.Keys.{SpellsKey};
-ghost use Rattle.sshkey_keys.specs.SignatureReaders.{SpellsSignature};
 ghost use Rattle.sshkey_keys_ref.specs.KeyDataRef.{key_bytes};
 ghost use Rattle.sshkey_keys_ref.specs.SignatureRef.{signature_bytes};
-ghost use Rattle.sshkey_model.specs.Keys.{Key};
-ghost use Rattle.sshkey_model.specs.Signatures.{Signature};
+ghost use Rattle.sshkey_model.specs.Keys.{Key, SpellsKey};
+ghost use Rattle.sshkey_model.specs.Signatures.{Signature, SpellsSignature};
 ghost use Rattle.sshkey_model.specs.Verification.{question};
 ghost use Rattle.sshkey_calls.specs.Questions.{TellsQuestion};
 ghost use Rattle.sshkey_calls.specs.Signatures.{TellsSignatureQuestion, TellsQuestionUnder};

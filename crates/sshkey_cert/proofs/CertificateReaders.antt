@@ -4,7 +4,7 @@ use Rattle.std.specs.Prelude.{◌↔◌}
 use Rattle.sshkey_model.specs.Parts.{Fits, flat}
 use Rattle.sshkey_model.specs.Reading.{after_at}
 use Rattle.sshkey_model.specs.Grammar.{IsGrammar, value_at}
-use Rattle.sshkey_model.specs.Certificates.{Certificate, IsCertificate, plain_choices, normal_certificate, certificate_at}
+use Rattle.sshkey_model.specs.Certificates.{Certificate, IsCertificate, plain_choices, normal_certificate, certificate_at, certificate_format, certificate_from, SpellsCertificate}
 use Rattle.sshkey_model.specs.Keys.{key_algorithm}
 use Rattle.sshkey_model.specs.Lines.{name_of_certificate}
 use Rattle.sshkey_model.proofs.Blobs.{certificate_blobs}
@@ -13,29 +13,24 @@ use Rattle.sshkey_model.proofs.CombinedReaders.{bind_assoc}
 use Rattle.sshkey_model.proofs.NormalForms.{plain_choices_have}
 use Rattle.sshkey_model.proofs.Grammars.{by_itself, grammar_with, same_grammar, whole_spells}
 use Rattle.sshkey_model.proofs.ShortNames.{short_certificate_name}
-use Rattle.sshkey_base.specs.Formats.{IsFormat}
-use Rattle.sshkey_terms.proofs.Lawful.{boxed_lawful, checked_read, IsMapped, tested_lawful, then_lawful}
+use Rattle.sshkey_model.specs.Formats.{IsFormat}
+use Rattle.sshkey_terms.proofs.Lawful.{boxed_lawful, tested_lawful, then_lawful}
 use Rattle.sshkey_keys.proofs.Lawful.{signature_lawful}
 use Rattle.sshkey_public.specs.Blobs.{StandsInLines}
 use Rattle.sshkey_cert_fields.proofs.Lawful.{to_be_signed_lawful}
 use Rattle.sshkey_cert_fields.proofs.ToBeSignedReaders.{to_be_signed_is}
-use Rattle.sshkey_cert.specs.CertificateFormats.{certificate_format, certificate_of_parts, signed_format}
-use Rattle.sshkey_cert.specs.CertificateReaders.{SpellsCertificate, certificate_value_at}
 use Rattle.sshkey_cert.specs.CertificateValues.{certificate_of}
 use Rattle.sshkey_cert.specs.declared.certificate.Certificate as code
 
-pub certificate_parts_read : IsMapped certificate_format.read certificate_of_parts signed_format.read
-certificate_parts_read = checked_read certificate_of_parts signed_format.read
-
 pub certificate_lawful : IsFormat certificate_format
-certificate_lawful = tested_lawful certificate_of_parts (then_lawful to_be_signed_lawful (boxed_lawful signature_lawful))
+certificate_lawful = tested_lawful certificate_from (then_lawful to_be_signed_lawful (boxed_lawful signature_lawful))
 
 -- The reader that gives the choices of the spelling too reads the same certificate.
-certificate_is : (b : List ℕ) → value_at certificate_at b ≡ certificate_value_at b
+certificate_is : (b : List ℕ) → value_at certificate_at b ≡ certificate_format.read b
 unfolding certificate_at after_at
 certificate_is b = rw (← to_be_signed_is b) (simp bind_assoc)
 
-pub certificate_grammar : IsGrammar SpellsCertificate certificate_value_at
+pub certificate_grammar : IsGrammar SpellsCertificate certificate_format.read
 certificate_grammar = same_grammar (grammar_with certificate_reads) certificate_is
 
 -- The term spells what PROTOCOL.certkeys lays out.

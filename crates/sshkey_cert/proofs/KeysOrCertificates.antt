@@ -1,29 +1,27 @@
 -- Bytes under a certificate's name are a certificate or nothing, and others a key or nothing.
 use Rattle.std.proofs.Common.{◌≡◌, ◌≢◌, ℕ, List, [], true, false, Result, Ok, Err, refl, sym, ap, ◌∙◌, append-nil, inl}
 use Rattle.std.specs.Prelude.{is_ok, IsOkAnd}
-use Rattle.sshkey_model.specs.CertificateNames.{certificate_algorithm_at}
-use Rattle.sshkey_model.specs.Certificates.{Certificate}
+use Rattle.sshkey_model.specs.CertificateNames.{certificate_algorithm_at, certified_format}
+use Rattle.sshkey_model.specs.Certificates.{Certificate, SpellsCertificate, certificate_format}
 use Rattle.sshkey_model.specs.Names.{Algorithm}
 use Rattle.sshkey_model.specs.Reading.{Fault, after_at}
 use Rattle.sshkey_base.specs.Causes.{NoMemory, cause}
-use Rattle.sshkey_base.specs.NameFormats.{certified_format}
 use Rattle.sshkey_base.specs.Reading.{NoSpelling}
 use Rattle.sshkey_base.specs.Source.{IsSound, all_of}
 use Rattle.sshkey_base.specs.declared.error.Error.{Error}
-use Rattle.sshkey_keys.specs.Keys.{SpellsKey}
-use Rattle.sshkey_cert.specs.CertificateReaders.{SpellsCertificate, certificate_value_at}
+use Rattle.sshkey_model.specs.Keys.{SpellsKey}
 use Rattle.sshkey_cert.proofs.CertificateReaders.{certificate_grammar}
 use Rattle.sshkey_cert.specs.KeysOrCertificates.{AcceptsEither, NeedsEither, names_certificate}
 use Rattle.sshkey_cert.specs.declared.key_or_certificate.KeyOrCertificate.TheVariants as either
 
 -- what has no name in front is no certificate
-named_or : (bytes : List ℕ) (c : Certificate) (r : Result (Algorithm × List ℕ) Fault) → certificate_algorithm_at bytes ≡ r → certificate_value_at bytes ≡ Ok (c, []) → is_ok r ≡ true
+named_or : (bytes : List ℕ) (c : Certificate) (r : Result (Algorithm × List ℕ) Fault) → certificate_algorithm_at bytes ≡ r → certificate_format.read bytes ≡ Ok (c, []) → is_ok r ≡ true
 unfolding after_at
 named_or bytes c (Ok name) is read = refl
 named_or bytes c (Err f) is read = let none = rw is at read in absurd cc
 
 named_first : (c : Certificate) (bytes : List ℕ) → SpellsCertificate c bytes → names_certificate bytes ≡ true
-named_first c bytes spelled = named_or bytes c (certificate_algorithm_at bytes) refl (ap certificate_value_at (sym (append-nil bytes)) ∙ certificate_grammar.again c bytes [] spelled)
+named_first c bytes spelled = named_or bytes c (certificate_algorithm_at bytes) refl (ap certificate_format.read (sym (append-nil bytes)) ∙ certificate_grammar.again c bytes [] spelled)
 
 pub no_certificate : (e : Error) (bytes : List ℕ) → names_certificate bytes ≡ true → (cause e ≢ NoMemory → IsSound (all_of bytes) → NoSpelling SpellsCertificate bytes) → AcceptsEither bytes (Err e)
 no_certificate e bytes named none other (either.Key k) spelled = absurd cc

@@ -7,12 +7,11 @@ use Rattle.sshkey_model.specs.Names.{Rsa, Sha256, Sha512, algorithm}
 use Rattle.sshkey_model.specs.Keys.{Key, Head, Plain, Head256, Head512, IsKey, HasKeyPlaces, key, body, normal_key}
 use Rattle.sshkey_model.specs.Options as nestings
 use Rattle.sshkey_model.specs.Options.{CertificateOption, Nesting, Nested, option, each_option, options, HasNesting, HasOptionPlaces, plain_nestings, normal_options}
-use Rattle.sshkey_model.specs.Certificates.{SignedFields, CertificateChoices, AreSignedFields, HaveSignedPlaces, to_be_signed, normal_to_be_signed}
+use Rattle.sshkey_model.specs.Certificates.{SignedFields, CertificateChoices, AreSignedFields, HaveSignedPlaces, to_be_signed, normal_to_be_signed, to_be_signed_format}
 use Rattle.sshkey_model.proofs.NormalKeysFit.{normal_boxes}
 use Rattle.sshkey_base.proofs.Writing.{boxes_both, boxes_first, boxes_box, boxes_inside, boxes_length, length_both, length_box}
 use Rattle.sshkey_cert_values.proofs.WrittenOptions.{nothing_has}
 use Rattle.sshkey_cert.specs.Fitting.{boxes_fit, signed_fits}
-use Rattle.sshkey_cert_fields.specs.ToBeSignedReaders.{to_be_signed_value_at}
 use Rattle.sshkey_cert_fields.proofs.ToBeSignedReaders.{to_be_signed_grammar}
 
 -- ---- the test
@@ -86,7 +85,7 @@ normal_fits c s is has b =
     (name, (nonce, (body, (serial, (kind, (key_id, (principals, (after, (before, (options_fit c.critical_options s.critical_options has.critical_options critical, (options_fit c.extensions s.extensions has.extensions extensions, (reserved, key_box_fits c.signature_key s.signature_key is.signature_key has.signature_key signer))))))))))))
 
 -- what was read fits in its normal form
-pub read_fits : (b : List ℕ) (c : SignedFields) (rest : List ℕ) → to_be_signed_value_at b ≡ Ok (c, rest) → signed_fits c ≡ true
+pub read_fits : (b : List ℕ) (c : SignedFields) (rest : List ℕ) → to_be_signed_format.read b ≡ Ok (c, rest) → signed_fits c ≡ true
 unfolding signed_fits
 read_fits b c rest e =
     let t = to_be_signed_grammar.takes b c rest e in

@@ -5,10 +5,9 @@ use Rattle.sshkey_model.specs.Reading.{whole}
 use Rattle.sshkey_base.specs.Causes.{NoMemory, cause}
 use Rattle.sshkey_base.specs.Reading.{IsRefused}
 use Rattle.sshkey_base.specs.declared.error.Error.{Error}
-use Rattle.sshkey_keys.specs.KeyFormats.{key_format}
-use Rattle.sshkey_keys.specs.Keys.{SpellsKey, key_of, key_data_at}
-use Rattle.sshkey_cert.specs.CertificateFormats.{certificate_format}
-use Rattle.sshkey_cert.specs.CertificateReaders.{SpellsCertificate, certificate_value_at}
+use Rattle.sshkey_model.specs.Keys.{key_format, SpellsKey, key_data_at}
+use Rattle.sshkey_keys.specs.Keys.{key_of}
+use Rattle.sshkey_model.specs.Certificates.{certificate_format, SpellsCertificate}
 use Rattle.sshkey_cert.specs.CertificateValues.{certificate_of, comment_of}
 use Rattle.sshkey_cert.specs.declared.key_or_certificate.KeyOrCertificate.{KeyOrCertificate}
 use Rattle.sshkey_cert.specs.declared.key_or_certificate.KeyOrCertificate.TheVariants as either
@@ -30,7 +29,7 @@ AcceptsEither bytes (Err e) = cause e ≢ NoMemory → (value : KeyOrCertificate
 
 -- The error is that of a certificate's reader or of a key's, as the name in front says.
 pub data RefusesEither (bytes : List ℕ) (e : Error) : Type 0 where
-  ByCertificate : names_certificate bytes ≡ true → IsRefused 0 (cause e) (whole certificate_value_at bytes) → RefusesEither bytes e
+  ByCertificate : names_certificate bytes ≡ true → IsRefused 0 (cause e) (whole certificate_format.read bytes) → RefusesEither bytes e
   ByKey : names_certificate bytes ≡ false → IsRefused 0 (cause e) (whole key_data_at bytes) → RefusesEither bytes e
 
 -- Under a certificate's name the certificate needs memory, and else the key.

@@ -1,6 +1,4 @@
 pub mod Fitting
-pub mod CertificateReaders
-pub mod CertificateFormats
 pub mod CertificateValues
 pub mod Validity
 pub mod Questions

@@ -3,7 +3,7 @@ use Rattle.std.specs.Prelude.{◌≢◌, ℕ, List, Result, Ok, Err}
 use Rattle.sshkey_model.specs.Lines.{name_of_certificate, IsCertificateLine, IsNoLine}
 use Rattle.sshkey_base.specs.Causes.{cause, NoMemory}
 use Rattle.sshkey_base.specs.declared.error.Error.{Error}
-use Rattle.sshkey_cert.specs.CertificateReaders.{SpellsCertificate}
+use Rattle.sshkey_model.specs.Certificates.{SpellsCertificate}
 use Rattle.sshkey_cert.specs.CertificateValues.{certificate_of, comment_of}
 use Rattle.sshkey_cert.specs.declared.certificate.Certificate.{Certificate}
 

@@ -1,10 +1,8 @@
 //! Laws of certificates: each stands for all values, and makes no call.
 
 ghost use Rattle.std.specs.Prelude.{◌≡◌, ◌++◌, ℕ, List};
-ghost use Rattle.sshkey_model.specs.Certificates.{Certificate as TheCertificate};
-ghost use Rattle.sshkey_model.specs.Keys.{Key};
-ghost use Rattle.sshkey_keys.specs.Keys.{SpellsKey};
-ghost use Rattle.sshkey_cert.specs.CertificateReaders.{SpellsCertificate};
+ghost use Rattle.sshkey_model.specs.Certificates.{Certificate as TheCertificate, SpellsCertificate};
+ghost use Rattle.sshkey_model.specs.Keys.{Key, SpellsKey};
 ghost use Rattle.sshkey_base.specs.Comparisons.{EqualMeanSame, IsEqualityAmong, IsEqualityOf};
 ghost use Rattle.sshkey_cert.specs.Comparisons.{IsOfKeys, IsOrderOfCertificates, content_of};
 ghost use Rattle.sshkey_cert.specs.Validity.{refusal_of};

@@ -1,27 +1,25 @@
 -- A call that reads a value and then what that value calls for: what is said of the refusal of a
 -- step is said of all.
 use Rattle.std.proofs.Common.{◌≡◌, inl, ℕ, List, Result}
-use Rattle.sshkey_model.specs.Certificates.{CertificateType}
-use Rattle.sshkey_model.specs.Keys.{Key}
+use Rattle.sshkey_model.specs.Certificates.{CertificateType, type_format, time_format, end_format, to_be_signed_format, signed_fields_from}
+use Rattle.sshkey_model.specs.Keys.{Key, body_format, key_format}
 use Rattle.sshkey_model.specs.Names.{Algorithm}
-use Rattle.sshkey_model.specs.Options.{CertificateOption}
+use Rattle.sshkey_model.specs.Options.{CertificateOption, options_format}
 use Rattle.sshkey_model.specs.Reading.{Fault, after_at}
 use Rattle.sshkey_base.specs.Causes.{Cause, NoMemory}
-use Rattle.sshkey_base.specs.Formats.{Format, IsFormat, number64_format, string_format, text_format, texts_format}
-use Rattle.sshkey_base.specs.NameFormats.{certified_format}
+use Rattle.sshkey_model.specs.Formats.{Format, IsFormat}
+use Rattle.sshkey_model.specs.Leaves.{number64_format, string_format}
+use Rattle.sshkey_model.specs.Texts.{text_format, texts_format}
+use Rattle.sshkey_model.specs.CertificateNames.{certified_format}
 use Rattle.sshkey_base.specs.Reading.{Reads, IsRefused}
 use Rattle.sshkey_base.specs.Source.{Source, IsSound}
 use Rattle.sshkey_base.specs.Stops.{Stopped}
 use Rattle.sshkey_base.proofs.Lawful.{certified_lawful, string_lawful}
 use Rattle.sshkey_base.proofs.Steps.{asks_later, refused_first, refused_later}
 use Rattle.sshkey_base.proofs.Stopping.{checked_stopped}
-use Rattle.sshkey_terms.specs.Terms.{◌then◌, boxed, dependent, tested}
+use Rattle.sshkey_model.specs.Terms.{◌then◌, boxed, dependent, tested}
 use Rattle.sshkey_terms.proofs.Stopping.{stopped_first, stopped_later}
-use Rattle.sshkey_keys.specs.KeyFormats.{body_format, key_format}
 use Rattle.sshkey_keys.proofs.Lawful.{body_lawful}
-use Rattle.sshkey_cert_values.specs.Leaves.{type_format, time_format, end_format}
-use Rattle.sshkey_cert_values.specs.OptionReaders.{options_format}
-use Rattle.sshkey_cert_fields.specs.ToBeSignedFormats.{to_be_signed_format, to_be_signed_of_parts}
 
 -- what a reading call says of a refusal
 pub record Refusal {Y : Type 0} (f : Format Y) (c : Cause) (s : Source) : Type 0 where
@@ -70,7 +68,7 @@ after_name name = string_format then after_nonce name
 
 module _ (c : Cause) (s : Source) where
   all_refusal : Refusal (dependent certified_format after_name) c s → Refusal to_be_signed_format c s
-  all_refusal h = tested_refusal to_be_signed_of_parts (dependent certified_format after_name) c s h
+  all_refusal h = tested_refusal signed_fields_from (dependent certified_format after_name) c s h
 
   pub name_refusal : Refusal certified_format c s → Refusal to_be_signed_format c s
   name_refusal h = all_refusal (first_refusal certified_format after_name c s h)

@@ -1,9 +1,8 @@
 //! All of a certificate that its signature is over.
 
 ghost use Rattle.std.specs.Prelude.{◌+◌, ◌*◌, ◌^◌, ◌<◌};
-ghost use Rattle.sshkey_model.specs.Certificates.{SignedFields, normal_to_be_signed};
+ghost use Rattle.sshkey_model.specs.Certificates.{SignedFields, normal_to_be_signed, to_be_signed_format};
 ghost use Rattle.sshkey_keys.specs.Blobs.{MakesBlob};
-ghost use Rattle.sshkey_cert_fields.specs.ToBeSignedFormats.{to_be_signed_format};
 
 mod copy;
 mod limits;

@@ -3,12 +3,11 @@ use Rattle.std.proofs.Common.{◌≡◌, ℕ, ◌≤◌, List, [], ◌∷◌, le
 use Rattle.std.proofs.lemmas.List.{length-append}
 use Rattle.std.specs.Int.{w32, to_be_bytes}
 use Rattle.sshkey_model.specs.Parts.{Parts, nothing, box, ◌&◌, flat}
-use Rattle.sshkey_cert.specs.CertificateReaders.{SpellsCertificate}
 use Rattle.sshkey_model.specs.Texts.{string}
 use Rattle.sshkey_model.specs.Names.{Sha256, Sha512, Algorithm, algorithm}
 use Rattle.sshkey_model.specs.Keys.{Key, Head, Plain, Head256, Head512, HasKeyPlaces, key_algorithm, body, key, normal_key}
 use Rattle.sshkey_model.specs.Options.{CertificateOption, Nesting, Nested, option_value, option, each_option, options, HasNesting, HasOptionPlaces, plain_nestings, normal_options}
-use Rattle.sshkey_model.specs.Certificates.{SignedFields, CertificateChoices, HaveSignedPlaces, to_be_signed, normal_to_be_signed, Certificate, HasCertificatePlaces, certificate, normal_certificate}
+use Rattle.sshkey_model.specs.Certificates.{SignedFields, CertificateChoices, HaveSignedPlaces, to_be_signed, normal_to_be_signed, Certificate, HasCertificatePlaces, certificate, normal_certificate, SpellsCertificate}
 
 -- The second is no longer than the first, and the same if it is as long.
 abbrev Shortens : Parts → Parts → Type 0

@@ -1,8 +1,7 @@
 //! A law of certificates: it stands for all values, and makes no call.
 
 ghost use Rattle.std.specs.Prelude.{◌≡◌, ◌≤◌, List, length, ℕ};
-ghost use Rattle.sshkey_cert.specs.CertificateReaders.{SpellsCertificate};
-ghost use Rattle.sshkey_model.specs.Certificates.{Certificate, normal_certificate};
+ghost use Rattle.sshkey_model.specs.Certificates.{Certificate, normal_certificate, SpellsCertificate};
 ghost use Rattle.sshkey_model.specs.Parts.{flat};
 
 /// No spelling of a certificate is shorter than its normal form, and no other is as short: what is

@@ -1,7 +1,7 @@
 -- Keys and signatures that fill their strings.
 use Rattle.std.proofs.Common.{◌≡◌, ℕ, List, Result, Ok, Err, refl, ◌∙◌}
 use Rattle.sshkey_model.specs.Reading.{Fault, ◌>>=◌, whole}
-use Rattle.sshkey_model.specs.Keys.{Key, Head, key_at}
+use Rattle.sshkey_model.specs.Keys.{Key, Head, key_at, key_data_at}
 use Rattle.sshkey_model.specs.Signatures.{Signature, signature_at}
 use Rattle.sshkey_model.proofs.CombinedReaders.{whole_reads}
 use Rattle.sshkey_model.proofs.KeyReaders.{key_reads}
@@ -9,7 +9,6 @@ use Rattle.sshkey_model.proofs.SignatureReaders.{signature_reads}
 use Rattle.sshkey_base.specs.Answers.{AnswersAlways}
 use Rattle.sshkey_base.specs.Causes.{Cause}
 use Rattle.sshkey_base.proofs.MappedBoxes.{made}
-use Rattle.sshkey_keys.specs.Keys.{key_data_at}
 use Rattle.sshkey_keys.proofs.BoxedKeys.{plain, key_whole}
 use Rattle.sshkey_keys_ref.specs.KeyDataRef.{key_bytes}
 use Rattle.sshkey_keys_ref.specs.SignatureRef.{signature_bytes}

@@ -1,17 +1,16 @@
 -- Whole certificates.
 use Rattle.std.proofs.Common.{◌≡◌, ℕ, ◌-◌, ◌≤◌, List, [], ◌∷◌, length, take, true, Result, Ok, Err, refl, sym, ap, ◌∙◌, arith}
 use Rattle.std.proofs.lemmas.List.{length-append, take_at}
-use Rattle.sshkey_model.specs.Certificates.{Certificate, CertificateChoices, SignedFields, certificate_at, signed_fields_at, to_be_signed, IsCertificate, HasCertificatePlaces, certificate}
+use Rattle.sshkey_model.specs.Certificates.{Certificate, CertificateChoices, SignedFields, certificate_at, signed_fields_at, to_be_signed, IsCertificate, HasCertificatePlaces, certificate, SpellsCertificate}
 use Rattle.sshkey_model.specs.Grammar.{IsSpelled, spelled}
 use Rattle.sshkey_model.specs.Parts.{flat, Fits}
-use Rattle.sshkey_model.specs.Reading.{Fault, ◌>>=◌, end_of, whole, box_at}
+use Rattle.sshkey_model.specs.Reading.{Fault, ◌>>=◌, after_at, end_of, whole, box_at}
 use Rattle.sshkey_model.specs.Signatures.{Signature, signature_at}
 use Rattle.sshkey_model.proofs.CertificateReaders.{signed_fields_reads, certificate_reads}
 use Rattle.sshkey_model.proofs.CombinedReaders.{whole_reads}
 use Rattle.sshkey_base.specs.Causes.{Cause}
 use Rattle.sshkey_base.specs.Reading.{Refuses, NoSpelling}
 use Rattle.sshkey_terms.specs.Slices.{Keeps, is_taken}
-use Rattle.sshkey_cert.specs.CertificateReaders.{SpellsCertificate}
 use Rattle.sshkey_cert_ref.specs.Spelled.{no_certificate, no_choices, spelled_in}
 use Rattle.sshkey_cert_ref.proofs.Subjects.{known}
 
@@ -23,23 +22,26 @@ Spelled = Certificate × CertificateChoices
 abbrev signed_by : SignedFields × CertificateChoices → Signature → Result Spelled Fault
 signed_by c g = Ok (record { signed = c.0; signature = g }, c.1)
 
-abbrev signed_front : SignedFields × CertificateChoices → Signature × List ℕ → Result (Spelled × List ℕ) Fault
-signed_front c g = Ok ((record { signed = c.0; signature = g.0 }, c.1), g.1)
+abbrev beside : SignedFields × CertificateChoices → Signature × List ℕ → Result (((SignedFields × CertificateChoices) × Signature) × List ℕ) Fault
+beside c g = Ok ((c, g.0), g.1)
 
-signature_end : (c : SignedFields × CertificateChoices) (g : Result (Signature × List ℕ) Fault) → ((g >>= signed_front c) >>= λ x. end_of x.0 x.1) ≡ ((g >>= λ x. end_of x.0 x.1) >>= signed_by c)
+abbrev signed_front : ((SignedFields × CertificateChoices) × Signature) × List ℕ → Result (Spelled × List ℕ) Fault
+signed_front x = Ok ((record { signed = x.0.0.0; signature = x.0.1 }, x.0.0.1), x.1)
+
+signature_end : (c : SignedFields × CertificateChoices) (g : Result (Signature × List ℕ) Fault) → (((g >>= beside c) >>= signed_front) >>= λ x. end_of x.0 x.1) ≡ ((g >>= λ x. end_of x.0 x.1) >>= signed_by c)
 signature_end c (Ok (g, [])) = refl
 signature_end c (Ok (g, (b ∷ rest))) = refl
 signature_end c (Err f) = refl
 
 pub after_fields : (b rest : List ℕ) (c : SignedFields × CertificateChoices) → signed_fields_at b ≡ Ok (c, rest) → whole certificate_at b ≡ (whole (box_at (whole signature_at)) rest >>= signed_by c)
-unfolding certificate_at
+unfolding certificate_at after_at
 after_fields b rest c e = rw e (signature_end c (box_at (whole signature_at) rest))
 
 pub found_whole : (b rest : List ℕ) (c : SignedFields × CertificateChoices) (g : Signature) → signed_fields_at b ≡ Ok (c, rest) → whole (box_at (whole signature_at)) rest ≡ Ok g → whole certificate_at b ≡ Ok (record { signed = c.0; signature = g }, c.1)
 found_whole b rest c g e f = after_fields b rest c e ∙ rw f refl
 
 pub no_fields : {cause : Cause} (b : List ℕ) → Refuses 0 cause (signed_fields_at b) → Refuses 0 cause (whole certificate_at b)
-unfolding certificate_at
+unfolding certificate_at after_at
 no_fields b h = record { met = h.met; is = rw h.is refl; same = h.same }
 
 pub no_signature : {cause : Cause} (b rest : List ℕ) (c : SignedFields × CertificateChoices) → signed_fields_at b ≡ Ok (c, rest) → Refuses 0 cause (whole (box_at (whole signature_at)) rest) → Refuses 0 cause (whole certificate_at b)

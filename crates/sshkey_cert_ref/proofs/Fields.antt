@@ -4,13 +4,15 @@ use Rattle.std.proofs.Common.{◌≡◌, ℕ, List, Ok}
 use Rattle.sshkey_model.specs.Keys.{Head, Key, body_at}
 use Rattle.sshkey_model.specs.Names.{Algorithm}
 use Rattle.sshkey_model.specs.Reading.{◌>>=◌, Front, after_at}
-use Rattle.sshkey_model.specs.Certificates.{SignedFields, CertificateChoices, CertificateType, signed_fields_at, type_at, time_at, end_at}
+use Rattle.sshkey_model.specs.Certificates.{SignedFields, CertificateChoices, CertificateType, signed_fields_at, type_format, time_format, end_format}
 use Rattle.sshkey_model.proofs.CombinedReaders.{bind_assoc}
-use Rattle.sshkey_base.specs.Formats.{Format, number64_format, string_format, text_format, texts_format}
-use Rattle.sshkey_base.specs.NameFormats.{certified_format}
-use Rattle.sshkey_terms.specs.Terms.{◌then◌}
-use Rattle.sshkey_cert_values.specs.Leaves.{type_format, time_format, end_format}
-use Rattle.sshkey_cert_ref.specs.Fields.{OptionsAsSpelled, boxed_key_format, spelled_options_format}
+use Rattle.sshkey_model.specs.Formats.{Format}
+use Rattle.sshkey_model.specs.Leaves.{number64_format, string_format}
+use Rattle.sshkey_model.specs.Options.{spelled_options_format}
+use Rattle.sshkey_model.specs.Texts.{text_format, texts_format}
+use Rattle.sshkey_model.specs.CertificateNames.{certified_format}
+use Rattle.sshkey_model.specs.Terms.{◌then◌}
+use Rattle.sshkey_cert_ref.specs.Fields.{OptionsAsSpelled, boxed_key_format}
 
 abbrev pub opening_format : Format (Algorithm × List ℕ)
 opening_format = certified_format then string_format
@@ -32,5 +34,5 @@ fields_at b = do
   )
 
 pub fields_are : (b : List ℕ) → fields_at b ≡ signed_fields_at b
-unfolding fields_at after_at signed_fields_at type_at time_at end_at
+unfolding fields_at after_at signed_fields_at
 fields_are b = simp bind_assoc

@@ -2,12 +2,11 @@
 use Rattle.std.proofs.Common.{◌≡◌, ◌||◌, ℕ, List, true, Some, Result, Ok, Err, IfErr, IsTrue, refl}
 use Rattle.std.specs.Prelude.{IsOk}
 use Rattle.sshkey_model.specs.CertificateNames.{certificate_name, certified}
-use Rattle.sshkey_model.specs.Keys.{Key, key_algorithm}
+use Rattle.sshkey_model.specs.Keys.{Key, key_algorithm, kind_format}
 use Rattle.sshkey_model.specs.Names.{Algorithm, Nistp256, Nistp384, Nistp521, named}
 use Rattle.sshkey_base.specs.Causes.{Cause, NoMemory}
 use Rattle.sshkey_base.specs.Needs.{Asks}
 use Rattle.sshkey_base.specs.Source.{all_of}
-use Rattle.sshkey_keys.specs.KeyFormats.{kind_format}
 use Rattle.sshkey_keys.specs.KeyKinds.{is_ecdsa, is_ed25519}
 use Rattle.sshkey_keys_ref.proofs.KeysOfOneSize.{is_of_one_size, sized}
 

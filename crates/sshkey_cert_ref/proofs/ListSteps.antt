@@ -1,11 +1,10 @@
 -- A list that was read once is walked again, one value after the other.
 use Rattle.std.proofs.Common.{◌≡◌, ℕ, zero, suc, ◌<◌, ◌≤◌, Option, None, Some, List, [], ◌∷◌, length, Result, Ok, Err, true, refl, sym, ap, ◌∙◌, arith}
 use Rattle.std.proofs.lemmas.List.{nil_from_length}
-use Rattle.sshkey_model.specs.Reading.{Fault, Front, list_within, list_whole}
+use Rattle.sshkey_model.specs.Reading.{Fault, Front, list_within, list_whole, to_end}
 use Rattle.sshkey_model.proofs.CombinedReaders.{bind_ok, ok_is, done as ok}
 use Rattle.sshkey_base.specs.Source.{all_of, announced_len}
 use Rattle.sshkey_base.specs.Causes.{NoMemory, Faulty}
-use Rattle.sshkey_base.specs.Reading.{to_end}
 use Rattle.std.specs.Prelude.{◌≢◌, IsErrAnd}
 use Rattle.sshkey_base.proofs.ReadLists.{Collects, collects_refused, collects_end}
 use Rattle.sshkey_terms.specs.Slices.{is_taken, found_or}

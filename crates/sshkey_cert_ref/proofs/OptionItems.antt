@@ -3,9 +3,9 @@ use Rattle.std.proofs.Common.{◌≡◌, ℕ, ◌<◌, List, [], ◌∷◌, leng
 use Rattle.std.proofs.lemmas.Bool.{ne_eqb, eqb-true, eqb-false}
 use Rattle.std.proofs.lemmas.List.{nil_from_length}
 use denote.Ref.{Bor}
-use Rattle.sshkey_model.specs.Reading.{◌>>=◌, whole}
+use Rattle.sshkey_model.specs.Reading.{Fault, ◌>>=◌, Whole, checked_at, whole}
 use Rattle.sshkey_model.specs.Texts.{text_at}
-use Rattle.sshkey_model.specs.Options.{Plain, nesting_of, option_value_from}
+use Rattle.sshkey_model.specs.Options.{Nesting, nesting_of, spelled_text, spelled_value_format}
 use Rattle.sshkey_base.specs.declared.encoding.Error.{Error}
 use Rattle.sshkey_base.specs.declared.encoding.Error.TheVariants as encoding
 use Rattle.sshkey_base.specs.Answers.{AnswersAlways}
@@ -15,32 +15,35 @@ use Rattle.sshkey_keys_ref.specs.Taking.{TakesValue}
 use Rattle.sshkey_cert_ref.specs.SpelledOptions.{nesting, value_pair_of}
 use Rattle.sshkey_terms.proofs.SliceFronts.{answers_ok, answers_err}
 
-value_of_some : (b : List ℕ) → 0 < length b → option_value_from b ≡ (whole text_at b >>= λ v. Ok (v, nesting_of v))
-unfolding option_value_from
+abbrev value_from : Whole (List ℕ × Nesting)
+value_from = whole spelled_value_format.read
+
+value_of_some : (b : List ℕ) → 0 < length b → value_from b ≡ (whole text_at b >>= spelled_text)
 value_of_some [] some = absurd (omega arith)
-value_of_some (c ∷ b) some = refl
+value_of_some (c ∷ b) some = go (text_at (c ∷ b))
+  where
+    go : (r : Result (List ℕ × List ℕ) Fault) → whole (checked_at spelled_text (λ (_ : List ℕ). r)) b ≡ (whole (λ (_ : List ℕ). r) b >>= spelled_text)
+    go (Ok (v, [])) = refl
+    go (Ok (v, d ∷ rest)) = refl
+    go (Err f) = refl
 
-value_of_none : option_value_from [] ≡ Ok ([], Plain)
-unfolding option_value_from
-value_of_none = refl
-
-pub value_empty : (b : List ℕ) (x : Bor (List ℕ)) → length b ≡ 0 → x.now ≡ [] → AnswersAlways value_pair_of encoding_cause (option_value_from b) (Ok (x, false))
-value_empty b x none is = rw (nil_from_length b none, value_of_none, is) refl
+pub value_empty : (b : List ℕ) (x : Bor (List ℕ)) → length b ≡ 0 → x.now ≡ [] → AnswersAlways value_pair_of encoding_cause (value_from b) (Ok (x, false))
+value_empty b x none is = rw (nil_from_length b none, is) refl
 
 -- a text that is all there is
-abbrev pub Whole : List ℕ → Result (Bor (List ℕ)) Error → Type 0
-Whole b r = AnswersAlways (λ t. t.now) encoding_cause (whole text_at b) r
+abbrev pub IsWhole : List ℕ → Result (Bor (List ℕ)) Error → Type 0
+IsWhole b r = AnswersAlways (λ t. t.now) encoding_cause (whole text_at b) r
 
 module _ (b rest : List ℕ) (t : Bor (List ℕ)) (h : TakesValue (λ t. t.now) encoding_cause text_at b (Ok t) rest) (is_empty : Bool) (says : is_empty ≡ eqb (length rest) 0) where
-  pub whole_trails : is_empty ≡ false → Whole b (Err (encoding.TrailingData (length rest)))
+  pub whole_trails : is_empty ≡ false → IsWhole b (Err (encoding.TrailingData (length rest)))
   whole_trails more =
       let some : 0 < length rest = omega (arith, eqb-false (length rest) 0 (sym says ∙ more)) in
       rw (h.value, some_after t.now rest (length rest) refl some) refl
 
-  pub whole_taken : is_empty ≡ true → Whole b (Ok t)
+  pub whole_taken : is_empty ≡ true → IsWhole b (Ok t)
   whole_taken none = rw (h.value, nil_from_length rest (eqb-true (length rest) 0 (sym says ∙ none))) refl
 
-pub value_refused : (b : List ℕ) (e : Error) → 0 < length b → Whole b (Err e) → AnswersAlways {X = Bor (List ℕ) × Bool} value_pair_of encoding_cause (option_value_from b) (Err e)
+pub value_refused : (b : List ℕ) (e : Error) → 0 < length b → IsWhole b (Err e) → AnswersAlways {X = Bor (List ℕ) × Bool} value_pair_of encoding_cause (value_from b) (Err e)
 value_refused b e some h =
     let f = answers_err (λ (t : Bor (List ℕ)). t.now) encoding_cause (whole text_at b) e h in
     rw (value_of_some b some, f.1) f.2
@@ -49,6 +52,6 @@ nesting_is : (x : List ℕ) → nesting (eqb (length x) 0) ≡ nesting_of x
 nesting_is [] = refl
 nesting_is (c ∷ x) = rw (ne_eqb (length (c ∷ x)) 0 (λ e. omega arith)) refl
 
-pub value_taken : (b : List ℕ) (t : Bor (List ℕ)) (is_empty : Bool) → 0 < length b → Whole b (Ok t) → is_empty ≡ eqb (length t.now) 0 → AnswersAlways value_pair_of encoding_cause (option_value_from b) (Ok (t, is_empty))
+pub value_taken : (b : List ℕ) (t : Bor (List ℕ)) (is_empty : Bool) → 0 < length b → IsWhole b (Ok t) → is_empty ≡ eqb (length t.now) 0 → AnswersAlways value_pair_of encoding_cause (value_from b) (Ok (t, is_empty))
 value_taken b t is_empty some h says =
     rw (value_of_some b some, answers_ok (λ (t : Bor (List ℕ)). t.now) encoding_cause (whole text_at b) t h, says, nesting_is t.now) refl

@@ -1,14 +1,14 @@
 -- Lists of options in the words of the grammar.
 use Rattle.std.proofs.Common.{◌≡◌, ℕ, List, [], Bool, true, Result, Ok, Err, refl, sym, ap, ◌∙◌, subst}
-use Rattle.sshkey_model.specs.Reading.{Fault, ◌>>=◌, Whole, checked_at, list_whole}
-use Rattle.sshkey_model.specs.Options.{CertificateOption, Nesting, option_at, firsts, seconds, options_at}
+use Rattle.sshkey_model.specs.Reading.{Fault, ◌>>=◌, Whole, checked_at, end_of, list_whole, to_end, whole}
+use Rattle.sshkey_model.specs.Options.{CertificateOption, Nesting, apart, option_at, firsts, seconds, options_at}
 use Rattle.sshkey_model.proofs.CombinedReaders.{bind_ok}
 use Rattle.sshkey_model.proofs.OptionReaders.{option_list_reads}
 use Rattle.sshkey_base.specs.Answers.{AnswersAlways}
 use Rattle.sshkey_base.specs.Causes.{Cause}
 use Rattle.sshkey_base.specs.Reading.{NoSpelling}
 use Rattle.sshkey_base.proofs.Lengths.{with_rest}
-use Rattle.sshkey_base.proofs.MappedBoxes.{on_value, made}
+use Rattle.sshkey_base.proofs.MappedBoxes.{made}
 use Rattle.sshkey_cert_ref.specs.declared.options_ref.OptionsRef.{OptionsRef}
 use Rattle.sshkey_cert_ref.specs.OptionLists.{SpellsEachOption, options_in, nestings_in, are_plain, plainness_from}
 use Rattle.sshkey_cert_ref.specs.Views.{bytes_of_options, spelled_options_of}
@@ -65,13 +65,19 @@ judged cause b plain h = go (list_whole option_at b) refl h
 
 pub options_string : (b : List ℕ) → options_at b ≡ checked_at spelled_from bytes_box b
 unfolding options_at
-options_string b = rw (box_bytes (list_whole option_at) b) (go (bytes_box b))
+options_string b = rw (box_bytes (whole (to_end (list_whole option_at))) b) (go (bytes_box b))
   where
-    inside : (rest : List ℕ) (found : Result (List Pair) Fault) → ((found >>= with_rest rest) >>= on_value two_lists) ≡ ((found >>= made two_lists) >>= with_rest rest)
+    all : List Pair → Result (List Pair × List ℕ) Fault
+    all xs = Ok (xs, [])
+
+    in_two : List Pair × List ℕ → Result ((List CertificateOption × List Nesting) × List ℕ) Fault
+    in_two x = apart x.0 >>= with_rest x.1
+
+    inside : (rest : List ℕ) (found : Result (List Pair) Fault) → ((((found >>= all) >>= λ x. end_of x.0 x.1) >>= with_rest rest) >>= in_two) ≡ ((found >>= made two_lists) >>= with_rest rest)
     inside rest (Ok xs) = refl
     inside rest (Err f) = refl
 
-    go : (found : Result (List ℕ × List ℕ) Fault) → ((found >>= λ x. list_whole option_at x.0 >>= with_rest x.1) >>= on_value two_lists) ≡ (found >>= λ x. spelled_from x.0 >>= with_rest x.1)
+    go : (found : Result (List ℕ × List ℕ) Fault) → ((found >>= λ x. whole (to_end (list_whole option_at)) x.0 >>= with_rest x.1) >>= in_two) ≡ (found >>= λ x. spelled_from x.0 >>= with_rest x.1)
     go (Ok x) = inside x.1 (list_whole option_at x.0)
     go (Err f) = refl
 

@@ -1,9 +1,10 @@
 -- A list of options is walked again, option by option.
 use Rattle.std.proofs.Common.{◌≡◌, ℕ, ◌<◌, Option, Some, None, List, [], ◌∷◌, ◌++◌, length, Bool, true, false, ◌&&◌, not, Result, Ok, Err, refl, sym, ap, ◌∙◌, subst, option_map, arith}
-use Rattle.sshkey_model.specs.Reading.{FormatEncoding, box_at, list_whole}
+use Rattle.sshkey_model.specs.Reading.{FormatEncoding, after_at, list_whole}
 use Rattle.sshkey_model.specs.Parts.{flat}
-use Rattle.sshkey_model.specs.Texts.{text_at}
-use Rattle.sshkey_model.specs.Options.{CertificateOption, Nesting, Plain, Nested, option, option_before, is_after, in_order, option_value_from, option_at, firsts, seconds}
+use Rattle.sshkey_model.specs.Terms.{◌then◌, boxed}
+use Rattle.sshkey_model.specs.Texts.{text_format}
+use Rattle.sshkey_model.specs.Options.{CertificateOption, Nesting, Plain, Nested, option, option_at, firsts, may_follow, seconds, spelled_option_format, spelled_value_format}
 use Rattle.sshkey_model.proofs.CombinedReaders.{bind_ok, ok_is, met}
 use Rattle.sshkey_model.proofs.OptionReaders.{option_reads}
 use Rattle.sshkey_base.specs.declared.error.Error as wide-error
@@ -29,18 +30,15 @@ option_shows x = omega arith
 pub option_less : (before : Option Pair) (b : List ℕ) (x : Pair) (rest : List ℕ) → option_at before b ≡ Ok (x, rest) → length rest < length b
 option_less before b x rest e = leaves_less (option_reads before) option_shows b x rest e
 
-kept_order : (before : Pair) (x y : Pair) → in_order (Some before) x ≡ Ok y → x ≡ y
-kept_order before x y e = ok_is x y (met (is_after (option_before (Some before)) x.0) FormatEncoding (Ok x) y e).1
-
 -- an option that may follow another may stand first
 option_again : (before : Pair) (b : List ℕ) (y : Pair × List ℕ) → option_at (Some before) b ≡ Ok y → option_at None b ≡ Ok y
-unfolding option_at
+unfolding spelled_option_format after_at
 option_again before b y e =
-    let n = bind_ok (text_at b) _ y e in
-    let v = bind_ok (box_at option_value_from n.0.1) _ y n.2 in
-    let x = bind_ok (in_order (Some before) (record { name = n.0.0; value = v.0.0.0 }, v.0.0.1)) _ y v.2 in
-    let same = kept_order before (record { name = n.0.0; value = v.0.0.0 }, v.0.0.1) x.0 x.1 in
-    rw (n.1, v.1, same) x.2
+    let parts = bind_ok ((text_format then boxed spelled_value_format).read b) _ y e in
+    let x = bind_ok _ _ y parts.2 in
+    let made : Pair = (record { name = parts.0.0.0; value = parts.0.0.1.0 }, parts.0.0.1.1) in
+    let m = met (may_follow (Some before.0.name) parts.0.0.0) FormatEncoding (Ok made) x.0 x.1 in
+    rw (parts.1, ok_is made x.0 m.1) x.2
 
 -- ---- the first option
 

@@ -3,10 +3,10 @@ use Rattle.std.proofs.Common.{◌≡◌, ◌↔◌, ℕ, List, [], ◌++◌, app
 use denote.Ref.{Bor}
 use Rattle.sshkey_model.specs.CertificateNames.{certificate_name, certified_from}
 use Rattle.sshkey_model.specs.Certificates.{Certificate, CertificateChoices, certificate, to_be_signed}
-use Rattle.sshkey_model.specs.Keys.{Key, Head, Plain, key_algorithm, key, body, body_at}
+use Rattle.sshkey_model.specs.Keys.{Key, Head, Plain, key_algorithm, key, body, body_at, SpellsKey, key_data_at}
 use Rattle.sshkey_model.specs.Parts.{InRange, BoxesFit, Fits, box, flat}
 use Rattle.sshkey_model.specs.Reading.{whole}
-use Rattle.sshkey_model.specs.Signatures.{signature, signature_at}
+use Rattle.sshkey_model.specs.Signatures.{signature, signature_at, SpellsSignature}
 use Rattle.sshkey_model.proofs.CertificateNameReaders.{certified_again}
 use Rattle.sshkey_model.proofs.CertificateReaders.{certified_plain}
 use Rattle.sshkey_model.proofs.CombinedReaders.{ok_is, prefix}
@@ -14,8 +14,6 @@ use Rattle.sshkey_model.proofs.KeyReaders.{key_reads, body_reads}
 use Rattle.sshkey_model.proofs.NormalFits.{key_fits}
 use Rattle.sshkey_base.proofs.Accepted.{spelled_whole}
 use Rattle.sshkey_keys.proofs.KeyReaders.{key_grammar}
-use Rattle.sshkey_keys.specs.Keys.{SpellsKey, key_data_at}
-use Rattle.sshkey_keys.specs.SignatureReaders.{SpellsSignature}
 use Rattle.sshkey_keys.proofs.SignatureReaders.{signature_grammar}
 use Rattle.sshkey_keys_ref.specs.NormalBytes.{GivesNormal}
 use Rattle.sshkey_cert_ref.proofs.Certificates.{IsSpelledBy}

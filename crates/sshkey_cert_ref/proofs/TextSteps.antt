@@ -4,7 +4,7 @@ use Rattle.std.specs.Str.{is_utf8}
 use denote.Ref.{Bor}
 use Rattle.sshkey_model.specs.Parts.{bytes}
 use Rattle.sshkey_model.specs.Reading.{Fault, CharacterEncoding, ◌>>=◌, string_at}
-use Rattle.sshkey_model.specs.Texts.{IsText, text_from, text_at}
+use Rattle.sshkey_model.specs.Texts.{IsText, text_from, text_at, text_list_at}
 use Rattle.sshkey_model.proofs.CombinedReaders.{bind_ok, ok_is}
 use Rattle.sshkey_model.proofs.TextReaders.{text_reads, text_list_reads, box_shows}
 use Rattle.sshkey_base.specs.declared.encoding.Error.{Error}
@@ -12,7 +12,6 @@ use Rattle.sshkey_base.specs.Answers.{AnswersAlways, Judges}
 use Rattle.sshkey_base.specs.Causes.{Cause, encoding_cause}
 use Rattle.sshkey_base.specs.Reading.{NoSpelling, Refuses}
 use Rattle.sshkey_base.specs.Source.{all_of}
-use Rattle.sshkey_base.specs.TextLists.{text_list_at}
 use Rattle.sshkey_base.proofs.ReadLists.{Collects, collects_more, leaves_less}
 use Rattle.sshkey_cert_ref.specs.TextLists.{SpellsEachText, texts_in}
 use Rattle.sshkey_keys_ref.specs.Taking.{TakesValue}

@@ -1,33 +1,22 @@
 -- The fields of a certificate that are spelled in several ways, with the choices of their spelling.
-use Rattle.std.specs.Prelude.{ℕ, List, []}
-use Rattle.sshkey_model.specs.Grammar.{SpellsAs}
-use Rattle.sshkey_model.specs.Keys.{Head, Key, IsKey, HasKeyPlaces, Opaque, Plain, key, key_at}
+use Rattle.std.specs.Prelude.{List, []}
+use Rattle.sshkey_model.specs.Keys.{Head, Key, Opaque, Plain, key_at, spelled_key_format}
 use Rattle.sshkey_model.specs.Names.{Dsa}
-use Rattle.sshkey_model.specs.Options.{CertificateOption, Nesting, options_at}
+use Rattle.sshkey_model.specs.Options.{CertificateOption, Nesting}
 use Rattle.sshkey_model.specs.Reading.{whole}
 use Rattle.sshkey_model.specs.Signatures.{Signature, signature_at}
-use Rattle.sshkey_base.specs.Formats.{Format}
-use Rattle.sshkey_base.specs.Needs.{NoNeed}
-use Rattle.sshkey_base.specs.Stops.{NoOverrun}
-use Rattle.sshkey_terms.specs.Terms.{boxed}
+use Rattle.sshkey_model.specs.Formats.{Format}
+use Rattle.sshkey_model.specs.Terms.{boxed}
 use Rattle.sshkey_keys_ref.specs.KeyDataRef.{key_bytes}
 use Rattle.sshkey_keys_ref.specs.SignatureRef.{signature_bytes}
 use Rattle.sshkey_keys_ref.specs.declared.key_data_ref.KeyDataRef.{KeyDataRef}
 use Rattle.sshkey_keys_ref.specs.declared.signature_ref.SignatureRef.{SignatureRef}
-use Rattle.sshkey_cert_ref.specs.OptionLists.{SpellsOptionString}
 use Rattle.sshkey_terms.specs.Slices.{found_or}
 
 abbrev pub OptionsAsSpelled : Type 0
 OptionsAsSpelled = List CertificateOption × List Nesting
 
--- options in a string, each empty value as its choice says
-abbrev pub spelled_options_format : Format OptionsAsSpelled
-spelled_options_format = record { Spells = SpellsOptionString; read = options_at; delimited_at = options_at; needs = NoNeed; overruns = NoOverrun }
-
--- a key, and how its name is spelled
-abbrev pub spelled_key_format : Format (Key × Head)
-spelled_key_format = record { Spells = SpellsAs IsKey HasKeyPlaces key; read = key_at; delimited_at = key_at; needs = NoNeed; overruns = NoOverrun }
-
+-- a key in a string, and how its name is spelled
 abbrev pub boxed_key_format : Format (Key × Head)
 boxed_key_format = boxed spelled_key_format
 

@@ -1,6 +1,5 @@
 -- Which slices are the parts of which certificate.
-use Rattle.std.specs.Prelude.{◌≡◌, ℕ, List}
-use denote.Ref.{Bor}
+use Rattle.std.specs.Prelude.{◌≡◌}
 use Rattle.sshkey_model.specs.CertificateNames.{certificate_name}
 use Rattle.sshkey_model.specs.Certificates.{SignedFields, CertificateChoices}
 use Rattle.sshkey_model.specs.Grammar.{spelled}

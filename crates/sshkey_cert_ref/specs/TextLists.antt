@@ -3,8 +3,7 @@ use Rattle.std.specs.Prelude.{ℕ, List, []}
 use Rattle.std.specs.List.{AllByRecursion}
 use Rattle.sshkey_model.specs.Parts.{each}
 use Rattle.sshkey_model.specs.Grammar.{Spells}
-use Rattle.sshkey_model.specs.Texts.{string, IsText}
-use Rattle.sshkey_base.specs.TextLists.{text_list_at}
+use Rattle.sshkey_model.specs.Texts.{string, IsText, text_list_at}
 use Rattle.sshkey_terms.specs.Slices.{found_or}
 
 -- the bytes are those of the texts

@@ -3,9 +3,8 @@
 ghost use Rattle.std.specs.Prelude.{◌≡◌, true};
 ghost use Rattle.sshkey_base.specs.Answers.{AnswersAlways};
 ghost use Rattle.sshkey_base.specs.Causes.{cause};
-ghost use Rattle.sshkey_base.specs.Formats.{IsFormat};
-ghost use Rattle.sshkey_base.specs.NameFormats.{certified_format};
-ghost use Rattle.sshkey_model.specs.CertificateNames.{certified_from};
+ghost use Rattle.sshkey_model.specs.Formats.{IsFormat};
+ghost use Rattle.sshkey_model.specs.CertificateNames.{certified_from, certified_format};
 ghost use Rattle.sshkey_model.specs.Names as names;
 ghost use Rattle.sshkey_terms.specs.Slices.{is_taken};
 ghost use Rattle.sshkey_cert_ref.specs.Spelled.{certified_in};

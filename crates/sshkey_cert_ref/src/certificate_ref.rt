@@ -46,7 +46,7 @@ pub struct CertificateRef<'a> {
 
 impl<'a> CertificateRef<'a> {
     ghost use Rattle.sshkey_terms.specs.Slices.{AcceptsAll, Keeps};
-    ghost use Rattle.sshkey_cert.specs.CertificateReaders.{SpellsCertificate};
+    ghost use Rattle.sshkey_model.specs.Certificates.{SpellsCertificate};
     ghost use Rattle.sshkey_cert_ref.specs.CertificateRef.{certificate_bytes, certificate_of};
 
     /// The certificate that all the bytes together spell, read once from left to right. Does not

@@ -2,13 +2,12 @@
 
 ghost use Rattle.std.specs.Prelude.{ℕ};
 ghost use Rattle.sshkey_base.specs.Causes.{cause};
-ghost use Rattle.sshkey_base.specs.Formats.{IsFormat};
-ghost use Rattle.sshkey_model.specs.Certificates.{CertificateType};
+ghost use Rattle.sshkey_model.specs.Formats.{IsFormat};
+ghost use Rattle.sshkey_model.specs.Certificates.{CertificateType, end_format, time_format, type_format};
 ghost use Rattle.sshkey_model.specs.Keys.{Head, Key};
 ghost use Rattle.sshkey_model.specs.Reading.{box_at, whole};
 ghost use Rattle.sshkey_model.specs.Signatures.{signature_at};
 ghost use Rattle.sshkey_cert_values.specs.CertTypes.{type_of};
-ghost use Rattle.sshkey_cert_values.specs.Leaves.{end_format, time_format, type_format};
 ghost use Rattle.sshkey_cert_values.specs.Times.{time_of, end_of};
 ghost use Rattle.sshkey_cert_ref.specs.Fields.{boxed_key_format, spelled_key_of};
 ghost use Rattle.sshkey_cert_ref.specs.Parts.{IsSignatureIn};

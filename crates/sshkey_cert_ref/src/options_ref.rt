@@ -108,9 +108,8 @@ impl<'a> OptionsRef<'a> {
 /// Options in a string: the faults of a string, and then those of the options.
 #[tactic(auto, using(crate::proofs::Lawful::lawful))]
 impl<'a> ReadFrom<&'a [u8]> for OptionsRef<'a> {
-    ghost use Rattle.sshkey_model.specs.Options.{CertificateOption, Nesting};
-    ghost use Rattle.sshkey_base.specs.Formats.{IsFormat};
-    ghost use Rattle.sshkey_cert_ref.specs.Fields.{spelled_options_format};
+    ghost use Rattle.sshkey_model.specs.Options.{CertificateOption, Nesting, spelled_options_format};
+    ghost use Rattle.sshkey_model.specs.Formats.{IsFormat};
     ghost use Rattle.sshkey_cert_ref.specs.Views.{spelled_options_of};
 
     type Error = Error;

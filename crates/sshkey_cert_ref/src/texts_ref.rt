@@ -2,10 +2,9 @@
 
 ghost use Rattle.std.specs.Prelude.{◌≡◌, ◌∷◌, ◌<◌, ◌↔◌, [], true, bytes_eq, length, Contains, IsTrue};
 ghost use Rattle.std.specs.List.{list_any};
-ghost use Rattle.sshkey_model.specs.Texts.{IsText};
+ghost use Rattle.sshkey_model.specs.Texts.{IsText, text_list_at};
 ghost use Rattle.sshkey_base.specs.Answers.{Judges};
 ghost use Rattle.sshkey_base.specs.Causes.{encoding_cause};
-ghost use Rattle.sshkey_base.specs.TextLists.{text_list_at};
 ghost use Rattle.sshkey_terms.specs.Slices.{is_taken};
 ghost use Rattle.sshkey_cert_ref.specs.TextLists.{texts_in};
 
@@ -25,8 +24,7 @@ pub struct TextsRef<'a> {
 }
 
 impl<'a> TextsRef<'a> {
-    ghost use Rattle.sshkey_model.specs.Texts.{texts_at};
-    ghost use Rattle.sshkey_base.specs.TextLists.{SpellsTexts};
+    ghost use Rattle.sshkey_model.specs.Texts.{texts_at, SpellsTexts};
     ghost use Rattle.sshkey_terms.specs.Slices.{AcceptsAll, AcceptsSplit, Keeps, Splits};
     ghost use Rattle.sshkey_cert_ref.specs.TextLists.{SpellsEachText};
     ghost use Rattle.sshkey_cert_ref.specs.Views.{bytes_of_texts, texts_of};
@@ -92,7 +90,8 @@ impl<'a> TextsRef<'a> {
 #[tactic(auto, using(crate::proofs::Lawful::lawful))]
 impl<'a> ReadFrom<&'a [u8]> for TextsRef<'a> {
     ghost use Rattle.std.specs.Prelude.{ℕ, List};
-    ghost use Rattle.sshkey_base.specs.Formats.{IsFormat, texts_format};
+    ghost use Rattle.sshkey_model.specs.Formats.{IsFormat};
+    ghost use Rattle.sshkey_model.specs.Texts.{texts_format};
     ghost use Rattle.sshkey_cert_ref.specs.Views.{texts_of};
 
     type Error = Error;

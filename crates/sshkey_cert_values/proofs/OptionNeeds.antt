@@ -1,20 +1,30 @@
 -- Where the reading of options asks for memory: the string of the first name stands there.
-use Rattle.std.proofs.Common.{◌≡◌, ◌⊎◌, inl, inr, ◌≤◌, ◌<◌, ◌+◌, ℕ, zero, suc, Option, List, [], ◌∷◌, length, IsOk, Result, Ok, Err, refl, arith}
+use Rattle.std.proofs.Common.{◌≡◌, ◌⊎◌, inl, inr, ◌≤◌, ◌<◌, ◌+◌, ℕ, zero, suc, Option, None, List, [], ◌∷◌, length, IsOk, Result, Ok, Err, refl, arith}
 use Rattle.std.specs.Prelude.{IsOkAnd}
 use Rattle.std.specs.Int.{w32}
 use Rattle.std.proofs.lemmas.Bool.{cases_lt}
-use Rattle.sshkey_model.specs.Options.{CertificateOption}
-use Rattle.sshkey_model.specs.Reading.{Fault, Length, number_at, string_at}
+use Rattle.sshkey_model.specs.Options.{CertificateOption, name_before, option_format, option_list_format, value_format}
+use Rattle.sshkey_model.specs.Reading.{Fault, Length, number_at, string_at, after_at, both_at}
+use Rattle.sshkey_model.specs.Terms.{boxed}
 use Rattle.sshkey_model.specs.Texts.{text_at}
 use Rattle.sshkey_base.specs.Causes.{Cause, NoMemory, Faulty}
 use Rattle.sshkey_base.proofs.Lengths.{text_lengths}
-use Rattle.sshkey_base.specs.Needs.{HasString, NeedsString}
+use Rattle.sshkey_model.specs.Needs.{HasString, NeedsString}
 use Rattle.sshkey_base.specs.Reading.{Reads}
 use Rattle.sshkey_base.specs.Source.{IsSound, Later, Source}
-use Rattle.sshkey_base.specs.Stops.{OverrunsList, OverrunsString, OverrunsWithin, RanOut, Stopped}
+use Rattle.sshkey_base.specs.Stops.{RanOut}
+use Rattle.sshkey_model.specs.Overruns.{OverrunsString, OverrunsWithin}
 use Rattle.sshkey_base.proofs.ReadLists.{StillOverruns}
 use Rattle.sshkey_base.proofs.Stopping.{not_taken, step_ok}
-use Rattle.sshkey_cert_values.specs.OptionReaders.{option_after, item, NeedsOption, OverrunsOption}
+use Rattle.sshkey_cert_values.proofs.OptionLists.{item}
+use Rattle.sshkey_cert_values.proofs.OptionStops.{IsStopped}
+
+abbrev NeedsOption : List ℕ → ℕ → Type 0
+NeedsOption = (option_format None).needs
+
+-- the same after any option
+abbrev pub OverrunsOption : List ℕ → ℕ → Type 0
+OverrunsOption = (option_format None).overruns
 
 is_ok : {B : Type 0} (r : Result B Fault) (x : B) → r ≡ Ok x → IsOk r
 is_ok r x e = rw e refl
@@ -69,12 +79,12 @@ module _ {P : Type 0} (done : List P) (s t : Source) (begun : Begun done s t) wh
   options_ask c later asks memory sound = first_stands (asks memory (rw later.missing sound))
 
   -- an option was read
-  pub option_stands : {X : Type 0} (means : X → CertificateOption) (before : Option (List ℕ)) (x : X) (u : Source) → Reads means (option_after before) t x u → HasString s.left s.missing
-  unfolding option_after
-  option_stands means before x u r = first_stands (text_stands t.left t.missing (step_ok (text_at t.left) _ (is_ok (option_after before t.left) (means x, u.left) r.value)))
+  pub option_stands : {X : Type 0} (means : X → CertificateOption) (before : Option (List ℕ)) (x : X) (u : Source) → Reads means (option_format before).read t x u → HasString s.left s.missing
+  unfolding after_at
+  option_stands means before x u r = first_stands (text_stands t.left t.missing (step_ok (text_at t.left) _ (step_ok (both_at text_at (boxed value_format).read t.left) _ (is_ok ((option_format before).read t.left) (means x, u.left) r.value))))
 
   -- an option is refused
-  pub options_stopped : (c : Cause) (before : Option CertificateOption) → StillOverruns item OverrunsOption s before t → Stopped c (item before) NeedsOption OverrunsOption t → OverrunsList item OverrunsOption s.left s.missing → (c ≡ Faulty Length) ⊎ RanOut c HasString s
+  pub options_stopped : (c : Cause) (before : Option CertificateOption) → StillOverruns item OverrunsOption s before t → IsStopped c (option_format (name_before before)) t → option_list_format.overruns s.left s.missing → (c ≡ Faulty Length) ⊎ RanOut c HasString s
   options_stopped c before still h o = go (still o).0 t.left refl (still o).1
     where
       more : RanOut c NeedsOption t → RanOut c HasString s

@@ -17,7 +17,7 @@ use Rattle.std.proofs.lemmas.Map.Keys.{sorted_tail, IsDistinct-from_sorted}
 use Rattle.std.proofs.lemmas.Map.Lookups.{exact_bytes}
 use Rattle.std.proofs.lemmas.Map.Made.{update_all_none}
 use Rattle.std.proofs.lemmas.Option.{same_Some}
-use Rattle.sshkey_cert_values.specs.OptionReaders.{may_follow}
+use Rattle.sshkey_model.specs.Options.{may_follow}
 use Rattle.sshkey_cert_values.specs.OptionMaps.{option_of, name_at_end, NamesRise}
 use Rattle.sshkey_cert_values.proofs.OptionNames.{below_is, less_is}
 

@@ -7,7 +7,7 @@ use Rattle.sshkey_base.specs.declared.encoding.Error.{Error}
 use Rattle.sshkey_base.specs.Sink.{Sink, Written, after, Encodes, NotWritten}
 use Rattle.sshkey_base.proofs.Writing.{not_first, boxes_first, boxes_second, boxes_both, boxes_box, boxes_length, boxes_inside, length_both}
 use Rattle.sshkey_base.proofs.PlainParts.{encodes_later}
-use Rattle.sshkey_cert_values.specs.OptionReaders.{plain_option}
+use Rattle.sshkey_model.specs.Options.{plain_option}
 use Rattle.sshkey_cert_values.specs.OptionMaps.{option_of}
 
 pub nothing_added : (t : Sink) → Written nothing t t

@@ -6,8 +6,7 @@ ghost use Rattle.sshkey_model.specs.Certificates.{is_end, forever};
 ghost use Rattle.sshkey_model.specs.Parts.{number};
 ghost use Rattle.sshkey_base.specs.Answers.{AnswersAlways};
 ghost use Rattle.sshkey_base.specs.Causes.{cause};
-ghost use Rattle.sshkey_model.specs.Certificates.{end_from};
-ghost use Rattle.sshkey_cert_values.specs.Leaves.{end_format};
+ghost use Rattle.sshkey_model.specs.Certificates.{end_from, end_format};
 
 use crate::unix_time::{MAX_SECS, UnixTime};
 use sshkey_base::{Decode, Encode, Error, Reader, Result, Writer, encoding};

@@ -1,12 +1,11 @@
 //! Laws of options and times: each stands for all values, and makes no call.
 
 ghost use Rattle.std.specs.Prelude.{◌≡◌, ◌++◌, ℕ, List};
-ghost use Rattle.sshkey_model.specs.Options.{CertificateOption};
+ghost use Rattle.sshkey_model.specs.Options.{CertificateOption, SpellsOptions};
 ghost use Rattle.sshkey_base.specs.Comparisons.{IsEqualityOf, IsOrderOf};
 ghost use Rattle.sshkey_cert_values.specs.CertTypes.{type_of};
 ghost use Rattle.sshkey_cert_values.specs.Comparisons.{IsOrderOfOptions, time_key, end_key, type_key};
 ghost use Rattle.sshkey_cert_values.specs.OptionMaps.{options_of};
-ghost use Rattle.sshkey_cert_values.specs.OptionReaders.{SpellsOptions};
 ghost use Rattle.sshkey_cert_values.specs.Times.{end_of, time_of};
 
 use crate::cert_type::CertType;

@@ -4,15 +4,15 @@ ghost use Rattle.std.specs.Prelude.{◌≡◌, ◌+◌, ◌*◌, ◌^◌, ◌<�
 ghost use Rattle.std.specs.Global.{Global};
 ghost use Rattle.std.specs.Map.Iter.{ShowsInOrder, deref_pair};
 ghost use Rattle.sshkey_model.specs.OptionMaps.{value_of, with_option, with_options};
-ghost use Rattle.sshkey_model.specs.Options.{CertificateOption, AreOptions, normal_options};
+ghost use Rattle.sshkey_model.specs.Options.{CertificateOption, AreOptions, normal_options, option_list_format, options_format, options_value_at};
 ghost use Rattle.sshkey_base.specs.Causes.{cause};
 ghost use Rattle.sshkey_base.specs.Formats.{Stops};
 ghost use Rattle.sshkey_base.specs.Nested.{nested_source};
-ghost use Rattle.sshkey_base.specs.Needs.{Asks, NeedsBoxed, HasString};
-ghost use Rattle.sshkey_base.specs.Reading.{DecodesWide, Gives, to_end};
+ghost use Rattle.sshkey_base.specs.Needs.{Asks};
+ghost use Rattle.sshkey_model.specs.Needs.{NeedsBoxed, HasString};
+ghost use Rattle.sshkey_base.specs.Reading.{DecodesWide, Gives};
 ghost use Rattle.sshkey_base.specs.Source.{Later};
-ghost use Rattle.sshkey_base.specs.Stops.{OverrunsList, StopsPast};
-ghost use Rattle.sshkey_cert_values.specs.OptionReaders.{item, option_list_at, options_format, options_value_at, OverrunsOption};
+ghost use Rattle.sshkey_base.specs.Stops.{StopsPast};
 ghost use Rattle.sshkey_cert_values.specs.OptionMaps.{IsNamedAmong, is_among, option_of, options_of};
 
 mod gathered;
@@ -170,7 +170,7 @@ impl From<OptionsMap> for BTreeMap<String, String> {
 ///
 /// Fails with `FormatEncoding` if a name does not rise, and with the faults of strings and texts.
 /// It fails with `Memory` only where the string of a first name stands in it.
-#[tactic(auto, using(sshkey_base::proofs::Boxes::boxes, crate::proofs::Lawful::options_lawful))]
+#[tactic(auto, using(sshkey_base::proofs::Boxes::boxes, crate::proofs::Lawful::options_lawful), unfolding(sshkey_model::specs::Options::options_value_at))]
 impl Decode for OptionsMap {
     type Error = Error;
 
@@ -191,12 +191,12 @@ impl Decode for OptionsMap {
     {
         reader.read_prefixed(
             |part: &mut NestedReader<'_, R>| -> Result<OptionsMap>
-                ensures gives { Gives options_of cause (to_end option_list_at)
+                ensures gives { Gives options_of cause option_list_format.read
                     (nested_source R.source part.old) result (nested_source R.source part.new) }
                 ensures later { Later (nested_source R.source part.old)
                     (nested_source R.source part.new) }
                 ensures asks { Asks cause HasString (nested_source R.source part.old) result }
-                ensures past { StopsPast cause HasString (OverrunsList item OverrunsOption)
+                ensures past { StopsPast cause HasString option_list_format.overruns
                     (nested_source R.source part.old) result }
             { options_from(alloc, part) },
         )

@@ -6,8 +6,7 @@ ghost use Rattle.sshkey_model.specs.Parts.{number};
 ghost use Rattle.std.specs.Int.{w64};
 ghost use Rattle.sshkey_base.specs.Answers.{AnswersAlways};
 ghost use Rattle.sshkey_base.specs.Causes.{cause};
-ghost use Rattle.sshkey_model.specs.Certificates.{time_from};
-ghost use Rattle.sshkey_cert_values.specs.Leaves.{time_format};
+ghost use Rattle.sshkey_model.specs.Certificates.{time_from, time_format};
 
 use sshkey_base::{Decode, Encode, Error, Reader, Result, Writer, encoding};
 use std::alloc::Global;

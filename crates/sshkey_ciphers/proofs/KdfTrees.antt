@@ -9,7 +9,7 @@ use Rattle.sshkey_model.specs.KeyDerivation.{Kdf, NoKdf, Bcrypt, KdfAlgorithm, N
 use Rattle.sshkey_model.proofs.CombinedReaders.{met, ok_is}
 use Rattle.sshkey_model.proofs.Grammars.{ends}
 use Rattle.sshkey_model.proofs.Trees.{IsTree, Alike, alike, leaf_tree, dependent_tree, then_tree, box_tree, tested_tree, made_tree}
-use Rattle.sshkey_base.specs.Formats.{string_format}
+use Rattle.sshkey_model.specs.Leaves.{string_format}
 use Rattle.sshkey_base.proofs.Lawful.{string_lawful}
 use Rattle.sshkey_ciphers.specs.KdfFormats.{algorithm_format, no_options, none_format, bcrypt_with, bcrypt_format, options_format, SpellsKdf}
 use Rattle.sshkey_ciphers.proofs.Lawful.{algorithm_lawful}

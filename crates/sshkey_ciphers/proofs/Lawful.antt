@@ -7,9 +7,9 @@ use Rattle.sshkey_model.specs.KeyDerivation.{Cipher, block_size, tag_size, KdfAl
 use Rattle.sshkey_model.proofs.CipherNames.{cipher_checks, kdf_algorithm_checks}
 use Rattle.sshkey_model.proofs.CombinedReaders.{bytes_reads, checked_string_reads, kept_bytes}
 use Rattle.sshkey_model.proofs.Grammars.{all_end, by_itself, grammar}
-use Rattle.sshkey_base.specs.Formats.{IsFormat}
-use Rattle.sshkey_base.specs.Needs.{NoNeed}
-use Rattle.sshkey_base.specs.Stops.{AreLengths, OverrunsString}
+use Rattle.sshkey_model.specs.Formats.{IsFormat}
+use Rattle.sshkey_model.specs.Needs.{NoNeed}
+use Rattle.sshkey_model.specs.Overruns.{AreLengths, OverrunsString}
 use Rattle.sshkey_base.proofs.Lawful.{label_lawful, number32_lawful, string_lawful}
 use Rattle.sshkey_base.proofs.Lengths.{checked_lengths, no_lengths, string_lengths}
 use Rattle.sshkey_terms.proofs.Lawful.{boxed_lawful, called_chosen, called_ends, called_lawful, read_as_lawful, tested_lawful, then_lawful, IsChosen, IsMapped}

@@ -5,10 +5,10 @@ use Rattle.sshkey_model.specs.Texts.{string}
 use Rattle.sshkey_model.specs.Reading.{Fault, Front, Crypto, bytes_at, checked_at, string_at}
 use Rattle.sshkey_model.specs.Grammar.{Spells}
 use Rattle.sshkey_model.specs.KeyDerivation.{Cipher, block_size, tag_size}
-use Rattle.sshkey_base.specs.Formats.{Format}
-use Rattle.sshkey_base.specs.Needs.{NoNeed, NeedsString}
-use Rattle.sshkey_base.specs.Stops.{NoOverrun, OverrunsString}
-use Rattle.sshkey_terms.specs.Terms.{◌then◌}
+use Rattle.sshkey_model.specs.Formats.{Format}
+use Rattle.sshkey_model.specs.Needs.{NoNeed, NeedsString}
+use Rattle.sshkey_model.specs.Overruns.{NoOverrun, OverrunsString}
+use Rattle.sshkey_model.specs.Terms.{◌then◌}
 
 abbrev pub blocks_from : Cipher → List ℕ → Result (List ℕ) Fault
 blocks_from c b = if length b % block_size c == 0 then Ok b else Err Crypto

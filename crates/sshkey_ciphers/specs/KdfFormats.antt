@@ -3,9 +3,11 @@ use Rattle.std.specs.Prelude.{ℕ, List, Result, Ok, Err, ◌==◌, if◌then◌
 use Rattle.sshkey_model.specs.Parts.{Any}
 use Rattle.sshkey_model.specs.Reading.{Fault, Front, AlgorithmUnknown}
 use Rattle.sshkey_model.specs.KeyDerivation.{Cipher, cipher_name, Kdf, NoKdf, Bcrypt, KdfAlgorithm, NoDerivation, BcryptDerivation, kdf_name}
-use Rattle.sshkey_base.specs.Formats.{Format, number32_format, string_format, label_format}
-use Rattle.sshkey_base.specs.Needs.{NoNeed}
-use Rattle.sshkey_terms.specs.Terms.{◌then◌, boxed, called, tested, read_as}
+use Rattle.sshkey_model.specs.Formats.{Format}
+use Rattle.sshkey_model.specs.Leaves.{number32_format, string_format}
+use Rattle.sshkey_model.specs.Labels.{label_format}
+use Rattle.sshkey_model.specs.Needs.{NoNeed}
+use Rattle.sshkey_model.specs.Terms.{◌then◌, boxed, called, tested, read_as}
 use Rattle.sshkey_ciphers.specs.Ciphers.{cipher_from, kdf_algorithm_from}
 
 abbrev pub cipher_format : Format Cipher

@@ -7,7 +7,7 @@ use Rattle.base64.specs.GeneralPurpose.{encode_of}
 use Rattle.sshkey_base.specs.declared.encoding.Error.TheVariants.{Length}
 use Rattle.sshkey_base.specs.declared.error.Error.{Error}
 use Rattle.sshkey_base.specs.declared.error.Error.TheVariants.{AlgorithmUnknown, Encoding}
-use Rattle.sshkey_model.specs.Keys.{Key}
+use Rattle.sshkey_model.specs.Keys.{Key, SpellsKey, key_format}
 use Rattle.sshkey_model.specs.Lines.{key_name}
 use Rattle.sshkey_model.proofs.Base64Words.{one_blob, some_word}
 use Rattle.sshkey_model.proofs.Blobs.{key_blobs}
@@ -15,8 +15,6 @@ use Rattle.sshkey_model.proofs.CombinedReaders.{bytes_fit}
 use Rattle.sshkey_entries.specs.Fields.{without_blanks, IsField, AreKeyFields, AreNoKeyFields}
 use Rattle.sshkey_entries.proofs.Fields.{same_field, base64_field}
 use Rattle.sshkey_entries.specs.Cuts.{CutsField}
-use Rattle.sshkey_keys.specs.Keys.{SpellsKey}
-use Rattle.sshkey_keys.specs.KeyFormats.{key_format}
 use Rattle.sshkey_public.specs.LineFaults.{HasFaultOfWord}
 use Rattle.sshkey_public.specs.LineNeeds.{NeedsWord}
 use Rattle.sshkey_public.specs.Lines.{IsWordOf, IsNoWord}

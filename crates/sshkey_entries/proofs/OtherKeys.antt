@@ -8,8 +8,7 @@ use Rattle.base64.specs.GeneralPurpose.{encode_of}
 use Rattle.sshkey_base.specs.Source.{Source, Advances, IsSound, announced_len}
 use Rattle.sshkey_base64.specs.Words64.{IsSourceOf}
 use Rattle.sshkey_base64.proofs.GoodBytes.{length_word}
-use Rattle.sshkey_keys.specs.Keys.{SpellsKey}
-use Rattle.sshkey_model.specs.Keys.{Key, Head, Plain, Head256, Head512, headed, body, key_algorithm}
+use Rattle.sshkey_model.specs.Keys.{Key, Head, Plain, Head256, Head512, headed, body, key_algorithm, SpellsKey}
 use Rattle.sshkey_model.specs.Lines.{key_name}
 use Rattle.sshkey_model.specs.Names.{Nistp256, Nistp384, Nistp521, Sha256, Sha512, Algorithm, Dsa, Ecdsa, Ed25519, Rsa, SkEcdsa, SkEd25519, Other, IsAlgorithm, algorithm, algorithm_name, algorithms, named, are_ascii, cut, is_split, is_own_name, is_other_name}
 use Rattle.sshkey_model.specs.Parts.{are_bytes, bytes, flat, Fits}

@@ -5,9 +5,7 @@ use Rattle.sshkey_base.specs.declared.encoding.Error.TheVariants.{Length}
 use Rattle.sshkey_base.specs.declared.error.Error.{Error}
 use Rattle.sshkey_base.specs.declared.error.Error.TheVariants.{AlgorithmUnknown, Encoding}
 use Rattle.sshkey_entries.specs.Fields.{without_blanks, AreKeyFields, AreNoKeyFields}
-use Rattle.sshkey_keys.specs.Keys.{SpellsKey}
-use Rattle.sshkey_keys.specs.KeyFormats.{key_format}
-use Rattle.sshkey_model.specs.Keys.{Key}
+use Rattle.sshkey_model.specs.Keys.{Key, SpellsKey, key_format}
 use Rattle.sshkey_model.specs.Lines.{key_name}
 use Rattle.sshkey_public.specs.LineFaults.{HasFaultOfWord}
 use Rattle.sshkey_public.specs.LineNeeds.{NeedsWord}

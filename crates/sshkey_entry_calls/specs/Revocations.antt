@@ -4,10 +4,9 @@ use Rattle.std.specs.Prelude.{◌≡◌, ◌≢◌, ℕ, List, Bool, true, false
 use Rattle.sshkey_base.specs.declared.error.Error.{Error}
 use Rattle.sshkey_calls.specs.Numbers.{fault_number}
 use Rattle.sshkey_calls.specs.Revocations.{TellsRevoked}
-use Rattle.sshkey_cert.specs.CertificateReaders.{SpellsCertificate}
-use Rattle.sshkey_keys.specs.Keys.{SpellsKey, key_data_at}
+use Rattle.sshkey_model.specs.Keys.{SpellsKey, key_data_at}
 use Rattle.sshkey_krl.specs.Revocations.{is_certificate_revoked, is_key_revoked}
-use Rattle.sshkey_model.specs.Certificates.{certificate_at}
+use Rattle.sshkey_model.specs.Certificates.{certificate_at, SpellsCertificate}
 use Rattle.sshkey_model.specs.Reading.{Fault, whole}
 use Rattle.sshkey_revoked_keys.specs.declared.revoked_keys.RevokedKeys.{RevokedKeys}
 use Rattle.sshkey_entry_calls.specs.RevocationFiles.{AreReadOf, are_read, one_revokes, one_revokes_key}

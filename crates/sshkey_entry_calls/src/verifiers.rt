@@ -3,9 +3,8 @@
 ghost use Rattle.std.specs.Prelude.{◌≡◌};
 ghost use Rattle.sshkey_calls.specs.Outcomes.{TellsOf};
 ghost use Rattle.sshkey_keys.specs.KeyKinds.{is_dsa};
-ghost use Rattle.sshkey_keys.specs.Keys.{SpellsKey, key_data_at};
 ghost use Rattle.sshkey_keys_ref.specs.KeyDataRef.{key_bytes};
-ghost use Rattle.sshkey_model.specs.Keys.{Key};
+ghost use Rattle.sshkey_model.specs.Keys.{Key, SpellsKey, key_data_at};
 ghost use Rattle.sshkey_entry_calls.specs.Verifiers.{verifier_number};
 
 use openssh_limits::is_read_key_ref;

@@ -3,10 +3,9 @@ use Rattle.std.proofs.Common.{◌≡◌, ◌≢◌, ℕ, List, Bool, Result, Ok,
 use Rattle.std.specs.Prelude.{IsErrAnd}
 use Rattle.ssh_key.specs.base.Acceptance.{AcceptsExactly}
 use Rattle.ssh_key.specs.base.Causes.{Faulty, NoMemory, cause}
-use Rattle.ssh_key.specs.cert.CertificateReaders.{SpellsCertificate}
 use Rattle.ssh_key.specs.cert.Validity.{JudgesCertificateFor, fingerprints_of}
 use Rattle.ssh_key.specs.terms.Slices.{Keeps}
-use Rattle.ssh_key.specs.model.Certificates.{Certificate}
+use Rattle.ssh_key.specs.model.Certificates.{Certificate, SpellsCertificate}
 use Rattle.ssh_key.specs.model.Fingerprints.{Fingerprint}
 use Rattle.ssh_key.specs.model.Reading.{Fault}
 use Rattle.ssh_key.specs.model.Verification.{Question}

@@ -1,9 +1,8 @@
 -- What whoever connects to a host learns.
 use Rattle.std.specs.Prelude.{◌≡◌, ◌≢◌, ◌⊎◌, ℕ, List, [], Bool, Some, IsErrAnd, option_map}
 use Rattle.ssh_key.specs.base.Causes.{Faulty, cause}
-use Rattle.ssh_key.specs.cert.CertificateReaders.{SpellsCertificate}
 use Rattle.ssh_key.specs.cert.Validity.{refusal_error}
-use Rattle.ssh_key.specs.model.Certificates.{Certificate, Host, certificate_at}
+use Rattle.ssh_key.specs.model.Certificates.{Certificate, Host, certificate_at, SpellsCertificate}
 use Rattle.ssh_key.specs.model.Fingerprints.{Fingerprint}
 use Rattle.ssh_key.specs.model.Principals.{IsValidFor}
 use Rattle.ssh_key.specs.model.Reading.{whole}

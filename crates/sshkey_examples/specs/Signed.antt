@@ -6,10 +6,8 @@ use Rattle.ssh_key.specs.types.Error.{Error}
 use Rattle.ssh_key.specs.types.Error.TheVariants.{Memory}
 use Rattle.ssh_key.specs.model.Keys.{Key}
 use Rattle.ssh_key.specs.model.Reading.{whole}
-use Rattle.ssh_key.specs.model.Signatures.{Signature, signature_at}
+use Rattle.ssh_key.specs.model.Signatures.{Signature, signature_at, signature_format, SpellsSignature}
 use Rattle.ssh_key.specs.model.Verification.{Question, IsAccepted}
-use Rattle.ssh_key.specs.keys.KeyFormats.{signature_format}
-use Rattle.ssh_key.specs.keys.SignatureReaders.{SpellsSignature}
 
 -- The blob spells a signature of the message that is accepted under the key.
 pub record SpellsAcceptedSignature (accepts : Question → Bool) (key : Key) (message blob : List ℕ) : Type 0 where

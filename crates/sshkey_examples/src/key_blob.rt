@@ -1,13 +1,13 @@
 //! Reading a key where memory may be short.
 
 ghost use Rattle.std.specs.Prelude.{◌≡◌, ◌≢◌, ◌||◌, IfErr, IsErrAnd, IsOk, IsTrue};
-ghost use Rattle.ssh_key.specs.model.Keys.{Key};
+ghost use Rattle.ssh_key.specs.model.Keys.{Key, SpellsKey, key_data_at};
 ghost use Rattle.ssh_key.specs.model.Reading.{whole};
 ghost use Rattle.ssh_key.specs.base.Causes.{Faulty, NoMemory, cause};
 ghost use Rattle.ssh_key.specs.base.Reading.{AcceptsWhole};
 ghost use Rattle.ssh_key.specs.base.Source.{all_of};
 ghost use Rattle.ssh_key.specs.keys.KeyKinds.{is_ecdsa, is_ed25519};
-ghost use Rattle.ssh_key.specs.keys.Keys.{SpellsKey, key_data_at, key_of};
+ghost use Rattle.ssh_key.specs.keys.Keys.{key_of};
 ghost use Rattle.ssh_key.specs.base.Acceptance.{SpellsSome};
 
 use ssh_key::Result;

@@ -4,11 +4,10 @@ use Rattle.host_keys.specs.Answers.{IsWhyNoCertificate, RefusesHostCertificate}
 use Rattle.host_keys.specs.Hosts.{HostLogin, IsGoodFor, IsHostCertificate, IsTrustedCertificate, plain_name, signers}
 use Rattle.host_keys.specs.declared.refusal.Refusal.{Refusal}
 use Rattle.host_keys.specs.declared.refusal.Refusal.TheVariants as refusal
-use Rattle.sshkey_cert.specs.CertificateReaders.{SpellsCertificate}
 use Rattle.sshkey_calls.specs.Validations.{Verified, is_yes_number}
 use Rattle.sshkey_calls.proofs.Validations.{same_first_of}
 use Rattle.sshkey_krl.specs.Revocation.{CertificateIdentity}
-use Rattle.sshkey_model.specs.Certificates.{Certificate}
+use Rattle.sshkey_model.specs.Certificates.{Certificate, SpellsCertificate}
 use Rattle.sshkey_model.specs.Refusals.{first_refusal_for}
 use Rattle.sshkey_model.specs.Verification.{Question}
 use Rattle.sshkey_model.proofs.Refusals.{none_where_wanted}

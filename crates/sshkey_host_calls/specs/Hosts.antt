@@ -11,13 +11,11 @@ use Rattle.sshkey_base.specs.declared.error.Error.{Error}
 use Rattle.sshkey_calls.specs.Numbers.{certificate_error_number, refusal_number}
 use Rattle.sshkey_calls.specs.Outcomes.{TellsOf}
 use Rattle.sshkey_calls.specs.Validations.{SaysWhether, Verified}
-use Rattle.sshkey_cert.specs.CertificateReaders.{SpellsCertificate}
 use Rattle.sshkey_cert.specs.Validity.{refusal_of}
 use Rattle.sshkey_entry_calls.specs.RevocationFiles.{AreReadOf, are_read, one_revokes, one_revokes_key}
-use Rattle.sshkey_keys.specs.Keys.{SpellsKey, key_data_at}
 use Rattle.sshkey_known_hosts.specs.Hmac.{hmac_sha1}
-use Rattle.sshkey_model.specs.Certificates.{certificate_at}
-use Rattle.sshkey_model.specs.Keys.{Key}
+use Rattle.sshkey_model.specs.Certificates.{certificate_at, SpellsCertificate}
+use Rattle.sshkey_model.specs.Keys.{Key, SpellsKey, key_data_at}
 use Rattle.sshkey_model.specs.Verification.{Question}
 use Rattle.sshkey_revoked_keys.specs.declared.revoked_keys.RevokedKeys.{RevokedKeys}
 use Rattle.sshkey_host_calls.specs.declared.login.HostLogin.{HostLogin}

@@ -1,9 +1,8 @@
 //! Whether a key is a host's.
 
 ghost use Rattle.std.specs.Prelude.{◌≡◌, false, true};
-ghost use Rattle.sshkey_keys.specs.Keys.{SpellsKey};
 ghost use Rattle.sshkey_keys_ref.specs.KeyDataRef.{key_bytes};
-ghost use Rattle.sshkey_model.specs.Keys.{Key};
+ghost use Rattle.sshkey_model.specs.Keys.{Key, SpellsKey};
 ghost use Rattle.sshkey_host_calls.specs.Hosts.{TellsHostKey, TellsKey, are_texts};
 
 use crate::answer::answer_number;

@@ -2,21 +2,19 @@
 use Rattle.std.specs.Prelude.{◌≡◌, Result, Ok, Err, IfOk, Bool, true, false}
 use Rattle.std.proofs.Common.{refl, sym}
 use Rattle.sshkey_model.specs.Reading.{AlgorithmUnknown}
-use Rattle.sshkey_model.specs.Keys.{Key, any_ecdsa_at, body_at, ecdsa_at, has_curve, key_algorithm, unhashed, wanted_curve}
+use Rattle.sshkey_model.specs.Keys.{Key, any_ecdsa_format, body_at, ecdsa_format, has_curve, key_algorithm, unhashed, wanted_curve, SpellsBody}
 use Rattle.sshkey_model.specs.Names.{Algorithm, Curve}
 use Rattle.sshkey_model.proofs.KeyReaders.{body_reads}
 use Rattle.sshkey_base.specs.declared.error.Error.{Error}
 use Rattle.sshkey_base.specs.Reading.{AcceptsFront, Gives, Reads}
 use Rattle.sshkey_base.specs.Causes.{Cause, cause}
-use Rattle.sshkey_base.specs.Needs.{NoNeed}
+use Rattle.sshkey_model.specs.Needs.{NoNeed}
 use Rattle.sshkey_base.specs.Source.{Source}
 use Rattle.sshkey_base.specs.Stops.{Stopped}
 use Rattle.sshkey_base.proofs.Accepted.{accepts_front}
-use Rattle.sshkey_terms.proofs.Lawful.{IsMapped}
-use Rattle.sshkey_kinds.specs.Bodies.{SpellsBody}
-use Rattle.sshkey_kinds.specs.KeyFormats.{ecdsa_format}
-use Rattle.sshkey_kinds.proofs.Bodies.{body_grammar}
-use Rattle.sshkey_kinds.proofs.Lawful.{ecdsa_lawful}
+use Rattle.sshkey_terms.proofs.Lawful.{checked_read}
+use Rattle.sshkey_keys.proofs.KeyReaders.{body_grammar}
+use Rattle.sshkey_kinds.proofs.Lawful.{any_ecdsa_lawful}
 use Rattle.sshkey_terms.proofs.Tested.{tested_stopped}
 use Rattle.sshkey_keys.specs.declared.key_data.KeyData.{KeyData}
 use Rattle.sshkey_keys.specs.declared.key_data.KeyData.TheVariants as kinds
@@ -45,9 +43,5 @@ body_beside a s t (Err e) named gives = tt
 
 -- ---- an ECDSA key of another curve than the algorithm's
 
-wanted_read : (wanted : Curve) → IsMapped (ecdsa_at wanted) (wanted_curve (λ k. k) wanted) any_ecdsa_at
-unfolding ecdsa_at
-wanted_read wanted = record { same = λ b. refl }
-
-pub unwanted_stopped : {X : Type 0} (means : X → Key) (wanted : Curve) (s t : Source) (x : X) (c : Cause) → Reads means any_ecdsa_at s x t → has_curve wanted (means x) ≡ false → Stopped c (ecdsa_at wanted) NoNeed ecdsa_format.overruns s
-unwanted_stopped means wanted s t x c h other = tested_stopped means any_ecdsa_at NoNeed ecdsa_format.overruns s t x (wanted_curve (λ k. k) wanted) (ecdsa_at wanted) c AlgorithmUnknown h (wanted_read wanted) (rw other refl) ecdsa_lawful.lengths
+pub unwanted_stopped : {X : Type 0} (means : X → Key) (wanted : Curve) (s t : Source) (x : X) (c : Cause) → Reads means any_ecdsa_format.read s x t → has_curve wanted (means x) ≡ false → Stopped c (ecdsa_format wanted).read NoNeed any_ecdsa_format.overruns s
+unwanted_stopped means wanted s t x c h other = tested_stopped means any_ecdsa_format.read NoNeed any_ecdsa_format.overruns s t x (wanted_curve (λ k. k) wanted) (ecdsa_format wanted).read c AlgorithmUnknown h (checked_read (wanted_curve (λ k. k) wanted) any_ecdsa_format.read) (rw other refl) any_ecdsa_lawful.lengths

@@ -1,17 +1,16 @@
 -- What follows the name of an algorithm.
-use Rattle.std.proofs.Common.{◌≡◌, inl, inr, ℕ, true, List, [], Result, Ok, Err, IsOk, refl}
+use Rattle.std.proofs.Common.{◌≡◌, inl, inr, ℕ, true, List, [], Result, Ok, Err, IsOk}
 use Rattle.sshkey_model.specs.Reading.{number_at, bytes_at, string_at}
 use Rattle.sshkey_model.specs.Names.{Algorithm}
-use Rattle.sshkey_model.specs.Signatures.{IsSignatureBlob, has_trailer, string_from, trailed_at, signature_blob_at, ecdsa_blob_from}
+use Rattle.sshkey_model.specs.Signatures.{IsSignatureBlob, has_trailer, string_from, trailed_at, signature_blob_at, ecdsa_blob_from, OverrunsBlob, OverrunsInside, OverrunsNumbers}
 use Rattle.sshkey_model.proofs.SignatureReaders.{signature_blob_reads}
 use Rattle.sshkey_base.specs.declared.error.Error.{Error}
 use Rattle.sshkey_base.specs.Causes.{cause}
-use Rattle.sshkey_base.specs.Needs.{Asks, NeedsString}
+use Rattle.sshkey_base.specs.Needs.{Asks}
+use Rattle.sshkey_model.specs.Needs.{NeedsString}
 use Rattle.sshkey_base.specs.Source.{Source}
 use Rattle.sshkey_base.specs.Stops.{RanOut, StopsBy}
-use Rattle.sshkey_terms.proofs.Lawful.{IsMapped}
-use Rattle.sshkey_keys.specs.KeyFormats.{signature_under, signature_with}
-use Rattle.sshkey_keys.specs.SignatureForms.{NeedsTrailed, OverrunsBlob, OverrunsInside, OverrunsNumbers}
+use Rattle.sshkey_keys.specs.SignatureForms.{NeedsTrailed}
 
 -- a string of no bytes is refused if a trailer follows it
 none_before : (a : Algorithm) → has_trailer a ≡ true → IsOk (string_from a []) → ⊥
@@ -46,7 +45,3 @@ module _ (a : Algorithm) (trailed : has_trailer a ≡ true) where
 -- what is read is well-formed
 pub read_formed : (a : Algorithm) (b blob rest : List ℕ) → signature_blob_at a b ≡ Ok (blob, rest) → IsSignatureBlob a blob
 read_formed a b blob rest e = ((signature_blob_reads a).takes b blob rest e).0
-
--- the signature is made of it
-pub under_read : (a : Algorithm) → IsMapped (signature_under a).read (signature_with a) (signature_blob_at a)
-under_read a = record { same = λ b. refl }

@@ -3,27 +3,23 @@ use Rattle.std.proofs.Common.{◌≡◌, ◌++◌, ◌==◌, if◌then◌else◌
 use Rattle.std.specs.Prelude.{IsOkAnd}
 use Rattle.sshkey_model.specs.Reading.{Fault, Length, ◌>>=◌, bytes_at, string_at, checked_at}
 use Rattle.sshkey_model.specs.Grammar.{IsGrammar}
-use Rattle.sshkey_model.specs.Names.{Algorithm, Nistp256, algorithm_at, algorithm_from}
+use Rattle.sshkey_model.specs.Names.{Algorithm, Nistp256, name_format}
 use Rattle.sshkey_model.specs.Names as names
 use Rattle.sshkey_model.specs.Points.{field_size}
-use Rattle.sshkey_model.specs.Signatures.{has_trailer, after_component, ecdsa_blob_from, string_from, trailed_at, signature_blob_at, signature_at}
+use Rattle.sshkey_model.specs.Signatures.{has_trailer, after_component, ecdsa_blob_from, string_from, trailed_at, signature_blob_at, signature_at, signature_under, OverrunsBlob, OverrunsComponents, OverrunsInside, OverrunsNumbers, SpellsSignature}
 use Rattle.sshkey_model.proofs.Grammars.{grammar}
 use Rattle.sshkey_model.proofs.SignatureReaders.{signature_reads}
-use Rattle.sshkey_base.specs.Labels.{label_at}
-use Rattle.sshkey_base.specs.Stops.{OverrunsString, AreLengths}
+use Rattle.sshkey_model.specs.Overruns.{OverrunsString, AreLengths}
 use Rattle.sshkey_base.proofs.Lengths.{string_lengths, with_rest}
-use Rattle.sshkey_terms.proofs.Lawful.{IsChosen}
-use Rattle.sshkey_keys.specs.KeyFormats.{signature_under}
-use Rattle.sshkey_keys.specs.SignatureForms.{OverrunsBlob, OverrunsComponents, OverrunsInside, OverrunsNumbers}
-use Rattle.sshkey_keys.specs.SignatureReaders.{SpellsSignature}
+use Rattle.sshkey_terms.proofs.Lawful.{IsChosen, called_chosen}
 
 pub signature_grammar : IsGrammar SpellsSignature signature_at
 signature_grammar = grammar signature_reads
 
 -- it is read after its name
-pub signature_chosen : IsChosen signature_at (label_at algorithm_from) (λ a. (signature_under a).read)
-unfolding signature_at algorithm_at label_at
-signature_chosen = record { same = λ b. refl }
+pub signature_chosen : IsChosen signature_at name_format.read (λ a. (signature_under a).read)
+unfolding signature_at
+signature_chosen = called_chosen name_format.read (λ a. (signature_under a).read)
 
 -- ---- lengths
 

@@ -6,7 +6,7 @@ use Rattle.std.proofs.lemmas.Bool.{le-ltb}
 use Rattle.std.proofs.lemmas.List.{take_at}
 use Rattle.sshkey_model.specs.Reading.{Fault, Length, ◌>>=◌, Whole, number_at, string_at, bytes_at, checked_at}
 use Rattle.sshkey_model.specs.Names.{Algorithm}
-use Rattle.sshkey_model.specs.Signatures.{string_from, trailed_at}
+use Rattle.sshkey_model.specs.Signatures.{string_from, trailed_at, OverrunsInside, OverrunsNumbers}
 use Rattle.sshkey_base.specs.declared.error.Error.{Error}
 use Rattle.sshkey_base.specs.declared.error.Error.TheVariants.{Memory}
 use Rattle.sshkey_base.specs.Answers.{Answers, AnswersAlways}
@@ -14,13 +14,15 @@ use Rattle.sshkey_base.specs.Causes.{Cause, Faulty, NoMemory, cause}
 use Rattle.sshkey_base.specs.Source.{Source, IsSound}
 use Rattle.sshkey_base.specs.Reading.{Reads, Refuses, Gives}
 use Rattle.sshkey_base.proofs.Lengths.{string_lengths}
-use Rattle.sshkey_base.specs.Needs.{NeedsBytes, NeedsString, Asks}
-use Rattle.sshkey_base.specs.Stops.{OverrunsString, RanOut, Stopped, StopsBy}
+use Rattle.sshkey_base.specs.Needs.{Asks}
+use Rattle.sshkey_model.specs.Needs.{NeedsBytes, NeedsString}
+use Rattle.sshkey_base.specs.Stops.{RanOut, Stopped, StopsBy}
+use Rattle.sshkey_model.specs.Overruns.{OverrunsString}
 use Rattle.sshkey_base.proofs.Steps.{string_stood}
 use Rattle.sshkey_base.proofs.Stopping.{step_ok, not_taken, read_past}
 use Rattle.sshkey_terms.proofs.Stopping.{some_ok}
 use Rattle.sshkey_keys.proofs.SignatureReaders.{numbers_lengths}
-use Rattle.sshkey_keys.specs.SignatureForms.{NeedsTrailed, OverrunsInside, OverrunsNumbers, joined_from}
+use Rattle.sshkey_keys.specs.SignatureForms.{NeedsTrailed, joined_from}
 
 -- ---- the string, judged, and the trailer
 

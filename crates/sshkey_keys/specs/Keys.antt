@@ -1,12 +1,9 @@
--- What a public key's value means, and which bytes spell it.
-use Rattle.std.specs.Prelude.{ℕ, List, Result, Ok}
-use Rattle.sshkey_model.specs.Reading.{◌>>=◌, Front}
-use Rattle.sshkey_model.specs.Grammar.{SpellsWith}
-use Rattle.sshkey_model.specs.Names.{Algorithm, algorithm_from}
-use Rattle.sshkey_model.specs.Keys.{Key, IsKey, HasKeyPlaces, key, key_algorithm, body_at}
+-- What a public key's value means.
+use Rattle.std.specs.Prelude.{Result}
+use Rattle.sshkey_model.specs.Names.{Algorithm}
+use Rattle.sshkey_model.specs.Keys.{Key, key_algorithm, body_at}
 use Rattle.sshkey_base.specs.declared.error.Error.{Error}
 use Rattle.sshkey_base.specs.Causes.{cause}
-use Rattle.sshkey_base.specs.Labels.{label_at}
 use Rattle.sshkey_base.specs.Names.{algorithm_of}
 use Rattle.sshkey_base.specs.Reading.{Gives}
 use Rattle.sshkey_base.specs.Source.{Source}
@@ -29,19 +26,8 @@ abbrev pub stored_algorithm : KeyData → Algorithm
 stored_algorithm (kinds.Other k) = algorithm_of k.algorithm
 stored_algorithm k = key_algorithm (key_of k)
 
--- the bytes spell the key, whose name stands before its body
-abbrev pub SpellsKey : Key → List ℕ → Type 0
-SpellsKey = SpellsWith IsKey HasKeyPlaces key
-
 -- ---- reading
 
 -- What a call gives that reads what follows the name of that algorithm.
 abbrev pub DecodesBody : {R : Type 0} → Algorithm → (R → Source) → R → Result KeyData Error → R → Type 0
 DecodesBody a source before result after = Gives key_of cause (body_at a) (source before) result (source after)
-
--- the key, without the way in which its name is spelled
-unfoldable pub key_data_at : Front Key
-key_data_at b = do
-  name ← label_at algorithm_from b
-  key ← body_at name.0 name.1
-  Ok (key.0, key.1)

@@ -9,5 +9,3 @@ pub mod Questions
 pub mod Verdicts
 pub mod Asked
 pub mod Blobs
-pub mod SignatureReaders
-pub mod KeyFormats

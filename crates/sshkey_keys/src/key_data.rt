@@ -1,7 +1,7 @@
 //! Public keys of any kind.
 
 ghost use Rattle.std.specs.Prelude.{◌≡◌, ◌≤◌, ◌+◌, ◌*◌, ◌^◌, ◌||◌, IfOk, IfErr, IsOk, IsTrue, None};
-ghost use Rattle.sshkey_model.specs.Keys.{Key, key_algorithm, normal_key, body, unhashed, IsKey};
+ghost use Rattle.sshkey_model.specs.Keys.{Key, key_algorithm, normal_key, body, unhashed, IsKey, SpellsBody, body_format, key_format};
 ghost use Rattle.sshkey_model.specs.Lines.{key_name};
 ghost use Rattle.sshkey_base.specs.Reading.{AcceptsFront};
 ghost use Rattle.sshkey_base.specs.Causes.{cause};
@@ -11,11 +11,9 @@ ghost use Rattle.sshkey_base.specs.Formats.{Stops};
 ghost use Rattle.sshkey_base.specs.Needs.{Asks};
 ghost use Rattle.sshkey_base.specs.Source.{Later};
 ghost use Rattle.sshkey_base.specs.Sink.{Encodes, Measures};
-ghost use Rattle.sshkey_kinds.specs.Bodies.{SpellsBody};
 ghost use Rattle.sshkey_keys.specs.Fingerprints.{GivesFingerprint, IsShort};
 ghost use Rattle.sshkey_keys.specs.Keys.{DecodesBody, key_of, stored_algorithm};
 ghost use Rattle.sshkey_keys.specs.KeyKinds.{is_ecdsa, is_ed25519};
-ghost use Rattle.sshkey_keys.specs.KeyFormats.{body_format, key_format};
 
 mod certificate_name;
 mod from;
@@ -224,7 +222,7 @@ impl KeyData {
 }
 
 /// What stands after the name of that algorithm.
-#[tactic(auto, using(sshkey_base::proofs::Steps::steps), unfolding(sshkey_kinds::specs::Bodies::ed25519_body_at))]
+#[tactic(auto, using(sshkey_base::proofs::Steps::steps))]
 fn body_from<R: Reader>(alloc: Global, reader: &mut R, algorithm: Algorithm) -> Result<KeyData>
     ensures gives { DecodesBody (algorithm_of algorithm) R.source reader.old result reader.new }
     ensures later { Later (R.source reader.old) (R.source reader.new) }
@@ -247,7 +245,7 @@ fn body_from<R: Reader>(alloc: Global, reader: &mut R, algorithm: Algorithm) -> 
 }
 
 /// The body of an ECDSA key of that curve. Fails with `AlgorithmUnknown` for another curve.
-#[tactic(auto, using(sshkey_base::proofs::Steps::steps, sshkey_base::proofs::Stopping::stopping), unfolding(sshkey_model::specs::Keys::ecdsa_at))]
+#[tactic(auto, using(sshkey_base::proofs::Steps::steps, sshkey_base::proofs::Stopping::stopping))]
 fn ecdsa_from<R: Reader>(alloc: Global, reader: &mut R, curve: EcdsaCurve) -> Result<KeyData>
     ensures gives { DecodesBody (Ecdsa (curve_of curve)) R.source reader.old result reader.new }
     ensures later { Later (R.source reader.old) (R.source reader.new) }

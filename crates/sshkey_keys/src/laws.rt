@@ -1,13 +1,12 @@
 //! Laws over the definitions alone.
 
 ghost use Rattle.std.specs.Prelude.{◌≡◌, ◌++◌, ℕ, List};
-ghost use Rattle.sshkey_model.specs.Keys.{Key};
-ghost use Rattle.sshkey_model.specs.Signatures.{Signature as TheSignature};
+ghost use Rattle.sshkey_model.specs.Keys.{Key, SpellsKey};
+ghost use Rattle.sshkey_model.specs.Signatures.{Signature as TheSignature, SpellsSignature};
 ghost use Rattle.sshkey_base.specs.Comparisons.{EqualMeanSame, IsEqualityAmong, IsEqualityOf, IsOrderByParts};
 ghost use Rattle.sshkey_keys.specs.Comparisons.{HasForm, IsEqualityOfForms, key_parts};
-ghost use Rattle.sshkey_keys.specs.Keys.{SpellsKey, key_of};
+ghost use Rattle.sshkey_keys.specs.Keys.{key_of};
 ghost use Rattle.sshkey_keys.specs.Signatures.{signature_of, signature_parts};
-ghost use Rattle.sshkey_keys.specs.SignatureReaders.{SpellsSignature};
 
 use crate::key_data::KeyData;
 use crate::signature::Signature;

@@ -10,7 +10,7 @@ use Rattle.sshkey_model.proofs.Grammars.{none_spelled}
 use Rattle.sshkey_base.specs.Answers.{Judges}
 use Rattle.sshkey_base.specs.Causes.{Cause}
 use Rattle.sshkey_base.proofs.Accepted.{whole_spelled, spelled_whole}
-use Rattle.sshkey_kinds.proofs.Bodies.{body_grammar}
+use Rattle.sshkey_keys.proofs.KeyReaders.{body_grammar}
 use Rattle.sshkey_terms.specs.Slices.{AcceptsSome}
 use Rattle.sshkey_keys_ref.specs.Taking.{Skips, PassesFront}
 use Rattle.sshkey_keys_ref.specs.CertifiedBodies.{SpellsCertifiedBody, certified_body_at}

@@ -1,25 +1,23 @@
 -- What the verifier is asked is a question about a key and a well-formed signature.
 use Rattle.std.proofs.Common.{◌≡◌, ◌||◌, ℕ, ◌≤◌, List, [], length, true, false, is_some, IsTrue, Some, None, Ok, refl, sym, ap, subst, ◌∙◌, arith}
-use Rattle.sshkey_model.specs.Names.{Algorithm, algorithm_from, algorithm_at}
+use Rattle.sshkey_model.specs.Names.{Algorithm, algorithm_from}
 use Rattle.sshkey_model.specs.Keys.{Key, Dsa, Ecdsa, Ed25519, Rsa, SkEcdsa, SkEd25519, Opaque}
-use Rattle.sshkey_model.specs.Signatures.{Signature, IsSignatureBlob, signature_at, signature_blob_at, without_trailer}
+use Rattle.sshkey_model.specs.Signatures.{Signature, IsSignatureBlob, signature_at, signature_blob_at, without_trailer, SpellsSignature}
 use Rattle.sshkey_model.specs.Verification.{Question, asked_within, question, question_under, security_key_message}
 use Rattle.sshkey_model.proofs.CombinedReaders.{bind_ok, ok_is}
-use Rattle.sshkey_base.specs.Labels.{label_at}
+use Rattle.sshkey_model.specs.Labels.{label_at}
 use Rattle.sshkey_base.proofs.Accepted.{spelled_whole}
 use Rattle.sshkey_keys.specs.Asked.{IsAsked}
 use Rattle.sshkey_keys.specs.KeyKinds.{is_dsa, is_ecdsa, is_ed25519, is_rsa}
-use Rattle.sshkey_keys.specs.SignatureReaders.{SpellsSignature}
-use Rattle.sshkey_keys.proofs.SignatureReaders.{signature_grammar}
+use Rattle.sshkey_keys.proofs.SignatureReaders.{signature_chosen, signature_grammar}
 use Rattle.sshkey_keys_ref.specs.Dispatch.{IsAskedAs, IsBlobIn, is_within, signature_by}
 use Rattle.sshkey_keys_ref.proofs.PlainHeads.{whole_is}
 
 -- ---- the bytes of a signature are well-formed for the name before them
 
 pub signature_is : (s after blob : List ℕ) (a : Algorithm) (g : Signature) → label_at algorithm_from s ≡ Ok (a, after) → IsBlobIn after blob → SpellsSignature g s → signature_by a blob ≡ g
-unfolding signature_at algorithm_at label_at
 signature_is s after blob a g named holds gs =
-    let read = whole_is signature_at s g (spelled_whole signature_grammar s g gs) in
+    let read = sym (signature_chosen.same s) ∙ whole_is signature_at s g (spelled_whole signature_grammar s g gs) in
     let x = bind_ok (signature_blob_at a after) (λ y. Ok (signature_by a y.0, y.1)) (g, []) (rw named at read) in
     let both = ok_is (signature_by a x.0.0, x.0.1) (g, []) x.2 in
     let is : signature_by a x.0.0 ≡ g = ap (λ (z : Signature × List ℕ). z.0) both in

@@ -1,7 +1,7 @@
 -- The digest of a key that bytes spell.
 use Rattle.std.proofs.Common.{◌≡◌, ℕ, List, inl, inr, true, Result, Ok, Err, refl, ap, ◌∙◌}
 use Rattle.sshkey_model.specs.Fingerprints as model
-use Rattle.sshkey_model.specs.Keys.{Key, normal_key}
+use Rattle.sshkey_model.specs.Keys.{Key, normal_key, SpellsKey, key_data_at}
 use Rattle.sshkey_model.specs.Names.{Hash}
 use Rattle.sshkey_model.specs.Parts.{flat}
 use Rattle.sshkey_model.specs.Reading.{Fault, whole}
@@ -15,7 +15,7 @@ use Rattle.sshkey_fingerprints.specs.declared.fingerprint.Fingerprint.{Fingerpri
 use Rattle.sshkey_keys.specs.declared.key_data.KeyData.{KeyData}
 use Rattle.sshkey_keys.specs.Fingerprints.{GivesFingerprint}
 use Rattle.sshkey_keys.proofs.KeyReaders.{key_grammar}
-use Rattle.sshkey_keys.specs.Keys.{SpellsKey, key_of, key_data_at}
+use Rattle.sshkey_keys.specs.Keys.{key_of}
 use Rattle.sshkey_terms.specs.Slices.{is_taken}
 use Rattle.sshkey_keys_ref.specs.KeyFingerprints.{GivesFingerprintOf}
 use Rattle.sshkey_keys_ref.specs.NormalBytes.{IsRenamed}

@@ -1,20 +1,18 @@
 -- What the verifier is asked about a key and a signature that are slices.
-use Rattle.std.proofs.Common.{◌≡◌, ℕ, ◌≤◌, ◌-◌, List, [], ◌++◌, length, drop, append-nil, Bool, Option, Some, None, inr, Result, Ok, Err, IfOk, IfErr, refl, subst, arith, ◌∙◌}
+use Rattle.std.proofs.Common.{◌≡◌, ℕ, ◌≤◌, ◌-◌, List, [], ◌++◌, length, drop, append-nil, Bool, Option, Some, None, inr, Result, Ok, Err, IfOk, IfErr, refl, sym, subst, arith, ◌∙◌}
 use Rattle.std.specs.Int.{w32, to_be_bytes}
 use Rattle.std.proofs.lemmas.List.{take-append-drop, length-append}
 use Rattle.sshkey_model.specs.Parts.{flat}
 use Rattle.sshkey_model.specs.Reading.{Fault, whole}
-use Rattle.sshkey_model.specs.Names.{Algorithm, algorithm_from, algorithm_at}
-use Rattle.sshkey_model.specs.Keys.{Key}
-use Rattle.sshkey_model.specs.Signatures.{Signature, signature_at, signature_blob, signature_blob_at, without_trailer, trailer}
+use Rattle.sshkey_model.specs.Names.{Algorithm, algorithm_from}
+use Rattle.sshkey_model.specs.Keys.{Key, key_data_at}
+use Rattle.sshkey_model.specs.Signatures.{Signature, signature_at, signature_blob, signature_blob_at, without_trailer, trailer, SpellsSignature}
 use Rattle.sshkey_model.specs.Verification.{Question, question, is_yes}
 use Rattle.sshkey_model.proofs.SignatureReaders.{signature_blob_reads}
-use Rattle.sshkey_base.specs.Labels.{label_at}
+use Rattle.sshkey_model.specs.Labels.{label_at}
 use Rattle.sshkey_base.proofs.Accepted.{spelled_whole}
-use Rattle.sshkey_keys.specs.Keys.{key_data_at}
 use Rattle.sshkey_keys.proofs.KeyReaders.{key_grammar}
-use Rattle.sshkey_keys.specs.SignatureReaders.{SpellsSignature}
-use Rattle.sshkey_keys.proofs.SignatureReaders.{signature_grammar}
+use Rattle.sshkey_keys.proofs.SignatureReaders.{signature_chosen, signature_grammar}
 use Rattle.sshkey_keys_ref.specs.Dispatch.{AnswersKey, AsksBytes, DispatchesBytes, IsBlobIn, RunsOutFor, signature_by}
 use Rattle.sshkey_keys_ref.proofs.Asking.{signature_is}
 use Rattle.sshkey_keys_ref.proofs.PlainHeads.{broken, whole_is}
@@ -57,8 +55,7 @@ asked_bytes accepts runs_out key m s after blob a (Ok x) named holds answered k 
 asked_bytes accepts runs_out key m s after blob a (Err e) named holds answered k g ks gs = subst (λ z. RunsOutFor runs_out k (question k m z)) (signature_is s after blob a g named holds gs) (answered k (spelled_whole key_grammar key k ks))
 
 pub no_signature : {X : Type 0} (s : List ℕ) (f : Fault) (g : Signature) → label_at algorithm_from s ≡ Err f → SpellsSignature g s → X
-unfolding signature_at algorithm_at label_at
-no_signature s f g e gs = absurd (broken (algorithm_at s) _ (g, []) f e (whole_is signature_at s g (spelled_whole signature_grammar s g gs)))
+no_signature s f g e gs = absurd (broken (label_at algorithm_from s) _ (g, []) f e (sym (signature_chosen.same s) ∙ whole_is signature_at s g (spelled_whole signature_grammar s g gs)))
 
 -- ---- from questions to answers
 

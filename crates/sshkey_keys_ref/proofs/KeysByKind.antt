@@ -2,10 +2,10 @@
 use Rattle.std.proofs.Common.{◌≡◌, ℕ, List, [], inl, inr, Result, Ok, Err, sym, ap, ◌∙◌}
 use Rattle.sshkey_model.specs.Reading.{Fault, AlgorithmUnknown, whole}
 use Rattle.sshkey_model.specs.Names.{Curve, Algorithm, algorithm_from}
-use Rattle.sshkey_model.specs.Keys.{Key, body_at, any_ecdsa_at, ecdsa_at, has_curve, wanted_curve}
+use Rattle.sshkey_model.specs.Keys.{Key, body_at, any_ecdsa_format, ecdsa_format, has_curve, wanted_curve, key_data_at}
 use Rattle.sshkey_model.proofs.CombinedReaders.{bind_ok, ok_is, chosen}
-use Rattle.sshkey_base.specs.Labels.{label_at}
-use Rattle.sshkey_keys.specs.Keys.{key_data_at}
+use Rattle.sshkey_model.specs.Labels.{label_at}
+use Rattle.sshkey_keys.proofs.KeyReaders.{key_chosen}
 use Rattle.sshkey_keys_ref.proofs.PlainHeads.{broken, whole_is}
 
 -- a reader gives one value
@@ -16,8 +16,7 @@ pub never : {Y X : Type 0} (r : Result Y Fault) (f : Fault) (y : Y) → r ≡ Er
 never r f y e d = absurd (cc (e, d))
 
 -- the same key, whatever curve is wanted
-pub ecdsa_found : (c : Curve) (b p q : List ℕ) (x k : Key) → any_ecdsa_at b ≡ Ok (x, p) → ecdsa_at c b ≡ Ok (k, q) → k ≡ x
-unfolding ecdsa_at
+pub ecdsa_found : (c : Curve) (b p q : List ℕ) (x k : Key) → any_ecdsa_format.read b ≡ Ok (x, p) → (ecdsa_format c).read b ≡ Ok (k, q) → k ≡ x
 ecdsa_found c b p q x k e d =
     let y = bind_ok (wanted_curve (λ (z : Key). z) c x) (λ z. Ok (z, p)) (k, q) (rw e at d) in
     let is : k ≡ y.0 = ap (λ (z : Key × List ℕ). z.0) (ok_is (k, q) (y.0, p) (sym y.2)) in
@@ -26,17 +25,12 @@ ecdsa_found c b p q x k e d =
       | inr no_ ↦ absurd (cc no_.1)
     ]
 
-pub ecdsa_refused : {X : Type 0} (c : Curve) (b q : List ℕ) (f : Fault) (k : Key) → any_ecdsa_at b ≡ Err f → ecdsa_at c b ≡ Ok (k, q) → X
-unfolding ecdsa_at
-ecdsa_refused c b q f k e d = absurd (broken (any_ecdsa_at b) _ (k, q) f e d)
+pub ecdsa_refused : {X : Type 0} (c : Curve) (b q : List ℕ) (f : Fault) (k : Key) → any_ecdsa_format.read b ≡ Err f → (ecdsa_format c).read b ≡ Ok (k, q) → X
+ecdsa_refused c b q f k e d = absurd (broken (any_ecdsa_format.read b) _ (k, q) f e d)
 
 -- the body of a key that is read to its end
 pub body_after : (b rest : List ℕ) (a : Algorithm) (k : Key) → label_at algorithm_from b ≡ Ok (a, rest) → whole key_data_at b ≡ Ok k → body_at a rest ≡ Ok (k, [])
-unfolding key_data_at
-body_after b rest a k named e =
-    let x = bind_ok (body_at a rest) (λ key. Ok (key.0, key.1)) (k, []) (rw named at (whole_is key_data_at b k e)) in
-    x.1 ∙ x.2
+body_after b rest a k named e = rw named at (sym (key_chosen.same b) ∙ whole_is key_data_at b k e)
 
 pub no_body : {X : Type 0} (b : List ℕ) (f : Fault) (k : Key) → label_at algorithm_from b ≡ Err f → whole key_data_at b ≡ Ok k → X
-unfolding key_data_at
-no_body b f k e d = absurd (broken (label_at algorithm_from b) _ (k, []) f e (whole_is key_data_at b k d))
+no_body b f k e d = absurd (broken (label_at algorithm_from b) _ (k, []) f e (sym (key_chosen.same b) ∙ whole_is key_data_at b k d))

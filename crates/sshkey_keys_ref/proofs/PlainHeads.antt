@@ -1,15 +1,14 @@
 -- The name before a key, and its normal form.
 use Rattle.std.proofs.Common.{◌≡◌, ◌↔◌, ℕ, List, [], ◌∷◌, append-nil, ◌++◌, Bool, true, false, not, Some, None, Result, Ok, Err, refl, sym, ap, ◌∙◌}
 use Rattle.sshkey_model.specs.Parts.{flat}
-use Rattle.sshkey_model.specs.Reading.{Fault, Front, ◌>>=◌, whole, end_of}
-use Rattle.sshkey_model.specs.Names.{Algorithm, Sha256, Sha512, algorithm_from, algorithm_at}
-use Rattle.sshkey_model.specs.Keys.{Key, Rsa, Head, Plain, Head256, Head512, HasKeyPlaces, head_of, key_algorithm, key, normal_key, key_at, body_at}
-use Rattle.sshkey_model.proofs.CombinedReaders.{bind_ok, ok_is, prefix}
+use Rattle.sshkey_model.specs.Reading.{Fault, Front, ◌>>=◌, whole, end_of, after_at}
+use Rattle.sshkey_model.specs.Names.{Algorithm, Sha256, Sha512, algorithm_from}
+use Rattle.sshkey_model.specs.Keys.{Key, Rsa, Head, Plain, Head256, Head512, HasKeyPlaces, head_of, key_algorithm, key, normal_key, key_at, body_at, SpellsKey}
+use Rattle.sshkey_model.proofs.CombinedReaders.{bind_assoc, bind_ok, ok_is, prefix}
 use Rattle.sshkey_model.proofs.KeyReaders.{key_reads}
 use Rattle.sshkey_model.proofs.NormalFits.{key_fits}
-use Rattle.sshkey_base.specs.Labels.{label_at}
+use Rattle.sshkey_model.specs.Labels.{label_at}
 use Rattle.sshkey_keys.specs.KeyKinds.{is_rsa}
-use Rattle.sshkey_keys.specs.Keys.{SpellsKey}
 use Rattle.sshkey_keys_ref.specs.NormalBytes.{HasPlainHead, IsRenamed, is_hashed}
 
 -- what was read to the end left nothing
@@ -24,16 +23,15 @@ pub broken : {A B : Type 0} (r : Result A Fault) (k : A → Result B Fault) (y :
 broken (Ok x) k y f e h = absurd cc
 broken (Err g) k y f e h = absurd cc
 
+-- the name and the body, step by step
+steps : (b : List ℕ) → key_at b ≡ (label_at algorithm_from b >>= λ n. body_at n.0 n.1 >>= λ k. Ok ((k.0, head_of n.0), k.1))
+unfolding key_at after_at
+steps b = simp bind_assoc
+
 head_is : (b rest : List ℕ) (a : Algorithm) (k : Key) (h : Head) → label_at algorithm_from b ≡ Ok (a, rest) → key_at b ≡ Ok ((k, h), []) → head_of a ≡ h
-unfolding key_at algorithm_at label_at
 head_is b rest a k h named e =
-    let x = bind_ok (algorithm_at b) _ ((k, h), []) e in
-    let y = bind_ok (body_at x.0.0 x.0.1) _ ((k, h), []) x.2 in
-    let out = y.2 in
-    let n = x.1 in
-    let same : x.0.0 ≡ a = (let both : Ok x.0 ≡ Ok (a, rest) = sym n ∙ named in ap (λ (z : Algorithm × List ℕ). z.0) (ok_is x.0 (a, rest) both)) in
-    let heads : head_of x.0.0 ≡ h = ap (λ (z : (Key × Head) × List ℕ). z.0.1) (ok_is _ ((k, h), []) out) in
-    ap head_of (sym same) ∙ heads
+    let y = bind_ok (body_at a rest) (λ k. Ok ((k.0, head_of a), k.1)) ((k, h), []) (rw named at (sym (steps b) ∙ e)) in
+    ap (λ (z : (Key × Head) × List ℕ). z.0.1) (ok_is ((y.0.0, head_of a), y.0.1) ((k, h), []) y.2)
 
 plainly : (a : Algorithm) → (not (is_hashed a) ≡ true) ↔ (head_of a ≡ Plain)
 plainly (Algorithm.Rsa (Some Sha256)) = (λ e. absurd cc, λ e. absurd cc)
@@ -47,8 +45,7 @@ plain_head b rest a named k h e =
     (λ t. sym heads ∙ p.0 t, λ plain. p.1 (heads ∙ plain))
 
 pub no_head : (b : List ℕ) (f : Fault) (r : Bool) → label_at algorithm_from b ≡ Err f → HasPlainHead b r
-unfolding key_at algorithm_at label_at
-no_head b f r named k h e = absurd (broken (algorithm_at b) _ ((k, h), []) f named (whole_is key_at b (k, h) e))
+no_head b f r named k h e = absurd (broken (label_at algorithm_from b) _ ((k, h), []) f named (sym (steps b) ∙ whole_is key_at b (k, h) e))
 
 -- ---- the spelling of a key, and its normal form
 

@@ -8,8 +8,8 @@ use Rattle.sshkey_base.specs.Causes.{Cause}
 use Rattle.sshkey_base.specs.Reading.{AcceptsWhole}
 use Rattle.sshkey_base.specs.Source.{all_of}
 use Rattle.sshkey_base.proofs.Accepted.{whole_spelled}
-use Rattle.sshkey_keys.specs.Keys.{SpellsKey}
-use Rattle.sshkey_keys.specs.SignatureReaders.{SpellsSignature}
+use Rattle.sshkey_model.specs.Keys.{SpellsKey}
+use Rattle.sshkey_model.specs.Signatures.{SpellsSignature}
 use Rattle.sshkey_terms.specs.Slices.{is_taken}
 use Rattle.sshkey_keys_ref.specs.Dispatch.{AreAccepted, DispatchesBytes}
 

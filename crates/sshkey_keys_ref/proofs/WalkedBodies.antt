@@ -1,8 +1,8 @@
 -- Bodies that a walk over a slice takes.
 use Rattle.std.proofs.Common.{◌≡◌, ℕ, List, ◌++◌, None, Result, Ok, Err, IfErr, true, refl, subst}
 use denote.Ref.{Bor}
-use Rattle.sshkey_model.specs.Reading.{Fault, Front, Whole, string_at, bytes_at, checked_at}
-use Rattle.sshkey_model.specs.Names.{Algorithm, named, algorithm_at, algorithm_from}
+use Rattle.sshkey_model.specs.Reading.{Fault, Front, Whole, string_at, bytes_at, checked_at, after_at}
+use Rattle.sshkey_model.specs.Names.{Algorithm, named, algorithm_from}
 use Rattle.sshkey_model.specs.CertificateNames.{certificate_name, certified, certified_from}
 use Rattle.sshkey_model.specs.Keys.{Opaque, body_at}
 use Rattle.sshkey_base.specs.Answers.{Judges, Answers, AnswersAlways}
@@ -13,7 +13,7 @@ use Rattle.sshkey_base.proofs.Steps.{refuses_first}
 use Rattle.sshkey_model.proofs.CertificateNameReaders.{IsStripped, certified_is}
 use Rattle.sshkey_base.specs.Source.{all_of}
 use Rattle.sshkey_model.specs.Signatures.{signature_at, signature_blob_at, trailed_at}
-use Rattle.sshkey_base.specs.Labels.{label_at}
+use Rattle.sshkey_model.specs.Labels.{label_at}
 use Rattle.sshkey_terms.specs.Slices.{is_taken}
 use Rattle.sshkey_keys_ref.specs.Taking.{Skips}
 use Rattle.sshkey_keys_ref.specs.CertifiedBodies.{certified_body_at}
@@ -65,6 +65,6 @@ skips_trailed first second judge means narrow b after rest x t u h k judged = go
     go (Err f) e j = absurd j
 
 pub skips_signature : {E X : Type 0} (cause : E → Cause) (means : X → Algorithm) (b rest : List ℕ) (x : X) (r : Result (Bor (List ℕ)) E) → Reads means (label_at algorithm_from) (all_of b) x (all_of rest) → Skips cause (signature_blob_at (means x)) rest r → Skips cause signature_at b r
-unfolding signature_at algorithm_at label_at
+unfolding signature_at after_at
 skips_signature cause means b rest x (Ok out) h k = (record { algorithm = means x; blob = k.0 }, rw (h.value, k.1) refl)
 skips_signature cause means b rest x (Err e) h k = record { met = k.met; is = rw (h.value, k.is) refl; same = k.same }

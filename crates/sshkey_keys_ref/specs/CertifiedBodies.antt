@@ -4,10 +4,9 @@ use denote.Ref.{Bor}
 use Rattle.sshkey_model.specs.Reading.{Front, ◌>>=◌}
 use Rattle.sshkey_model.specs.Names.{Algorithm}
 use Rattle.sshkey_model.specs.CertificateNames.{certified_from}
-use Rattle.sshkey_model.specs.Keys.{Key, body_at}
+use Rattle.sshkey_model.specs.Keys.{Key, body_at, SpellsBody}
 use Rattle.sshkey_base.specs.Causes.{Cause}
 use Rattle.sshkey_base.specs.Reading.{Refuses}
-use Rattle.sshkey_kinds.specs.Bodies.{SpellsBody}
 
 -- a body under that name
 abbrev pub certified_body_at : List ℕ → Front Key

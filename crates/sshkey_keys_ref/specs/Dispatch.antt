@@ -1,13 +1,11 @@
 -- What is answered about a key and a signature that are slices.
 use Rattle.std.specs.Prelude.{◌≡◌, ◌≢◌, ◌⊎◌, ◌||◌, ℕ, List, [], Bool, true, is_some, Option, Some, None, Result, Ok, Err, IfErr, IsTrue}
-use Rattle.sshkey_model.specs.Keys.{Key}
+use Rattle.sshkey_model.specs.Keys.{Key, SpellsKey, key_data_at}
 use Rattle.sshkey_model.specs.Names.{Algorithm}
 use Rattle.sshkey_model.specs.Reading.{whole}
-use Rattle.sshkey_model.specs.Signatures.{Signature, signature_blob_at}
+use Rattle.sshkey_model.specs.Signatures.{Signature, signature_blob_at, SpellsSignature}
 use Rattle.sshkey_model.specs.Verification.{Question, question, is_yes, IsAccepted}
 use Rattle.sshkey_keys.specs.KeyKinds.{is_dsa, is_rsa, is_sk_ecdsa, is_sk_ed25519}
-use Rattle.sshkey_keys.specs.Keys.{SpellsKey, key_data_at}
-use Rattle.sshkey_keys.specs.SignatureReaders.{SpellsSignature}
 
 -- What the verifier answers, if it is asked, and else no. Memory is out only where it is asked.
 abbrev pub Dispatches : {E : Type 0} → (Question → Bool) → Key → List ℕ → Signature → Result Bool E → Type 0

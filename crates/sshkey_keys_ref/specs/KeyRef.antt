@@ -1,12 +1,11 @@
 -- What keys by their kind mean.
 use Rattle.std.specs.Prelude.{◌≡◌, ℕ, List, true, Ok}
-use Rattle.sshkey_model.specs.Keys.{Key, body_at}
+use Rattle.sshkey_model.specs.Keys.{Key, body_at, key_data_at}
 use Rattle.sshkey_model.specs.Names.{Algorithm}
 use Rattle.sshkey_model.specs.Reading.{whole}
 use Rattle.sshkey_kinds.specs.EcdsaPublicKey.{ecdsa_key_of}
 use Rattle.sshkey_kinds.specs.Kinds.{ed25519_of}
 use Rattle.sshkey_keys.specs.KeyKinds.{is_opaque}
-use Rattle.sshkey_keys.specs.Keys.{key_data_at}
 use Rattle.sshkey_keys_ref.specs.Kinds.{dsa_of, rsa_of, sk_ecdsa_of, sk_ed25519_of}
 use Rattle.sshkey_keys_ref.specs.declared.key_ref.KeyRef.{KeyRef}
 use Rattle.sshkey_keys_ref.specs.declared.key_ref.KeyRef.TheVariants as kinds

@@ -4,9 +4,8 @@ use denote.Ref.{Bor}
 use Rattle.sshkey_model.specs.Parts.{flat}
 use Rattle.sshkey_model.specs.Reading.{whole}
 use Rattle.sshkey_model.specs.Names.{Algorithm}
-use Rattle.sshkey_model.specs.Keys.{Key, Head, Plain, normal_key, key_at}
+use Rattle.sshkey_model.specs.Keys.{Key, Head, Plain, normal_key, key_at, SpellsKey}
 use Rattle.sshkey_keys.specs.KeyKinds.{is_rsa}
-use Rattle.sshkey_keys.specs.Keys.{SpellsKey}
 
 -- The key that the bytes spell is one of RSA, and they are not its normal form.
 abbrev pub IsRenamed : List ℕ → Type 0

@@ -72,7 +72,7 @@ pub(crate) fn after_named<'a>(name: &NameRef<'_>, bytes: &'a [u8]) -> Result<&'a
 }
 
 /// What stands after the body of a key of that algorithm.
-#[tactic(auto, unfolding(sshkey_kinds::specs::Bodies::ed25519_body_at))]
+#[tactic(auto)]
 fn after_kind<'a>(algorithm: &Algorithm, bytes: &'a [u8]) -> Result<&'a [u8]>
     ensures { Skips cause (body_at (algorithm_of algorithm.now)) bytes.now result }
 {
@@ -88,7 +88,7 @@ fn after_kind<'a>(algorithm: &Algorithm, bytes: &'a [u8]) -> Result<&'a [u8]>
 }
 
 /// What stands after an ECDSA key of that curve. Fails with `AlgorithmUnknown` for another curve.
-#[tactic(auto, using(sshkey_terms::proofs::Walking::walking), unfolding(sshkey_model::specs::Keys::ecdsa_at))]
+#[tactic(auto, using(sshkey_terms::proofs::Walking::walking))]
 fn after_ecdsa<'a>(curve: EcdsaCurve, bytes: &'a [u8]) -> Result<&'a [u8]>
     ensures { Skips cause (body_at (model.Ecdsa (curve_of curve))) bytes.now result }
 {

@@ -6,7 +6,7 @@ ghost use Rattle.sshkey_base.specs.Answers.{Judges};
 ghost use Rattle.sshkey_base.specs.Causes.{NoMemory, cause};
 ghost use Rattle.sshkey_base.specs.Names.{algorithm_of as named_algorithm, hash_of};
 ghost use Rattle.sshkey_model.specs.Reading.{whole};
-ghost use Rattle.sshkey_keys.specs.Keys.{SpellsKey, key_data_at};
+ghost use Rattle.sshkey_model.specs.Keys.{SpellsKey, key_data_at};
 ghost use Rattle.sshkey_keys_ref.specs.KeyFingerprints.{GivesFingerprintOf};
 ghost use Rattle.sshkey_keys_ref.specs.NormalBytes.{GivesNormal, HasPlainHead, is_hashed};
 ghost use Rattle.sshkey_keys_ref.specs.NameRef.{named_of};
@@ -126,7 +126,7 @@ fn check_key(bytes: &[u8]) -> Result<()>
 }
 
 /// What stands after a key.
-#[tactic(auto, using(sshkey_terms::proofs::Walking::walking), unfolding(sshkey_keys::specs::Keys::key_data_at))]
+#[tactic(auto, using(sshkey_terms::proofs::Walking::walking), unfolding(sshkey_model::specs::Keys::key_data_at, sshkey_model::specs::Reading::after_at))]
 fn after_key(bytes: &[u8]) -> Result<&[u8]>
     ensures { Skips cause key_data_at bytes.now result }
 {

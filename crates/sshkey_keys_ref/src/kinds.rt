@@ -3,17 +3,16 @@
 
 ghost use Rattle.sshkey_base.specs.Answers.{AnswersAlways};
 ghost use Rattle.sshkey_base.specs.Causes.{cause};
-ghost use Rattle.sshkey_base.specs.Formats.{IsFormat};
-ghost use Rattle.sshkey_base.specs.Labels.{label_at};
+ghost use Rattle.sshkey_model.specs.Formats.{IsFormat};
+ghost use Rattle.sshkey_model.specs.Labels.{label_at};
 ghost use Rattle.sshkey_base.specs.Names.{curve_of};
 ghost use Rattle.sshkey_base.specs.Source.{Later, all_of};
-ghost use Rattle.sshkey_model.specs.Keys.{Key};
+ghost use Rattle.sshkey_model.specs.Keys.{Key, any_ecdsa_format, dsa_format, ed25519_format, rsa_format, sk_ecdsa_format, sk_ed25519_format};
 ghost use Rattle.sshkey_model.specs.Names.{curve_from};
 ghost use Rattle.sshkey_model.specs.Points.{point_from, p256_point_from};
 ghost use Rattle.sshkey_model.specs.Reading.{string_at, checked_at};
 ghost use Rattle.sshkey_kinds.specs.EcPoint.{point_of};
 ghost use Rattle.sshkey_kinds.specs.EcdsaPublicKey.{ecdsa_of, ecdsa_key_of};
-ghost use Rattle.sshkey_kinds.specs.KeyFormats.{dsa_format, ecdsa_format, ed25519_format, rsa_format, sk_ecdsa_format, sk_ed25519_format};
 ghost use Rattle.sshkey_kinds.specs.Kinds.{ed25519_of};
 ghost use Rattle.sshkey_keys_ref.specs.Taking.{TakesValue};
 
@@ -33,7 +32,7 @@ pub struct RsaRef<'a> {
     pub n: MpintRef<'a>,
 }
 
-#[tactic(auto, using(sshkey_kinds::proofs::Lawful::rsa_lawful, sshkey_terms::proofs::Walking::walking), unfolding(sshkey_model::specs::Keys::rsa_at))]
+#[tactic(auto, using(sshkey_kinds::proofs::Lawful::rsa_lawful, sshkey_terms::proofs::Walking::walking), unfolding(sshkey_model::specs::Reading::after_at))]
 impl<'a> ReadFrom<&'a [u8]> for RsaRef<'a> {
     ghost use Rattle.sshkey_keys_ref.specs.Kinds.{rsa_of};
 
@@ -65,7 +64,7 @@ pub struct DsaRef<'a> {
     pub y: MpintRef<'a>,
 }
 
-#[tactic(auto, using(sshkey_kinds::proofs::Lawful::dsa_lawful, sshkey_terms::proofs::Walking::walking), unfolding(sshkey_model::specs::Keys::dsa_at))]
+#[tactic(auto, using(sshkey_kinds::proofs::Lawful::dsa_lawful, sshkey_terms::proofs::Walking::walking), unfolding(sshkey_model::specs::Reading::after_at))]
 impl<'a> ReadFrom<&'a [u8]> for DsaRef<'a> {
     ghost use Rattle.sshkey_keys_ref.specs.Kinds.{dsa_of};
 
@@ -95,7 +94,7 @@ impl<'a> ReadFrom<&'a [u8]> for DsaRef<'a> {
 pub(crate) struct Ed25519Ref(pub Ed25519PublicKey);
 
 /// The bytes of an Ed25519 key.
-#[tactic(auto, using(sshkey_kinds::proofs::Lawful::ed25519_lawful, sshkey_terms::proofs::Walking::walking), unfolding(sshkey_kinds::specs::Bodies::ed25519_body_at, sshkey_model::specs::Keys::ed25519_at))]
+#[tactic(auto, using(sshkey_kinds::proofs::Lawful::ed25519_lawful, sshkey_terms::proofs::Walking::walking))]
 impl<'a> ReadFrom<&'a [u8]> for Ed25519Ref {
     type Error = Error;
 
@@ -116,7 +115,7 @@ impl<'a> ReadFrom<&'a [u8]> for Ed25519Ref {
 }
 
 /// The name of a curve.
-#[tactic(auto, using(sshkey_terms::proofs::Walking::walking), unfolding(sshkey_base::specs::Labels::label_at))]
+#[tactic(auto, using(sshkey_terms::proofs::Walking::walking), unfolding(sshkey_model::specs::Labels::label_at))]
 fn take_curve<'a>(bytes: &mut &'a [u8]) -> Result<EcdsaCurve>
     ensures gives { TakesValue curve_of cause (label_at curve_from) bytes.old.now result
         bytes.new.now }
@@ -141,7 +140,7 @@ fn curve_in(string: &[u8]) -> Result<EcdsaCurve>
 pub(crate) struct EcdsaRef(pub EcdsaPublicKey);
 
 /// The name of a curve and a point of it.
-#[tactic(auto, using(sshkey_kinds::proofs::Lawful::ecdsa_lawful, sshkey_terms::proofs::Walking::walking), unfolding(sshkey_model::specs::Keys::any_ecdsa_at, sshkey_model::specs::Names::curve_at, sshkey_base::specs::Labels::label_at))]
+#[tactic(auto, using(sshkey_kinds::proofs::Lawful::any_ecdsa_lawful, sshkey_terms::proofs::Walking::walking), unfolding(sshkey_model::specs::Reading::after_at, sshkey_model::specs::Labels::label_at))]
 impl<'a> ReadFrom<&'a [u8]> for EcdsaRef {
     type Error = Error;
 
@@ -149,10 +148,10 @@ impl<'a> ReadFrom<&'a [u8]> for EcdsaRef {
 
     ghost means = { λ k. ecdsa_key_of k.0 };
 
-    ghost format = { ecdsa_format };
+    ghost format = { any_ecdsa_format };
 
     fn lawful()
-        ensures { IsFormat ecdsa_format }
+        ensures { IsFormat any_ecdsa_format }
     {}
 
     fn read_from(reader: &mut &'a [u8]) -> Result<EcdsaRef> {
@@ -193,7 +192,7 @@ pub struct SkEcdsaRef<'a> {
     pub application: &'a str,
 }
 
-#[tactic(auto, using(sshkey_kinds::proofs::Lawful::sk_ecdsa_lawful, sshkey_terms::proofs::Walking::walking), unfolding(sshkey_model::specs::Keys::sk_ecdsa_at, sshkey_model::specs::Names::curve_at, sshkey_base::specs::Labels::label_at))]
+#[tactic(auto, using(sshkey_kinds::proofs::Lawful::sk_ecdsa_lawful, sshkey_terms::proofs::Walking::walking), unfolding(sshkey_model::specs::Reading::after_at, sshkey_model::specs::Labels::label_at))]
 impl<'a> ReadFrom<&'a [u8]> for SkEcdsaRef<'a> {
     ghost use Rattle.sshkey_keys_ref.specs.Kinds.{sk_ecdsa_of};
 
@@ -248,7 +247,7 @@ pub struct SkEd25519Ref<'a> {
     pub application: &'a str,
 }
 
-#[tactic(auto, using(sshkey_kinds::proofs::Lawful::sk_ed25519_lawful, sshkey_terms::proofs::Walking::walking), unfolding(sshkey_model::specs::Keys::sk_ed25519_at, sshkey_model::specs::Keys::ed25519_at))]
+#[tactic(auto, using(sshkey_kinds::proofs::Lawful::sk_ed25519_lawful, sshkey_terms::proofs::Walking::walking), unfolding(sshkey_model::specs::Reading::after_at))]
 impl<'a> ReadFrom<&'a [u8]> for SkEd25519Ref<'a> {
     ghost use Rattle.sshkey_keys_ref.specs.Kinds.{sk_ed25519_of};
 

@@ -1,7 +1,8 @@
 //! The numbers that keys are made of.
 
 ghost use Rattle.std.specs.Prelude.{ℕ, List};
-ghost use Rattle.sshkey_base.specs.Formats.{IsFormat, mpint_format};
+ghost use Rattle.sshkey_model.specs.Formats.{IsFormat};
+ghost use Rattle.sshkey_model.specs.Mpints.{mpint_format};
 
 use sshkey_base::{Error, Mpint, Result};
 use sshkey_terms::ReadFrom;

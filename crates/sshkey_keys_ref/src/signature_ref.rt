@@ -5,8 +5,7 @@ ghost use Rattle.sshkey_base.specs.Acceptance.{SpellsSome};
 ghost use Rattle.sshkey_base.specs.Answers.{AnswersAlways, Judges};
 ghost use Rattle.sshkey_base.specs.Causes.{NoMemory, cause};
 ghost use Rattle.sshkey_model.specs.Reading.{whole, string_at, checked_at};
-ghost use Rattle.sshkey_model.specs.Signatures.{has_trailer, string_from, signature_at, signature_blob_at, trailed_at};
-ghost use Rattle.sshkey_keys.specs.SignatureReaders.{SpellsSignature};
+ghost use Rattle.sshkey_model.specs.Signatures.{has_trailer, string_from, signature_at, signature_blob_at, trailed_at, SpellsSignature};
 ghost use Rattle.sshkey_keys_ref.specs.NameRef.{named_of};
 ghost use Rattle.sshkey_keys_ref.specs.Taking.{Skips};
 ghost use Rattle.sshkey_terms.specs.Slices.{AcceptsSome, is_taken};
@@ -86,7 +85,7 @@ fn check_signature(bytes: &[u8]) -> Result<()>
 }
 
 /// What stands after a signature.
-#[tactic(auto, using(sshkey_terms::proofs::Walking::walking), unfolding(sshkey_model::specs::Signatures::signature_at, sshkey_model::specs::Names::algorithm_at, sshkey_base::specs::Labels::label_at))]
+#[tactic(auto, using(sshkey_terms::proofs::Walking::walking), unfolding(sshkey_model::specs::Signatures::signature_at, sshkey_model::specs::Reading::after_at))]
 fn after_signature(bytes: &[u8]) -> Result<&[u8]>
     ensures { Skips cause signature_at bytes.now result }
 {

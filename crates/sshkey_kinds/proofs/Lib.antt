@@ -2,5 +2,4 @@ pub mod Points
 pub mod Parts
 pub mod PointStrings
 pub mod EqualPoints
-pub mod Bodies
 pub mod Lawful

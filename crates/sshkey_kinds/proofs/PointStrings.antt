@@ -6,10 +6,11 @@ use Rattle.sshkey_base.specs.declared.error.Error.{Error}
 use Rattle.sshkey_base.specs.Answers.{AnswersAlways}
 use Rattle.sshkey_base.specs.Causes.{Cause, Faulty, cause}
 use Rattle.sshkey_base.specs.Labels.{NeedsAfter}
-use Rattle.sshkey_base.specs.Needs.{NoNeed}
+use Rattle.sshkey_model.specs.Needs.{NoNeed}
 use Rattle.sshkey_base.specs.Source.{Source, announced_len}
-use Rattle.sshkey_base.specs.Stops.{OverrunsBytes, OverrunsString, Stopped}
-use Rattle.sshkey_base.specs.ShortStrings.{at_most}
+use Rattle.sshkey_base.specs.Stops.{Stopped}
+use Rattle.sshkey_model.specs.Overruns.{OverrunsBytes, OverrunsString}
+use Rattle.sshkey_model.specs.ShortStrings.{at_most}
 use Rattle.sshkey_base.specs.Reading.{Reads, Refuses, GivesAlways}
 use Rattle.sshkey_base.proofs.ShortStrings.{bounded}
 use Rattle.sshkey_base.proofs.Steps.{refuses_first}

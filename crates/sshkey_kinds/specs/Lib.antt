@@ -4,8 +4,6 @@ pub mod EcPoint
 pub mod EcdsaPublicKey
 pub mod EcdsaEquality
 pub mod Kinds
-pub mod Bodies
 pub mod Comparisons
 pub mod Ed25519PublicKey
 pub mod PointStrings
-pub mod KeyFormats

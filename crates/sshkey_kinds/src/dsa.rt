@@ -1,8 +1,7 @@
 //! DSA public keys.
 
 ghost use Rattle.std.specs.Prelude.{◌≡◌, IfOk, IfErr, ◌+◌, ◌*◌, ◌^◌};
-ghost use Rattle.sshkey_model.specs.Keys.{Key, body};
-ghost use Rattle.sshkey_kinds.specs.KeyFormats.{dsa_format};
+ghost use Rattle.sshkey_model.specs.Keys.{Key, body, dsa_format};
 
 use sshkey_base::{Decode, Encode, Error, Mpint, Reader, Result, Writer, encoding};
 use sshkey_terms::Then;
@@ -41,7 +40,7 @@ impl DsaPublicKey {
 }
 
 /// The four numbers p, q, g and y, each as a string.
-#[tactic(auto, using(crate::proofs::Lawful::dsa_lawful, sshkey_terms::proofs::Mapped::mapped, crate::proofs::Bodies::dsa_parts_read))]
+#[tactic(auto, using(crate::proofs::Lawful::dsa_lawful, sshkey_terms::proofs::Mapped::mapped, sshkey_terms::proofs::Lawful::checked_read))]
 impl Decode for DsaPublicKey {
     ghost use Rattle.sshkey_kinds.specs.Kinds.{dsa_of};
 

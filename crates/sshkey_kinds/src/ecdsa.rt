@@ -112,11 +112,10 @@ impl EcdsaPublicKey {
 ///
 /// Fails with `Length` for a point string of more than 133 bytes, with the faults of
 /// `from_sec1_bytes`, and with `AlgorithmUnknown` for a point of another curve than the stated one.
-#[tactic(auto, using(crate::proofs::Lawful::ecdsa_lawful, sshkey_terms::proofs::Mapped::mapped, crate::proofs::Parts::ecdsa))]
+#[tactic(auto, using(crate::proofs::Lawful::any_ecdsa_lawful, sshkey_terms::proofs::Mapped::mapped, crate::proofs::Parts::ecdsa))]
 impl Decode for EcdsaPublicKey {
-    ghost use Rattle.sshkey_model.specs.Keys.{Key};
+    ghost use Rattle.sshkey_model.specs.Keys.{Key, any_ecdsa_format};
     ghost use Rattle.sshkey_kinds.specs.EcdsaPublicKey.{ecdsa_key_of};
-    ghost use Rattle.sshkey_kinds.specs.KeyFormats.{ecdsa_format};
 
     type Error = Error;
 
@@ -124,7 +123,7 @@ impl Decode for EcdsaPublicKey {
 
     ghost means = { ecdsa_key_of };
 
-    ghost format = { ecdsa_format };
+    ghost format = { any_ecdsa_format };
 
     fn lawful() {}
 
@@ -141,12 +140,12 @@ impl Decode for EcdsaPublicKey {
 /// A point string on any of the curves, at most 133 bytes long.
 struct AnyPoint(EcdsaPublicKey);
 
-#[tactic(auto, using(crate::proofs::Lawful::any_point_lawful, sshkey_base::proofs::Steps::steps, sshkey_terms::proofs::Stopping::handed, sshkey_base::proofs::Stopping::judged_length_stopped, crate::proofs::PointStrings::after_refused_stopped), unfolding(sshkey_model::specs::Reading::string_at))]
+#[tactic(auto, using(crate::proofs::Lawful::point_lawful, sshkey_base::proofs::Steps::steps, sshkey_terms::proofs::Stopping::handed, sshkey_base::proofs::Stopping::judged_length_stopped, crate::proofs::PointStrings::after_refused_stopped), unfolding(sshkey_model::specs::Reading::string_at))]
 impl Decode for AnyPoint {
     ghost use Rattle.std.specs.Prelude.{List, ℕ};
     ghost use Rattle.sshkey_model.specs.Names.{Curve};
     ghost use Rattle.sshkey_kinds.specs.EcdsaPublicKey.{ecdsa_of};
-    ghost use Rattle.sshkey_kinds.specs.KeyFormats.{any_point_format};
+    ghost use Rattle.sshkey_model.specs.Points.{point_format};
 
     type Error = Error;
 
@@ -154,7 +153,7 @@ impl Decode for AnyPoint {
 
     ghost means = { λ point. ecdsa_of point.0 };
 
-    ghost format = { any_point_format };
+    ghost format = { point_format };
 
     fn lawful() {}
 

@@ -7,10 +7,8 @@ ghost use Rattle.sshkey_base.specs.Answers.{AnswersAlways};
 ghost use Rattle.sshkey_base.specs.Causes.{cause, encoding_cause};
 ghost use Rattle.sshkey_base.specs.Reading.{Decodes, DecodesAlways};
 ghost use Rattle.sshkey_base.specs.Source.{Later};
-ghost use Rattle.sshkey_model.specs.Keys.{Key, body};
+ghost use Rattle.sshkey_model.specs.Keys.{Key, body, ed25519_format};
 ghost use Rattle.sshkey_base.specs.Formats.{Stops};
-ghost use Rattle.sshkey_kinds.specs.Bodies.{ed25519_body_at};
-ghost use Rattle.sshkey_kinds.specs.KeyFormats.{ed25519_format};
 ghost use Rattle.sshkey_kinds.specs.Ed25519PublicKey.{ed25519_from};
 
 use sshkey_base::{
@@ -31,9 +29,10 @@ impl Ed25519PublicKey {
 
 /// A string of 32 bytes: `Length` for a shorter one, `TrailingData` for a longer one. Does not
 /// allocate.
-#[tactic(auto, using(crate::proofs::Lawful::ed25519_lawful, sshkey_base::proofs::Steps::steps, sshkey_terms::proofs::Mapped::mapped, crate::proofs::Bodies::ed25519_read), unfolding(crate::specs::Bodies::ed25519_body_at, sshkey_model::specs::Keys::ed25519_at))]
+#[tactic(auto, using(crate::proofs::Lawful::ed25519_lawful, sshkey_base::proofs::Steps::steps, sshkey_terms::proofs::Mapped::mapped, sshkey_terms::proofs::Lawful::checked_read))]
 impl Decode for Ed25519PublicKey {
-    ghost use Rattle.sshkey_base.specs.Needs.{Asks, NoNeed};
+    ghost use Rattle.sshkey_base.specs.Needs.{Asks};
+    ghost use Rattle.sshkey_model.specs.Needs.{NoNeed};
     ghost use Rattle.sshkey_kinds.specs.Kinds.{ed25519_of};
 
     type Error = encoding::Error;
@@ -47,10 +46,11 @@ impl Decode for Ed25519PublicKey {
     fn lawful() {}
 
     fn decode<R: Reader>(alloc: Global, reader: &mut R) -> encoding::Result<Ed25519PublicKey>
-        ensures gives { Decodes ed25519_of ed25519_body_at R.source reader.old result reader.new }
+        ensures gives { Decodes ed25519_of ed25519_format.read
+            R.source reader.old result reader.new }
         ensures later { Later (R.source reader.old) (R.source reader.new) }
         ensures asks { Asks encoding_cause NoNeed (R.source reader.old) result }
-        ensures always { DecodesAlways ed25519_of ed25519_body_at
+        ensures always { DecodesAlways ed25519_of ed25519_format.read
             R.source reader.old result reader.new }
         ensures past { Stops encoding_cause ed25519_format (R.source reader.old) result }
     {

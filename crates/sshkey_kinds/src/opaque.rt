@@ -1,7 +1,8 @@
 //! Public keys under private-use names.
 
 ghost use Rattle.std.specs.Prelude.{◌≡◌, ℕ, List, IfOk, IfErr, ◌+◌, ◌^◌};
-ghost use Rattle.sshkey_base.specs.Formats.{Stops, string_format};
+ghost use Rattle.sshkey_base.specs.Formats.{Stops};
+ghost use Rattle.sshkey_model.specs.Leaves.{string_format};
 ghost use Rattle.sshkey_model.specs.Reading.{string_at};
 ghost use Rattle.sshkey_model.specs.Keys.{body};
 ghost use Rattle.sshkey_model.specs.Texts.{string};
@@ -60,7 +61,8 @@ impl AsSlice<u8> for OpaquePublicKeyBytes {
 #[tactic(auto, using(sshkey_base::proofs::Lawful::string_lawful, sshkey_base::proofs::Steps::steps))]
 impl Decode for OpaquePublicKeyBytes {
     ghost use Rattle.sshkey_base.specs.Causes.{encoding_cause};
-    ghost use Rattle.sshkey_base.specs.Needs.{Asks, NeedsString};
+    ghost use Rattle.sshkey_base.specs.Needs.{Asks};
+    ghost use Rattle.sshkey_model.specs.Needs.{NeedsString};
     ghost use Rattle.sshkey_base.specs.Reading.{Decodes};
     ghost use Rattle.sshkey_base.specs.Source.{Later};
 

@@ -1,8 +1,7 @@
 //! RSA public keys.
 
 ghost use Rattle.std.specs.Prelude.{◌≡◌, IfOk, IfErr, ◌+◌, ◌*◌, ◌^◌};
-ghost use Rattle.sshkey_model.specs.Keys.{Key, body};
-ghost use Rattle.sshkey_kinds.specs.KeyFormats.{rsa_format};
+ghost use Rattle.sshkey_model.specs.Keys.{Key, body, rsa_format};
 
 use sshkey_base::{
     Decode, Encode, Error, Mpint, Reader, Result, Writer, both_len, encode_both, encoding,
@@ -37,7 +36,7 @@ impl RsaPublicKey {
 }
 
 /// The two numbers, e and then n, each as a string.
-#[tactic(auto, using(crate::proofs::Lawful::rsa_lawful, sshkey_terms::proofs::Mapped::mapped, crate::proofs::Bodies::rsa_parts_read))]
+#[tactic(auto, using(crate::proofs::Lawful::rsa_lawful, sshkey_terms::proofs::Mapped::mapped, sshkey_terms::proofs::Lawful::checked_read))]
 impl Decode for RsaPublicKey {
     ghost use Rattle.sshkey_kinds.specs.Kinds.{rsa_of};
 

@@ -6,9 +6,7 @@ use Rattle.std.proofs.lemmas.Str.Pattern.{IsSplitOnceResult, split_after, split_
 use Rattle.sshkey_base.specs.Causes.{cause, NoMemory}
 use Rattle.sshkey_base.specs.declared.error.Error.{Error}
 use Rattle.sshkey_base.specs.declared.error.Error.TheVariants.{FormatEncoding}
-use Rattle.sshkey_keys.specs.KeyFormats.{key_format}
-use Rattle.sshkey_keys.specs.Keys.{SpellsKey}
-use Rattle.sshkey_model.specs.Keys.{Key}
+use Rattle.sshkey_model.specs.Keys.{Key, key_format, SpellsKey}
 use Rattle.sshkey_model.specs.Lines.{space, key_name, IsKeyLine, IsWithout}
 use Rattle.sshkey_public.specs.LineFaults.{HasFaultOfLine}
 use Rattle.sshkey_entries.proofs.OneHost.{one_marker}

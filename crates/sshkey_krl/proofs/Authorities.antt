@@ -2,9 +2,8 @@
 use Rattle.std.proofs.Common.{◌≡◌, ◌≢◌, ◌≤◌, ◌<◌, ℕ, Bool, true, false, ◌&&◌, List, [], ◌∷◌, ◌++◌, length, refl, sym, ap, ◌∙◌, arith}
 use Rattle.std.specs.Prelude.{bytes_eq, codes, drop, take, nat_eq}
 use Rattle.std.proofs.lemmas.List.{length-append}
-use Rattle.sshkey_model.specs.Keys.{Head, Head256, Head512, HasHead, Key, Plain, body, key, key_algorithm, normal_key}
+use Rattle.sshkey_model.specs.Keys.{Head, Head256, Head512, HasHead, Key, Plain, body, key, key_algorithm, normal_key, SpellsKey}
 use Rattle.sshkey_model.specs.Parts.{flat}
-use Rattle.sshkey_keys.specs.Keys.{SpellsKey}
 use Rattle.sshkey_keys_ref.specs.NormalBytes.{IsRenamed}
 use Rattle.sshkey_krl.specs.Renamed.{ssh_rsa}
 

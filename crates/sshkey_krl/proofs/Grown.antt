@@ -6,31 +6,30 @@ use Rattle.sshkey_base.proofs.Accepted.{spelled_whole}
 use Rattle.std.proofs.Math.Seq.{take-append_seam}
 use Rattle.sshkey_base.proofs.Writing.{length_both}
 use Rattle.sshkey_base.proofs.Lawful.{array_lawful, byte_lawful, number64_lawful, string_lawful}
-use Rattle.sshkey_base.specs.Formats.{Format, IsFormat, array_format, byte_format, number32_format, number64_format, string_format}
+use Rattle.sshkey_model.specs.Formats.{Format, IsFormat}
+use Rattle.sshkey_model.specs.Leaves.{array_format, byte_format, number32_format, number64_format, string_format, SpellsString}
 use Rattle.sshkey_model.specs.Grammar.{AllEnd, normal_is_spelling}
 use Rattle.sshkey_model.proofs.Grammars.{ends}
-use Rattle.sshkey_base.specs.Leaves.{SpellsString}
 use Rattle.sshkey_base.specs.Sink.{NotWritten, Sink, Written, after}
 use Rattle.sshkey_base.specs.declared.encoding.Error as narrow
 use Rattle.sshkey_base.specs.declared.encoding.Error.TheVariants as encoding
 use Rattle.sshkey_base.specs.declared.error.Error.{Error}
 use Rattle.sshkey_base.specs.declared.error.Error.TheVariants as wide
 use Rattle.sshkey_keys.proofs.KeyReaders.{key_grammar, key_normal}
-use Rattle.sshkey_keys.specs.Keys.{key_data_at}
 use Rattle.sshkey_model.proofs.Blobs.{flat_bytes}
 use Rattle.sshkey_model.proofs.CombinedReaders.{fits_box, fits_bytes, fits_first, fits_inside, fits_length, fits_second, ok_is}
 use Rattle.sshkey_model.proofs.TextReaders.{box_shows}
-use Rattle.sshkey_model.specs.Keys.{IsKey, Key, key_algorithm, normal_key}
+use Rattle.sshkey_model.specs.Keys.{IsKey, Key, key_algorithm, normal_key, key_data_at}
 use Rattle.sshkey_model.specs.Keys.{body as key_body}
 use Rattle.sshkey_model.specs.Names.{algorithm, algorithm_name}
 use Rattle.sshkey_model.specs.Parts.{BoxesFit, Fits, Parts, ◌&◌, box, bytes, each, flat, number}
 use Rattle.sshkey_model.specs.Reading.{Fault, whole}
 use Rattle.sshkey_model.specs.Texts.{string}
-use Rattle.sshkey_terms.specs.Counted.{SpellsEach}
+use Rattle.sshkey_model.specs.Counted.{SpellsEach}
 use Rattle.sshkey_terms.specs.Slices.{is_taken}
 use Rattle.sshkey_terms.proofs.Lawful.{called_ends, tested_lawful}
-use Rattle.sshkey_terms.specs.Terms.{◌then◌, boxed, literal_format, tested}
-use Rattle.sshkey_terms.specs.ToEnd.{values_to_end}
+use Rattle.sshkey_model.specs.Terms.{◌then◌, boxed, literal_format, tested}
+use Rattle.sshkey_model.specs.ToEnd.{values_to_end}
 use Rattle.sshkey_krl.specs.Krls.{SpellsKrl, header_format, krl_format, krl_in, magic, version_from}
 use Rattle.sshkey_krl.specs.Owned.{Adds}
 use Rattle.sshkey_krl.specs.Parts as parts

@@ -11,7 +11,7 @@ use Rattle.sshkey_krl.proofs.Wholes.{whole_is}
 use Rattle.sshkey_model.specs.Reading.{Fault, ◌>>=◌, Front, checked_at, checked_whole, end_of, list_whole, whole, after_at}
 use Rattle.sshkey_terms.proofs.SliceFronts.{taken_value}
 use Rattle.sshkey_terms.specs.Slices.{found_or, is_taken}
-use Rattle.sshkey_terms.specs.ToEnd.{each_at}
+use Rattle.sshkey_model.specs.ToEnd.{each_at}
 use Rattle.sshkey_krl.specs.Query.{Query, certificate_query, key_query, says}
 use Rattle.sshkey_krl.specs.Krls.{SpellsKrl, header_format, krl_format, krl_in, krl_of, no_krl}
 use Rattle.sshkey_krl.specs.Revocation.{CertificateIdentity, Certificates, Keys, Krl, Section, Sha1s, Sha256s, certificate_identity, has_key, lists, revokes, revokes_key}

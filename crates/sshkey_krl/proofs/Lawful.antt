@@ -3,13 +3,14 @@ use Rattle.std.proofs.Common.{ℕ, length, Result, ap, arith}
 use Rattle.std.proofs.lemmas.List.{length-append}
 use Rattle.sshkey_base.proofs.Lawful.{array_lawful, byte_lawful, number32_lawful, number64_lawful, string_lawful}
 use Rattle.sshkey_base.proofs.Writing.{length_number8, length_number64}
-use Rattle.sshkey_base.specs.Formats.{Format, IsFormat, array_format, number32_format, number64_format, string_format}
+use Rattle.sshkey_model.specs.Formats.{Format, IsFormat}
+use Rattle.sshkey_model.specs.Leaves.{array_format, number32_format, number64_format, string_format}
 use Rattle.sshkey_model.proofs.TextReaders.{box_shows}
 use Rattle.sshkey_model.specs.Parts.{bytes}
 use Rattle.sshkey_model.specs.Reading.{Fault}
 use Rattle.sshkey_terms.proofs.Lawful.{boxed_lawful, called_lawful, literal_lawful, tested_lawful, then_lawful, values_to_end_lawful}
-use Rattle.sshkey_terms.specs.Terms.{◌then◌, literal_format, tested}
-use Rattle.sshkey_terms.specs.ToEnd.{HasBytes}
+use Rattle.sshkey_model.specs.Terms.{◌then◌, literal_format, tested}
+use Rattle.sshkey_model.specs.ToEnd.{HasBytes}
 use Rattle.sshkey_krl.specs.Krls.{header_format, krl_format, krl_of, magic, version_from}
 use Rattle.sshkey_krl.specs.Parts as parts
 use Rattle.sshkey_krl.specs.Parts.{key_id_format, numbered, part_format, serial_format, text_from}

@@ -5,7 +5,7 @@ use Rattle.std.specs.Int.{w8}
 use Rattle.sshkey_base.proofs.Judging.{answers_first, answers_later}
 use Rattle.sshkey_base.specs.Answers.{AnswersAlways}
 use Rattle.sshkey_base.specs.Causes.{Cause}
-use Rattle.sshkey_base.specs.Formats.{Format}
+use Rattle.sshkey_model.specs.Formats.{Format}
 use Rattle.sshkey_model.proofs.CombinedReaders.{number_reads, wide8}
 use Rattle.sshkey_model.specs.Parts.{are_bytes, flat, number}
 use Rattle.sshkey_model.specs.Reading.{Fault, ◌>>=◌, Front, checked_at, checked_whole, number_at, string_at, whole, after_at}

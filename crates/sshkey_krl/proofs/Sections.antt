@@ -5,13 +5,12 @@ use Rattle.sshkey_base.proofs.Judging.{answers_first, answers_later}
 use Rattle.sshkey_base.proofs.Accepted.{whole_spelled}
 use Rattle.sshkey_base.specs.Answers.{AnswersAlways}
 use Rattle.sshkey_base.specs.Causes.{Cause, Faulty}
-use Rattle.sshkey_base.specs.Formats.{array_format, string_format}
-use Rattle.sshkey_model.specs.Keys.{Key, normal_key}
+use Rattle.sshkey_model.specs.Leaves.{array_format, string_format}
+use Rattle.sshkey_model.specs.Keys.{Key, normal_key, SpellsKey, key_data_at}
 use Rattle.sshkey_model.specs.Parts.{flat}
 use Rattle.sshkey_model.specs.Reading.{Fault, FormatEncoding, ◌>>=◌, checked_whole, list_whole, string_at, whole, after_at}
 use denote.Ref.{Bor}
 use Rattle.sshkey_keys.proofs.KeyReaders.{key_grammar}
-use Rattle.sshkey_keys.specs.Keys.{SpellsKey, key_data_at}
 use Rattle.sshkey_keys_ref.specs.KeyDataRef.{key_bytes}
 use Rattle.sshkey_keys_ref.specs.declared.key_data_ref.KeyDataRef.{KeyDataRef}
 use Rattle.sshkey_terms.specs.Slices.{Keeps}

@@ -1,10 +1,11 @@
 -- How a key revocation list is spelled (PROTOCOL.krl), and what contracts see of one.
 use Rattle.std.specs.Prelude.{ℕ, List, [], ◌++◌, ◌∷◌, codes, ◌==◌, if◌then◌else◌, Result, Ok, Err}
-use Rattle.sshkey_base.specs.Formats.{Format, number32_format, number64_format, string_format}
+use Rattle.sshkey_model.specs.Formats.{Format}
+use Rattle.sshkey_model.specs.Leaves.{number32_format, number64_format, string_format}
 use Rattle.sshkey_model.specs.Reading.{Fault, Version, whole}
 use Rattle.sshkey_terms.specs.Slices.{found_or}
-use Rattle.sshkey_terms.specs.Terms.{◌then◌, literal_format, tested}
-use Rattle.sshkey_terms.specs.ToEnd.{values_to_end}
+use Rattle.sshkey_model.specs.Terms.{◌then◌, literal_format, tested}
+use Rattle.sshkey_model.specs.ToEnd.{values_to_end}
 use Rattle.sshkey_krl.specs.Parts.{text_from}
 use Rattle.sshkey_krl.specs.Revocation.{Krl, Section}
 use Rattle.sshkey_krl.specs.Sections.{section_format}

@@ -1,10 +1,11 @@
 -- How the parts of a section about certificates are spelled (PROTOCOL.krl).
 use Rattle.std.specs.List.{list_any}
 use Rattle.std.specs.Prelude.{ℕ, List, Result, Ok, Err, ◌==◌, if◌then◌else◌}
-use Rattle.sshkey_base.specs.Formats.{Format, byte_format, number64_format, string_format}
+use Rattle.sshkey_model.specs.Formats.{Format}
+use Rattle.sshkey_model.specs.Leaves.{byte_format, number64_format, string_format}
 use Rattle.sshkey_model.specs.Reading.{Fault, FormatEncoding, ◌>>=◌}
-use Rattle.sshkey_terms.specs.Terms.{◌then◌, boxed, called, tested}
-use Rattle.sshkey_terms.specs.ToEnd.{values_to_end}
+use Rattle.sshkey_model.specs.Terms.{◌then◌, boxed, called, tested}
+use Rattle.sshkey_model.specs.ToEnd.{values_to_end}
 use Rattle.sshkey_krl.specs.Revocation.{KeyIds, Numbers, Part, without_zero}
 use Rattle.sshkey_krl.specs.Serials.{Listed, bitmap_from, range_from, serial_from}
 use Rattle.sshkey_krl.specs.declared.part.PartKind.{PartKind}

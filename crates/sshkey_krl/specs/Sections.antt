@@ -1,12 +1,12 @@
 -- How the sections of a key revocation list are spelled (PROTOCOL.krl).
 use Rattle.std.specs.Prelude.{ℕ, List, [], ◌∷◌, Result, Ok, Err, ◌==◌, Bool, if◌then◌else◌}
 use Rattle.openssh_limits.specs.Keys.{is_read_key}
-use Rattle.sshkey_base.specs.Formats.{Format, array_format, string_format}
-use Rattle.sshkey_model.specs.Keys.{Key}
+use Rattle.sshkey_model.specs.Formats.{Format}
+use Rattle.sshkey_model.specs.Leaves.{array_format, string_format}
+use Rattle.sshkey_model.specs.Keys.{Key, key_data_at}
 use Rattle.sshkey_model.specs.Reading.{Fault, FormatEncoding, ◌>>=◌, whole}
-use Rattle.sshkey_keys.specs.Keys.{key_data_at}
-use Rattle.sshkey_terms.specs.Terms.{◌then◌, tested}
-use Rattle.sshkey_terms.specs.ToEnd.{values_to_end}
+use Rattle.sshkey_model.specs.Terms.{◌then◌, tested}
+use Rattle.sshkey_model.specs.ToEnd.{values_to_end}
 use Rattle.sshkey_krl.specs.Parts.{numbered, part_format}
 use Rattle.sshkey_krl.specs.Revocation.{Authority, Certificates, Everybody, Keys, Part, Section, Sha1s, Sha256s, Signer}
 use Rattle.sshkey_krl.specs.declared.section.SectionKind.{SectionKind}

@@ -1,9 +1,8 @@
 //! The key of the authority whose certificates a section is about.
 
 ghost use Rattle.std.specs.Prelude.{◌≡◌, ◌≤◌, ◌&&◌, bytes_eq, drop, length, take};
-ghost use Rattle.sshkey_model.specs.Keys.{Key, normal_key};
+ghost use Rattle.sshkey_model.specs.Keys.{Key, normal_key, SpellsKey};
 ghost use Rattle.sshkey_model.specs.Parts.{flat};
-ghost use Rattle.sshkey_keys.specs.Keys.{SpellsKey};
 ghost use Rattle.sshkey_keys_ref.specs.KeyDataRef.{key_bytes};
 ghost use Rattle.sshkey_krl.specs.Owned.{authority_of};
 ghost use Rattle.sshkey_krl.specs.Renamed.{ssh_rsa};

@@ -3,9 +3,10 @@
 ghost use Rattle.std.specs.Prelude.{◌≡◌, ℕ, List};
 ghost use Rattle.sshkey_base.specs.Answers.{AnswersAlways};
 ghost use Rattle.sshkey_base.specs.Causes.{cause};
-ghost use Rattle.sshkey_base.specs.Formats.{IsFormat, number32_format, string_format};
+ghost use Rattle.sshkey_model.specs.Formats.{IsFormat};
+ghost use Rattle.sshkey_model.specs.Leaves.{number32_format, string_format};
 ghost use Rattle.sshkey_model.specs.Reading.{literal_from};
-ghost use Rattle.sshkey_terms.specs.Terms.{literal_format, tested};
+ghost use Rattle.sshkey_model.specs.Terms.{literal_format, tested};
 ghost use Rattle.sshkey_krl.specs.Krls.{magic, version_from};
 ghost use Rattle.sshkey_krl.specs.Parts.{text_from};
 

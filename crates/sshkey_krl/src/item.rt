@@ -4,10 +4,10 @@ ghost use Rattle.std.specs.Prelude.{Bool, Ok};
 ghost use Rattle.std.specs.List.{list_any};
 ghost use Rattle.sshkey_base.specs.Answers.{AnswersAlways};
 ghost use Rattle.sshkey_base.specs.Causes.{cause};
-ghost use Rattle.sshkey_base.specs.Formats.{Format, IsFormat};
+ghost use Rattle.sshkey_model.specs.Formats.{Format, IsFormat};
 ghost use Rattle.sshkey_model.specs.Reading.{checked_at, checked_whole, list_whole};
 ghost use Rattle.sshkey_terms.specs.Slices.{Splits};
-ghost use Rattle.sshkey_terms.specs.ToEnd.{HasBytes};
+ghost use Rattle.sshkey_model.specs.ToEnd.{HasBytes};
 ghost use Rattle.sshkey_krl.specs.Query as model;
 ghost use Rattle.sshkey_krl.specs.Query.{query_of};
 

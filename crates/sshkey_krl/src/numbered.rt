@@ -3,7 +3,7 @@
 ghost use Rattle.std.specs.Prelude.{ℕ, Bool, Ok, Result as Answer};
 ghost use Rattle.sshkey_base.specs.Answers.{AnswersAlways};
 ghost use Rattle.sshkey_base.specs.Causes.{cause, encoding_cause};
-ghost use Rattle.sshkey_base.specs.Formats.{Format};
+ghost use Rattle.sshkey_model.specs.Formats.{Format};
 ghost use Rattle.sshkey_model.specs.Reading.{Fault, checked_at, checked_whole, end_of, number_at, whole};
 ghost use Rattle.sshkey_terms.specs.Slices.{Splits};
 ghost use Rattle.std.specs.Int.{w8};

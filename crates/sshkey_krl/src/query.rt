@@ -1,9 +1,8 @@
 //! What a walk over a list asks.
 
 ghost use Rattle.std.specs.Prelude.{◌≡◌, is_some};
-ghost use Rattle.sshkey_model.specs.Keys.{Key as PublicKey, normal_key};
+ghost use Rattle.sshkey_model.specs.Keys.{Key as PublicKey, normal_key, SpellsKey};
 ghost use Rattle.sshkey_model.specs.Parts.{flat};
-ghost use Rattle.sshkey_keys.specs.Keys.{SpellsKey};
 ghost use Rattle.sshkey_keys_ref.specs.KeyDataRef.{key_bytes};
 ghost use Rattle.sshkey_krl.specs.Query.{certificate_query, identity_in, key_query, key_says, part_says, query_of, sha1_says, sha256_says, signer_says};
 ghost use Rattle.sshkey_krl.specs.Revocation.{Numbers};

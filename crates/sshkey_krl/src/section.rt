@@ -4,7 +4,7 @@ ghost use Rattle.std.specs.List.{list_any};
 ghost use Rattle.std.specs.Prelude.{◌≡◌, ℕ, List, Ok};
 ghost use Rattle.sshkey_base.specs.Answers.{AnswersAlways};
 ghost use Rattle.sshkey_base.specs.Causes.{cause};
-ghost use Rattle.sshkey_base.specs.Formats.{array_format, string_format};
+ghost use Rattle.sshkey_model.specs.Leaves.{array_format, string_format};
 ghost use Rattle.sshkey_model.specs.Reading.{checked_whole, list_whole, whole};
 ghost use Rattle.sshkey_krl.specs.Query.{authority_says, key_says, query_of, says, sha1_says, sha256_says};
 ghost use Rattle.sshkey_krl.specs.Revocation as model;

@@ -1,9 +1,9 @@
 //! Whether a line of authorized_keys may be for what a client offers.
 
 ghost use Rattle.sshkey_calls.specs.Outcomes.{TellsOf};
-ghost use Rattle.sshkey_cert.specs.CertificateReaders.{SpellsCertificate};
-ghost use Rattle.sshkey_keys.specs.Keys.{SpellsKey, key_data_at, key_of};
-ghost use Rattle.sshkey_model.specs.Certificates.{certificate_at};
+ghost use Rattle.sshkey_keys.specs.Keys.{key_of};
+ghost use Rattle.sshkey_model.specs.Keys.{SpellsKey, key_data_at};
+ghost use Rattle.sshkey_model.specs.Certificates.{certificate_at, SpellsCertificate};
 ghost use Rattle.sshkey_line_calls.specs.Lines.{TellsLine};
 
 use sshkey_calls::number::{DONE, END, MEMORY, error_number};

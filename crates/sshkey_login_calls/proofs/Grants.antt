@@ -1,8 +1,7 @@
 -- What is told of a grant that was laid out, once it is given.
 use Rattle.std.proofs.Common.{◌≡◌, ◌⊎◌, ◌<◌, ◌++◌, ℕ, List, ap, arith, drop, inl, inr, length, refl, subst, sym, ◌∙◌}
 use Rattle.sshkey_calls.specs.Rooms.{IsLaidOut}
-use Rattle.sshkey_cert.specs.CertificateReaders.{SpellsCertificate}
-use Rattle.sshkey_model.specs.Certificates.{Certificate}
+use Rattle.sshkey_model.specs.Certificates.{Certificate, SpellsCertificate}
 use Rattle.sshkey_login_calls.specs.Grants.{ArePlaced, Gives, TellsGrant, grant_bytes, nothing}
 use Rattle.sshkey_login_calls.specs.Logins.{TellsLogin}
 use Rattle.sshkey_login_calls.specs.declared.grant.GrantParts.{GrantParts}

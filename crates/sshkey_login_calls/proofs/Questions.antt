@@ -5,9 +5,8 @@ use Rattle.sshkey_calls.specs.Outcomes.{HasOneOutcome}
 use Rattle.sshkey_calls.specs.Questions.{TellsCertificateQuestion, TellsQuestion}
 use Rattle.sshkey_calls.specs.Validations.{Verified}
 use Rattle.sshkey_calls.specs.declared.question.Question as code
-use Rattle.sshkey_cert.specs.CertificateReaders.{SpellsCertificate}
 use Rattle.sshkey_cert.specs.Questions.{certificate_question}
-use Rattle.sshkey_model.specs.Certificates.{Certificate, certificate_at}
+use Rattle.sshkey_model.specs.Certificates.{Certificate, certificate_at, SpellsCertificate}
 use Rattle.sshkey_model.specs.Verification.{Question, is_yes}
 use Rattle.sshkey_login_calls.specs.Logins.{IsReadingOf, Reading, TellsLogin, login_of}
 use Rattle.sshkey_login_calls.specs.Questions.{AnswersQuestion, DecidesUnverified, RaisesNone, TellsLoginQuestion}

@@ -6,8 +6,7 @@ use Rattle.login_policy.specs.Refusals.{FromElsewhere, IsRevoked, IsUntrusted, N
 use Rattle.login_policy.specs.declared.refusal.Refusal.{Refusal}
 use Rattle.sshkey_calls.proofs.Validations.{same_signed}
 use Rattle.sshkey_calls.specs.Validations.{Verified, is_yes_number}
-use Rattle.sshkey_cert.specs.CertificateReaders.{SpellsCertificate}
-use Rattle.sshkey_model.specs.Certificates.{Certificate}
+use Rattle.sshkey_model.specs.Certificates.{Certificate, SpellsCertificate}
 use Rattle.sshkey_model.specs.Fingerprints.{Fingerprint}
 use Rattle.sshkey_model.specs.Refusals.{NotSigned, UnlistedPrincipal, allows, first_refusal_for, has_trusted_authority, is_signed, or_else, refusal_of_authority_or_time, unless}
 use Rattle.sshkey_model.specs.Validity.{IsValid}

@@ -3,9 +3,8 @@ use Rattle.std.specs.Prelude.{◌≡◌, ◌≢◌, ◌⊎◌, ◌+◌, ◌<◌,
 use Rattle.login_policy.specs.KnownOptions.{force_command, no_touch_required, verify_required}
 use Rattle.sshkey_calls.specs.Rooms.{IsAtFront, IsLaidOut, IsPlaced, LacksRoom}
 use Rattle.sshkey_calls.specs.declared.part.Part.{Part}
-use Rattle.sshkey_cert.specs.CertificateReaders.{SpellsCertificate}
 use Rattle.sshkey_login_calls.specs.declared.grant.GrantParts.{GrantParts}
-use Rattle.sshkey_model.specs.Certificates.{Certificate}
+use Rattle.sshkey_model.specs.Certificates.{Certificate, SpellsCertificate}
 use Rattle.sshkey_model.specs.Fingerprints.{digest}
 use Rattle.sshkey_model.specs.Keys.{normal_key}
 use Rattle.sshkey_model.specs.Names.{Sha256}

@@ -13,8 +13,7 @@ use Rattle.sshkey_calls.specs.Validations.{Verified, authorities_of}
 use Rattle.sshkey_cert.specs.Validity.{refusal_of}
 use Rattle.sshkey_entry_calls.specs.Addresses.{IsAddressOf}
 use Rattle.sshkey_entry_calls.specs.RevocationFiles.{AreReadOf, one_revokes, revoked_number}
-use Rattle.sshkey_keys.specs.Keys.{SpellsKey}
-use Rattle.sshkey_model.specs.Keys.{Key}
+use Rattle.sshkey_model.specs.Keys.{Key, SpellsKey}
 use Rattle.sshkey_model.specs.Verification.{Question}
 use Rattle.sshkey_revoked_keys.specs.declared.revoked_keys.RevokedKeys.{RevokedKeys}
 use Rattle.sshkey_login_calls.specs.declared.request.LoginRequest.{LoginRequest}

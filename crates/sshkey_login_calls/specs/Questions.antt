@@ -3,10 +3,9 @@ use Rattle.std.specs.Prelude.{◌≡◌, ◌≢◌, ◌⊎◌, ℕ, List, None, 
 use Rattle.sshkey_calls.specs.Questions.{ArePlaced, question_bytes}
 use Rattle.sshkey_calls.specs.Rooms.{IsAtFront, LacksRoom}
 use Rattle.sshkey_calls.specs.declared.question.Question as code
-use Rattle.sshkey_cert.specs.CertificateReaders.{SpellsCertificate}
 use Rattle.sshkey_cert.specs.Questions.{certificate_question}
 use Rattle.sshkey_entry_calls.specs.RevocationFiles.{revoked_number}
-use Rattle.sshkey_model.specs.Certificates.{Certificate}
+use Rattle.sshkey_model.specs.Certificates.{Certificate, SpellsCertificate}
 use Rattle.sshkey_model.specs.Verification.{Question}
 use Rattle.sshkey_login_calls.specs.Logins.{DecidesLogin, IsReadingOf, Reading, login_of}
 use Rattle.sshkey_login_calls.specs.declared.request.LoginRequest.{LoginRequest}

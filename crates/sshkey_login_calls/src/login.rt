@@ -6,7 +6,7 @@ ghost use Rattle.sshkey_base.specs.Acceptance.{SpellsSome};
 ghost use Rattle.sshkey_calls.specs.Numbers.{fault_number};
 ghost use Rattle.sshkey_calls.specs.Validations.{authorities_of};
 ghost use Rattle.sshkey_cert.specs.Validity.{fingerprints_of};
-ghost use Rattle.sshkey_keys.specs.Keys.{SpellsKey, key_data_at};
+ghost use Rattle.sshkey_model.specs.Keys.{SpellsKey, key_data_at};
 ghost use Rattle.sshkey_keys_ref.specs.KeyDataRef.{key_bytes};
 ghost use Rattle.sshkey_model.specs.Reading.{Fault, whole};
 ghost use Rattle.sshkey_login_calls.specs.Grants.{IsGranted, TellsGrant};

@@ -1,24 +1,24 @@
 -- Key pairs are read as they are spelled.
-use Rattle.std.proofs.Common.{◌≡◌, ◌⊎◌, ℕ, zero, suc, ◌-◌, ◌<◌, ◌≤◌, eqb, ltb, inl, inr, Option, Bool, true, false, cond, List, [], ◌∷◌, ◌++◌, length, take, drop, replicate, Ok, Err, bytes_eq, refl, sym, ap, subst, ◌∙◌, arith}
+use Rattle.std.proofs.Common.{◌≡◌, ◌⊎◌, ℕ, zero, suc, ◌-◌, ◌<◌, ◌≤◌, eqb, ltb, inl, inr, Option, Bool, true, false, cond, List, [], ◌∷◌, ◌++◌, length, take, drop, replicate, Result, Ok, Err, bytes_eq, refl, sym, ap, subst, ◌∙◌, arith}
 use Rattle.std.specs.Int.{w8}
 use Rattle.std.proofs.lemmas.Bool.{eqb-true, eq-eqb, ne_eqb, ltb-true, lt-ltb, le-ltb}
 use Rattle.std.proofs.lemmas.List.{take_at, drop_at, take-append-drop, length-append, length-take, length-replicate}
 use Rattle.std.proofs.lemmas.Slice.Eq.{bytes_eq-Decides}
-use Rattle.sshkey_model.specs.Parts.{bytes, ◌&◌, flat, HasLength}
-use Rattle.sshkey_model.specs.Reading.{FormatEncoding, AlgorithmUnknown, Crypto, TrailingData, all_from, checked_whole, after_at}
-use Rattle.sshkey_model.specs.Grammar.{IsSpelled, spelled, Checks}
-use Rattle.sshkey_model.specs.Texts.{string, IsText}
-use Rattle.sshkey_model.specs.Names.{Curve, Nistp256, Hash, Algorithm, IsAlgorithm, algorithm, curve}
+use Rattle.sshkey_model.specs.Parts.{Parts, bytes, ◌&◌, flat, HasLength}
+use Rattle.sshkey_model.specs.Reading.{Fault, FormatEncoding, AlgorithmUnknown, Crypto, TrailingData, ◌>>=◌, all_from, checked_whole, after_at}
+use Rattle.sshkey_model.specs.Grammar.{IsSpelled, spelled, Checks, value_at}
+use Rattle.sshkey_model.specs.Formats.{Format}
+use Rattle.sshkey_model.specs.Texts.{string}
+use Rattle.sshkey_model.specs.Names.{Curve, Hash, Algorithm, IsAlgorithm, algorithm}
 use Rattle.sshkey_model.specs.Mpints.{IsMpint, of_positive}
-use Rattle.sshkey_model.specs.Points.{field_size, IsPoint, curve_eq, IsPointOf}
-use Rattle.sshkey_model.specs.Keys.{Head, headed, head_of, has_curve}
-use Rattle.sshkey_model.specs.KeyPairs.{LeadingZeros, Plain, WithoutZero, WithZero, Short, is_high, is_natural, at_width, short_scalar, scalar_whole, zero_if, scalar_bytes, scalar, IsScalar, HasScalarPlaces, RsaPrivate, SecurityPrivate, KeyPair, DsaPair, EcdsaPair, Ed25519Pair, RsaPair, SkEcdsaPair, SkEd25519Pair, OpaquePair, public_half, pair_algorithm, rsa_private, security_private, pair, IsRsaPrivate, IsEcdsaPair, HasPairPlaces, IsPairUnder, KeyPairChoices, plain_pair, IsKeyPair, HasKeyPairPlaces, keypair, scalar_alone, scalar_after_zero, after_zero, scalar_from, scalar_at, dsa_pair_at, any_ecdsa_pair_at, ecdsa_pair_at, private_before, ed25519_pair_at, rsa_private_at, rsa_pair_at, security_private_at, sk_ecdsa_pair_at, sk_ed25519_pair_at, opaque_pair_at, pair_at, keypair_at}
-use Rattle.sshkey_model.proofs.CombinedReaders.{bind_assoc, done, ok_is, chosen, met, passed, ReadsFront, ReadsWhole, all_reads, checked_whole_reads, Any, wide8, number_reads, string_reads, whole_reads, bytes_reads, box_reads, then_reads, checked_reads, checked_string_reads, to_form, kept, same_front, as_front_form}
-use Rattle.sshkey_model.proofs.NameReaders.{curve_reads, algorithm_reads}
-use Rattle.sshkey_model.proofs.TextReaders.{text_reads}
+use Rattle.sshkey_model.specs.Points.{curve_eq}
+use Rattle.sshkey_model.specs.Keys.{Key, Dsa, Ecdsa, SkEcdsa, SkEd25519, body, Head, headed, head_of, has_curve, unhashed, wanted_curve, IsBodyUnder, IsEcdsa}
+use Rattle.sshkey_model.specs.KeyPairs.{LeadingZeros, Plain, WithoutZero, WithZero, Short, is_high, is_natural, at_width, short_scalar, scalar_whole, zero_if, scalar_bytes, scalar, IsScalar, HasScalarPlaces, RsaPrivate, SecurityPrivate, KeyPair, DsaPair, EcdsaPair, Ed25519Pair, RsaPair, SkEcdsaPair, SkEd25519Pair, OpaquePair, public_half, pair_algorithm, rsa_private, security_private, pair, IsRsaPrivate, IsEcdsaPair, HasPairPlaces, IsPairUnder, KeyPairChoices, plain_pair, IsKeyPair, HasKeyPairPlaces, keypair, scalar_alone, scalar_after_zero, after_zero, scalar_from, scalar_at, scalar_size, private_before, dsa_pair_from, ed25519_halves_from, security_pair_from, spelled_ecdsa_pair_from, dsa_pair_format, any_ecdsa_pair_format, ecdsa_pair_format, ed25519_pair_format, rsa_private_at, rsa_pair_format, security_private_format, sk_ecdsa_pair_format, sk_ed25519_pair_format, opaque_pair_format, pair_kind_format, plainly, any_ecdsa_pair_at, pair_at, keypair_at}
+use Rattle.sshkey_model.proofs.CombinedReaders.{bind_assoc, bind_ok, done, ok_is, chosen, met, passed, ReadsFront, ReadsWhole, all_reads, checked_whole_reads, Any, wide8, number_reads, string_reads, whole_reads, bytes_reads, box_reads, then_reads, checked_reads, to_form, kept, same_front, as_front_form}
+use Rattle.sshkey_model.proofs.NameReaders.{algorithm_reads}
 use Rattle.sshkey_model.proofs.MpintReaders.{mpint_reads}
-use Rattle.sshkey_model.proofs.PointReaders.{same_curve, curve_itself, p256_point_checks, of_curve_reads}
-use Rattle.sshkey_model.proofs.KeyReaders.{ed25519_string_reads, p256_checks, split_head, join_head}
+use Rattle.sshkey_model.proofs.PointReaders.{same_curve, curve_itself}
+use Rattle.sshkey_model.proofs.KeyReaders.{dsa_reads, any_ecdsa_reads, sk_ecdsa_reads, sk_ed25519_reads, ed25519_string_reads, split_head, join_head}
 
 -- ---- scalars
 
@@ -180,55 +180,156 @@ pub scalar_reads : (size : ℕ) → ReadsFront (IsSpelled (IsScalar size) HasSca
 unfolding scalar_at
 scalar_reads size = box_reads (scalar_whole_reads size)
 
--- ---- pairs
+-- ---- pairs without choices
+
+-- a test that all these pass
+passes : {A B : Type 0} {Was : A → Type 0} {spelled : A → Parts} {Is : B → Type 0} {spell : B → Parts} (test : A → Result B Fault) → ((a : A) → Was a → (b : B) × (test a ≡ Ok b) × Is b × (spelled a ≡ spell b)) → ((b : B) → Is b → (a : A) × Was a × (test a ≡ Ok b) × (spelled a ≡ spell b)) → Checks Was spelled Is spell test
+passes {B = B} {spelled = spelled} {Is = Is} {spell = spell} test there back = record {
+  takes = λ a b was e. let t = there a was in subst (λ (y : B). Is y × (spelled a ≡ spell y)) (ok_is t.0 b (sym t.1 ∙ e)) (t.2, t.3);
+  again = back;
+}
+
+abbrev plain_pair_parts : KeyPair → Parts
+plain_pair_parts k = pair k Plain
+
+dsa_pair_reads : ReadsFront (IsPairUnder Algorithm.Dsa) plain_pair_parts dsa_pair_format.read
+dsa_pair_reads = checked_reads (passes dsa_pair_from (λ a h. there a.0 a.1 h) back) (then_reads dsa_reads (λ _. mpint_reads))
+  where
+    there : (k : Key) (x : List ℕ) → IsBodyUnder Algorithm.Dsa k × IsMpint x → (p : KeyPair) × (dsa_pair_from (k, x) ≡ Ok p) × IsPairUnder Algorithm.Dsa p × (body k & string x ≡ pair p Plain)
+    there (Dsa k) x h = (DsaPair k x, refl, (refl, (h.0.1, h.1)), refl)
+    there _ x h = absurd (cc h.0.0)
+
+    back : (p : KeyPair) → IsPairUnder Algorithm.Dsa p → (a : Key × List ℕ) × (IsBodyUnder Algorithm.Dsa a.0 × IsMpint a.1) × (dsa_pair_from a ≡ Ok p) × (body a.0 & string a.1 ≡ pair p Plain)
+    back (DsaPair k x) h = ((Dsa k, x), ((refl, h.1.0), h.1.1), refl, refl)
+    back _ h = absurd (cc h.0)
+
+-- ---- Ed25519
+
+-- 32 public bytes, and 64 whose second half they are
+ed25519_pair_reads : ReadsFront (IsPairUnder Algorithm.Ed25519) plain_pair_parts ed25519_pair_format.read
+ed25519_pair_reads = checked_reads (record { takes = there; again = back }) (then_reads ed25519_string_reads (λ _. box_reads (whole_reads (bytes_reads 64))))
+  where
+    Are : List ℕ × List ℕ → Type 0
+    Are a = HasLength 32 a.0 × HasLength 64 a.1
+
+    there : (a : List ℕ × List ℕ) (p : KeyPair) → Are a → ed25519_halves_from a ≡ Ok p → IsPairUnder Algorithm.Ed25519 p × (string a.0 & string a.1 ≡ pair p Plain)
+    there a p was e =
+        let public = a.0 in
+        let b = a.1 in
+        let x = bind_ok (private_before public b) (λ private. Ok (Ed25519Pair public private)) p e in
+        let h = met (bytes_eq (drop 32 b) public) Crypto (Ok (take 32 b)) x.0 x.1 in
+        let same : drop 32 b ≡ public = (bytes_eq-Decides (drop 32 b) public).0 h.0 in
+        let parts : take 32 b ++ public ≡ b = ap (λ (z : List ℕ). take 32 b ++ z) (sym same) ∙ take-append-drop 32 b in
+        let long = was.1 in
+        let first : length (take 32 b) ≡ 32 = omega (arith, long, length-take 32 b) in
+        let made : KeyPair = Ed25519Pair public (take 32 b) in
+        let is : made ≡ p = ap (λ (z : List ℕ). Ed25519Pair public z) (ok_is (take 32 b) x.0 h.1) ∙ ok_is (Ed25519Pair public x.0) p x.2 in
+        subst (λ (k : KeyPair). IsPairUnder Algorithm.Ed25519 k × (string public & string b ≡ pair k Plain)) is ((refl, (was.0, first)), ap (λ (z : List ℕ). string public & string z) (sym parts))
+
+    back : (p : KeyPair) → IsPairUnder Algorithm.Ed25519 p → (a : List ℕ × List ℕ) × Are a × (ed25519_halves_from a ≡ Ok p) × (string a.0 & string a.1 ≡ pair p Plain)
+    back (Ed25519Pair public private) h =
+        let first = h.1.0 in
+        let second = h.1.1 in
+        let same : bytes_eq public public ≡ true = (bytes_eq-Decides public public).1 refl in
+        let long : length (private ++ public) ≡ 64 = omega (arith, first, second, length-append private public) in
+        ((public, private ++ public), (first, long), rw (drop_at private public 32 second, take_at private public 32 second, same) refl, refl)
+    back _ h = absurd (cc h.0)
+
+-- ---- RSA
+
+pub rsa_private_reads : ReadsFront IsRsaPrivate rsa_private rsa_private_at
+rsa_private_reads = checked_reads (to_form
+    (λ a. record { d = a.0; iqmp = a.1.0; p = a.1.1.0; q = a.1.1.1 })
+    (λ a h. ((h.0, h.1.0, h.1.1.0, h.1.1.1), refl))
+    (λ r h. ((r.d, (r.iqmp, (r.p, r.q))), (h.0, (h.1, (h.2, h.3))), refl, refl)))
+    (then_reads mpint_reads (λ _. then_reads mpint_reads (λ _. then_reads mpint_reads (λ _. mpint_reads))))
+
+rsa_pair_reads : (hash : Option Hash) → ReadsFront (IsPairUnder (Algorithm.Rsa hash)) plain_pair_parts rsa_pair_format.read
+rsa_pair_reads hash = checked_reads (to_form (λ a. RsaPair (record { e = a.1.0; n = a.0 }) a.1.1) (λ a h. ((refl, ((h.1.0, h.0), h.1.1)), refl)) back) (then_reads mpint_reads (λ _. then_reads mpint_reads (λ _. rsa_private_reads)))
+  where
+    back : (p : KeyPair) → IsPairUnder (Algorithm.Rsa hash) p → (a : List ℕ × (List ℕ × RsaPrivate)) × (IsMpint a.0 × (IsMpint a.1.0 × IsRsaPrivate a.1.1)) × (RsaPair (record { e = a.1.0; n = a.0 }) a.1.1 ≡ p) × (string a.0 & string a.1.0 & rsa_private a.1.1 ≡ pair p Plain)
+    back (RsaPair k r) h = ((k.n, (k.e, r)), (h.1.0.1, (h.1.0.0, h.1.1)), refl, refl)
+    back _ h = absurd (cc h.0)
+
+-- ---- keys that a security key holds
+
+pub security_private_reads : ReadsFront Any security_private security_private_format.read
+security_private_reads = checked_reads (to_form
+    (λ a. record { flags = a.0; handle = a.1.0; reserved = a.1.1 })
+    (λ a h. (tt, refl))
+    (λ r h. ((r.flags, (r.handle, r.reserved)), (tt, (tt, tt)), refl, refl)))
+    (then_reads (number_reads w8 wide8) (λ _. then_reads string_reads (λ _. string_reads)))
+
+sk_ecdsa_pair_reads : ReadsFront (IsPairUnder Algorithm.SkEcdsa) plain_pair_parts sk_ecdsa_pair_format.read
+sk_ecdsa_pair_reads = checked_reads (passes security_pair_from (λ a h. there a.0 a.1 h) back) (then_reads sk_ecdsa_reads (λ _. security_private_reads))
+  where
+    there : (k : Key) (r : SecurityPrivate) → IsBodyUnder Algorithm.SkEcdsa k × Any r → (p : KeyPair) × (security_pair_from (k, r) ≡ Ok p) × IsPairUnder Algorithm.SkEcdsa p × (body k & security_private r ≡ pair p Plain)
+    there (SkEcdsa k) r h = (SkEcdsaPair k r, refl, (refl, (h.0.1, tt)), refl)
+    there _ r h = absurd (cc h.0.0)
+
+    back : (p : KeyPair) → IsPairUnder Algorithm.SkEcdsa p → (a : Key × SecurityPrivate) × (IsBodyUnder Algorithm.SkEcdsa a.0 × Any a.1) × (security_pair_from a ≡ Ok p) × (body a.0 & security_private a.1 ≡ pair p Plain)
+    back (SkEcdsaPair k r) h = ((SkEcdsa k, r), ((refl, h.1.0), tt), refl, refl)
+    back _ h = absurd (cc h.0)
+
+sk_ed25519_pair_reads : ReadsFront (IsPairUnder Algorithm.SkEd25519) plain_pair_parts sk_ed25519_pair_format.read
+sk_ed25519_pair_reads = checked_reads (passes security_pair_from (λ a h. there a.0 a.1 h) back) (then_reads sk_ed25519_reads (λ _. security_private_reads))
+  where
+    there : (k : Key) (r : SecurityPrivate) → IsBodyUnder Algorithm.SkEd25519 k × Any r → (p : KeyPair) × (security_pair_from (k, r) ≡ Ok p) × IsPairUnder Algorithm.SkEd25519 p × (body k & security_private r ≡ pair p Plain)
+    there (SkEd25519 k) r h = (SkEd25519Pair k r, refl, (refl, (h.0.1, tt)), refl)
+    there _ r h = absurd (cc h.0.0)
+
+    back : (p : KeyPair) → IsPairUnder Algorithm.SkEd25519 p → (a : Key × SecurityPrivate) × (IsBodyUnder Algorithm.SkEd25519 a.0 × Any a.1) × (security_pair_from a ≡ Ok p) × (body a.0 & security_private a.1 ≡ pair p Plain)
+    back (SkEd25519Pair k r) h = ((SkEd25519 k, r), ((refl, h.1.0), tt), refl, refl)
+    back _ h = absurd (cc h.0)
+
+-- ---- pairs of other algorithms
+
+opaque_pair_reads : (name : List ℕ) → ReadsFront (IsPairUnder (Algorithm.Other name)) plain_pair_parts (opaque_pair_format name).read
+opaque_pair_reads name = checked_reads (to_form (λ a. OpaquePair name a.0 a.1) (λ a h. ((refl, (tt, tt)), refl)) back) (then_reads string_reads (λ _. string_reads))
+  where
+    back : (p : KeyPair) → IsPairUnder (Algorithm.Other name) p → (a : List ℕ × List ℕ) × (Any a.0 × Any a.1) × (OpaquePair name a.0 a.1 ≡ p) × (string a.0 & string a.1 ≡ pair p Plain)
+    back (OpaquePair n k r) h = ((k, r), (tt, tt), (let same : n ≡ name = cc h.0 in ap (λ (z : List ℕ). OpaquePair z k r) (sym same)), refl)
+    back _ h = absurd (cc h.0)
+
+-- ---- ECDSA
+
+ecdsa_pair_checks : Checks (λ (a : Key × (List ℕ × LeadingZeros)). IsEcdsa a.0 × IsSpelledScalar (scalar_size a.0) a.1) (λ a. body a.0 & scalar a.1.0 a.1.1) (IsSpelled IsEcdsaPair HasPairPlaces) (spelled pair) (λ a. spelled_ecdsa_pair_from a.0 a.1)
+ecdsa_pair_checks = passes (λ a. spelled_ecdsa_pair_from a.0 a.1) (λ a h. there a.0 a.1 h) (λ x h. back x.0 x.1 h.is h.place)
+  where
+    there : (k : Key) (s : List ℕ × LeadingZeros) → IsEcdsa k × IsSpelledScalar (scalar_size k) s → (x : KeyPair × LeadingZeros) × (spelled_ecdsa_pair_from k s ≡ Ok x) × IsSpelled IsEcdsaPair HasPairPlaces x × (body k & scalar s.0 s.1 ≡ spelled pair x)
+    there (Ecdsa c p) s h = ((EcdsaPair c p s.0, s.1), refl, record { is = (h.0, h.1.is); place = h.1.place }, refl)
+    there _ s h = absurd h.0
+
+    back : (k : KeyPair) (zeros : LeadingZeros) → IsEcdsaPair k → HasPairPlaces k zeros → (a : Key × (List ℕ × LeadingZeros)) × (IsEcdsa a.0 × IsSpelledScalar (scalar_size a.0) a.1) × (spelled_ecdsa_pair_from a.0 a.1 ≡ Ok (k, zeros)) × (body a.0 & scalar a.1.0 a.1.1 ≡ pair k zeros)
+    back (EcdsaPair c p s) zeros h place = ((Ecdsa c p, (s, zeros)), (h.0, record { is = h.1; place = place }), refl, refl)
+    back _ zeros h place = absurd h
+
+pub any_ecdsa_pair_reads : ReadsFront (IsSpelled IsEcdsaPair HasPairPlaces) (spelled pair) any_ecdsa_pair_at
+unfolding any_ecdsa_pair_at after_at
+any_ecdsa_pair_reads = same_front (checked_reads ecdsa_pair_checks (then_reads any_ecdsa_reads (λ k. scalar_reads (scalar_size k)))) (λ b. simp bind_assoc)
+
+-- ---- under each algorithm
 
 -- a pair as it is spelled under an algorithm
 abbrev IsSpelledUnder : Algorithm → KeyPair × LeadingZeros → Type 0
 IsSpelledUnder a = IsSpelled (IsPairUnder a) HasPairPlaces
 
-plain : (k : KeyPair) (s : LeadingZeros) → s ≡ Plain → ◌≡◌ {A = KeyPair × LeadingZeros} (k, Plain) (k, s)
-plain k s e = ap (λ (z : LeadingZeros). (k, z)) (sym e)
+plain_pair_has : (k : KeyPair) → HasPairPlaces k Plain
+plain_pair_has (EcdsaPair c point s) = tt
+plain_pair_has _ = refl
 
-dsa_pair_reads : ReadsFront (IsSpelledUnder Algorithm.Dsa) (spelled pair) dsa_pair_at
-unfolding dsa_pair_at after_at
-dsa_pair_reads = same_front (checked_reads (to_form
-    (λ a. (DsaPair (record { p = a.0.0; q = a.0.1.0; g = a.0.1.1.0; y = a.0.1.1.1 }) a.1, Plain))
-    (λ a h. (record { is = (refl, ((h.0.0, h.0.1.0, h.0.1.1.0, h.0.1.1.1), h.1)); place = refl }, refl))
-    (λ x h. back x.0 x.1 h.is h.place))
-    (then_reads (then_reads mpint_reads (λ _. then_reads mpint_reads (λ _. then_reads mpint_reads (λ _. mpint_reads)))) (λ _. mpint_reads))) (λ b. simp bind_assoc)
+-- only a pair of ECDSA has choices
+only_plain : (a : Algorithm) → ((c : Curve) → unhashed a ≡ Algorithm.Ecdsa c → ⊥) → (k : KeyPair) (zeros : LeadingZeros) → IsPairUnder a k → HasPairPlaces k zeros → zeros ≡ Plain
+only_plain a other (EcdsaPair c p s) zeros is place = absurd (other c (sym is.0))
+only_plain a other _ zeros is place = place
+
+plain_reads : (a : Algorithm) (f : Format KeyPair) → ((c : Curve) → unhashed a ≡ Algorithm.Ecdsa c → ⊥) → ReadsFront (IsPairUnder a) plain_pair_parts f.read → ReadsFront (IsSpelledUnder a) (spelled pair) (plainly f).read
+plain_reads a f other reads = checked_reads (to_form (λ k. (k, Plain)) (λ k is. (record { is = is; place = plain_pair_has k }, refl)) (λ x h. back x.0 x.1 h.is (only_plain a other x.0 x.1 h.is h.place))) reads
   where
-    Read : Type 0
-    Read = (List ℕ × (List ℕ × (List ℕ × List ℕ))) × List ℕ
+    back : (k : KeyPair) (zeros : LeadingZeros) → IsPairUnder a k → zeros ≡ Plain → (p : KeyPair) × IsPairUnder a p × (◌≡◌ {A = KeyPair × LeadingZeros} (p, Plain) (k, zeros)) × (pair p Plain ≡ pair k zeros)
+    back k zeros is e = (k, is, ap (λ (z : LeadingZeros). (k, z)) (sym e), ap (pair k) (sym e))
 
-    IsRead : Read → Type 0
-    IsRead a = (IsMpint a.0.0 × (IsMpint a.0.1.0 × (IsMpint a.0.1.1.0 × IsMpint a.0.1.1.1))) × IsMpint a.1
-
-    back : (k : KeyPair) (s : LeadingZeros) → IsPairUnder Algorithm.Dsa k → HasPairPlaces k s → (a : Read) × IsRead a × (◌≡◌ {A = KeyPair × LeadingZeros} (DsaPair (record { p = a.0.0; q = a.0.1.0; g = a.0.1.1.0; y = a.0.1.1.1 }) a.1, Plain) (k, s)) × ((string a.0.0 & string a.0.1.0 & string a.0.1.1.0 & string a.0.1.1.1) & string a.1 ≡ pair k s)
-    back (DsaPair k x) s h place = (((k.p, (k.q, (k.g, k.y))), x), ((h.1.0.0, (h.1.0.1, (h.1.0.2, h.1.0.3))), h.1.1), plain (DsaPair k x) s place, refl)
-    back _ s h place = absurd (cc h.0)
-
--- ---- ECDSA
-
-pub any_ecdsa_pair_reads : ReadsFront (IsSpelled IsEcdsaPair HasPairPlaces) (spelled pair) any_ecdsa_pair_at
-unfolding any_ecdsa_pair_at after_at
-any_ecdsa_pair_reads = same_front (checked_reads (to_form
-    (λ a. (EcdsaPair a.0.1.0 a.0.1.1 a.1.0, a.1.1))
-    (λ a h. (record { is = (h.0.1.0, h.1.is); place = h.1.place }, ap (λ (c : Curve). (curve c & string a.0.1.1) & scalar a.1.0 a.1.1) (sym (same_curve _ _ h.0.1.1))))
-    (λ x h. back x.0 x.1 h.is h.place))
-    (then_reads (then_reads curve_reads (λ stated. of_curve_reads stated)) (λ point. scalar_reads (field_size point.1.0)))) (λ b. simp bind_assoc)
-  where
-    Read : Type 0
-    Read = (Curve × (Curve × List ℕ)) × (List ℕ × LeadingZeros)
-
-    IsRead : Read → Type 0
-    IsRead a = (Any a.0.0 × (IsPointOf a.0.1 × (curve_eq a.0.1.0 a.0.0 ≡ true))) × IsSpelledScalar (field_size a.0.1.0) a.1
-
-    back : (k : KeyPair) (s : LeadingZeros) → IsEcdsaPair k → HasPairPlaces k s → (a : Read) × IsRead a × (◌≡◌ {A = KeyPair × LeadingZeros} (EcdsaPair a.0.1.0 a.0.1.1 a.1.0, a.1.1) (k, s)) × ((curve a.0.0 & string a.0.1.1) & scalar a.1.0 a.1.1 ≡ pair k s)
-    back (EcdsaPair c p n) s h place = (((c, (c, p)), (n, s)), ((tt, (h.0, curve_itself c)), record { is = h.1; place = place }), refl, refl)
-    back _ s h place = absurd h
-
-ecdsa_pair_reads : (c : Curve) → ReadsFront (IsSpelledUnder (Algorithm.Ecdsa c)) (spelled pair) (ecdsa_pair_at c)
-unfolding ecdsa_pair_at
+ecdsa_pair_reads : (c : Curve) → ReadsFront (IsSpelledUnder (Algorithm.Ecdsa c)) (spelled pair) (pair_at (Algorithm.Ecdsa c))
 ecdsa_pair_reads c = as_front_form (λ x h. record { is = there x.0 h.0.is h.1; place = h.0.place }) (λ x h. let k = back x.0 h.is in (record { is = k.0; place = h.place }, k.1))
     (checked_reads (kept (λ (x : KeyPair × LeadingZeros). has_curve c (public_half x.0)) AlgorithmUnknown) any_ecdsa_pair_reads)
   where
@@ -240,131 +341,20 @@ ecdsa_pair_reads c = as_front_form (λ x h. record { is = there x.0 h.0.is h.1; 
     back (EcdsaPair d p n) h = (h.1, (let same : d ≡ c = cc h.0 in ap (λ (x : Curve). curve_eq x c) same ∙ curve_itself c))
     back _ h = absurd (cc h.0)
 
--- ---- Ed25519
-
--- 32 private bytes, before 32 public ones
-abbrev AreHalves : List ℕ → List ℕ → Type 0
-AreHalves public private = HasLength 32 private × HasLength 32 public
-
-private_before_checks : (public : List ℕ) → Checks (HasLength 64) string (AreHalves public) (λ private. string (private ++ public)) (private_before public)
-private_before_checks public = record { takes = there; again = back }
-  where
-    there : (b x : List ℕ) → HasLength 64 b → private_before public b ≡ Ok x → AreHalves public x × (string b ≡ string (x ++ public))
-    there b x was e =
-        let h = met (bytes_eq (drop 32 b) public) Crypto (Ok (take 32 b)) x e in
-        let same : drop 32 b ≡ public = (bytes_eq-Decides (drop 32 b) public).0 h.0 in
-        let parts : take 32 b ++ public ≡ b = ap (λ (z : List ℕ). take 32 b ++ z) (sym same) ∙ take-append-drop 32 b in
-        let first : length (take 32 b) ≡ 32 = omega (arith, was, length-take 32 b) in
-        let second : length public ≡ 32 = omega (arith, was, first, length-append (take 32 b) public, ap length parts) in
-        subst (λ (z : List ℕ). AreHalves public z × (string b ≡ string (z ++ public))) (ok_is (take 32 b) x h.1) ((first, second), ap string (sym parts))
-
-    back : (x : List ℕ) → AreHalves public x → (b : List ℕ) × HasLength 64 b × (private_before public b ≡ Ok x) × (string b ≡ string (x ++ public))
-    back x is =
-        let same : bytes_eq public public ≡ true = (bytes_eq-Decides public public).1 refl in
-        (x ++ public, omega (arith, is.0, is.1, length-append x public), rw (drop_at x public 32 is.0, take_at x public 32 is.0, same) refl, refl)
-
-ed25519_pair_reads : ReadsFront (IsSpelledUnder Algorithm.Ed25519) (spelled pair) ed25519_pair_at
-unfolding ed25519_pair_at after_at
-ed25519_pair_reads = same_front (checked_reads (to_form
-    (λ a. (Ed25519Pair a.0 a.1, Plain))
-    (λ a h. (record { is = (refl, (h.0, h.1.0)); place = refl }, refl))
-    (λ x h. back x.0 x.1 h.is h.place))
-    (then_reads ed25519_string_reads (λ public. checked_reads (private_before_checks public) (box_reads (whole_reads (bytes_reads 64)))))) (λ b. simp bind_assoc)
-  where
-    back : (k : KeyPair) (s : LeadingZeros) → IsPairUnder Algorithm.Ed25519 k → HasPairPlaces k s → (a : List ℕ × List ℕ) × (HasLength 32 a.0 × (HasLength 32 a.1 × HasLength 32 a.0)) × (◌≡◌ {A = KeyPair × LeadingZeros} (Ed25519Pair a.0 a.1, Plain) (k, s)) × (string a.0 & string (a.1 ++ a.0) ≡ pair k s)
-    back (Ed25519Pair k r) s h place = ((k, r), (h.1.0, (h.1.1, h.1.0)), plain (Ed25519Pair k r) s place, refl)
-    back _ s h place = absurd (cc h.0)
-
--- ---- RSA
-
-pub rsa_private_reads : ReadsFront IsRsaPrivate rsa_private rsa_private_at
-unfolding rsa_private_at after_at
-rsa_private_reads = same_front (checked_reads (to_form
-    (λ a. record { d = a.0; iqmp = a.1.0; p = a.1.1.0; q = a.1.1.1 })
-    (λ a h. ((h.0, h.1.0, h.1.1.0, h.1.1.1), refl))
-    (λ r h. ((r.d, (r.iqmp, (r.p, r.q))), (h.0, (h.1, (h.2, h.3))), refl, refl)))
-    (then_reads mpint_reads (λ _. then_reads mpint_reads (λ _. then_reads mpint_reads (λ _. mpint_reads))))) (λ b. simp bind_assoc)
-
-rsa_pair_reads : (hash : Option Hash) → ReadsFront (IsSpelledUnder (Algorithm.Rsa hash)) (spelled pair) rsa_pair_at
-unfolding rsa_pair_at after_at
-rsa_pair_reads hash = same_front (checked_reads (to_form
-    (λ a. (RsaPair (record { e = a.1.0; n = a.0 }) a.1.1, Plain))
-    (λ a h. (record { is = (refl, ((h.1.0, h.0), h.1.1)); place = refl }, refl))
-    (λ x h. back x.0 x.1 h.is h.place))
-    (then_reads mpint_reads (λ _. then_reads mpint_reads (λ _. rsa_private_reads)))) (λ b. simp bind_assoc)
-  where
-    back : (k : KeyPair) (s : LeadingZeros) → IsPairUnder (Algorithm.Rsa hash) k → HasPairPlaces k s → (a : List ℕ × (List ℕ × RsaPrivate)) × (IsMpint a.0 × (IsMpint a.1.0 × IsRsaPrivate a.1.1)) × (◌≡◌ {A = KeyPair × LeadingZeros} (RsaPair (record { e = a.1.0; n = a.0 }) a.1.1, Plain) (k, s)) × (string a.0 & string a.1.0 & rsa_private a.1.1 ≡ pair k s)
-    back (RsaPair k r) s h place = ((k.n, (k.e, r)), (h.1.0.1, (h.1.0.0, h.1.1)), plain (RsaPair k r) s place, refl)
-    back _ s h place = absurd (cc h.0)
-
--- ---- keys that a security key holds
-
-pub security_private_reads : ReadsFront Any security_private security_private_at
-unfolding security_private_at after_at
-security_private_reads = same_front (checked_reads (to_form
-    (λ a. record { flags = a.0; handle = a.1.0; reserved = a.1.1 })
-    (λ a h. (tt, refl))
-    (λ r h. ((r.flags, (r.handle, r.reserved)), (tt, (tt, tt)), refl, refl)))
-    (then_reads (number_reads w8 wide8) (λ _. then_reads string_reads (λ _. string_reads)))) (λ b. simp bind_assoc)
-
-sk_ecdsa_pair_reads : ReadsFront (IsSpelledUnder Algorithm.SkEcdsa) (spelled pair) sk_ecdsa_pair_at
-unfolding sk_ecdsa_pair_at after_at
-sk_ecdsa_pair_reads = same_front (checked_reads (to_form
-    (λ a. (SkEcdsaPair (record { key = a.0.1.0; application = a.0.1.1 }) a.1, Plain))
-    (λ a h. (record { is = (refl, ((h.0.1.0, h.0.1.1), tt)); place = refl }, refl))
-    (λ x h. back x.0 x.1 h.is h.place))
-    (then_reads (then_reads (checked_reads p256_checks curve_reads) (λ _. then_reads (checked_string_reads p256_point_checks) (λ _. text_reads))) (λ _. security_private_reads))) (λ b. simp bind_assoc)
-  where
-    Read : Type 0
-    Read = (Curve × (List ℕ × List ℕ)) × SecurityPrivate
-
-    IsRead : Read → Type 0
-    IsRead a = ((a.0.0 ≡ Nistp256) × (IsPoint Nistp256 a.0.1.0 × IsText a.0.1.1)) × Any a.1
-
-    back : (k : KeyPair) (s : LeadingZeros) → IsPairUnder Algorithm.SkEcdsa k → HasPairPlaces k s → (a : Read) × IsRead a × (◌≡◌ {A = KeyPair × LeadingZeros} (SkEcdsaPair (record { key = a.0.1.0; application = a.0.1.1 }) a.1, Plain) (k, s)) × ((curve Nistp256 & string a.0.1.0 & string a.0.1.1) & security_private a.1 ≡ pair k s)
-    back (SkEcdsaPair k r) s h place = (((Nistp256, (k.key, k.application)), r), ((refl, (h.1.0.0, h.1.0.1)), tt), plain (SkEcdsaPair k r) s place, refl)
-    back _ s h place = absurd (cc h.0)
-
-sk_ed25519_pair_reads : ReadsFront (IsSpelledUnder Algorithm.SkEd25519) (spelled pair) sk_ed25519_pair_at
-unfolding sk_ed25519_pair_at after_at
-sk_ed25519_pair_reads = same_front (checked_reads (to_form
-    (λ a. (SkEd25519Pair (record { key = a.0.0; application = a.0.1 }) a.1, Plain))
-    (λ a h. (record { is = (refl, ((h.0.0, h.0.1), tt)); place = refl }, refl))
-    (λ x h. back x.0 x.1 h.is h.place))
-    (then_reads (then_reads ed25519_string_reads (λ _. text_reads)) (λ _. security_private_reads))) (λ b. simp bind_assoc)
-  where
-    back : (k : KeyPair) (s : LeadingZeros) → IsPairUnder Algorithm.SkEd25519 k → HasPairPlaces k s → (a : (List ℕ × List ℕ) × SecurityPrivate) × ((HasLength 32 a.0.0 × IsText a.0.1) × Any a.1) × (◌≡◌ {A = KeyPair × LeadingZeros} (SkEd25519Pair (record { key = a.0.0; application = a.0.1 }) a.1, Plain) (k, s)) × ((string a.0.0 & string a.0.1) & security_private a.1 ≡ pair k s)
-    back (SkEd25519Pair k r) s h place = (((k.key, k.application), r), ((h.1.0.0, h.1.0.1), tt), plain (SkEd25519Pair k r) s place, refl)
-    back _ s h place = absurd (cc h.0)
-
--- ---- pairs of other algorithms
-
-opaque_pair_reads : (name : List ℕ) → ReadsFront (IsSpelledUnder (Algorithm.Other name)) (spelled pair) (opaque_pair_at name)
-unfolding opaque_pair_at after_at
-opaque_pair_reads name = same_front (checked_reads (to_form
-    (λ a. (OpaquePair name a.0 a.1, Plain))
-    (λ a h. (record { is = (refl, (tt, tt)); place = refl }, refl))
-    (λ x h. back x.0 x.1 h.is h.place))
-    (then_reads string_reads (λ _. string_reads))) (λ b. simp bind_assoc)
-  where
-    back : (k : KeyPair) (s : LeadingZeros) → IsPairUnder (Algorithm.Other name) k → HasPairPlaces k s → (a : List ℕ × List ℕ) × (Any a.0 × Any a.1) × (◌≡◌ {A = KeyPair × LeadingZeros} (OpaquePair name a.0 a.1, Plain) (k, s)) × (string a.0 & string a.1 ≡ pair k s)
-    back (OpaquePair n k r) s h place = ((k, r), (tt, tt), (let same : n ≡ name = cc h.0 in let same_zeros : s ≡ Plain = place in cc), refl)
-    back _ s h place = absurd (cc h.0)
-
 pub pair_reads : (a : Algorithm) → ReadsFront (IsSpelled (IsPairUnder a) HasPairPlaces) (spelled pair) (pair_at a)
-pair_reads Algorithm.Dsa = dsa_pair_reads
+pair_reads Algorithm.Dsa = plain_reads Algorithm.Dsa dsa_pair_format (λ c e. cc e) dsa_pair_reads
 pair_reads (Algorithm.Ecdsa c) = ecdsa_pair_reads c
-pair_reads Algorithm.Ed25519 = ed25519_pair_reads
-pair_reads (Algorithm.Rsa hash) = rsa_pair_reads hash
-pair_reads Algorithm.SkEcdsa = sk_ecdsa_pair_reads
-pair_reads Algorithm.SkEd25519 = sk_ed25519_pair_reads
-pair_reads (Algorithm.Other name) = opaque_pair_reads name
+pair_reads Algorithm.Ed25519 = plain_reads Algorithm.Ed25519 ed25519_pair_format (λ c e. cc e) ed25519_pair_reads
+pair_reads (Algorithm.Rsa hash) = plain_reads (Algorithm.Rsa hash) rsa_pair_format (λ c e. cc e) (rsa_pair_reads hash)
+pair_reads Algorithm.SkEcdsa = plain_reads Algorithm.SkEcdsa sk_ecdsa_pair_format (λ c e. cc e) sk_ecdsa_pair_reads
+pair_reads Algorithm.SkEd25519 = plain_reads Algorithm.SkEd25519 sk_ed25519_pair_format (λ c e. cc e) sk_ed25519_pair_reads
+pair_reads (Algorithm.Other name) = plain_reads (Algorithm.Other name) (opaque_pair_format name) (λ c e. cc e) (opaque_pair_reads name)
 
 -- ---- the name before it
 
 pub keypair_reads : ReadsFront (IsSpelled IsKeyPair HasKeyPairPlaces) (spelled keypair) keypair_at
-unfolding keypair_at after_at
-keypair_reads = same_front (checked_reads (to_form (λ a. (a.1.0, record { head = head_of a.0; zeros = a.1.1 })) there (λ x h. back x.0 x.1 h.is h.place)) (then_reads algorithm_reads pair_reads)) (λ b. simp bind_assoc)
+unfolding keypair_at
+keypair_reads = checked_reads (to_form (λ a. (a.1.0, record { head = head_of a.0; zeros = a.1.1 })) there (λ x h. back x.0 x.1 h.is h.place)) (then_reads algorithm_reads pair_reads)
   where
     there : (a : Algorithm × (KeyPair × LeadingZeros)) → IsAlgorithm a.0 × IsSpelledUnder a.0 a.1 → IsSpelled IsKeyPair HasKeyPairPlaces (a.1.0, record { head = head_of a.0; zeros = a.1.1 }) × (algorithm a.0 & spelled pair a.1 ≡ spelled keypair (a.1.0, record { head = head_of a.0; zeros = a.1.1 }))
     there a h =
@@ -376,11 +366,44 @@ keypair_reads = same_front (checked_reads (to_form (λ a. (a.1.0, record { head 
         let j = join_head (public_half k) s.head is.0 place.0 in
         ((headed s.head (pair_algorithm k), (k, s.zeros)), (j.0, record { is = (j.1, is.1); place = place.1 }), ap (λ (z : Head). (k, record { head = z; zeros = s.zeros })) j.2, refl)
 
--- ---- plain choices have their places
-
-plain_pair_has : (k : KeyPair) → HasPairPlaces k Plain
-plain_pair_has (EcdsaPair c point s) = tt
-plain_pair_has _ = refl
-
 pub plain_keypair_has : (k : KeyPair) → HasKeyPairPlaces k plain_pair
 plain_keypair_has k = (tt, plain_pair_has k)
+
+-- ---- without the choices they read the same
+
+abbrev bare : (KeyPair × LeadingZeros) × List ℕ → Result (KeyPair × List ℕ) Fault
+bare x = Ok (x.0.0, x.1)
+
+abbrev with_rest : {A : Type 0} → List ℕ → A → Result (A × List ℕ) Fault
+with_rest rest x = Ok (x, rest)
+
+plain_value : (f : Format KeyPair) (b : List ℕ) → value_at (plainly f).read b ≡ f.read b
+plain_value f b = go (f.read b)
+  where
+    go : (r : Result (KeyPair × List ℕ) Fault) → ((r >>= λ x. Ok ((x.0, Plain), x.1)) >>= bare) ≡ r
+    go (Ok x) = refl
+    go (Err e) = refl
+
+pub any_ecdsa_pair_value : (b : List ℕ) → value_at any_ecdsa_pair_at b ≡ any_ecdsa_pair_format.read b
+unfolding any_ecdsa_pair_at after_at
+any_ecdsa_pair_value b = simp bind_assoc
+
+wanted_same : (k : KeyPair) (zeros : LeadingZeros) (rest : List ℕ) (on : Bool) → ((cond on (Ok (k, zeros)) (Err AlgorithmUnknown) >>= with_rest rest) >>= bare) ≡ (cond on (Ok k) (Err AlgorithmUnknown) >>= with_rest rest)
+wanted_same k zeros rest true = refl
+wanted_same k zeros rest false = refl
+
+ecdsa_pair_value : (wanted : Curve) (b : List ℕ) → value_at (pair_at (Algorithm.Ecdsa wanted)) b ≡ (ecdsa_pair_format wanted).read b
+ecdsa_pair_value wanted b = rw (← any_ecdsa_pair_value b) (go (any_ecdsa_pair_at b))
+  where
+    go : (r : Result ((KeyPair × LeadingZeros) × List ℕ) Fault) → ((r >>= λ x. wanted_curve (λ y. public_half y.0) wanted x.0 >>= with_rest x.1) >>= bare) ≡ ((r >>= bare) >>= λ x. wanted_curve public_half wanted x.0 >>= with_rest x.1)
+    go (Ok x) = wanted_same x.0.0 x.0.1 x.1 (has_curve wanted (public_half x.0.0))
+    go (Err e) = refl
+
+pub pair_value : (a : Algorithm) (b : List ℕ) → value_at (pair_at a) b ≡ (pair_kind_format a).read b
+pair_value (Algorithm.Ecdsa c) b = ecdsa_pair_value c b
+pair_value Algorithm.Dsa b = plain_value dsa_pair_format b
+pair_value Algorithm.Ed25519 b = plain_value ed25519_pair_format b
+pair_value (Algorithm.Rsa hash) b = plain_value rsa_pair_format b
+pair_value Algorithm.SkEcdsa b = plain_value sk_ecdsa_pair_format b
+pair_value Algorithm.SkEd25519 b = plain_value sk_ed25519_pair_format b
+pair_value (Algorithm.Other name) b = plain_value (opaque_pair_format name) b

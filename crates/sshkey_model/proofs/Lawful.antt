@@ -9,7 +9,7 @@ use Rattle.sshkey_model.specs.Points.{IsPoint, is_point, field_size}
 use Rattle.sshkey_model.specs.Keys.{IsBodyUnder, body, IsKey, key, normal_key, Plain}
 use Rattle.sshkey_model.specs.Options.{AreOptions, options, normal_options, plain_nestings}
 use Rattle.sshkey_model.specs.Certificates.{IsCertificate, certificate, normal_certificate, plain_choices}
-use Rattle.sshkey_model.specs.KeyPairs.{IsScalar, HasScalarPlaces, scalar, IsKeyPair, keypair, normal_keypair, plain_pair}
+use Rattle.sshkey_model.specs.KeyPairs.{IsScalar, HasScalarPlaces, scalar, IsPairUnder, HasPairPlaces, pair, IsKeyPair, keypair, normal_keypair, plain_pair}
 use Rattle.sshkey_model.specs.Laws.{DetermineValues}
 use Rattle.sshkey_model.proofs.Grammars.{grammar}
 use Rattle.sshkey_model.proofs.CombinedReaders.{prefix_free, checked_string_reads, kept_bytes}
@@ -22,7 +22,7 @@ use Rattle.sshkey_model.proofs.KeyReaders.{body_reads, any_ecdsa_reads, key_read
 use Rattle.sshkey_model.proofs.SignatureReaders.{signature_reads}
 use Rattle.sshkey_model.proofs.OptionReaders.{options_reads}
 use Rattle.sshkey_model.proofs.CertificateReaders.{type_reads, time_reads, end_reads, signed_fields_reads, certificate_reads}
-use Rattle.sshkey_model.proofs.KeyPairReaders.{scalar_reads, rsa_private_reads, any_ecdsa_pair_reads, pair_reads, keypair_reads, plain_keypair_has}
+use Rattle.sshkey_model.proofs.KeyPairReaders.{scalar_reads, rsa_private_reads, any_ecdsa_pair_reads, pair_reads, keypair_reads, plain_keypair_has, any_ecdsa_pair_value, pair_value}
 use Rattle.sshkey_model.proofs.NormalForms.{determined, read_back, determined_plain, read_back_plain, plain_options_have, plain_choices_have, determine_fields}
 use Rattle.sshkey_model.proofs.NormalFits.{key_fits, options_fit, certificate_fits, signed_fields_fit, ssh_signature_fits}
 use Rattle.sshkey_model.proofs.SignedBytes.{determine_signed_data, are_apart}
@@ -48,6 +48,9 @@ normal_bodies a = determined (body_reads a)
 pub prefix_scalars : (size : ℕ) → IsPrefixFree (IsSpelled (IsScalar size) HasScalarPlaces) (spelled scalar)
 prefix_scalars size = prefix_free (scalar_reads size)
 
+pub prefix_pairs : (a : Algorithm) → IsPrefixFree (IsSpelled (IsPairUnder a) HasPairPlaces) (spelled pair)
+prefix_pairs a = prefix_free (pair_reads a)
+
 pub normal_keys : DetermineValues IsKey normal_key
 normal_keys = determined_plain key key_reads (λ _. Plain) (λ _ _. tt)
 
@@ -64,4 +67,4 @@ normal_keypairs = determined_plain keypair keypair_reads (λ _. plain_pair) (λ 
 pub ruleset readers = (text_reads, texts_reads, curve_reads, hash_reads, algorithm_reads, certificate_algorithm_reads, mpint_reads, point_reads, body_reads, any_ecdsa_reads, key_reads, signature_reads, options_reads, type_reads, time_reads, end_reads, signed_fields_reads, certificate_reads, scalar_reads, rsa_private_reads, any_ecdsa_pair_reads, pair_reads, keypair_reads)
 
 -- what follows from that
-pub ruleset laws = (readers, grammar, prefix_free, prefix_points, prefix_bodies, prefix_scalars, determined, normal_points, normal_bodies, normal_keys, normal_option_lists, normal_certificates, normal_keypairs, read_back, read_back_plain, plain_options_have, plain_choices_have, plain_keypair_has, key_fits, options_fit, certificate_fits, signed_fields_fit, ssh_signature_fits, determine_fields, determine_signed_data, inserted, signed_through, are_apart, key_blobs, certificate_blobs, key_normally, certificate_normally, one_value, lines_read_back, lines_apart)
+pub ruleset laws = (readers, grammar, prefix_free, prefix_points, prefix_bodies, prefix_scalars, prefix_pairs, determined, normal_points, normal_bodies, normal_keys, normal_option_lists, normal_certificates, normal_keypairs, read_back, read_back_plain, plain_options_have, plain_choices_have, plain_keypair_has, key_fits, options_fit, certificate_fits, signed_fields_fit, ssh_signature_fits, determine_fields, determine_signed_data, inserted, signed_through, are_apart, key_blobs, certificate_blobs, key_normally, certificate_normally, one_value, any_ecdsa_pair_value, pair_value, lines_read_back, lines_apart)

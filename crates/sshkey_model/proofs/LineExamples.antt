@@ -9,10 +9,11 @@ use Rattle.base64.specs.Engines.{standard}
 use Rattle.base64.specs.GeneralPurpose.{encode_of}
 use Rattle.sshkey_model.specs.HexText.{hex}
 use Rattle.sshkey_model.specs.Parts.{flat}
-use Rattle.sshkey_model.specs.Reading.{string_at, number_at, bytes_at}
-use Rattle.sshkey_model.specs.Names.{named, algorithm_at}
+use Rattle.sshkey_model.specs.Reading.{after_at, string_at, number_at, bytes_at}
+use Rattle.sshkey_model.specs.Labels.{label_at}
+use Rattle.sshkey_model.specs.Names.{named}
 use Rattle.sshkey_model.specs.Mpints.{mpint_at}
-use Rattle.sshkey_model.specs.Keys.{Key, Head, Plain, Head256, key, rsa_at, key_at}
+use Rattle.sshkey_model.specs.Keys.{Key, Head, Plain, Head256, key, key_at}
 use Rattle.sshkey_model.specs.Lines.{space, after_space, joined, key_name, IsKeyLine, IsWithout, IsCut}
 use Rattle.sshkey_model.specs.KeyExamples.{rsa_key, rsa_bytes, rsa_256_bytes}
 use Rattle.sshkey_model.specs.LineExamples.{IsNoKeyLine, rsa_word, rsa_line, padded_key, LineEnds, NoTexts, Spaces, LastBits, FirstWords}
@@ -65,18 +66,18 @@ abbrev ssh_rsa : List ℕ
 ssh_rsa = codes "ssh-rsa"
 
 rsa_spelled : SpellsKey rsa_key rsa_bytes
-unfolding key_at algorithm_at rsa_at mpint_at string_at number_at bytes_at named
+unfolding key_at label_at mpint_at after_at string_at number_at bytes_at named
 rsa_spelled = spells rsa_bytes rsa_key Plain refl
 
 hashed_spelled : SpellsKey rsa_key rsa_256_bytes
-unfolding key_at algorithm_at rsa_at mpint_at string_at number_at bytes_at named
+unfolding key_at label_at mpint_at after_at string_at number_at bytes_at named
 hashed_spelled = spells rsa_256_bytes rsa_key Head256 refl
 
 abbrev padded_bytes : List ℕ
 padded_bytes = hex "00000007 7373682d727361 00000002 0101 00000002 00ff"
 
 padded_spelled : SpellsKey padded_key padded_bytes
-unfolding key_at algorithm_at rsa_at mpint_at string_at number_at bytes_at named
+unfolding key_at label_at mpint_at after_at string_at number_at bytes_at named
 padded_spelled = spells padded_bytes padded_key Plain refl
 
 rsa_cut : (text m : List ℕ) → trim_end text ≡ joined ssh_rsa rsa_word m → IsCut text ssh_rsa rsa_word m

@@ -7,6 +7,7 @@ use Rattle.sshkey_model.specs.Parts.{bytes}
 use Rattle.sshkey_model.specs.Reading.{Label}
 use Rattle.sshkey_model.specs.Names.{Curve, Nistp256, Hash, Sha256, Sha512, Algorithm, Ecdsa, Rsa, Other, curves, hashes, algorithms, curve_name, hash_name, algorithm_name, named, is_own_name, is_other_name, IsAlgorithm, algorithm, or_label, algorithm_or, algorithm_from, algorithm_at, curve, curve_from, curve_at, hash, hash_from, hash_at}
 use Rattle.sshkey_model.specs.Grammar.{Checks}
+use Rattle.sshkey_model.specs.Labels.{label_at}
 use Rattle.sshkey_model.proofs.CombinedReaders.{ok_is, done, chosen, ReadsFront, Any, checked_string_reads}
 
 -- what is found in a table has that name
@@ -39,7 +40,7 @@ pub curve_checks : Checks Any bytes Any (λ c. bytes (curve_name c)) curve_from
 curve_checks = table_checks curve_name curves (assumption) each_curve
 
 pub curve_reads : ReadsFront Any curve curve_at
-unfolding curve_at
+unfolding label_at
 curve_reads = checked_string_reads curve_checks
 
 each_hash : (h : Hash) → named hash_name hashes (hash_name h) ≡ Some h
@@ -51,7 +52,7 @@ pub hash_checks : Checks Any bytes Any (λ h. bytes (hash_name h)) hash_from
 hash_checks = table_checks hash_name hashes (assumption) each_hash
 
 pub hash_reads : ReadsFront Any hash hash_at
-unfolding hash_at
+unfolding label_at
 hash_reads = checked_string_reads hash_checks
 
 -- an other name is no fixed one
@@ -85,5 +86,5 @@ algorithm_checks = record {
 }
 
 pub algorithm_reads : ReadsFront IsAlgorithm algorithm algorithm_at
-unfolding algorithm_at
+unfolding label_at
 algorithm_reads = checked_string_reads algorithm_checks

@@ -1,11 +1,11 @@
 -- The worked examples of ciphers, key pairs and private keys hold.
 use Rattle.std.proofs.Common.{refl}
 use Rattle.sshkey_model.specs.Parts.{flat}
-use Rattle.sshkey_model.specs.Reading.{number_at, bytes_at, string_at, box_at}
-use Rattle.sshkey_model.specs.Names.{named, algorithm_at, curve_at}
+use Rattle.sshkey_model.specs.Reading.{number_at, bytes_at, string_at, box_at, after_at}
+use Rattle.sshkey_model.specs.Labels.{label_at}
+use Rattle.sshkey_model.specs.Names.{named}
 use Rattle.sshkey_model.specs.Mpints.{mpint_at}
-use Rattle.sshkey_model.specs.Keys.{ed25519_at}
-use Rattle.sshkey_model.specs.KeyPairs.{scalar_at, any_ecdsa_pair_at, ecdsa_pair_at, ed25519_pair_at, rsa_private_at, rsa_pair_at, keypair_at}
+use Rattle.sshkey_model.specs.KeyPairs.{scalar_at, any_ecdsa_pair_at, keypair_at}
 use Rattle.sshkey_model.specs.PrivateExamples.{CipherTable, PaddingLengths, FirstBits, WrittenScalars, ReadScalars, ReadShortScalars, RefusedScalars, Ed25519Pairs, RsaPairs, EcdsaPairs, WrittenPairs, Checkints, WrittenKey, PaddingEdges}
 
 pub cipher_table : CipherTable
@@ -34,15 +34,15 @@ unfolding scalar_at box_at number_at bytes_at
 refused_scalars = (refl, refl, refl, refl, refl, refl)
 
 pub ed25519_pairs : Ed25519Pairs
-unfolding ed25519_pair_at ed25519_at box_at number_at bytes_at
+unfolding after_at box_at number_at bytes_at
 ed25519_pairs = (refl, refl)
 
 pub rsa_pairs : RsaPairs
-unfolding flat keypair_at algorithm_at rsa_pair_at rsa_private_at mpint_at string_at number_at bytes_at named
+unfolding flat keypair_at after_at label_at mpint_at string_at number_at bytes_at named
 rsa_pairs = (refl, refl)
 
 pub ecdsa_pairs : EcdsaPairs
-unfolding any_ecdsa_pair_at ecdsa_pair_at curve_at scalar_at box_at string_at number_at bytes_at named
+unfolding any_ecdsa_pair_at after_at label_at scalar_at box_at string_at number_at bytes_at named
 ecdsa_pairs = (refl, refl, refl, refl)
 
 pub written_pairs : WrittenPairs

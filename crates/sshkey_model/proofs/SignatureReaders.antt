@@ -5,10 +5,10 @@ use Rattle.std.proofs.lemmas.List.{take_at, drop_at, take-append-drop, length-ap
 use Rattle.sshkey_model.specs.Parts.{Parts, bytes, box, ◌&◌, flat, Fits, HasLength}
 use Rattle.sshkey_model.specs.Reading.{Fault, Length, FormatEncoding, Crypto, ◌>>=◌, Whole, string_at, after_at}
 use Rattle.sshkey_model.specs.Texts.{string}
-use Rattle.sshkey_model.specs.Names.{Algorithm}
+use Rattle.sshkey_model.specs.Names.{Algorithm, IsAlgorithm, algorithm}
 use Rattle.sshkey_model.specs.Mpints.{is_mpint, mpint_from, positive_part}
 use Rattle.sshkey_model.specs.Points.{field_size}
-use Rattle.sshkey_model.specs.Signatures.{has_part, IsComponent, positive_from, after_component, IsEcdsaBlob, ecdsa_blob_from, sized_from, some_from, none_from, trailed_at, without_trailer, trailer, signature_blob, signature, IsSignatureBlob, IsSignature, signature_blob_at, signature_at}
+use Rattle.sshkey_model.specs.Signatures.{Signature, has_part, IsComponent, positive_from, after_component, IsEcdsaBlob, ecdsa_blob_from, sized_from, some_from, none_from, trailed_at, without_trailer, trailer, signature_blob, signature, IsSignatureBlob, IsSignature, signature_blob_at, signature_under, signature_at}
 use Rattle.sshkey_model.specs.Grammar.{Checks}
 use Rattle.sshkey_model.proofs.CombinedReaders.{bind_assoc, bind_ok, done, ok_is, met, fits_both, fits_first, fits_second, ReadsFront, Any, string_reads, bytes_reads, then_reads, checked_reads, checked_string_reads, to_form, as_checks, kept_bytes, same_front, as_front_form}
 use Rattle.sshkey_model.proofs.NameReaders.{algorithm_reads}
@@ -113,6 +113,12 @@ signature_blob_reads Algorithm.SkEcdsa = trailed_reads (ecdsa_blob_checks 32)
 signature_blob_reads Algorithm.SkEd25519 = as_front_form (λ d h. omega (arith, h.1, length-take (length d - 5) d)) (λ d h. (omega (arith, h), omega (arith, h, length-take (length d - 5) d))) (trailed_reads (sized_checks 64))
 signature_blob_reads (Algorithm.Other n) = checked_string_reads some_checks
 
+pub under_reads : (a : Algorithm) → ReadsFront (λ g. (g.algorithm ≡ a) × IsSignatureBlob a g.blob) (λ g. signature_blob a g.blob) (signature_under a).read
+under_reads a = checked_reads (to_form (λ blob. record { algorithm = a; blob = blob }) (λ blob h. ((refl, h), refl)) (λ g h. (g.blob, h.1, ap (λ (n : Algorithm). record { algorithm = n; blob = g.blob }) (sym h.0), refl))) (signature_blob_reads a)
+
 pub signature_reads : ReadsFront IsSignature signature signature_at
-unfolding signature_at after_at
-signature_reads = same_front (checked_reads (to_form (λ (name, blob). record { algorithm = name; blob = blob }) (λ a h. (h, refl)) (λ g h. ((g.algorithm, g.blob), h, refl, refl))) (then_reads algorithm_reads signature_blob_reads)) (λ b. simp bind_assoc)
+unfolding signature_at
+signature_reads = checked_reads (to_form (λ a. a.1) there (λ g h. ((g.algorithm, g), (h.0, (refl, h.1)), refl, refl))) (then_reads algorithm_reads under_reads)
+  where
+    there : (a : Algorithm × Signature) → IsAlgorithm a.0 × ((a.1.algorithm ≡ a.0) × IsSignatureBlob a.0 a.1.blob) → IsSignature a.1 × (algorithm a.0 & signature_blob a.0 a.1.blob ≡ signature a.1)
+    there a h = rw h.1.0 ((h.0, h.1.1), refl)

@@ -1,9 +1,12 @@
 -- Names of algorithms in certificates (PROTOCOL.certkeys).
-use Rattle.std.specs.Prelude.{◌≡◌, ℕ, ◌-◌, List, [], ◌∷◌, ◌++◌, length, take, drop, true, Option, Some, None, Result, Ok, Err, if◌then◌else◌, codes, bytes_eq}
+use Rattle.std.specs.Prelude.{◌≡◌, ℕ, ◌-◌, List, [], ◌∷◌, ◌++◌, length, take, drop, true, Option, Some, None, Result, Ok, Err, IsOkAnd, if◌then◌else◌, codes, bytes_eq}
 use Rattle.sshkey_model.specs.Parts.{Parts}
 use Rattle.sshkey_model.specs.Reading.{Fault, Label, Front, string_at, checked_at}
+use Rattle.sshkey_model.specs.Grammar.{Spells}
+use Rattle.sshkey_model.specs.Formats.{Format}
+use Rattle.sshkey_model.specs.Overruns.{OverrunsString}
 use Rattle.sshkey_model.specs.Texts.{string}
-use Rattle.sshkey_model.specs.Names.{Nistp256, Nistp384, Nistp521, Algorithm, Dsa, Ecdsa, Ed25519, Rsa, SkEcdsa, SkEd25519, Other, algorithm_name, named, at_sign, cut, is_other_name, algorithm_or}
+use Rattle.sshkey_model.specs.Names.{Nistp256, Nistp384, Nistp521, Algorithm, Dsa, Ecdsa, Ed25519, Rsa, SkEcdsa, SkEd25519, Other, algorithm_name, named, at_sign, cut, is_other_name, algorithm_or, IsPrivateUse}
 
 abbrev pub suffix : List ℕ
 suffix = codes "-cert-v01"
@@ -51,3 +54,10 @@ certified_from t = certified_or (named certificate_name certified t) t
 
 unfoldable pub certificate_algorithm_at : Front Algorithm
 certificate_algorithm_at = checked_at certified_from string_at
+
+-- The name of a private-use algorithm stands there, which is kept.
+abbrev pub NeedsCertified : List ℕ → ℕ → Type 0
+NeedsCertified b m = IsOkAnd (certificate_algorithm_at b) (λ x. IsPrivateUse x.0)
+
+abbrev pub certified_format : Format Algorithm
+certified_format = record { Spells = Spells IsCertified certificate_algorithm; read = certificate_algorithm_at; delimited_at = certificate_algorithm_at; needs = NeedsCertified; overruns = OverrunsString }

@@ -3,12 +3,17 @@ use Rattle.std.specs.Prelude.{◌≡◌, ℕ, ◌^◌, List, Bool, true, Result,
 use Rattle.std.specs.Int.{w32, w64}
 use Rattle.std.specs.List.{AllByRecursion}
 use Rattle.sshkey_model.specs.Parts.{Parts, number, box, ◌&◌}
-use Rattle.sshkey_model.specs.Reading.{Fault, FormatEncoding, Time, ◌>>=◌, Front, whole, box_at, string_at, number_at, checked_at}
-use Rattle.sshkey_model.specs.Texts.{string, IsText, text_at, texts, texts_at}
-use Rattle.sshkey_model.specs.CertificateNames.{IsCertified, certificate_algorithm, certificate_algorithm_at}
-use Rattle.sshkey_model.specs.Keys.{Key, key_algorithm, body, IsBody, body_at, Head, Plain, HasKeyPlaces, IsKey, key, key_at}
-use Rattle.sshkey_model.specs.Signatures.{Signature, IsSignature, signature, signature_at}
-use Rattle.sshkey_model.specs.Options.{CertificateOption, AreOptions, Nesting, HasOptionPlaces, plain_nestings, options, options_at}
+use Rattle.sshkey_model.specs.Reading.{Fault, FormatEncoding, Time, Front}
+use Rattle.sshkey_model.specs.Grammar.{SpellsAs, SpellsWith}
+use Rattle.sshkey_model.specs.Formats.{Format}
+use Rattle.sshkey_model.specs.Leaves.{number32_format, number64_format, string_format}
+use Rattle.sshkey_model.specs.Terms.{◌then◌, boxed, dependent, known_as, tested}
+use Rattle.sshkey_model.specs.Texts.{string, IsText, text_format, texts, texts_format}
+use Rattle.sshkey_model.specs.Names.{Algorithm}
+use Rattle.sshkey_model.specs.CertificateNames.{IsCertified, certificate_algorithm, certified_format}
+use Rattle.sshkey_model.specs.Keys.{Key, key_algorithm, body, IsBody, body_format, Head, Plain, HasKeyPlaces, IsKey, key, key_format, spelled_key_format}
+use Rattle.sshkey_model.specs.Signatures.{Signature, IsSignature, signature, signature_format}
+use Rattle.sshkey_model.specs.Options.{CertificateOption, AreOptions, Nesting, HasOptionPlaces, plain_nestings, options, options_format, spelled_options_format}
 
 pub data CertificateType : Type 0 where
   User Host : CertificateType
@@ -121,8 +126,11 @@ normal_certificate c = certificate c (plain_choices c.signed)
 abbrev pub type_from : ℕ → Result CertificateType Fault
 type_from n = if n == 1 then Ok User else if n == 2 then Ok Host else Err FormatEncoding
 
-unfoldable pub type_at : Front CertificateType
-type_at = checked_at type_from (number_at w32)
+abbrev pub type_format : Format CertificateType
+type_format = tested type_from number32_format
+
+abbrev pub type_at : Front CertificateType
+type_at = type_format.read
 
 abbrev pub time_from : ℕ → Result ℕ Fault
 time_from t = if is_time t then Ok t else Err Time
@@ -130,37 +138,84 @@ time_from t = if is_time t then Ok t else Err Time
 abbrev pub end_from : ℕ → Result ℕ Fault
 end_from t = if is_end t then Ok t else Err Time
 
-unfoldable pub time_at : Front ℕ
-time_at = checked_at time_from (number_at w64)
+abbrev pub time_format : Format ℕ
+time_format = tested time_from number64_format
 
-unfoldable pub end_at : Front ℕ
-end_at = checked_at end_from (number_at w64)
+abbrev pub time_at : Front ℕ
+time_at = time_format.read
+
+abbrev pub end_format : Format ℕ
+end_format = tested end_from number64_format
+
+abbrev pub end_at : Front ℕ
+end_at = end_format.read
+
+-- ---- as a format: the fields of PROTOCOL.certkeys, in their order
+
+abbrev pub Fields : Type 0 → Type 0 → Type 0
+Fields O K = Algorithm × (List ℕ × (Key × (ℕ × (CertificateType × (List ℕ × (List (List ℕ) × (ℕ × (ℕ × (O × (O × (List ℕ × K)))))))))))
+
+-- Options and the signature key are of the formats that are given: with the choices of their
+-- spelling, or without.
+abbrev pub fields_format : {O K : Type 0} → Format O → Format K → Format (Fields O K)
+fields_format option_list signer = dependent certified_format (λ name.
+    string_format  -- nonce
+    then body_format name  -- the key, as its algorithm has it
+    then number64_format  -- serial
+    then type_format  -- type
+    then text_format  -- key id
+    then texts_format  -- valid principals
+    then time_format  -- valid after
+    then end_format  -- valid before
+    then option_list  -- critical options
+    then option_list  -- extensions
+    then string_format  -- reserved
+    then boxed signer)  -- signature key
+
+abbrev pub signed_fields_from : Fields (List CertificateOption) Key → Result SignedFields Fault
+signed_fields_from (name, (nonce, (key, (serial, (kind, (key_id, (principals, (after, (before, (critical, (extensions, (reserved, signer)))))))))))) = Ok (record { nonce = nonce; key = key; serial = serial; certificate_type = kind; key_id = key_id; valid_principals = principals; valid_after = after; valid_before = before; critical_options = critical; extensions = extensions; reserved = reserved; signature_key = signer })
+
+abbrev pub to_be_signed_format : Format SignedFields
+to_be_signed_format = tested signed_fields_from (fields_format options_format key_format)
+
+abbrev pub certificate_from : SignedFields × Signature → Result Certificate Fault
+certificate_from (fields, signature) = Ok (record { signed = fields; signature = signature })
+
+-- the fields, and the signature over them
+abbrev pub signed_format : Format (SignedFields × Signature)
+signed_format = to_be_signed_format then boxed signature_format
+
+abbrev pub certificate_format : Format Certificate
+certificate_format = tested certificate_from signed_format
+
+-- ---- with the choices of the spelling
+
+abbrev pub spelled_fields_from : Fields (List CertificateOption × List Nesting) (Key × Head) → Result (SignedFields × CertificateChoices) Fault
+spelled_fields_from (name, (nonce, (key, (serial, (kind, (key_id, (principals, (after, (before, (critical, (extensions, (reserved, signer)))))))))))) = Ok (
+  record { nonce = nonce; key = key; serial = serial; certificate_type = kind; key_id = key_id; valid_principals = principals; valid_after = after; valid_before = before; critical_options = critical.0; extensions = extensions.0; reserved = reserved; signature_key = signer.0 },
+  record { critical_options = critical.1; extensions = extensions.1; signature_key = signer.1 },
+)
+
+abbrev spelled_fields : Format (SignedFields × CertificateChoices)
+spelled_fields = tested spelled_fields_from (fields_format spelled_options_format spelled_key_format)
 
 unfoldable pub signed_fields_at : Front (SignedFields × CertificateChoices)
-signed_fields_at b = do
-  name ← certificate_algorithm_at b
-  nonce ← string_at name.1
-  key ← body_at name.0 nonce.1
-  serial ← number_at w64 key.1
-  certificate_type ← type_at serial.1
-  key_id ← text_at certificate_type.1
-  valid_principals ← texts_at key_id.1
-  valid_after ← time_at valid_principals.1
-  valid_before ← end_at valid_after.1
-  critical_options ← options_at valid_before.1
-  extensions ← options_at critical_options.1
-  reserved ← string_at extensions.1
-  signature_key ← box_at (whole key_at) reserved.1
-  Ok (
-    (
-      record { nonce = nonce.0; key = key.0; serial = serial.0; certificate_type = certificate_type.0; key_id = key_id.0; valid_principals = valid_principals.0; valid_after = valid_after.0; valid_before = valid_before.0; critical_options = critical_options.0.0; extensions = extensions.0.0; reserved = reserved.0; signature_key = signature_key.0.0 },
-      record { critical_options = critical_options.0.1; extensions = extensions.0.1; signature_key = signature_key.0.1 },
-    ),
-    signature_key.1,
-  )
+signed_fields_at = spelled_fields.read
+
+abbrev pub spelled_fields_format : Format (SignedFields × CertificateChoices)
+spelled_fields_format = known_as spelled_fields (SpellsAs AreSignedFields HaveSignedPlaces to_be_signed) signed_fields_at
+
+abbrev pub spelled_certificate_from : (SignedFields × CertificateChoices) × Signature → Result (Certificate × CertificateChoices) Fault
+spelled_certificate_from (fields, signature) = Ok (record { signed = fields.0; signature = signature }, fields.1)
 
 unfoldable pub certificate_at : Front (Certificate × CertificateChoices)
-certificate_at b = do
-  c ← signed_fields_at b
-  g ← box_at (whole signature_at) c.1
-  Ok ((record { signed = c.0.0; signature = g.0 }, c.0.1), g.1)
+certificate_at = (tested spelled_certificate_from (spelled_fields_format then boxed signature_format)).read
+
+-- ---- which bytes spell them
+
+-- all but the signature
+abbrev pub SpellsToBeSigned : SignedFields → List ℕ → Type 0
+SpellsToBeSigned = SpellsWith AreSignedFields HaveSignedPlaces to_be_signed
+
+abbrev pub SpellsCertificate : Certificate → List ℕ → Type 0
+SpellsCertificate = SpellsWith IsCertificate HasCertificatePlaces certificate

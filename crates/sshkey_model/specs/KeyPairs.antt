@@ -3,12 +3,18 @@
 use Rattle.std.specs.Prelude.{◌≡◌, ◌<◌, ℕ, suc, ◌-◌, List, [], ◌∷◌, ◌++◌, length, take, drop, replicate, Bool, true, false, ◌&&◌, not, Option, Some, None, Result, Ok, Err, nat_lt, ◌==◌, if◌then◌else◌, bytes_eq, bit_xor}
 use Rattle.std.specs.Int.{w8, w32, from_be_bytes}
 use Rattle.sshkey_model.specs.Parts.{Parts, number, ◌&◌}
-use Rattle.sshkey_model.specs.Reading.{Fault, Length, FormatEncoding, Crypto, TrailingData, ◌>>=◌, Front, Whole, string_at, box_at, whole, all_from, number_at, bytes_at, checked_at, checked_whole}
-use Rattle.sshkey_model.specs.Texts.{string, text_at}
-use Rattle.sshkey_model.specs.Names.{Curve, Algorithm, IsAlgorithm, algorithm, algorithm_at, curve_at}
-use Rattle.sshkey_model.specs.Mpints.{is_mpint, IsMpint, of_positive, mpint_at}
-use Rattle.sshkey_model.specs.Points.{field_size, p256_point_from, of_curve, point_at}
-use Rattle.sshkey_model.specs.Keys.{Key, Dsa, Ecdsa, Ed25519, Rsa, SkEcdsa, SkEd25519, Opaque, DsaKey, RsaKey, SecurityKey, key_algorithm, body, IsBody, Head, headed, HasHead, head_of, unhashed, ed25519_at, p256_only, wanted_curve}
+use Rattle.sshkey_model.specs.Reading.{Fault, Length, FormatEncoding, Crypto, TrailingData, ◌>>=◌, Front, Whole, box_at, all_from, checked_whole}
+use Rattle.sshkey_model.specs.Grammar.{SpellsAs, SpellsWith, value_at}
+use Rattle.sshkey_model.specs.Formats.{Format}
+use Rattle.sshkey_model.specs.Needs.{NoNeed}
+use Rattle.sshkey_model.specs.Overruns.{OverrunsString}
+use Rattle.sshkey_model.specs.Leaves.{array_format, byte_format, string_format}
+use Rattle.sshkey_model.specs.Terms.{◌then◌, called, dependent, known_as, tested, without_memory}
+use Rattle.sshkey_model.specs.Texts.{string}
+use Rattle.sshkey_model.specs.Names.{Curve, Algorithm, IsAlgorithm, algorithm, name_format}
+use Rattle.sshkey_model.specs.Mpints.{is_mpint, IsMpint, of_positive, mpint_format}
+use Rattle.sshkey_model.specs.Points.{field_size}
+use Rattle.sshkey_model.specs.Keys.{Key, Dsa, Ecdsa, Ed25519, Rsa, SkEcdsa, SkEd25519, Opaque, DsaKey, RsaKey, SecurityKey, key_algorithm, body, IsBody, Head, headed, HasHead, head_of, unhashed, wanted_curve, dsa_format, any_ecdsa_format, sk_ecdsa_format, sk_ed25519_format}
 
 -- ---- private scalars of ECDSA
 
@@ -222,93 +228,156 @@ scalar_whole size b =
 unfoldable pub scalar_at : ℕ → Front (List ℕ × LeadingZeros)
 scalar_at size = box_at (scalar_whole size)
 
-unfoldable pub dsa_pair_at : Front (KeyPair × LeadingZeros)
-dsa_pair_at b = do
-  p ← mpint_at b
-  q ← mpint_at p.1
-  g ← mpint_at q.1
-  y ← mpint_at g.1
-  x ← mpint_at y.1
-  Ok ((DsaPair (record { p = p.0; q = q.0; g = g.0; y = y.0 }) x.0, Plain), x.1)
+-- the scalar, and how it is spelled
+abbrev pub spelled_scalar_format : ℕ → Format (List ℕ × LeadingZeros)
+spelled_scalar_format size = record { Spells = SpellsAs (IsScalar size) HasScalarPlaces scalar; read = scalar_at size; delimited_at = scalar_at size; needs = NoNeed; overruns = OverrunsString }
+
+-- the bytes spell the scalar of that size
+abbrev pub SpellsScalar : ℕ → List ℕ → List ℕ → Type 0
+SpellsScalar size = SpellsWith (IsScalar size) HasScalarPlaces scalar
+
+abbrev pub scalar_format : ℕ → Format (List ℕ)
+scalar_format size = record { Spells = SpellsScalar size; read = value_at (scalar_at size); delimited_at = value_at (scalar_at size); needs = NoNeed; overruns = OverrunsString }
+
+-- ---- what follows each name
+
+-- a DSA key and its private number
+abbrev pub dsa_pair_from : Key × List ℕ → Result KeyPair Fault
+dsa_pair_from (Dsa k, x) = Ok (DsaPair k x)
+dsa_pair_from _ = Err Length
+
+abbrev pub dsa_pair_format : Format KeyPair
+dsa_pair_format = tested dsa_pair_from (dsa_format then mpint_format)
+
+-- how wide the scalars of the key's curve are
+abbrev pub scalar_size : Key → ℕ
+scalar_size (Ecdsa c point) = field_size c
+scalar_size _ = 0
+
+abbrev pub ecdsa_pair_from : Key → List ℕ → Result KeyPair Fault
+ecdsa_pair_from (Ecdsa c point) s = Ok (EcdsaPair c point s)
+ecdsa_pair_from _ s = Err Length
+
+-- the pair of that key, and of the scalar at the front
+abbrev pub pair_of_key : Key → Format KeyPair
+pair_of_key k = tested (ecdsa_pair_from k) (scalar_format (scalar_size k))
 
 -- on any curve, which it states
-unfoldable pub any_ecdsa_pair_at : Front (KeyPair × LeadingZeros)
-any_ecdsa_pair_at b = do
-  stated ← curve_at b
-  point ← point_at stated.1
-  on ← of_curve stated.0 point.0
-  s ← scalar_at (field_size on.0) point.1
-  Ok ((EcdsaPair on.0 on.1 s.0.0, s.0.1), s.1)
+abbrev pub any_ecdsa_pair_format : Format KeyPair
+any_ecdsa_pair_format = without_memory (called any_ecdsa_format pair_of_key)
 
-unfoldable pub ecdsa_pair_at : Curve → Front (KeyPair × LeadingZeros)
-ecdsa_pair_at wanted = checked_at (wanted_curve (λ x. public_half x.0) wanted) any_ecdsa_pair_at
+-- of the curve that the algorithm names
+abbrev pub ecdsa_pair_format : Curve → Format KeyPair
+ecdsa_pair_format wanted = tested (wanted_curve public_half wanted) any_ecdsa_pair_format
 
 -- the private bytes before the public ones
 abbrev pub private_before : List ℕ → List ℕ → Result (List ℕ) Fault
 private_before public b = if bytes_eq (drop 32 b) public then Ok (take 32 b) else Err Crypto
 
-unfoldable pub ed25519_pair_at : Front (KeyPair × LeadingZeros)
-ed25519_pair_at b = do
-  public ← ed25519_at b
-  both ← box_at (whole (bytes_at 64)) public.1
-  private ← private_before public.0 both.0
-  Ok ((Ed25519Pair public.0 private, Plain), both.1)
+-- the public bytes, and both halves
+abbrev pub ed25519_halves_from : List ℕ × List ℕ → Result KeyPair Fault
+ed25519_halves_from a = private_before a.0 a.1 >>= λ private. Ok (Ed25519Pair a.0 private)
 
-unfoldable pub rsa_private_at : Front RsaPrivate
-rsa_private_at b = do
-  d ← mpint_at b
-  iqmp ← mpint_at d.1
-  p ← mpint_at iqmp.1
-  q ← mpint_at p.1
-  Ok (record { d = d.0; iqmp = iqmp.0; p = p.0; q = q.0 }, q.1)
+abbrev pub ed25519_pair_format : Format KeyPair
+ed25519_pair_format = without_memory (tested ed25519_halves_from (array_format 32 then array_format 64))
 
-unfoldable pub rsa_pair_at : Front (KeyPair × LeadingZeros)
-rsa_pair_at b = do
-  n ← mpint_at b
-  e ← mpint_at n.1
-  r ← rsa_private_at e.1
-  Ok ((RsaPair (record { e = e.0; n = n.0 }) r.0, Plain), r.1)
+-- d, iqmp, p and q
+abbrev pub rsa_private_from : List ℕ × (List ℕ × (List ℕ × List ℕ)) → Result RsaPrivate Fault
+rsa_private_from a = Ok (record { d = a.0; iqmp = a.1.0; p = a.1.1.0; q = a.1.1.1 })
 
-unfoldable pub security_private_at : Front SecurityPrivate
-security_private_at b = do
-  flags ← number_at w8 b
-  handle ← string_at flags.1
-  reserved ← string_at handle.1
-  Ok (record { flags = flags.0; handle = handle.0; reserved = reserved.0 }, reserved.1)
+abbrev pub rsa_private_format : Format RsaPrivate
+rsa_private_format = tested rsa_private_from (mpint_format then mpint_format then mpint_format then mpint_format)
 
-unfoldable pub sk_ecdsa_pair_at : Front (KeyPair × LeadingZeros)
-sk_ecdsa_pair_at b = do
-  stated ← curve_at b
-  c ← p256_only stated.0
-  point ← checked_at p256_point_from string_at stated.1
-  application ← text_at point.1
-  r ← security_private_at application.1
-  Ok ((SkEcdsaPair (record { key = point.0; application = application.0 }) r.0, Plain), r.1)
+abbrev pub rsa_private_at : Front RsaPrivate
+rsa_private_at = rsa_private_format.read
 
-unfoldable pub sk_ed25519_pair_at : Front (KeyPair × LeadingZeros)
-sk_ed25519_pair_at b = do
-  key ← ed25519_at b
-  application ← text_at key.1
-  r ← security_private_at application.1
-  Ok ((SkEd25519Pair (record { key = key.0; application = application.0 }) r.0, Plain), r.1)
+-- n, e and the private numbers
+abbrev pub rsa_pair_from : List ℕ × (List ℕ × RsaPrivate) → Result KeyPair Fault
+rsa_pair_from a = Ok (RsaPair (record { e = a.1.0; n = a.0 }) a.1.1)
 
-unfoldable pub opaque_pair_at : List ℕ → Front (KeyPair × LeadingZeros)
-opaque_pair_at name b = do
-  public ← string_at b
-  private ← string_at public.1
-  Ok ((OpaquePair name public.0 private.0, Plain), private.1)
+abbrev pub rsa_pair_format : Format KeyPair
+rsa_pair_format = tested rsa_pair_from (mpint_format then mpint_format then rsa_private_format)
+
+-- the flags, the key handle and the reserved bytes
+abbrev pub security_private_from : ℕ × (List ℕ × List ℕ) → Result SecurityPrivate Fault
+security_private_from a = Ok (record { flags = a.0; handle = a.1.0; reserved = a.1.1 })
+
+abbrev pub security_private_format : Format SecurityPrivate
+security_private_format = tested security_private_from (byte_format then string_format then string_format)
+
+-- the public key of a security key, and what is kept of it
+abbrev pub security_pair_from : Key × SecurityPrivate → Result KeyPair Fault
+security_pair_from (SkEcdsa k, r) = Ok (SkEcdsaPair k r)
+security_pair_from (SkEd25519 k, r) = Ok (SkEd25519Pair k r)
+security_pair_from _ = Err Length
+
+abbrev pub sk_ecdsa_pair_format : Format KeyPair
+sk_ecdsa_pair_format = tested security_pair_from (sk_ecdsa_format then security_private_format)
+
+abbrev pub sk_ed25519_pair_format : Format KeyPair
+sk_ed25519_pair_format = tested security_pair_from (sk_ed25519_format then security_private_format)
+
+-- the public and the private bytes, under that name
+abbrev pub opaque_pair_from : List ℕ → List ℕ × List ℕ → Result KeyPair Fault
+opaque_pair_from name a = Ok (OpaquePair name a.0 a.1)
+
+abbrev pub opaque_pair_format : List ℕ → Format KeyPair
+opaque_pair_format name = tested (opaque_pair_from name) (string_format then string_format)
+
+abbrev pub pair_kind_format : Algorithm → Format KeyPair
+pair_kind_format Algorithm.Dsa = dsa_pair_format
+pair_kind_format (Algorithm.Ecdsa c) = ecdsa_pair_format c
+pair_kind_format Algorithm.Ed25519 = ed25519_pair_format
+pair_kind_format (Algorithm.Rsa hash) = rsa_pair_format
+pair_kind_format Algorithm.SkEcdsa = sk_ecdsa_pair_format
+pair_kind_format Algorithm.SkEd25519 = sk_ed25519_pair_format
+pair_kind_format (Algorithm.Other name) = opaque_pair_format name
+
+-- ---- a pair: the name, and what follows it
+
+-- the pair, as one that is not encrypted
+abbrev pub some_pair_format : Algorithm → Format (Option KeyPair)
+some_pair_format a = tested (λ k. Ok (Some k)) (pair_kind_format a)
+
+-- the bytes spell the pair, whose name stands before it; an encrypted one has no spelling
+abbrev pub SpellsKeypair : Option KeyPair → List ℕ → Type 0
+SpellsKeypair (Some k) b = SpellsWith IsKeyPair HasKeyPairPlaces keypair k b
+SpellsKeypair None b = ⊥
+
+unfoldable pub keypair_data_at : Front (Option KeyPair)
+keypair_data_at = (called name_format some_pair_format).read
+
+abbrev pub keypair_format : Format (Option KeyPair)
+keypair_format = known_as (called name_format some_pair_format) SpellsKeypair keypair_data_at
+
+-- ---- with the choices of the spelling, which only an ECDSA pair's scalar has
+
+abbrev pub spelled_ecdsa_pair_from : Key → List ℕ × LeadingZeros → Result (KeyPair × LeadingZeros) Fault
+spelled_ecdsa_pair_from k s = ecdsa_pair_from k s.0 >>= λ pair. Ok (pair, s.1)
+
+abbrev spelled_pair_of_key : Key → Format (KeyPair × LeadingZeros)
+spelled_pair_of_key k = tested (spelled_ecdsa_pair_from k) (spelled_scalar_format (scalar_size k))
+
+unfoldable pub any_ecdsa_pair_at : Front (KeyPair × LeadingZeros)
+any_ecdsa_pair_at = (called any_ecdsa_format spelled_pair_of_key).read
+
+abbrev pub spelled_ecdsa_pair_format : Format (KeyPair × LeadingZeros)
+spelled_ecdsa_pair_format = known_as (without_memory (called any_ecdsa_format spelled_pair_of_key)) (SpellsAs IsEcdsaPair HasPairPlaces pair) any_ecdsa_pair_at
+
+-- a pair without choices
+abbrev pub plainly : Format KeyPair → Format (KeyPair × LeadingZeros)
+plainly f = tested (λ k. Ok (k, Plain)) f
+
+abbrev pub spelled_pair_format : Algorithm → Format (KeyPair × LeadingZeros)
+spelled_pair_format (Algorithm.Ecdsa c) = tested (wanted_curve (λ x. public_half x.0) c) spelled_ecdsa_pair_format
+spelled_pair_format a = plainly (pair_kind_format a)
 
 abbrev pub pair_at : Algorithm → Front (KeyPair × LeadingZeros)
-pair_at Algorithm.Dsa b = dsa_pair_at b
-pair_at (Algorithm.Ecdsa c) b = ecdsa_pair_at c b
-pair_at Algorithm.Ed25519 b = ed25519_pair_at b
-pair_at (Algorithm.Rsa hash) b = rsa_pair_at b
-pair_at Algorithm.SkEcdsa b = sk_ecdsa_pair_at b
-pair_at Algorithm.SkEd25519 b = sk_ed25519_pair_at b
-pair_at (Algorithm.Other name) b = opaque_pair_at name b
+pair_at a = (spelled_pair_format a).read
+
+-- the pair, and how its name and its scalar are spelled
+abbrev pub spelled_keypair : Algorithm × (KeyPair × LeadingZeros) → Result (KeyPair × KeyPairChoices) Fault
+spelled_keypair a = Ok (a.1.0, record { head = head_of a.0; zeros = a.1.1 })
 
 unfoldable pub keypair_at : Front (KeyPair × KeyPairChoices)
-keypair_at b = do
-  name ← algorithm_at b
-  k ← pair_at name.0 name.1
-  Ok ((k.0.0, record { head = head_of name.0; zeros = k.0.1 }), k.1)
+keypair_at = (tested spelled_keypair (dependent name_format spelled_pair_format)).read

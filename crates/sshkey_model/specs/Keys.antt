@@ -1,11 +1,15 @@
 -- Public keys (RFC 4253, section 6.6; RFC 5656, section 3.1; RFC 8709, section 4; PROTOCOL.u2f).
 use Rattle.std.specs.Prelude.{◌≡◌, ℕ, List, length, Bool, false, Some, None, Result, Ok, Err, if◌then◌else◌}
 use Rattle.sshkey_model.specs.Parts.{Parts, ◌&◌}
-use Rattle.sshkey_model.specs.Reading.{Fault, AlgorithmUnknown, Crypto, ◌>>=◌, Front, string_at, box_at, whole, bytes_at, checked_at}
-use Rattle.sshkey_model.specs.Texts.{string, IsText, text_at}
-use Rattle.sshkey_model.specs.Names.{Curve, Nistp256, Sha256, Sha512, Algorithm, IsAlgorithm, algorithm, algorithm_at, curve, curve_at}
-use Rattle.sshkey_model.specs.Mpints.{IsMpint, mpint_at}
-use Rattle.sshkey_model.specs.Points.{IsPoint, curve_eq, of_curve, point_at, p256_point_from}
+use Rattle.sshkey_model.specs.Reading.{Fault, AlgorithmUnknown, Crypto, ◌>>=◌, Front}
+use Rattle.sshkey_model.specs.Grammar.{Spells, SpellsAs, SpellsWith}
+use Rattle.sshkey_model.specs.Formats.{Format}
+use Rattle.sshkey_model.specs.Leaves.{array_format, string_format}
+use Rattle.sshkey_model.specs.Terms.{◌then◌, called, dependent, known_as, tested, without_memory}
+use Rattle.sshkey_model.specs.Texts.{string, IsText, text_format}
+use Rattle.sshkey_model.specs.Names.{Curve, Nistp256, Sha256, Sha512, Algorithm, IsAlgorithm, algorithm, curve, curve_format, name_format}
+use Rattle.sshkey_model.specs.Mpints.{IsMpint, mpint_format}
+use Rattle.sshkey_model.specs.Points.{IsPoint, curve_eq, of_curve, point_format, p256_point_format}
 
 pub record DsaKey : Type 0 where
   pub p : List ℕ
@@ -96,28 +100,51 @@ unhashed a = a
 abbrev pub IsBodyUnder : Algorithm → Key → Type 0
 IsBodyUnder a k = (key_algorithm k ≡ unhashed a) × IsBody k
 
+-- the bytes spell the key's body under that algorithm
+abbrev pub SpellsBody : Algorithm → Key → List ℕ → Type 0
+SpellsBody a = Spells (IsBodyUnder a) body
+
 -- an ECDSA key of any curve
 abbrev pub IsEcdsa : Key → Type 0
 IsEcdsa (Ecdsa c point) = IsPoint c point
 IsEcdsa _ = ⊥
 
--- ---- reading
+-- ---- what follows each name
 
-unfoldable pub dsa_at : Front Key
-dsa_at b = do
-  p ← mpint_at b
-  q ← mpint_at p.1
-  g ← mpint_at q.1
-  y ← mpint_at g.1
-  Ok (Dsa (record { p = p.0; q = q.0; g = g.0; y = y.0 }), y.1)
+abbrev pub dsa_key_from : List ℕ × (List ℕ × (List ℕ × List ℕ)) → Result Key Fault
+dsa_key_from a = Ok (Dsa (record { p = a.0; q = a.1.0; g = a.1.1.0; y = a.1.1.1 }))
+
+abbrev pub dsa_format : Format Key
+dsa_format = tested dsa_key_from (mpint_format then mpint_format then mpint_format then mpint_format)
+
+abbrev pub rsa_key_from : List ℕ × List ℕ → Result Key Fault
+rsa_key_from a = Ok (Rsa (record { e = a.0; n = a.1 }))
+
+abbrev pub rsa_format : Format Key
+rsa_format = tested rsa_key_from (mpint_format then mpint_format)
+
+abbrev pub ed25519_key_from : List ℕ → Result Key Fault
+ed25519_key_from b = Ok (Ed25519 b)
+
+abbrev pub ed25519_format : Format Key
+ed25519_format = tested ed25519_key_from (array_format 32)
+
+abbrev pub sk_ed25519_key_from : List ℕ × List ℕ → Result Key Fault
+sk_ed25519_key_from a = Ok (SkEd25519 (record { key = a.0; application = a.1 }))
+
+abbrev pub sk_ed25519_format : Format Key
+sk_ed25519_format = tested sk_ed25519_key_from (array_format 32 then text_format)
+
+-- the point, where it is one of the stated curve
+abbrev pub ecdsa_key_from : Curve × (Curve × List ℕ) → Result Key Fault
+ecdsa_key_from a = of_curve a.0 a.1 >>= λ on. Ok (Ecdsa on.0 on.1)
+
+abbrev pub ecdsa_parts : Format (Curve × (Curve × List ℕ))
+ecdsa_parts = curve_format then point_format
 
 -- on any curve, which it states
-unfoldable pub any_ecdsa_at : Front Key
-any_ecdsa_at b = do
-  stated ← curve_at b
-  point ← point_at stated.1
-  on ← of_curve stated.0 point.0
-  Ok (Ecdsa on.0 on.1, point.1)
+abbrev pub any_ecdsa_format : Format Key
+any_ecdsa_format = without_memory (tested ecdsa_key_from ecdsa_parts)
 
 abbrev pub has_curve : Curve → Key → Bool
 has_curve wanted (Ecdsa c point) = curve_eq c wanted
@@ -128,52 +155,65 @@ abbrev pub wanted_curve : {A : Type 0} → (A → Key) → Curve → A → Resul
 wanted_curve key_of wanted x = if has_curve wanted (key_of x) then Ok x else Err AlgorithmUnknown
 
 -- of the curve that the algorithm names
-unfoldable pub ecdsa_at : Curve → Front Key
-ecdsa_at wanted = checked_at (wanted_curve (λ k. k) wanted) any_ecdsa_at
-
-unfoldable pub ed25519_at : Front (List ℕ)
-ed25519_at = box_at (whole (bytes_at 32))
-
-unfoldable pub rsa_at : Front Key
-rsa_at b = do
-  e ← mpint_at b
-  n ← mpint_at e.1
-  Ok (Rsa (record { e = e.0; n = n.0 }), n.1)
+abbrev pub ecdsa_format : Curve → Format Key
+ecdsa_format wanted = tested (wanted_curve (λ k. k) wanted) any_ecdsa_format
 
 abbrev pub p256_only : Curve → Result Curve Fault
 p256_only Nistp256 = Ok Nistp256
 p256_only _ = Err Crypto
 
-unfoldable pub sk_ecdsa_at : Front Key
-sk_ecdsa_at b = do
-  stated ← curve_at b
-  c ← p256_only stated.0
-  point ← checked_at p256_point_from string_at stated.1
-  application ← text_at point.1
-  Ok (SkEcdsa (record { key = point.0; application = application.0 }), application.1)
+-- the name of P-256
+abbrev pub p256_name_format : Format Curve
+p256_name_format = tested p256_only curve_format
 
-unfoldable pub sk_ed25519_at : Front Key
-sk_ed25519_at b = do
-  key ← ed25519_at b
-  application ← text_at key.1
-  Ok (SkEd25519 (record { key = key.0; application = application.0 }), application.1)
+abbrev pub sk_ecdsa_key_from : Curve × (List ℕ × List ℕ) → Result Key Fault
+sk_ecdsa_key_from a = Ok (SkEcdsa (record { key = a.1.0; application = a.1.1 }))
+
+abbrev pub sk_ecdsa_format : Format Key
+sk_ecdsa_format = tested sk_ecdsa_key_from (p256_name_format then p256_point_format then text_format)
+
+abbrev pub opaque_key_from : List ℕ → List ℕ → Result Key Fault
+opaque_key_from name b = Ok (Opaque name b)
+
+abbrev pub kind_format : Algorithm → Format Key
+kind_format Algorithm.Dsa = dsa_format
+kind_format (Algorithm.Ecdsa c) = ecdsa_format c
+kind_format Algorithm.Ed25519 = ed25519_format
+kind_format (Algorithm.Rsa hash) = rsa_format
+kind_format Algorithm.SkEcdsa = sk_ecdsa_format
+kind_format Algorithm.SkEd25519 = sk_ed25519_format
+kind_format (Algorithm.Other name) = tested (opaque_key_from name) string_format
 
 abbrev pub body_at : Algorithm → Front Key
-body_at Algorithm.Dsa b = dsa_at b
-body_at (Algorithm.Ecdsa c) b = ecdsa_at c b
-body_at Algorithm.Ed25519 b = ed25519_at b >>= λ k. Ok (Ed25519 k.0, k.1)
-body_at (Algorithm.Rsa hash) b = rsa_at b
-body_at Algorithm.SkEcdsa b = sk_ecdsa_at b
-body_at Algorithm.SkEd25519 b = sk_ed25519_at b
-body_at (Algorithm.Other name) b = string_at b >>= λ k. Ok (Opaque name k.0, k.1)
+body_at a = (kind_format a).read
+
+-- each ends by itself
+abbrev pub body_format : Algorithm → Format Key
+body_format a = known_as (kind_format a) (SpellsBody a) (body_at a)
+
+-- ---- a key: the name, and what follows it
 
 abbrev pub head_of : Algorithm → Head
 head_of (Algorithm.Rsa (Some Sha256)) = Head256
 head_of (Algorithm.Rsa (Some Sha512)) = Head512
 head_of _ = Plain
 
+-- the key, and how its name is spelled
+abbrev pub spelled_key : Algorithm × Key → Result (Key × Head) Fault
+spelled_key a = Ok (a.1, head_of a.0)
+
 unfoldable pub key_at : Front (Key × Head)
-key_at b = do
-  name ← algorithm_at b
-  key ← body_at name.0 name.1
-  Ok ((key.0, head_of name.0), key.1)
+key_at = (tested spelled_key (dependent name_format body_format)).read
+
+abbrev pub spelled_key_format : Format (Key × Head)
+spelled_key_format = known_as (tested spelled_key (dependent name_format body_format)) (SpellsAs IsKey HasKeyPlaces key) key_at
+
+-- the bytes spell the key, whose name stands before its body
+abbrev pub SpellsKey : Key → List ℕ → Type 0
+SpellsKey = SpellsWith IsKey HasKeyPlaces key
+
+unfoldable pub key_data_at : Front Key
+key_data_at = (called name_format body_format).read
+
+abbrev pub key_format : Format Key
+key_format = known_as (called name_format body_format) SpellsKey key_data_at

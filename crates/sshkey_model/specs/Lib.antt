@@ -1,7 +1,16 @@
 pub mod Parts
 pub mod Reading
 pub mod Grammar
+pub mod Needs
+pub mod Overruns
+pub mod Formats
 pub mod Texts
+pub mod Leaves
+pub mod ShortStrings
+pub mod Terms
+pub mod Counted
+pub mod ToEnd
+pub mod Labels
 pub mod Names
 pub mod CertificateNames
 pub mod Mpints

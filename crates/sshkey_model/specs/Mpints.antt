@@ -1,6 +1,11 @@
 -- Whole numbers of any size, in two's complement (RFC 4251, section 5).
 use Rattle.std.specs.Prelude.{◌≡◌, ℕ, zero, suc, List, [], ◌∷◌, Bool, true, false, Option, Some, None, Result, Ok, Err, nat_lt, if◌then◌else◌}
 use Rattle.sshkey_model.specs.Reading.{Fault, FormatEncoding, Front, string_at, checked_at}
+use Rattle.sshkey_model.specs.Grammar.{Spells}
+use Rattle.sshkey_model.specs.Formats.{Format}
+use Rattle.sshkey_model.specs.Needs.{NeedsString}
+use Rattle.sshkey_model.specs.Overruns.{OverrunsString}
+use Rattle.sshkey_model.specs.Texts.{string}
 
 -- Not the byte 00 alone, nor 00 before a byte below 80. (The RFC forbids a needless leading ff too;
 -- it is let through.)
@@ -33,3 +38,10 @@ mpint_from b = if is_mpint b then Ok b else Err FormatEncoding
 
 unfoldable pub mpint_at : Front (List ℕ)
 mpint_at = checked_at mpint_from string_at
+
+-- a string that is a number's bytes
+abbrev pub SpellsMpint : List ℕ → List ℕ → Type 0
+SpellsMpint = Spells IsMpint string
+
+abbrev pub mpint_format : Format (List ℕ)
+mpint_format = record { Spells = SpellsMpint; read = mpint_at; delimited_at = mpint_at; needs = NeedsString; overruns = OverrunsString }

@@ -1,7 +1,10 @@
 -- Names of algorithms, curves and hashes.
-use Rattle.std.specs.Prelude.{◌≡◌, ℕ, List, [], ◌∷◌, length, Bool, true, false, ◌&&◌, Option, Some, None, is_none, Result, Ok, Err, nat_lt, nat_le, ◌==◌, if◌then◌else◌, codes, bytes_eq}
-use Rattle.sshkey_model.specs.Parts.{Parts}
-use Rattle.sshkey_model.specs.Reading.{Fault, Label, Front, string_at, checked_at}
+use Rattle.std.specs.Prelude.{◌≡◌, ℕ, List, [], ◌∷◌, length, Bool, true, false, ◌&&◌, Option, Some, None, is_none, Result, Ok, Err, IsOkAnd, nat_lt, nat_le, ◌==◌, if◌then◌else◌, codes, bytes_eq}
+use Rattle.sshkey_model.specs.Parts.{Parts, Any}
+use Rattle.sshkey_model.specs.Reading.{Fault, Label, Front}
+use Rattle.sshkey_model.specs.Formats.{Format}
+use Rattle.sshkey_model.specs.Labels.{label_at, label_format}
+use Rattle.sshkey_model.specs.Needs.{NoNeed}
 use Rattle.sshkey_model.specs.Texts.{string}
 
 -- ---- curves and hashes
@@ -119,17 +122,31 @@ algorithm_or None n = if is_other_name n then Ok (Other n) else Err Label
 abbrev pub algorithm_from : List ℕ → Result Algorithm Fault
 algorithm_from n = algorithm_or (named algorithm_name algorithms n) n
 
-unfoldable pub algorithm_at : Front Algorithm
-algorithm_at = checked_at algorithm_from string_at
+abbrev pub algorithm_at : Front Algorithm
+algorithm_at = label_at algorithm_from
+
+-- a private-use one, whose name is kept
+abbrev pub IsPrivateUse : Algorithm → Type 0
+IsPrivateUse (Other name) = Unit {0}
+IsPrivateUse _ = ⊥
+
+abbrev pub NeedsAlgorithm : List ℕ → ℕ → Type 0
+NeedsAlgorithm b m = IsOkAnd (algorithm_at b) (λ x. IsPrivateUse x.0)
+
+abbrev pub name_format : Format Algorithm
+name_format = label_format IsAlgorithm algorithm_name algorithm_from NeedsAlgorithm
 
 abbrev pub curve_from : List ℕ → Result Curve Fault
 curve_from n = or_label (named curve_name curves n)
 
-unfoldable pub curve_at : Front Curve
-curve_at = checked_at curve_from string_at
+abbrev pub curve_at : Front Curve
+curve_at = label_at curve_from
+
+abbrev pub curve_format : Format Curve
+curve_format = label_format Any curve_name curve_from NoNeed
 
 abbrev pub hash_from : List ℕ → Result Hash Fault
 hash_from n = or_label (named hash_name hashes n)
 
-unfoldable pub hash_at : Front Hash
-hash_at = checked_at hash_from string_at
+abbrev pub hash_at : Front Hash
+hash_at = label_at hash_from

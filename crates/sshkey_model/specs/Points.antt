@@ -1,7 +1,10 @@
 -- Points of an elliptic curve (SEC 1, section 2.3.3; RFC 5656, section 3.1).
 use Rattle.std.specs.Prelude.{◌≡◌, ℕ, ◌*◌, ◌/◌, ◌%◌, List, [], ◌∷◌, length, Bool, true, false, ◌&&◌, ◌||◌, Result, Ok, Err, nat_lt, ◌==◌, if◌then◌else◌}
-use Rattle.sshkey_model.specs.Reading.{Fault, Length, AlgorithmUnknown, Ecdsa, ◌>>=◌, Front, Whole, string_at, checked_at}
+use Rattle.sshkey_model.specs.Reading.{Fault, Length, AlgorithmUnknown, Ecdsa, ◌>>=◌, Whole}
 use Rattle.sshkey_model.specs.Names.{Curve, Nistp256, Nistp384, Nistp521}
+use Rattle.sshkey_model.specs.Formats.{Format}
+use Rattle.sshkey_model.specs.Leaves.{string_format}
+use Rattle.sshkey_model.specs.Terms.{tested, without_memory}
 
 -- bytes of a coordinate
 abbrev pub field_size : Curve → ℕ
@@ -47,12 +50,15 @@ abbrev pub point_from : Whole (Curve × List ℕ)
 point_from b = if nat_lt 133 (length b) then Err Length else (point_curve b >>= λ c. Ok (c, b))
 
 -- a point on any curve
-abbrev pub point_at : Front (Curve × List ℕ)
-point_at = checked_at point_from string_at
+abbrev pub point_format : Format (Curve × List ℕ)
+point_format = without_memory (tested point_from string_format)
 
 -- a point string of P-256
 abbrev pub p256_point_from : Whole (List ℕ)
 p256_point_from b = if nat_lt 65 (length b) then Err Length else if is_point 32 b then Ok b else Err Ecdsa
+
+abbrev pub p256_point_format : Format (List ℕ)
+p256_point_format = without_memory (tested p256_point_from string_format)
 
 -- the point, if it is of the stated curve
 abbrev pub of_curve : Curve → Curve × List ℕ → Result (Curve × List ℕ) Fault

@@ -113,6 +113,12 @@ list_within item (suc n) before (b ∷ rest) = do
 abbrev pub list_whole : {A : Type 0} → (Option A → Front A) → Whole (List A)
 list_whole item b = list_within item (length b) None b
 
+-- A reader of all bytes, as one that leaves none.
+abbrev pub to_end : {A : Type 0} → Whole A → Front A
+to_end read b = do
+  x ← read b
+  Ok (x, [])
+
 -- Each fits after the one before it.
 unfoldable pub IsChain : {A : Type 0} → (Option A → A → Type 0) → Option A → List A → Type 0
 IsChain Follows before [] = Unit {0}

@@ -1,10 +1,15 @@
 -- Signatures (RFC 4253, section 6.6; RFC 5656, section 3.1.2; RFC 8332, section 3; RFC 8709,
 -- section 6; PROTOCOL.u2f).
-use Rattle.std.specs.Prelude.{◌≡◌, ℕ, suc, ◌-◌, ◌<◌, ◌≤◌, List, ◌++◌, length, take, drop, Bool, true, false, Option, Some, None, ok_or, Ok, Err, nat_lt, ◌==◌, if◌then◌else◌}
+use Rattle.std.specs.Prelude.{◌≡◌, ℕ, suc, ◌-◌, ◌<◌, ◌≤◌, List, ◌++◌, length, take, drop, Bool, true, false, Option, Some, None, Result, ok_or, Ok, Err, IsOk, IsOkAnd, ◌⊎◌, nat_lt, ◌==◌, if◌then◌else◌}
 use Rattle.sshkey_model.specs.Parts.{Parts, bytes, ◌&◌, flat, Fits}
-use Rattle.sshkey_model.specs.Reading.{Length, Crypto, ◌>>=◌, Front, Whole, string_at, bytes_at, checked_at}
+use Rattle.sshkey_model.specs.Reading.{Fault, Length, Crypto, ◌>>=◌, Front, Whole, string_at, bytes_at, checked_at}
+use Rattle.sshkey_model.specs.Grammar.{Spells}
+use Rattle.sshkey_model.specs.Formats.{Format}
+use Rattle.sshkey_model.specs.Needs.{NeedsString}
+use Rattle.sshkey_model.specs.Overruns.{OverrunsString}
+use Rattle.sshkey_model.specs.Terms.{called, known_as, tested}
 use Rattle.sshkey_model.specs.Texts.{string}
-use Rattle.sshkey_model.specs.Names.{Nistp256, Algorithm, IsAlgorithm, algorithm, algorithm_at}
+use Rattle.sshkey_model.specs.Names.{Nistp256, Algorithm, IsAlgorithm, algorithm, name_format}
 use Rattle.sshkey_model.specs.Mpints.{IsMpint, mpint_from, positive_part}
 use Rattle.sshkey_model.specs.Points.{field_size}
 
@@ -115,8 +120,43 @@ trailed_at judge b = do
 abbrev pub signature_blob_at : Algorithm → Front (List ℕ)
 signature_blob_at a = if has_trailer a then trailed_at (string_from a) else checked_at (string_from a) string_at
 
+-- The length of one of the two numbers passes.
+abbrev pub OverrunsComponents : ℕ → List ℕ → Type 0
+OverrunsComponents size b = OverrunsString b 0 ⊎ IsOkAnd (after_component size b) (λ r. OverrunsString r 0)
+
+-- So it does in the string of an ECDSA signature. In other strings no length stands.
+abbrev pub OverrunsNumbers : Algorithm → List ℕ → Type 0
+OverrunsNumbers (Algorithm.Ecdsa c) b = OverrunsComponents (field_size c) b
+OverrunsNumbers Algorithm.SkEcdsa b = OverrunsComponents (field_size Nistp256) b
+OverrunsNumbers _ b = ⊥
+
+-- The length of the string passes; or the string is all there, with n bytes after it, and a length
+-- in it passes.
+abbrev pub OverrunsInside : (List ℕ → Type 0) → ℕ → List ℕ → ℕ → Type 0
+OverrunsInside inside n b m = OverrunsString b m ⊎ IsOkAnd (string_at b) (λ x. IsOk (bytes_at n x.1) × inside x.0)
+
+-- the same of what follows that name, with a security key's five bytes after the string
+abbrev pub OverrunsBlob : Algorithm → List ℕ → ℕ → Type 0
+OverrunsBlob a = OverrunsInside (OverrunsNumbers a) (if has_trailer a then 5 else 0)
+
+-- ---- as formats: the name, and then the string, with a trailer after it for security keys
+
+abbrev pub blob_format : Algorithm → Format (List ℕ)
+blob_format a = record { Spells = Spells (IsSignatureBlob a) (signature_blob a); read = signature_blob_at a; delimited_at = signature_blob_at a; needs = NeedsString; overruns = OverrunsBlob a }
+
+-- the signature under that name
+abbrev pub signature_with : Algorithm → List ℕ → Result Signature Fault
+signature_with a blob = Ok (record { algorithm = a; blob = blob })
+
+abbrev pub signature_under : Algorithm → Format Signature
+signature_under a = tested (signature_with a) (blob_format a)
+
+-- the bytes spell the signature
+abbrev pub SpellsSignature : Signature → List ℕ → Type 0
+SpellsSignature = Spells IsSignature signature
+
 unfoldable pub signature_at : Front Signature
-signature_at b = do
-  name ← algorithm_at b
-  blob ← signature_blob_at name.0 name.1
-  Ok (record { algorithm = name.0; blob = blob.0 }, blob.1)
+signature_at = (called name_format signature_under).read
+
+abbrev pub signature_format : Format Signature
+signature_format = known_as (called name_format signature_under) SpellsSignature signature_at

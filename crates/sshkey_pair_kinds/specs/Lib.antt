@@ -1,5 +1,3 @@
-pub mod PairReaders
-pub mod PairFormats
 pub mod PrivateHalves
 pub mod Pairs
 pub mod SkEcdsaSha2NistP256

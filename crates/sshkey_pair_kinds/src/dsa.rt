@@ -77,8 +77,10 @@ impl fmt::Debug for DsaPrivateKey {
 #[tactic(auto, using(sshkey_base::proofs::Lawful::mpint_lawful, sshkey_base::proofs::Steps::steps, sshkey_terms::proofs::Stopping::handed))]
 impl Decode for DsaPrivateKey {
     ghost use Rattle.sshkey_base.specs.Causes.{cause};
-    ghost use Rattle.sshkey_base.specs.Formats.{Stops, mpint_format};
-    ghost use Rattle.sshkey_base.specs.Needs.{Asks, NeedsString};
+    ghost use Rattle.sshkey_base.specs.Formats.{Stops};
+    ghost use Rattle.sshkey_model.specs.Mpints.{mpint_format};
+    ghost use Rattle.sshkey_base.specs.Needs.{Asks};
+    ghost use Rattle.sshkey_model.specs.Needs.{NeedsString};
     ghost use Rattle.sshkey_base.specs.Reading.{DecodesWide};
     ghost use Rattle.sshkey_base.specs.Source.{Later};
 
@@ -155,9 +157,9 @@ impl From<DsaKeypair> for DsaPublicKey {
 ///
 /// Fails with `Length` if a string passes what is left, and with `FormatEncoding` if its bytes are
 /// those of no number.
-#[tactic(auto, using(crate::proofs::Lawful::dsa_pair_lawful, sshkey_terms::proofs::Mapped::mapped, crate::proofs::PairReaders::dsa_pair_parts_read))]
+#[tactic(auto, using(crate::proofs::Lawful::dsa_pair_lawful, sshkey_terms::proofs::Mapped::mapped, sshkey_terms::proofs::Lawful::checked_read))]
 impl Decode for DsaKeypair {
-    ghost use Rattle.sshkey_pair_kinds.specs.PairFormats.{dsa_pair_format};
+    ghost use Rattle.sshkey_model.specs.KeyPairs.{dsa_pair_format};
     ghost use Rattle.sshkey_pair_kinds.specs.Pairs.{dsa_pair_of};
 
     type Error = Error;

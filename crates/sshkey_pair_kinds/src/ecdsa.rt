@@ -3,18 +3,18 @@
 ghost use Rattle.std.specs.Fmt.{WritesOnOk, WritesStyledOnOk};
 ghost use Rattle.std.specs.Prelude.{◌≡◌, ◌↔◌, ◌+◌, ◌*◌, ◌^◌, List, ℕ, length, codes, Some, IsOk, IfOk, IfErr};
 ghost use Rattle.hex.specs.Hex.{encode_lower, encode_upper};
-ghost use Rattle.sshkey_model.specs.KeyPairs.{KeyPair, is_high, zero_if, scalar, pair, Plain};
+ghost use Rattle.sshkey_model.specs.KeyPairs.{KeyPair, is_high, zero_if, scalar, pair, Plain, any_ecdsa_pair_format, pair_of_key, scalar_format};
 ghost use Rattle.sshkey_model.specs.Parts.{bytes};
 ghost use Rattle.sshkey_base.specs.Names.{curve_of};
 ghost use Rattle.sshkey_base.specs.Causes.{cause};
 ghost use Rattle.sshkey_base.specs.Formats.{Stops};
-ghost use Rattle.sshkey_base.specs.Needs.{Asks, NoNeed};
+ghost use Rattle.sshkey_base.specs.Needs.{Asks};
+ghost use Rattle.sshkey_model.specs.Needs.{NoNeed};
 ghost use Rattle.sshkey_base.specs.Reading.{Gives};
 ghost use Rattle.sshkey_base.specs.Source.{Later};
 ghost use Rattle.sshkey_base.specs.declared.encoding.Error.TheVariants as narrow;
 ghost use Rattle.sshkey_base.specs.declared.error.Error.TheVariants as wide;
 ghost use Rattle.sshkey_kinds.specs.EcdsaPublicKey.{ecdsa_key_of};
-ghost use Rattle.sshkey_pair_kinds.specs.PairFormats.{ecdsa_pair_format, pair_of_key, scalar_format};
 ghost use Rattle.sshkey_pair_kinds.specs.Pairs.{ecdsa_pair_of};
 ghost use Rattle.sshkey_pair_kinds.specs.PrivateHalves.{ecdsa_private_of};
 
@@ -332,7 +332,7 @@ impl From<EcdsaKeypair> for EcdsaPublicKey {
 ///
 /// Fails with the errors of `EcdsaPublicKey`, and then with those of `EcdsaPrivateKey` for a scalar
 /// as wide as the field of that key's curve.
-#[tactic(auto, using(crate::proofs::Lawful::ecdsa_pair_lawful, sshkey_terms::proofs::Chosen::chosen, sshkey_terms::proofs::Needless::needless_parts, crate::proofs::PairReaders::ecdsa_pair_chosen))]
+#[tactic(auto, using(crate::proofs::Lawful::any_ecdsa_pair_lawful, sshkey_terms::proofs::Chosen::chosen, sshkey_terms::proofs::Needless::needless_parts, crate::proofs::PairReaders::ecdsa_pair_chosen))]
 impl Decode for EcdsaKeypair {
     type Error = Error;
 
@@ -340,7 +340,7 @@ impl Decode for EcdsaKeypair {
 
     ghost means = { ecdsa_pair_of };
 
-    ghost format = { ecdsa_pair_format };
+    ghost format = { any_ecdsa_pair_format };
 
     fn lawful() {}
 

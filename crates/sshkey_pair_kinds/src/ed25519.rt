@@ -6,8 +6,7 @@ ghost use Rattle.hex.specs.Hex.{encode_lower, encode_upper};
 ghost use Rattle.rand_core.specs.Stream.{fill_bytes};
 ghost use Rattle.sshkey_base.specs.Answers.{AnswersAlways};
 ghost use Rattle.sshkey_base.specs.Causes.{cause};
-ghost use Rattle.sshkey_model.specs.KeyPairs.{KeyPair, Ed25519Pair, pair, Plain};
-ghost use Rattle.sshkey_pair_kinds.specs.PairFormats.{ed25519_pair_of_parts, ed25519_pair_format};
+ghost use Rattle.sshkey_model.specs.KeyPairs.{KeyPair, Ed25519Pair, pair, Plain, ed25519_halves_from, ed25519_pair_format};
 ghost use Rattle.sshkey_kinds.specs.Ed25519PublicKey.{ed25519_from};
 ghost use Rattle.sshkey_pair_kinds.specs.Pairs.{ed25519_pair_of, ed25519_pair_from};
 ghost use Rattle.sshkey_pair_kinds.specs.PrivateHalves.{ed25519_private_of};
@@ -190,7 +189,7 @@ impl From<Ed25519Keypair> for Ed25519PublicKey {
 ///
 /// Fails with `Length` for a string that is too short, with `TrailingData` for one that is too
 /// long, and with `Crypto` if the public bytes differ. Does not allocate.
-#[tactic(auto, using(crate::proofs::Lawful::ed25519_pair_lawful, sshkey_terms::proofs::Mapped::mapped, crate::proofs::PairReaders::ed25519_pair_parts_read))]
+#[tactic(auto, using(crate::proofs::Lawful::ed25519_pair_lawful, sshkey_terms::proofs::Mapped::mapped, sshkey_terms::proofs::Lawful::checked_read))]
 impl Decode for Ed25519Keypair {
     type Error = Error;
 
@@ -213,7 +212,7 @@ impl Decode for Ed25519Keypair {
 #[inline(always)]
 fn from_halves(public: &[u8; 32], bytes: &[u8; 64]) -> Result<Ed25519Keypair>
     ensures { AnswersAlways ed25519_pair_of cause
-        (ed25519_pair_of_parts (public.now, bytes.now)) result }
+        (ed25519_halves_from (public.now, bytes.now)) result }
 {
     if bytes[32..] != public[..] {
         return Err(Error::Crypto);

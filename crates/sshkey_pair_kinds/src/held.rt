@@ -52,9 +52,9 @@ impl Held {
 }
 
 /// The flags, the key handle and the reserved bytes.
-#[tactic(auto, using(crate::proofs::Lawful::held_lawful, sshkey_terms::proofs::Mapped::mapped, sshkey_terms::proofs::Lawful::checked_read))]
+#[tactic(auto, using(crate::proofs::Lawful::security_private_lawful, sshkey_terms::proofs::Mapped::mapped, sshkey_terms::proofs::Lawful::checked_read))]
 impl Decode for Held {
-    ghost use Rattle.sshkey_pair_kinds.specs.PairFormats.{held_format};
+    ghost use Rattle.sshkey_model.specs.KeyPairs.{security_private_format};
 
     type Error = encoding::Error;
 
@@ -62,7 +62,7 @@ impl Decode for Held {
 
     ghost means = { held_of };
 
-    ghost format = { held_format };
+    ghost format = { security_private_format };
 
     fn lawful() {}
 

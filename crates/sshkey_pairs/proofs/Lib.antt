@@ -1,4 +1,3 @@
-pub mod SameReaders
 pub mod KeypairReaders
 pub mod Lawful
 pub mod NormalPairs

@@ -1,10 +1,9 @@
 -- The normal form of a pair is one of its spellings.
 use Rattle.std.proofs.Common.{ℕ, List, Option, Some, None, refl}
 use Rattle.sshkey_model.specs.Parts.{flat, Fits}
-use Rattle.sshkey_model.specs.KeyPairs.{KeyPair, plain_pair}
+use Rattle.sshkey_model.specs.KeyPairs.{KeyPair, plain_pair, SpellsKeypair}
 use Rattle.sshkey_model.proofs.KeyPairReaders.{plain_keypair_has}
 use Rattle.sshkey_pairs.specs.declared.keypair_data.KeypairData.{KeypairData}
-use Rattle.sshkey_pairs.specs.KeypairReaders.{SpellsKeypair}
 use Rattle.sshkey_pairs.specs.Keypairs.{pair_of, keypair_parts, ciphertext_of, pair_or_bytes}
 use Rattle.sshkey_pairs.specs.NormalPairs.{IsWellFormedPair}
 

@@ -10,8 +10,7 @@ ghost use Rattle.sshkey_keys.specs.Keys.{key_of, stored_algorithm as key_algorit
 ghost use Rattle.sshkey_model.specs.KeyPairs.{IsKeyPair, xor_all, words};
 ghost use Rattle.sshkey_model.specs.Keys.{IsKey, unhashed};
 ghost use Rattle.sshkey_model.specs.Names.{Dsa, Ecdsa, Ed25519, Rsa, SkEcdsa, SkEd25519 as AlgorithmSkEd25519, Other, algorithm_name};
-ghost use Rattle.sshkey_pairs.specs.Keypairs.{pair_fields, pair_of, keypair_parts, public_of, stored_algorithm, checkint_of, GivesPair, GivesModelPair, StopsPair, StopsModelPair};
-ghost use Rattle.sshkey_pairs.specs.KeypairFormats.{NeedsPair};
+ghost use Rattle.sshkey_pairs.specs.Keypairs.{pair_fields, pair_of, keypair_parts, public_of, stored_algorithm, checkint_of, GivesPair, StopsPair, NeedsPair};
 ghost use Rattle.sshkey_pairs.specs.PairKinds.{is_encrypted};
 
 mod from;
@@ -76,20 +75,18 @@ impl KeypairData {
     /// stands whole before it is rejected only for memory that it needs, and where a stated length
     /// passes all that was announced, the call fails with `Length`, unless memory ran out for a
     /// value before it.
-    #[tactic(auto, using(crate::proofs::SameReaders::model_gives, crate::proofs::SameReaders::model_stops))]
     pub fn decode_as<R: Reader>(
         alloc: Global,
         reader: &mut R,
         algorithm: Algorithm,
     ) -> Result<KeypairData>
-        ensures gives { GivesModelPair (algorithm_of algorithm)
-            R.source reader.old result reader.new }
+        ensures gives { GivesPair (algorithm_of algorithm) R.source reader.old result reader.new }
         ensures algorithm { IfOk result
             (λ k. stored_algorithm k ≡ Some (unhashed (algorithm_of algorithm))) }
         ensures later { Later (R.source reader.old) (R.source reader.new) }
         ensures asks { Asks cause (NeedsPair (algorithm_of algorithm))
             (R.source reader.old) result }
-        ensures past { StopsModelPair (algorithm_of algorithm) R.source reader.old result }
+        ensures past { StopsPair (algorithm_of algorithm) R.source reader.old result }
     {
         pair_from(alloc, reader, algorithm)
     }
@@ -192,8 +189,7 @@ impl KeypairData {
 /// of no algorithm, and with the faults of the kind.
 #[tactic(auto, using(crate::proofs::Lawful::keypair_lawful, sshkey_terms::proofs::Chosen::chosen, crate::proofs::KeypairReaders::keypair_chosen))]
 impl Decode for KeypairData {
-    ghost use Rattle.sshkey_model.specs.KeyPairs.{KeyPair};
-    ghost use Rattle.sshkey_pairs.specs.KeypairFormats.{keypair_format};
+    ghost use Rattle.sshkey_model.specs.KeyPairs.{KeyPair, keypair_format};
 
     type Error = Error;
 

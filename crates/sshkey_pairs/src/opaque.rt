@@ -58,8 +58,10 @@ impl AsSlice<u8> for OpaquePrivateKeyBytes {
 #[tactic(auto, using(sshkey_base::proofs::Lawful::string_lawful, sshkey_base::proofs::Steps::steps))]
 impl Decode for OpaquePrivateKeyBytes {
     ghost use Rattle.sshkey_base.specs.Causes.{encoding_cause};
-    ghost use Rattle.sshkey_base.specs.Formats.{Stops, string_format};
-    ghost use Rattle.sshkey_base.specs.Needs.{Asks, NeedsString};
+    ghost use Rattle.sshkey_base.specs.Formats.{Stops};
+    ghost use Rattle.sshkey_model.specs.Leaves.{string_format};
+    ghost use Rattle.sshkey_base.specs.Needs.{Asks};
+    ghost use Rattle.sshkey_model.specs.Needs.{NeedsString};
     ghost use Rattle.sshkey_base.specs.Reading.{Decodes};
     ghost use Rattle.sshkey_base.specs.Source.{Later};
 
@@ -124,11 +126,10 @@ impl OpaqueKeypairBytes {
 
 /// A string of the public bytes, and one of the private bytes. Fails with `Length` if one passes
 /// what is left.
-#[tactic(auto, using(sshkey_terms::proofs::Mapped::mapped, crate::proofs::KeypairReaders::nameless_parts_read))]
+#[tactic(auto, using(sshkey_terms::proofs::Mapped::mapped, sshkey_terms::proofs::Lawful::checked_read))]
 impl Decode for OpaqueKeypairBytes {
     ghost use Rattle.std.specs.Prelude.{[]};
-    ghost use Rattle.sshkey_model.specs.KeyPairs.{KeyPair};
-    ghost use Rattle.sshkey_pairs.specs.KeypairFormats.{opaque_pair_format};
+    ghost use Rattle.sshkey_model.specs.KeyPairs.{KeyPair, opaque_pair_format};
 
     type Error = encoding::Error;
 

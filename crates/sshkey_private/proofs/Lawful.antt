@@ -7,10 +7,11 @@ use Rattle.sshkey_model.specs.KeyDerivation.{Cipher, NoCipher, Kdf, NoKdf, Bcryp
 use Rattle.sshkey_model.specs.PrivateKeys.{private_key_magic}
 use Rattle.sshkey_model.proofs.CombinedReaders.{bind_assoc}
 use Rattle.sshkey_model.proofs.Grammars.{all_end, by_itself}
-use Rattle.sshkey_base.specs.Formats.{IsFormat, number32_format}
-use Rattle.sshkey_base.specs.Stops.{AreLengths}
+use Rattle.sshkey_model.specs.Formats.{IsFormat}
+use Rattle.sshkey_model.specs.Leaves.{number32_format}
+use Rattle.sshkey_model.specs.Overruns.{AreLengths}
 use Rattle.sshkey_base.proofs.Lawful.{number32_lawful, text_lawful}
-use Rattle.sshkey_terms.specs.Terms.{◌then◌}
+use Rattle.sshkey_model.specs.Terms.{◌then◌}
 use Rattle.sshkey_terms.proofs.Lawful.{IsMapped, boxed_lawful, called_ends, called_lawful, literal_lawful, read_as_lawful, tested_lawful, then_lawful, without_memory_lawful}
 use Rattle.sshkey_keys.proofs.Lawful.{key_lawful}
 use Rattle.sshkey_ciphers.proofs.Lawful.{cipher_lawful, kdf_lawful, sealed_lawful}

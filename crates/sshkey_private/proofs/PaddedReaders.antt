@@ -2,12 +2,12 @@
 use Rattle.std.proofs.Common.{◌≡◌, ◌≢◌, ◌⊎◌, inl, inr, ℕ, ◌%◌, Bool, true, false, cond, ltb, List, [], length, Result, Ok, Err, IsErrAnd, bytes_eq, refl, ap, ◌∙◌, arith}
 use Rattle.std.proofs.lemmas.Bool.{eq-eqb, ne_eqb}
 use Rattle.std.proofs.lemmas.Result.{err_from_is_err_and}
-use Rattle.sshkey_model.specs.Reading.{Fault, Length, FormatEncoding, ◌>>=◌, Front}
+use Rattle.sshkey_model.specs.Reading.{Fault, Length, FormatEncoding, ◌>>=◌, Front, to_end}
 use Rattle.sshkey_model.specs.PrivateKeys.{rising}
 use Rattle.sshkey_model.proofs.CombinedReaders.{ok_is, bind_assoc, bind_same}
 use Rattle.sshkey_base.specs.Causes.{Cause, NoMemory, Faulty}
 use Rattle.sshkey_base.specs.Source.{Source, IsSound, announced_len}
-use Rattle.sshkey_base.specs.Reading.{Reads, IsRefused, to_end}
+use Rattle.sshkey_base.specs.Reading.{Reads, IsRefused}
 use Rattle.sshkey_base.specs.Stops.{RanOut}
 use Rattle.sshkey_ciphers.specs.Paddings.{end_padding_below, padding_end}
 use Rattle.sshkey_private.specs.Padded.{padded_below, NeedsPadded}

@@ -6,7 +6,7 @@ use Rattle.sshkey_model.specs.KeyDerivation.{Cipher, NoCipher, Kdf, NoKdf, Bcryp
 use Rattle.sshkey_model.specs.PrivateKeys.{UnencryptedKey, PrivateKey, Unencrypted, Encrypted, may_precede}
 use Rattle.sshkey_model.specs.Reading.{Fault, Length, TrailingKeyData, ◌>>=◌}
 use Rattle.sshkey_model.proofs.CombinedReaders.{bind_ok, met, ok_is}
-use Rattle.sshkey_base.specs.Formats.{IsFormat}
+use Rattle.sshkey_model.specs.Formats.{IsFormat}
 use Rattle.sshkey_terms.proofs.Lawful.{called_chosen}
 use Rattle.sshkey_ciphers.specs.Ciphertexts.{sealed_format}
 use Rattle.sshkey_private.specs.Inner.{part_format}

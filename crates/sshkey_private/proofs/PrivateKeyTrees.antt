@@ -10,13 +10,13 @@ use Rattle.sshkey_model.specs.Grammar.{IsSpelled, spelled}
 use Rattle.sshkey_model.specs.Texts.{IsText, string}
 use Rattle.sshkey_model.specs.Keys.{Key, IsKey, key, key_algorithm, Head, HasHead, HasKeyPlaces}
 use Rattle.sshkey_model.specs.KeyDerivation.{Cipher, NoCipher, block_size, tag_size, cipher, Kdf, NoKdf, Bcrypt, kdf}
-use Rattle.sshkey_model.specs.KeyPairs.{KeyPair, public_half, KeyPairChoices, plain_pair, IsKeyPair, HasKeyPairPlaces, keypair}
+use Rattle.sshkey_model.specs.KeyPairs.{KeyPair, public_half, KeyPairChoices, plain_pair, IsKeyPair, HasKeyPairPlaces, keypair, keypair_format}
 use Rattle.sshkey_model.specs.PrivateKeys.{UnencryptedKey, PrivateKey, Unencrypted, Encrypted, key_cipher, key_kdf, public_key, rising, private_key_magic, private_part, private_key, normal_private_key, PrivateKeyChoices, plain_private_key, IsUnencryptedKey, IsPrivateKey, HasContentPlaces, HasPrivateKeyPlaces, key_eq}
 use Rattle.sshkey_model.proofs.CombinedReaders.{met, ok_is, fits_both, fits_first, fits_bytes}
 use Rattle.sshkey_model.proofs.EqualKeys.{same_key, key_itself}
 use Rattle.sshkey_model.proofs.KeyPairReaders.{plain_keypair_has}
 use Rattle.sshkey_model.proofs.Grammars.{ends}
-use Rattle.sshkey_base.specs.Formats.{number32_format}
+use Rattle.sshkey_model.specs.Leaves.{number32_format}
 use Rattle.sshkey_base.proofs.Lawful.{number32_lawful}
 use Rattle.sshkey_model.proofs.Trees.{IsTree, Alike, alike, grouped, leaf_tree, open_tree, dependent_tree, then_tree, box_tree, kept_tree, tested_tree, made_tree}
 use Rattle.sshkey_ciphers.proofs.Paddings.{rising_length}
@@ -24,7 +24,6 @@ use Rattle.sshkey_ciphers.specs.Ciphertexts.{AreBlocks, blocks_format}
 use Rattle.sshkey_ciphers.specs.KdfFormats.{cipher_format}
 use Rattle.sshkey_ciphers.proofs.KdfTrees.{kdf_tree}
 use Rattle.sshkey_ciphers.proofs.Lawful.{blocks_lawful, cipher_lawful}
-use Rattle.sshkey_pairs.specs.KeypairFormats.{keypair_format}
 use Rattle.sshkey_private.specs.Halves.{is_half}
 use Rattle.sshkey_private.specs.Inner.{unencrypted, one_checkint, checkint_format, pair_format, inner_format}
 use Rattle.sshkey_private.specs.Openings.{Opening, magic_format, one_format, sealing_format, opening_with, opening_format}

@@ -6,9 +6,10 @@ use Rattle.sshkey_model.specs.KeyDerivation.{Cipher, NoCipher, Kdf, NoKdf, Bcryp
 use Rattle.sshkey_model.specs.PrivateKeys.{PrivateKey}
 use Rattle.sshkey_model.proofs.CombinedReaders.{bind_assoc}
 use Rattle.sshkey_base.specs.Causes.{Cause, Faulty}
-use Rattle.sshkey_base.specs.Needs.{NeedsString}
+use Rattle.sshkey_model.specs.Needs.{NeedsString}
 use Rattle.sshkey_base.specs.Source.{Source}
-use Rattle.sshkey_base.specs.Stops.{OverrunsString, RanOut, Stopped, StopsBy}
+use Rattle.sshkey_base.specs.Stops.{RanOut, Stopped, StopsBy}
+use Rattle.sshkey_model.specs.Overruns.{OverrunsString}
 use Rattle.sshkey_base.proofs.Stopping.{checked_stopped}
 use Rattle.sshkey_terms.proofs.Lawful.{IsChosen}
 use Rattle.sshkey_ciphers.specs.Ciphertexts.{sealed_format}

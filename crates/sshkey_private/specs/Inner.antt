@@ -1,14 +1,14 @@
 -- The private part of a key that is not encrypted (PROTOCOL.key): the terms that it is read as.
 use Rattle.std.specs.Prelude.{ℕ, List, Option, option_map, Result, Ok, Err, ◌==◌, if◌then◌else◌}
 use Rattle.sshkey_model.specs.Reading.{Fault, Crypto, PublicKey, ◌>>=◌, Front}
-use Rattle.sshkey_model.specs.Texts.{text_at}
+use Rattle.sshkey_model.specs.Texts.{text_at, text_format}
 use Rattle.sshkey_model.specs.Keys.{Key}
-use Rattle.sshkey_model.specs.KeyPairs.{KeyPair}
+use Rattle.sshkey_model.specs.KeyPairs.{KeyPair, keypair_format}
 use Rattle.sshkey_model.specs.PrivateKeys.{UnencryptedKey}
-use Rattle.sshkey_base.specs.Formats.{Format, number32_format, text_format}
-use Rattle.sshkey_terms.specs.Terms.{◌then◌, boxed, tested, without_memory, read_as}
+use Rattle.sshkey_model.specs.Formats.{Format}
+use Rattle.sshkey_model.specs.Leaves.{number32_format}
+use Rattle.sshkey_model.specs.Terms.{◌then◌, boxed, tested, without_memory, read_as}
 use Rattle.sshkey_pairs.specs.Keypairs.{pair_of}
-use Rattle.sshkey_pairs.specs.KeypairFormats.{keypair_format}
 use Rattle.sshkey_private.specs.declared.part.Inner.{Inner}
 use Rattle.sshkey_private.specs.Halves.{is_half}
 use Rattle.sshkey_private.specs.Padded.{padded_format}

@@ -2,12 +2,12 @@
 -- the opening means that was read.
 use Rattle.std.specs.Prelude.{ℕ, List, Result, Ok, Err, ◌==◌, if◌then◌else◌}
 use Rattle.sshkey_model.specs.Reading.{Fault, Length, Front}
-use Rattle.sshkey_model.specs.Keys.{Key}
+use Rattle.sshkey_model.specs.Keys.{Key, key_format}
 use Rattle.sshkey_model.specs.KeyDerivation.{Cipher, Kdf}
 use Rattle.sshkey_model.specs.PrivateKeys.{private_key_magic}
-use Rattle.sshkey_base.specs.Formats.{Format, number32_format}
-use Rattle.sshkey_terms.specs.Terms.{◌then◌, boxed, literal_format, tested, read_as}
-use Rattle.sshkey_keys.specs.KeyFormats.{key_format}
+use Rattle.sshkey_model.specs.Formats.{Format}
+use Rattle.sshkey_model.specs.Leaves.{number32_format}
+use Rattle.sshkey_model.specs.Terms.{◌then◌, boxed, literal_format, tested, read_as}
 use Rattle.sshkey_keys.specs.Keys.{key_of}
 use Rattle.sshkey_ciphers.specs.Ciphers.{cipher_of, kdf_of}
 use Rattle.sshkey_ciphers.specs.KdfFormats.{cipher_format, kdf_format}

@@ -1,10 +1,9 @@
 -- A value and its padding, which fill whole blocks (PROTOCOL.key).
 use Rattle.std.specs.Prelude.{◌≡◌, ℕ, ◌+◌, ◌%◌, ◌<◌, List, ◌++◌, length, Err, ◌==◌, if◌then◌else◌}
-use Rattle.sshkey_model.specs.Reading.{Length, ◌>>=◌, Front, Whole, never_at}
+use Rattle.sshkey_model.specs.Reading.{Length, ◌>>=◌, Front, Whole, never_at, to_end}
 use Rattle.sshkey_model.specs.KeyDerivation.{NoCipher, block_size}
 use Rattle.sshkey_model.specs.PrivateKeys.{rising}
-use Rattle.sshkey_base.specs.Formats.{Format}
-use Rattle.sshkey_base.specs.Reading.{to_end}
+use Rattle.sshkey_model.specs.Formats.{Format}
 use Rattle.sshkey_ciphers.specs.Paddings.{end_padding_below}
 
 -- The bytes spell the value, and end in fewer bytes of padding than the limit.

@@ -5,10 +5,10 @@ use Rattle.sshkey_model.specs.Reading.{Fault, Crypto, PublicKey, TrailingKeyData
 use Rattle.sshkey_model.specs.Keys.{Key}
 use Rattle.sshkey_model.specs.KeyDerivation.{Cipher, NoCipher, Kdf, NoKdf, Bcrypt}
 use Rattle.sshkey_model.specs.PrivateKeys.{UnencryptedKey, PrivateKey, Unencrypted, Encrypted, may_precede}
-use Rattle.sshkey_base.specs.Formats.{Format}
-use Rattle.sshkey_base.specs.Needs.{NoNeed, NeedsString}
-use Rattle.sshkey_base.specs.Stops.{NoOverrun, OverrunsString}
-use Rattle.sshkey_terms.specs.Terms.{called, tested, read_as}
+use Rattle.sshkey_model.specs.Formats.{Format}
+use Rattle.sshkey_model.specs.Needs.{NoNeed, NeedsString}
+use Rattle.sshkey_model.specs.Overruns.{NoOverrun, OverrunsString}
+use Rattle.sshkey_model.specs.Terms.{called, tested, read_as}
 use Rattle.sshkey_ciphers.specs.Ciphertexts.{sealed_format}
 use Rattle.sshkey_private.specs.Inner.{part_format}
 use Rattle.sshkey_private.specs.Openings.{Opening, opening_at, opening_format}

@@ -3,7 +3,7 @@
 use Rattle.std.specs.Prelude.{◌≡◌, ℕ, List, ◌++◌, true, Result, Ok, Err}
 use Rattle.sshkey_model.specs.PrivateKeys.{PrivateKey, Unencrypted, Encrypted, may_precede}
 use Rattle.sshkey_model.specs.Reading.{Fault, TrailingKeyData, Front, checked_at}
-use Rattle.sshkey_base.specs.Formats.{Format}
+use Rattle.sshkey_model.specs.Formats.{Format}
 use Rattle.sshkey_private.specs.PrivateKeyFormats.{file_format, steps_at}
 
 -- the key, where it is not encrypted

@@ -4,7 +4,7 @@ use Rattle.sshkey_model.proofs.LineCuts.{one_cut}
 use Rattle.sshkey_model.specs.Lines.{IsCut}
 use Rattle.sshkey_model.specs.Reading.{whole}
 use Rattle.sshkey_base.specs.Causes.{cause, Faulty}
-use Rattle.sshkey_base.specs.Formats.{Format}
+use Rattle.sshkey_model.specs.Formats.{Format}
 use Rattle.sshkey_base.specs.Reading.{GivesWhole}
 use Rattle.sshkey_base.specs.Source.{Source}
 use Rattle.sshkey_base.specs.Stops.{StopsPast}

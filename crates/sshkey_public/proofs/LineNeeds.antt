@@ -1,7 +1,7 @@
 -- Where a line asks for memory.
 use Rattle.std.proofs.Common.{◌≡◌, ℕ, ◌%◌, List, [], length, Result, Ok, Err, inl, inr, sym, subst, ◌∙◌}
 use Rattle.sshkey_base.specs.Causes.{cause, NoMemory}
-use Rattle.sshkey_base.specs.Formats.{Format}
+use Rattle.sshkey_model.specs.Formats.{Format}
 use Rattle.sshkey_base.specs.Needs.{Asks}
 use Rattle.sshkey_base.specs.Source.{Source}
 use Rattle.sshkey_base.specs.Stops.{StopsPast}

@@ -5,7 +5,7 @@ use Rattle.base64.specs.GeneralPurpose.{encode_of, IsBytes}
 use Rattle.sshkey_model.specs.Lines.{IsCut}
 use Rattle.sshkey_model.specs.Reading.{Length, whole}
 use Rattle.sshkey_base.specs.Causes.{cause, NoMemory, Faulty}
-use Rattle.sshkey_base.specs.Formats.{Format}
+use Rattle.sshkey_model.specs.Formats.{Format}
 use Rattle.sshkey_base.specs.declared.encoding.Error.TheVariants.{Base64}
 use Rattle.sshkey_base.specs.declared.error.Error.{Error}
 use Rattle.sshkey_base.specs.declared.error.Error.TheVariants.{AlgorithmUnknown, Encoding}

@@ -6,7 +6,7 @@ use Rattle.sshkey_base.specs.Causes.{cause}
 use Rattle.sshkey_base.specs.declared.error.Error.{Error}
 use Rattle.sshkey_base.specs.declared.error.Error.TheVariants.{FormatEncoding, Memory}
 use Rattle.sshkey_cert.proofs.CertificateReaders.{certificates_stand}
-use Rattle.sshkey_base.specs.Formats.{Format}
+use Rattle.sshkey_model.specs.Formats.{Format}
 use Rattle.sshkey_entries.specs.Answers.{AsksEntry, ReadsEntry, RefusesFor}
 use Rattle.sshkey_model.proofs.Base64Words.{one_blob, some_word}
 use Rattle.sshkey_model.proofs.Blobs.{key_blobs}

@@ -2,16 +2,12 @@
 use Rattle.std.specs.Prelude.{◌≡◌, ◌≢◌, ◌⊎◌, ℕ, List, Bool, true, false, IsTrue}
 use Rattle.openssh_limits.specs.Keys.{is_read_key}
 use Rattle.openssh_limits.specs.Read.{AreReadPrincipals}
-use Rattle.sshkey_base.specs.Formats.{Format}
+use Rattle.sshkey_model.specs.Formats.{Format}
 use Rattle.sshkey_base.specs.declared.error.Error.{Error}
 use Rattle.sshkey_base.specs.declared.error.Error.TheVariants.{AlgorithmUnknown, FormatEncoding}
-use Rattle.sshkey_cert.specs.CertificateFormats.{certificate_format}
-use Rattle.sshkey_cert.specs.CertificateReaders.{SpellsCertificate}
-use Rattle.sshkey_keys.specs.KeyFormats.{key_format}
-use Rattle.sshkey_keys.specs.Keys.{SpellsKey}
 use Rattle.sshkey_krl.specs.Sections.{is_read_signer}
-use Rattle.sshkey_model.specs.Certificates.{Certificate}
-use Rattle.sshkey_model.specs.Keys.{Key, normal_key}
+use Rattle.sshkey_model.specs.Certificates.{Certificate, certificate_format, SpellsCertificate}
+use Rattle.sshkey_model.specs.Keys.{Key, normal_key, key_format, SpellsKey}
 use Rattle.sshkey_model.specs.Lines.{IsWithout, key_name, name_of_certificate}
 use Rattle.sshkey_model.specs.Parts.{flat}
 use Rattle.sshkey_public.specs.LineFaults.{HasFaultOfWord}

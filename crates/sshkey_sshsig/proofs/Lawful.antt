@@ -1,8 +1,8 @@
 -- The format of SSH signatures is lawful.
 use Rattle.sshkey_model.specs.SshSignatures.{signature_magic}
 use Rattle.sshkey_model.proofs.NameReaders.{hash_checks}
-use Rattle.sshkey_base.specs.Formats.{IsFormat}
-use Rattle.sshkey_base.specs.Needs.{NoNeed}
+use Rattle.sshkey_model.specs.Formats.{IsFormat}
+use Rattle.sshkey_model.specs.Needs.{NoNeed}
 use Rattle.sshkey_base.proofs.Lawful.{label_lawful, number32_lawful, string_lawful, text_lawful}
 use Rattle.sshkey_terms.proofs.Lawful.{boxed_lawful, literal_lawful, tested_lawful, then_lawful}
 use Rattle.sshkey_keys.proofs.Lawful.{key_lawful, signature_lawful}

@@ -9,7 +9,7 @@ use Rattle.sshkey_model.specs.Keys.{Head, Plain, IsKey, HasKeyPlaces, key}
 use Rattle.sshkey_model.specs.SshSignatures.{SshSignature, IsSshSignature, HasSshSignaturePlaces, ssh_signature, normal_ssh_signature, signature_magic}
 use Rattle.sshkey_model.proofs.Grammars.{all_end, ends}
 use Rattle.sshkey_model.proofs.Trees.{IsTree, Alike, regrouped, leaf_tree, open_tree, then_tree, box_tree, kept_tree, made_tree, determined, read_back}
-use Rattle.sshkey_base.specs.Formats.{string_format}
+use Rattle.sshkey_model.specs.Leaves.{string_format}
 use Rattle.sshkey_base.proofs.Lawful.{string_lawful}
 use Rattle.sshkey_sshsig.specs.SshSignatures.{statement}
 use Rattle.sshkey_sshsig.specs.SshSignatureFormats.{SshSignatureOpening, magic_format, version_format, opening_format, namespace_format, hash_format, ssh_signature_with}

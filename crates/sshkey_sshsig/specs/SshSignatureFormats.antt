@@ -2,14 +2,16 @@
 use Rattle.std.specs.Prelude.{ℕ, List, length, Result, Ok, Err, nat_lt, if◌then◌else◌}
 use Rattle.sshkey_model.specs.Parts.{Any}
 use Rattle.sshkey_model.specs.Reading.{Fault, Version, Namespace}
-use Rattle.sshkey_model.specs.Keys.{Key}
+use Rattle.sshkey_model.specs.Keys.{Key, key_format}
 use Rattle.sshkey_model.specs.Names.{Hash, hash_name, hash_from}
-use Rattle.sshkey_model.specs.Signatures.{Signature}
+use Rattle.sshkey_model.specs.Signatures.{Signature, signature_format}
 use Rattle.sshkey_model.specs.SshSignatures.{SshSignature, signature_magic}
-use Rattle.sshkey_base.specs.Formats.{Format, number32_format, string_format, text_format, label_format}
-use Rattle.sshkey_base.specs.Needs.{NoNeed}
-use Rattle.sshkey_keys.specs.KeyFormats.{key_format, signature_format}
-use Rattle.sshkey_terms.specs.Terms.{◌then◌, boxed, tested, literal_format}
+use Rattle.sshkey_model.specs.Formats.{Format}
+use Rattle.sshkey_model.specs.Leaves.{number32_format, string_format}
+use Rattle.sshkey_model.specs.Texts.{text_format}
+use Rattle.sshkey_model.specs.Labels.{label_format}
+use Rattle.sshkey_model.specs.Needs.{NoNeed}
+use Rattle.sshkey_model.specs.Terms.{◌then◌, boxed, tested, literal_format}
 
 abbrev pub magic_format : Format (List ℕ)
 magic_format = literal_format signature_magic

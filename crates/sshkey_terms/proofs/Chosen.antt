@@ -3,10 +3,12 @@
 use Rattle.std.proofs.Common.{◌≡◌, ℕ, List, IsErrAnd, Result, Ok, Err, ◌∙◌}
 use Rattle.sshkey_model.specs.Reading.{Front}
 use Rattle.sshkey_base.specs.Causes.{Cause}
-use Rattle.sshkey_base.specs.Needs.{Asks, NeedsThen}
+use Rattle.sshkey_base.specs.Needs.{Asks}
+use Rattle.sshkey_model.specs.Needs.{NeedsThen}
 use Rattle.sshkey_base.specs.Reading.{Reads, IsRefused, Gives}
 use Rattle.sshkey_base.specs.Source.{Source}
-use Rattle.sshkey_base.specs.Stops.{OverrunsThen, AreLengths, Stopped, StopsBy}
+use Rattle.sshkey_base.specs.Stops.{Stopped, StopsBy}
+use Rattle.sshkey_model.specs.Overruns.{OverrunsThen, AreLengths}
 use Rattle.sshkey_base.proofs.Places.{later_none, later_then}
 use Rattle.sshkey_base.proofs.Steps.{refused_first, refused_later, asks_later}
 use Rattle.sshkey_terms.proofs.Lawful.{IsChosen}

@@ -9,13 +9,13 @@ use Rattle.sshkey_model.specs.Reading.{Fault, Length, ◌>>=◌, Front}
 use Rattle.sshkey_model.specs.Grammar.{AllEnd, Grammar, MayFollow}
 use Rattle.sshkey_model.proofs.CombinedReaders.{bind_ok, fits_first, fits_second, ok_is, passed}
 use Rattle.sshkey_model.proofs.Grammars.{ends, taken_before, none_in}
-use Rattle.sshkey_base.specs.Formats.{Format, IsFormat}
-use Rattle.sshkey_base.specs.Leaves.{count}
-use Rattle.sshkey_base.specs.Stops.{AreLengths}
+use Rattle.sshkey_model.specs.Formats.{Format, IsFormat}
+use Rattle.sshkey_model.specs.Leaves.{count}
+use Rattle.sshkey_model.specs.Overruns.{AreLengths}
 use Rattle.sshkey_base.proofs.Counts.{count_normal}
 use Rattle.sshkey_base.proofs.Lawful.{number32_lawful}
 use Rattle.sshkey_base.proofs.Writing.{length_both}
-use Rattle.sshkey_terms.specs.Counted.{OverrunsCounted, OverrunsValues, SpellsEach, SpellsValues, counted, counted_format, filled, times_at, values_at}
+use Rattle.sshkey_model.specs.Counted.{OverrunsCounted, OverrunsValues, SpellsEach, SpellsValues, counted, counted_format, filled, times_at, values_at}
 
 -- ---- where a stated length passes
 

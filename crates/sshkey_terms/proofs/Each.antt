@@ -4,13 +4,13 @@ use Rattle.std.proofs.Common.{◌≡◌, ◌≢◌, ◌⊎◌, inl, inr, ◌<◌
 use Rattle.std.proofs.lemmas.List.{length-append}
 use Rattle.sshkey_model.specs.Reading.{Fault, Length, never_at}
 use Rattle.sshkey_base.specs.Causes.{Cause, NoMemory, Faulty}
-use Rattle.sshkey_base.specs.Formats.{Format, IsFormat}
+use Rattle.sshkey_model.specs.Formats.{Format, IsFormat}
 use Rattle.sshkey_base.specs.Reading.{IsRefused, Reads}
 use Rattle.sshkey_base.specs.Source.{Later, Source, IsSound, announced_len}
 use Rattle.sshkey_base.specs.Stops.{RanOut, Stopped}
 use Rattle.sshkey_base.proofs.FirstValues.{Begun, first_asks, first_stopped, still_begun}
 use Rattle.sshkey_base.proofs.ReadLists.{StillOverruns}
-use Rattle.sshkey_terms.specs.ToEnd.{HasBytes, NeedsEach, OverrunsEach}
+use Rattle.sshkey_model.specs.ToEnd.{HasBytes, NeedsEach, OverrunsEach}
 
 pub some_left : (finished : Bool) (n : ℕ) → (n ≡ 0 → finished ≡ true) → finished ≡ false → n ≢ 0
 some_left true n is left none = absurd cc

@@ -4,12 +4,12 @@ use Rattle.std.proofs.lemmas.Bool.{cases_lt, le-ltb, lt-ltb}
 use Rattle.std.proofs.lemmas.Result.{err_from_is_err_and}
 use Rattle.sshkey_model.specs.Reading.{Fault, Length}
 use Rattle.sshkey_base.specs.Causes.{Cause, Faulty}
-use Rattle.sshkey_base.specs.Formats.{Format, IsFormat}
+use Rattle.sshkey_model.specs.Formats.{Format, IsFormat}
 use Rattle.sshkey_base.specs.Reading.{Reads, IsRefused}
 use Rattle.sshkey_base.specs.Source.{Source, announced_len}
 use Rattle.sshkey_base.specs.Stops.{RanOut, Stopped}
 use Rattle.sshkey_base.proofs.Stopping.{not_taken, step_ok}
-use Rattle.sshkey_terms.specs.Counted.{NeedsCounted, NeedsValues, OverrunsCounted, OverrunsValues, filled, times_at, values_at}
+use Rattle.sshkey_model.specs.Counted.{NeedsCounted, NeedsValues, OverrunsCounted, OverrunsValues, filled, times_at, values_at}
 use Rattle.sshkey_terms.proofs.CountedLists.{values_lengths, values_same}
 
 module _ {A : Type 0} (f : Format A) (laws : IsFormat f) (n : ℕ) (s : Source) where

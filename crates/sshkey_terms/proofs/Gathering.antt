@@ -6,13 +6,13 @@ use Rattle.std.proofs.lemmas.Result.{err_from_is_err_and}
 use Rattle.sshkey_model.specs.Reading.{Fault, Length, ◌>>=◌, Front}
 use Rattle.sshkey_model.proofs.CombinedReaders.{ok_is}
 use Rattle.sshkey_base.specs.Causes.{Cause, Faulty, NoMemory}
-use Rattle.sshkey_base.specs.Formats.{Format, IsFormat}
+use Rattle.sshkey_model.specs.Formats.{Format, IsFormat}
 use Rattle.sshkey_base.specs.Reading.{Reads, IsRefused}
 use Rattle.sshkey_base.specs.Source.{Source}
 use Rattle.sshkey_base.specs.Stops.{RanOut, Stopped}
 use Rattle.sshkey_base.proofs.FirstValues.{Begun, needed, still_begun}
 use Rattle.sshkey_base.proofs.Stopping.{step_ok, read_past}
-use Rattle.sshkey_terms.specs.Counted.{NeedsValues, OverrunsValues, times_at}
+use Rattle.sshkey_model.specs.Counted.{NeedsValues, OverrunsValues, times_at}
 use Rattle.sshkey_terms.proofs.Stopping.{some_ok}
 
 abbrev onto : {A : Type 0} → List A → List A × List ℕ → Result (List A × List ℕ) Fault

@@ -1,19 +1,20 @@
 -- Terms of lawful formats are lawful.
-use Rattle.std.proofs.Common.{◌≡◌, inl, inr, ℕ, List, Result, Ok, Err, refl, sym, ◌∙◌}
+use Rattle.std.proofs.Common.{◌≡◌, inl, inr, ℕ, ◌++◌, Option, None, List, [], ◌∷◌, Result, Ok, Err, refl, sym, ap, ◌∙◌, arith}
 use Rattle.std.specs.Prelude.{IsOkAnd}
 use Rattle.sshkey_model.specs.Reading.{Fault, Length, ◌>>=◌, Front, checked_at, literal_at, after_at}
-use Rattle.sshkey_model.specs.Grammar.{IsGrammar, AllEnd}
-use Rattle.sshkey_model.proofs.CombinedReaders.{literal_reads}
-use Rattle.sshkey_model.proofs.Grammars.{grammar, same_grammar, all_end, by_itself, box_grammar, whole_spells, then_grammar, tested_grammar}
-use Rattle.sshkey_base.specs.Formats.{Format, IsFormat}
-use Rattle.sshkey_base.specs.Stops.{OverrunsThen, AreLengths}
+use Rattle.sshkey_model.specs.Grammar.{IsGrammar, AllEnd, MayFollow}
+use Rattle.sshkey_model.proofs.CombinedReaders.{literal_reads, ok_is}
+use Rattle.sshkey_model.proofs.Grammars.{grammar, same_grammar, all_end, by_itself, box_grammar, whole_spells, none_in, then_grammar, tested_grammar}
+use Rattle.sshkey_model.specs.Formats.{Format, IsFormat}
+use Rattle.sshkey_model.specs.Needs.{NoNeed}
+use Rattle.sshkey_model.specs.Overruns.{OverrunsThen, AreLengths}
 use Rattle.sshkey_base.proofs.Lawful.{number32_lawful}
 use Rattle.sshkey_base.proofs.Lengths.{boxed_lengths, checked_lengths, no_lengths}
-use Rattle.sshkey_terms.specs.Terms.{dependent, ◌then◌, tested, without_memory, boxed, literal_format, called, read_as, made_of, chosen_of}
-use Rattle.sshkey_terms.specs.Counted.{values_format, counted_format}
-use Rattle.sshkey_terms.specs.ToEnd.{HasBytes, values_to_end}
+use Rattle.sshkey_model.specs.Terms.{dependent, ◌then◌, tested, needing, without_memory, boxed, literal_format, or_nothing, or_nothing_at, called, read_as, known_as}
+use Rattle.sshkey_model.specs.Counted.{values_format, counted_format}
+use Rattle.sshkey_model.specs.ToEnd.{HasBytes, each_after, values_to_end}
 use Rattle.sshkey_terms.proofs.CountedLists.{values_grammar, values_lengths}
-use Rattle.sshkey_terms.proofs.ListsToEnd.{to_end_grammar, each_lengths}
+use Rattle.sshkey_terms.proofs.ListsToEnd.{to_end_grammar, each_lengths, row_grammar, row_lengths}
 
 abbrev pub with_first : {A B : Type 0} → A → B × List ℕ → Result ((A × B) × List ℕ) Fault
 with_first a y = Ok ((a, y.0), y.1)
@@ -88,8 +89,39 @@ then_lawful p q = dependent_lawful p (λ _. q)
 pub tested_lawful : {A B : Type 0} {f : Format A} (test : A → Result B Fault) → IsFormat f → IsFormat (tested test f)
 tested_lawful test p = record { grammar = tested_grammar test p.grammar; lengths = checked_lengths test p.lengths }
 
+pub needing_lawful : {A : Type 0} {f : Format A} (needs : List ℕ → ℕ → Type 0) → IsFormat f → IsFormat (needing needs f)
+needing_lawful needs p = record { grammar = p.grammar; lengths = p.lengths }
+
 pub without_memory_lawful : {A : Type 0} {f : Format A} → IsFormat f → IsFormat (without_memory f)
-without_memory_lawful p = record { grammar = p.grammar; lengths = p.lengths }
+without_memory_lawful = needing_lawful NoNeed
+
+-- Each spelling of the value has a byte, and no length passes where none is.
+pub or_nothing_lawful : {A : Type 0} {f : Format A} (none : A) → HasBytes f → ((m : ℕ) → f.overruns [] m → ⊥) → IsFormat f → IsFormat (or_nothing none f)
+or_nothing_lawful {A} {f} none shows short p = record { grammar = record { same = same; before = p.grammar.before; takes = takes; alone = alone }; lengths = lengths }
+  where
+    nothing_shows : {X : Type 0} (x : A) → f.Spells x [] → X
+    nothing_shows x s = absurd (omega (arith, shows x [] s))
+
+    same : (b : List ℕ) (x : A × List ℕ) → f.delimited_at b ≡ Ok x → or_nothing_at none f.read b ≡ Ok x
+    same [] x e =
+        let t = p.grammar.takes [] x.0 x.1 (p.grammar.same [] x e) in
+        nothing_shows x.0 (rw (none_in t.0 x.1 (sym t.2)).0 at t.1)
+    same (c ∷ b) x e = p.grammar.same (c ∷ b) x e
+
+    takes : (b : List ℕ) (x : A) (rest : List ℕ) → or_nothing_at none f.read b ≡ Ok (x, rest) → (front : List ℕ) × (or_nothing none f).Spells x front × (b ≡ front ++ rest) × MayFollow f.delimited_at x front rest
+    takes [] x rest e =
+        let both : ◌≡◌ {A = A × List ℕ} (none, []) (x, rest) = ok_is (none, []) (x, rest) e in
+        ([], inl (ap (λ (z : A × List ℕ). z.0) (sym both), refl), ap (λ (z : A × List ℕ). z.1) both, inl (ap (λ (z : A × List ℕ). z.1) (sym both)))
+    takes (c ∷ b) x rest e = let t = p.grammar.takes (c ∷ b) x rest e in (t.0, inr t.1, t.2, t.3)
+
+    alone : (x : A) (front : List ℕ) → (or_nothing none f).Spells x front → or_nothing_at none f.read front ≡ Ok (x, [])
+    alone x front (inl nothing) = rw (nothing.0, nothing.1) refl
+    alone x [] (inr s) = nothing_shows x s
+    alone x (c ∷ b) (inr s) = p.grammar.alone x (c ∷ b) s
+
+    lengths : (b : List ℕ) (m : ℕ) → f.overruns b m → or_nothing_at none f.read b ≡ Err Length
+    lengths [] m o = absurd (short m o)
+    lengths (c ∷ b) m o = p.lengths (c ∷ b) m o
 
 pub boxed_lawful : {A : Type 0} {f : Format A} → IsFormat f → IsFormat (boxed f)
 boxed_lawful p = record { grammar = by_itself (box_grammar (whole_spells p.grammar)); lengths = boxed_lengths p.lengths }
@@ -108,17 +140,9 @@ read_as_lawful p same all = record {
   lengths = λ b m o. same b ∙ p.lengths b m o;
 }
 
-pub made_of_lawful : {Y Z : Type 0} {parts : Format Y} {form : Y → Result Z Fault} {Spells : Z → List ℕ → Type 0} {record_at : Front Z} → IsFormat parts → IsMapped record_at form parts.read → IsGrammar Spells record_at → IsFormat (made_of parts Spells record_at)
-made_of_lawful p mapped g = record {
-  grammar = by_itself g;
-  lengths = λ b m o. rw (mapped.same b, p.lengths b m o) refl;
-}
-
-pub chosen_of_lawful : {A Z : Type 0} {first : Format A} {second : A → Format Z} {Spells : Z → List ℕ → Type 0} {record_at : Front Z} → IsFormat first → ((a : A) → IsFormat (second a)) → IsChosen record_at first.read (λ a. (second a).read) → IsGrammar Spells record_at → IsFormat (chosen_of first second Spells record_at)
-chosen_of_lawful p q chosen g = record {
-  grammar = by_itself g;
-  lengths = chosen_lengths p.grammar.same chosen p.lengths (λ a. (q a).lengths);
-}
+-- the tree spells what the reader takes
+pub known_as_lawful : {A : Type 0} {f : Format A} {Spells : A → List ℕ → Type 0} {read : Front A} → IsFormat f → ((b : List ℕ) → read b ≡ f.read b) → IsGrammar Spells read → IsFormat (known_as f Spells read)
+known_as_lawful p same g = record { grammar = by_itself g; lengths = λ b m o. same b ∙ p.lengths b m o }
 
 -- ---- lists
 
@@ -129,6 +153,9 @@ pub counted_lawful : {A : Type 0} {item : Format A} → IsFormat item → IsForm
 counted_lawful p = called_lawful number32_lawful (values_lawful p)
 
 pub values_to_end_lawful : {A : Type 0} {item : Format A} → HasBytes item → IsFormat item → IsFormat (values_to_end item)
-values_to_end_lawful {item = item} shows p = record { grammar = to_end_grammar p.grammar shows; lengths = each_lengths p.grammar shows item.overruns p.lengths }
+values_to_end_lawful shows p = record { grammar = to_end_grammar p shows; lengths = each_lengths p shows }
 
-pub ruleset lawful = (then_lawful, tested_lawful, without_memory_lawful, literal_lawful)
+pub ruleset lawful = (then_lawful, tested_lawful, needing_lawful, without_memory_lawful, literal_lawful)
+
+pub each_after_lawful : {A : Type 0} {item : Option A → Format A} → ((before : Option A) → HasBytes (item before)) → ((before : Option A) → IsFormat (item before)) → ((before : Option A) → (item before).overruns ≡ (item None).overruns) → IsFormat (each_after item)
+each_after_lawful {item = item} shows p alike = record { grammar = row_grammar p shows; lengths = row_lengths p shows (item None).overruns (λ before. rw (← alike before) (p before).lengths) }

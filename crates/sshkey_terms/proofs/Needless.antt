@@ -3,7 +3,7 @@ use Rattle.std.proofs.Common.{◌≡◌, inl, inr, ℕ, List, IsErrAnd, Result, 
 use Rattle.std.specs.Prelude.{IsOkAnd}
 use Rattle.sshkey_model.specs.Reading.{Fault, Front}
 use Rattle.sshkey_base.specs.Causes.{Cause, NoMemory}
-use Rattle.sshkey_base.specs.Needs.{NoNeed, NeedsThen}
+use Rattle.sshkey_model.specs.Needs.{NoNeed, NeedsThen}
 use Rattle.sshkey_base.specs.Source.{Source, IsSound}
 use Rattle.sshkey_base.specs.Stops.{Stopped, StopsBy}
 use Rattle.sshkey_terms.proofs.Lawful.{IsMapped}

@@ -6,11 +6,11 @@ use Rattle.sshkey_model.specs.Reading.{Fault, Length, number_at}
 use Rattle.sshkey_model.proofs.CombinedReaders.{ok_is}
 use Rattle.sshkey_base.specs.declared.encoding.Error as encoding
 use Rattle.sshkey_base.specs.Causes.{Cause, Faulty, encoding_cause}
-use Rattle.sshkey_base.specs.Formats.{Format, IsFormat}
+use Rattle.sshkey_model.specs.Formats.{Format, IsFormat}
 use Rattle.sshkey_base.specs.Nested.{PastIs}
 use Rattle.sshkey_base.specs.Reading.{Reads, Refuses}
 use Rattle.sshkey_base.specs.Source.{Source}
-use Rattle.sshkey_base.specs.Stops.{NoOverrun, OverrunsString, OverrunsThen}
+use Rattle.sshkey_model.specs.Overruns.{NoOverrun, OverrunsString, OverrunsThen}
 use Rattle.sshkey_base.proofs.Stopping.{read_past}
 use Rattle.sshkey_terms.specs.Past.{StopsPastAlways}
 

@@ -5,7 +5,8 @@ use Rattle.sshkey_base.specs.Answers.{AnswersAlways}
 use Rattle.sshkey_base.specs.Causes.{Cause, Faulty}
 use Rattle.sshkey_base.specs.Reading.{Reads, IsRefused}
 use Rattle.sshkey_base.specs.Source.{Source}
-use Rattle.sshkey_base.specs.Stops.{AreLengths, Stopped, StopsBy}
+use Rattle.sshkey_base.specs.Stops.{Stopped, StopsBy}
+use Rattle.sshkey_model.specs.Overruns.{AreLengths}
 use Rattle.sshkey_base.proofs.Stopping.{not_taken, read_past, judged_stops, same_stops}
 use Rattle.sshkey_terms.proofs.Lawful.{IsMapped}
 

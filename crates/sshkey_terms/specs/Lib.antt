@@ -1,5 +1,2 @@
-pub mod Terms
-pub mod ToEnd
-pub mod Counted
 pub mod Slices
 pub mod Past

@@ -1,6 +1,6 @@
 //! A value in a string.
 
-ghost use Rattle.sshkey_terms.specs.Terms.{boxed};
+ghost use Rattle.sshkey_model.specs.Terms.{boxed};
 
 use sshkey_base::{Decode, Reader, decode_boxed};
 use std::alloc::Global;

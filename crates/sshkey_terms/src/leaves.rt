@@ -3,7 +3,9 @@
 
 ghost use Rattle.std.specs.Prelude.{◌≡◌, ℕ, List, IfErr};
 ghost use Rattle.sshkey_base.specs.Causes.{encoding_cause};
-ghost use Rattle.sshkey_base.specs.Formats.{IsFormat, array_format, number32_format, number64_format, string_format, text_format};
+ghost use Rattle.sshkey_model.specs.Formats.{IsFormat};
+ghost use Rattle.sshkey_model.specs.Leaves.{array_format, number32_format, number64_format, string_format};
+ghost use Rattle.sshkey_model.specs.Texts.{text_format};
 ghost use Rattle.sshkey_base.specs.Nested.{nested_source};
 ghost use Rattle.sshkey_base.specs.Reading.{DecodesAlways, GivesAlways};
 ghost use Rattle.sshkey_base.specs.Source.{Later, all_of};

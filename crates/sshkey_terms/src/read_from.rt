@@ -1,6 +1,6 @@
 //! Values that one kind of reader gives, without memory.
 
-ghost use Rattle.sshkey_base.specs.Formats.{Format, IsFormat};
+ghost use Rattle.sshkey_model.specs.Formats.{Format, IsFormat};
 ghost use Rattle.sshkey_base.specs.Reading.{GivesAlways};
 ghost use Rattle.sshkey_base.specs.Source.{Later};
 ghost use Rattle.sshkey_terms.specs.Past.{StopsPastAlways};

@@ -1,6 +1,6 @@
 //! A value after another.
 
-ghost use Rattle.sshkey_terms.specs.Terms.{◌then◌};
+ghost use Rattle.sshkey_model.specs.Terms.{◌then◌};
 
 use crate::read_from::ReadFrom;
 use sshkey_base::{Decode, Reader};

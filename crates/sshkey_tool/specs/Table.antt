@@ -5,15 +5,13 @@ use Rattle.std.specs.Str.{IsUtf8}
 use denote.Ref.{Bor}
 use Rattle.sshkey_model.specs.Fingerprints.{fingerprint, fingerprint_text}
 use Rattle.sshkey_fingerprints.specs.RandomArt.{picture}
-use Rattle.sshkey_model.specs.Certificates.{Certificate}
-use Rattle.sshkey_model.specs.Keys.{Key}
+use Rattle.sshkey_model.specs.Certificates.{Certificate, SpellsCertificate}
+use Rattle.sshkey_model.specs.Keys.{Key, SpellsKey}
 use Rattle.sshkey_model.specs.Lines.{IsKeyLine, key_line, key_name, IsCertificateLine, name_of_certificate, IsNoLine}
 use Rattle.sshkey_model.specs.Names.{Sha256}
-use Rattle.sshkey_cert.specs.CertificateReaders.{SpellsCertificate}
 use Rattle.sshkey_entries.specs.AuthorizedKeys.{IsAuthorizedKey, authorized_text}
 use Rattle.sshkey_entries.specs.Entries.{entries}
 use Rattle.sshkey_entries.specs.KnownHosts.{IsKnownHost, known_text}
-use Rattle.sshkey_keys.specs.Keys.{SpellsKey}
 use Rattle.sshkey_tool.specs.Faults.{IsBegun, WritesWithStatus}
 use Rattle.sshkey_tool.specs.EntryLines.{ShowsEntries, ShowsEntry, ShowsFirst}
 use Rattle.sshkey_tool.specs.Lines.{line_end, IsCertificateText, HasNoLineEnd, refusal_line}

@@ -1,8 +1,8 @@
 -- The formats are lawful.
 use Rattle.std.specs.Prelude.{Ok}
-use Rattle.sshkey_base.specs.Formats.{IsFormat}
+use Rattle.sshkey_model.specs.Formats.{IsFormat}
 use Rattle.sshkey_base.proofs.Lawful.{string_lawful}
-use Rattle.sshkey_terms.specs.Terms.{literal_format}
+use Rattle.sshkey_model.specs.Terms.{literal_format}
 use Rattle.sshkey_terms.proofs.Lawful.{called_lawful, literal_lawful, tested_lawful, then_lawful}
 use Rattle.sshkey_userauth.specs.Requests.{Hostbound, Method, Publickey, has_signature, message_number}
 use Rattle.sshkey_userauth.specs.RequestFormats.{bound_credential, credential_format, method_and_credential, method_format, method_from, opening_format, plain_credential, request_of_parts, signed_format, userauth_format}

@@ -9,9 +9,9 @@ use Rattle.sshkey_model.specs.Reading.{Fault, ◌>>=◌, Label, after_at}
 use Rattle.sshkey_model.proofs.LawfulReaders.{ok_is}
 use Rattle.sshkey_model.proofs.Grammars.{all_end, ends}
 use Rattle.sshkey_model.proofs.Trees.{IsTree, Alike, alike, leaf_tree, then_tree, dependent_tree, tested_tree, made_tree}
-use Rattle.sshkey_base.specs.Formats.{string_format}
+use Rattle.sshkey_model.specs.Leaves.{string_format}
 use Rattle.sshkey_base.proofs.Lawful.{string_lawful}
-use Rattle.sshkey_terms.specs.Terms.{literal_format}
+use Rattle.sshkey_model.specs.Terms.{literal_format}
 use Rattle.sshkey_terms.proofs.Lawful.{called_ends, with_first}
 use Rattle.sshkey_userauth.specs.Requests.{UserauthRequest, Method, Publickey, Hostbound, method_name, method_of, message_number, has_signature, keys, userauth_request}
 use Rattle.sshkey_userauth.specs.RequestFormats.{Credential, Opening, method_from, method_format, plain_credential, bound_credential, signed_format, credential_format, method_and_credential, opening_format, request_with, userauth_format}

@@ -3,13 +3,13 @@ use Rattle.std.specs.Prelude.{◌≡◌, ◌⊎◌, ℕ, List, [], ◌∷◌, Bo
 use Rattle.std.specs.Result.{IsOk}
 use Rattle.sshkey_base.specs.Causes.{Faulty, cause}
 use Rattle.sshkey_model.specs.Certificates.{certificate_at}
-use Rattle.sshkey_model.specs.Keys.{Key}
+use Rattle.sshkey_model.specs.Keys.{Key, key_data_at}
 use Rattle.sshkey_model.specs.Names.{Nistp256, Nistp384, Nistp521, Sha256, Sha512, Algorithm, Dsa, Ecdsa, Ed25519, Rsa, SkEcdsa, SkEd25519, Other}
 use Rattle.sshkey_model.specs.Parts.{flat}
 use Rattle.sshkey_model.specs.Reading.{Fault, ◌>>=◌, whole}
 use Rattle.sshkey_model.specs.Signatures.{Signature, has_trailer, trailer}
 use Rattle.sshkey_model.specs.Verification.{Question, question}
-use Rattle.sshkey_keys.specs.Keys.{key_data_at, key_of}
+use Rattle.sshkey_keys.specs.Keys.{key_of}
 use Rattle.sshkey_keys.specs.declared.key_data.KeyData.{KeyData}
 use Rattle.sshkey_userauth.specs.Requests.{UserauthRequest, userauth_request}
 use Rattle.sshkey_userauth.specs.declared.judgement.Requirements.{Requirements}

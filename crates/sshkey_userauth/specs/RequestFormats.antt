@@ -1,8 +1,9 @@
 -- The format of what a client signs: the term that it is read as.
 use Rattle.std.specs.Prelude.{ℕ, List, Option, Some, None, Result, Ok, Err, bytes_eq, if◌then◌else◌}
 use Rattle.sshkey_model.specs.Reading.{Fault, Label}
-use Rattle.sshkey_base.specs.Formats.{Format, string_format}
-use Rattle.sshkey_terms.specs.Terms.{◌then◌, called, tested, literal_format}
+use Rattle.sshkey_model.specs.Formats.{Format}
+use Rattle.sshkey_model.specs.Leaves.{string_format}
+use Rattle.sshkey_model.specs.Terms.{◌then◌, called, tested, literal_format}
 use Rattle.sshkey_userauth.specs.Requests.{UserauthRequest, Method, Publickey, Hostbound, method_name, message_number, has_signature}
 
 -- the method of that name

@@ -2,10 +2,9 @@
 use Rattle.std.proofs.Common.{◌≡◌, ◌≢◌, ℕ, List, [], Option, Some, None, Err, inl, inr, refl, ap, subst, ◌∙◌}
 use Rattle.sshkey_base.specs.Causes.{Faulty, cause}
 use Rattle.sshkey_base.specs.declared.error.Error.{Error}
-use Rattle.sshkey_keys.specs.SignatureReaders.{SpellsSignature}
 use Rattle.sshkey_keys.proofs.SignatureReaders.{signature_grammar}
 use Rattle.sshkey_model.specs.Reading.{Fault}
-use Rattle.sshkey_model.specs.Signatures.{Signature}
+use Rattle.sshkey_model.specs.Signatures.{Signature, SpellsSignature}
 use Rattle.sshkey_model.specs.Verification as model
 use Rattle.sshkey_model.proofs.Grammars.{one_front}
 use Rattle.sshkey_calls.specs.Numbers.{fault_number}

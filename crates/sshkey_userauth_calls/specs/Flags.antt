@@ -1,9 +1,7 @@
 -- What is answered of the flags in a client's signature (PROTOCOL.u2f).
 use Rattle.std.specs.Prelude.{◌≡◌, ◌≢◌, ℕ, List, [], Option, Some, None, Result, Ok, Err}
-use Rattle.sshkey_keys.specs.Keys.{SpellsKey, key_data_at}
-use Rattle.sshkey_keys.specs.SignatureReaders.{SpellsSignature}
-use Rattle.sshkey_model.specs.Keys.{Key}
-use Rattle.sshkey_model.specs.Signatures.{Signature, signature_at}
+use Rattle.sshkey_model.specs.Keys.{Key, SpellsKey, key_data_at}
+use Rattle.sshkey_model.specs.Signatures.{Signature, signature_at, SpellsSignature}
 use Rattle.sshkey_model.specs.Verification.{Question, question}
 use Rattle.sshkey_calls.specs.Outcomes.{TellsOf}
 use Rattle.sshkey_userauth.specs.Judgements.{flags_of, lacking}

@@ -1,9 +1,8 @@
 -- What is answered of a client's signature for a login (RFC 4252, section 7).
 use Rattle.std.specs.Prelude.{◌≡◌, ◌≢◌, ◌==◌, ℕ, List, Option, Some, None, Err, bit_and, if◌then◌else◌}
-use Rattle.sshkey_keys.specs.SignatureReaders.{SpellsSignature}
 use Rattle.sshkey_model.specs.Parts.{BoxesFit}
 use Rattle.sshkey_model.specs.Reading.{Fault}
-use Rattle.sshkey_model.specs.Signatures.{Signature, signature_at}
+use Rattle.sshkey_model.specs.Signatures.{Signature, signature_at, SpellsSignature}
 use Rattle.sshkey_calls.specs.Numbers.{error_number, fault_number}
 use Rattle.sshkey_calls.specs.Outcomes.{TellsOf}
 use Rattle.sshkey_calls.specs.Questions.{GivesQuestion}

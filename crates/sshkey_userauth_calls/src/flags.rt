@@ -1,12 +1,10 @@
 //! Whether the flags of a security key are what a grant wants.
 
 ghost use Rattle.std.specs.Prelude.{◌≡◌, ◌≢◌};
-ghost use Rattle.sshkey_keys.specs.Keys.{SpellsKey};
-ghost use Rattle.sshkey_keys.specs.SignatureReaders.{SpellsSignature};
 ghost use Rattle.sshkey_keys_ref.specs.KeyDataRef.{key_bytes};
 ghost use Rattle.sshkey_keys_ref.specs.SignatureRef.{signature_bytes};
-ghost use Rattle.sshkey_model.specs.Keys.{Key};
-ghost use Rattle.sshkey_model.specs.Signatures.{Signature};
+ghost use Rattle.sshkey_model.specs.Keys.{Key, SpellsKey};
+ghost use Rattle.sshkey_model.specs.Signatures.{Signature, SpellsSignature};
 ghost use Rattle.sshkey_userauth_calls.specs.Flags.{TellsFlags, TellsFlagsUnder, checked_number, flags_number};
 ghost use Rattle.sshkey_userauth_calls.specs.Userauths.{requirements_of};
 

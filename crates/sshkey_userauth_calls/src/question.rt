@@ -1,9 +1,8 @@
 //! What has to be verified of a client's signature for a login.
 
-ghost use Rattle.sshkey_keys.specs.SignatureReaders.{SpellsSignature};
 ghost use Rattle.sshkey_keys_ref.specs.SignatureRef.{signature_bytes};
 ghost use Rattle.sshkey_model.specs.Parts.{BoxesFit};
-ghost use Rattle.sshkey_model.specs.Signatures.{Signature};
+ghost use Rattle.sshkey_model.specs.Signatures.{Signature, SpellsSignature};
 ghost use Rattle.sshkey_userauth.specs.RequestFormats.{SpellsUserauthRequest};
 ghost use Rattle.sshkey_userauth.specs.Requests.{userauth_request};
 ghost use Rattle.sshkey_userauth_calls.specs.Userauths.{TellsAskedWhere, TellsUserauthQuestion, TellsUserauthQuestionOf, expected, requirements_of};

@@ -12,12 +12,11 @@ use Rattle.login_terms.specs.Terms.{Terms, terms_of}
 use Rattle.openssh_limits.specs.Keys.{is_let_in}
 use Rattle.sshkey_base.specs.declared.error.Error.{Error}
 use Rattle.sshkey_base.specs.declared.error.Error.TheVariants as error
-use Rattle.sshkey_cert.specs.CertificateReaders.{SpellsCertificate}
 use Rattle.sshkey_cert.specs.Validity.{fingerprint_of}
 use Rattle.sshkey_cert_values.specs.OptionMaps.{options_of}
 use Rattle.sshkey_fingerprints.specs.declared.fingerprint.Fingerprint.{Fingerprint}
 use Rattle.sshkey_keys.specs.Fingerprints.{IsFingerprint}
-use Rattle.sshkey_model.specs.Certificates.{Certificate, normal_certificate}
+use Rattle.sshkey_model.specs.Certificates.{Certificate, normal_certificate, SpellsCertificate}
 use Rattle.sshkey_model.specs.Fingerprints.{fingerprint}
 use Rattle.sshkey_model.specs.Fingerprints as model
 use Rattle.sshkey_model.specs.Keys.{Key}

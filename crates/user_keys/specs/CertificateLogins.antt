@@ -16,12 +16,10 @@ use Rattle.login_terms.specs.Terms.{Terms, terms_of}
 use Rattle.openssh_limits.specs.Keys.{is_let_in}
 use Rattle.sshkey_base.specs.Reading.{NoSpelling}
 use Rattle.sshkey_base.specs.declared.error.Error.{Error}
-use Rattle.sshkey_cert.specs.CertificateFormats.{certificate_format}
-use Rattle.sshkey_cert.specs.CertificateReaders.{SpellsCertificate}
 use Rattle.sshkey_cert_form.specs.Faults.{IsFaultOf}
 use Rattle.sshkey_keys.specs.Fingerprints.{IsFingerprint}
 use Rattle.sshkey_krl.specs.Revocation as krl
-use Rattle.sshkey_model.specs.Certificates.{Certificate, normal_certificate}
+use Rattle.sshkey_model.specs.Certificates.{Certificate, normal_certificate, certificate_format, SpellsCertificate}
 use Rattle.sshkey_model.specs.Fingerprints.{Fingerprint, fingerprint}
 use Rattle.sshkey_model.specs.Names.{Sha256}
 use Rattle.sshkey_model.specs.Parts.{flat}

@@ -1,7 +1,7 @@
 //! Names of algorithms in certificates (PROTOCOL.certkeys).
 
 ghost use Rattle.std.specs.Prelude.{◌≡◌, ◌≤◌, length, IsOk, IfOk, IfErr, Err, Some, option_map, string_bytes};
-ghost use Rattle.sshkey_model.specs.CertificateNames.{IsCertified, certificate_algorithm, certificate_algorithm_at, certificate_name, certified, certified_from};
+ghost use Rattle.sshkey_model.specs.CertificateNames.{IsCertified, certificate_algorithm, certificate_algorithm_at, certificate_name, certified, certified_from, certified_format, NeedsCertified};
 ghost use Rattle.sshkey_model.specs.Grammar.{Spells};
 ghost use Rattle.sshkey_model.specs.Names.{Other, named};
 ghost use Rattle.sshkey_model.specs.Names as model;
@@ -9,12 +9,10 @@ ghost use Rattle.sshkey_model.specs.Parts.{bytes};
 ghost use Rattle.sshkey_model.specs.Reading as fault;
 ghost use Rattle.sshkey_base.specs.Reading.{AcceptsFront, DecodesWide};
 ghost use Rattle.sshkey_base.specs.Formats.{Stops};
-ghost use Rattle.sshkey_base.specs.NameFormats.{certified_format};
 ghost use Rattle.sshkey_base.specs.Causes.{cause};
 ghost use Rattle.sshkey_base.specs.Names.{algorithm_of};
 ghost use Rattle.sshkey_base.specs.Answers.{Judges, Names};
 ghost use Rattle.sshkey_base.specs.Labels.{AsksNamed};
-ghost use Rattle.sshkey_base.specs.NameNeeds.{NeedsCertified};
 ghost use Rattle.sshkey_base.specs.Needs.{Asks};
 ghost use Rattle.sshkey_base.specs.Source.{Later};
 ghost use Rattle.sshkey_base.specs.Sink.{Encodes};

@@ -8,7 +8,7 @@ ghost use Rattle.sshkey_model.specs.Parts.{Any};
 ghost use Rattle.sshkey_model.specs.Points.{field_size};
 ghost use Rattle.sshkey_base.specs.Labels.{AsksNamed, LooksUp, LooksUpAlways};
 ghost use Rattle.sshkey_base.specs.Names.{curve_of};
-ghost use Rattle.sshkey_base.specs.Needs.{NoNeed};
+ghost use Rattle.sshkey_model.specs.Needs.{NoNeed};
 ghost use Rattle.sshkey_base.specs.Answers.{NamesAlways};
 
 use crate::encoding;

@@ -4,7 +4,7 @@ ghost use Rattle.std.specs.Prelude.{◌≡◌, ◌↔◌, IfErr, IfOk, IsTrue, s
 ghost use Rattle.std.specs.Str.{IsUtf8};
 ghost use Rattle.sshkey_base.specs.declared.error.Error.TheVariants as wide;
 ghost use Rattle.sshkey_model.specs.CertificateNames.{certificate_name};
-ghost use Rattle.sshkey_model.specs.Certificates.{Certificate as TheCertificate, normal_certificate};
+ghost use Rattle.sshkey_model.specs.Certificates.{Certificate as TheCertificate, normal_certificate, certificate_format, SpellsCertificate};
 ghost use Rattle.sshkey_model.specs.Keys.{key_algorithm};
 ghost use Rattle.sshkey_model.specs.Lines.{certificate_line, name_of_certificate};
 ghost use Rattle.sshkey_keys.specs.Keys.{key_of};
@@ -12,8 +12,6 @@ ghost use Rattle.sshkey_public.specs.LineFaults.{RefusesLine};
 ghost use Rattle.sshkey_public.specs.LineNeeds.{AsksLine};
 ghost use Rattle.sshkey_public.specs.OneLine.{IsOneLine};
 ghost use Rattle.sshkey_public.specs.PublicKeys.{MakesLine};
-ghost use Rattle.sshkey_cert.specs.CertificateFormats.{certificate_format};
-ghost use Rattle.sshkey_cert.specs.CertificateReaders.{SpellsCertificate};
 ghost use Rattle.sshkey_cert.specs.CertificateValues.{certificate_of, comment_of};
 ghost use Rattle.sshkey_cert.specs.Lines.{ReadsCertificate};
 

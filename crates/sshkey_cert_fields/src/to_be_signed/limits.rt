@@ -1,15 +1,13 @@
 //! The last fields of what a certificate's signature is over.
 
 ghost use Rattle.std.specs.Prelude.{ℕ, List};
-ghost use Rattle.sshkey_model.specs.Keys.{Key};
-ghost use Rattle.sshkey_model.specs.Options.{CertificateOption};
-ghost use Rattle.sshkey_base.specs.Formats.{string_format};
-ghost use Rattle.sshkey_terms.specs.Terms.{◌then◌, boxed};
-ghost use Rattle.sshkey_keys.specs.KeyFormats.{key_format};
+ghost use Rattle.sshkey_model.specs.Keys.{Key, key_format};
+ghost use Rattle.sshkey_model.specs.Options.{CertificateOption, options_format};
+ghost use Rattle.sshkey_model.specs.Leaves.{string_format};
+ghost use Rattle.sshkey_model.specs.Terms.{◌then◌, boxed};
 ghost use Rattle.sshkey_keys.specs.Keys.{key_of};
-ghost use Rattle.sshkey_cert_values.specs.Leaves.{time_format, end_format};
+ghost use Rattle.sshkey_model.specs.Certificates.{time_format, end_format};
 ghost use Rattle.sshkey_cert_values.specs.OptionMaps.{options_of};
-ghost use Rattle.sshkey_cert_values.specs.OptionReaders.{options_format};
 ghost use Rattle.sshkey_cert_values.specs.Times.{time_of, end_of};
 
 use sshkey_base::{Bytes, Decode, Error, Reader, Result};

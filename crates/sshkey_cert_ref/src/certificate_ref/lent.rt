@@ -1,13 +1,11 @@
 //! The keys and the signature of a certificate, as parts of its bytes.
 
 ghost use Rattle.std.specs.Prelude.{◌≡◌};
-ghost use Rattle.sshkey_keys.specs.Keys.{SpellsKey};
-ghost use Rattle.sshkey_keys.specs.SignatureReaders.{SpellsSignature};
 ghost use Rattle.sshkey_keys_ref.specs.KeyDataRef.{key_bytes};
 ghost use Rattle.sshkey_keys_ref.specs.SignatureRef.{signature_bytes};
-ghost use Rattle.sshkey_model.specs.Keys.{body, key};
+ghost use Rattle.sshkey_model.specs.Keys.{body, key, SpellsKey};
 ghost use Rattle.sshkey_model.specs.Parts.{flat};
-ghost use Rattle.sshkey_model.specs.Signatures.{signature};
+ghost use Rattle.sshkey_model.specs.Signatures.{signature, SpellsSignature};
 ghost use Rattle.sshkey_cert_ref.specs.CertificateRef.{certificate_of, choices_of};
 
 use super::CertificateRef;

@@ -1,8 +1,9 @@
 //! One option.
 
 ghost use Rattle.std.specs.Prelude.{◌≡◌, option_map};
-ghost use Rattle.sshkey_model.specs.Options.{is_after, option_at, option_before, option_value_from};
-ghost use Rattle.sshkey_model.specs.Reading.{box_at, whole};
+ghost use Rattle.sshkey_model.specs.Options.{is_after, option_at, option_before, spelled_value_format};
+ghost use Rattle.sshkey_model.specs.Reading.{whole};
+ghost use Rattle.sshkey_model.specs.Terms.{boxed};
 ghost use Rattle.sshkey_model.specs.Texts.{text_at};
 ghost use Rattle.sshkey_base.specs.Answers.{AnswersAlways};
 ghost use Rattle.sshkey_base.specs.Causes.{cause, encoding_cause};
@@ -22,7 +23,7 @@ pub(super) struct SpelledOption<'a> {
 }
 
 /// Takes an option that stands after the one before.
-#[tactic(auto, using(sshkey_terms::proofs::Walking::walking), unfolding(sshkey_model::specs::Options::option_at))]
+#[tactic(auto, using(sshkey_terms::proofs::Walking::walking), unfolding(sshkey_model::specs::Options::spelled_option_format, sshkey_model::specs::Reading::after_at))]
 pub(super) fn take_option<'a>(
     before: Option<SpelledOption<'a>>,
     bytes: &mut &'a [u8],
@@ -56,7 +57,7 @@ fn may_follow(before: Option<SpelledOption<'_>>, option: SpelledOption<'_>) -> b
 
 /// Takes a value, and whether it is an empty text in its string.
 fn take_value<'a>(bytes: &mut &'a [u8]) -> encoding::Result<(&'a str, bool)>
-    ensures { TakesValue value_pair_of encoding_cause (box_at option_value_from)
+    ensures { TakesValue value_pair_of encoding_cause (boxed spelled_value_format).read
         bytes.old.now result bytes.new.now }
 {
     let string = take_string(bytes)?;
@@ -65,7 +66,8 @@ fn take_value<'a>(bytes: &mut &'a [u8]) -> encoding::Result<(&'a str, bool)>
 
 /// The value in a string, and whether it is an empty text there.
 fn value_from(string: &[u8]) -> encoding::Result<(&str, bool)>
-    ensures { AnswersAlways value_pair_of encoding_cause (option_value_from string.now) result }
+    ensures { AnswersAlways value_pair_of encoding_cause
+        (whole spelled_value_format.read string.now) result }
 {
     if string.is_empty() {
         return Ok(("", false));

@@ -2,12 +2,16 @@
 
 ghost use Rattle.std.specs.Prelude.{◌≡◌, option_map, string_bytes};
 ghost use Rattle.sshkey_base.specs.Causes.{cause, encoding_cause};
+ghost use Rattle.sshkey_base.specs.Formats.{Stops};
 ghost use Rattle.sshkey_base.specs.Nested.{nested_source};
-ghost use Rattle.sshkey_base.specs.Reading.{Decodes, DecodesWide, Gives, to_end};
-ghost use Rattle.sshkey_base.specs.Needs.{Asks, HasString};
+ghost use Rattle.sshkey_base.specs.Reading.{Decodes, DecodesWide, Gives};
+ghost use Rattle.sshkey_base.specs.Needs.{Asks};
+ghost use Rattle.sshkey_model.specs.Needs.{HasString};
 ghost use Rattle.sshkey_base.specs.Source.{Later};
-ghost use Rattle.sshkey_base.specs.Stops.{OverrunsString, OverrunsList, StopsBy, StopsPast, StopsToEnd};
-ghost use Rattle.sshkey_cert_values.specs.OptionReaders.{may_follow, value_front, option_box_at, option_after, item, option_list_at, NeedsOption, OverrunsValue, OverrunsOption};
+ghost use Rattle.sshkey_base.specs.Stops.{StopsPast, StopsToEnd};
+ghost use Rattle.sshkey_model.specs.Overruns.{OverrunsString};
+ghost use Rattle.sshkey_model.specs.Options.{may_follow, option_format, option_list_format, value_format};
+ghost use Rattle.sshkey_model.specs.Terms.{boxed, needing};
 ghost use Rattle.sshkey_cert_values.specs.OptionMaps.{option_of, options_of};
 
 use super::OptionsMap;
@@ -18,11 +22,11 @@ use std::alloc::Global;
 /// The options up to the end of the reader.
 #[tactic(auto, using(sshkey_base::proofs::Places::places))]
 pub(super) fn options_from<R: Reader>(alloc: Global, reader: &mut R) -> Result<OptionsMap>
-    ensures gives { DecodesWide options_of (to_end option_list_at)
+    ensures gives { DecodesWide options_of option_list_format.read
         R.source reader.old result reader.new }
     ensures later { Later (R.source reader.old) (R.source reader.new) }
     ensures asks { Asks cause HasString (R.source reader.old) result }
-    ensures past { StopsPast cause HasString (OverrunsList item OverrunsOption)
+    ensures past { StopsPast cause HasString option_list_format.overruns
         (R.source reader.old) result }
 {
     let mut gathered = Gathered::new(alloc, reader.remaining_len());
@@ -35,19 +39,19 @@ pub(super) fn options_from<R: Reader>(alloc: Global, reader: &mut R) -> Result<O
 }
 
 /// An option that stands after that of the name before.
-#[tactic(auto, using(sshkey_base::proofs::Steps::steps), unfolding(crate::specs::OptionReaders::option_after))]
+#[tactic(auto, using(sshkey_base::proofs::Steps::steps), unfolding(sshkey_model::specs::Reading::after_at))]
 fn option_from<R: Reader>(
     alloc: Global,
     reader: &mut R,
     before: Option<&str>,
 ) -> Result<(String, String)>
     ensures gives { Gives option_of cause
-        (option_after (option_map (λ name. name.now) before.entry))
+        (option_format (option_map (λ name. name.now) before.entry)).read
         (R.source reader.old) result (R.source reader.new) }
     ensures later { Later (R.source reader.old) (R.source reader.new) }
     ensures asks { Asks cause HasString (R.source reader.old) result }
-    ensures past { StopsBy cause (option_after (option_map (λ name. name.now) before.entry))
-        NeedsOption OverrunsOption (R.source reader.old) result }
+    ensures past { Stops cause (option_format (option_map (λ name. name.now) before.entry))
+        (R.source reader.old) result }
 {
     let name = String::decode(alloc, reader)?;
     let value = boxed_value(alloc, reader)?;
@@ -69,14 +73,15 @@ fn may_follow(before: Option<&str>, name: &str) -> bool
 
 /// A value: a string that is empty, or that holds one text.
 fn boxed_value<R: Reader>(alloc: Global, reader: &mut R) -> encoding::Result<String>
-    ensures gives { Decodes string_bytes option_box_at R.source reader.old result reader.new }
+    ensures gives { Decodes string_bytes (boxed value_format).read
+        R.source reader.old result reader.new }
     ensures later { Later (R.source reader.old) (R.source reader.new) }
-    ensures past { StopsBy encoding_cause option_box_at HasString OverrunsValue
+    ensures past { Stops encoding_cause (needing HasString (boxed value_format))
         (R.source reader.old) result }
 {
     reader.read_prefixed(
         |part: &mut NestedReader<'_, R>| -> encoding::Result<String>
-            ensures gives { Decodes string_bytes value_front
+            ensures gives { Decodes string_bytes value_format.read
                 (nested_source R.source) part.old result part.new }
             ensures later { Later (nested_source R.source part.old)
                 (nested_source R.source part.new) }
@@ -88,7 +93,8 @@ fn boxed_value<R: Reader>(alloc: Global, reader: &mut R) -> encoding::Result<Str
 
 /// One text, or nothing at the end of the reader.
 fn value_from<R: Reader>(alloc: Global, reader: &mut R) -> encoding::Result<String>
-    ensures gives { Decodes string_bytes value_front R.source reader.old result reader.new }
+    ensures gives { Decodes string_bytes value_format.read
+        R.source reader.old result reader.new }
     ensures later { Later (R.source reader.old) (R.source reader.new) }
     ensures past { StopsToEnd encoding_cause OverrunsString (R.source reader.old) result }
 {

@@ -4,7 +4,7 @@ ghost use Rattle.std.specs.Prelude.{◌+◌, ◌*◌, ◌^◌, ◌<◌};
 ghost use Rattle.sshkey_model.specs.Options.{option, option_value, Plain};
 ghost use Rattle.sshkey_model.specs.Parts.{each};
 ghost use Rattle.sshkey_base.specs.Sink.{Encodes, MeasuresBoxed};
-ghost use Rattle.sshkey_cert_values.specs.OptionReaders.{plain_option};
+ghost use Rattle.sshkey_model.specs.Options.{plain_option};
 ghost use Rattle.sshkey_cert_values.specs.OptionMaps.{options_of};
 
 use super::OptionsMap;

@@ -6,16 +6,15 @@ ghost use Rattle.sshkey_base.specs.Answers.{Answers, AnswersAlways};
 ghost use Rattle.sshkey_base.specs.Causes.{cause};
 ghost use Rattle.sshkey_base.specs.Formats.{Stops};
 ghost use Rattle.sshkey_base.specs.Names.{algorithm_of};
-ghost use Rattle.sshkey_base.specs.Needs.{Asks, NeedsString};
+ghost use Rattle.sshkey_base.specs.Needs.{Asks};
+ghost use Rattle.sshkey_model.specs.Needs.{NeedsString};
 ghost use Rattle.sshkey_base.specs.Source.{Later, all_of};
 ghost use Rattle.sshkey_base.specs.Stops.{StopsBy};
 ghost use Rattle.sshkey_base.specs.Sink.{Encodes, Measures};
 ghost use Rattle.sshkey_model.specs.Reading.{checked_at, string_at, whole};
-ghost use Rattle.sshkey_model.specs.Signatures.{Signature as TheSignature, IsSignature, signature, signature_blob, string_from, signature_blob_at, signature_at, trailed_at};
+ghost use Rattle.sshkey_model.specs.Signatures.{Signature as TheSignature, IsSignature, signature, signature_blob, string_from, signature_blob_at, signature_at, trailed_at, OverrunsInside, OverrunsNumbers, blob_format, signature_format, signature_under, SpellsSignature};
 ghost use Rattle.sshkey_keys.specs.Blobs.{ReadsFrontOf, MakesBlob};
-ghost use Rattle.sshkey_keys.specs.SignatureForms.{NeedsTrailed, OverrunsInside, OverrunsNumbers, joined_from};
-ghost use Rattle.sshkey_keys.specs.KeyFormats.{blob_format, signature_format, signature_under};
-ghost use Rattle.sshkey_keys.specs.SignatureReaders.{SpellsSignature};
+ghost use Rattle.sshkey_keys.specs.SignatureForms.{NeedsTrailed, joined_from};
 ghost use Rattle.sshkey_keys.specs.Signatures.{signature_of};
 
 use super::Signature;
@@ -93,7 +92,7 @@ impl Decode for Signature {
 }
 
 /// The signature by that algorithm whose bytes stand at the front.
-#[tactic(auto, using(sshkey_terms::proofs::Mapped::mapped, crate::proofs::SignatureParts::under_read))]
+#[tactic(auto, using(sshkey_terms::proofs::Mapped::mapped, sshkey_terms::proofs::Lawful::checked_read))]
 #[inline(always)]
 fn decode_under<R: Reader>(alloc: Global, reader: &mut R, algorithm: Algorithm) -> Result<Signature>
     ensures gives { Gives signature_of cause (signature_under (algorithm_of algorithm)).read

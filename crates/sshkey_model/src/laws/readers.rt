@@ -2,21 +2,21 @@
 //! list of bytes, and where a value may be spelled in several ways, it also gives the choices that
 //! were made.
 
-ghost use Rattle.std.specs.Prelude.{ℕ};
+ghost use Rattle.std.specs.Prelude.{◌≡◌, ℕ, List};
 ghost use Rattle.sshkey_model.specs.Parts.{Any, number};
-ghost use Rattle.sshkey_model.specs.Grammar.{Spells, SpellsAs, IsGrammar};
+ghost use Rattle.sshkey_model.specs.Grammar.{Spells, SpellsAs, IsGrammar, value_at};
 ghost use Rattle.sshkey_model.specs.Texts.{string, IsText, text_at, texts, texts_at};
 ghost use Rattle.sshkey_model.specs.Names.{IsAlgorithm, algorithm, algorithm_at, Algorithm, curve, curve_at, hash, hash_at};
 ghost use Rattle.sshkey_model.specs.CertificateNames.{IsCertified, certificate_algorithm, certificate_algorithm_at};
 ghost use Rattle.sshkey_model.specs.Mpints.{IsMpint, mpint_at};
-ghost use Rattle.sshkey_model.specs.Keys.{IsBodyUnder, body, body_at, IsKey, HasKeyPlaces, key, key_at, IsEcdsa, any_ecdsa_at};
+ghost use Rattle.sshkey_model.specs.Keys.{IsBodyUnder, body, body_at, IsKey, HasKeyPlaces, key, key_at, IsEcdsa, any_ecdsa_format};
 ghost use Rattle.sshkey_model.specs.Signatures.{IsSignature, signature, signature_at};
 ghost use Rattle.sshkey_model.specs.Options.{AreOptions, HasOptionPlaces, options, options_at};
 ghost use Rattle.sshkey_model.specs.Certificates.{IsCertificate, HasCertificatePlaces, certificate, certificate_at, certificate_type, type_at, IsTime, time_at, IsEnd, end_at, AreSignedFields, HaveSignedPlaces, to_be_signed, signed_fields_at};
-ghost use Rattle.sshkey_model.specs.KeyPairs.{IsScalar, HasScalarPlaces, scalar, scalar_at, IsPairUnder, HasPairPlaces, pair, pair_at, IsKeyPair, HasKeyPairPlaces, keypair, keypair_at, IsRsaPrivate, rsa_private, rsa_private_at, IsEcdsaPair, any_ecdsa_pair_at};
+ghost use Rattle.sshkey_model.specs.KeyPairs.{IsScalar, HasScalarPlaces, scalar, scalar_at, IsPairUnder, HasPairPlaces, pair, pair_at, IsKeyPair, HasKeyPairPlaces, keypair, keypair_at, IsRsaPrivate, rsa_private, rsa_private_at, IsEcdsaPair, any_ecdsa_pair_at, any_ecdsa_pair_format, pair_kind_format};
 ghost use Rattle.std.specs.List.{AllByRecursion};
 ghost use Rattle.std.specs.Int.{w64};
-ghost use Rattle.sshkey_model.specs.Points.{IsPointOf, point_at};
+ghost use Rattle.sshkey_model.specs.Points.{IsPointOf, point_format};
 
 /// Texts are read exactly where they are spelled.
 pub fn exact_text()
@@ -55,7 +55,7 @@ pub fn exact_certificate_name()
 
 /// Points are read exactly where they are spelled, each with its curve.
 pub fn exact_point()
-    ensures { IsGrammar (Spells IsPointOf (λ x. string x.1)) point_at }
+    ensures { IsGrammar (Spells IsPointOf (λ x. string x.1)) point_format.read }
 {}
 
 /// Under each algorithm key bodies are read exactly where they are spelled.
@@ -65,7 +65,7 @@ pub fn exact_body()
 
 /// ECDSA keys on any curve are read exactly where they are spelled.
 pub fn exact_ecdsa()
-    ensures { IsGrammar (Spells IsEcdsa body) any_ecdsa_at }
+    ensures { IsGrammar (Spells IsEcdsa body) any_ecdsa_format.read }
 {}
 
 /// Public keys are read exactly where they are spelled, under one of their names.
@@ -129,6 +129,13 @@ pub fn exact_ecdsa_pair()
 pub fn exact_pair()
     ensures { (a : Algorithm) → IsGrammar (SpellsAs (IsPairUnder a) HasPairPlaces pair)
         (pair_at a) }
+{}
+
+/// A pair is read alike with the choices of its spelling and without.
+pub fn pair_values()
+    ensures ecdsa { (b : List ℕ) → value_at any_ecdsa_pair_at b ≡ any_ecdsa_pair_format.read b }
+    ensures under { (a : Algorithm) (b : List ℕ) → value_at (pair_at a) b
+        ≡ (pair_kind_format a).read b }
 {}
 
 /// Key pairs with their names are read exactly where they are spelled.

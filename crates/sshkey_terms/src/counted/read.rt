@@ -6,7 +6,7 @@ ghost use Rattle.sshkey_base.specs.Needs.{Asks};
 ghost use Rattle.sshkey_base.specs.Reading.{Gives};
 ghost use Rattle.sshkey_base.specs.Source.{Later};
 ghost use Rattle.sshkey_base.specs.Stops.{StopsBy};
-ghost use Rattle.sshkey_terms.specs.Counted.{NeedsValues, OverrunsValues, counted_format, times_at, values_format};
+ghost use Rattle.sshkey_model.specs.Counted.{NeedsValues, OverrunsValues, counted_format, times_at, values_format};
 
 use sshkey_base::encoding::{self, Error};
 use sshkey_base::{Decode, Reader};

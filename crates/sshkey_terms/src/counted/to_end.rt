@@ -6,7 +6,7 @@ ghost use Rattle.sshkey_base.specs.Needs.{Asks};
 ghost use Rattle.sshkey_base.specs.Reading.{Gives};
 ghost use Rattle.sshkey_base.specs.Source.{Later};
 ghost use Rattle.sshkey_base.specs.Stops.{StopsBy};
-ghost use Rattle.sshkey_terms.specs.ToEnd.{HasBytes, NeedsEach, OverrunsEach, each_at};
+ghost use Rattle.sshkey_model.specs.ToEnd.{HasBytes, NeedsEach, OverrunsEach, each_at};
 
 use crate::counted::read::add;
 use sshkey_base::{Decode, Reader};

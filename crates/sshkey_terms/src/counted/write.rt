@@ -1,7 +1,7 @@
 //! How a counted list is written, and how many bytes it has.
 
 ghost use Rattle.sshkey_base.specs.Sink.{Encodes, MeasuresBoxed};
-ghost use Rattle.sshkey_terms.specs.Counted.{counted};
+ghost use Rattle.sshkey_model.specs.Counted.{counted};
 
 use sshkey_base::encoding::Result;
 use sshkey_base::{Encode, Writer, each_len, encode_each, u32_of};

@@ -3,11 +3,11 @@
 ghost use Rattle.std.specs.Prelude.{ℕ, List};
 ghost use Rattle.sshkey_base.specs.Answers.{AnswersAlways};
 ghost use Rattle.sshkey_base.specs.Causes.{cause};
-ghost use Rattle.sshkey_base.specs.Formats.{IsFormat};
+ghost use Rattle.sshkey_model.specs.Formats.{IsFormat};
 ghost use Rattle.sshkey_base.specs.Reading.{GivesAlways};
 ghost use Rattle.sshkey_base.specs.Source.{Later, all_of};
 ghost use Rattle.sshkey_model.specs.Reading.{literal_from};
-ghost use Rattle.sshkey_terms.specs.Terms.{literal_format};
+ghost use Rattle.sshkey_model.specs.Terms.{literal_format};
 ghost use Rattle.sshkey_userauth.specs.RequestFormats as formats;
 ghost use Rattle.sshkey_userauth.specs.RequestFormats.{credential_format, method_and_credential, method_format, method_from};
 ghost use Rattle.sshkey_userauth.specs.Requests as model;

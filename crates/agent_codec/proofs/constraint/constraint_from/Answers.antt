@@ -1,6 +1,7 @@
 use Rattle.std.proofs.Common.{ℕ, List, refl}
-use Rattle.ssh_key.specs.base.Formats.{number32_format, string_format, text_format}
-use Rattle.ssh_key.specs.terms.Terms.{◌then◌}
+use Rattle.ssh_key.specs.model.Leaves.{number32_format, string_format}
+use Rattle.ssh_key.specs.model.Texts.{text_format}
+use Rattle.ssh_key.specs.model.Terms.{◌then◌}
 use Rattle.ssh_key.proofs.Places.{later_none}
 use Rattle.agent_codec.specs.Constraints.{Confirm, Extension, Lifetime, constraint_of}
 use Rattle.agent_codec.specs.declared.constraint.Constraint.TheVariants as constraints

@@ -1,8 +1,8 @@
 use Rattle.std.proofs.lemmas.Result.{err_from_is_err_and}
 use Rattle.std.specs.Int.{w8}
 use Rattle.ssh_key.specs.base.Causes.{cause, same_cause}
-use Rattle.ssh_key.specs.base.Needs.{NoNeed}
-use Rattle.ssh_key.specs.base.Stops.{NoOverrun}
+use Rattle.ssh_key.specs.model.Needs.{NoNeed}
+use Rattle.ssh_key.specs.model.Overruns.{NoOverrun}
 use Rattle.ssh_key.specs.model.Reading.{number_at}
 use Rattle.ssh_key.proofs.Lawful.{byte_lawful}
 use Rattle.ssh_key.proofs.Judging.{judged, judged_asks}

@@ -1,7 +1,6 @@
 use Rattle.std.proofs.Common.{◌≡◌, [], true, ap, inl, inr, refl, subst, sym, ◌∙◌}
-use Rattle.sshkey_cert.specs.CertificateFormats.{certificate_format}
 use Rattle.sshkey_cert.specs.CertificateValues.{certificate_of}
-use Rattle.sshkey_model.specs.Certificates.{Certificate, normal_certificate}
+use Rattle.sshkey_model.specs.Certificates.{Certificate, normal_certificate, certificate_format}
 use Rattle.sshkey_model.specs.Parts.{flat}
 use Rattle.sshkey_base.proofs.Acceptance.{other_cause}
 use Rattle.host_keys.specs.Hosts.{IsHostCertificate, IsTrustedCertificate, lines_of, login_of}

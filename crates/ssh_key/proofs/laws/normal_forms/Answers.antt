@@ -9,7 +9,7 @@ use Rattle.sshkey_model.proofs.KeyReaders.{body_reads, key_reads}
 use Rattle.sshkey_model.proofs.NormalForms.{plain_choices_have, plain_options_have}
 use Rattle.sshkey_model.proofs.OptionReaders.{options_reads}
 use Rattle.sshkey_model.proofs.Trees.{determined, read_back}
-use Rattle.sshkey_base.specs.Labels.{label_at}
+use Rattle.sshkey_model.specs.Labels.{label_at}
 use Rattle.sshkey_ciphers.proofs.Names.{cipher_checks, kdf_algorithm_checks}
 use Rattle.sshkey_ciphers.proofs.Lawful.{kdf_grammar}
 use Rattle.sshkey_ciphers.proofs.KdfTrees.{kdf_normal}

@@ -10,8 +10,8 @@ use Rattle.sshkey_base.specs.TextLists.{texts_of}
 use Rattle.sshkey_base.proofs.FirstValues.{first_asks, first_stopped, still_begun}
 use Rattle.sshkey_base.proofs.ReadLists.{collects_more, collects_refused, collects_end, leaves_less, overruns_more}
 use Rattle.sshkey_base.proofs.Lengths.{text_lengths}
-use Rattle.sshkey_base.specs.Needs.{NeedsString}
-use Rattle.sshkey_base.specs.Stops.{OverrunsString}
+use Rattle.sshkey_model.specs.Needs.{NeedsString}
+use Rattle.sshkey_model.specs.Overruns.{OverrunsString}
 use Rattle.sshkey_base.proofs.Places.{later_then}
 use Rattle.sshkey_base.proofs.list.texts_from.Goals as goal
 

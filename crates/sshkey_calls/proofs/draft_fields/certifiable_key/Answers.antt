@@ -1,6 +1,7 @@
 use Rattle.std.proofs.Common.{◌≡◌, ◌∙◌, ap, arith, inr, sym}
 use Rattle.std.proofs.lemmas.Result.{err_from_is_err_and}
-use Rattle.sshkey_keys.specs.Keys.{key_data_at, key_of}
+use Rattle.sshkey_keys.specs.Keys.{key_of}
+use Rattle.sshkey_model.specs.Keys.{key_data_at}
 use Rattle.sshkey_model.specs.Reading.{whole}
 use Rattle.sshkey_calls.specs.Drafts.{certifiable_number}
 use Rattle.sshkey_calls.proofs.DraftNumbers.{certifiable_as, key_is, other_key, wrong_part}

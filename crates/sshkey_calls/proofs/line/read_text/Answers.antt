@@ -1,7 +1,8 @@
 use Rattle.std.proofs.Common.{refl}
 use Rattle.sshkey_base.specs.Causes.{cause}
 use Rattle.sshkey_model.specs.Lines.{IsLineOf, key_name}
-use Rattle.sshkey_keys.specs.Keys.{SpellsKey, key_of}
+use Rattle.sshkey_keys.specs.Keys.{key_of}
+use Rattle.sshkey_model.specs.Keys.{SpellsKey}
 use Rattle.sshkey_calls.proofs.Kept.{only_memory}
 use Rattle.sshkey_calls.proofs.KeyLines.{key_has_none, needs_key, needs_key_line, no_memory, reads_key}
 use Rattle.sshkey_calls.proofs.line.read_text.Goals as goal

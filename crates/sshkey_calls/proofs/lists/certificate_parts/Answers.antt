@@ -1,8 +1,7 @@
 use Rattle.std.proofs.Common.{List, ℕ, inl, refl, subst}
 use Rattle.sshkey_base.specs.Causes.{cause}
-use Rattle.sshkey_cert.specs.CertificateReaders.{SpellsCertificate}
 use Rattle.sshkey_cert_ref.specs.CertificateRef.{certificate_bytes, certificate_of}
-use Rattle.sshkey_model.specs.Certificates.{certificate_at}
+use Rattle.sshkey_model.specs.Certificates.{certificate_at, SpellsCertificate}
 use Rattle.sshkey_model.specs.Reading.{whole}
 use Rattle.sshkey_calls.specs.Lists.{ArePartsOf}
 use Rattle.sshkey_calls.proofs.Kept.{kept_bytes}

@@ -3,7 +3,7 @@ use Rattle.sshkey_cert_ref.specs.CertificateRef.{certificate_bytes, certificate_
 use Rattle.sshkey_cert_ref.specs.OptionLists.{SpellsEachOption}
 use Rattle.sshkey_cert_ref.specs.TextLists.{SpellsEachText}
 use Rattle.sshkey_cert_ref.proofs.Certificates.{spelled_by}
-use Rattle.sshkey_keys.specs.Keys.{SpellsKey}
+use Rattle.sshkey_model.specs.Keys.{SpellsKey}
 use Rattle.sshkey_model.specs.Certificates.{Certificate, CertificateChoices}
 use Rattle.sshkey_calls.proofs.Places.{parts, same_part, stand}
 use Rattle.sshkey_calls.proofs.lists.parts_of.Goals as goal

@@ -1,6 +1,7 @@
 use Rattle.std.proofs.Common.{◌≡◌, sym, ap, subst, ◌∙◌}
 use Rattle.std.proofs.lemmas.Result.{err_from_is_err_and}
-use Rattle.sshkey_keys.specs.Keys.{key_of, SpellsKey}
+use Rattle.sshkey_keys.specs.Keys.{key_of}
+use Rattle.sshkey_model.specs.Keys.{SpellsKey}
 use Rattle.sshkey_keys.specs.declared.key_data.KeyData.{KeyData}
 use Rattle.sshkey_model.specs.Lines.{key_name}
 use Rattle.sshkey_public.specs.Lines.{IsWordOf}

@@ -1,5 +1,5 @@
 use Rattle.std.proofs.lemmas.Result.{err_from_is_err_and}
-use Rattle.ssh_key.specs.keys.Keys.{key_data_at}
+use Rattle.ssh_key.specs.model.Keys.{key_data_at}
 use Rattle.ssh_key.specs.keys_ref.KeyDataRef.{key_bytes}
 use Rattle.ssh_key.specs.model.Reading.{whole}
 use Rattle.sshkey_examples.proofs.Faults.{kept_fault}

@@ -3,10 +3,9 @@ use Rattle.std.proofs.lemmas.Result.{err_from_is_err_and}
 use Rattle.std.specs.Prelude.{IsErrAnd}
 use Rattle.ssh_key.specs.base.Causes.{Faulty, cause}
 use Rattle.ssh_key.specs.model.Reading.{whole}
-use Rattle.ssh_key.specs.model.Signatures.{signature_at}
+use Rattle.ssh_key.specs.model.Signatures.{signature_at, SpellsSignature}
 use Rattle.ssh_key.specs.model.Verification.{IsAccepted}
 use Rattle.ssh_key.specs.keys.Keys.{key_of}
-use Rattle.ssh_key.specs.keys.SignatureReaders.{SpellsSignature}
 use Rattle.ssh_key.proofs.Acceptance.{other_cause, unspelled}
 use Rattle.sshkey_examples.proofs.Answered.{answered}
 use Rattle.sshkey_examples.proofs.Faults.{asked, no_fault, whatever}

@@ -1,8 +1,7 @@
 use Rattle.std.proofs.Common.{inl}
 use Rattle.sshkey_base.specs.Causes.{cause}
-use Rattle.sshkey_cert.specs.CertificateReaders.{SpellsCertificate}
 use Rattle.sshkey_cert_ref.specs.CertificateRef.{certificate_bytes}
-use Rattle.sshkey_model.specs.Certificates.{certificate_at}
+use Rattle.sshkey_model.specs.Certificates.{certificate_at, SpellsCertificate}
 use Rattle.sshkey_calls.proofs.Outcomes.{refused}
 use Rattle.sshkey_host_calls.proofs.Verified.{told}
 use Rattle.sshkey_host_calls.proofs.certificate.host_certificate_verdict.Goals as goal

@@ -5,8 +5,8 @@ use Rattle.sshkey_model.specs.Names.{algorithm_name}
 use Rattle.sshkey_model.specs.Reading.{string_at}
 use Rattle.sshkey_base.specs.Causes.{same_cause}
 use Rattle.sshkey_base.specs.Names.{algorithm_of}
-use Rattle.sshkey_base.specs.Needs.{NeedsString}
-use Rattle.sshkey_base.specs.Stops.{OverrunsString}
+use Rattle.sshkey_model.specs.Needs.{NeedsString}
+use Rattle.sshkey_model.specs.Overruns.{OverrunsString}
 use Rattle.sshkey_base.proofs.Stopping.{checked_stopped}
 use Rattle.sshkey_keys.proofs.key_data.opaque_from.Goals as goal
 

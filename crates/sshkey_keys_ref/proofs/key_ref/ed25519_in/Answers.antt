@@ -1,11 +1,9 @@
-use Rattle.sshkey_kinds.specs.Bodies.{ed25519_body_at}
+use Rattle.sshkey_model.specs.Keys.{ed25519_format}
 use Rattle.sshkey_keys_ref.proofs.KeysByKind.{same_value, never}
 use Rattle.sshkey_keys_ref.proofs.key_ref.ed25519_in.Goals as goal
 
 pub returns-in-Some : goal.returns-in-Some
-unfolding ed25519_body_at
-returns-in-Some c = λ k q e. same_value (ed25519_body_at c.args.bytes.now) _ k c.in-Some.ensures.0 q c.in-Some.ensures.1 e
+returns-in-Some c = λ k q e. same_value (ed25519_format.read c.args.bytes.now) _ k c.in-Some.ensures.0 q c.in-Some.ensures.1 e
 
 pub returns-in-None : goal.returns-in-None
-unfolding ed25519_body_at
-returns-in-None c = λ k q e. never (ed25519_body_at c.args.bytes.now) c.in-None.ensures.0 (k, q) c.in-None.ensures.1 e
+returns-in-None c = λ k q e. never (ed25519_format.read c.args.bytes.now) c.in-None.ensures.0 (k, q) c.in-None.ensures.1 e

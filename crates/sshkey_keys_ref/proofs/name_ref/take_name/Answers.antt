@@ -1,5 +1,5 @@
 use Rattle.sshkey_base.specs.Causes.{cause}
-use Rattle.sshkey_base.specs.Labels.{label_at}
+use Rattle.sshkey_model.specs.Labels.{label_at}
 use Rattle.sshkey_model.specs.Names.{algorithm_from}
 use Rattle.sshkey_model.specs.Reading.{string_at}
 use Rattle.sshkey_keys_ref.specs.NameRef.{named_of}

@@ -1,6 +1,7 @@
 use Rattle.std.proofs.Common.{inl, subst}
 use Rattle.sshkey_base.specs.Causes.{cause}
-use Rattle.sshkey_keys.specs.Keys.{SpellsKey, key_data_at, key_of}
+use Rattle.sshkey_keys.specs.Keys.{key_of}
+use Rattle.sshkey_model.specs.Keys.{SpellsKey, key_data_at}
 use Rattle.sshkey_keys_ref.specs.KeyDataRef.{key_bytes}
 use Rattle.sshkey_model.specs.Reading.{whole}
 use Rattle.sshkey_calls.proofs.Kept.{kept_bytes}

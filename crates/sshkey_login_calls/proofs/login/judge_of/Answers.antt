@@ -1,7 +1,8 @@
 use Rattle.std.proofs.Common.{ap, subst, ◌∙◌}
 use Rattle.sshkey_cert.specs.Validity.{fingerprints_of}
 use Rattle.sshkey_entry_calls.specs.RevocationFiles.{reads_of}
-use Rattle.sshkey_keys.specs.Keys.{SpellsKey, key_of}
+use Rattle.sshkey_keys.specs.Keys.{key_of}
+use Rattle.sshkey_model.specs.Keys.{SpellsKey}
 use Rattle.sshkey_login_calls.specs.Logins.{login_number}
 use Rattle.sshkey_login_calls.proofs.Logins.{denied, granted, some_revoked}
 use Rattle.sshkey_login_calls.proofs.login.judge_of.Goals as goal

@@ -1,7 +1,7 @@
-use Rattle.std.proofs.Common.{◌≡◌, ℕ, List, rules}
+use Rattle.std.proofs.Common.{◌≡◌, rules}
 use Rattle.sshkey_base.specs.Causes.{cause}
 use Rattle.sshkey_calls.proofs.Kept.{kept_bytes}
-use Rattle.sshkey_keys.specs.Keys.{key_data_at}
+use Rattle.sshkey_model.specs.Keys.{key_data_at}
 use Rattle.sshkey_keys_ref.specs.KeyDataRef.{key_bytes}
 use Rattle.sshkey_model.specs.Reading.{whole}
 use Rattle.sshkey_login_calls.proofs.question.login_question.Goals as goal

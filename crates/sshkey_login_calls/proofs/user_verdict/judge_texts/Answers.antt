@@ -1,7 +1,8 @@
 use Rattle.std.proofs.Common.{ap, subst, ◌∙◌}
 use Rattle.sshkey_calls.specs.Validations.{authorities_of}
 use Rattle.sshkey_entry_calls.specs.RevocationFiles.{reads_of}
-use Rattle.sshkey_keys.specs.Keys.{SpellsKey, key_of}
+use Rattle.sshkey_keys.specs.Keys.{key_of}
+use Rattle.sshkey_model.specs.Keys.{SpellsKey}
 use Rattle.sshkey_login_calls.specs.UserKeys.{denied_by}
 use Rattle.sshkey_login_calls.proofs.UserKeys.{by_sha256, granted, not_granted}
 use Rattle.sshkey_login_calls.proofs.user_verdict.judge_texts.Goals as goal

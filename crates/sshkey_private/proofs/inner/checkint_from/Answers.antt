@@ -2,10 +2,11 @@ use Rattle.std.proofs.Common.{ℕ}
 use Rattle.std.specs.Int.{w32}
 use Rattle.sshkey_model.specs.Reading.{number_at}
 use Rattle.sshkey_base.specs.Causes.{cause}
-use Rattle.sshkey_base.specs.Formats.{Format, number32_format}
-use Rattle.sshkey_base.specs.Needs.{NoNeed}
+use Rattle.sshkey_model.specs.Formats.{Format}
+use Rattle.sshkey_model.specs.Leaves.{number32_format}
+use Rattle.sshkey_model.specs.Needs.{NoNeed}
 use Rattle.sshkey_base.proofs.Stopping.{checked_stopped, judged_stops}
-use Rattle.sshkey_terms.specs.Terms.{◌then◌}
+use Rattle.sshkey_model.specs.Terms.{◌then◌}
 use Rattle.sshkey_terms.proofs.Needless.{needless_stops}
 use Rattle.sshkey_terms.proofs.Stopping.{widened_stops}
 use Rattle.sshkey_private.specs.Inner.{one_checkint, checkint_at}

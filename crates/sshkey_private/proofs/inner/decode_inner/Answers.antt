@@ -1,5 +1,5 @@
 use Rattle.std.proofs.Common.{refl, rules, suc}
-use Rattle.sshkey_base.specs.Reading.{to_end}
+use Rattle.sshkey_model.specs.Reading.{to_end}
 use Rattle.sshkey_base.proofs.Boxes.{prefixed_gives}
 use Rattle.sshkey_base.proofs.FilledBoxes.{filled_stops}
 use Rattle.sshkey_keys.specs.Keys.{key_of}

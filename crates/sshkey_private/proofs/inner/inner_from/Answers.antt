@@ -3,11 +3,12 @@ use Rattle.std.proofs.lemmas.Result.{err_from_is_err_and}
 use Rattle.sshkey_model.specs.Keys.{Key}
 use Rattle.sshkey_model.specs.KeyPairs.{KeyPair}
 use Rattle.sshkey_base.specs.Causes.{same_cause}
-use Rattle.sshkey_base.specs.Formats.{Format, text_format}
+use Rattle.sshkey_model.specs.Formats.{Format}
+use Rattle.sshkey_model.specs.Texts.{text_format}
 use Rattle.sshkey_base.proofs.Places.{later_then}
 use Rattle.sshkey_keys.specs.Keys.{key_of}
 use Rattle.sshkey_pairs.specs.Keypairs.{pair_of}
-use Rattle.sshkey_terms.specs.Terms.{◌then◌}
+use Rattle.sshkey_model.specs.Terms.{◌then◌}
 use Rattle.sshkey_terms.proofs.Lawful.{IsMapped}
 use Rattle.sshkey_terms.proofs.Stopping.{mapped_stopped, stopped_first, stopped_later}
 use Rattle.sshkey_private.specs.Inner.{unencrypted_of_parts, inner_at, checkint_format, pair_format}

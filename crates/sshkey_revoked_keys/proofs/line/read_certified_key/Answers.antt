@@ -1,7 +1,6 @@
 use Rattle.std.proofs.Common.{inr, ap, true}
 use Rattle.std.proofs.lemmas.Result.{err_from_is_err_and}
-use Rattle.sshkey_cert.specs.CertificateFormats.{certificate_format}
-use Rattle.sshkey_cert.specs.CertificateReaders.{SpellsCertificate}
+use Rattle.sshkey_model.specs.Certificates.{certificate_format, SpellsCertificate}
 use Rattle.sshkey_cert.proofs.CertificateReaders.{certificates_stand}
 use Rattle.sshkey_model.specs.Keys.{Key, normal_key}
 use Rattle.sshkey_model.specs.Lines.{name_of_certificate}

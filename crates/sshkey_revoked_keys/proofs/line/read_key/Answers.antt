@@ -1,7 +1,6 @@
 use Rattle.std.proofs.Common.{inr, refl, false}
 use Rattle.std.proofs.lemmas.Result.{err_from_is_err_and}
-use Rattle.sshkey_keys.specs.KeyFormats.{key_format}
-use Rattle.sshkey_keys.specs.Keys.{SpellsKey}
+use Rattle.sshkey_model.specs.Keys.{key_format, SpellsKey}
 use Rattle.sshkey_model.proofs.Blobs.{key_blobs}
 use Rattle.sshkey_model.specs.Lines.{key_name}
 use Rattle.sshkey_revoked_keys.specs.NamedWords.{IsReadKey}

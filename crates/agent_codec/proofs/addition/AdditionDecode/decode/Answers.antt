@@ -1,8 +1,8 @@
 use Rattle.ssh_key.specs.base.Causes.{cause}
-use Rattle.ssh_key.specs.base.Formats.{string_format}
-use Rattle.ssh_key.specs.terms.Terms.{◌then◌}
+use Rattle.ssh_key.specs.model.Leaves.{string_format}
+use Rattle.ssh_key.specs.model.Terms.{◌then◌}
 use Rattle.ssh_key.proofs.Lawful.{checked_read}
-use Rattle.ssh_key.specs.pairs.KeypairFormats.{keypair_format}
+use Rattle.ssh_key.specs.model.KeyPairs.{keypair_format}
 use Rattle.ssh_key.proofs.Stopping.{mapped_stops}
 use Rattle.agent_codec.specs.Records.{addition_of_parts}
 use Rattle.agent_codec.proofs.Additions.{read_plain}

@@ -1,5 +1,5 @@
 use Rattle.std.proofs.Common.{refl}
-use Rattle.ssh_key.specs.base.Formats.{string_format}
+use Rattle.ssh_key.specs.model.Leaves.{string_format}
 use Rattle.ssh_key.proofs.Places.{later_none}
 use Rattle.agent_codec.specs.Records.{addition_format, sign_request_format}
 use Rattle.agent_codec.specs.Requests.{Add, Identities, Lock, Remove, RemoveAll, Sign, Unlock, request_of}

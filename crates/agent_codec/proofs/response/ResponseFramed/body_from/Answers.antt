@@ -1,7 +1,7 @@
 use Rattle.std.proofs.Common.{refl}
-use Rattle.ssh_key.specs.keys.KeyFormats.{signature_format}
-use Rattle.ssh_key.specs.terms.Counted.{counted_format}
-use Rattle.ssh_key.specs.terms.Terms.{boxed}
+use Rattle.ssh_key.specs.model.Signatures.{signature_format}
+use Rattle.ssh_key.specs.model.Counted.{counted_format}
+use Rattle.ssh_key.specs.model.Terms.{boxed}
 use Rattle.ssh_key.proofs.Places.{later_none}
 use Rattle.agent_codec.specs.Records.{identity_format}
 use Rattle.agent_codec.specs.Responses.{ExtensionFailure, Failure, Identities, Signed, Success, response_of}

@@ -1,7 +1,7 @@
 use Rattle.std.proofs.Common.{Ok, inl, map, map-id, ap}
 use Rattle.std.proofs.lemmas.Result.{err_from_is_err_and}
 use Rattle.ssh_key.specs.base.Causes.{same_cause}
-use Rattle.ssh_key.specs.base.Formats.{string_format}
+use Rattle.ssh_key.specs.model.Leaves.{string_format}
 use Rattle.ssh_key.proofs.After.{both_reads, both_refused_first, both_refused_later}
 use Rattle.ssh_key.proofs.Lawful.{string_lawful}
 use Rattle.ssh_key.proofs.Mapped.{mapped_reads, mapped_refused}

@@ -1,9 +1,8 @@
 use Rattle.std.proofs.Common.{ap}
 use Rattle.std.proofs.lemmas.Result.{err_from_is_err_and}
-use Rattle.sshkey_model.specs.CertificateNames.{certificate_algorithm_at, certified_from}
+use Rattle.sshkey_model.specs.CertificateNames.{certificate_algorithm_at, certified_from, NeedsCertified}
 use Rattle.sshkey_model.proofs.CertificateNameReaders.{certified_checks}
 use Rattle.sshkey_base.specs.Causes.{cause, same_cause}
-use Rattle.sshkey_base.specs.NameNeeds.{NeedsCertified}
 use Rattle.sshkey_base.specs.Names.{algorithm_of}
 use Rattle.sshkey_base.specs.ShortBytes.{short_of}
 use Rattle.sshkey_base.proofs.CertifiedNames.{certified_short, certified_refusals}

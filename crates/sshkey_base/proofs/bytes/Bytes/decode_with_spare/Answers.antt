@@ -1,6 +1,6 @@
 use Rattle.std.proofs.lemmas.Result.{err_from_is_err_and}
 use Rattle.sshkey_base.specs.Causes.{encoding_cause}
-use Rattle.sshkey_base.specs.Needs.{NeedsString}
+use Rattle.sshkey_model.specs.Needs.{NeedsString}
 use Rattle.sshkey_base.proofs.Stopping.{length_stopped, after_stops}
 use Rattle.sshkey_base.proofs.bytes.Bytes.decode_with_spare.Goals as goal
 

@@ -1,6 +1,6 @@
 use Rattle.std.proofs.Common.{rules}
 use Rattle.sshkey_model.specs.Reading.{bytes_at}
-use Rattle.sshkey_base.specs.Needs.{NoNeed}
+use Rattle.sshkey_model.specs.Needs.{NoNeed}
 use Rattle.sshkey_base.proofs.Boxes.{prefixed_stops_always}
 use Rattle.sshkey_base.proofs.decode.ArrayU8Decode.decode.Goals as goal
 

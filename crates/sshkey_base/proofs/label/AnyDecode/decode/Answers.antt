@@ -1,6 +1,6 @@
 use Rattle.std.proofs.lemmas.Result.{err_from_is_err_and}
 use Rattle.sshkey_base.specs.Causes.{encoding_cause}
-use Rattle.sshkey_base.specs.Labels.{label_at}
+use Rattle.sshkey_model.specs.Labels.{label_at}
 use Rattle.sshkey_base.proofs.NameStrings.{after_asks}
 use Rattle.sshkey_base.proofs.Steps.{after_length}
 use Rattle.sshkey_base.proofs.Stopping.{judged_length_stopped, after_judged_stops}

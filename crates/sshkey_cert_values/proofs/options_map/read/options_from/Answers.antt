@@ -6,12 +6,13 @@ use Rattle.std.proofs.lemmas.Result.{err_from_is_err_and}
 use Rattle.sshkey_base.specs.Source.{announced_len}
 use Rattle.sshkey_base.proofs.Places.{later_none, later_then}
 use Rattle.sshkey_base.proofs.ReadLists.{collects_none, collects_more, collects_refused, collects_end, overruns_more}
-use Rattle.sshkey_cert_values.specs.OptionReaders.{item, may_follow, OverrunsOption}
-use Rattle.sshkey_cert_values.proofs.OptionLists.{option_lengths}
+use Rattle.sshkey_model.specs.Options.{may_follow}
+use Rattle.sshkey_cert_values.proofs.Lawful.{option_lawful, value_lawful}
+use Rattle.sshkey_cert_values.proofs.OptionLists.{item}
 use Rattle.sshkey_cert_values.specs.OptionMaps.{option_of, options_of, name_at_end}
 use Rattle.sshkey_cert_values.specs.GatheredPairs.{gathered_pairs}
 use Rattle.sshkey_base.specs.Causes.{cause}
-use Rattle.sshkey_cert_values.proofs.OptionNeeds.{option_stands, options_ask, options_stopped, some_stand}
+use Rattle.sshkey_cert_values.proofs.OptionNeeds.{OverrunsOption, option_stands, options_ask, options_stopped, some_stand}
 use Rattle.sshkey_cert_values.proofs.OptionNames.{end_added}
 use Rattle.sshkey_cert_values.proofs.OptionValues.{item_read}
 use Rattle.sshkey_cert_values.proofs.RisingNames.{first_rises, rise_more}
@@ -41,7 +42,7 @@ reads-preserved g c =
     let r = c.in_ok-name.ensures.gives in
     let follows : may_follow (name_at_end (gathered_pairs c.reads.gathered)) (string_bytes c.in_ok-name.name) ≡ true = rw (← c.last_name.ensures) (item_read _ _ _ _ r.value).0 in
     let all : map option_of (gathered_pairs c.push.new.self) ≡ map option_of (gathered_pairs c.reads.gathered) ++ option_of (c.in_ok-name.name, c.in_ok-name.value) ∷ [] = rw c.in_ok-push.ensures.ok (map-append option_of (gathered_pairs c.reads.gathered) ((c.in_ok-name.name, c.in_ok-name.value) ∷ [])) in
-    ((Some (option_of (c.in_ok-name.name, c.in_ok-name.value)), rw c.in_ok-push.ensures.ok (sym (end_added (gathered_pairs c.reads.gathered) c.in_ok-name.name c.in_ok-name.value)), rw all (collects_more item option_of _ _ _ _ _ (c.in_ok-name.name, c.in_ok-name.value) c.reads.invariant.0.2 (rw (c.reads.invariant.0.1, ← c.last_name.ensures) r) (item_read _ _ _ _ r.value).1), overruns_more item OverrunsOption option_of (item c.reads.invariant.0.0) (option_lengths c.reads.invariant.0.0) (g.R.Reader.source c.args.reader.now) (g.R.Reader.source c.reads.reader) (g.R.Reader.source c.option_from.new.reader) c.reads.invariant.0.0 (λ b y e. e) (c.in_ok-name.name, c.in_ok-name.value) c.reads.invariant.0.3 (rw (c.reads.invariant.0.1, ← c.last_name.ensures) r)), later_then _ _ _ c.reads.invariant.1 c.in_ok-name.ensures.later, rw c.in_ok-push.ensures.ok (rise_more (gathered_pairs c.reads.gathered) c.in_ok-name.name c.in_ok-name.value c.reads.invariant.2 follows), inr (option_stands _ _ _ c.reads.invariant.3 option_of _ _ _ r))
+    ((Some (option_of (c.in_ok-name.name, c.in_ok-name.value)), rw c.in_ok-push.ensures.ok (sym (end_added (gathered_pairs c.reads.gathered) c.in_ok-name.name c.in_ok-name.value)), rw all (collects_more item option_of _ _ _ _ _ (c.in_ok-name.name, c.in_ok-name.value) c.reads.invariant.0.2 (rw (c.reads.invariant.0.1, ← c.last_name.ensures) r) (item_read _ _ _ _ r.value).1), overruns_more item OverrunsOption option_of (item c.reads.invariant.0.0) (option_lawful _ value_lawful).lengths (g.R.Reader.source c.args.reader.now) (g.R.Reader.source c.reads.reader) (g.R.Reader.source c.option_from.new.reader) c.reads.invariant.0.0 (λ b y e. e) (c.in_ok-name.name, c.in_ok-name.value) c.reads.invariant.0.3 (rw (c.reads.invariant.0.1, ← c.last_name.ensures) r)), later_then _ _ _ c.reads.invariant.1 c.in_ok-name.ensures.later, rw c.in_ok-push.ensures.ok (rise_more (gathered_pairs c.reads.gathered) c.in_ok-name.name c.in_ok-name.value c.reads.invariant.2 follows), inr (option_stands _ _ _ c.reads.invariant.3 option_of _ _ _ r))
 
 pub returns-clause-gives : goal.returns-clause-gives
 returns-clause-gives g c = collects_end item options_of _ _ _ _ (rw (← c.in_ok-options.ensures.value) at c.reads.invariant.0.2) (c.is_finished.ensures.0 c.reads-test.false)

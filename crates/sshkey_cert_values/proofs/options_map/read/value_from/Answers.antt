@@ -3,8 +3,8 @@ use Rattle.std.specs.Prelude.{string_bytes}
 use Rattle.sshkey_base.specs.Source.{announced_len}
 use Rattle.sshkey_model.specs.Texts.{text_at}
 use Rattle.sshkey_base.specs.Causes.{encoding_cause}
-use Rattle.sshkey_base.specs.Needs.{NeedsString}
-use Rattle.sshkey_base.specs.Stops.{OverrunsString}
+use Rattle.sshkey_model.specs.Needs.{NeedsString}
+use Rattle.sshkey_model.specs.Overruns.{OverrunsString}
 use Rattle.sshkey_cert_values.proofs.OptionStops.{stops_to_end}
 use Rattle.sshkey_cert_values.proofs.OptionValues.{value_read, value_none}
 use Rattle.sshkey_cert_values.proofs.options_map.read.value_from.Goals as goal

@@ -1,6 +1,7 @@
 use Rattle.sshkey_base.specs.Causes.{cause}
 use Rattle.sshkey_terms.proofs.Chosen.{chosen_stops}
-use Rattle.sshkey_keys.specs.KeyFormats.{body_format, key_format, name_format}
+use Rattle.sshkey_model.specs.Keys.{body_format, key_format}
+use Rattle.sshkey_model.specs.Names.{name_format}
 use Rattle.sshkey_keys.proofs.KeyReaders.{key_chosen}
 use Rattle.sshkey_keys.proofs.Lawful.{name_lawful}
 use Rattle.sshkey_keys.proofs.key_data.KeyDataDecode.decode.Goals as goal

@@ -1,4 +1,4 @@
-use Rattle.sshkey_keys.specs.Keys.{key_data_at}
+use Rattle.sshkey_model.specs.Keys.{key_data_at}
 use Rattle.sshkey_keys_ref.specs.KeyDataRef.{key_bytes}
 use Rattle.sshkey_model.specs.Reading.{whole}
 use Rattle.sshkey_userauth.proofs.Judging.{no_key}

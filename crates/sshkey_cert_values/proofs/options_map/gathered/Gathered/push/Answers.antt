@@ -1,6 +1,6 @@
 use Rattle.std.proofs.Common.{◌≡◌, true, ◌∙◌}
 use Rattle.std.specs.Prelude.{string_bytes}
-use Rattle.sshkey_cert_values.specs.OptionReaders.{may_follow}
+use Rattle.sshkey_model.specs.Options.{may_follow}
 use Rattle.sshkey_cert_values.specs.OptionMaps.{name_at_end}
 use Rattle.sshkey_cert_values.proofs.RisingNames.{rise_more, insert_end}
 use Rattle.sshkey_cert_values.proofs.options_map.gathered.Gathered.push.Goals as goal

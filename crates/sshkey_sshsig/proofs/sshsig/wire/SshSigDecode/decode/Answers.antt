@@ -1,5 +1,5 @@
 use Rattle.sshkey_base.specs.Causes.{cause}
-use Rattle.sshkey_terms.specs.Terms.{◌then◌}
+use Rattle.sshkey_model.specs.Terms.{◌then◌}
 use Rattle.sshkey_terms.proofs.Lawful.{checked_read}
 use Rattle.sshkey_terms.proofs.Stopping.{mapped_stops}
 use Rattle.sshkey_sshsig.specs.SshSignatureFormats.{opening_format, statement_format, ssh_signature_of_parts, ssh_signature_format}

@@ -3,11 +3,11 @@ use Rattle.std.proofs.lemmas.Result.{err_from_is_err_and}
 use Rattle.std.specs.Int.{w32}
 use Rattle.sshkey_model.specs.Reading.{number_at}
 use Rattle.sshkey_base.proofs.Lengths.{no_lengths}
-use Rattle.sshkey_base.specs.Needs.{NoNeed}
-use Rattle.sshkey_base.specs.Stops.{NoOverrun}
+use Rattle.sshkey_model.specs.Needs.{NoNeed}
+use Rattle.sshkey_model.specs.Overruns.{NoOverrun}
 use Rattle.sshkey_base.proofs.Places.{later_then}
 use Rattle.sshkey_base.proofs.Steps.{refused_later}
-use Rattle.sshkey_terms.specs.Counted.{NeedsCounted, OverrunsCounted, values_at}
+use Rattle.sshkey_model.specs.Counted.{NeedsCounted, OverrunsCounted, values_at}
 use Rattle.sshkey_terms.proofs.Lawful.{called_chosen}
 use Rattle.sshkey_terms.proofs.Chosen.{chosen_refused, chosen_stopped, chosen_stops}
 use Rattle.sshkey_terms.proofs.counted.read.CountedDecode.decode.Goals as goal

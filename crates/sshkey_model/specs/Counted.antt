@@ -4,10 +4,10 @@ use Rattle.std.specs.Prelude.{◌≡◌, ◌⊎◌, ◌≤◌, ◌<◌, ◌+◌,
 use Rattle.sshkey_model.specs.Parts.{Parts, ◌&◌, each}
 use Rattle.sshkey_model.specs.Reading.{Fault, Length, ◌>>=◌, Front}
 use Rattle.sshkey_model.specs.Grammar.{MayFollow}
-use Rattle.sshkey_base.specs.Formats.{Format, number32_format}
-use Rattle.sshkey_base.specs.Leaves.{count}
-use Rattle.sshkey_base.specs.Needs.{NeedsFirst}
-use Rattle.sshkey_terms.specs.Terms.{called}
+use Rattle.sshkey_model.specs.Formats.{Format}
+use Rattle.sshkey_model.specs.Leaves.{number32_format, count}
+use Rattle.sshkey_model.specs.Needs.{NeedsFirst}
+use Rattle.sshkey_model.specs.Terms.{called}
 
 -- their number and the values, as they are written
 abbrev pub counted : {A : Type 0} → (A → Parts) → List A → Parts
