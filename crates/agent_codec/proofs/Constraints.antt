@@ -5,8 +5,9 @@ use Rattle.std.specs.List.{AllByRecursion}
 use Rattle.std.specs.Prelude.{map}
 use Rattle.ssh_key.proofs.Counted.{each_normal}
 use Rattle.ssh_key.proofs.Lawful.{IsChosen, called_chosen, called_ends, text_lawful}
+use Rattle.ssh_key.proofs.Grammars.{AllEnd}
 use Rattle.ssh_key.specs.model.Leaves.{SpellsString}
-use Rattle.ssh_key.specs.model.Grammar.{AllEnd, normal_is_spelling}
+use Rattle.ssh_key.specs.model.Grammar.{normal_is_spelling}
 use Rattle.ssh_key.specs.model.Parts.{number, ◌&◌, each, flat, Fits}
 use Rattle.ssh_key.specs.model.Texts.{string, text_format}
 use Rattle.agent_codec.specs.Constraints.{Confirm, Constraint, Extension, IsWellFormedConstraint, Lifetime, body_format, constraint, constraint_format, constraint_of, constraints, kind_format, kind_from}

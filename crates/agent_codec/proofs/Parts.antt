@@ -3,12 +3,12 @@ use Rattle.std.proofs.Common.{◌≡◌, inl, inr, ◌<◌, ℕ, List, [], ◌++
 use Rattle.std.proofs.lemmas.List.{length-append}
 use Rattle.std.specs.Int.{w8}
 use Rattle.ssh_key.proofs.CombinedReaders.{fits_first, fits_inside, fits_length, fits_second, ok_is}
-use Rattle.ssh_key.proofs.Grammars.{ends}
+use Rattle.ssh_key.proofs.Grammars.{ends, AllEnd, SpellsBoth}
 use Rattle.ssh_key.proofs.Lawful.{byte_lawful, tested_lawful}
 use Rattle.ssh_key.proofs.Writing.{length_number8}
 use Rattle.ssh_key.specs.model.Formats.{Format, IsFormat}
 use Rattle.ssh_key.specs.model.Leaves.{SpellsByte}
-use Rattle.ssh_key.specs.model.Grammar.{AllEnd, IsGrammar, SpellsBoth, SpellsBoxed, SpellsTested, SpellsThen, normal_is_spelling}
+use Rattle.ssh_key.specs.model.Grammar.{IsGrammar, SpellsBoxed, SpellsTested, SpellsThen, normal_is_spelling}
 use Rattle.ssh_key.specs.model.Parts.{Parts, ◌&◌, box, flat, number, Fits}
 use Rattle.ssh_key.specs.model.Reading.{Fault}
 use Rattle.agent_codec.specs.Parts.{SpellsNothing, nothing_at, numbered}

@@ -1,12 +1,10 @@
 -- How requests are read, and that what is written of them is a spelling.
 use Rattle.std.proofs.Common.{ℕ, List, Ok, refl}
-use Rattle.std.specs.Int.{w8}
 use Rattle.std.specs.Prelude.{map}
-use Rattle.ssh_key.proofs.Grammars.{all_end}
+use Rattle.ssh_key.proofs.Grammars.{all_end, both_at}
 use Rattle.ssh_key.proofs.Lawful.{IsMapped}
 use Rattle.ssh_key.specs.model.Grammar.{IsGrammar, normal_is_spelling}
 use Rattle.ssh_key.specs.model.Parts.{box, each, flat, Fits, number, ◌&◌}
-use Rattle.ssh_key.specs.model.Reading.{both_at}
 use Rattle.ssh_key.specs.model.Texts.{string}
 use Rattle.agent_codec.specs.Constraints.{constraint, constraint_of, constraints}
 use Rattle.agent_codec.specs.Parts.{message}

@@ -2,14 +2,13 @@
 use Rattle.std.proofs.Common.{◌≡◌, ◌<◌, ◌+◌, ℕ, List, [], ◌∷◌, length, map, map-id, Ok, refl, subst, arith}
 use Rattle.std.specs.List.{AllByRecursion}
 use Rattle.ssh_key.proofs.Counted.{counted_normal, each_normal}
-use Rattle.ssh_key.proofs.Grammars.{all_end}
+use Rattle.ssh_key.proofs.Grammars.{all_end, both_at}
 use Rattle.ssh_key.proofs.Lawful.{IsMapped, string_lawful}
 use Rattle.ssh_key.proofs.Writing.{length_both, length_box}
 use Rattle.ssh_key.specs.model.Leaves.{string_format}
 use Rattle.ssh_key.specs.keys.Signatures.{signature_of}
 use Rattle.ssh_key.specs.model.Grammar.{IsGrammar, normal_is_spelling}
 use Rattle.ssh_key.specs.model.Parts.{box, bytes, each, flat, Fits, ◌&◌}
-use Rattle.ssh_key.specs.model.Reading.{both_at}
 use Rattle.ssh_key.specs.model.Signatures.{signature, SpellsSignature}
 use Rattle.ssh_key.specs.model.Texts.{string}
 use Rattle.ssh_key.specs.model.Counted.{counted_format}

@@ -52,6 +52,7 @@ pub use sshkey_cert::laws::compared_certificates;
 pub use sshkey_cert::laws::equal_certificate_refusals;
 pub use sshkey_cert::laws::one_certificate;
 pub use sshkey_cert_fields::laws::compared_signed_fields;
+pub use sshkey_cert_fields::laws::exact_to_be_signed;
 pub use sshkey_cert_form::laws::shortest_certificate;
 pub use sshkey_cert_values::laws::compared_ends;
 pub use sshkey_cert_values::laws::compared_options;

@@ -3,7 +3,7 @@ use Rattle.std.proofs.Common.{◌≡◌, ◌≢◌, ◌⊎◌, ◌<◌, ◌≤�
 use Rattle.std.proofs.lemmas.Str.Pattern.{IsSplitOnceResult, split_after, split_parts}
 use Rattle.sshkey_base.specs.Causes.{cause, NoMemory}
 use Rattle.sshkey_base.specs.declared.error.Error.{Error}
-use Rattle.sshkey_model.specs.Lines.{space, IsKeyLine}
+use Rattle.sshkey_model.specs.Lines.{space, IsKeyLine, IsNoKeyLine}
 use Rattle.sshkey_entries.specs.Answers.{AsksEntry, ReadsEntry}
 use Rattle.sshkey_authorized_keys.specs.AuthorizedEntries.{authorized_key_of}
 use Rattle.sshkey_entries.specs.AuthorizedKeys.{AuthorizedKey, IsAuthorizedKey, HasOptions, is_space}
@@ -13,7 +13,6 @@ use Rattle.sshkey_authorized_keys.specs.OptionAnswers.{IsNotAllowed}
 use Rattle.sshkey_authorized_keys.specs.EntryFaults.{HasFault, HasFaultOfKey}
 use Rattle.sshkey_authorized_keys.specs.EntryNeeds.{NeedsLine, NeedsOptions}
 use Rattle.sshkey_base.specs.declared.error.Error.TheVariants.{FormatEncoding, Memory}
-use Rattle.sshkey_entries.specs.AuthorizedKeys.{IsNoKeyLine}
 use Rattle.sshkey_authorized_keys.specs.declared.entry.Entry.{Entry}
 
 pub uncut : (line : List ℕ) → IsSplitOnceResult space line None → (a : AuthorizedKey) → HasOptions line a → ⊥

@@ -3,8 +3,9 @@ use Rattle.std.specs.Prelude.{ℕ, List, ◌≤◌, count_by}
 use Rattle.sshkey_keys.specs.Comparisons.{HasForm}
 use Rattle.sshkey_public.specs.PublicKeys.{data_of, public_of, comment_of}
 use Rattle.sshkey_public.specs.declared.public_key.PublicKey.{PublicKey}
-use Rattle.sshkey_entries.specs.AuthorizedKeys.{AuthorizedKey, IsNoKeyLine, is_space}
+use Rattle.sshkey_entries.specs.AuthorizedKeys.{AuthorizedKey, is_space}
 use Rattle.sshkey_authorized_keys.specs.declared.entry.Entry.{Entry}
+use Rattle.sshkey_model.specs.Lines.{IsNoKeyLine}
 
 abbrev pub options_of : Entry → List ℕ
 options_of e = e.config_opts

@@ -1,8 +1,10 @@
-//! A law of what a certificate's signature is over: it stands for all values, and makes no call.
+//! Laws of what a certificate's signature is over: each stands for all values, and makes no call.
 
 ghost use Rattle.sshkey_base.specs.Comparisons.{EqualMeanSame, IsEqualityAmong};
 ghost use Rattle.sshkey_cert_fields.specs.Comparisons.{HasKeys, IsOrderOfFields};
 ghost use Rattle.sshkey_cert_fields.specs.ToBeSignedValues.{to_be_signed_of};
+ghost use Rattle.sshkey_model.specs.Certificates.{SpellsToBeSigned, to_be_signed_format};
+ghost use Rattle.sshkey_model.specs.Grammar.{IsGrammar};
 
 use crate::to_be_signed::ToBeSigned;
 use sshkey_cert_values::laws::{compared_ends, compared_options, compared_times, compared_types};
@@ -21,3 +23,10 @@ pub fn compared_signed_fields()
     compared_ends();
     compared_options();
 }
+
+/// It is read exactly where PROTOCOL.certkeys spells it, with each way to spell an empty value and
+/// the authority's name.
+#[tactic(auto, using(crate::proofs::ToBeSignedReaders::to_be_signed_grammar))]
+pub fn exact_to_be_signed()
+    ensures { IsGrammar SpellsToBeSigned to_be_signed_format.read }
+{}

@@ -1,8 +1,9 @@
 -- Keys and signatures that fill their strings.
-use Rattle.std.proofs.Common.{◌≡◌, ℕ, List, Result, Ok, Err, refl, ◌∙◌}
+use Rattle.std.proofs.Common.{◌≡◌, ℕ, List, [], Result, Ok, Err, refl, ◌∙◌}
 use Rattle.sshkey_model.specs.Reading.{Fault, ◌>>=◌, whole}
 use Rattle.sshkey_model.specs.Keys.{Key, Head, key_at, key_data_at}
 use Rattle.sshkey_model.specs.Signatures.{Signature, signature_at}
+use Rattle.sshkey_model.specs.Names.{Dsa}
 use Rattle.sshkey_model.proofs.CombinedReaders.{whole_reads}
 use Rattle.sshkey_model.proofs.KeyReaders.{key_reads}
 use Rattle.sshkey_model.proofs.SignatureReaders.{signature_reads}
@@ -14,8 +15,8 @@ use Rattle.sshkey_keys_ref.specs.KeyDataRef.{key_bytes}
 use Rattle.sshkey_keys_ref.specs.SignatureRef.{signature_bytes}
 use Rattle.sshkey_keys_ref.specs.declared.key_data_ref.KeyDataRef.{KeyDataRef}
 use Rattle.sshkey_keys_ref.specs.declared.signature_ref.SignatureRef.{SignatureRef}
-use Rattle.sshkey_terms.specs.Slices.{Keeps}
-use Rattle.sshkey_cert_ref.specs.Fields.{spelled_key_of, spelled_signature_of}
+use Rattle.sshkey_terms.specs.Slices.{Keeps, found_or}
+use Rattle.sshkey_cert_ref.specs.Fields.{spelled_key_of}
 use Rattle.sshkey_cert_ref.specs.Parts.{IsKeyIn, IsSignatureIn}
 
 -- the key of bytes that were kept, or the fault of others
@@ -39,6 +40,14 @@ key_is r = go (whole key_at (key_bytes r)) refl
         absurd cc
 
 -- ---- signatures
+
+-- what stands for the signature of bytes that spell none
+abbrev no_signature : Signature
+no_signature = record { algorithm = Dsa; blob = [] }
+
+-- the signature that the bytes spell
+abbrev pub spelled_signature_of : SignatureRef → Signature
+spelled_signature_of r = found_or no_signature (whole signature_at (signature_bytes r))
 
 pub kept_signature : {E : Type 0} (cause : E → Cause) (b : List ℕ) (r : Result SignatureRef E) → Keeps signature_bytes cause (whole signature_at b) b r → AnswersAlways spelled_signature_of cause (whole signature_at b) r
 kept_signature {E} cause b r h = go (whole signature_at b) refl r h

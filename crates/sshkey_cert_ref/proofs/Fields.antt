@@ -8,11 +8,14 @@ use Rattle.sshkey_model.specs.Certificates.{SignedFields, CertificateChoices, Ce
 use Rattle.sshkey_model.proofs.CombinedReaders.{bind_assoc}
 use Rattle.sshkey_model.specs.Formats.{Format}
 use Rattle.sshkey_model.specs.Leaves.{number64_format, string_format}
-use Rattle.sshkey_model.specs.Options.{spelled_options_format}
+use Rattle.sshkey_model.specs.Options.{CertificateOption, Nesting, spelled_options_format}
 use Rattle.sshkey_model.specs.Texts.{text_format, texts_format}
 use Rattle.sshkey_model.specs.CertificateNames.{certified_format}
 use Rattle.sshkey_model.specs.Terms.{◌then◌}
-use Rattle.sshkey_cert_ref.specs.Fields.{OptionsAsSpelled, boxed_key_format}
+use Rattle.sshkey_cert_ref.specs.Fields.{boxed_key_format}
+
+abbrev OptionsAsSpelled : Type 0
+OptionsAsSpelled = List CertificateOption × List Nesting
 
 abbrev pub opening_format : Format (Algorithm × List ℕ)
 opening_format = certified_format then string_format

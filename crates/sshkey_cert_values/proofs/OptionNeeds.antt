@@ -4,7 +4,7 @@ use Rattle.std.specs.Prelude.{IsOkAnd}
 use Rattle.std.specs.Int.{w32}
 use Rattle.std.proofs.lemmas.Bool.{cases_lt}
 use Rattle.sshkey_model.specs.Options.{CertificateOption, name_before, option_format, option_list_format, value_format}
-use Rattle.sshkey_model.specs.Reading.{Fault, Length, number_at, string_at, after_at, both_at}
+use Rattle.sshkey_model.specs.Reading.{Fault, Length, number_at, string_at, after_at}
 use Rattle.sshkey_model.specs.Terms.{boxed}
 use Rattle.sshkey_model.specs.Texts.{text_at}
 use Rattle.sshkey_base.specs.Causes.{Cause, NoMemory, Faulty}
@@ -18,6 +18,7 @@ use Rattle.sshkey_base.proofs.ReadLists.{StillOverruns}
 use Rattle.sshkey_base.proofs.Stopping.{not_taken, step_ok}
 use Rattle.sshkey_cert_values.proofs.OptionLists.{item}
 use Rattle.sshkey_cert_values.proofs.OptionStops.{IsStopped}
+use Rattle.sshkey_model.proofs.Grammars.{both_at}
 
 abbrev NeedsOption : List ℕ → ℕ → Type 0
 NeedsOption = (option_format None).needs

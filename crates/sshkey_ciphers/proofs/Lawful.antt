@@ -2,11 +2,11 @@
 use Rattle.std.proofs.Common.{◌≡◌, ℕ, List, length, refl}
 use Rattle.std.specs.Prelude.{◌==◌, ◌%◌}
 use Rattle.sshkey_model.specs.Reading.{Crypto, bytes_at}
-use Rattle.sshkey_model.specs.Grammar.{AllEnd, IsGrammar}
+use Rattle.sshkey_model.specs.Grammar.{IsGrammar}
 use Rattle.sshkey_model.specs.KeyDerivation.{Cipher, block_size, tag_size, KdfAlgorithm, NoDerivation, BcryptDerivation}
 use Rattle.sshkey_model.proofs.CipherNames.{cipher_checks, kdf_algorithm_checks}
 use Rattle.sshkey_model.proofs.CombinedReaders.{bytes_reads, checked_string_reads, kept_bytes}
-use Rattle.sshkey_model.proofs.Grammars.{all_end, by_itself, grammar}
+use Rattle.sshkey_model.proofs.Grammars.{all_end, by_itself, grammar, AllEnd}
 use Rattle.sshkey_model.specs.Formats.{IsFormat}
 use Rattle.sshkey_model.specs.Needs.{NoNeed}
 use Rattle.sshkey_model.specs.Overruns.{AreLengths, OverrunsString}

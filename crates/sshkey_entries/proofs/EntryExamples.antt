@@ -11,13 +11,13 @@ use Rattle.sshkey_model.specs.HexText.{hex}
 use Rattle.sshkey_model.specs.KeyExamples.{rsa_key}
 use Rattle.sshkey_model.specs.LineExamples.{rsa_word, rsa_line}
 use Rattle.sshkey_model.specs.Parts.{flat}
-use Rattle.sshkey_model.specs.Lines.{space, IsKeyLine}
+use Rattle.sshkey_model.specs.Lines.{space, IsKeyLine, IsNoKeyLine}
 use Rattle.sshkey_model.proofs.Base64Words.{one_blob}
 use Rattle.sshkey_model.proofs.CombinedReaders.{bytes_fit}
 use Rattle.sshkey_model.proofs.LineCuts.{one_front}
 use Rattle.sshkey_model.proofs.LineExamples.{line_ends}
 use Rattle.sshkey_model.proofs.LineTests.{all_characters, each, lacks, cut, no_base64, one_word}
-use Rattle.sshkey_entries.specs.AuthorizedKeys.{IsNoKeyLine, IsAuthorizedKey, HasOptions, is_space}
+use Rattle.sshkey_entries.specs.AuthorizedKeys.{IsAuthorizedKey, HasOptions, is_space}
 use Rattle.sshkey_entries.specs.ConfigOptions.{is_option_character}
 use Rattle.sshkey_entries.specs.Entries.{IsNoEntry}
 use Rattle.sshkey_entries.specs.EntryExamples.{Options, Marked, HashedHosts, authorized, host, hash, salt}

@@ -4,8 +4,7 @@ use Rattle.std.specs.Prelude.{◌≡◌, ◌⊎◌, ℕ, List, [], ◌++◌, sli
 use Rattle.std.specs.Str.Lines.{lines}
 use Rattle.base64.specs.Engines.{standard}
 use Rattle.base64.specs.GeneralPurpose.{encode_of}
-use Rattle.sshkey_model.specs.Grammar.{SpellsWith}
-use Rattle.sshkey_model.specs.Keys.{Key, IsKey, HasKeyPlaces, key}
+use Rattle.sshkey_model.specs.Keys.{Key, SpellsKey}
 use Rattle.sshkey_model.specs.Lines.{key_name}
 use Rattle.sshkey_entries.specs.Entries.{is_hash, is_some_text}
 use Rattle.sshkey_entries.specs.Fronts.{without_front}
@@ -33,7 +32,7 @@ pub record AreKeyFields (text : List ℕ) (k : Key) (comment : List ℕ) : Type 
   pub one_word : IsField (key_name k)
   pub name_ends : EndsField after_name
   pub word : without_blanks after_name ≡ encode_of standard blob ++ after_key
-  pub spelled : SpellsWith IsKey HasKeyPlaces key k blob
+  pub spelled : SpellsKey k blob
   pub key_ends : EndsField after_key
   pub comment_is : comment ≡ without_blanks after_key
 

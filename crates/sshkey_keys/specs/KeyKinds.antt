@@ -1,5 +1,5 @@
 -- Kinds of keys.
-use Rattle.std.specs.Prelude.{Bool, true, false}
+use Rattle.std.specs.Prelude.{Bool, true, false, ◌||◌}
 use Rattle.sshkey_model.specs.Names as names
 use Rattle.sshkey_model.specs.Keys.{Key, Dsa, Ecdsa, Ed25519, Rsa, SkEcdsa, SkEd25519, Opaque}
 
@@ -26,6 +26,10 @@ is_sk_ecdsa _ = false
 abbrev pub is_sk_ed25519 : Key → Bool
 is_sk_ed25519 (SkEd25519 k) = true
 is_sk_ed25519 _ = false
+
+-- a key that a security key holds
+abbrev pub is_security_key : Key → Bool
+is_security_key k = is_sk_ecdsa k || is_sk_ed25519 k
 
 abbrev pub is_opaque : Key → Bool
 is_opaque (Opaque name k) = true

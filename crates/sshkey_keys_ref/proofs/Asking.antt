@@ -8,9 +8,9 @@ use Rattle.sshkey_model.proofs.CombinedReaders.{bind_ok, ok_is}
 use Rattle.sshkey_model.specs.Labels.{label_at}
 use Rattle.sshkey_base.proofs.Accepted.{spelled_whole}
 use Rattle.sshkey_keys.specs.Asked.{IsAsked}
-use Rattle.sshkey_keys.specs.KeyKinds.{is_dsa, is_ecdsa, is_ed25519, is_rsa}
+use Rattle.sshkey_keys.specs.KeyKinds.{is_dsa, is_ecdsa, is_ed25519, is_rsa, is_security_key}
 use Rattle.sshkey_keys.proofs.SignatureReaders.{signature_chosen, signature_grammar}
-use Rattle.sshkey_keys_ref.specs.Dispatch.{IsAskedAs, IsBlobIn, is_within, signature_by}
+use Rattle.sshkey_keys_ref.specs.Dispatch.{IsAskedAs, IsBlobIn, signature_by}
 use Rattle.sshkey_keys_ref.proofs.PlainHeads.{whole_is}
 
 -- ---- the bytes of a signature are well-formed for the name before them
@@ -35,7 +35,7 @@ never_asked n d m (Algorithm.Rsa None) g = refl
 never_asked n d m _ g = refl
 
 -- a plain key that is asked about takes memory of its own, or none
-pub takes_memory : (k : Key) (m : List ℕ) (g : Signature) → is_within k ≡ false → is_some (question k m g) ≡ true → (IsTrue (is_ecdsa k || is_ed25519 k) → false ≡ true) → IsTrue (is_dsa k || is_rsa k)
+pub takes_memory : (k : Key) (m : List ℕ) (g : Signature) → is_security_key k ≡ false → is_some (question k m g) ≡ true → (IsTrue (is_ecdsa k || is_ed25519 k) → false ≡ true) → IsTrue (is_dsa k || is_rsa k)
 takes_memory (Dsa d) m g plain is never = refl
 takes_memory (Rsa d) m g plain is never = refl
 takes_memory (Ecdsa c p) m g plain is never = absurd (cc (never refl))
@@ -44,7 +44,7 @@ takes_memory (Opaque n d) m g plain is never = absurd (cc (rw (never_asked n d m
 takes_memory _ m g plain is never = absurd (cc plain)
 
 -- a signature of a security key has flags and a counter
-trailed : (k : Key) (m blob : List ℕ) (a : Algorithm) → is_within k ≡ true → is_some (question k m (signature_by a blob)) ≡ true → IsSignatureBlob a blob → 5 ≤ length blob
+trailed : (k : Key) (m blob : List ℕ) (a : Algorithm) → is_security_key k ≡ true → is_some (question k m (signature_by a blob)) ≡ true → IsSignatureBlob a blob → 5 ≤ length blob
 trailed (SkEcdsa d) m blob Algorithm.SkEcdsa within is form = form.0
 trailed (SkEcdsa d) m blob (Algorithm.Rsa None) within is form = absurd (cc is)
 trailed (SkEcdsa d) m blob _ within is form = absurd (cc is)
@@ -54,7 +54,7 @@ trailed (SkEd25519 d) m blob _ within is form = absurd (cc is)
 trailed _ m blob a within is form = absurd (cc within)
 
 -- The question that the code asks about the plain key within.
-pub within_asked : (k : Key) (m blob signed string application : List ℕ) (a w : Algorithm) (p : Key) → IsSignatureBlob a blob → true ≡ is_some (question k m (signature_by a blob)) → (is_within k ≡ true) × IsAskedAs k (asked_within w p application) → (5 ≤ length blob → signed ≡ security_key_message application m blob) → string ≡ without_trailer blob → question k m (signature_by a blob) ≡ Some (record { algorithm = w; key = p; message = signed; blob = string })
+pub within_asked : (k : Key) (m blob signed string application : List ℕ) (a w : Algorithm) (p : Key) → IsSignatureBlob a blob → true ≡ is_some (question k m (signature_by a blob)) → (is_security_key k ≡ true) × IsAskedAs k (asked_within w p application) → (5 ≤ length blob → signed ≡ security_key_message application m blob) → string ≡ without_trailer blob → question k m (signature_by a blob) ≡ Some (record { algorithm = w; key = p; message = signed; blob = string })
 within_asked k m blob signed string application a w p form is held says cut = rw (says (trailed k m blob a held.0 (sym is) form), cut) (held.1 m (signature_by a blob) (sym is))
 
 pub well_asked : (q : Question) (k : Key) (m blob : List ℕ) (a : Algorithm) → IsSignatureBlob a blob → question k m (signature_by a blob) ≡ Some q → IsAsked q

@@ -5,7 +5,7 @@ use Rattle.sshkey_model.specs.Names.{Algorithm}
 use Rattle.sshkey_model.specs.Reading.{whole}
 use Rattle.sshkey_model.specs.Signatures.{Signature, signature_blob_at, SpellsSignature}
 use Rattle.sshkey_model.specs.Verification.{Question, question, is_yes, IsAccepted}
-use Rattle.sshkey_keys.specs.KeyKinds.{is_dsa, is_rsa, is_sk_ecdsa, is_sk_ed25519}
+use Rattle.sshkey_keys.specs.KeyKinds.{is_dsa, is_rsa}
 
 -- What the verifier answers, if it is asked, and else no. Memory is out only where it is asked.
 abbrev pub Dispatches : {E : Type 0} → (Question → Bool) → Key → List ℕ → Signature → Result Bool E → Type 0
@@ -44,10 +44,6 @@ signature_by a blob = record { algorithm = a; blob = blob }
 abbrev pub AnswersKey : {E : Type 0} → (Question → Bool) → (Question → Type 0) → List ℕ → List ℕ → Signature → Result Bool E → Type 0
 AnswersKey accepts runs_out key message g (Ok answer) = (k : Key) → whole key_data_at key ≡ Ok k → answer ≡ is_yes accepts (question k message g)
 AnswersKey accepts runs_out key message g (Err e) = (k : Key) → whole key_data_at key ≡ Ok k → RunsOutFor runs_out k (question k message g)
-
--- A security key holds it.
-abbrev pub is_within : Key → Bool
-is_within k = is_sk_ecdsa k || is_sk_ed25519 k
 
 -- What is asked about a signature under the key, if anything is, is that question.
 abbrev pub IsAskedAs : Key → (List ℕ → Signature → Question) → Type 0

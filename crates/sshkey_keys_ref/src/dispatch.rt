@@ -6,7 +6,8 @@ ghost use Rattle.sshkey_model.specs.Keys.{Key};
 ghost use Rattle.sshkey_model.specs.Signatures.{IsSignatureBlob, Signature};
 ghost use Rattle.sshkey_model.specs.Verification.{asked, asked_within, question_under};
 ghost use Rattle.sshkey_keys.specs.Keys.{key_of};
-ghost use Rattle.sshkey_keys_ref.specs.Dispatch.{AnswersKey, AreAccepted, AsksBytes, DispatchesBytes, IsAskedAs, IsBlobIn, is_within, signature_by};
+ghost use Rattle.sshkey_keys.specs.KeyKinds.{is_security_key};
+ghost use Rattle.sshkey_keys_ref.specs.Dispatch.{AnswersKey, AreAccepted, AsksBytes, DispatchesBytes, IsAskedAs, IsBlobIn, signature_by};
 ghost use Rattle.sshkey_keys_ref.specs.KeyDataRef.{key_bytes};
 ghost use Rattle.sshkey_keys_ref.specs.KeyRef.{Means};
 ghost use Rattle.sshkey_keys_ref.specs.NameRef.{named_of};
@@ -140,8 +141,8 @@ fn goes_with(key: &KeyRef<'_>, algorithm: &Algorithm) -> bool
 /// The plain algorithm, the plain key and the application of a security key; `None` for others.
 fn plain_within<'a>(key: &KeyRef<'a>) -> Option<(Algorithm, KeyData, &'a str)>
     ensures { (k : Key) → Means key.now k →
-        MatchOption result ((is_within k ≡ false) × IsAskedAs k (asked k)) (λ w.
-        (is_within k ≡ true)
+        MatchOption result ((is_security_key k ≡ false) × IsAskedAs k (asked k)) (λ w.
+        (is_security_key k ≡ true)
         × IsAskedAs k (asked_within (algorithm_of w.0) (key_of w.1) w.2.now)) }
 {
     match key {

@@ -1,6 +1,6 @@
 -- The formats of keys are lawful.
 use Rattle.sshkey_model.specs.Formats.{IsFormat}
-use Rattle.sshkey_model.specs.Keys.{p256_only, dsa_format, rsa_format, ed25519_format, sk_ed25519_format, ecdsa_key_from, ecdsa_parts, any_ecdsa_format, p256_name_format, sk_ecdsa_format}
+use Rattle.sshkey_model.specs.Keys.{p256_only, dsa_format, rsa_format, ed25519_format, sk_ed25519_format, ecdsa_key_from, ecdsa_parts_format, any_ecdsa_format, p256_name_format, sk_ecdsa_format}
 use Rattle.sshkey_model.specs.Names.{curve_format}
 use Rattle.sshkey_model.specs.Needs.{NoNeed}
 use Rattle.sshkey_model.specs.Points.{point_from, p256_point_from, point_format, p256_point_format}
@@ -28,7 +28,7 @@ curve_lawful = label_lawful NoNeed curve_checks
 pub point_lawful : IsFormat point_format
 point_lawful = without_memory_lawful (tested_lawful point_from string_lawful)
 
-pub ecdsa_parts_lawful : IsFormat ecdsa_parts
+pub ecdsa_parts_lawful : IsFormat ecdsa_parts_format
 ecdsa_parts_lawful = then_lawful curve_lawful point_lawful
 
 pub any_ecdsa_lawful : IsFormat any_ecdsa_format

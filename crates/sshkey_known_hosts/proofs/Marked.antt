@@ -7,10 +7,9 @@ use Rattle.sshkey_base.specs.Causes.{cause, NoMemory}
 use Rattle.sshkey_base.specs.declared.error.Error.{Error}
 use Rattle.sshkey_base.specs.declared.error.Error.TheVariants.{FormatEncoding}
 use Rattle.sshkey_model.specs.Keys.{Key, key_format, SpellsKey}
-use Rattle.sshkey_model.specs.Lines.{space, key_name, IsKeyLine, IsWithout}
+use Rattle.sshkey_model.specs.Lines.{space, key_name, IsKeyLine, IsWithout, IsNoKeyLine}
 use Rattle.sshkey_public.specs.LineFaults.{HasFaultOfLine}
 use Rattle.sshkey_entries.proofs.OneHost.{one_marker}
-use Rattle.sshkey_entries.specs.AuthorizedKeys.{IsNoKeyLine}
 use Rattle.sshkey_entries.specs.Entries.{IsNoEntry}
 use Rattle.sshkey_entries.specs.KnownHosts.{Marker, Hosts, IsHosts, KnownHost, IsMarked, IsKnownHost}
 use Rattle.sshkey_known_hosts.specs.HostFaults.{HasFault, HasNoParts, NeedsLine, RefusesHosts}

@@ -8,8 +8,8 @@ use Rattle.sshkey_base.proofs.Writing.{length_both}
 use Rattle.sshkey_base.proofs.Lawful.{array_lawful, byte_lawful, number64_lawful, string_lawful}
 use Rattle.sshkey_model.specs.Formats.{Format, IsFormat}
 use Rattle.sshkey_model.specs.Leaves.{array_format, byte_format, number32_format, number64_format, string_format, SpellsString}
-use Rattle.sshkey_model.specs.Grammar.{AllEnd, normal_is_spelling}
-use Rattle.sshkey_model.proofs.Grammars.{ends}
+use Rattle.sshkey_model.specs.Grammar.{normal_is_spelling}
+use Rattle.sshkey_model.proofs.Grammars.{ends, AllEnd}
 use Rattle.sshkey_base.specs.Sink.{NotWritten, Sink, Written, after}
 use Rattle.sshkey_base.specs.declared.encoding.Error as narrow
 use Rattle.sshkey_base.specs.declared.encoding.Error.TheVariants as encoding

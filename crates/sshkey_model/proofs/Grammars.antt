@@ -6,8 +6,20 @@ use Rattle.std.proofs.lemmas.Bool.{cases_lt, lt-ltb, le-ltb}
 use Rattle.std.proofs.lemmas.List.{append_cancel_right, length-append, length-take-le, take_at, drop_at, take-append-drop}
 use Rattle.sshkey_model.specs.Parts.{Parts, InRange, flat}
 use Rattle.sshkey_model.specs.Reading.{Fault, ◌>>=◌, Front, Whole, end_of, whole, number_at, box_at, after_at, checked_at, never_at}
-use Rattle.sshkey_model.specs.Grammar.{Spells, SpellsWith, IsSpelled, spelled, value_at, IsGrammar, Grammar, MayFollow, AllEnd, SpellsThen, SpellsTested, SpellsBoxed}
+use Rattle.sshkey_model.specs.Grammar.{Spells, SpellsWith, IsSpelled, spelled, value_at, IsGrammar, Grammar, MayFollow, SpellsThen, SpellsTested, SpellsBoxed}
 use Rattle.sshkey_model.proofs.LawfulReaders.{ReadsFront, bind_ok, ok_is, done, number_reads, wide32, fits_number}
+
+-- all values end by themselves
+abbrev pub AllEnd : {A : Type 0} → Front A → Front A → Type 0
+AllEnd read delimited_at = (b : List ℕ) → delimited_at b ≡ read b
+
+-- The second is spelled alike whatever the first is.
+abbrev pub SpellsBoth : {A B : Type 0} → (A → List ℕ → Type 0) → Front A → (B → List ℕ → Type 0) → A × B → List ℕ → Type 0
+SpellsBoth First delimited_at Second = SpellsThen First delimited_at (λ _. Second)
+
+-- The second is read alike whatever the first is.
+abbrev pub both_at : {A B : Type 0} → Front A → Front B → Front (A × B)
+both_at read next = after_at read (λ _. next)
 
 pub grammar : {V : Type 0} {Is : V → Type 0} {spell : V → Parts} {read : Front V} → ReadsFront Is spell read → IsGrammar (Spells Is spell) read
 grammar {V} {Is} {spell} {read} reads = record {

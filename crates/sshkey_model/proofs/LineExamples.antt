@@ -13,17 +13,17 @@ use Rattle.sshkey_model.specs.Reading.{after_at, string_at, number_at, bytes_at}
 use Rattle.sshkey_model.specs.Labels.{label_at}
 use Rattle.sshkey_model.specs.Names.{named}
 use Rattle.sshkey_model.specs.Mpints.{mpint_at}
-use Rattle.sshkey_model.specs.Keys.{Key, Head, Plain, Head256, key, key_at}
-use Rattle.sshkey_model.specs.Lines.{space, after_space, joined, key_name, IsKeyLine, IsWithout, IsCut}
+use Rattle.sshkey_model.specs.Keys.{Key, Head, Plain, Head256, SpellsKey, key, key_at}
+use Rattle.sshkey_model.specs.Lines.{space, after_space, joined, key_name, IsKeyLine, IsWithout, IsCut, IsNoKeyLine}
 use Rattle.sshkey_model.specs.KeyExamples.{rsa_key, rsa_bytes, rsa_256_bytes}
-use Rattle.sshkey_model.specs.LineExamples.{IsNoKeyLine, rsa_word, rsa_line, padded_key, LineEnds, NoTexts, Spaces, LastBits, FirstWords}
+use Rattle.sshkey_model.specs.LineExamples.{rsa_word, rsa_line, padded_key, LineEnds, NoTexts, Spaces, LastBits, FirstWords}
 use Rattle.sshkey_model.proofs.CombinedReaders.{bytes_fit}
 use Rattle.sshkey_model.proofs.KeyReaders.{key_reads}
 use Rattle.sshkey_model.proofs.LineCuts.{one_front, without_space}
 use Rattle.sshkey_model.proofs.Lines.{no_cut, other_first}
 use Rattle.sshkey_model.proofs.Lines as lines
 use Rattle.sshkey_model.proofs.Blobs.{key_blobs}
-use Rattle.sshkey_model.proofs.LineTests.{SpellsKey, all_characters, lacks, is_no_space, cut, no_base64, one_word, no_character}
+use Rattle.sshkey_model.proofs.LineTests.{all_characters, lacks, is_no_space, cut, no_base64, one_word, no_character}
 
 -- ---- what is a line, and what is none
 

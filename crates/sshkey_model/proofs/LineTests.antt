@@ -7,17 +7,12 @@ use Rattle.base64.specs.Engines.{standard}
 use Rattle.base64.specs.GeneralPurpose.{decode_of}
 use Rattle.base64.specs.declared.decode.DecodeError.{DecodeError}
 use Rattle.base64.proofs.EngineFacts.{decode_of-encode_of}
-use Rattle.sshkey_model.specs.Grammar.{SpellsWith}
-use Rattle.sshkey_model.specs.Keys.{Key, IsKey, HasKeyPlaces, key}
-use Rattle.sshkey_model.specs.Lines.{space, after_space, joined, is_word_character, HasWordCharacters, key_name, IsWithout, IsCut}
-use Rattle.sshkey_model.specs.LineExamples.{IsNoKeyLine}
+use Rattle.sshkey_model.specs.Lines.{space, after_space, joined, is_word_character, HasWordCharacters, key_name, IsWithout, IsCut, IsNoKeyLine}
+use Rattle.sshkey_model.specs.Keys.{SpellsKey}
 use Rattle.sshkey_model.proofs.Base64Words.{is_other_than}
 use Rattle.sshkey_model.proofs.Blobs.{key_blobs}
 use Rattle.sshkey_model.proofs.LineCuts.{one_front, without_space, seam_space}
 use Rattle.sshkey_model.proofs.Lines.{no_cut, no_blob}
-
-abbrev pub SpellsKey : Key → List ℕ → Type 0
-SpellsKey = SpellsWith IsKey HasKeyPlaces key
 
 -- ---- tests of words
 

@@ -5,10 +5,10 @@ use Rattle.std.specs.Prelude.{◌↔◌}
 use Rattle.std.specs.Int.{w32, to_be_bytes}
 use Rattle.sshkey_model.specs.Parts.{Parts, box, ◌&◌, flat, Fits, InRange, BoxesFit, IsPrefixFree}
 use Rattle.sshkey_model.specs.Reading.{Fault, Front}
-use Rattle.sshkey_model.specs.Grammar.{IsGrammar, Spells, normal_is_spelling, SpellsWith, IsSpelled, spelled, MayFollow, SpellsBoth, SpellsThen, SpellsTested, SpellsBoxed}
+use Rattle.sshkey_model.specs.Grammar.{IsGrammar, Spells, normal_is_spelling, SpellsWith, IsSpelled, spelled, MayFollow, SpellsThen, SpellsTested, SpellsBoxed}
 use Rattle.sshkey_model.specs.Laws.{DetermineValues, ReadBack}
 use Rattle.sshkey_model.proofs.LawfulReaders.{ReadsFront, ok_is, met, fits_both, fits_first, fits_second, fits_box, fits_inside, fits_length}
-use Rattle.sshkey_model.proofs.Grammars.{one_front}
+use Rattle.sshkey_model.proofs.Grammars.{one_front, SpellsBoth}
 
 pub record IsTree {A S : Type 0} (Spelling : A → List ℕ → Type 0) (Is : A × S → Type 0) (tree : A × S → Parts) : Type 0 where
   -- a spelling is the tree of some choices

@@ -47,7 +47,7 @@ values_at item n b = if nat_lt (length b) n then Err Length else (times_at item 
 abbrev pub NeedsValues : {A : Type 0} → Format A → ℕ → List ℕ → ℕ → Type 0
 NeedsValues item n b m = (0 < n) × NeedsFirst item.needs item.read b m
 
--- So do as many as have bytes.
+-- No more are wanted than bytes were announced, and the first one needs memory, or stands there.
 abbrev pub NeedsCounted : {A : Type 0} → Format A → ℕ → List ℕ → ℕ → Type 0
 NeedsCounted item n b m = (n ≤ length b + m) × NeedsValues item n b m
 

@@ -64,10 +64,6 @@ pub record Grammar {A : Type 0} (Spells : A → List ℕ → Type 0) (read delim
   -- and a spelling is taken
   pub alone : (value : A) (front : List ℕ) → Spells value front → read front ≡ Ok (value, [])
 
--- all values end by themselves
-abbrev pub AllEnd : {A : Type 0} → Front A → Front A → Type 0
-AllEnd read delimited_at = (b : List ℕ) → delimited_at b ≡ read b
-
 -- ---- what is spelled of parts
 
 -- The bytes spell the first value, and after it the second, whose spelling may depend on the first.
@@ -79,10 +75,6 @@ pub record SpellsThen {A B : Type 0} (First : A → List ℕ → Type 0) (delimi
   pub second : Second value.0 value.1 after
   pub all : bytes ≡ front ++ after
   pub may_follow : MayFollow delimited_at value.0 front after
-
--- the same where the second is spelled alike whatever the first is
-abbrev pub SpellsBoth : {A B : Type 0} → (A → List ℕ → Type 0) → Front A → (B → List ℕ → Type 0) → A × B → List ℕ → Type 0
-SpellsBoth First delimited_at Second = SpellsThen First delimited_at (λ _. Second)
 
 -- The bytes spell a value from which the test makes this one.
 pub record SpellsTested {A B : Type 0} (Inner : A → List ℕ → Type 0) (test : A → Result B Fault) (value : B) (bytes : List ℕ) : Type 0 where

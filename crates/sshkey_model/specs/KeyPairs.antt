@@ -19,9 +19,9 @@ use Rattle.sshkey_model.specs.Keys.{Key, Dsa, Ecdsa, Ed25519, Rsa, SkEcdsa, SkEd
 -- ---- private scalars of ECDSA
 
 -- A private scalar has the size of the field. It is written with a 00 before it exactly if its
--- first bit is set. Third spelling, by the zero bytes in front: that 00 may be missing, or stand
--- where none is wanted; or the scalar stands as the shortest mpint of its number, where that has
--- fewer bytes than the field.
+-- first bit is set. The third place where spellings differ: that 00 may be missing, or stand where
+-- none is wanted; or the scalar stands as the shortest mpint of its number, where that has fewer
+-- bytes than the field.
 pub data LeadingZeros : Type 0 where
   Plain WithoutZero WithZero Short : LeadingZeros
 

@@ -68,7 +68,8 @@ IsBody (Opaque name k) = Unit {0}
 abbrev pub IsKey : Key → Type 0
 IsKey k = IsAlgorithm (key_algorithm k) × IsBody k
 
--- First spelling: the name before an RSA key may also be one with a hash.
+-- The first of three places where spellings differ: the name before an RSA key may also be one with
+-- a hash.
 pub data Head : Type 0 where
   Plain Head256 Head512 : Head
 
@@ -139,12 +140,12 @@ sk_ed25519_format = tested sk_ed25519_key_from (array_format 32 then text_format
 abbrev pub ecdsa_key_from : Curve × (Curve × List ℕ) → Result Key Fault
 ecdsa_key_from a = of_curve a.0 a.1 >>= λ on. Ok (Ecdsa on.0 on.1)
 
-abbrev pub ecdsa_parts : Format (Curve × (Curve × List ℕ))
-ecdsa_parts = curve_format then point_format
+abbrev pub ecdsa_parts_format : Format (Curve × (Curve × List ℕ))
+ecdsa_parts_format = curve_format then point_format
 
 -- on any curve, which it states
 abbrev pub any_ecdsa_format : Format Key
-any_ecdsa_format = without_memory (tested ecdsa_key_from ecdsa_parts)
+any_ecdsa_format = without_memory (tested ecdsa_key_from ecdsa_parts_format)
 
 abbrev pub has_curve : Curve → Key → Bool
 has_curve wanted (Ecdsa c point) = curve_eq c wanted

@@ -1,18 +1,14 @@
 -- Worked examples: lines of keys.
 use Rattle.std.specs.Prelude.{◌≡◌, ℕ, List, ◌++◌, filter, codes}
 use Rattle.sshkey_model.specs.HexText.{hex}
-use Rattle.sshkey_model.specs.Grammar.{SpellsWith}
-use Rattle.sshkey_model.specs.Keys.{Key, Rsa, IsKey, HasKeyPlaces, key}
+use Rattle.sshkey_model.specs.Keys.{Key, Rsa, key}
 use Rattle.sshkey_model.specs.PrivateKeys.{rising}
-use Rattle.sshkey_model.specs.Lines.{is_word_character, key_name, IsKeyLine, IsNoLine}
+use Rattle.sshkey_model.specs.Lines.{is_word_character, IsKeyLine, IsNoKeyLine}
 use Rattle.sshkey_model.specs.KeyExamples.{rsa_key}
 
 -- Of all bytes, those that a first word may have.
 abbrev pub WordCharacters : Type 0
 WordCharacters = filter is_word_character (rising 0 256) ≡ codes "+-./0123456789=@ABCDEFGHIJKLMNOPQRSTUVWXYZabcdefghijklmnopqrstuvwxyz"
-
-abbrev pub IsNoKeyLine : List ℕ → Type 0
-IsNoKeyLine = IsNoLine key_name (SpellsWith IsKey HasKeyPlaces key)
 
 -- the line of a small RSA key, and what stands before and in the place of its blob
 abbrev pub rsa_word : List ℕ

@@ -6,12 +6,11 @@ use Rattle.std.specs.Str.{trim_end}
 use Rattle.base64.specs.Engines.{standard}
 use Rattle.base64.specs.GeneralPurpose.{encode_of}
 use Rattle.sshkey_model.specs.Parts.{Parts, flat, are_bytes}
-use Rattle.sshkey_model.specs.Grammar.{SpellsWith}
 use Rattle.sshkey_model.specs.Texts.{IsText}
 use Rattle.sshkey_model.specs.Names.{algorithm_name}
 use Rattle.sshkey_model.specs.CertificateNames.{certificate_name}
-use Rattle.sshkey_model.specs.Keys.{Key, key_algorithm, IsKey, HasKeyPlaces, key, normal_key}
-use Rattle.sshkey_model.specs.Certificates.{Certificate, IsCertificate, HasCertificatePlaces, certificate, normal_certificate}
+use Rattle.sshkey_model.specs.Keys.{Key, key_algorithm, normal_key, SpellsKey}
+use Rattle.sshkey_model.specs.Certificates.{Certificate, normal_certificate, SpellsCertificate}
 
 abbrev pub space : ℕ
 space = 0x20
@@ -82,7 +81,11 @@ abbrev pub key_name : Key → List ℕ
 key_name k = algorithm_name (key_algorithm k)
 
 abbrev pub IsKeyLine : List ℕ → Key → List ℕ → Type 0
-IsKeyLine = IsLineOf key_name (SpellsWith IsKey HasKeyPlaces key)
+IsKeyLine = IsLineOf key_name SpellsKey
+
+-- the line of no key
+abbrev pub IsNoKeyLine : List ℕ → Type 0
+IsNoKeyLine = IsNoLine key_name SpellsKey
 
 -- the line of a key and a comment
 abbrev pub key_line : Key → List ℕ → List ℕ
@@ -93,7 +96,7 @@ abbrev pub name_of_certificate : Certificate → List ℕ
 name_of_certificate c = certificate_name (key_algorithm c.signed.key)
 
 abbrev pub IsCertificateLine : List ℕ → Certificate → List ℕ → Type 0
-IsCertificateLine = IsLineOf name_of_certificate (SpellsWith IsCertificate HasCertificatePlaces certificate)
+IsCertificateLine = IsLineOf name_of_certificate SpellsCertificate
 
 -- the line of a certificate and a comment
 abbrev pub certificate_line : Certificate → List ℕ → List ℕ

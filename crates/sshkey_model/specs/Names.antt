@@ -150,3 +150,6 @@ hash_from n = or_label (named hash_name hashes n)
 
 abbrev pub hash_at : Front Hash
 hash_at = label_at hash_from
+
+abbrev pub hash_format : Format Hash
+hash_format = label_format Any hash_name hash_from NoNeed

@@ -26,10 +26,6 @@ NeedsString b m = IsOkAnd (number_at w32 b) (λ x. NeedsBytes x.0 x.1 m)
 abbrev pub NeedsThen : {A : Type 0} → (List ℕ → ℕ → Type 0) → Front A → (A → List ℕ → ℕ → Type 0) → List ℕ → ℕ → Type 0
 NeedsThen first read second b m = first b m ⊎ IsOkAnd (read b) (λ x. second x.0 x.1 m)
 
--- The same of a second that needs the same whatever the first is.
-abbrev pub NeedsBoth : {A : Type 0} → (List ℕ → ℕ → Type 0) → Front A → (List ℕ → ℕ → Type 0) → List ℕ → ℕ → Type 0
-NeedsBoth first read second = NeedsThen first read (λ x. second)
-
 -- Of values up to the end, the first needs memory, or stands there.
 abbrev pub NeedsFirst : {A : Type 0} → (List ℕ → ℕ → Type 0) → Front A → List ℕ → ℕ → Type 0
 NeedsFirst needs read b m = needs b m ⊎ IsOk (read b)

@@ -13,7 +13,7 @@ pub record CertificateOption : Type 0 where
   pub name : List ℕ
   pub value : List ℕ
 
--- Second spelling: an empty value may also be a box in the box.
+-- The second place where spellings differ: an empty value may also be a box in the box.
 pub data Nesting : Type 0 where
   Plain Nested : Nesting
 

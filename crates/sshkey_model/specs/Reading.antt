@@ -74,10 +74,6 @@ after_at read next b = do
   y ← next x.0 x.1
   Ok ((x.0, y.0), y.1)
 
--- The same where the second is read alike whatever the first is.
-abbrev pub both_at : {A B : Type 0} → Front A → Front B → Front (A × B)
-both_at read next = after_at read (λ _. next)
-
 -- the plain reader of no value
 abbrev pub never_at : {A : Type 0} → Front A
 never_at b = Err Length

@@ -40,7 +40,8 @@ abbrev pub SpellsRow : {A : Type 0} → (Option A → Format A) → Option A →
 SpellsRow item before [] b = b ≡ []
 SpellsRow item before (x ∷ xs) b = (front : List ℕ) × (after : List ℕ) × (item before).Spells x front × SpellsRow item (Some x) xs after × (b ≡ front ++ after) × MayFollow (item before).delimited_at x front after
 
--- a length passes alike, whatever stands before
+-- What the first needs, and what overruns it, is that of each: so a format here says these alike,
+-- whatever stands before.
 abbrev pub each_after : {A : Type 0} → (Option A → Format A) → Format (List A)
 each_after item = record {
   Spells = SpellsRow item None;

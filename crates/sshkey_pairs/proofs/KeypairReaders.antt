@@ -1,12 +1,12 @@
 -- Pairs with their names are read exactly where they are spelled.
 use Rattle.std.proofs.Common.{◌≡◌, ℕ, Option, Some, None, List, ◌++◌, Ok, refl, sym, subst, ◌∙◌}
-use Rattle.sshkey_model.specs.Reading.{◌>>=◌, Front, checked_at, string_at, both_at, after_at}
+use Rattle.sshkey_model.specs.Reading.{◌>>=◌, Front, checked_at, string_at, after_at}
 use Rattle.sshkey_model.specs.Grammar.{IsGrammar, SpellsWith, value_at}
 use Rattle.sshkey_model.specs.Names.{Algorithm, name_format}
 use Rattle.sshkey_model.specs.Names as names
 use Rattle.sshkey_model.specs.KeyPairs.{KeyPair, OpaquePair, IsKeyPair, HasKeyPairPlaces, keypair, keypair_at, pair_at, some_pair_format, SpellsKeypair, keypair_data_at}
 use Rattle.sshkey_model.proofs.CombinedReaders.{bind_assoc, bind_ok, bind_same, ok_is}
-use Rattle.sshkey_model.proofs.Grammars.{grammar_with, same_grammar}
+use Rattle.sshkey_model.proofs.Grammars.{grammar_with, same_grammar, both_at}
 use Rattle.sshkey_model.proofs.KeyPairReaders.{keypair_reads, pair_value}
 use Rattle.sshkey_terms.proofs.Lawful.{IsChosen, IsMapped, called_chosen}
 

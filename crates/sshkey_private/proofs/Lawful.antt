@@ -1,12 +1,12 @@
 -- The formats of private keys are lawful.
 use Rattle.std.proofs.Common.{◌≡◌, inl, ℕ, List, Err, refl}
 use Rattle.sshkey_model.specs.Reading.{Fault, after_at}
-use Rattle.sshkey_model.specs.Grammar.{IsGrammar, AllEnd}
+use Rattle.sshkey_model.specs.Grammar.{IsGrammar}
 use Rattle.sshkey_model.specs.Keys.{Key}
 use Rattle.sshkey_model.specs.KeyDerivation.{Cipher, NoCipher, Kdf, NoKdf, Bcrypt}
 use Rattle.sshkey_model.specs.PrivateKeys.{private_key_magic}
 use Rattle.sshkey_model.proofs.CombinedReaders.{bind_assoc}
-use Rattle.sshkey_model.proofs.Grammars.{all_end, by_itself}
+use Rattle.sshkey_model.proofs.Grammars.{all_end, by_itself, AllEnd}
 use Rattle.sshkey_model.specs.Formats.{IsFormat}
 use Rattle.sshkey_model.specs.Leaves.{number32_format}
 use Rattle.sshkey_model.specs.Overruns.{AreLengths}

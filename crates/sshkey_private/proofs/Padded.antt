@@ -3,10 +3,9 @@ use Rattle.std.proofs.Common.{◌≡◌, ℕ, ◌+◌, ◌%◌, ◌<◌, eqb, lt
 use Rattle.std.proofs.lemmas.Bool.{eqb-true, eq-eqb, ltb-true, lt-ltb}
 use Rattle.std.proofs.lemmas.Slice.Eq.{bytes_eq-Decides}
 use Rattle.sshkey_model.specs.Reading.{Length, FormatEncoding, ◌>>=◌, to_end}
-use Rattle.sshkey_model.specs.Grammar.{AllEnd}
 use Rattle.sshkey_model.specs.PrivateKeys.{rising}
 use Rattle.sshkey_model.proofs.CombinedReaders.{bind_ok, met, ok_is}
-use Rattle.sshkey_model.proofs.Grammars.{all_end, to_the_end}
+use Rattle.sshkey_model.proofs.Grammars.{all_end, to_the_end, AllEnd}
 use Rattle.sshkey_model.specs.Formats.{Format, IsFormat}
 use Rattle.sshkey_model.specs.Overruns.{AreLengths}
 use Rattle.sshkey_ciphers.specs.Paddings.{end_padding_below}

@@ -3,10 +3,11 @@ use Rattle.sshkey_model.specs.SshSignatures.{signature_magic}
 use Rattle.sshkey_model.proofs.NameReaders.{hash_checks}
 use Rattle.sshkey_model.specs.Formats.{IsFormat}
 use Rattle.sshkey_model.specs.Needs.{NoNeed}
+use Rattle.sshkey_model.specs.Names.{hash_format}
 use Rattle.sshkey_base.proofs.Lawful.{label_lawful, number32_lawful, string_lawful, text_lawful}
 use Rattle.sshkey_terms.proofs.Lawful.{boxed_lawful, literal_lawful, tested_lawful, then_lawful}
 use Rattle.sshkey_keys.proofs.Lawful.{key_lawful, signature_lawful}
-use Rattle.sshkey_sshsig.specs.SshSignatureFormats.{magic_format, version_from, version_format, namespace_from, namespace_format, hash_format, opening_format, statement_format, ssh_signature_of_parts, ssh_signature_format}
+use Rattle.sshkey_sshsig.specs.SshSignatureFormats.{magic_format, version_from, version_format, namespace_from, namespace_format, opening_format, statement_format, ssh_signature_of_parts, ssh_signature_format}
 
 pub magic_lawful : IsFormat magic_format
 magic_lawful = literal_lawful signature_magic

@@ -10,9 +10,10 @@ use Rattle.sshkey_model.specs.SshSignatures.{SshSignature, IsSshSignature, HasSs
 use Rattle.sshkey_model.proofs.Grammars.{all_end, ends}
 use Rattle.sshkey_model.proofs.Trees.{IsTree, Alike, regrouped, leaf_tree, open_tree, then_tree, box_tree, kept_tree, made_tree, determined, read_back}
 use Rattle.sshkey_model.specs.Leaves.{string_format}
+use Rattle.sshkey_model.specs.Names.{hash_format}
 use Rattle.sshkey_base.proofs.Lawful.{string_lawful}
 use Rattle.sshkey_sshsig.specs.SshSignatures.{statement}
-use Rattle.sshkey_sshsig.specs.SshSignatureFormats.{SshSignatureOpening, magic_format, version_format, opening_format, namespace_format, hash_format, ssh_signature_with}
+use Rattle.sshkey_sshsig.specs.SshSignatureFormats.{SshSignatureOpening, magic_format, version_format, opening_format, namespace_format, ssh_signature_with}
 use Rattle.sshkey_sshsig.specs.SshSignatureReaders.{SpellsSshSignature, ssh_signature_value_at}
 use Rattle.sshkey_sshsig.proofs.Lawful.{magic_lawful, version_lawful, opening_lawful, namespace_lawful, hash_lawful, ssh_signature_lawful}
 

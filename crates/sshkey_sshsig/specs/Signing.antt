@@ -1,5 +1,5 @@
 -- What is signed in place of a message, and what signing answers.
-use Rattle.std.specs.Prelude.{◌≡◌, ◌≢◌, ◌⊎◌, ◌||◌, ℕ, List, [], Bool, Result, Ok, Err, true, false}
+use Rattle.std.specs.Prelude.{◌≡◌, ◌≢◌, ◌⊎◌, ℕ, List, [], Bool, Result, Ok, Err, true, false}
 use Rattle.sshkey_model.specs.Keys.{Key, key_algorithm}
 use Rattle.sshkey_model.specs.Parts.{Parts, flat, BoxesFit}
 use Rattle.sshkey_model.specs.SignedMessages.{signed_message, IsVerified}
@@ -10,9 +10,9 @@ use Rattle.sshkey_base.specs.declared.algorithm.hash.HashAlg.{HashAlg}
 use Rattle.sshkey_base.specs.declared.encoding.Error.TheVariants.{Length}
 use Rattle.sshkey_base.specs.declared.error.Error.{Error}
 use Rattle.sshkey_base.specs.declared.error.Error.TheVariants.{AlgorithmUnsupported, Encoding, Memory}
-use Rattle.sshkey_keys.specs.KeyKinds.{is_sk_ecdsa, is_sk_ed25519}
 use Rattle.sshkey_keys.specs.Keys.{key_of}
 use Rattle.sshkey_keys.specs.declared.key_data.KeyData.{KeyData}
+use Rattle.sshkey_keys.specs.KeyKinds.{is_security_key}
 use Rattle.sshkey_sshsig.specs.declared.sshsig.SshSig.{SshSig}
 use Rattle.sshkey_sshsig.specs.SshSignatures.{ssh_signature_of}
 
@@ -23,10 +23,6 @@ signed_parts f message = signed_message (ssh_signature_of f).namespace (ssh_sign
 -- the same of a message with the digest
 abbrev pub digest_parts : SshSig → List ℕ → Parts
 digest_parts f digest = signed_data (ssh_signature_of f).namespace (ssh_signature_of f).reserved (ssh_signature_of f).hash digest
-
--- a key that a security key holds
-abbrev pub is_security_key : Key → Bool
-is_security_key k = is_sk_ecdsa k || is_sk_ed25519 k
 
 -- It is an SSH signature of the message, in the namespace, with nothing reserved, that the verifier
 -- accepts under the key.

@@ -1,16 +1,13 @@
 -- The format of SSH signatures (PROTOCOL.sshsig): the term that they are read as.
 use Rattle.std.specs.Prelude.{ℕ, List, length, Result, Ok, Err, nat_lt, if◌then◌else◌}
-use Rattle.sshkey_model.specs.Parts.{Any}
 use Rattle.sshkey_model.specs.Reading.{Fault, Version, Namespace}
 use Rattle.sshkey_model.specs.Keys.{Key, key_format}
-use Rattle.sshkey_model.specs.Names.{Hash, hash_name, hash_from}
+use Rattle.sshkey_model.specs.Names.{Hash, hash_format}
 use Rattle.sshkey_model.specs.Signatures.{Signature, signature_format}
 use Rattle.sshkey_model.specs.SshSignatures.{SshSignature, signature_magic}
 use Rattle.sshkey_model.specs.Formats.{Format}
 use Rattle.sshkey_model.specs.Leaves.{number32_format, string_format}
 use Rattle.sshkey_model.specs.Texts.{text_format}
-use Rattle.sshkey_model.specs.Labels.{label_format}
-use Rattle.sshkey_model.specs.Needs.{NoNeed}
 use Rattle.sshkey_model.specs.Terms.{◌then◌, boxed, tested, literal_format}
 
 abbrev pub magic_format : Format (List ℕ)
@@ -29,9 +26,6 @@ namespace_from t = if nat_lt 0 (length t) then Ok t else Err Namespace
 
 abbrev pub namespace_format : Format (List ℕ)
 namespace_format = tested namespace_from text_format
-
-abbrev pub hash_format : Format Hash
-hash_format = label_format Any hash_name hash_from NoNeed
 
 abbrev pub SshSignatureOpening : Type 0
 SshSignatureOpening = List ℕ × (ℕ × Key)

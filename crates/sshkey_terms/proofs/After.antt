@@ -3,8 +3,9 @@ use Rattle.std.proofs.Common.{ℕ, List, refl, ◌∙◌}
 use Rattle.sshkey_base.specs.Causes.{Cause}
 use Rattle.sshkey_base.specs.Reading.{IsRefused, Reads}
 use Rattle.sshkey_base.specs.Source.{Source}
-use Rattle.sshkey_model.specs.Reading.{Front, after_at, both_at}
+use Rattle.sshkey_model.specs.Reading.{Front, after_at}
 use Rattle.sshkey_base.proofs.Steps.{refused_first, refused_later}
+use Rattle.sshkey_model.proofs.Grammars.{both_at}
 
 module _ {A B : Type 0} (first : Front A) (second : Front B) where
   pub both_refused_first : (m : ℕ) (c : Cause) (b : List ℕ) → IsRefused m c (first b) → IsRefused m c (both_at first second b)

@@ -6,9 +6,9 @@ use Rattle.std.specs.List.{AllByRecursion}
 use Rattle.std.proofs.lemmas.List.{length-append, length-map}
 use Rattle.sshkey_model.specs.Parts.{Parts, each, flat, Fits}
 use Rattle.sshkey_model.specs.Reading.{Fault, Length, ◌>>=◌, Front}
-use Rattle.sshkey_model.specs.Grammar.{AllEnd, Grammar, MayFollow}
+use Rattle.sshkey_model.specs.Grammar.{Grammar, MayFollow}
 use Rattle.sshkey_model.proofs.CombinedReaders.{bind_ok, fits_first, fits_second, ok_is, passed}
-use Rattle.sshkey_model.proofs.Grammars.{ends, taken_before, none_in}
+use Rattle.sshkey_model.proofs.Grammars.{ends, taken_before, none_in, AllEnd}
 use Rattle.sshkey_model.specs.Formats.{Format, IsFormat}
 use Rattle.sshkey_model.specs.Leaves.{count}
 use Rattle.sshkey_model.specs.Overruns.{AreLengths}

@@ -2,9 +2,9 @@
 use Rattle.std.proofs.Common.{◌≡◌, inl, inr, ℕ, ◌++◌, Option, None, List, [], ◌∷◌, Result, Ok, Err, refl, sym, ap, ◌∙◌, arith}
 use Rattle.std.specs.Prelude.{IsOkAnd}
 use Rattle.sshkey_model.specs.Reading.{Fault, Length, ◌>>=◌, Front, checked_at, literal_at, after_at}
-use Rattle.sshkey_model.specs.Grammar.{IsGrammar, AllEnd, MayFollow}
+use Rattle.sshkey_model.specs.Grammar.{IsGrammar, MayFollow}
 use Rattle.sshkey_model.proofs.CombinedReaders.{literal_reads, ok_is}
-use Rattle.sshkey_model.proofs.Grammars.{grammar, same_grammar, all_end, by_itself, box_grammar, whole_spells, none_in, then_grammar, tested_grammar}
+use Rattle.sshkey_model.proofs.Grammars.{grammar, same_grammar, all_end, by_itself, box_grammar, whole_spells, none_in, then_grammar, tested_grammar, AllEnd}
 use Rattle.sshkey_model.specs.Formats.{Format, IsFormat}
 use Rattle.sshkey_model.specs.Needs.{NoNeed}
 use Rattle.sshkey_model.specs.Overruns.{OverrunsThen, AreLengths}

@@ -4,10 +4,10 @@ use Rattle.std.specs.Prelude.{bytes_eq}
 use Rattle.std.proofs.lemmas.Slice.Eq.{bytes_eq-Decides}
 use Rattle.sshkey_model.specs.Parts.{Any, Parts, bytes, ◌&◌, flat, Fits, InRange, BoxesFit}
 use Rattle.sshkey_model.specs.Texts.{string}
-use Rattle.sshkey_model.specs.Grammar.{IsGrammar, AllEnd}
+use Rattle.sshkey_model.specs.Grammar.{IsGrammar}
 use Rattle.sshkey_model.specs.Reading.{Fault, ◌>>=◌, Label, after_at}
 use Rattle.sshkey_model.proofs.LawfulReaders.{ok_is}
-use Rattle.sshkey_model.proofs.Grammars.{all_end, ends}
+use Rattle.sshkey_model.proofs.Grammars.{all_end, ends, AllEnd}
 use Rattle.sshkey_model.proofs.Trees.{IsTree, Alike, alike, leaf_tree, then_tree, dependent_tree, tested_tree, made_tree}
 use Rattle.sshkey_model.specs.Leaves.{string_format}
 use Rattle.sshkey_base.proofs.Lawful.{string_lawful}

@@ -150,6 +150,7 @@ pub mod laws {
     pub use ssh_key::laws::exact_kdf_name;
     pub use ssh_key::laws::exact_private_key;
     pub use ssh_key::laws::exact_ssh_signature;
+    pub use ssh_key::laws::exact_to_be_signed;
     pub use ssh_key::laws::fingerprint_texts;
     pub use ssh_key::laws::grown_krls;
     pub use ssh_key::laws::joined_krls;
