@@ -5,7 +5,7 @@ from dataclasses import dataclass, field
 
 from lib.crates import PARTS
 
-# the folder beside a crate's edits of what only --all tries
+# the folder beside a crate's edits of what --all and --changed try
 MORE = "more"
 
 

@@ -1,6 +1,10 @@
 """What checks/wrong-bodies has passed: on this machine, and as the file checks/tried.txt has it."""
 import hashlib
 import os
+import subprocess
+
+# what judges beside the prover
+SCRIPTS = ("wrong-bodies", "lib/crates.py", "lib/edits.py", "lib/kept.py")
 
 
 class Kept:
@@ -10,8 +14,7 @@ class Kept:
     def __init__(self, root, kit):
         cache = os.environ.get("XDG_CACHE_HOME") or os.path.expanduser("~/.cache")
         self.folder = f"{cache}/rafendilo/wrong-bodies"
-        names = ("wrong-bodies", "lib/crates.py", "lib/edits.py", "lib/kept.py")
-        scripts = [f"{root}/checks/{it}" for it in names]
+        scripts = [f"{root}/checks/{it}" for it in SCRIPTS]
         self.libraries = {}
         self.common = self.sum_of([f"{kit}/WHAT", *scripts], root)
 
@@ -68,22 +71,43 @@ class Kept:
 
 
 class Tried:
-    """The file checks/tried.txt: of each crate with bodies in wrong/more a sum of the sources and of all wrong bodies, which were
-    all refused when they were last tried."""
+    """The file checks/tried.txt: of each crate a sum of all that its wrong bodies were judged by when all of them were last refused:
+    these, its sources, those of the crates below it without their comments, the toolchain and these scripts."""
 
-    HEAD = "# What checks/wrong-bodies wrote: by what sources and wrong bodies of a crate those of wrong/more were refused, too.\n"
+    HEAD = "# What checks/wrong-bodies wrote: the sums of what the wrong bodies of a crate were judged by when all were refused.\n"
+    COMMENTS = {".rt": b"//", ".antt": b"--"}
 
     def __init__(self, root):
         self.path = f"{root}/checks/tried.txt"
         with open(self.path, encoding="utf-8") as file:
             self.sums = dict(line.split() for line in file if not line.startswith("#"))
+        version = subprocess.run(["rt", "version"], capture_output=True, text=True, check=False).stdout
+        self.common = Kept.sum_of([f"{root}/checks/{it}" for it in SCRIPTS], root, version)
+        self.judged_by = {}
+
+    def of_sources(self, crate):
+        """The sum of the crate's sources, and of those below it."""
+        if crate.name not in self.judged_by:
+            below = "".join(map(self.of_sources, crate.own))
+            total = hashlib.sha256(repr((self.common, below, crate.of_kit, crate.is_static)).encode())
+            for path in sorted(crate.sources()):
+                begins = self.COMMENTS.get(os.path.splitext(path)[1])
+                with open(path, "rb") as file:
+                    lines = [it for it in file if not (begins and it.lstrip().startswith(begins))]
+                total.update(f"{path.removeprefix(crate.folder)} {len(lines)}\n".encode() + b"".join(lines))
+            self.judged_by[crate.name] = total.hexdigest()
+        return self.judged_by[crate.name]
+
+    def sum_of(self, trial):
+        # an edit may stand in a comment of its own crate
+        return Kept.sum_of(sorted([*trial.crate.sources(), *trial.files]), trial.crate.folder, self.of_sources(trial.crate))[:16]
 
     def has(self, trial):
-        return self.sums.get(trial.crate.name) == trial.sum
+        return self.sums.get(trial.crate.name) == self.sum_of(trial)
 
-    def note(self, trials):
+    def note(self, sums):
         """Writes down that all wrong bodies of these crates were refused."""
-        found = {**self.sums, **{it.crate.name: it.sum for it in trials}}
+        found = {**self.sums, **sums}
         if found != self.sums:
             with open(self.path, "w", encoding="utf-8") as file:
                 file.writelines([self.HEAD, *(f"{name} {found[name]}\n" for name in sorted(found))])
