@@ -22,6 +22,9 @@ class Proved:
         cache = os.environ.get("XDG_CACHE_HOME") or os.path.expanduser("~/.cache")
         self.folder = f"{cache}/rafendilo/proved"
         self.sums, self.kit = {}, self.sum_of_kit()
+        # of the sources as they stand before the proof
+        for name in names if self.kit else ():
+            self.sum_of(name)
 
     def sum_of_kit(self):
         """The toolchain's sum; none, where it keeps what it proves, or where it is not found."""
@@ -37,7 +40,8 @@ class Proved:
             total = hashlib.sha256(self.kit.encode() + read(f"{self.root}/HANDLES") + repr((name, crate.of_kit, crate.is_static)).encode())
             total.update("".join(self.sum_of(it.name) for it in crate.own).encode())
             for at, folders, files in os.walk(crate.folder):
-                folders[:] = sorted(it for it in folders if it not in ("out", "wrong", "wrong-definitions"))
+                others = ("out", "wrong", "wrong-definitions") if at == crate.folder else ()
+                folders[:] = sorted(it for it in folders if it not in others)
                 for it in sorted(files):
                     data = read(f"{at}/{it}")
                     total.update(f"{at[len(self.root) :]}/{it} {len(data)}\n".encode() + data)
