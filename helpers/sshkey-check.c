@@ -461,7 +461,7 @@ static bool read_words(int count, char **words, request *asked) {
 
 int main(int count, char **words) {
   request asked;
-  program_end_without_memory();
+  program_start_libcrypto();
   memset(&asked, 0, sizeof asked);
   asked.second = (uint64_t)time(NULL);
   asked.is_valid = true;

@@ -90,7 +90,7 @@ static int answer_request(login_request *asked) {
 
 int main(int count, char **words) {
   login_request asked;
-  program_end_without_memory();
+  program_start_libcrypto();
   int status = program_show(count, words, help);
   if (status >= 0) return status;
   bool is_asked = login_read_words(count, words, LOGIN_BITS, &asked);

@@ -58,10 +58,10 @@ LIBRARY = _loaded()
 
 
 def bytes_of(value: BytesLike) -> tuple[bytes, int]:
-    """The bytes and their number, as a call takes them. A copy, so that nobody changes them during the call, which runs beside
-    other threads."""
-    copy = memoryview(value).tobytes()
-    return copy, len(copy)
+    """The bytes and their number, as a call takes them. A copy of what can change, so that nobody changes it during the call, which
+    runs beside other threads."""
+    held = value if type(value) is bytes else memoryview(value).tobytes()
+    return held, len(held)
 
 
 def text_of(value: str | BytesLike) -> tuple[bytes, int]:
@@ -106,8 +106,8 @@ def done(status: int) -> None:
 
 
 def ask(call: Callable[..., int], answer: Any, length: int) -> bytes:
-    """The room that a call has written, which is given one of that length, or of the length that it says is needed, and the
-    answer. Raises unless it is done."""
+    """What a call has written to the front of a room, which is given one of that length, or of the length that it says is needed, and
+    the answer. Raises unless it is done."""
     while True:
         room = (ctypes.c_uint8 * max(length, 1))()
         status = call(room, length, ctypes.byref(answer))
@@ -116,13 +116,13 @@ def ask(call: Callable[..., int], answer: Any, length: int) -> bytes:
             break
         length = needed
     done(status)
-    return bytes(room)
+    return ctypes.string_at(room, needed)
 
 
 def written(call: Callable[..., int], length: int) -> bytes:
     """The bytes that a call writes to the front of a room, which has that length at first."""
     answer = ctypes.c_size_t()
-    return ask(call, answer, length)[: answer.value]
+    return ask(call, answer, length)
 
 
 def parts_of(data: bytes, *parts: Part) -> tuple[bytes, ...]:

@@ -15,6 +15,9 @@ from ._library import LIBRARY, ask, bytes_of, digests_of, number_of, parts_of, s
 from ._values import BytesLike, Refused
 from ._verify import Verifier, decided, is_signature
 
+# the bytes of a room for what a login is bound to; a longer one is asked for again
+OF_GRANT = 4096
+
 
 @dataclass(frozen=True)
 class Login:
@@ -127,7 +130,7 @@ def _log_in_by(verdict_by: Any, login: Login, text: BytesLike, host: str | Bytes
             return int(verdict_by(ctypes.byref(asked), given, length, *name, is_verified, *room))
 
         try:
-            return _user_grant_of(answer, ask(call, answer, length))
+            return _user_grant_of(answer, ask(call, answer, OF_GRANT))
         except Refused as refused:
             raise Refused(refused.status, answer.line) from None
 

@@ -112,6 +112,9 @@ pub fn log_in_by_principals(
     log_in_by(raw::sshkey_principals_verdict, login, text, host.as_ref(), verify)
 }
 
+/// The bytes of a room for what a login is bound to; a longer one is asked for again.
+const OF_GRANT: usize = 4096;
+
 /// The call of the library that decides by such a text.
 type Verdict = fn(&raw::Login<'_>, &[u8], &[u8], u32, &mut [u8], &mut raw::UserGrant) -> u32;
 
@@ -125,7 +128,7 @@ fn log_in_by(
     with_raw(login, |asked| {
         let verdict = |yes| {
             let mut line = 0;
-            let said = ask(text.len(), |room, answer: &mut raw::UserGrant| {
+            let said = ask(OF_GRANT, |room, answer: &mut raw::UserGrant| {
                 let yes = u32::from(yes);
                 let number = verdict_by(asked, text, host, yes, room, answer);
                 line = answer.line;
