@@ -13,12 +13,22 @@ enum { HASH = 3, SIGNATURE = 4 };
 
 /* ---- armour */
 
+/* The place behind a line end, LF or CR LF, that stands there; or else the same place. */
+static size_t line_after(judge_blob text, size_t at) {
+  size_t end = at;
+  if (end < text.length && text.bytes[end] == '\r') end++;
+  return end < text.length && text.bytes[end] == '\n' ? end + 1 : at;
+}
+
 uint32_t judge_read_armour(judge_blob text, judge_blob *answer) {
   static const char front[] = "-----BEGIN SSH SIGNATURE-----";
-  static const char end[] = "-----END SSH SIGNATURE-----";
-  size_t begin = sizeof front - 1, after = sizeof end - 1, at = begin;
-  if (text.length < begin || memcmp(text.bytes, front, begin)) return SSHKEY_BASE64;
+  static const char end[] = "\n-----END SSH SIGNATURE-----";
+  size_t length = sizeof front - 1, after = sizeof end - 1;
+  if (text.length < length || memcmp(text.bytes, front, length)) return SSHKEY_BASE64;
+  size_t begin = line_after(text, length), at = begin;
   while (at < text.length && text.bytes[at] != '-') at++;
+  if (begin == length || at == begin) return SSHKEY_BASE64;
+  at--; /* where the line before the end has its line end */
   if (text.length - at < after || memcmp(text.bytes + at, end, after)) return SSHKEY_BASE64;
   judge_blob made = {malloc(at), at - begin};
   if (!made.bytes) return SSHKEY_MEMORY;

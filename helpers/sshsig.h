@@ -10,7 +10,8 @@ extern "C" {
 #endif
 
 /* The bytes of the signature in an armour: SSHKEY_DONE, SSHKEY_BASE64 where it is none, or
- * SSHKEY_MEMORY. What follows the armour is not looked at. */
+ * SSHKEY_MEMORY. Its lines end with LF or CR LF, and its first and its last have nothing else. What
+ * follows the armour is not looked at. */
 uint32_t judge_read_armour(judge_blob text, judge_blob *answer);
 
 /* How long the digest of a message is by the hash that the signature names: 32 by SHA-256 and 64 by

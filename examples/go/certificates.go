@@ -109,6 +109,10 @@ func unarmoured(text string) ([]byte, error) {
 	if len(parts) < 4 || parts[0] != ends[0] || parts[1] != ends[1] || parts[3] != ends[2] {
 		return nil, errors.New("no SSH signature was given")
 	}
+	hasLine := strings.HasPrefix(parts[2], "\n") || strings.HasPrefix(parts[2], "\r\n")
+	if !hasLine || !strings.HasSuffix(parts[2], "\n") {
+		return nil, errors.New("no SSH signature was given")
+	}
 	isSpace := func(it rune) bool { return strings.ContainsRune(" \t\n\v\f\r", it) }
 	rows := strings.FieldsFunc(parts[2], isSpace)
 	return base64.StdEncoding.Strict().DecodeString(strings.Join(rows, ""))

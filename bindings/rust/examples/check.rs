@@ -80,11 +80,14 @@ fn second_of(word: Option<&OsString>) -> Result<u64, Untold> {
 /// The bytes of an SSH signature in its armour. Fails where there is none.
 fn unarmoured(text: &str) -> Result<Vec<u8>, Untold> {
     let parts: Vec<&str> = text.split("-----").collect();
-    let decoded = match parts[..] {
-        ["", "BEGIN SSH SIGNATURE", base64, "END SSH SIGNATURE", ..] => decoded(base64),
+    let found = match parts[..] {
+        ["", "BEGIN SSH SIGNATURE", base64, "END SSH SIGNATURE", ..] => Some(base64),
         _ => None,
     };
-    decoded.ok_or_else(|| "no SSH signature was given".into())
+    // the two stand on lines of their own
+    let is_begun = |it: &&str| it.starts_with('\n') || it.starts_with("\r\n");
+    let lines = found.filter(is_begun).filter(|it| it.ends_with('\n'));
+    lines.and_then(decoded).ok_or_else(|| "no SSH signature was given".into())
 }
 
 /// The bytes that the Base64 between white space stands for, if it is the one of them.
