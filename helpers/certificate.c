@@ -18,7 +18,7 @@ uint32_t certificate_read_key(judge_blob certificate, judge_blob *answer) {
   return status;
 }
 
-uint32_t certificate_log_in(judge_blob certificate, sshkey_login login) {
+uint32_t certificate_log_in(judge_blob certificate, sshkey_login login, certificate_print *print) {
   judge_blob key = {NULL, 0};
   sshkey_grant grant;
   uint32_t answer = certificate_read_key(certificate, &key);
@@ -26,9 +26,8 @@ uint32_t certificate_log_in(judge_blob certificate, sshkey_login login) {
   uint8_t *room = calloc(1, certificate.length);
   login.certificate = judge_span(certificate);
   login.key = judge_span(key);
-  login.client = judge_text("");
-  login.judges_address = 1;
   answer = room ? judge_log_in(&login, room, certificate.length, &grant) : SSHKEY_MEMORY;
+  if (answer == SSHKEY_DONE && print) print(&grant, room);
   free(room);
   free(key.bytes);
   return answer;

@@ -6,9 +6,12 @@
 /* The key that is certified: SSHKEY_DONE, or why there is none. */
 uint32_t certificate_read_key(judge_blob certificate, judge_blob *answer);
 
+/* Prints what a login by a certificate may do. */
+typedef void certificate_print(const sshkey_grant *grant, const uint8_t *room);
+
 /* Whether the certificate lets the user of the login in who holds its key: what judge_log_in
- * answers of the rest of the login, which has an authority, a user, files and a time. Which address
- * the client has is not known, and not asked: sshd asks it of the certificate itself. */
-uint32_t certificate_log_in(judge_blob certificate, sshkey_login login);
+ * answers of the rest of the login, which has an authority, a user, files, a time and an address.
+ * Where it does, the grant is printed, unless that is null. */
+uint32_t certificate_log_in(judge_blob certificate, sshkey_login login, certificate_print *print);
 
 #endif

@@ -17,6 +17,8 @@
 
 /* of a key id, whose rest a log does without */
 #define LOGGED 200
+/* the user id that Linux itself gives for one that has none here */
+#define NOBODY 65534
 
 /* ---- words */
 
@@ -173,9 +175,14 @@ void login_note(login_request *asked, judge_blob offered, bool is_certificate) {
 
 /* ---- who may run it, and what it reads */
 
+static bool runs_as(uid_t user) {
+  return user == getuid() || user == geteuid();
+}
+
 bool login_may_run(const login_request *asked) {
   const struct passwd *nobody = getpwnam("nobody");
-  if (nobody && (nobody->pw_uid == getuid() || nobody->pw_uid == geteuid())) {
+  /* or no such name is found */
+  if (runs_as(NOBODY) || (nobody && runs_as(nobody->pw_uid))) {
     login_complain(asked, "it does not run as nobody, but as a user that nothing else runs as");
     return false;
   }

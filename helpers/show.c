@@ -269,7 +269,23 @@ static void print_expiry(sshkey_time_span expires) {
   putchar('\n');
 }
 
-static void print_certified(const sshkey_grant *grant, const uint8_t *room) {
+/* The command that alone may run, and what is permitted. */
+static void print_permitted(const sshkey_grant *grant, const uint8_t *room) {
+  if (!(grant->permits & SSHKEY_PERMIT_ANY_COMMAND)) {
+    printf("        Command: ");
+    print_text(slice_of(room, grant->force_command));
+    putchar('\n');
+  }
+  print_permissions(grant->permits);
+}
+
+/* What a security key's signature may lack, and what it may not. */
+static void print_flags(uint32_t permits) {
+  if (permits & SSHKEY_PERMIT_NO_TOUCH) puts("        Touch: not required");
+  if (!(permits & SSHKEY_PERMIT_NO_VERIFICATION)) puts("        Verification: required");
+}
+
+static void print_certificate(const sshkey_grant *grant, const uint8_t *room) {
   uint8_t text[SSHKEY_FINGERPRINT_TEXT] = {0};
   printf("        Key ID: \"");
   print_text(slice_of(room, grant->key_id));
@@ -278,15 +294,16 @@ static void print_certified(const sshkey_grant *grant, const uint8_t *room) {
     printf("        Signing CA: %.*s\n", (int)sizeof text, (const char *)text);
 }
 
+void show_certified(const sshkey_grant *grant, const uint8_t *room) {
+  print_permitted(grant, room);
+  print_flags(grant->permits);
+  print_certificate(grant, room);
+}
+
 void show_grant(const sshkey_user_grant *grant, const uint8_t *room, bool is_certified) {
   uint32_t permits = grant->grant.permits;
   printf("        Line: %zu\n", grant->line);
-  if (!(permits & SSHKEY_PERMIT_ANY_COMMAND)) {
-    printf("        Command: ");
-    print_text(slice_of(room, grant->grant.force_command));
-    putchar('\n');
-  }
-  print_permissions(permits);
+  print_permitted(&grant->grant, room);
   print_ports("Forwards to", slice_of(room, grant->permit_open));
   print_ports("Listens at", slice_of(room, grant->permit_listen));
   if (!(permits & SSHKEY_PERMIT_ANY_TUNNEL) && grant->tunnel == ANY_DEVICE)
@@ -294,8 +311,7 @@ void show_grant(const sshkey_user_grant *grant, const uint8_t *room, bool is_cer
   else if (!(permits & SSHKEY_PERMIT_ANY_TUNNEL))
     printf("        Tunnel: %" PRIu32 "\n", grant->tunnel);
   print_strings("Environment", slice_of(room, grant->environment));
-  if (permits & SSHKEY_PERMIT_NO_TOUCH) puts("        Touch: not required");
-  if (!(permits & SSHKEY_PERMIT_NO_VERIFICATION)) puts("        Verification: required");
+  print_flags(permits);
   print_expiry(grant->expires);
-  if (is_certified) print_certified(&grant->grant, room);
+  if (is_certified) print_certificate(&grant->grant, room);
 }

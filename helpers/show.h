@@ -8,7 +8,10 @@
  * shown as signed by the algorithm of that name, or, where that is null, by the one in it. */
 uint32_t show_certificate(judge_blob certificate, const char *signed_by);
 
-/* Prints what a login may do, and, where it is by a certificate, by which; likewise. */
+/* Prints what a login by a certificate may do, and by which; likewise. */
+void show_certified(const sshkey_grant *grant, const uint8_t *room);
+
+/* Prints what a login by a line may do, and, where it is by a certificate, by which; likewise. */
 void show_grant(const sshkey_user_grant *grant, const uint8_t *room, bool is_certified);
 
 #endif

@@ -21,7 +21,8 @@
 const char program_name[] = "sshkey-check";
 static const char help[] =
     "usage: sshkey-check [FILE]\n"
-    "       sshkey-check --ca FILE --user NAME [--at TIME] [--revoked FILE].. [FILE]\n"
+    "       sshkey-check --ca FILE --user NAME [--from ADDRESS] [--at TIME] [--revoked FILE]..\n"
+    "                    [FILE]\n"
     "       sshkey-check --host NAME [--port NUMBER] --known-hosts FILE.. [--at TIME]\n"
     "                    [--revoked FILE].. [FILE]\n"
     "       sshkey-check login FILE NAME KEY --from ADDRESS [--ca FILE] [--host NAME] [--at TIME]\n"
@@ -31,14 +32,14 @@ static const char help[] =
     "                           [--at TIME] [FILE]\n"
     "\n"
     "The first shows each certificate of FILE, or of standard input, as ssh-keygen -L does. The\n"
-    "second says of each whether it logs NAME in by an authority of the file, at that second since\n"
-    "1970 or date (YYYYMMDD[HHMM[SS]]Z), or else now. The third says of each, or of a key, whether\n"
-    "it is that of the host, by all the files of known_hosts. The fourth says whether the key or the\n"
-    "certificate of the file KEY logs NAME in from that address, and to what, or which line of FILE\n"
-    "refuses it: authorized_keys, or with --ca the principals of these authorities. The fifth says\n"
-    "whether the signature of ssh-keygen -Y sign is one of FILE in the namespace by a key of the file\n"
-    "KEYS, and the sixth whether it is the identity's by the file of allowed signers, as ssh-keygen\n"
-    "-Y verify does.\n"
+    "second says of each whether it logs NAME in by an authority of the file, and to what, from that\n"
+    "address, at that second since 1970 or date (YYYYMMDD[HHMM[SS]]Z), or else now. The third says\n"
+    "of each, or of a key, whether it is that of the host, by all the files of known_hosts. The\n"
+    "fourth says whether the key or the certificate of the file KEY logs NAME in from that address,\n"
+    "and to what, or which line of FILE refuses it: authorized_keys, or with --ca the principals of\n"
+    "these authorities. The fifth says whether the signature of ssh-keygen -Y sign is one of FILE in\n"
+    "the namespace by a key of the file KEYS, and the sixth whether it is the identity's by the file\n"
+    "of allowed signers, as ssh-keygen -Y verify does.\n"
     "Status 0: all is shown, or valid; 1: not all, as standard error says; 2: it can't tell.\n";
 
 enum { VALID = 0, INVALID = 1, UNTOLD = 2 };
@@ -83,13 +84,26 @@ static uint32_t read_key(const char *line, size_t length, size_t number, void *g
 
 /* ---- certificates */
 
-/* Whether the certificate logs the user in. */
-static uint32_t judge_asked(judge_blob certificate, const request *asked) {
-  sshkey_login login = {.user = judge_text(asked->user),
+/* What is asked of who holds that key, with that certificate or none. */
+static sshkey_login login_of(judge_blob key, judge_blob certificate, const request *asked) {
+  return (sshkey_login){.certificate = judge_span(certificate),
+                        .user = judge_text(asked->user),
+                        .key = judge_span(key),
+                        .client = {asked->address, asked->address_length},
                         .authorities = judge_digests(asked->by),
                         .revoked = program_revocations(&asked->revoked),
                         .unix_timestamp = asked->second};
-  return certificate_log_in(certificate, login);
+}
+
+static void print_certified(const sshkey_grant *grant, const uint8_t *room) {
+  puts("valid");
+  show_certified(grant, room);
+}
+
+/* Whether the certificate logs the user in: prints to what. */
+static uint32_t judge_asked(judge_blob certificate, const request *asked) {
+  judge_blob own = {NULL, 0};
+  return certificate_log_in(certificate, login_of(own, certificate, asked), print_certified);
 }
 
 /* Names the lines of known_hosts that may hide a revocation: of one file, where the host is known
@@ -180,8 +194,9 @@ static uint32_t answer_line(const char *line, size_t length, size_t number, void
                                 : answer_certificate(line, length, number, asked);
   asked->count++;
   if (can_not_tell(answer)) return answer;
-  if (asked->authorities || asked->host) puts(answer == SSHKEY_DONE ? "valid" : "refused");
+  if (asked->host && answer == SSHKEY_DONE) puts("valid");
   if (answer == SSHKEY_DONE) return answer;
+  if (asked->authorities || asked->host) puts("refused");
   asked->is_valid = false;
   program_complain("%s:%zu: %s (%" PRIu32 ")", path_of(asked), number, judge_meaning(answer),
                    answer);
@@ -189,17 +204,6 @@ static uint32_t answer_line(const char *line, size_t length, size_t number, void
 }
 
 /* ---- logins by authorized_keys or by principals */
-
-/* What is asked of who holds that key, with that certificate or none. */
-static sshkey_login login_of(judge_blob key, judge_blob certificate, const request *asked) {
-  return (sshkey_login){.certificate = judge_span(certificate),
-                        .user = judge_text(asked->user),
-                        .key = judge_span(key),
-                        .client = {asked->address, asked->address_length},
-                        .authorities = judge_digests(asked->by),
-                        .revoked = program_revocations(&asked->revoked),
-                        .unix_timestamp = asked->second};
-}
 
 /* Whether that logs the user in: prints to what, or says which line refuses, or 0. */
 static uint32_t print_login(const sshkey_login *login, const request *asked, size_t *refusing) {
@@ -399,7 +403,7 @@ static bool is_one_question(const request *asked) {
   bool is_signers = asked->signers && asked->allowed.identity;
   bool is_host = asked->host && asked->known_hosts.count;
   bool has_host = asked->host || asked->port || asked->known_hosts.count;
-  if (!asked->is_login && asked->from) return false;
+  if (asked->from && !asked->is_login && !asked->authorities) return false;
   if (asked->is_verify)
     return asked->name_space && asked->signature && !asked->authorities && !asked->user &&
            !has_host &&

@@ -60,12 +60,14 @@ static bool read_authorities(wanted *to) {
 /* Prints the user where the certificate lets that user in, and returns the status. */
 static int let_in(judge_blob certificate, const wanted *to) {
   const login_request *asked = to->asked;
+  /* which address the client has is not told: sshd asks it of the certificate itself */
   sshkey_login login = {.user = judge_text(asked->user),
                         .authorities = judge_digests(to->by),
                         .revoked = program_revocations(&asked->revoked),
                         .unix_timestamp = (uint64_t)time(NULL),
-                        .least_rsa_bits = asked->least_rsa_bits};
-  uint32_t answer = certificate_log_in(certificate, login);
+                        .least_rsa_bits = asked->least_rsa_bits,
+                        .judges_address = 1};
+  uint32_t answer = certificate_log_in(certificate, login, NULL);
   if (answer != SSHKEY_DONE) return login_refuse(asked, answer);
   puts(asked->user);
   return program_is_written() ? 0 : program_untold;

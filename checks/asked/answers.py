@@ -15,10 +15,10 @@ them: FILES, which are revocation files, and TEXTS), numbers and names:
     log-in BYTES USER KEY CLIENT AUTHORITIES FILES SECOND BITS 0|1
                                                              0 PERMITS SERIAL AUTHORITY COMMAND KEY-ID; a CLIENT of another number of
                                                              bytes than 4 or 16 has no address; 1 where the address is not judged
-    log-in-by-keys BYTES USER KEY CLIENT - FILES TEXT HOST SECOND BITS 0
+    log-in-by-keys BYTES USER KEY CLIENT - FILES TEXT HOST SECOND BITS 0|1
                                                              0 LINE PERMITS SERIAL AUTHORITY COMMAND KEY-ID OPEN LISTEN ENVIRONMENT FIRST
                                                              LAST TUNNEL, or NUMBER LINE; without BYTES by the key
-    log-in-by-principals BYTES - KEY CLIENT AUTHORITIES FILES TEXT HOST SECOND BITS 0
+    log-in-by-principals BYTES - KEY CLIENT AUTHORITIES FILES TEXT HOST SECOND BITS 0|1
                                                              likewise
     host-key TEXTS HOST KEY FILES PORT BITS                  0
     host-certificate TEXTS HOST BYTES FILES PORT BITS SECOND

@@ -17,7 +17,7 @@ from .hosts import (
     BROKEN, CERTIFICATES, CERTIFICATES_AND_LATER, CERTIFICATES_OF_FILES, HOST, KEYS, KEYS_AND_LATER, KEYS_OF_FILES, LATER, field, in_one_file, written,
 )  # fmt: skip
 from .hosts import INVALID as INVALID_TIME
-from .login_checker import asked_of, check_login_checker, granted
+from .login_checker import asked_of, certified, check_login_checker, granted, printed_with
 from .login_options import certificate
 from .made import MIDDLE, is_verified
 
@@ -166,7 +166,8 @@ def check_key_files(count, programs, maker):
             for program in programs:
                 ran = run([program, *words, file.name], input=certificate if key == "shower0" else "a text")
                 lines = [it.split(":")[2] for it in ran.stderr.splitlines()]
-                count.check(f"sshkey-check {words[0]} by a file of keys, {told or 'whole'}", ((ran.returncode, ran.stdout), lines) == (wanted, told), ran)
+                said = ran.returncode, "".join(it for it in ran.stdout.splitlines(True) if not it.startswith(" "))
+                count.check(f"sshkey-check {words[0]} by a file of keys, {told or 'whole'}", (said, lines) == (wanted, told), ran)
 
 
 def check_signature(count, programs, maker, name, signature, words, text, wanted):
@@ -316,7 +317,8 @@ def check_words(count, programs, maker):
         ["--host", "h", "--known-hosts", key, "--ca", ca], ["--host", "h", "--known-hosts", key, "--user", "alice"], ["--host", "h", "--port", "22"],
         ["--host", "h", "--host", "h", "--known-hosts", key], ["verify", *signed, "--host", "h", "--known-hosts", key],
         [key, key], ["--user", "alice"], ["--at", "1"], ["--ca"], ["--ca", ca], ["--ca", ca, "--user", "alice", "--ca", ca],
-        ["--ca", ca, "--user", "alice", "--keys", key], signed,
+        ["--ca", ca, "--user", "alice", "--keys", key], signed, ["--from", "::1"], ["--from", "::1", "--user", "alice"],
+        ["verify", *signed, "--from", "::1"], ["--host", "h", "--known-hosts", key, "--from", "::1"],
         ["verify"], ["verify", *signed[:4]], ["verify", *signed, "--ca", ca], ["verify", *signed, key, key], ["verify", "--help"],
     ):  # fmt: skip
         ran = run([programs[0], *words], input="")
@@ -324,6 +326,7 @@ def check_words(count, programs, maker):
         count.check(f"sshkey-check {' '.join(map(os.path.basename, words))} is no call", same, ran)
     for words in (["verify", *signed[:4], "-s", maker.path("none")], ["verify", "-k", maker.folder, *signed[2:]], [*allowed, "-r", maker.path("none")],
                   ["verify", "-f", maker.path("none"), *allowed[3:]], [maker.path("none")], ["--host", "h", "--known-hosts", maker.path("none")],
+                  *(["--ca", ca, "--user", "alice", "--from", it] for it in ("", "192.0.2", "::1%lo", "localhost")),
                   *(["--host", "h", "--known-hosts", key, "--port", it] for it in ("65536", "x", "-1", ""))):
         ran = run([programs[0], *words], input="")
         count.check(f"sshkey-check can't tell of {words[-1]}", ran.returncode == UNTOLD and ran.stderr.count("\n") == 1, ran)
@@ -339,11 +342,12 @@ def check_refused_memory(count, built, maker):
     authorities = maker.write("authorities", f"{me} {maker.read('shower0.pub')}\n")
     signature = maker.write("armour.sig", armoured(maker.signature("shown0", "a text", SPACE)))
     for name, words, said, untold, least in (
-        ("sshkey-check of a certificate", ["sshkey-check", "--ca", ca, "--user", me, maker.path("shown0-cert.pub")], "valid\n", UNTOLD, 100),
+        ("sshkey-check of a certificate", ["sshkey-check", "--ca", ca, "--user", me, maker.path("shown0-cert.pub")],
+         printed_with(certified(serial=0), ca), UNTOLD, 100),
         ("sshkey-check of a signature", ["sshkey-check", "verify", "-k", maker.path("shown0.pub"), "-n", SPACE, "-s", signature, maker.path("signed")],
          "valid\n", UNTOLD, 100),
         ("sshkey-check of a login", ["sshkey-check", "login", *asked_of(maker, "{key}", None, [])],
-         "".join(f"{it}\n" for it in ["valid", *(f"        {it}" for it in granted())]), UNTOLD, 20),
+         printed_with(granted(), None), UNTOLD, 20),
         ("sshkey-principals", ["sshkey-principals", "--insecure-modes", authorities, me, *line.split()[:2]], f"{me}\n", 1, 100),
     ):  # fmt: skip
         asked = [f"{it}{more}" for it in (*range(1, 70), *range(70, 1500, 71)) for more in ("", "+")]

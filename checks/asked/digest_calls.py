@@ -5,7 +5,7 @@ from lib.harness import string, take
 from lib.signatures import signed_data, ssh_signature_over
 
 from .linked import turned, word
-from .login_calls import blocks
+from .shown_logins import blocks
 from .verdicts import status_of
 
 HASHES = ("sha256", "sha512")

@@ -96,8 +96,8 @@ def check_certificates(count, built, maker, kind, middle):
     count.check("sshkey-check names the line that is no key", f"{wrong}:4: no key" in ran.stderr, ran.stderr)
     later = maker.write("later", f"{LATER['later']} a comment\n{maker.read(f'{kind.authority}.pub')}\n")
     ran = run([f"{built.sanitized}/sshkey-check", "--ca", later, "--user", "alice", "--at", str(middle)], input=line)
-    said = (ran.returncode, ran.stdout, ran.stderr)
-    count.check("and passes over a later kind of key", said == (VALID, "valid\n", f"sshkey-check: {later}:1: {PASSED_OVER}\n"), ran)
+    said = (ran.returncode, ran.stdout.partition("\n")[0], ran.stderr)
+    count.check("and passes over a later kind of key", said == (VALID, "valid", f"sshkey-check: {later}:1: {PASSED_OVER}\n"), ran)
 
 
 def check_module(count, built, maker, kind, middle):

@@ -13,6 +13,7 @@ PAGE = """\
 package main
 
 import (
+	"encoding/hex"
 	"fmt"
 	"net/netip"
 	"os"
@@ -23,7 +24,9 @@ import (
 
 func letIn(sshkey.Grant) {{ fmt.Println("let in") }}
 
-func logIn(authorities []sshkey.SHA256, peer netip.Addr, blob, key []byte) {{
+func logIn(
+	authorities []sshkey.SHA256, peer netip.Addr, blob, key, sessionID []byte, algorithm string, signature []byte,
+) {{
 {0}}}
 
 func blobOf(line string) []byte {{
@@ -34,12 +37,21 @@ func blobOf(line string) []byte {{
 	return found.Blob
 }}
 
+func dataOf(word string) []byte {{
+	data, err := hex.DecodeString(word)
+	if err != nil {{
+		panic(err)
+	}}
+	return data
+}}
+
 func main() {{
 	authorities, _, err := sshkey.Authorities(os.Args[1])
 	if err != nil {{
 		panic(err)
 	}}
-	logIn(authorities, netip.MustParseAddr("192.0.2.1"), blobOf(os.Args[2]), blobOf(os.Args[3]))
+	peer, algorithm := netip.MustParseAddr("192.0.2.1"), "ssh-ed25519-cert-v01@openssh.com"
+	logIn(authorities, peer, blobOf(os.Args[2]), blobOf(os.Args[3]), dataOf(os.Args[4]), algorithm, dataOf(os.Args[5]))
 }}
 """
 

@@ -67,6 +67,12 @@ void __syslog_chk(int priority, int flag, const char *format, ...) {
   va_end(words);
 }
 """
+# in place of the C library's, where a machine has no such users
+NAMELESS = """
+#include <pwd.h>
+#include <stddef.h>
+struct passwd *getpwnam(const char *name) { return name ? NULL : NULL; }
+"""
 # an id of a certificate that would end a line and a quotation, and how it is logged
 KEY_ID, LOGGED_ID = 'jump "x\ny\\\x1b', r"jump \042x\012y\134\033"
 
@@ -166,6 +172,12 @@ def check_nobody(count, helpers, room, helper):
             wanted = (0, said, False) if who == helper else (1, "", True)
             found = (ran.returncode, ran.stdout, "nobody" in ran.stderr)
             count.check(f"sshkey-{name} as {'a user of its own' if who == helper else who} {words}", found == wanted, ran)
+    nameless = helpers.maker.path("nameless.so")
+    made = run(["cc", "-shared", "-fPIC", "-o", nameless, helpers.maker.write("nameless.c", NAMELESS)])
+    count.check("what finds no name of a user is built", made.returncode == 0, made)
+    for name, ask, path in (("keys", helpers.of_key, ["--file", f"{keys}/{user}"]), ("principals", helpers.of_certificate, [authorities])):
+        ran = ask("--insecure-modes", *path, user=65534, extra_groups=[], env={**os.environ, "LD_PRELOAD": nameless})
+        count.check(f"sshkey-{name} as the user 65534, of whom no name is found", (ran.returncode, ran.stdout, "nobody" in ran.stderr) == (1, "", True), ran)
     for who in (helper, "nobody"):
         words = ASKING.format(keys, f"{room}/sshkey-authorized-keys", who)
         helpers.maker.write(f"as-{who}", STRICT.format(helpers.maker.folder) + words)

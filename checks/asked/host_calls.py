@@ -10,7 +10,7 @@ from .hosts import (
     LATER, LISTS, NAMED, NOBODY, OTHER, OWN, SERIAL, TEXTS, field, in_one_file, written,
 )  # fmt: skip
 from .linked import run, several, word
-from .login_calls import blocks, built_page, said_by_python
+from .shown_logins import blocks, built_page, said_by_python
 from .login_options import NO_NORMAL_FORM, RSA, UNACCEPTED, certificate, judged_keys, respelled
 from .revocation_calls import EMPTY, made_list
 
@@ -174,7 +174,7 @@ def check_page(count, built, made):
         ("a revoked key", [f"@cert-authority db.example.org {by}\n", f"@revoked * {key}\n"], *["refused: revoked for the host (50)"] * 2),
     ):
         ran = run([path, line, *texts]) if page.returncode == 0 else page
-        by_python = said_by_python(made, in_python[0], certificate=blob_of(line), texts=[it.encode() for it in texts])
+        by_python = said_by_python(made.sshkey, in_python[0], certificate=blob_of(line), texts=[it.encode() for it in texts])
         said = [*ran.stdout.splitlines(), *ran.stderr.splitlines(), *by_python]
         count.check(f"a host's certificate in docs/FOREIGN.md: {name}", said == wanted, said)
 

@@ -17,11 +17,27 @@ COMMAND = [*ALICE, "-O", "force-command=date"]
 BY_CA = ["--ca", "admitting.pub"]
 
 
-def granted(line=1, *more, command=None, permits=PERMITTED):
-    """What is said of a login by that line."""
+def permitted(command, permits):
+    """What is said of the command and of what else is permitted."""
     permits = [it for it in permits if command is None or it != "any command"]
     told = [] if command is None else [f"Command: {command}"]
-    return [f"Line: {line}", *told, f"Permits: {', '.join(permits) or '(nothing)'}", *more]
+    return [*told, f"Permits: {', '.join(permits) or '(nothing)'}"]
+
+
+def granted(line=1, *more, command=None, permits=PERMITTED):
+    """What is said of a login by that line."""
+    return [f"Line: {line}", *permitted(command, permits), *more]
+
+
+def certified(*more, command=None, permits=PERMITTED[:-1], serial=7):
+    """What is said of one by a certificate alone, which permits no tunnels."""
+    return [*permitted(command, permits), *more, 'Key ID: "id"', f"Serial: {serial}"]
+
+
+def printed_with(said, signer):
+    """What the program prints where that is said of a certificate by the key of that file, or, without one, of a key."""
+    by = [f"Signing CA: {ssh_keygen('-l', '-f', signer, text=True).stdout.split()[1]}"] if signer else []
+    return "".join(f"{it}\n" for it in ["valid", *(f"        {it}" for it in [*said, *by])])
 
 
 # lines of authorized_keys, or with --ca of principals, the words of the certificate that is shown or None for the key itself, what else is asked, and what is said:
@@ -68,6 +84,36 @@ ROWS = [
 ]  # fmt: skip
 
 
+# the words of a certificate, what else is asked, and what is said with --ca and --user: to what it lets in, or what is wrong
+SOURCE = [*ALICE, "-O", "source-address=10.0.0.0/8,192.0.2.0/25"]
+BY_AUTHORITY = [
+    ("as it is", ALICE, [], certified()), ("from anywhere", ALICE, ["--from", ADDRESS], certified()),
+    ("with a command", COMMAND, [], certified(command="date")),
+    ("that permits nothing", [*COMMAND, "-O", "clear"], [], certified(command="date", permits=[])),
+    ("with a terminal alone", [*ALICE, "-O", "clear", "-O", "permit-pty"], [], certified(permits=["any command", "pty"])),
+    ("for a security key", [*ALICE, "-O", "no-touch-required", "-O", "verify-required"], [],
+     certified("Touch: not required", "Verification: required")),
+    ("for elsewhere", SOURCE, ["--from", "192.0.2.128"], 57), ("for a network", SOURCE, ["--from", "192.0.2.127"], certified()),
+    ("for a network, by an IPv6 socket", SOURCE, ["--from", "::ffff:10.1.2.3"], certified()),
+    ("for a network, from no address", SOURCE, [], 57), ("for a network, over", SOURCE, ["--at", "20240202Z"], 33),
+]  # fmt: skip
+
+
+def check_by_authority(count, programs, maker):
+    """What the program says with --ca and --user of a certificate, and to what it lets in."""
+    ca = maker.path("admitting.pub")
+    for name, words, more, wanted in BY_AUTHORITY:
+        maker.certificate("admitting", "entering", *words)
+        at, path = [] if "--at" in more else ["--at", str(MIDDLE)], maker.path("entering-cert.pub")
+        is_valid = isinstance(wanted, list)
+        printed = printed_with(wanted, ca) if is_valid else "refused\n"
+        for program in programs:
+            ran = run([program, "--ca", ca, "--user", "alice", *at, *more, path])
+            said = ran.stderr == "" if is_valid else ran.stderr.startswith(f"sshkey-check: {path}:1: ") and ran.stderr.endswith(f" ({wanted})\n")
+            same = (ran.returncode, ran.stdout) == (VALID if is_valid else INVALID, printed) and said
+            count.check(f"sshkey-check --ca of a certificate {name}", same, ran, printed)
+
+
 def asked_of(maker, lines, words, more):
     """The words for the program, after `login`."""
     keys = {"key": maker.read("entering.pub"), "other": maker.read("other-entering.pub"), "authority": maker.read("admitting.pub")}
@@ -80,13 +126,11 @@ def asked_of(maker, lines, words, more):
 
 
 def check_rows(count, programs, maker):
-    signer = ssh_keygen("-l", "-f", maker.path("admitting.pub"), text=True).stdout.split()[1]
     for name, lines, words, more, wanted in ROWS:
         asked = asked_of(maker, lines, words, more)
         told = ""
         if isinstance(wanted, list):
-            said = [*wanted, *[f"Signing CA: {signer}"] * (words is not None)]
-            printed = "".join(f"{it}\n" for it in ["valid", *(f"        {it}" for it in said)])
+            printed = printed_with(wanted, None if words is None else maker.path("admitting.pub"))
         else:
             number, line = wanted
             printed, told = "refused\n", f"sshkey-check: {f'{asked[0]}:{line}' if line else f'{asked[2]}:1'}: "
@@ -139,5 +183,6 @@ def check_login_checker(count, programs, maker):
         maker.key(name, "ed25519")
     maker.write("revoked", maker.read("entering.pub") + "\n")
     check_rows(count, programs, maker)
+    check_by_authority(count, programs, maker)
     check_hostile_lines(count, programs, maker)
     check_login_words(count, programs[0], maker)

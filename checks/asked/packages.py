@@ -177,7 +177,7 @@ class Place:
         """The program that the words run with a user's name lets the user of the certificate in, and no other."""
         for user, wanted in ((USER, (0, "valid")), ("eve", (1, "refused"))):
             ran = run([*words, user], cwd=self.folder, env={**self.environment, **names}, input=f"{self.certificate}\n")
-            if (ran.returncode, ran.stdout.rstrip("\n").partition(":")[0]) != wanted:
+            if (ran.returncode, ran.stdout.partition("\n")[0].partition(":")[0]) != wanted:
                 raise Wrong(f"{' '.join(words)} {user}: {ran.returncode}, {ran.stdout!r}", ran.stderr)
 
     def hold_helper(self, program, **names):

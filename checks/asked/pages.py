@@ -7,7 +7,7 @@ import shutil
 from lib.harness import ROOT
 
 from .linked import run
-from .login_calls import blocks
+from .shown_logins import blocks
 
 # the ways in which the page tells them: PATH is the tree, and out/ what make builds
 C_LINE, GO_LINES = r"`(cc -IPATH.*?)`", r"`(require rafendilo\S* v\S+)` and `(replace rafendilo\S* => PATH\S*)`"
@@ -16,7 +16,8 @@ HEADERS = r"include `(\S+?\.h)` and `(\S+?\.h)`.*?README's lines also need (.*)"
 # what stands around the lines of README in C, and of FOREIGN.md in Go and in Rust
 C_PROGRAM = """\
 {0}static void let_in(const sshkey_grant *grant, const uint8_t *room) {{ printf("%u %p\\n", grant->permits, (const void *)room); }}
-void log_in(const char *authority_line, size_t authority_length, const char *line, size_t length, judge_blob key, sshkey_span client) {{
+void log_in(const char *authority_line, size_t authority_length, const char *line, size_t length, judge_blob key, sshkey_span client,
+            sshkey_span session_id, sshkey_span algorithm, sshkey_span signature) {{
 {1}}}
 int main(void) {{ return 0; }}
 """
@@ -33,23 +34,23 @@ import (
 
 func letIn(sshkey.Grant) {{}}
 
-func logIn(authorities []sshkey.SHA256, peer netip.Addr, blob, key []byte) {{
+func logIn(authorities []sshkey.SHA256, peer netip.Addr, blob, key, sessionID []byte, algorithm string, signature []byte) {{
 {0}}}
 
-func main() {{ logIn(nil, netip.Addr{{}}, nil, nil) }}
+func main() {{ logIn(nil, netip.Addr{{}}, nil, nil, nil, "", nil) }}
 """
 RUST_PROGRAM = """\
 use std::net::{{IpAddr, Ipv4Addr}};
 use std::time::{{SystemTime, UNIX_EPOCH}};
 fn let_in(_: &sshkey::Grant) {{}}
 fn log_in(
-    authority_line: &str, line: &str, key: &[u8], peer: IpAddr,
+    authority_line: &str, line: &str, key: &[u8], peer: IpAddr, session_id: &[u8], algorithm: &[u8], signature: &[u8],
 ) -> Result<(), Box<dyn std::error::Error>> {{
 {0}
     Ok(())
 }}
 fn main() {{
-    drop(log_in("", "", &[], Ipv4Addr::LOCALHOST.into()));
+    drop(log_in("", "", &[], Ipv4Addr::LOCALHOST.into(), &[], &[], &[]));
 }}
 """
 PACKAGE = '[package]\nname = "login"\nversion = "1.0.0"\nedition = "2021"\n\n[dependencies]\n{}\n'

@@ -77,7 +77,7 @@ fn let_in(grant: &sshkey::Grant) {{
     println!("let in");
 }}
 fn log_in(
-    authority_line: &str, line: &str, key: &[u8], peer: IpAddr,
+    authority_line: &str, line: &str, key: &[u8], peer: IpAddr, session_id: &[u8], algorithm: &[u8], signature: &[u8],
 ) -> Result<(), Box<dyn std::error::Error>> {{
 {0}
     Ok(())
@@ -85,6 +85,10 @@ fn log_in(
 fn main() {{
     let words: Vec<String> = std::env::args().collect();
     let blob = |at: usize| sshkey::read_line(&words[at]).unwrap().blob;
-    log_in(&words[1], &words[2], &blob(3), Ipv4Addr::LOCALHOST.into()).unwrap();
+    let byte = |word: &str, at: usize| u8::from_str_radix(&word[2 * at..2 * at + 2], 16).unwrap();
+    let data = |word: &str| (0..word.len() / 2).map(|at| byte(word, at)).collect::<Vec<u8>>();
+    let (session_id, signature) = (data(&words[4]), data(&words[5]));
+    let algorithm = b"ssh-ed25519-cert-v01@openssh.com";
+    log_in(&words[1], &words[2], &blob(3), Ipv4Addr::LOCALHOST.into(), &session_id, algorithm, &signature).unwrap();
 }}
 """

@@ -40,11 +40,13 @@ class Asked:
     second: int = MIDDLE
     bits: int = 0
     authorities: bytes | None = None
+    # the client's address is not judged, the caller says
+    judges: bool = False
 
     def words(self):
         call = "log-in-by-keys" if self.authorities is None else "log-in-by-principals"
         spans = (self.certificate, self.user, self.key, self.client, self.authorities or b"", self.revoked, self.text, self.host)
-        return " ".join([call, *map(word, spans), str(self.second), str(self.bits), "0"])
+        return " ".join([call, *map(word, spans), str(self.second), str(self.bits), str(int(self.judges))])
 
 
 # ---- what OpenSSH answers
@@ -181,6 +183,14 @@ def cases(maker):
         ("restricted", dict(text=line(b"cert-authority,restrict", by)), f"0 1 {RESTRICTED} 5 {of_good}"),
     ):  # fmt: skip
         yield f"a certificate {name}", replace(shown, **changes), wanted
+    # these calls judge the address, whatever the caller says
+    bound = certificates.made("-n", "alice", "-z", "5", "-O", "source-address=192.0.2.0/24")
+    for by_text, asked in (("authorized_keys", shown), ("principals", replace(shown, text=b"alice\n", authorities=made.authorities))):
+        here = replace(asked, certificate=bound.certificate)
+        yield f"a certificate for here by {by_text}", here, f"0 1 {ALL} 5 {of_good}"
+        yield f"a certificate for here by {by_text}, and the client is elsewhere", replace(here, client=OUTSIDE), "57 0"
+        yield f"a certificate for here by {by_text}, which the caller would judge", replace(here, judges=True), "57 0"
+        yield f"a certificate for anywhere by {by_text}, which the caller would judge", replace(asked, judges=True), f"0 1 {ALL} 5 {of_good}"
     forced = certificates.made("-n", "alice", "-O", "force-command=ls")
     both = replace(shown, certificate=forced.certificate)
     yield "a certificate with a command, and another in the line", replace(both, text=line(b'cert-authority,command="id"', by)), "94 1"

@@ -61,7 +61,10 @@ def check_requests(judge):
         asked.append((name, f"userauth {request.words()}", "0"))
         of.append((name, f"userauth-of {request.words(message)}", "0"))
         whole.append((name, f"is-userauth {request.words()}", "0"))
-        for what, changes in (("another user", {"user": b"bob"}), ("another session", {"session": SESSION[::-1]})):
+        others = [("another user", {"user": b"bob"}), ("another session", {"session": SESSION[::-1]})]
+        # a signature for another host, which the client says is its host's, is none for one's own; and none without a host
+        others += [(f"a host {it}", {"host_key": it}) for it in (None, request.key, b"") if it != request.host_key]
+        for what, changes in others:
             other = replace(request, **changes)
             whole.append((f"{name}, of {what}", f"is-userauth {other.words()}", str(judge.number("NOT_SIGNED"))))
             of.append((f"{name}, of {what}", f"userauth-of {other.words(message)}", str(judge.number("OTHER_REQUEST"))))

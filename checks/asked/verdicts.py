@@ -20,16 +20,17 @@ def status_of(sshkey, call, *given):
 
 
 def said_by_checker(words, authority, user, second, lines):
-    """What the program says of each line: `valid`, or `refused` and why."""
+    """What the program says of each line: `valid`, or `refused` and why. Below the first stands to what, which begins with blanks."""
     ran = run([*words, "--ca", authority, "--user", user, "--at", str(second)], input="".join(f"{it}\n" for it in lines))
     if ran.returncode not in (0, 1):
         return [f"status {ran.returncode}: {ran.stderr[-2000:]}"]
     reasons = dict(re.findall(r"^sshkey-check: \(stdin\):(\d+): (.*)$", ran.stderr, re.M))
-    return [it if it == "valid" else f"{it}: {reasons.get(str(at), 'why?')}" for at, it in enumerate(ran.stdout.splitlines(), 1)]
+    said_of_each = [it for it in ran.stdout.splitlines() if not it.startswith(" ")]
+    return [it if it == "valid" else f"{it}: {reasons.get(str(at), 'why?')}" for at, it in enumerate(said_of_each, 1)]
 
 
 def said_by_python(sshkey, by, user, second, lines):
-    """What the package says of each line, where the address of the client is not judged."""
+    """What the package says of each line, where the address of the client is not known."""
 
     def judged(line):
         try:
@@ -39,7 +40,7 @@ def said_by_python(sshkey, by, user, second, lines):
         if not found.is_certificate:
             return sshkey.Status.LABEL
         key = sshkey.certificate_contents(found.blob).key
-        login = sshkey.Login(found.blob, user, key, second, by, sshkey.NO_REVOCATIONS, judges_address=True)
+        login = sshkey.Login(found.blob, user, key, second, by, sshkey.NO_REVOCATIONS)
         return status_of(sshkey, sshkey.log_in, login)
 
     return [said(sshkey, judged(it)) for it in lines]

@@ -29,7 +29,8 @@ type Login struct {
 	// LeastRSABits is sshd's RequiredRSASize. Below 1,024, as 0, it is 1,024.
 	LeastRSABits uint32
 	// JudgesAddress says that the caller judges whether source-address has the client's address:
-	// then Client is not looked at.
+	// then Client is not looked at. LogInByKeys and LogInByPrincipals always judge it, and then know
+	// no address.
 	JudgesAddress bool
 	// Verify is IsSignature where it is nil.
 	Verify Verifier
@@ -91,7 +92,9 @@ type Grant struct {
 // verifier is not asked about the certificate of another authority, or about one that is revoked.
 //
 // That the client signs with the key is not looked at: CheckUserauth does, with what the grant
-// permits. To keep to the grant is the caller's.
+// permits; until then nobody is let in. Where an SSH library verifies the signature and gives none,
+// as golang.org/x/crypto/ssh, refuse each key whose name begins with sk-, unless the grant has both
+// PermitNoTouch and PermitNoVerification. To keep to the grant is the caller's.
 func LogIn(login Login) (Grant, error) {
 	var memory held
 	defer memory.free()

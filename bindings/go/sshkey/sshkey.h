@@ -550,7 +550,8 @@ uint32_t sshkey_signature_question(const uint8_t *key, size_t key_length, const 
 typedef struct {
   sshkey_span certificate;    /* its blob, as the client sent it */
   sshkey_span user;           /* UTF-8 */
-  sshkey_span key;            /* the blob of the key under which the client has signed */
+  sshkey_span key;            /* the blob of the key under which the client signs: whether it has
+                                 sshkey_userauth_question asks */
   sshkey_span client;         /* the address of its socket, of 4 or 16 bytes; with any other number
                                  of bytes it has none: then source-address lets nobody in */
   sshkey_digests authorities; /* of the keys that may sign logins */
@@ -562,7 +563,8 @@ typedef struct {
                                  has the client's, and `client` is not looked at: so does sshd with
                                  a certificate whose principals a program tells it, and before 9.4
                                  it tells that program no address. With any other number, as 0, it
-                                 is judged here */
+                                 is judged here; and always by sshkey_user_keys_verdict and
+                                 sshkey_principals_verdict, which with 1 know no address */
 } sshkey_login;
 
 /* What a grant permits. Zero permits nothing. */
@@ -633,7 +635,8 @@ typedef struct {
   sshkey_span user;
   sshkey_span algorithm;  /* the name of the public key algorithm in the request */
   sshkey_span public_key; /* the blob of the key or the certificate that the grant came from */
-  sshkey_span host_key;   /* the blob of the server's host key, if has_host_key is not 0 */
+  sshkey_span host_key;   /* the blob of the server's own host key, and nothing that the client sent,
+                             if has_host_key is not 0 */
   sshkey_span signature;  /* the blob of the client's signature (RFC 4253, section 6.6) */
   uint32_t has_host_key;  /* 0: the method is publickey; else publickey-hostbound-v00@openssh.com */
   uint32_t permits;       /* the grant's: SSHKEY_PERMIT_NO_TOUCH, .._NO_VERIFICATION */

@@ -6,7 +6,8 @@ import "C"
 // Userauth is a client's request to log in by a public key, with its signature (RFC 4252, section
 // 7).
 type Userauth struct {
-	// SessionID is the session's identifier (RFC 4253, section 7.2).
+	// SessionID is the session's identifier (RFC 4253, section 7.2): the server's own, and nothing
+	// that the client sent.
 	SessionID []byte
 	// User is the name that the client asks for.
 	User string
@@ -14,8 +15,8 @@ type Userauth struct {
 	Algorithm string
 	// PublicKey is the blob of the key or of the certificate in the request.
 	PublicKey []byte
-	// HostKey is the blob of the server's host key where the method is
-	// publickey-hostbound-v00@openssh.com, and nil where it is publickey.
+	// HostKey is the blob of the server's own host key, and nothing that the client sent, where the
+	// method is publickey-hostbound-v00@openssh.com; nil where it is publickey.
 	HostKey []byte
 	// Signature is the blob of the client's signature.
 	Signature []byte

@@ -31,7 +31,9 @@ class Login:
     revoked: Iterable[BytesLike]  # what the files of sshd's RevokedKeys have, or NO_REVOCATIONS; without a file nobody is let in
     client: Address | None = None  # that of its socket; without one, a certificate with a source-address is refused
     least_rsa_bits: int = 0  # sshd's RequiredRSASize; below 1,024, as 0, it is 1,024
-    judges_address: bool = False  # True where you judge yourself whether source-address has the client's: client is not looked at
+    # True where you judge yourself whether source-address has the client's: client is not looked at. log_in_by_keys and
+    # log_in_by_principals always judge it, and then know no address
+    judges_address: bool = False
 
 
 @dataclass(frozen=True)
@@ -52,8 +54,8 @@ def log_in(login: Login, verifier: Verifier = is_signature) -> Grant:
     Raises Refused, which says what is wrong first, and MemoryError; ValueError for a number that does not fit its field, or a
     fingerprint of another length; TypeError where a file was not read (None).
 
-    Whether the client has signed under the key is not looked at: check_userauth does that, with what the grant permits. To keep to
-    the grant is yours."""
+    Whether the client has signed under the key is not looked at: check_userauth does that, with what the grant permits; until then
+    nobody is let in. To keep to the grant is yours."""
     given, length = bytes_of(login.certificate)
     asked = _header_of(login, given)
     question = question_of(lambda *room: LIBRARY.sshkey_login_question(ctypes.byref(asked), *room), 2 * length + 256)

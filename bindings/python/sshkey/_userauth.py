@@ -23,7 +23,7 @@ class Userauth:
     public_key: BytesLike  # the blob of the key or the certificate from which the grant came
     signature: BytesLike  # its blob (RFC 4253, section 6.6)
     permits: Permits  # the grant's
-    host_key: BytesLike | None = None  # the blob of the server's host key
+    host_key: BytesLike | None = None  # the blob of the server's own host key, and nothing that the client sent
     signed: BytesLike | None = None  # the bytes that were signed, where the server has them: else they are made of the request
 
 

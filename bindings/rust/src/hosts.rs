@@ -28,7 +28,7 @@ pub struct HostLogin<'a> {
 /// more strictly.
 ///
 /// Fails with a number from 10 to 29 where the bytes are no key, and else with what is wrong first:
-/// [`Status::HOST_REVOKED`], [`Status::UNREADABLE_REVOCATIONS`], [`Status::HOST_UNREADABLE`],
+/// [`Status::UNREADABLE_REVOCATIONS`], [`Status::HOST_REVOKED`], [`Status::HOST_UNREADABLE`],
 /// [`Status::HOST_CHANGED`], [`Status::HOST_UNKNOWN`] or [`Status::KEY_NOT_ACCEPTED`]; with
 /// [`Status::TEXT`] where a text or the host is not UTF-8, and with [`Status::MEMORY`].
 ///

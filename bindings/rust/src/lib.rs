@@ -6,7 +6,7 @@
 //! `sshkey::is_signature`.
 //!
 //! ```
-//! use sshkey::{Grant, Login, Question, Sha256, Status, NO_REVOCATIONS};
+//! use sshkey::{Grant, Login, Question, Sha256, Status, Userauth, NO_REVOCATIONS};
 //!
 //! /// Whether the signature is one of the message under the key, by your library.
 //! fn is_signature(question: &Question) -> bool {
@@ -16,7 +16,8 @@
 //!
 //! /// Logs alice in by the line of a certificate, if she has signed this session under the key.
 //! fn log_in(
-//!     line: &str, key: &[u8], unix_timestamp: u64, authorities: &[Sha256],
+//!     line: &str, key: &[u8], unix_timestamp: u64, authorities: &[Sha256], session_id: &[u8],
+//!     signature: &[u8],
 //! ) -> Result<Grant, Status> {
 //!     let certificate = sshkey::read_line(line)?.blob;
 //!     let login = Login {
@@ -30,9 +31,21 @@
 //!         least_rsa_bits: 0,
 //!         judges_address: false,
 //!     };
-//!     sshkey::log_in(&login, is_signature)
+//!     let grant = sshkey::log_in(&login, is_signature)?;
+//!     let request = Userauth {
+//!         session_id, // your server's own
+//!         user: login.user,
+//!         algorithm: b"ssh-ed25519-cert-v01@openssh.com", // as the request names it
+//!         public_key: login.certificate,
+//!         host_key: None, // or your server's own, if the request has one
+//!         signed: None,
+//!         signature,
+//!         permits: grant.permits,
+//!     };
+//!     sshkey::check_userauth(&request, is_signature)?;
+//!     Ok(grant)
 //! }
-//! # assert_eq!(log_in("ssh-ed25519", &[], 0, &[]), Err(Status::LENGTH));
+//! # assert_eq!(log_in("ssh-ed25519", &[], 0, &[], &[], &[]), Err(Status::LENGTH));
 //! ```
 //!
 //! The library lies in this crate as text, for Linux on x86-64 and aarch64. With the feature

@@ -19,7 +19,8 @@ pub struct Login<'a> {
     /// Whom the client wants to be, in UTF-8. The empty name is nobody, also where a certificate
     /// lists it.
     pub user: &'a [u8],
-    /// The blob of the key under which the client has signed.
+    /// The blob of the key under which the client signs: whether it has asks
+    /// [`check_userauth`](crate::check_userauth).
     pub key: &'a [u8],
     /// The address of the client's socket, and no header of a proxy's. Without one, a certificate
     /// with `source-address` lets nobody in.
@@ -34,7 +35,9 @@ pub struct Login<'a> {
     /// How many bits an RSA key has at least (`RequiredRSASize`). Below 1,024, as 0, it is 1,024.
     pub least_rsa_bits: u32,
     /// Whether the caller judges itself if `source-address` has the client's address: then `client`
-    /// is not looked at.
+    /// is not looked at. [`log_in_by_keys`](crate::log_in_by_keys) and
+    /// [`log_in_by_principals`](crate::log_in_by_principals) always judge it, and then know no
+    /// address.
     pub judges_address: bool,
 }
 
@@ -62,11 +65,11 @@ pub struct Grant {
 /// Fails with the first of these: [`Status::TEXT`]; a number from 10 to 29 where the key's bytes
 /// are no key, or else the certificate's are none; 70 to 76, with [`Status::KEY_NOT_ACCEPTED`]
 /// after 72; [`Status::UNTRUSTED_AUTHORITY`]; [`Status::UNREADABLE_REVOCATIONS`] or
-/// [`Status::REVOKED`]; 32 to 34, and [`Status::NOT_SIGNED`] where `verify` says no;
+/// [`Status::REVOKED`]; [`Status::NOT_SIGNED`] where `verify` says no; 32 to 34, and
 /// [`Status::ELSEWHERE`]. Else it fails only with [`Status::MEMORY`].
 ///
 /// Whether the client has signed this session under the key asks
-/// [`check_userauth`](crate::check_userauth).
+/// [`check_userauth`](crate::check_userauth): until then nobody is let in.
 pub fn log_in(login: &Login<'_>, verify: impl FnOnce(&Question) -> bool) -> Result<Grant, Status> {
     with_raw(login, |asked| {
         let enough = login.certificate.len().saturating_mul(2).saturating_add(256);

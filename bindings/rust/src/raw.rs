@@ -360,7 +360,8 @@ pub(crate) struct Login<'a> {
     pub certificate: Span<'a>,
     /// UTF-8.
     pub user: Span<'a>,
-    /// The blob of the key under which the client has signed.
+    /// The blob of the key under which the client signs: whether it has sshkey_userauth_question
+    /// asks.
     pub key: Span<'a>,
     /// The address of its socket, of 4 or 16 bytes; with any other number of bytes it has none:
     /// then source-address lets nobody in.
@@ -407,7 +408,8 @@ pub(crate) struct Userauth<'a> {
     pub algorithm: Span<'a>,
     /// The blob of the key or the certificate that the grant came from.
     pub public_key: Span<'a>,
-    /// The blob of the server's host key, if has_host_key is not 0.
+    /// The blob of the server's own host key, and nothing that the client sent, if has_host_key is
+    /// not 0.
     pub host_key: Span<'a>,
     /// The blob of the client's signature (RFC 4253, section 6.6).
     pub signature: Span<'a>,

@@ -8,7 +8,8 @@ use crate::status::Status;
 /// A client's request to log in by a public key, with its signature, as the server expects it.
 #[derive(Clone, Copy, Debug)]
 pub struct Userauth<'a> {
-    /// The session identifier, which is the server's own (RFC 4253, section 7.2).
+    /// The session identifier, which is the server's own (RFC 4253, section 7.2), and nothing that
+    /// the client sent.
     pub session_id: &'a [u8],
     /// The user whom the grant is for.
     pub user: &'a [u8],
@@ -16,8 +17,8 @@ pub struct Userauth<'a> {
     pub algorithm: &'a [u8],
     /// The blob of the key or of the certificate in the request, which the grant is for.
     pub public_key: &'a [u8],
-    /// The blob of the server's host key, where the method of the request is
-    /// `publickey-hostbound-v00@openssh.com`; none where it is `publickey`.
+    /// The blob of the server's own host key, and nothing that the client sent, where the method of
+    /// the request is `publickey-hostbound-v00@openssh.com`; none where it is `publickey`.
     pub host_key: Option<&'a [u8]>,
     /// The bytes that the client signed, where the server has them; else they are made of the
     /// request, for the service `ssh-connection`.

@@ -22,6 +22,7 @@ pub struct UserauthRequest<'a> {
     pub algorithm: &'a [u8],
     /// The blob of the public key or of the certificate.
     pub public_key: &'a [u8],
-    /// The blob of the server's host key, where the method has one.
+    /// The blob of the server's host key, where the method has one. The server's own, and nothing
+    /// that a client sent: a signature for another host is none for this one.
     pub host_key: Option<&'a [u8]>,
 }

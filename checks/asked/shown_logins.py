@@ -1,0 +1,129 @@
+"""What README and docs/FOREIGN.md show, as it stands there; and their logins, for checks/readme (C, Python) and checks/bindings (Go, Rust).
+These let in whom a certificate lists and who has signed the session, and nobody else: a certificate and a key are public, and whoever has
+these alone has signed nothing. What the client signs is put together in userauth_calls.py."""
+import re
+import time
+from types import SimpleNamespace
+
+from lib.harness import ROOT, blob_of
+from lib.signatures import signed
+
+from .linked import HELPERS, PEDANTIC, SANITIZED, C, run
+from .made import Maker, module
+from .userauth_calls import SESSION, Request
+
+ALGORITHM = "ssh-ed25519-cert-v01@openssh.com"
+ADDRESS = "192.0.2.1"
+# what the lines say
+LET_IN, NOT_SIGNED = "let in", "refused: not signed (30)"
+PAGE = """\
+#include <inttypes.h>
+#include <stdio.h>
+#include <stdlib.h>
+#include <string.h>
+#include <time.h>
+#include "judge.h"
+#include "verdict.h"
+static void let_in(const sshkey_grant *grant, const uint8_t *room) {{
+(void)room;
+puts(grant->permits ? "let in" : "let in to nothing"); }}
+static void log_in(const char *authority_line, const char *line, judge_blob key, sshkey_span session_id, sshkey_span algorithm,
+    sshkey_span signature) {{
+size_t authority_length = strlen(authority_line), length = strlen(line);
+sshkey_span client = judge_text("");
+{0}}}
+static sshkey_span data_of(char *word) {{
+size_t length = strlen(word) / 2;
+for (size_t at = 0; at < length; at++) {{
+char digits[3] = {{word[2 * at], word[2 * at + 1], 0}};
+word[at] = (char)strtoul(digits, NULL, 16); }}
+return (sshkey_span){{(const uint8_t *)word, length}}; }}
+int main(int count, char **words) {{
+judge_blob key;
+if (count != 6 || judge_read_line(words[3], strlen(words[3]), SSHKEY_LINE_KEY, &key) != SSHKEY_DONE) return 1;
+log_in(words[1], words[2], key, data_of(words[4]), judge_text("{1}"), data_of(words[5]));
+free(key.bytes);
+return 0; }}
+"""
+
+
+# ---- what the pages show
+
+
+def blocks(language, heading="The lines that matter"):
+    """The code that docs/FOREIGN.md shows under a heading; before its first lines come those of README, which has Rattle as Rust."""
+    shown = {"README.md": "A login"} if heading == "The lines that matter" and language != "rust" else {}
+    found = []
+    for path, wanted in {**shown, "docs/FOREIGN.md": heading}.items():
+        with open(f"{ROOT}/{path}", encoding="utf-8") as file:
+            section = file.read().partition(f"\n## {wanted}\n")[2].partition("\n## ")[0]
+        found += re.findall(rf"^```{language}\n(.*?)^```", section, re.M | re.S)
+    return found
+
+
+def said_by_python(sshkey, code, **names):
+    """What the lines in Python say, which call one of these where all is good."""
+    said = []
+    names.update({"sshkey": sshkey, "time": time, "print": lambda *words: said.append(" ".join(map(str, words)))})
+    names.update({"let_in": lambda grant: said.append("let in"), "go_on": lambda: said.append("go on")})
+    exec(code, names)
+    return said
+
+
+def built_page(built, maker, name, text):
+    """A program of the lines in C that a page shows: its path, and how it was built."""
+    path = f"{maker.folder}/{name}"
+    maker.write(f"{name}.c", text)
+    parts = [f"{path}.c", *(f"{built.sanitized}/{it}" for it in ("parts.a", "libsshkey.a")), "-lcrypto", "-o", path]
+    return path, run([*C, *PEDANTIC, f"-I{HELPERS}", *SANITIZED.split(), *parts])
+
+
+# ---- their logins
+
+
+def cases(maker):
+    """Names, what the lines are given (an authority, a certificate and a key as lines, a session and a signature), and what they say."""
+    authority, own, other, strange = (maker.key(f"shown-{it}", "ed25519") for it in ("authority", "own", "other", "strange"))
+    listed, unlisted = (maker.certificate("shown-authority", "shown-own", "-V", "-5m:+5m", "-n", it) for it in ("alice", "eve"))
+
+    def of(key, line, certificate=listed, session=SESSION):
+        return signed(maker.path(f"shown-{key}"), line, Request(ALGORITHM.encode(), blob_of(certificate), session=session).message())
+
+    # the authority's signature, of one of its keys, stands last in the certificate
+    theirs, good = blob_of(listed)[-83:], of("own", own)
+    for name, certificate, key, signature, wanted in (
+        ("its user, who has signed", listed, own, good, LET_IN), ("public files alone", listed, own, b"", "refused: a length that passes the bytes (13)"),
+        ("public files alone, and the signature in one", listed, own, theirs, NOT_SIGNED), ("who signs by another key", listed, own, of("strange", strange), NOT_SIGNED),
+        ("who has signed another session", listed, own, of("own", own, session=SESSION[::-1]), NOT_SIGNED),
+        ("who has signed with another certificate", listed, own, of("own", own, unlisted), NOT_SIGNED),
+        ("another user's", unlisted, own, of("own", own, unlisted), "refused: another principal (34)"),
+        ("another key", listed, other, good, "refused: another key (72)"), ("no certificate", own, own, good, "refused: a name that may not stand there (12)"),
+    ):  # fmt: skip
+        yield name, (authority, certificate, key, SESSION.hex(), signature.hex()), wanted
+
+
+def check_program(count, language, program, maker):
+    """What a program of the lines says."""
+    for name, given, wanted in cases(maker):
+        ran = run([program, *given])
+        said = [*ran.stdout.splitlines(), *ran.stderr.splitlines()]
+        count.check(f"the {language} of the page: {name}", said == [wanted], ran)
+
+
+def check_shown(count, folder):
+    """The same of README's lines in C and in Python, over the library that make builds of the text in the tree."""
+    out, maker = f"{folder}/out", Maker(folder)
+    made = run(["make", "-C", ROOT, f"OUT={out}", f"{out}/libsshkey.so", f"{out}/parts.a"])
+    count.check("the library is built", made.returncode == 0, made.stderr[-3000:])
+    if made.returncode:
+        return
+    in_c, in_python = blocks("c"), blocks("python")
+    path, page = built_page(SimpleNamespace(sanitized=out), maker, "page", PAGE.format(in_c[0], ALGORITHM))
+    count.check("README shows a login in C, which compiles", len(in_c) == 1 and page.returncode == 0, page.stderr[-2000:])
+    if page.returncode == 0:
+        check_program(count, "C", path, maker)
+    sshkey = module(f"{out}/libsshkey.so")
+    for name, (authority, line, key, session, signature), wanted in cases(maker):
+        given = {"authority_line": authority, "line": line, "key": blob_of(key), "address": ADDRESS, "algorithm": ALGORITHM}
+        said = said_by_python(sshkey, in_python[0], **given, session_id=bytes.fromhex(session), signature=bytes.fromhex(signature))
+        count.check(f"the Python of the page: {name}", said == [wanted], said)
