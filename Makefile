@@ -40,6 +40,7 @@ TEXT := $(ROOT)/bindings/go/sshkey/sshkey_linux_$(PROCESSOR).S
 TAKEN = $(shell $(CC) -Werror $(1) -E -x c /dev/null >/dev/null 2>&1 && echo $(1))
 # sshd starts the helpers with what a client sent; some compilers define the last themselves
 HARDENED := -fstack-protector-strong $(call TAKEN,-fstack-clash-protection) \
+	$(call TAKEN,-fcf-protection) \
 	-U_FORTIFY_SOURCE -D_FORTIFY_SOURCE=2 -fPIE
 # nothing that is linked later can be written
 READONLY := -Wl,-z,relro,-z,now

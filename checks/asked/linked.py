@@ -213,19 +213,23 @@ def check_crypto(count, built):
 
 
 def check_flags(count, built, folder):
-    """The library is bound before it runs, as the programs are. A stack can't jump over its guard where the compiler sees to it, and
-    one that does not know the flag is not given it."""
+    """The library is bound before it runs, as the programs are, and a program that is linked with it keeps the shadow stack of x86-64. A
+    stack can't jump over its guard where the compiler sees to it, and one that does not know a flag is not given it."""
     told = [run(["readelf", "-W", it, f"{built.plain}/libsshkey.so"]).stdout for it in ("-d", "-l")]
     count.check("the shared library is bound at once", "BIND_NOW" in told[0] and "GNU_RELRO" in told[1], told)
-    flag, old = "-fstack-clash-protection", f"{folder}/old-cc"
-    with open(old, "w", encoding="ascii") as file:
-        file.write(f"#!/bin/sh\nfor it in \"$@\"; do [ \"$it\" = {flag} ] && exit 1; done\nexec cc \"$@\"\n")
-    os.chmod(old, 0o755)
-    is_taken = run(["cc", "-Werror", flag, "-E", "-x", "c", "/dev/null"]).returncode == 0
-    for compiler, wanted in (("cc", is_taken), (old, False)):
-        made = run(["make", "-n", "-C", ROOT, f"OUT={folder}/flags", f"CC={compiler}", f"{folder}/flags/login.o", *built.given])
-        found = made.returncode == 0 and (f" {flag} " in made.stdout) == wanted and " -fstack-protector-strong " in made.stdout
-        count.check(f"{os.path.basename(compiler)} is {'' if wanted else 'not '}given {flag}", found, made)
+    if os.uname().machine == "x86_64" and not built.given:
+        told = run(["readelf", "-n", f"{built.plain}/libsshkey.a"]).stdout
+        count.check("both objects of the library keep the shadow stack", told.count("SHSTK") == 2, told)
+    for flag in ("-fstack-clash-protection", "-fcf-protection"):
+        old = f"{folder}/old-cc"
+        with open(old, "w", encoding="ascii") as file:
+            file.write(f"#!/bin/sh\nfor it in \"$@\"; do [ \"$it\" = {flag} ] && exit 1; done\nexec cc \"$@\"\n")
+        os.chmod(old, 0o755)
+        is_taken = run(["cc", "-Werror", flag, "-E", "-x", "c", "/dev/null"]).returncode == 0
+        for compiler, wanted in (("cc", is_taken), (old, False)):
+            made = run(["make", "-n", "-C", ROOT, f"OUT={folder}/flags", f"CC={compiler}", f"{folder}/flags/login.o", *built.given])
+            found = made.returncode == 0 and (f" {flag} " in made.stdout) == wanted and " -fstack-protector-strong " in made.stdout
+            count.check(f"{os.path.basename(compiler)} is {'' if wanted else 'not '}given {flag}", found, made)
 
 
 def is_found(folder, package, library):
