@@ -88,12 +88,16 @@ pub record IsMoment (m : Moment) : Type 0 where
   pub minute : m.minute < 60
   pub second : m.second < 62
 
--- The text is a time, which may be any from the first of these seconds after the start of 1970 to
--- the last: one second if it names UTC. The first is at least 1.
-pub record IsTimeText (text : List ℕ) (s : Span) : Type 0 where
+-- A text of the form of a time, whatever its year.
+pub record HasTimeForm (text : List ℕ) : Type 0 where
   pub size : (length (digits text) ≡ 8) ⊎ (length (digits text) ≡ 12) ⊎ (length (digits text) ≡ 14)
   pub in_utc : IsZone (zone text)
   pub valid : IsMoment (moment (digits text))
+
+-- The text is a time, which may be any from the first of these seconds after the start of 1970 to
+-- the last: one second if it names UTC. The first is at least 1.
+pub record IsTimeText (text : List ℕ) (s : Span) : Type 0 where
+  pub form : HasTimeForm text
   pub first : seconds_before (moment (digits text)) ≡ epoch + ahead (zone text) + s.first
   pub last : seconds_before (moment (digits text)) + after (zone text) ≡ epoch + s.last
   pub later : 0 < s.first

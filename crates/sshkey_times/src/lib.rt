@@ -2,6 +2,7 @@
 //! of authorized_keys.
 #![tactic(auto)]
 
+pub mod examples;
 mod times;
 
-pub use times::{Span, read_time};
+pub use times::{Span, has_time_form, read_time};

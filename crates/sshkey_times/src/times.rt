@@ -3,7 +3,7 @@
 ghost use Rattle.std.specs.Prelude.{◌≡◌, ◌+◌, ◌-◌, ◌*◌, ◌^◌, ◌<◌, ◌≤◌, ◌↔◌, IsTrue, slice_index};
 ghost use Rattle.std.specs.Char.{is_ascii_digit};
 ghost use Rattle.std.specs.List.{prefix_len};
-ghost use Rattle.sshkey_times.specs.Times.{IsMoment, IsZone, ReadsTime, ahead, after, days_of_months, days_of_years, digits, is_leap, moment, month_days, seconds_before, two_digits, zone};
+ghost use Rattle.sshkey_times.specs.Times.{HasTimeForm, IsMoment, IsZone, ReadsTime, ahead, after, days_of_months, days_of_years, digits, is_leap, moment, month_days, seconds_before, two_digits, zone};
 
 const SECONDS_A_DAY: u64 = 86_400;
 
@@ -44,15 +44,11 @@ pub struct Span {
 pub fn read_time(text: &str) -> Option<Span>
     ensures { ReadsTime text.now result }
 {
+    if !has_time_form(text) {
+        return None;
+    }
     let (digits, zone) = split_digits(text.as_bytes());
-    if !matches!(digits.len(), 8 | 12 | 14) || !is_zone(zone) {
-        return None;
-    }
-    let moment = read_moment(digits);
-    if !is_moment(&moment) {
-        return None;
-    }
-    let seconds = seconds_before(&moment);
+    let seconds = seconds_before(&read_moment(digits));
     let epoch = days_of_years(1970) * SECONDS_A_DAY;
     let start = epoch + ahead(zone);
     if seconds <= start {
@@ -62,6 +58,15 @@ pub fn read_time(text: &str) -> Option<Span>
         first: seconds - start,
         last: seconds - epoch + after(zone),
     })
+}
+
+/// Whether a text has the form of a time that `read_time` takes, of whatever year. Does not
+/// allocate.
+pub fn has_time_form(text: &str) -> bool
+    ensures { IsTrue result ↔ HasTimeForm text.now }
+{
+    let (digits, zone) = split_digits(text.as_bytes());
+    matches!(digits.len(), 8 | 12 | 14) && is_zone(zone) && is_moment(&read_moment(digits))
 }
 
 /// How many seconds a zone is ahead of UTC at most, where none is named.

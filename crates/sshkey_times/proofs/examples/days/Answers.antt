@@ -1,0 +1,8 @@
+use Rattle.std.proofs.Common.{arith, refl}
+use Rattle.sshkey_times.specs.Times.{days_of_months}
+use Rattle.sshkey_times.proofs.Calendar.{years}
+use Rattle.sshkey_times.proofs.examples.days.Goals as goal
+
+pub returns : goal.returns
+unfolding days_of_months
+returns c = (omega (arith, years 1970 (omega arith)), refl, refl, refl)
