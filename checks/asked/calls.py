@@ -11,6 +11,7 @@ from .linked import data_of, word
 from .login_calls import check_users
 from .made import MIDDLE
 from .memory_calls import question_of
+from .newer_calls import check_newer
 from .revocation_calls import EMPTY, check_revocations
 from .security_key_calls import check_signatures
 from .signer_calls import check_signers
@@ -18,6 +19,7 @@ from .time_calls import check_times
 from .trust_calls import check_trust
 from .user_key_calls import check_user_keys
 from .userauth_calls import check_userauths
+from .verified_calls import check_verified
 
 # of how many hostile byte strings a package is asked about one
 SAMPLED = 12
@@ -130,3 +132,5 @@ def check_calls(judge, is_short=False):
     check_trust(judge)
     check_addresses(judge)
     check_times(judge)
+    check_newer(judge)
+    check_verified(judge)

@@ -9,12 +9,12 @@ from lib.harness import blob_of, string
 
 from .linked import word
 from .login_calls import INSIDE, OUTSIDE, Certificates
-from .made import MIDDLE
+from .made import MIDDLE, loaded
 from .revocation_calls import EMPTY
 from .user_key_verdicts import stored, verdict
 
-# of how many stored questions one is asked
-ONE_OF = 10
+# of how many stored questions a package is asked one
+SAMPLED = 10
 # an option that is no UTF-8
 OF_NONE = b'command="caf\xe9" '
 # what the program of checks/user-keys answers to a refusal by a line
@@ -109,16 +109,20 @@ def as_shown(answer, is_of_certificate):
 
 def check_stored(judge):
     """Nobody is let in whom a version of OpenSSH refuses, and where somebody is, the login is bound as each binds it."""
-    rows = stored()[::ONE_OF]
+    rows = stored()[:: SAMPLED if judge.asker.is_package else 1]
     said = judge.ask("stored logins by authorized_keys and by principals", [asked_of(judge.made.sshkey, it).words() for it, _ in rows])
-    for number, ((it, theirs), answer) in enumerate(zip(rows, said)):
-        name, holds = verdict(it, theirs, as_shown(answer, it.is_of_certificate()))
+    shown = [as_shown(answer, it.is_of_certificate()) for (it, _), answer in zip(rows, said)]
+    if not judge.asker.is_package:
+        # as the program is judged that is asked all of them
+        loaded("user-keys").judge(rows)("".join(f"{it}\n" for it in shown), judge.count)
+    for number, ((it, theirs), answer) in enumerate(zip(rows, shown)):
+        name, holds = verdict(it, theirs, answer)
         if not holds:
             judge.check(f"stored login {number}: {name}", False, it.text[:300], answer, *theirs)
-    for by, least, part in (("line", 300, 4), ("principals", 40, 10)):
+    for by, part in (("line", 4), ("principals", 10)):
         answers = [answer for (it, _), answer in zip(rows, said) if it.by == by]
         let_in = sum(it.startswith("0 ") for it in answers)
-        judge.check(f"of {len(answers)} stored logins by {by} {let_in} are let in, bound alike", len(answers) > least and let_in * part > len(answers), let_in)
+        judge.check(f"of {len(answers)} stored logins by {by} {let_in} are let in, bound alike", let_in * part > len(answers) > 40, let_in)
 
 
 # ---- numbers
