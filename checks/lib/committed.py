@@ -10,7 +10,8 @@ FOLDERS = {"out", "target"}
 
 def committed(*words):
     """Paths of the index, as `git ls-files` prints them for these words."""
-    listed = ["git", "-C", ROOT, "ls-files", "-z", "--cached", *words]
+    # also of a clone that another user owns
+    listed = ["git", "-c", "safe.directory=*", "-C", ROOT, "ls-files", "-z", "--cached", *words]
     return subprocess.run(listed, capture_output=True, encoding="utf-8", check=True).stdout.split("\0")[:-1]
 
 

@@ -7,6 +7,7 @@ from lib.harness import SSHD
 
 # packages of Debian, and what shows that they are there: a command, or words that succeed
 BY_SOURCES = {
+    "git": "git",
     "openssh-client": "ssh-keygen",
     "openssh-server": SSHD,
     "python3-cryptography": ["python3", "-c", "import cryptography"],
