@@ -35,6 +35,19 @@ class Change:
 
 
 @dataclass
+class Copy:
+    """A function with another body, which stands beside it under a name of its own, with its clauses and its proof files."""
+
+    function: str
+    file: str
+    # the line after which it stands, and its own lines
+    after: int
+    lines: list
+    # the texts of its proof files
+    proofs: dict
+
+
+@dataclass
 class Edit:
     """One wrong body: what is changed in which files, and the function that must be refused."""
 
@@ -44,11 +57,17 @@ class Edit:
     # for the self-check: words of the failure that must be reported
     failure: str = ""
     changes: list = field(default_factory=list)
+    # where it is tried beside the right one; where that gave no refusal, it is tried in its place
+    copy: Copy = None
+    is_in_place: bool = False
 
-    def module(self):
-        """The file that it turns, and whose name its own file has: the first of src/, if any is."""
-        files = [it.file for it in self.changes]
-        return next((it for it in files if it.startswith("src/")), files[0])
+    def tried(self):
+        """The function that the prover is asked about."""
+        return self.copy.function if self.copy else self.function
+
+    def turned(self):
+        """The files that it turns; of a wrong body that of src/ first, whose name its own file has."""
+        return sorted({it.file for it in self.changes}, key=lambda it: not it.startswith("src/"))
 
 
 def files_of(folder):
@@ -159,6 +178,69 @@ def texts_of(crate, spans):
     return {path: "\n".join(lines) for path, lines in texts.items()}
 
 
+def text_with(crate, edit, path):
+    """The text of the file with the edit's changes."""
+    text = text_of(crate, path)
+    for change in (it for it in edit.changes if it.file == path):
+        text = change.made(text)
+    return text
+
+
+def copied(crate, edit, number):
+    """The edit's body as a function beside the right one. None where it cannot stand there: a method of a trait, what C calls, a
+    function that calls itself, and one whose proof speaks of it by name."""
+    paths = {it.file for it in edit.changes if it.file.endswith(".rt")}
+    if len(paths) != 1 or not is_in_bodies(crate, edit):
+        return None
+    file = paths.pop()
+    *above, name = edit.function.split("::")
+    function = "::".join([*above, f"{name}_wrong{number}"])
+    before, after = text_of(crate, file).split("\n"), text_with(crate, edit, file).split("\n")
+    turned = [at for at, (one, other) in enumerate(zip(before, after)) if one != other]
+    found = function_at(before, turned[0], name) if turned and len(before) == len(after) else None
+    if not found or turned[-1] > found[2]:
+        return None
+    first, head, last = found
+    proofs = copied_proofs(crate, edit, function)
+    if proofs is None or re.search(rf"\b{name}(\(|::)", "\n".join(after[head + 1 : last + 1])):
+        return None
+    lines = [*after[first:head], re.sub(rf"fn {name}\b", f"fn {name}_wrong{number}", after[head]), *after[head + 1 : last + 1]]
+    return Copy(function, file, last, lines, proofs)
+
+
+def function_at(lines, turned, name):
+    """Where the function of that name with that line begins, has its head and ends; None where it cannot be copied."""
+    head = next((at for at in range(turned, -1, -1) if re.match(rf"\s*{MARKS}fn {name}\b", lines[at])), None)
+    if head is None or 'extern "C"' in lines[head]:
+        return None
+    indent = re.match(r"\s*", lines[head])[0]
+    owner = next((it for it in reversed(lines[:head]) if OWNER.match(it)), "") if indent else ""
+    ends = (at for at in range(head, len(lines)) if lines[at] == f"{indent}}}")
+    last = head if lines[head].endswith("}") else next(ends, None)
+    # with all attributes, and without the lines of what stands before it
+    first = head
+    while first and lines[first - 1].strip() and not lines[first - 1].endswith(("}", "{", ";")):
+        first -= 1
+    is_cycle = any("#[cycle" in it for it in lines[first:head])
+    return None if last is None or is_cycle or " for " in owner or "trait " in owner else (first, head, last)
+
+
+def copied_proofs(crate, edit, function):
+    """The proof files of the edit's function as those of that one; None where they speak of it beyond their own names."""
+    proofs = {}
+    own, other = (f"proofs/{it.replace('::', '/')}/" for it in (edit.function, function))
+    was, now = (f"Rattle.{crate.name}.{it.replace('/', '.')}" for it in (own, other))
+    for at, _, files in os.walk(f"{crate.folder}/{own}"):
+        for it in files:
+            path = f"{os.path.relpath(at, crate.folder)}/{it}"
+            text = text_with(crate, edit, path)
+            if re.search(rf"\b{edit.function.rpartition('::')[2]}\b", text.replace(was, "")):
+                return None
+            proofs[path.replace(own, other, 1)] = text.replace(was, now)
+    return proofs
+
+
+OWNER = re.compile(r"(unsafe )?impl\b|(pub )?trait\b")
 MARKS = r'(?:pub(?:\([^)]*\))? )?(?:final )?(?:const )?(?:extern "C" )?'
 HEAD = re.compile(rf"(\s*){MARKS}fn \w")
 

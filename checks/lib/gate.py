@@ -76,10 +76,10 @@ class Gate:
         for number in SIGNALS:
             signal.signal(number, self.stop)
 
-    def part(self, words, show=say, pattern=None, of=0):
+    def part(self, words, show=say):
         """Runs a part, shows what it prints as it comes, and adds what its last line counts. A part that counts nothing failed, and so
-        did one that was killed. Where it has a line of that pattern for each of so many crates, it says how far it is."""
-        began, done, last = time.monotonic(), 0, ""
+        did one that was killed."""
+        began, last = time.monotonic(), ""
         how = {"stdin": subprocess.DEVNULL, "stdout": subprocess.PIPE, "stderr": subprocess.STDOUT, "errors": "replace"}
         if self.is_stopped:
             return
@@ -92,9 +92,6 @@ class Gate:
         for line in run.stdout:
             last = line.strip() or last
             show(line.rstrip("\n"))
-            if pattern and re.match(pattern, line):
-                done += 1
-                show(f"-- crate {done} of {of}, {(time.monotonic() - began) / 60:.0f} minutes")
         _, status, used = os.wait4(run.pid, 0)
         run.returncode = os.waitstatus_to_exitcode(status)
         told = COUNTS.match(last)

@@ -2,6 +2,9 @@
 import hashlib
 import os
 import subprocess
+from dataclasses import dataclass
+
+from lib.due import BELOW, NONE, OWN, Candidate, estimate
 
 # what judges beside the prover
 SCRIPTS = ("wrong-bodies", "lib/crates.py", "lib/edits.py", "lib/kept.py")
@@ -13,7 +16,7 @@ class Kept:
 
     def __init__(self, root, kit):
         cache = os.environ.get("XDG_CACHE_HOME") or os.path.expanduser("~/.cache")
-        self.folder = f"{cache}/rafendilo/wrong-bodies"
+        self.folder, self.kit = f"{cache}/rafendilo/wrong-bodies", kit
         scripts = [f"{root}/checks/{it}" for it in SCRIPTS]
         self.libraries = {}
         self.common = self.sum_of([f"{kit}/WHAT", *scripts], root)
@@ -70,17 +73,30 @@ class Kept:
         return True
 
 
-class Tried:
-    """The file checks/tried.txt: of each crate a sum of all that its wrong bodies were judged by when all of them were last refused:
-    these, its sources, those of the crates below it without their comments, the toolchain and these scripts."""
+@dataclass
+class Row:
+    """What judged the edits of a crate when all were last refused, by sums, and what that took."""
 
-    HEAD = "# What checks/wrong-bodies wrote: the sums of what the wrong bodies of a crate were judged by when all were refused.\n"
+    own: str
+    all: str
+    seconds: int
+
+
+class Tried:
+    """The file checks/tried.txt. It has a line for the wrong bodies of a crate, and one for its wrong definitions: the sum of its own
+    files, which are its sources and these edits; the sum of all that judges them, which is that and the sources of the crates below
+    it without their comments, the toolchain and these scripts; and the processor seconds that they took, 0 where nobody measured."""
+
+    HEAD = "# What checks/wrong-bodies wrote: of each crate the sum of its own files and of all that judged its edits, when all were\n"
+    HEAD += "# refused, and the processor seconds that they took.\n"
     COMMENTS = {".rt": b"//", ".antt": b"--"}
 
     def __init__(self, root):
         self.path = f"{root}/checks/tried.txt"
+        self.rows = {}
         with open(self.path, encoding="utf-8") as file:
-            self.sums = dict(line.split() for line in file if not line.startswith("#"))
+            for name, own, every, seconds in (line.split() for line in file if not line.startswith("#")):
+                self.rows[name] = Row(own, every, int(seconds))
         version = subprocess.run(["rt", "version"], capture_output=True, text=True, check=False).stdout
         self.common = Kept.sum_of([f"{root}/checks/{it}" for it in SCRIPTS], root, version)
         self.judged_by = {}
@@ -98,17 +114,41 @@ class Tried:
             self.judged_by[crate.name] = total.hexdigest()
         return self.judged_by[crate.name]
 
-    def sum_of(self, trial):
+    def row(self, trial, seconds=0):
+        """The trial's line, as its files stand."""
         # an edit may stand in a comment of its own crate
-        return Kept.sum_of(sorted([*trial.crate.sources(), *trial.files]), trial.crate.folder, self.of_sources(trial.crate))[:16]
+        files, top = sorted([*trial.crate.sources(), *trial.files]), trial.crate.folder
+        return Row(Kept.sum_of(files, top)[:16], Kept.sum_of(files, top, self.of_sources(trial.crate))[:16], seconds)
 
-    def has(self, trial):
-        return self.sums.get(trial.crate.name) == self.sum_of(trial)
+    def candidate(self, trial):
+        """The trial as due.py chooses among them. What passed on this machine before costs nothing."""
+        before, now = self.rows.get(trial.name()), self.row(trial)
+        change = OWN if not before or before.own != now.own else BELOW if before.all != now.all else NONE
+        seconds = before.seconds if before and before.seconds else estimate(len(trial.blocks), trial.is_of_definitions)
+        return Candidate(trial.name(), len(trial.blocks), 0 if trial.passed else seconds, change)
 
-    def note(self, sums):
-        """Writes down that all wrong bodies of these crates were refused."""
-        found = {**self.sums, **sums}
-        if found != self.sums:
-            with open(self.path, "w", encoding="utf-8") as file:
-                file.writelines([self.HEAD, *(f"{name} {found[name]}\n" for name in sorted(found))])
-            print("checks/tried.txt says what was tried: it lands with the change", flush=True)
+    def questions(self, trial):
+        """What has to hold of the rows that this trial may have, and whether it does."""
+        before, now = self.rows, self.row(trial)
+        found = {"no row": None, "another own sum": Row("", now.all, 0), "another sum": Row(now.own, "", 0), "the tree's sums": now}
+        for (says, row), change in zip(found.items(), (OWN, OWN, BELOW, NONE)):
+            self.rows = {trial.name(): row} if row else {}
+            yield f"{says} in checks/tried.txt: {change} changed", self.candidate(trial).change == change
+        self.rows = before
+
+    def note(self, rows, refused):
+        """Writes down of which of these names all edits were refused. What says so of another of them is taken away. Where nothing
+        changed, a line stays."""
+        found = dict(self.rows)
+        for name, it in rows.items():
+            before = self.rows.get(name, Row("", "", 0))
+            if name not in refused and before.all == it.all:
+                del found[name]
+            elif name in refused and before.all != it.all:
+                # what was tried before on this machine was not measured
+                found[name] = Row(it.own, it.all, it.seconds or before.seconds)
+        if found == self.rows:
+            return
+        with open(self.path, "w", encoding="utf-8") as file:
+            file.writelines([self.HEAD, *(f"{name} {it.own} {it.all} {it.seconds}\n" for name, it in sorted(found.items()))])
+        print("checks/tried.txt says what was tried: it lands with the change", flush=True)

@@ -52,7 +52,7 @@ class Proved:
         return f"{self.folder}/{name}-{self.sum_of(name)[:32]}"
 
     def mark(self):
-        """Where the number stands that passed with these crates, tests and edits besides where all are meant."""
+        """Where the number stands that passed with these crates, tests besides where all are meant."""
         total = hashlib.sha256("".join(map(self.sum_of, self.names)).encode()).hexdigest()
         return f"{self.folder}/{'all' if self.is_whole else 'some'}-{total[:32]}"
 
