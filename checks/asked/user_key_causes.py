@@ -4,7 +4,7 @@ import re
 
 from lib.harness import blob_of, string
 
-from .user_key_questions import UNTOLD_FROM, UNTOLD_HOSTS, UNTOLD_LISTENED, UNTOLD_TIMES, UNTOLD_TUNNELS
+from .user_key_questions import EARLY_TIMES, UNTOLD_FROM, UNTOLD_HOSTS, UNTOLD_LISTENED, UNTOLD_TUNNELS, WHITE_TIMES
 
 UNTOLD = r"no: line (\d+) cannot be told"
 # options without a blank outside quotes
@@ -39,8 +39,9 @@ def is_no_text(it, line):
 
 # of each cause what is answered, and whether it is the cause, given the question and the line that the answer names
 CAUSES = {
+    "a time up to the start of 1970": (UNTOLD, has_value(EARLY_TIMES, "expiry-time")),
     "a time without Z, within 14 hours": (UNTOLD, lambda it, line: bool(re.search(rb'(?i)expiry-time="\d{8,14}"', line))),
-    "a space in a time": (UNTOLD, has_value(UNTOLD_TIMES, "expiry-time")),
+    "white space in a time": (UNTOLD, has_value(WHITE_TIMES, "expiry-time")),
     "a port that is no digits, or follows a slash": (UNTOLD, has_value([*UNTOLD_HOSTS, *UNTOLD_LISTENED], "permitopen", "permitlisten")),
     "a tunnel that is no digits": (UNTOLD, has_value(UNTOLD_TUNNELS, "tunnel")),
     "a list of addresses that is malformed here": (UNTOLD, has_value(UNTOLD_FROM, "from")),

@@ -1,3 +1,6 @@
 mod Added
+mod Named
 mod Hosts
+mod OneHost
+mod VariableNames
 mod Variables

@@ -2,3 +2,4 @@ pub use Rattle.sshkey_entries.specs.Readings
 pub mod Values
 pub mod Words
 pub mod Terms
+pub mod Examples

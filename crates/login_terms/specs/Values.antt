@@ -1,11 +1,11 @@
 -- The values of options of authorized_keys (sshd(8), "AUTHORIZED_KEYS FILE FORMAT"), and those that
 -- sshd may read, as what depends on its version or its machine.
-use Rattle.std.specs.Prelude.{◌≡◌, ◌≢◌, ◌⊎◌, ℕ, ◌+◌, ◌^◌, ◌<◌, List, ◌∷◌, ◌++◌, Bool, ◌||◌, ◌==◌, IsTrue, Option, Some, None, codes, length, map, string_bytes}
+use Rattle.std.specs.Prelude.{◌≡◌, ◌≢◌, ◌⊎◌, ℕ, ◌+◌, ◌^◌, ◌<◌, List, ◌∷◌, ◌++◌, nat_le, Bool, ◌&&◌, ◌||◌, ◌==◌, IsTrue, Option, Some, None, codes, length, map, string_bytes}
 use Rattle.std.specs.Char.{is_ascii_alphanumeric, to_ascii_lowercase}
-use Rattle.std.specs.List.{list_all}
+use Rattle.std.specs.List.{list_all, list_any}
 use Rattle.std.specs.Net.Grammar.{IsNumber}
 use Rattle.sshkey_model.specs.Lines.{IsWithout}
-use Rattle.sshkey_times.specs.Times.{IsTimeText}
+use Rattle.sshkey_times.specs.Times.{HasTimeForm, IsTimeText}
 use Rattle.sshkey_times.specs.declared.times.Span.{Span}
 use Rattle.login_terms.specs.declared.permits.Permit.{Permit}
 use denote.Ref.{Bor}
@@ -18,12 +18,14 @@ IsNoNumber text = (n : ℕ) → IsNumber 10 text n → n < 2 ^ 32 → ⊥
 
 -- ---- times
 
-abbrev pub space : ℕ
-space = 0x20
+-- what isspace(3) holds of
+abbrev pub is_space : ℕ → Bool
+is_space c = c == 0x20 || (nat_le 0x09 c && nat_le c 0x0d)
 
--- strptime(3) takes a space for a leading 0.
+-- strptime(3) passes over white space in front of a number. Of times up to the start of 1970 in
+-- some zone OpenSSH 10.6 takes those before it for ones that are never over, and 9.2 refuses them.
 abbrev pub MayBeTime : List ℕ → Type 0
-MayBeTime text = ((s : Span) → IsTimeText text s → ⊥) × (IsWithout space text → ⊥)
+MayBeTime text = ((s : Span) → IsTimeText text s → ⊥) × (HasTimeForm text ⊎ IsTrue (list_any is_space text))
 
 -- ---- variables
 

@@ -2,6 +2,7 @@
 //! FORMAT").
 #![tactic(auto)]
 
+pub mod examples;
 mod numbers;
 mod options;
 mod permissions;

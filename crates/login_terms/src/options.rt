@@ -5,7 +5,7 @@ ghost use Rattle.std.specs.List.{Any};
 ghost use Rattle.sshkey_entries.specs.Readings.{Tells};
 ghost use Rattle.login_terms.specs.Terms as terms;
 ghost use Rattle.login_terms.specs.Terms.{AddsAlone, AddsValue, AddsWord, MayBeValue, MayBeWord, earlier, terms_of, with_flag};
-ghost use Rattle.login_terms.specs.Values.{IsVariable};
+ghost use Rattle.login_terms.specs.Values.{IsVariable, IsVariableName};
 ghost use Rattle.login_terms.specs.declared.words.Word.TheVariants as word;
 
 use crate::permissions::Permissions;
@@ -266,8 +266,9 @@ fn earlier(known: Option<Span>, time: Span) -> Span
     }
 }
 
-/// Whether one of these is a variable of that name.
+/// Whether one of these variables has that name.
 fn has_variable(known: &[String], name: &str) -> bool
+    requires { IsVariableName name.now }
     ensures { IsTrue result ↔ Any (λ w. IsVariable w name.now) (map string_bytes known.now) }
 {
     for variable in known {
@@ -278,17 +279,13 @@ fn has_variable(known: &[String], name: &str) -> bool
     false
 }
 
+/// Whether a text begins with that name, and goes on with `=`.
 fn is_variable_of(text: &str, name: &str) -> bool
+    requires { IsVariableName name.now }
     ensures { IsTrue result ↔ IsVariable text.now name.now }
 {
-    match variable_name(text) {
-        Some(own) => is_same(own, name),
+    match text.as_bytes().strip_prefix(name.as_bytes()) {
+        Some(rest) => rest.starts_with(b"="),
         None => false,
     }
-}
-
-fn is_same(text: &str, other: &str) -> bool
-    ensures { IsTrue result ↔ (text.now ≡ other.now) }
-{
-    text == other
 }

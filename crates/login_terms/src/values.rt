@@ -1,14 +1,14 @@
 //! Times, variables and devices.
 
 ghost use Rattle.std.specs.Prelude.{◌≡◌, ◌↔◌, IsTrue};
-ghost use Rattle.std.specs.List.{list_all};
+ghost use Rattle.std.specs.List.{list_all, list_any};
 ghost use Rattle.sshkey_entries.specs.Readings.{IsTheOne, Tells};
-ghost use Rattle.login_terms.specs.Values.{IsTunnel, IsVariable, IsVariableName, MayBeTime, MayBeTunnel, is_variable_character};
+ghost use Rattle.login_terms.specs.Values.{IsTunnel, IsVariable, IsVariableName, MayBeTime, MayBeTunnel, is_space, is_variable_character};
 ghost use Rattle.sshkey_times.specs.Times.{IsTimeText};
 
 use crate::numbers::read_number;
 use sshkey_entries::Reading;
-use sshkey_times::{Span, read_time};
+use sshkey_times::{Span, has_time_form, read_time};
 
 /// The number that stands for any device (SSH_TUNID_ANY).
 pub const ANY_TUNNEL: u32 = 0x7fff_ffff;
@@ -22,12 +22,25 @@ pub(crate) fn read_expiry(text: &str) -> Reading<Span>
 {
     match read_time(text) {
         Some(span) => Reading::Is(span),
-        None => if text.contains(' ') {
+        None => if has_time_form(text) || has_space(text.as_bytes()) {
             Reading::Unclear
         } else {
             Reading::Rejected
         },
     }
+}
+
+fn has_space(text: &[u8]) -> bool
+    ensures { result ≡ list_any is_space text.now }
+{
+    text.iter().any(|byte| is_space(*byte))
+}
+
+/// Whether it is white space to isspace(3).
+fn is_space(byte: u8) -> bool
+    ensures { result ≡ is_space byte }
+{
+    byte == b' ' || (byte >= b'\t' && byte <= b'\r')
 }
 
 /// The value of `tunnel`: a device's number, or any.

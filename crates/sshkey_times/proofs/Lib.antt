@@ -1,1 +1,1 @@
-mod Calendar
+pub mod Calendar

@@ -32,3 +32,6 @@ returns c =
     (λ any. let found : c.has_variable.result ≡ true = c.has_variable.ensures.1 (subst (Any (λ w. IsVariable w c.in-Some.name.now)) (sym (ap (map string_bytes) c.deref.ensures.value)) any) in absurd cc)
     (map string_bytes c.push.new.self.items) items in
     (told.0, told.1, λ m. m)
+
+pub has_variable-requires : goal.has_variable-requires
+has_variable-requires c = c.in-Some.ensures.0.name_is

@@ -1,0 +1,13 @@
+use Rattle.std.proofs.Common.{Some, arith, refl}
+use Rattle.std.specs.Prelude.{codes}
+use Rattle.login_terms.specs.Terms.{no_terms}
+use Rattle.login_terms.specs.declared.words.Word.TheVariants as word
+use Rattle.login_terms.proofs.Named.{adds}
+use Rattle.login_terms.proofs.OneHost.{plain, port}
+use Rattle.login_terms.proofs.examples.permits.Goals as goal
+
+pub returns : goal.returns
+returns c = (
+  adds (codes "permitopen") (Some (codes "h:80")) no_terms word.PermitOpen _ refl (omega arith, (_, plain, refl)),
+  adds (codes "permitlisten") (Some (codes "80")) no_terms word.PermitListen _ refl (omega arith, (_, port, refl)),
+)
