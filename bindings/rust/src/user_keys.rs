@@ -15,7 +15,7 @@ use crate::strings::strings;
 /// A host and a port.
 #[derive(Clone, Debug, PartialEq, Eq)]
 pub struct Place {
-    /// The host, without brackets; `*` is any address to listen at.
+    /// The host, without brackets, to be compared byte by byte; `*` is any.
     pub host: String,
     /// The port, or any.
     pub port: Option<u16>,
