@@ -3,16 +3,15 @@ its two calls. What is wanted follows from the words that ssh-keygen was given, 
 login_options.py, about which checks/callers asks a real sshd."""
 import hashlib
 import ipaddress
-import re
 import time
 from dataclasses import dataclass, replace
 
-from lib.harness import ROOT, blob_of, string
+from lib.harness import blob_of, string
 
-from .linked import HELPERS, PEDANTIC, SANITIZED, C, run, several, word
+from .linked import several, word
 from .login_options import (
-    APPLICATIONS, CASES, CRITICAL, EXTENSIONS, KEY_ID, MOST, NO_NORMAL_FORM, PRINCIPALS, RSA, TEXTS, UNACCEPTED, certificate, judged_keys,
-    respelled,
+    APPLICATIONS, CASES, CRITICAL, EXTENSIONS, KEY_ID, MOST, NO_NORMAL_FORM, PRINCIPALS, RSA, TEXTS, UNACCEPTED, certificate,
+    certificate_by, judged_keys, no_signature, respelled,
 )  # fmt: skip
 from .made import MIDDLE, WINDOW
 from .revocation_calls import EMPTY, made_list
@@ -197,6 +196,7 @@ def rows(maker):
 def keys(maker):
     """Keys of each kind and size, and certificates that do not stand as they were signed."""
     maker.write("user.pub", maker.read("user0.pub"))
+    strange = hashlib.sha256(maker.blob("authority1")).digest()
     certificates, by_rsa = Certificates(maker), Certificates(maker, authority=RSA)
     for name, line, is_accepted, _ in judged_keys(maker):
         yield name, certificates.put_together(line=line), granted("ok touch-required") if is_accepted else "KEY_NOT_ACCEPTED"
@@ -205,6 +205,14 @@ def keys(maker):
             for bits in (size, size + 1):
                 wanted = granted("ok touch-required") if bits == size else "KEY_NOT_ACCEPTED"
                 yield f"{name}, of {bits} at least", replace(certificates.put_together(line=line), bits=bits), wanted
+    for name, line, is_accepted, _ in judged_keys(maker):
+        # nothing is signed, so of a key that may sign that is said
+        made = certificate_by(line, lambda _, line=line: no_signature(line), maker.read("user0.pub"), string(b"alice"), {}, {})
+        login = replace(certificates.put_together(), certificate=blob_of(made), authorities=hashlib.sha256(blob_of(line)).digest())
+        # RequiredRSASize is about users' keys
+        yield f"an authority: {name}", replace(login, bits=4096), "NOT_SIGNED" if is_accepted else "KEY_NOT_ACCEPTED"
+        wanted = "UNTRUSTED_AUTHORITY" if is_accepted else "KEY_NOT_ACCEPTED"
+        yield f"another authority: {name}", replace(login, authorities=strange), wanted
     signed = by_rsa.put_together(extensions={"permit-pty": b""})
     yield "by an RSA authority", signed, granted("ok touch-required permit-pty=")
     line = certificate(maker, RSA, maker.read("user0.pub"), string(b"alice"), {}, {"permit-pty": b""})

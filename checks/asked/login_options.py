@@ -93,17 +93,23 @@ def certified_name(name):
     return base + b"-cert-v01@" + (domain or b"openssh.com")
 
 
-def certificate(maker, authority, key, users, critical, extensions, key_id=b"id", kind=1, serial=1, window=None):
+def certificate(maker, authority, *given, **more):
+    """The line of a certificate by the authority, of what certificate_by is given."""
+    signer = maker.read(f"{authority}.pub")
+    return certificate_by(signer, lambda message: signed(maker.path(authority), signer, message), *given, **more)
+
+
+def certificate_by(signer, sign, key, users, critical, extensions, key_id=b"id", kind=1, serial=1, window=None):
     """The line of a certificate of that kind for these users, or hosts, with these options, valid in that window or now, put together
-    here (PROTOCOL.certkeys)."""
-    signer, now = maker.read(f"{authority}.pub"), int(time.time())
+    here (PROTOCOL.certkeys) and signed so."""
+    now = int(time.time())
     window = window or (now - 300, now + 300)
     name, body = take(base64.b64decode(key.split()[1]))
     fields = [string(certified_name(name)), string(os.urandom(16)), body]
     fields += [serial.to_bytes(8, "big"), kind.to_bytes(4, "big"), string(key_id), string(users)]
     fields += [*(it.to_bytes(8, "big") for it in window), pairs(critical), pairs(extensions), string(b"")]
     message = b"".join([*fields, string(base64.b64decode(signer.split()[1]))])
-    blob = message + string(signed(maker.path(authority), signer, message))
+    blob = message + string(sign(message))
     return f"{certified_name(name).decode()} {base64.b64encode(blob).decode()}"
 
 
@@ -115,6 +121,15 @@ def judged_keys(maker):
     yield "an RSA key of 1024 bits", key_line(b"ssh-rsa", mpint(3), of_bits(1024)), True, 0
     body = take(base64.b64decode(maker.read("user.pub").split()[1]))[1]
     yield "a key under a private-use name", key_line(b"key@example.com", body), False, 1
+
+
+def no_signature(line):
+    """The blob of a signature that has the form of those by the key in the line, and is of nothing."""
+    name = take(base64.b64decode(line.split()[1]))[0]
+    numbers = string(b"\1") * 2
+    value = bytes(40) if name == b"ssh-dss" else numbers if b"ecdsa" in name else b"\1" * 64
+    flags = bytes(5) if name.startswith(b"sk-") else b""
+    return string(b"rsa-sha2-512" if name == b"ssh-rsa" else name) + string(value) + flags
 
 
 def respelled(maker, line, authority, options):

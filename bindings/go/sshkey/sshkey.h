@@ -613,11 +613,12 @@ uint32_t sshkey_login_question(const sshkey_login *login, uint8_t *room, size_t 
  * SSHKEY_DONE exactly if the bytes are a certificate for users, in its normal form, of just that
  * key, which OpenSSH lets in, that lists the user; with options and texts that sshd accepts, and a
  * source-address that has the client's, unless you judge it; valid at that second by one of the
- * authorities; `is_verified` is 1; and no revocation file revokes it (memory and room aside). Else
- * what is wrong first: SSHKEY_TEXT for the user, 10 to 29 for bytes that are no key, or else no
- * certificate, 70 to 72, 59, 73 to 76, then SSHKEY_UNTRUSTED_AUTHORITY,
- * SSHKEY_UNREADABLE_REVOCATIONS or SSHKEY_REVOKED, 30, 32 to 34, and SSHKEY_ELSEWHERE. A room as
- * long as the certificate is enough. SSHKEY_MEMORY only where the user is UTF-8 and the key is one.
+ * authorities, whose key is of a kind and a size that OpenSSH accepts there; `is_verified` is 1; and
+ * no revocation file revokes it (memory and room aside). Else what is wrong first: SSHKEY_TEXT for
+ * the user, 10 to 29 for bytes that are no key, or else no certificate, 70 to 72, 59 for the key or
+ * the one that signed, 73 to 76, then SSHKEY_UNTRUSTED_AUTHORITY, SSHKEY_UNREADABLE_REVOCATIONS or
+ * SSHKEY_REVOKED, 30, 32 to 34, and SSHKEY_ELSEWHERE. A room as long as the certificate is enough.
+ * SSHKEY_MEMORY only where the user is UTF-8 and the key is one.
  *
  * With SSHKEY_ROOM `*answer` is zero but for its `length`, and with every other answer but
  * SSHKEY_DONE all zero, which permits nothing; the room stays as it was.
@@ -983,8 +984,9 @@ typedef struct {
                                 key_id has no bytes, serial and authority are zero */
   sshkey_part permit_open;   /* without SSHKEY_PERMIT_OPEN_ANYWHERE the only places to which ports
                                 may be forwarded: strings (sshkey_next_string), two each: a host,
-                                and a port of two bytes, big-endian, or of none for any port */
-  sshkey_part permit_listen; /* likewise where may be listened; the host may be "*" */
+                                and a port of two bytes, big-endian, or of none for any port. Hosts
+                                are compared byte by byte, and "*" is any */
+  sshkey_part permit_listen; /* likewise where may be listened */
   sshkey_part environment;   /* strings NAME=VALUE; by its defaults sshd sets none */
   sshkey_time_span expires;  /* the last second at which the line counts; UINT64_MAX at any */
   size_t line;               /* the number of the line, from 1; of a refusal 91 to 96, of the line

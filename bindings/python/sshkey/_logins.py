@@ -88,7 +88,8 @@ class UserGrant(Grant):
     """What a login by a line of authorized_keys is bound to. Of a plain key serial and authority are zero, and key_id is empty."""
 
     line: int  # the number of the line, from 1
-    permit_open: list[tuple[str, int | None]] | None  # the hosts and ports to which ports may be forwarded alone; None: to any
+    # the hosts and ports to which ports may be forwarded alone; None: to any. Hosts are compared byte by byte, and "*" is any
+    permit_open: list[tuple[str, int | None]] | None
     permit_listen: list[tuple[str, int | None]] | None  # likewise where may be listened
     environment: list[str]  # NAME=VALUE each; by its defaults sshd sets none
     expires: tuple[int, int] | None  # the first and the last second that may be the last at which the line counts; None: at any

@@ -490,7 +490,7 @@ pub(crate) struct UserGrant {
     /// (sshkey_next_string), two each: a host, and a port of two bytes, big-endian, or of none for
     /// any port.
     pub permit_open: Part,
-    /// Likewise where may be listened; the host may be "*".
+    /// Likewise where may be listened.
     pub permit_listen: Part,
     /// Strings NAME=VALUE; by its defaults sshd sets none.
     pub environment: Part,

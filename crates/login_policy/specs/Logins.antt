@@ -1,6 +1,6 @@
 -- Who may log in with a certificate, and what the login is bound to (PROTOCOL.certkeys;
 -- sshd_config(5), TrustedUserCAKeys and RevokedKeys).
-use Rattle.std.specs.Prelude.{◌≡◌, ◌≢◌, ℕ, List, Bool, not, All, Contains, IsTrue, Result, Ok, Err, Option, Some, None, false, is_some, option_map, string_bytes}
+use Rattle.std.specs.Prelude.{◌≡◌, ◌≢◌, ℕ, List, Bool, not, ◌&&◌, All, Contains, IsTrue, Result, Ok, Err, Option, Some, None, false, is_some, option_map, string_bytes}
 use Rattle.sshkey_addresses.specs.SourceAddresses.{ComesFrom, IsNetworks}
 use Rattle.sshkey_cert.specs.Validity.{fingerprints_of}
 use Rattle.sshkey_keys.specs.Fingerprints.{IsFingerprint}
@@ -46,12 +46,18 @@ pub record Login : Type 0 where
 abbrev pub login_of : code.Login → (Question → Bool) → (List ℕ → krl.CertificateIdentity → Bool) → Login
 login_of l accepts revokes = record { accepts = accepts; revokes = revokes; authorities = fingerprints_of l.authorities.now; time = l.unix_timestamp; user = l.user.now; offered = key_of l.offered.now; blob = l.certificate.now; least_rsa_bits = l.least_rsa_bits; client = l.client }
 
--- The fields are those of a certificate for users, of the offered key, which is let in, with only
--- critical options that are known, nothing in a flag, and texts and principals that sshd reads.
+-- sshd accepts the offered key, of at least that size, and the key that signs for it, of any size by
+-- which it verifies (sshd_config(5), RequiredRSASize and CASignatureAlgorithms).
+abbrev pub are_accepted : ℕ → Key → Key → Bool
+are_accepted least_rsa_bits offered authority = is_let_in least_rsa_bits offered && is_let_in 0 authority
+
+-- The fields are those of a certificate for users, of the offered key, which is accepted, as is the
+-- key that signed, with only critical options that are known, nothing in a flag, and texts and
+-- principals that sshd reads.
 pub record HasRightFields (user : List ℕ) (offered : Key) (least_rsa_bits : ℕ) (c : Certificate) : Type 0 where
   pub for_users : c.signed.certificate_type ≡ User
   pub own_key : c.signed.key ≡ offered
-  pub accepted : IsTrue (is_let_in least_rsa_bits offered)
+  pub accepted : IsTrue (are_accepted least_rsa_bits offered c.signed.signature_key)
   pub known : All IsKnownOption c.signed.critical_options
   pub plain : All IsPlainExtension c.signed.extensions
   pub key_id : IsWithout 0 c.signed.key_id

@@ -19,9 +19,8 @@ use Rattle.sshkey_base.specs.declared.error.Error.{Error}
 use Rattle.sshkey_base.specs.declared.error.Error.TheVariants as error
 use Rattle.sshkey_base.specs.declared.certificate.field.Field.{Field}
 use Rattle.sshkey_base.specs.declared.certificate.field.Field.TheVariants as field
-use Rattle.openssh_limits.specs.Keys.{is_let_in}
 use Rattle.login_policy.specs.KnownOptions.{IsKnownOption, IsPlainExtension, source_address}
-use Rattle.login_policy.specs.Logins.{HasRightFields, IsAllowedFrom, Login}
+use Rattle.login_policy.specs.Logins.{HasRightFields, IsAllowedFrom, Login, are_accepted}
 use Rattle.login_policy.specs.Principals.{AreForUser}
 use Rattle.login_policy.specs.declared.refusal.Refusal.{Refusal}
 use Rattle.login_policy.specs.declared.refusal.Refusal.TheVariants as refusal
@@ -33,15 +32,15 @@ IsRefusalFor e r = ((e ≡ error.Memory) × (r ≡ refusal.Memory)) ⊎ ((e ≢ 
 abbrev pub invalid : Field → Refusal
 invalid f = refusal.Certificate (error.CertificateFieldInvalid f)
 
--- The refusal names the first field that is wrong, or says that the key is not accepted.
+-- The refusal names the first field that is wrong, or says that a key is not accepted.
 pub data HasWrongField (user : List ℕ) (offered : Key) (least_rsa_bits : ℕ) (c : Certificate) : Refusal → Type 0 where
   ForHosts : c.signed.certificate_type ≢ User → HasWrongField user offered least_rsa_bits c (invalid field.CertType)
   OtherKey : c.signed.certificate_type ≡ User → c.signed.key ≢ offered → HasWrongField user offered least_rsa_bits c (invalid field.PublicKey)
-  Unaccepted : c.signed.certificate_type ≡ User → c.signed.key ≡ offered → is_let_in least_rsa_bits offered ≡ false → HasWrongField user offered least_rsa_bits c refusal.UnacceptedKey
-  UnknownOption : c.signed.certificate_type ≡ User → c.signed.key ≡ offered → IsTrue (is_let_in least_rsa_bits offered) → ¬ All IsKnownOption c.signed.critical_options → HasWrongField user offered least_rsa_bits c (invalid field.CriticalOptions)
-  OtherExtension : c.signed.certificate_type ≡ User → c.signed.key ≡ offered → IsTrue (is_let_in least_rsa_bits offered) → All IsKnownOption c.signed.critical_options → ¬ All IsPlainExtension c.signed.extensions → HasWrongField user offered least_rsa_bits c (invalid field.Extensions)
-  OtherKeyId : c.signed.certificate_type ≡ User → c.signed.key ≡ offered → IsTrue (is_let_in least_rsa_bits offered) → All IsKnownOption c.signed.critical_options → All IsPlainExtension c.signed.extensions → ¬ IsWithout 0 c.signed.key_id → HasWrongField user offered least_rsa_bits c (invalid field.KeyId)
-  OtherPrincipals : c.signed.certificate_type ≡ User → c.signed.key ≡ offered → IsTrue (is_let_in least_rsa_bits offered) → All IsKnownOption c.signed.critical_options → All IsPlainExtension c.signed.extensions → IsWithout 0 c.signed.key_id → ¬ AreForUser user c.signed.valid_principals → HasWrongField user offered least_rsa_bits c (invalid field.ValidPrincipals)
+  Unaccepted : c.signed.certificate_type ≡ User → c.signed.key ≡ offered → are_accepted least_rsa_bits offered c.signed.signature_key ≡ false → HasWrongField user offered least_rsa_bits c refusal.UnacceptedKey
+  UnknownOption : c.signed.certificate_type ≡ User → c.signed.key ≡ offered → IsTrue (are_accepted least_rsa_bits offered c.signed.signature_key) → ¬ All IsKnownOption c.signed.critical_options → HasWrongField user offered least_rsa_bits c (invalid field.CriticalOptions)
+  OtherExtension : c.signed.certificate_type ≡ User → c.signed.key ≡ offered → IsTrue (are_accepted least_rsa_bits offered c.signed.signature_key) → All IsKnownOption c.signed.critical_options → ¬ All IsPlainExtension c.signed.extensions → HasWrongField user offered least_rsa_bits c (invalid field.Extensions)
+  OtherKeyId : c.signed.certificate_type ≡ User → c.signed.key ≡ offered → IsTrue (are_accepted least_rsa_bits offered c.signed.signature_key) → All IsKnownOption c.signed.critical_options → All IsPlainExtension c.signed.extensions → ¬ IsWithout 0 c.signed.key_id → HasWrongField user offered least_rsa_bits c (invalid field.KeyId)
+  OtherPrincipals : c.signed.certificate_type ≡ User → c.signed.key ≡ offered → IsTrue (are_accepted least_rsa_bits offered c.signed.signature_key) → All IsKnownOption c.signed.critical_options → All IsPlainExtension c.signed.extensions → IsWithout 0 c.signed.key_id → ¬ AreForUser user c.signed.valid_principals → HasWrongField user offered least_rsa_bits c (invalid field.ValidPrincipals)
 
 -- The refusal says what is wrong first once the fields are right: the authority, then revocation,
 -- then the signature, the time or the user's name, and only then where the client is.

@@ -1,11 +1,13 @@
-//! Whether a key is the certified one.
+//! Whether a key is the certified one, and is accepted.
 
 ghost use Rattle.std.specs.Prelude.{◌≡◌, ◌↔◌, IsTrue};
 ghost use Rattle.sshkey_cert.specs.CertificateValues.{certificate_of};
 ghost use Rattle.sshkey_keys.specs.Keys.{key_of};
 ghost use Rattle.sshkey_model.specs.Certificates.{IsCertificate};
 ghost use Rattle.sshkey_model.specs.Keys.{IsKey};
+ghost use Rattle.login_policy.specs.Logins.{are_accepted};
 
+use openssh_limits::is_let_in;
 use sshkey_cert::Certificate;
 use sshkey_keys::KeyData;
 
@@ -16,4 +18,17 @@ pub(crate) fn is_key_of(certificate: &Certificate, offered: &KeyData) -> bool
     ensures { IsTrue result ↔ ((certificate_of certificate.now).signed.key ≡ key_of offered.now) }
 {
     certificate.public_key().is(offered)
+}
+
+/// Whether sshd(8) accepts the offered key, and the key that signed the certificate. What size an
+/// RSA key has to have is asked of the offered one: a key that signs has 1,024 bits at least.
+pub(crate) fn are_accepted(
+    certificate: &Certificate,
+    offered: &KeyData,
+    least_rsa_bits: u32,
+) -> bool
+    ensures { result ≡ are_accepted least_rsa_bits (key_of offered.now)
+        (certificate_of certificate.now).signed.signature_key }
+{
+    is_let_in(offered, least_rsa_bits) && is_let_in(certificate.signature_key(), 0)
 }

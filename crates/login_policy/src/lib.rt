@@ -6,6 +6,7 @@
 
 mod authority;
 mod client;
+pub mod examples;
 mod grant;
 mod key;
 mod login;

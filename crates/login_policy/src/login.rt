@@ -13,11 +13,11 @@ ghost use Rattle.login_policy.specs.declared.refusal.Refusal.TheVariants.{Memory
 use crate::authority::validate;
 use crate::client::Client;
 use crate::grant::{Grant, grant_of};
-use crate::key::is_key_of;
+use crate::key::{are_accepted, is_key_of};
 use crate::options::{are_known, are_plain, is_allowed_from};
 use crate::principals::are_for;
 use crate::refusal::Refusal;
-use openssh_limits::{is_let_in, is_read_text};
+use openssh_limits::is_read_text;
 use sshkey_base::Error;
 use sshkey_base::certificate::Field;
 use sshkey_cert::Certificate;
@@ -36,7 +36,7 @@ pub struct Login<'a> {
     pub certificate: &'a [u8],
     /// The name of the user who is to be let in.
     pub user: &'a str,
-    /// The key under which the client has signed.
+    /// The key under which the client signs.
     pub offered: &'a KeyData,
     /// The time, in seconds since 1970.
     pub unix_timestamp: u64,
@@ -52,11 +52,11 @@ pub struct Login<'a> {
 /// Lets a user in who holds the offered key, if the bytes are a certificate for users of just that
 /// key, which lists the user's name. It must be valid at that time, by one of the authorities, and
 /// not revoked, and let the client in from its address. It must be as it was signed, in its normal
-/// form. The key, texts and options must be such as sshd(8) accepts (PROTOCOL.certkeys):
+/// form. The keys, texts and options must be such as sshd(8) accepts (PROTOCOL.certkeys):
 ///
 /// - no DSA key, none under a private-use name, and no RSA key of fewer bits than the login says or
 ///   of more than 16,384; a point that begins with 04; no zero byte in an application
-///   (`openssh_limits::is_let_in`);
+///   (`openssh_limits::is_let_in`). So is the authority's key, where RSA has 1,024 bits at least;
 /// - no zero byte in the key id, a principal, or the name of an extension, and at most 256
 ///   principals;
 /// - critical options `force-command`, neither empty nor with a zero byte, `source-address`, a list
@@ -70,7 +70,7 @@ pub struct Login<'a> {
 /// - `NotNormalForm`;
 /// - `Certificate` with `CertificateFieldInvalid`: `CertType` for a certificate for hosts, and then
 ///   `PublicKey` for one of another key;
-/// - `UnacceptedKey`;
+/// - `UnacceptedKey` for the offered key, or the authority's;
 /// - `Certificate` with `CertificateFieldInvalid`: `CriticalOptions` if an option is not known or
 ///   sshd reads no such value; `Extensions` if data stand in a flag or a name has a zero byte;
 ///   `KeyId` if the key id has one; `ValidPrincipals` if it lists no principal (such a certificate
@@ -90,11 +90,10 @@ pub struct Login<'a> {
 /// Who knows of no revocation writes `NoRevocations`. Pass on what reading a list gave: an `Err`
 /// revokes every certificate.
 ///
-/// It does not ask which kind and size the authority's key has, nor whether a point lies on its
-/// curve: sshd(8) reads no point that does not.
+/// It does not ask whether a point lies on its curve: sshd(8) reads no point that does not.
 ///
-/// Whoever calls it has asked the client for a signature under the offered key, and does what the
-/// grant says, the flags in a security key's signature included. The options of a line
+/// Whoever calls it lets nobody in before the client has signed under the offered key, and does what
+/// the grant says, the flags in a security key's signature included. The options of a line
 /// `cert-authority` of authorized_keys, by which sshd trusts an authority for one user, also bind a
 /// login: for an authority that stands there, the caller must judge them.
 pub fn log_in<R: Revocations, V: RawVerifier>(
@@ -150,7 +149,7 @@ fn check_fields(
     if !is_key_of(certificate, offered) {
         return Err(invalid(Field::PublicKey));
     }
-    if !is_let_in(offered, least_rsa_bits) {
+    if !are_accepted(certificate, offered, least_rsa_bits) {
         return Err(Refusal::UnacceptedKey);
     }
     if !are_known(certificate.critical_options()) {
