@@ -2,3 +2,4 @@ pub mod Commas
 pub mod Patterns
 pub mod LetterCases
 pub mod Matching
+pub mod Examples

@@ -1,6 +1,7 @@
 //! Patterns of names and lists of them, as OpenSSH matches both (ssh_config(5), "PATTERNS").
 #![tactic(auto)]
 
+pub mod examples;
 mod pattern;
 mod pattern_list;
 
