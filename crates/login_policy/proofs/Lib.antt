@@ -1,2 +1,3 @@
 mod Logins
 mod KnownOptions
+mod ExampleLemmas
