@@ -1,3 +1,4 @@
 mod Decisions
 mod Fronts
 mod SomeLine
+mod ExampleLemmas

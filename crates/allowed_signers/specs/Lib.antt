@@ -1,3 +1,4 @@
 pub mod SignerOptions
 pub mod Principals
 pub mod AllowedSigners
+pub mod Examples

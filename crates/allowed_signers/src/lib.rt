@@ -5,6 +5,7 @@
 //! makes certificates, so that the library for C has none.
 #![tactic(auto)]
 
+pub mod examples;
 mod line;
 mod options;
 mod signers;
