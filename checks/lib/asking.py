@@ -7,7 +7,7 @@ import traceback
 from dataclasses import dataclass
 from typing import Callable
 
-from lib.harness import ROOT, Count
+from lib.harness import Count, built
 
 # the crates of the programs that answer lines
 TABLE, CALLERS, USER_KEYS = "sshkey_cases", "callers", "user_keys_cases"
@@ -78,7 +78,7 @@ def ask(parts, *crates):
     named = dict(zip(crates, sys.argv[1:]))
     count = Count()
     for it in made(os.path.basename(sys.argv[0]), parts, count):
-        program = os.path.abspath(named.get(it.crate) or f"{ROOT}/crates/{it.crate}/out/{it.crate}")
+        program = os.path.abspath(named.get(it.crate) or built(it.crate))
         how = {"input": text_of(it.groups), "capture_output": True, "encoding": "utf-8", "check": False, "timeout": SECONDS}
         run = subprocess.run([program], **how)
         if run.returncode:

@@ -12,11 +12,17 @@ import time
 from concurrent.futures import ThreadPoolExecutor
 from dataclasses import dataclass
 
-from lib.harness import ROOT
+from lib.harness import ROOT, unproved_program
 from lib.processes import adopt, end_below, ended_children
 
 # the words of checks/gate.txt for what ./test runs
 BY_TEST = {"clone", "text", "sources"}
+# the crates of tests and of those that ask: ./test asks them unproved, and ./test --all --wrong proves them
+UNPROVED = ["sshkey_tests", "sshkey_cases", "sshkey_doubles", "callers", "user_keys_cases"]
+# what each of both compilers left, LLVM's first
+COMPILERS = ["", ".by-rattle"]
+# how many parts are run side by side
+LANES = 2
 COUNTS = re.compile(r"(\d+) passed, (\d+) failed$")
 SIGNALS = signal.SIGHUP, signal.SIGINT, signal.SIGTERM
 
@@ -44,7 +50,19 @@ class Line:
 
     def crates(self):
         """The crates whose programs it is given."""
-        return next((it.split(",") for it in self.when if it not in {"unproved", "once", *BY_TEST} and "=" not in it), [])
+        return next((it.split(",") for it in self.when if it not in {"unproved", "drawn", "once", *BY_TEST} and "=" not in it), [])
+
+    def commands(self, are_all_proved):
+        """How ./test --all runs it: of proved programs on those of both compilers, or of LLVM where it is run once."""
+        crates = self.crates()
+        if not crates:
+            return [self.command()] if "once" in self.when or self.crate() else []
+        if are_all_proved or not set(crates) & set(UNPROVED):
+            compilers = COMPILERS[:1] if "once" in self.when else COMPILERS
+            return [self.command(f"crates/{crate}/out/{crate}{of}" for crate in crates) for of in compilers]
+        # ./test asks the others
+        is_asked = "unproved" in self.when and "drawn" not in self.when
+        return [] if is_asked else [self.command(os.path.relpath(unproved_program(it), ROOT) for it in crates)]
 
 
 def lines():
@@ -109,26 +127,23 @@ class Gate:
         for words in commands:
             self.part(words)
 
-    def side_by_side(self, *lists):
-        """Runs lists side by side, and shows what a list printed when it has ended."""
-        say("Side by side, and each list is shown when it has ended:")
-        for number, commands in enumerate(lists, 1):
-            say(f"  {number}.", ", ".join(" ".join(it) for it in commands))
+    def side_by_side(self, commands):
+        """Runs parts side by side, two at a time, and shows what each printed when it has ended."""
+        say(f"{LANES} at a time, and each is shown when it has ended: {', '.join(' '.join(it) for it in commands)}")
 
-        def run(commands):
+        def run(words):
             shown = []
 
             def show(line):
                 # what it is at is told at once
                 (say if line.startswith("unproved: ") else shown.append)(line)
 
-            for words in commands:
-                self.part(words, show)
+            self.part(words, show)
             if not self.is_stopped:
                 say("\n".join(shown))
 
-        with ThreadPoolExecutor(len(lists)) as pool:
-            for each in [pool.submit(run, it) for it in lists]:
+        with ThreadPoolExecutor(LANES) as pool:
+            for each in [pool.submit(run, it) for it in commands]:
                 each.result()
 
     def minutes(self):

@@ -10,8 +10,21 @@ import subprocess
 ROOT = os.path.dirname(os.path.dirname(os.path.dirname(os.path.abspath(__file__))))
 # that of the system is on no user's PATH, and checks/with-openssh has another one there
 SSHD = shutil.which("sshd", path=f"{os.environ.get('PATH', os.defpath)}:/usr/sbin") or "/usr/sbin/sshd"
+
+
+def unproved_program(crate):
+    """The program that checks/unproved --optimized builds of that crate."""
+    return f"{ROOT}/crates/{crate}/out/unproved/{crate}"
+
+
+def built(crate):
+    """The program of that crate, the proved or the unproved one, whichever was built last."""
+    programs = [unproved_program(crate), f"{ROOT}/crates/{crate}/out/{crate}"]
+    return max(programs, key=lambda it: os.path.getmtime(it) if os.path.isfile(it) else 0)
+
+
 # the built program that answers lines of questions
-BUILT_TABLE = os.path.join(ROOT, "crates", "sshkey_cases", "out", "sshkey_cases")
+BUILT_TABLE = built("sshkey_cases")
 
 
 class Count:
