@@ -172,6 +172,10 @@ static const struct {
     {SSHKEY_LINE_COMMAND, "a line with another command than the certificate's"},
     {SSHKEY_LINE_PRINCIPALS, "a line for nobody whom the certificate lists"},
     {SSHKEY_LINE_UNCLEAR, "a line that can't be told"},
+    {SSHKEY_NO_PORT, "port 0"},
+    {SSHKEY_NO_HOST, "no host"},
+    {SSHKEY_NO_ADDRESS, "a host that is like an address, and has no one text"},
+    {SSHKEY_NO_IDENTITY, "no identity"},
 };
 
 const char *judge_meaning(uint32_t answer) {

@@ -177,8 +177,15 @@ enum {
   SSHKEY_LINE_ELSEWHERE = 93,   /* its from is for other places */
   SSHKEY_LINE_COMMAND = 94,     /* its command is another than the certificate's */
   SSHKEY_LINE_PRINCIPALS = 95,  /* the certificate lists nobody whom it lets in */
-  SSHKEY_LINE_UNCLEAR = 96      /* a line may let in, and how sshd reads it cannot be told: so no
+  SSHKEY_LINE_UNCLEAR = 96,     /* a line may let in, and how sshd reads it cannot be told: so no
                                    other line and no other file may */
+
+  /* 100 to 102: nothing is asked about the host; the first of these */
+  SSHKEY_NO_PORT = 100,    /* the port is 0 */
+  SSHKEY_NO_HOST = 101,    /* the host has no bytes */
+  SSHKEY_NO_ADDRESS = 102, /* it is like an address, and is none with one text: 127.1, fe80::1%eth0 */
+
+  SSHKEY_NO_IDENTITY = 103 /* the signer's identity has no bytes */
 };
 
 /* The name of an answer as it stands above, without SSHKEY_; for logs. */
@@ -210,6 +217,8 @@ static inline const char *sshkey_answer_name(uint32_t answer) {
     SSHKEY_NAMED(USER_NOT_LISTED); SSHKEY_NAMED(LINE_EXPIRED); SSHKEY_NAMED(LINE_OPTION);
     SSHKEY_NAMED(LINE_ELSEWHERE); SSHKEY_NAMED(LINE_COMMAND); SSHKEY_NAMED(LINE_PRINCIPALS);
     SSHKEY_NAMED(LINE_UNCLEAR);
+    SSHKEY_NAMED(NO_PORT); SSHKEY_NAMED(NO_HOST); SSHKEY_NAMED(NO_ADDRESS);
+    SSHKEY_NAMED(NO_IDENTITY);
     default: return "no answer";
   }
 #undef SSHKEY_NAMED
@@ -720,10 +729,11 @@ uint32_t sshkey_sshsig_verdict(const uint8_t *signature, size_t signature_length
  * may sign, and with any other answer there is nothing to verify.
  *
  * SSHKEY_DONE exactly if the bytes are a signature in the namespace that raises a question,
- * without reserved bytes, `is_verified` is 1, a line lets its key sign for the identity in the
- * namespace at that time, and the key is not revoked (memory aside). Else 55, 58, 56 or
- * SSHKEY_NOT_SIGNED, 10 to 29 for bytes that are no signature, or SSHKEY_TEXT. SSHKEY_MEMORY only
- * where a part of the signature is whole. Also ask: docs/CHECKLIST.md, "A signature". */
+ * without reserved bytes, `is_verified` is 1, the identity has a byte, a line lets its key sign for
+ * it in the namespace at that time, and the key is not revoked (memory aside). Else SSHKEY_TEXT, 10
+ * to 29 for bytes that are no signature, SSHKEY_NO_IDENTITY, 55, 58, 56 or SSHKEY_NOT_SIGNED.
+ * SSHKEY_MEMORY only where a part of the signature is whole. Also ask: docs/CHECKLIST.md, "A
+ * signature". */
 uint32_t sshkey_signer_verdict(const uint8_t *signers, size_t signers_length,
                                const uint8_t *identity, size_t identity_length,
                                const uint8_t *name_space, size_t name_space_length,
@@ -886,23 +896,30 @@ uint32_t sshkey_may_be_for_certificate(const uint8_t *line, size_t line_length,
 typedef struct {
   sshkey_spans known_hosts; /* the texts of all the files that count: one file alone may list a key
                                that another one revokes */
-  sshkey_span host;         /* the name or address that was asked for, without brackets; UTF-8 */
+  sshkey_span host;         /* the name or address as the user typed it, without brackets; UTF-8 */
   sshkey_spans revoked;     /* revocation files (RevokedHostKeys), each a list or keys as text: any
                                of them revokes. Who asks none says so: SSHKEY_NO_REVOCATIONS */
   uint64_t unix_timestamp;  /* asked of certificates alone */
   uint32_t least_rsa_bits;  /* as RequiredRSASize; below 1,024, as 0, it is 1,024 */
-  uint16_t port;
+  uint16_t port;            /* not 0 */
 } sshkey_host_login;
 
 /* Whether the key of that blob is the host's, as ssh(1) says with StrictHostKeyChecking. Hashed
  * names are compared here, by HMAC-SHA1. Where no line is for the host at a port other than 22, the
  * host's plain name is asked too.
  *
+ * An IPv6 address is asked in the text of inet_ntop(3): fd00::1 for FD00:0::1. What is like an
+ * address has a colon, or is a digit followed by digits, dots, a to f and x alone. It is refused
+ * where it is no address, as what inet_aton(3) alone reads, or with a scope, and where it is one of
+ * ::/96 beyond :: and ::1, which has two texts. With HostKeyAlias ssh asks the alias in place of the
+ * host, at no port: pass it alone, at port 22. With CheckHostIP it asks about the address too, also
+ * where the name is known, and refuses where that has another key: that is a second call.
+ *
  * SSHKEY_DONE exactly if a line for the host has the key, no line for it and no revocation file
  * revokes the key, no line that is no entry could be one for the host, as each with a zero byte
  * could, and OpenSSH accepts its kind and size (memory aside). Else the first of these:
- * SSHKEY_TEXT, 10 to 29 for bytes that are no key, SSHKEY_UNREADABLE_REVOCATIONS, 50 to 53,
- * SSHKEY_KEY_NOT_ACCEPTED. SSHKEY_MEMORY only where the bytes are a key. */
+ * SSHKEY_TEXT, 10 to 29 for bytes that are no key, 100 to 102, SSHKEY_UNREADABLE_REVOCATIONS, 50 to
+ * 53, SSHKEY_KEY_NOT_ACCEPTED. SSHKEY_MEMORY only where the bytes are a key. */
 uint32_t sshkey_host_key_verdict(const sshkey_host_login *login, const uint8_t *key,
                                  size_t key_length);
 
@@ -915,8 +932,8 @@ uint32_t sshkey_host_key_verdict(const sshkey_host_login *login, const uint8_t *
  * certificate; no line that is no entry could be one for the host; OpenSSH accepts its key; it is
  * for hosts, without critical options, of texts that ssh reads, and valid then for the host's name
  * in small letters, which it lists; and `is_verified` is 1 (memory aside). Else the first of these:
- * SSHKEY_TEXT, 10 to 29, SSHKEY_NOT_NORMAL_FORM, SSHKEY_UNREADABLE_REVOCATIONS, 50, 51, 53, 59, 71,
- * 73, 75, 76, 30, 32 to 34. */
+ * SSHKEY_TEXT, 10 to 29, SSHKEY_NOT_NORMAL_FORM, 100 to 102, SSHKEY_UNREADABLE_REVOCATIONS, 50, 51,
+ * 53, 59, 71, 73, 75, 76, 30, 32 to 34. An address has to be listed in that one text. */
 uint32_t sshkey_host_certificate_verdict(const sshkey_host_login *login,
                                          const uint8_t *certificate, size_t certificate_length,
                                          uint32_t is_verified);
@@ -926,8 +943,8 @@ uint32_t sshkey_host_certificate_verdict(const sshkey_host_login *login,
  * and comments are counted.
  *
  * SSHKEY_DONE exactly if there is one, and SSHKEY_END if there is none (SSHKEY_MEMORY aside);
- * SSHKEY_TEXT where the text or the host is not UTF-8. Memory is taken only for a line that is
- * neither empty nor a comment. */
+ * SSHKEY_TEXT where the text or the host is not UTF-8, and then 100 to 102. Memory is taken only for
+ * a line that is neither empty nor a comment, and for a host that is like an address. */
 uint32_t sshkey_unreadable_host_line(const uint8_t *known_hosts, size_t known_hosts_length,
                                      const uint8_t *host, size_t host_length, uint16_t port,
                                      size_t *number);

@@ -14,7 +14,8 @@ from .key_calls import all_of
 from .example_calls import INVALID, SPACE, UNTOLD, VALID, armour_cases
 from .linked import VALGRIND, run, turned
 from .hosts import (
-    BROKEN, CERTIFICATES, CERTIFICATES_AND_LATER, CERTIFICATES_OF_FILES, HOST, KEYS, KEYS_AND_LATER, KEYS_OF_FILES, LATER, field, in_one_file, written,
+    BROKEN, CERTIFICATES, CERTIFICATES_AND_LATER, CERTIFICATES_OF_FILES, HOST, KEYS, KEYS_AND_LATER, KEYS_OF_FILES, LATER, TYPED, UNASKED, field,
+    in_one_file, written,
 )  # fmt: skip
 from .hosts import INVALID as INVALID_TIME
 from .login_checker import asked_of, certified, check_login_checker, granted, printed_with
@@ -214,7 +215,10 @@ def check_allowed(count, programs, maker):
 
 
 # numbers of what is wrong with what a host shows
-NUMBERS = {"revoked": 50, "unreadable": 51, "changed": 52, "unknown": 53, INVALID_TIME: 33, field("type"): 71, field("critical options"): 73}
+NUMBERS = {
+    "revoked": 50, "unreadable": 51, "changed": 52, "unknown": 53, INVALID_TIME: 33, field("type"): 71, field("critical options"): 73, "no port": 100,
+    "no address": 102,
+}  # fmt: skip
 
 
 def check_hosts(count, programs, maker):
@@ -224,9 +228,11 @@ def check_hosts(count, programs, maker):
     rows = [*in_one_file([*KEYS, *KEYS_AND_LATER]), *KEYS_OF_FILES]
     rows = [(name, files, port, None, wanted) for name, files, port, wanted in rows]
     rows += [*in_one_file([*CERTIFICATES, *CERTIFICATES_AND_LATER]), *CERTIFICATES_OF_FILES]
-    for name, files, port, words, wanted in rows:
+    rows = [(*row, HOST) for row in rows] + [(name, [lines], port, None, wanted, host) for name, host, lines, port, wanted in TYPED]
+    rows += [(name, [["* {key}"]], port, None, wanted, host) for name, host, port, wanted in UNASKED if host]
+    for name, files, port, words, wanted, host in rows:
         shown = keys["key"] if words is None else maker.certificate("shower0", "shown-host", *words)
-        given = ["--host", HOST, "--port", str(port)]
+        given = ["--host", host, "--port", str(port)]
         for number, lines in enumerate(files):
             with open(maker.path(f"known{number}"), "wb") as file:
                 file.write(written(maker, lines, keys))

@@ -310,6 +310,12 @@ def check_host_words(count, built, maker):
         ran = run([*python(built, "host.py"), "h.example", port, known], input=given)
         same = is_untold(ran, "host.py") if wanted == UNTOLD else (ran.returncode, ran.stdout, ran.stderr) == (wanted, "trusted\n", "")
         count.check(f"host.py: {case}", same, ran.returncode, ran.stdout, ran.stderr)
+    known = maker.write("known", f"* {line}\n@revoked fd00::1 {line}\n")
+    for host, port, wanted, said in (
+        ("127.1", "22", UNTOLD, ""), ("", "22", UNTOLD, ""), ("h.example", "0", UNTOLD, ""), ("FD00:0::1", "22", INVALID, "revoked\n"), ("fd00::2", "22", VALID, "trusted\n"),
+    ):  # fmt: skip
+        ran = run([*python(built, "host.py"), host, port, known], input=f"{line}\n")
+        count.check(f"host.py: the host {host!r} at {port}", (ran.returncode, ran.stdout) == (wanted, said), ran)
 
 
 def check_copies(count, built, maker):

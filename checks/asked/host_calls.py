@@ -6,8 +6,8 @@ from dataclasses import dataclass, replace
 from lib.harness import blob_of, string
 
 from .hosts import (
-    AUTHORITY, BROKEN, CAPITALS, CERTIFICATES, CERTIFICATES_AND_LATER, CERTIFICATES_OF_FILES, HOST, INVALID, KEY_ID, KEYS, KEYS_AND_LATER, KEYS_OF_FILES,
-    LATER, LISTS, NAMED, NOBODY, OTHER, OWN, SERIAL, TEXTS, field, in_one_file, written,
+    AROUND_NOW, AUTHORITY, BROKEN, CAPITALS, CERTIFICATES, CERTIFICATES_AND_LATER, CERTIFICATES_OF_FILES, HOST, INVALID, KEY_ID, KEYS, KEYS_AND_LATER, KEYS_OF_FILES,
+    LATER, LISTS, NAMED, NOBODY, OTHER, OWN, SERIAL, TEXTS, TYPED, TYPED_CERTIFICATES, UNASKED, field, in_one_file, written,
 )  # fmt: skip
 from .linked import run, several, word
 from .shown_logins import blocks, built_page, said_by_python
@@ -18,7 +18,7 @@ from .revocation_calls import EMPTY, made_list
 NUMBERED = {
     "ok": "DONE", "revoked": "HOST_REVOKED", "unreadable": "HOST_UNREADABLE", "changed": "HOST_CHANGED", "unknown": "HOST_UNKNOWN", INVALID: "OUT_OF_WINDOW",
     field("valid principals"): "VALID_PRINCIPALS", field("type"): "OTHER_TYPE", field("critical options"): "CRITICAL_OPTIONS", field("key id"): "KEY_ID",
-    UNACCEPTED: "KEY_NOT_ACCEPTED", NO_NORMAL_FORM: "NOT_NORMAL_FORM",
+    UNACCEPTED: "KEY_NOT_ACCEPTED", NO_NORMAL_FORM: "NOT_NORMAL_FORM", "no port": "NO_PORT", "no host": "NO_HOST", "no address": "NO_ADDRESS",
 }  # fmt: skip
 # lines of known_hosts, the port, and which of them is the first that may hide a revocation
 UNREADABLE = [
@@ -59,6 +59,10 @@ def by_key(maker, keys):
     own, listed = blob_of(keys["key"]), [written(maker, ["h.example {key}"], keys)]
     for name, files, port, wanted in [*in_one_file([*KEYS, *KEYS_AND_LATER]), *KEYS_OF_FILES]:
         yield f"a key, {name}", Shown(own, tuple(written(maker, lines, keys) for lines in files), port), NUMBERED[wanted]
+    for name, host, lines, port, wanted in TYPED:
+        yield f"a key, {name}", Shown(own, (written(maker, lines, keys),), port, host.encode()), NUMBERED[wanted]
+    for name, host, port, wanted in UNASKED:
+        yield f"a key, {name}", Shown(own, (written(maker, ["* {key}"], keys),), port, host.encode()), NUMBERED[wanted]
     for name, held, is_accepted, _ in judged_keys(maker):
         known = Shown(blob_of(held), (f"{HOST} {held}\n".encode(),))
         yield f"a key, {name}", known, "DONE" if is_accepted else "KEY_NOT_ACCEPTED"
@@ -89,6 +93,10 @@ def by_certificate(maker, keys):
     for name, host, words, wanted in CAPITALS:
         number = "DONE" if wanted == "ok" else "UNLISTED_PRINCIPAL"
         yield name, Shown(made(*words), texts, host=host.encode(), second=now), number
+    for name, host, names, lines, wanted in TYPED_CERTIFICATES:
+        number = "UNLISTED_PRINCIPAL" if wanted == field("valid principals") else NUMBERED[wanted]
+        blob = made("-h", "-n", names, *AROUND_NOW)
+        yield name, Shown(blob, (written(maker, lines, keys),), host=host.encode(), second=now), number
     yield "that lists nobody", Shown(made(*NOBODY), texts, second=now), "VALID_PRINCIPALS"
     for name, key_id, others, wanted, _ in TEXTS:
         yield name, Shown(put_together(keys["key"], key_id, others), texts, second=now), NUMBERED[wanted]
@@ -191,4 +199,10 @@ def check_hosts(judge):
         asked.append((name, f"unreadable-line {word(text)} {word(HOST.encode())} {port}", f"0 {wanted}" if wanted else str(judge.number("END"))))
     for name, text, host in (("no text", b"\xff", HOST.encode()), ("no host", b"", b"\xff")):
         asked.append((name, f"unreadable-line {word(text)} {word(host)} 22", str(judge.number("TEXT"))))
+    text = written(maker, ["h.example {key}", "@revoked fd00::1 {broken}", "[fd00::1]:2222 {broken}"], keys)
+    for name, host, port, wanted in (
+        ("of an address", b"FD00:0::1", 22, "0 2"), ("of an address at a port", b"fd00:0::1", 2222, "0 3"), ("of no address", b"127.1", 22, "NO_ADDRESS"),
+        ("of no host", b"", 22, "NO_HOST"), ("at port 0", b"fd00::1", 0, "NO_PORT"),
+    ):  # fmt: skip
+        asked.append((name, f"unreadable-line {word(text)} {word(host)} {port}", wanted if " " in wanted else str(judge.number(wanted))))
     judge.hold("the line of a host's that can't be read", asked)

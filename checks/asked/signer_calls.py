@@ -10,7 +10,7 @@ from .revoked_lists import list_of
 
 WANTED = {
     signers.OK: "DONE", signers.NO: "SIGNER_NOT_ALLOWED", signers.REVOKED: "REVOKED", "not verified": "NOT_SIGNED",
-    "no signature": "LENGTH",
+    "no signature": "LENGTH", "no identity": "NO_IDENTITY",
 }  # fmt: skip
 # every how many-th case a package is asked about
 SAMPLED = 5
@@ -24,7 +24,7 @@ TEXTS = [
 # the identity in place of hers, the text of signers, and what is wanted, as bytes
 OTHERS = [
     ("a text that is not UTF-8", b"\xff", None, "TEXT"), ("an identity that is not UTF-8", None, b"\xff", "TEXT"),
-    ("an identity of no bytes", None, b"", "SIGNER_NOT_ALLOWED"),
+    ("an identity of no bytes", None, b"", "NO_IDENTITY"),
 ]  # fmt: skip
 
 

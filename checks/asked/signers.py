@@ -290,7 +290,7 @@ def signers(maker):
     yield case("another message", text, "not verified", of=b"another commit\n")
     yield case("another namespace is asked for", text, "not verified", namespace="file")
     yield case("another identity is asked for", text, NO, who="bob@example.com")
-    yield case("nobody is asked for", "* {key}\n", OK, who="")
+    yield case("nobody is asked for", "* {key}\n", "no identity", who="", same=False)
     yield case("two days later", '{who} valid-before="20240102" {key}\n', NO, at=NOON + 2 * 86400)
     yield case("two days before", '{who} valid-after="20240101" {key}\n', NO, at=NOON - 2 * 86400)
     yield from others(maker, keys, message, made, case)

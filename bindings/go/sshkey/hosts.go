@@ -10,8 +10,8 @@ type HostLogin struct {
 	// KnownHosts are the texts of all the files of known_hosts that count, the user's and the
 	// machine's.
 	KnownHosts []string
-	// Host is the name or the address that was asked for, alone: net.SplitHostPort takes apart what a
-	// dialer has.
+	// Host is the name or the address as the user typed it, alone: net.SplitHostPort takes apart what
+	// a dialer has. An address is asked in the text that ssh asks.
 	Host string
 	// Port is where it was asked.
 	Port uint16

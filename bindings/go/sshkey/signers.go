@@ -47,7 +47,7 @@ func ValidateSignerOfDigest(
 // by the allowed signers (docs/CALLING.md). isVerified is what a verifier said of the question of
 // this signature, in the namespace and of the message.
 //
-// It fails with ErrSignerNotAllowed, ErrUnreadableRevocations, ErrRevoked or ErrNotSigned, the
+// It fails with ErrNoIdentity, ErrSignerNotAllowed, ErrUnreadableRevocations, ErrRevoked or ErrNotSigned, the
 // first that holds. Ask with false first, and verify only where it fails with the last;
 // ValidateSignerOfDigest does so. It fails with a Status for bytes that are no signature, with
 // ErrText for a text that is not UTF-8, with ErrInvalidTime for a time before 1970, and with

@@ -31,7 +31,8 @@ func made(t *testing.T) (ed25519.PrivateKey, []byte) {
 	return private, joined(t, "ssh-ed25519", string(private.Public().(ed25519.PublicKey)))
 }
 
-// What is left out lets no signature count; each file is asked, and none that was not read.
+// What is left out lets no signature count, also where a line is for everybody; each file is asked,
+// and none that was not read.
 func TestSigners(t *testing.T) {
 	private, key := made(t)
 	line := "ssh-ed25519 " + base64.StdEncoding.EncodeToString(key) + "\n"
@@ -46,7 +47,7 @@ func TestSigners(t *testing.T) {
 	}{
 		"its signer":  {func(it *sshkey.Signers) {}, nil},
 		"no text":     {func(it *sshkey.Signers) { it.Text = "" }, sshkey.ErrSignerNotAllowed},
-		"no identity": {func(it *sshkey.Signers) { it.Identity = "" }, sshkey.ErrSignerNotAllowed},
+		"no identity": {func(it *sshkey.Signers) { it.Identity = "" }, sshkey.ErrNoIdentity},
 		"no time":     {func(it *sshkey.Signers) { it.Now = time.Time{} }, sshkey.ErrInvalidTime},
 		"no file":     {func(it *sshkey.Signers) { it.Revoked = nil }, sshkey.ErrUnreadableRevocations},
 		"a file that was not read": {
@@ -57,13 +58,14 @@ func TestSigners(t *testing.T) {
 			func(it *sshkey.Signers) { it.Revoked = append(it.Revoked, []byte(line)) },
 			sshkey.ErrRevoked,
 		},
+		"no verifier": {func(it *sshkey.Signers) { it.Verify = nil }, nil},
 		"a verifier that says no": {
 			func(it *sshkey.Signers) { it.Verify = func(sshkey.Question) bool { return false } },
 			sshkey.ErrNotSigned,
 		},
 	} {
 		signers := sshkey.Signers{
-			Text: "alice " + line, Identity: "alice", Now: time.Unix(1704067200, 0),
+			Text: "* " + line, Identity: "alice", Now: time.Unix(1704067200, 0),
 			Revoked: sshkey.NoRevocations,
 		}
 		it.turn(&signers)

@@ -170,6 +170,19 @@ const (
 	ErrHostUnknown Status = C.SSHKEY_HOST_UNKNOWN
 )
 
+// Nothing is asked: the first of the three about a host, and that about a signer.
+const (
+	// ErrNoPort is for port 0.
+	ErrNoPort Status = C.SSHKEY_NO_PORT
+	// ErrNoHost is for a host that is empty.
+	ErrNoHost Status = C.SSHKEY_NO_HOST
+	// ErrNoAddress is for a host that is like an address, and is none with one text: 127.1, and
+	// fe80::1%eth0.
+	ErrNoAddress Status = C.SSHKEY_NO_ADDRESS
+	// ErrNoIdentity is for a signer whose identity is empty.
+	ErrNoIdentity Status = C.SSHKEY_NO_IDENTITY
+)
+
 // Name is the name of the number in include/sshkey.h, without SSHKEY_: NOT_SIGNED, for example.
 func (status Status) Name() string {
 	return C.GoString(C.sshkey_answer_name(C.uint32_t(status)))

@@ -143,6 +143,14 @@ class Status(Answer):
     LINE_PRINCIPALS = 95
     # A line may let in, and how sshd reads it cannot be told: so no other line and no other file may.
     LINE_UNCLEAR = 96
+    # The port is 0.
+    NO_PORT = 100
+    # The host has no bytes.
+    NO_HOST = 101
+    # It is like an address, and is none with one text: 127.1, fe80::1%eth0.
+    NO_ADDRESS = 102
+    # The signer's identity has no bytes.
+    NO_IDENTITY = 103
 
 
 class Algorithm(IntEnum):
@@ -269,6 +277,10 @@ WORDS = {
     Status.LINE_COMMAND: "a line with another command than the certificate's",
     Status.LINE_PRINCIPALS: "a line for nobody whom the certificate lists",
     Status.LINE_UNCLEAR: "a line that can't be told",
+    Status.NO_PORT: "port 0",
+    Status.NO_HOST: "no host",
+    Status.NO_ADDRESS: "a host that is like an address, and has no one text",
+    Status.NO_IDENTITY: "no identity",
 }
 
 

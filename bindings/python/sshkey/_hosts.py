@@ -18,8 +18,8 @@ class HostLogin:
     """A host that shows a key or a certificate, and whom the client trusts."""
 
     known_hosts: Iterable[BytesLike]  # the texts of all the files that count, the user's and the machine's
-    host: str | BytesLike  # the name or address that was asked for, without brackets
-    port: int
+    host: str | BytesLike  # the name or address as the user typed it, without brackets
+    port: int  # not 0
     revoked: Iterable[BytesLike]  # what the files of ssh's RevokedHostKeys have, or NO_REVOCATIONS; without a file none is trusted
     unix_timestamp: int | None = None  # of a key it is not asked
     least_rsa_bits: int = 0  # ssh's RequiredRSASize; below 1,024, as 0, it is 1,024
@@ -35,7 +35,7 @@ def _header_of(login: HostLogin, unix_timestamp: int) -> _header.HostLogin:
 def check_host_key(login: HostLogin, key: BytesLike) -> None:
     """Returns exactly if the key, given as its blob, is trusted as that of the host, as ssh(1) trusts it, or more strictly
     (docs/FORMATS.md); else raises Refused, which says what is wrong first. Raises MemoryError, ValueError for a number that does not
-    fit its field, and TypeError where a file was not read (None). Whether the host holds the key is not looked at."""
+    fit its field, and TypeError where a file was not read (None). An address is asked in the text that ssh(1) asks. Whether the host holds the key is not looked at."""
     asked = _header_of(login, 0)
     done(LIBRARY.sshkey_host_key_verdict(ctypes.byref(asked), *bytes_of(key)))
 

@@ -27,9 +27,9 @@ def signer_verdict(signature: BytesLike, namespace: str | BytesLike, by: Signers
     allowed signers. `is_verified` is your answer to the question of this signature, in the namespace and of the message
     (sshsig_question, sshsig_question_of_digest).
 
-    Else SIGNER_NOT_ALLOWED, UNREADABLE_REVOCATIONS, REVOKED or NOT_SIGNED, the first that holds. Ask with False first: only where
-    that is NOT_SIGNED there is something to verify (judge_signer_of_digest does both). Raises Refused where the bytes are no
-    signature, or a text is not UTF-8, and MemoryError."""
+    Else NO_IDENTITY, SIGNER_NOT_ALLOWED, UNREADABLE_REVOCATIONS, REVOKED or NOT_SIGNED, the first that holds. Ask with False first:
+    only where that is NOT_SIGNED there is something to verify (judge_signer_of_digest does both). Raises Refused where the bytes
+    are no signature, or a text is not UTF-8, and MemoryError."""
     revoked, second = spans_of(by.revoked), number_of(by.unix_timestamp, 64)
     texts = (*bytes_of(by.text), *text_of(by.identity), *text_of(namespace), *bytes_of(signature))
     status = Status(LIBRARY.sshkey_signer_verdict(*texts, second, revoked.items, revoked.count, is_verified is True))

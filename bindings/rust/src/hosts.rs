@@ -11,9 +11,10 @@ use crate::status::Status;
 pub struct HostLogin<'a> {
     /// The texts of all the files of known_hosts that count, the user's and the machine's.
     pub known_hosts: &'a [&'a [u8]],
-    /// The name or the address that was asked for, without brackets, in UTF-8.
+    /// The name or the address as the user typed it, without brackets, in UTF-8. An address is asked
+    /// in the text that ssh(1) asks.
     pub host: &'a [u8],
-    /// Where it was asked.
+    /// Where it was asked; not 0.
     pub port: u16,
     /// The revocation files, as `RevokedHostKeys` of ssh_config(5) names them: any of them revokes.
     /// [`NO_REVOCATIONS`](crate::NO_REVOCATIONS) where none is asked; an empty list refuses.
@@ -28,6 +29,7 @@ pub struct HostLogin<'a> {
 /// more strictly.
 ///
 /// Fails with a number from 10 to 29 where the bytes are no key, and else with what is wrong first:
+/// [`Status::NO_PORT`], [`Status::NO_HOST`], [`Status::NO_ADDRESS`],
 /// [`Status::UNREADABLE_REVOCATIONS`], [`Status::HOST_REVOKED`], [`Status::HOST_UNREADABLE`],
 /// [`Status::HOST_CHANGED`], [`Status::HOST_UNKNOWN`] or [`Status::KEY_NOT_ACCEPTED`]; with
 /// [`Status::TEXT`] where a text or the host is not UTF-8, and with [`Status::MEMORY`].

@@ -226,6 +226,14 @@ statuses! {
     /// A line may let in, and how sshd reads it cannot be told: so no other line and no other file
     /// may.
     LINE_UNCLEAR = 96, "a line that can't be told";
+    /// The port is 0.
+    NO_PORT = 100, "port 0";
+    /// The host has no bytes.
+    NO_HOST = 101, "no host";
+    /// It is like an address, and is none with one text: 127.1, fe80::1%eth0.
+    NO_ADDRESS = 102, "a host that is like an address, and has no one text";
+    /// The signer's identity has no bytes.
+    NO_IDENTITY = 103, "no identity";
 }
 
 /// Bytes that a call reads; no null pointer, also where the length is 0 (sshkey_bytes).
@@ -458,7 +466,7 @@ pub(crate) struct HostLogin<'a> {
     /// The texts of all the files that count: one file alone may list a key that another one
     /// revokes.
     pub known_hosts: Spans<'a>,
-    /// The name or address that was asked for, without brackets; UTF-8.
+    /// The name or address as the user typed it, without brackets; UTF-8.
     pub host: Span<'a>,
     /// Revocation files (RevokedHostKeys), each a list or keys as text: any of them revokes.
     pub revoked: Spans<'a>,
@@ -466,6 +474,7 @@ pub(crate) struct HostLogin<'a> {
     pub unix_timestamp: u64,
     /// As RequiredRSASize; below 1,024, as 0, it is 1,024.
     pub least_rsa_bits: u32,
+    /// Not 0.
     pub port: u16,
 }
 

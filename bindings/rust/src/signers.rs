@@ -44,8 +44,8 @@ pub fn judge_signer_of_digest(
 /// for times without `Z` ([`Signers`]). `is_verified` is your answer to the question of this
 /// signature, in the namespace and of the message.
 ///
-/// Fails with [`Status::SIGNER_NOT_ALLOWED`], [`Status::UNREADABLE_REVOCATIONS`],
-/// [`Status::REVOKED`] or [`Status::NOT_SIGNED`], the first that holds: ask with `false`
+/// Fails with [`Status::NO_IDENTITY`], [`Status::SIGNER_NOT_ALLOWED`],
+/// [`Status::UNREADABLE_REVOCATIONS`], [`Status::REVOKED`] or [`Status::NOT_SIGNED`], the first that holds: ask with `false`
 /// first, and verify only where it fails with the last, as [`judge_signer_of_digest`] does. Fails
 /// with a number from 10 to 29 where the bytes are no signature, with [`Status::TEXT`] where a text
 /// is not UTF-8, and with [`Status::MEMORY`].

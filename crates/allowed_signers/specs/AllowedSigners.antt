@@ -24,7 +24,7 @@ use Rattle.sshkey_sshsig.specs.declared.sshsig.SshSig.{SshSig}
 use Rattle.allowed_signers.specs.Principals.{HasPrincipals}
 use Rattle.allowed_signers.specs.SignerOptions.{Terms, AreTerms, Permits}
 use Rattle.allowed_signers.specs.declared.signers.Refusal.{Refusal}
-use Rattle.allowed_signers.specs.declared.signers.Refusal.TheVariants.{Memory, NoSignature, NotAllowed, NotVerified, Revoked}
+use Rattle.allowed_signers.specs.declared.signers.Refusal.TheVariants.{Memory, NoIdentity, NoSignature, NotAllowed, NotVerified, Revoked}
 
 -- ---- a line
 
@@ -68,9 +68,10 @@ pub record HasSigned (accepts : Question → Bool) (namespace message : List ℕ
   pub verified : IsVerified accepts f.key namespace message f
   pub nothing_reserved : f.reserved ≡ []
 
--- The signature counts: its key is allowed to sign and not revoked, and has signed the message in
+-- The signature counts: there is an identity, its key is allowed to sign and not revoked, and has signed the message in
 -- the namespace.
 pub record Counts (accepts : Question → Bool) (revokes : List ℕ → Bool) (signers identity namespace message : List ℕ) (time : ℕ) (f : SshSignature) : Type 0 where
+  pub identity_given : identity ≢ []
   pub allowed : IsAllowed identity namespace time f.key signers
   pub unrevoked : is_key_revoked revokes f.key ≡ false
   pub signed : HasSigned accepts namespace message f
@@ -92,9 +93,10 @@ NeedsMemory bytes = ssh_signature_format.needs bytes 0 ⊎ SpellsSome SpellsSshS
 -- What is wrong first, or memory ran out where some is needed.
 abbrev pub IsWhy : (Question → Bool) → (List ℕ → Bool) → List ℕ → List ℕ → List ℕ → List ℕ → ℕ → List ℕ → Refusal → Type 0
 IsWhy accepts revokes signers identity namespace message time bytes NoSignature = NoSpelling SpellsSshSignature bytes
-IsWhy accepts revokes signers identity namespace message time bytes NotAllowed = HasSignature bytes (λ f. ¬ IsAllowed identity namespace time f.key signers)
-IsWhy accepts revokes signers identity namespace message time bytes Revoked = HasSignature bytes (λ f. IsAllowed identity namespace time f.key signers × (is_key_revoked revokes f.key ≡ true))
-IsWhy accepts revokes signers identity namespace message time bytes NotVerified = HasSignature bytes (λ f. IsAllowed identity namespace time f.key signers × (is_key_revoked revokes f.key ≡ false) × ¬ HasSigned accepts namespace message f)
+IsWhy accepts revokes signers identity namespace message time bytes NoIdentity = HasSignature bytes (λ f. identity ≡ [])
+IsWhy accepts revokes signers identity namespace message time bytes NotAllowed = (identity ≢ []) × HasSignature bytes (λ f. ¬ IsAllowed identity namespace time f.key signers)
+IsWhy accepts revokes signers identity namespace message time bytes Revoked = (identity ≢ []) × HasSignature bytes (λ f. IsAllowed identity namespace time f.key signers × (is_key_revoked revokes f.key ≡ true))
+IsWhy accepts revokes signers identity namespace message time bytes NotVerified = (identity ≢ []) × HasSignature bytes (λ f. IsAllowed identity namespace time f.key signers × (is_key_revoked revokes f.key ≡ false) × ¬ HasSigned accepts namespace message f)
 IsWhy accepts revokes signers identity namespace message time bytes Memory = NeedsMemory bytes
 
 -- ---- the steps

@@ -123,10 +123,11 @@ Signed = HasSigned (λ q. true) (codes "file") (codes "message") signature
     × ¬ HasSigned (λ q. true) (codes "file") (codes "message") (record signature { reserved = 1 ∷ [] })
 
 -- Where a line allows the key: it counts, and not where the key is revoked or has not signed. And
--- without a line.
+-- without a line; and of an identity of no bytes, which `*` matches (ssh-keygen takes it).
 abbrev pub Verdicts : Type 0
 Verdicts = ((signers : List ℕ) → IsAllowed (codes "alice") (codes "file") 5 ed25519_key signers →
     Counts (λ q. true) (λ k. false) signers (codes "alice") (codes "file") (codes "message") 5 signature
     × ¬ Counts (λ q. true) (λ k. true) signers (codes "alice") (codes "file") (codes "message") 5 signature
     × ¬ Counts (λ q. false) (λ k. false) signers (codes "alice") (codes "file") (codes "message") 5 signature)
     × ¬ Counts (λ q. true) (λ k. false) [] (codes "alice") (codes "file") (codes "message") 5 signature
+    × ((signers : List ℕ) → ¬ Counts (λ q. true) (λ k. false) signers [] (codes "file") (codes "message") 5 signature)

@@ -26,6 +26,8 @@ use std::alloc::Global;
 pub enum Refusal {
     /// The bytes are no SSH signature.
     NoSignature,
+    /// The identity has no bytes.
+    NoIdentity,
     /// No line lets its key sign for the identity, in the namespace and at the time.
     NotAllowed,
     /// Its key is revoked.
@@ -56,8 +58,10 @@ pub enum Refusal {
 /// asked about its key: a list, `NoRevocations`, or what reading a list gave, whose `Err` revokes
 /// each key.
 ///
+/// Nobody has an identity of no bytes: `*` matches it, and ssh-keygen takes it.
+///
 /// Unless memory runs out, it is refused for the first of these that holds: `NoSignature`,
-/// `NotAllowed`, `Revoked`, `NotVerified`. Where the bytes are no signature, `Memory` means that an
+/// `NoIdentity`, `NotAllowed`, `Revoked`, `NotVerified`. Where the bytes are no signature, `Memory` means that an
 /// allocation for what stands in front of their fault failed: a length that they only state
 /// allocates nothing. One with reserved bytes is not verified. One by a security key counts
 /// whatever its flags say, also where nobody touched it, as for ssh-keygen: the flags are the fifth
@@ -83,6 +87,9 @@ pub fn verify<R: Revocations, V: RawVerifier>(
 {
     one_ssh_signature();
     let signature = read_signature(alloc, signature)?;
+    if identity.is_empty() {
+        return Err(Refusal::NoIdentity);
+    }
     let key = signature.public_key();
     let Ok(allowed) = is_allowed(alloc, signers, identity, namespace, unix_timestamp, key) else {
         return Err(Refusal::Memory);

@@ -43,6 +43,7 @@ fn shown(alloc: Global, answer: std::result::Result<(), Refusal>) -> Result<Stri
     let text = match answer {
         Ok(()) => "ok",
         Err(Refusal::NoSignature) => "no signature",
+        Err(Refusal::NoIdentity) => "no identity",
         Err(Refusal::NotAllowed) => "not allowed",
         Err(Refusal::Revoked) => "revoked",
         Err(Refusal::NotVerified) => "not verified",

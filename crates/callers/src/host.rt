@@ -5,6 +5,7 @@ use crate::revoked::read_lists;
 use crate::verified::Told;
 use crate::words::{NO_LINE, blob, number, texts};
 use host_keys::{HostLogin, Refusal, check_certificate, check_key};
+use ssh_key::addresses::HostFault;
 use ssh_key::{PublicKey, Result};
 use std::alloc::{AllocError, Global};
 
@@ -95,9 +96,12 @@ fn shown(alloc: Global, answer: std::result::Result<(), Refusal>) -> Result<Stri
         Err(Refusal::Unknown) => "unknown",
         Err(Refusal::UnacceptedKey) => "unaccepted key",
         Err(Refusal::NotNormalForm) => "no normal form",
+        Err(Refusal::Host(HostFault::Port)) => "no port",
+        Err(Refusal::Host(HostFault::Empty)) => "no host",
+        Err(Refusal::Host(HostFault::Address)) => "no address",
         Err(Refusal::Certificate(error)) => return Err(error),
         Err(Refusal::Invalid(first)) => return Err(first.error()),
-        Err(Refusal::Memory) => return Err(ssh_key::Error::Memory),
+        Err(Refusal::Memory | Refusal::Host(HostFault::Memory)) => return Err(ssh_key::Error::Memory),
     };
     Ok(String::from_str(alloc, text)?)
 }

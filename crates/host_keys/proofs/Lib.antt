@@ -1,3 +1,4 @@
+mod AskedNames
 mod Certificates
 mod Listed
 mod Said

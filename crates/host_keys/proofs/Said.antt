@@ -73,6 +73,7 @@ module _ (Said : Verdict → Type 0) (revoked accepted : Bool) (accepts : Questi
   why_refused refusal.Unknown bad = absurd (bad (λ same. cc same))
   why_refused refusal.UnacceptedKey bad = absurd (bad (λ same. cc same))
   why_refused refusal.NotNormalForm bad = absurd (bad (λ same. cc same))
+  why_refused (refusal.Host f) bad = absurd (bad (λ same. cc same))
 
   pub why_bad : (r : Result (Unit {0}) Refusal) → IfErr r (λ x. x ≢ refusal.Memory → IsBadFor accepts t host c x) → IfErr r (IsWhy Said revoked accepted (IsBadFor accepts t host c))
   why_bad (Ok u) bad = tt
@@ -83,7 +84,7 @@ pub other_of : (e : Error) (r : Refusal) → IsRefusalFor e r → r ≢ refusal.
 other_of e r (inl ran_out) other = absurd (other ran_out.1)
 other_of e r (inr is) other = is.0
 
--- what is judged was read
-pub asks_more : (Reads : Type 0) (none : Bool) (lines : List (List ℕ)) (r : Result (Unit {0}) Refusal) → AsksOf ⊥ none lines r → AsksOf Reads none lines r
-asks_more Reads none lines (Ok u) asks = tt
-asks_more Reads none lines (Err e) asks = λ memory. elim (asks memory) [ inl nothing ↦ absurd nothing | inr rest ↦ inr rest ]
+-- who needs memory for less needs it for more
+pub asks_more : (P Q : Type 0) → (P → Q) → (none : Bool) (lines : List (List ℕ)) (r : Result (Unit {0}) Refusal) → AsksOf P none lines r → AsksOf Q none lines r
+asks_more P Q to none lines (Ok u) asks = tt
+asks_more P Q to none lines (Err e) asks = λ memory. elim (asks memory) [ inl p ↦ inl (to p) | inr rest ↦ inr rest ]

@@ -1,6 +1,9 @@
 -- What is answered about a host, and why it is refused.
 use Rattle.std.specs.Prelude.{◌≡◌, ◌≢◌, ◌⊎◌, ◌<◌, length, ℕ, List, Bool, true, false, IsTrue, Result, Ok, Err}
 use Rattle.openssh_limits.specs.Keys.{is_let_in}
+use Rattle.sshkey_addresses.specs.AskedHosts.{IsHostFault}
+use Rattle.sshkey_addresses.specs.declared.host.HostFault.{HostFault}
+use Rattle.sshkey_addresses.specs.declared.host.HostFault.TheVariants as fault
 use Rattle.sshkey_base.specs.Reading.{NoSpelling}
 use Rattle.sshkey_cert_form.specs.Faults.{IsFaultOf}
 use Rattle.sshkey_krl.specs.Revocation.{CertificateIdentity}
@@ -13,7 +16,7 @@ use Rattle.sshkey_base.specs.declared.error.Error.{Error}
 use Rattle.sshkey_base.specs.declared.error.Error.TheVariants.{Memory}
 use Rattle.sshkey_known_hosts.specs.declared.verdict.Verdict.{Verdict}
 use Rattle.sshkey_known_hosts.specs.declared.verdict.Verdict.TheVariants.{Changed, Revoked, Trusted, Unknown, Unreadable}
-use Rattle.host_keys.specs.Hosts.{HostLogin, IsBadFor, IsSaidOfKey, IsSaidOfSigned, plain_name}
+use Rattle.host_keys.specs.Hosts.{HostLogin, IsBadFor, IsSaidOfKey, IsSaidOfSigned, OfAsked, plain_name}
 use Rattle.host_keys.specs.declared.refusal.Refusal.{Refusal}
 use Rattle.host_keys.specs.declared.refusal.Refusal.TheVariants as refusal
 
@@ -22,15 +25,23 @@ abbrev pub OkExactly : Type 0 → Result Unit Refusal → Type 0
 OkExactly Holds (Ok x) = Holds
 OkExactly Holds (Err e) = e ≢ refusal.Memory → Holds → ⊥
 
--- Memory was refused only where what is shown needs some to be read, there is a line to be judged,
--- or somebody says what is revoked.
+-- Memory was refused only where what is shown or the host's name needs some, there is a line to be
+-- judged, or somebody says what is revoked.
 abbrev pub AsksOf : Type 0 → Bool → List (List ℕ) → Result Unit Refusal → Type 0
-AsksOf Reads revokes_none lines (Ok x) = Unit {0}
-AsksOf Reads revokes_none lines (Err e) = e ≡ refusal.Memory → Reads ⊎ (0 < length lines) ⊎ (revokes_none ≡ false)
+AsksOf Needs revokes_none lines (Ok x) = Unit {0}
+AsksOf Needs revokes_none lines (Err e) = e ≡ refusal.Memory → Needs ⊎ (0 < length lines) ⊎ (revokes_none ≡ false)
 
 -- The refusal is that of a certificate for the error, or memory ran out.
 abbrev pub IsRefusalFor : Error → Refusal → Type 0
 IsRefusalFor e r = ((e ≡ Memory) × (r ≡ refusal.Memory)) ⊎ ((e ≢ Memory) × (r ≡ refusal.Certificate e))
+
+-- and that of a host for what is wrong with it
+abbrev pub IsRefusalForHost : HostFault → Refusal → Type 0
+IsRefusalForHost f r = ((f ≡ fault.Memory) × (r ≡ refusal.Memory)) ⊎ ((f ≢ fault.Memory) × (r ≡ refusal.Host f))
+
+-- Nothing can be asked about the host, for that fault; or it is asked, and refused for that reason.
+abbrev pub RefusesAsked : HostLogin → (HostLogin → Refusal → Type 0) → Refusal → Type 0
+RefusesAsked login Why r = ((f : HostFault) × IsHostFault login.host login.port f × IsRefusalForHost f r) ⊎ OfAsked login (λ asked. Why asked r)
 
 -- what follows from a verdict
 abbrev pub verdict_answer : Verdict → Result Unit Refusal
@@ -59,15 +70,19 @@ IsWhy Said revoked accepted Bad refusal.UnacceptedKey = (revoked ≡ false) × S
 IsWhy Said revoked accepted Bad (refusal.Certificate e) = (revoked ≡ false) × Said Trusted × IsTrue accepted × Bad (refusal.Certificate e)
 IsWhy Said revoked accepted Bad (refusal.Invalid first) = (revoked ≡ false) × Said Trusted × IsTrue accepted × Bad (refusal.Invalid first)
 IsWhy Said revoked accepted Bad refusal.NotNormalForm = ⊥
+IsWhy Said revoked accepted Bad (refusal.Host f) = ⊥
 IsWhy Said revoked accepted Bad refusal.Memory = Unit {0}
 
 abbrev pub IsWhyNoKey : HostLogin → (List ℕ → Bool) → Key → Refusal → Type 0
 IsWhyNoKey login revokes_key key = IsWhy (IsSaidOfKey login.hmac login.host login.port key login.lines) (is_key_revoked revokes_key key) (is_let_in login.least_rsa_bits key) (λ r. ⊥)
 
+abbrev pub RefusesHostKey : HostLogin → (List ℕ → Bool) → Key → Refusal → Type 0
+RefusesHostKey login revokes_key key = RefusesAsked login (λ asked. IsWhyNoKey asked revokes_key key)
+
 abbrev pub IsWhyNoCertificate : HostLogin → (Question → Bool) → (List ℕ → CertificateIdentity → Bool) → Certificate → Refusal → Type 0
 IsWhyNoCertificate login accepts revokes c = IsWhy (IsSaidOfSigned login.hmac login.host login.port c.signed.key c.signed.signature_key login.lines) (is_certificate_revoked revokes c) (is_let_in login.least_rsa_bits c.signed.key) (IsBadFor accepts login.time (plain_name login.host) c)
 
 -- The bytes spell no certificate, and have that fault. Or they spell one: they are not its normal
--- form; or they are, and it is refused.
+-- form; or they are, and nothing can be asked about the host, or it is refused.
 abbrev pub RefusesHostCertificate : HostLogin → (Question → Bool) → (List ℕ → CertificateIdentity → Bool) → List ℕ → Refusal → Type 0
-RefusesHostCertificate login accepts revokes blob r = (NoSpelling SpellsCertificate blob × ((e : Error) × IsFaultOf blob e × IsRefusalFor e r)) ⊎ ((c : Certificate) × SpellsCertificate c blob × (((blob ≢ flat (normal_certificate c)) × (r ≡ refusal.NotNormalForm)) ⊎ ((blob ≡ flat (normal_certificate c)) × IsWhyNoCertificate login accepts revokes c r)))
+RefusesHostCertificate login accepts revokes blob r = (NoSpelling SpellsCertificate blob × ((e : Error) × IsFaultOf blob e × IsRefusalFor e r)) ⊎ ((c : Certificate) × SpellsCertificate c blob × (((blob ≢ flat (normal_certificate c)) × (r ≡ refusal.NotNormalForm)) ⊎ ((blob ≡ flat (normal_certificate c)) × RefusesAsked login (λ asked. IsWhyNoCertificate asked accepts revokes c) r)))

@@ -6,6 +6,7 @@ use Rattle.openssh_limits.specs.Keys.{is_let_in}
 use Rattle.openssh_limits.specs.Read.{AreReadPrincipals}
 use Rattle.std.specs.List.{flat_map}
 use Rattle.std.specs.Prelude.{◌≡◌, ◌≢◌, ◌⊎◌, ℕ, List, [], ◌∷◌, Bool, false, IsTrue, Some}
+use Rattle.sshkey_addresses.specs.AskedHosts.{IsAsked}
 use Rattle.sshkey_cert.specs.Validity.{refusal_of}
 use Rattle.sshkey_entries.specs.Fields.{filled_lines}
 use Rattle.sshkey_entries.specs.HostNames.{known_name, standard_port}
@@ -52,6 +53,13 @@ abbrev pub login_of : code.HostLogin → (List ℕ → List ℕ → List ℕ) �
 login_of l hmac = record { hmac = hmac; lines = lines_of l.texts.now; host = l.host.now; port = l.port; time = l.unix_timestamp; least_rsa_bits = l.least_rsa_bits }
 
 -- ---- names
+
+-- There is a name that is asked about, of an address its canonical text, and this holds of the host
+-- under it.
+pub record OfAsked (login : HostLogin) (Holds : HostLogin → Type 0) : Type 0 where
+  pub name : List ℕ
+  pub asked : IsAsked login.host login.port name
+  pub holds : Holds (record login { host = name })
 
 -- the name for which the certificate of a host is asked, at whatever port: in small letters
 abbrev pub plain_name : List ℕ → List ℕ
@@ -111,14 +119,17 @@ pub record IsGoodFor (accepts : Question → Bool) (t : ℕ) (host : List ℕ) (
   pub fields : HasHostFields c
   pub valid : IsValidFor accepts (signers c) t host c
 
--- The key is the host's, and ssh accepts it.
+-- The key is the host's by the name that is asked, and ssh accepts it.
 pub record IsTrustedKey (login : HostLogin) (revokes_key : List ℕ → Bool) (key : Key) : Type 0 where
   pub listed : IsSaidOfKey login.hmac login.host login.port key login.lines Trusted
   pub unrevoked : is_key_revoked revokes_key key ≡ false
   pub accepted : IsTrue (is_let_in login.least_rsa_bits key)
 
--- The certificate is the host's: by an authority of the host, not revoked, of a key that ssh
--- accepts, and good for the host.
+abbrev pub IsHostKey : HostLogin → (List ℕ → Bool) → Key → Type 0
+IsHostKey login revokes_key key = OfAsked login (λ asked. IsTrustedKey asked revokes_key key)
+
+-- The certificate is the host's by the name that is asked: by an authority of the host, not revoked,
+-- of a key that ssh accepts, and good for the host.
 pub record IsTrustedCertificate (login : HostLogin) (accepts : Question → Bool) (revokes : List ℕ → CertificateIdentity → Bool) (c : Certificate) : Type 0 where
   pub by_authority : IsSaidOfSigned login.hmac login.host login.port c.signed.key c.signed.signature_key login.lines Trusted
   pub unrevoked : is_certificate_revoked revokes c ≡ false
@@ -130,7 +141,7 @@ pub record IsHostCertificate (login : HostLogin) (accepts : Question → Bool) (
   pub certificate : Certificate
   pub spelled : SpellsCertificate certificate blob
   pub normal : blob ≡ flat (normal_certificate certificate)
-  pub trusted : IsTrustedCertificate login accepts revokes certificate
+  pub trusted : OfAsked login (λ asked. IsTrustedCertificate asked accepts revokes certificate)
 
 -- ---- what is wrong with a certificate first
 

@@ -1,14 +1,15 @@
 //! Whether a certificate is the host's.
 
-ghost use Rattle.std.specs.Prelude.{◌≡◌, ◌≢◌, ◌↔◌, IfErr, IsOk, IsTrue, map, string_bytes};
+ghost use Rattle.std.specs.Prelude.{◌≡◌, ◌≢◌, ◌⊎◌, ◌↔◌, IfErr, IsOk, IsTrue, map, string_bytes, true};
+ghost use Rattle.sshkey_addresses.specs.Likeness.{is_like_address};
 ghost use Rattle.sshkey_cert.specs.CertificateValues.{certificate_of};
 ghost use Rattle.sshkey_cert.specs.Validity.{FindsRefusal};
 ghost use Rattle.sshkey_model.specs.Certificates.{IsCertificate, normal_certificate, certificate_format, SpellsCertificate};
 ghost use Rattle.sshkey_model.specs.Keys.{normal_key};
 ghost use Rattle.sshkey_model.specs.Parts.{BoxesFit, flat};
 ghost use Rattle.sshkey_model.specs.Refusals.{first_refusal_for};
-ghost use Rattle.host_keys.specs.Answers.{AsksOf, IsWhyNoCertificate, OkExactly, RefusesHostCertificate};
-ghost use Rattle.host_keys.specs.Hosts.{AreForHosts, HasHostFields, HasOtherField, IsBadFor, IsGoodFor, IsHostCertificate, IsTrustedCertificate, lines_of, login_of, plain_name, signers};
+ghost use Rattle.host_keys.specs.Answers.{AsksOf, IsWhyNoCertificate, OkExactly, RefusesAsked, RefusesHostCertificate};
+ghost use Rattle.host_keys.specs.Hosts.{AreForHosts, HasHostFields, HasOtherField, IsBadFor, IsGoodFor, IsHostCertificate, IsTrustedCertificate, OfAsked, lines_of, login_of, plain_name, signers};
 ghost use Rattle.host_keys.specs.declared.refusal.Refusal.TheVariants as refusal;
 
 use crate::login::HostLogin;
@@ -37,12 +38,14 @@ use std::alloc::Global;
 /// - it lists a principal, and is valid at that time for the host's name in small letters, for which
 ///   ssh asks it too.
 ///
-/// So one that lists the name with capitals alone is not the host's. One that lists nobody is no
+/// So one that lists the name with capitals alone is not the host's, and one that lists an address in
+/// another text than the canonical one is not that address's (`sshkey_addresses::asked_host`). One that lists nobody is no
 /// host's, as ssh(1) has it since 10.3; before, it was each host's of its authority.
 ///
 /// Unless memory runs out, it fails with the first of these that fits:
 /// - `Certificate` with an error of `Certificate::from_bytes`;
 /// - `NotNormalForm`;
+/// - `Host`: the port is 0, the host is empty, or it is like an address and has no text as one;
 /// - `Revoked`: `revocations` revokes the certificate, or a line one of the keys;
 /// - `Unreadable`: a line that can't be read could be one for the host;
 /// - `Unknown`: the key that signed is no authority of the host;
@@ -58,8 +61,8 @@ use std::alloc::Global;
 /// the texts about the host's plain name. Whether the certified key is one that the host is known
 /// by is `check_key`'s question, and not asked here.
 ///
-/// `Memory` means what it means for `Certificate::from_bytes`, or that a text has a line or
-/// `revocations` had to be asked (`Revocations::revokes_none`).
+/// `Memory` means what it means for `Certificate::from_bytes`, or that a text has a line,
+/// `revocations` had to be asked (`Revocations::revokes_none`) or the host is like an address.
 pub fn check_certificate<H: HmacSha1, R: Revocations, V: RawVerifier>(
     alloc: Global,
     login: &HostLogin,
@@ -73,8 +76,9 @@ pub fn check_certificate<H: HmacSha1, R: Revocations, V: RawVerifier>(
     ensures refused { IfErr result (λ r. r ≢ refusal.Memory → RefusesHostCertificate
         (login_of login.now (H.hmac hmac.now)) (V.accepts verifier.now) (R.revokes revocations.now)
         certificate.now r) }
-    ensures asks { AsksOf (certificate_format.needs certificate.now 0)
-        (R.revokes_none revocations.now) (lines_of login.now.texts.now) result }
+    ensures asks { AsksOf (certificate_format.needs certificate.now 0
+        ⊎ (is_like_address login.now.host.now ≡ true)) (R.revokes_none revocations.now)
+        (lines_of login.now.texts.now) result }
 {
     one_certificate();
     let read = match Certificate::from_bytes(alloc, certificate) {
@@ -89,6 +93,30 @@ pub fn check_certificate<H: HmacSha1, R: Revocations, V: RawVerifier>(
 
 /// Accepts the certificate if it is the host's.
 fn judge<H: HmacSha1, R: Revocations, V: RawVerifier>(
+    alloc: Global,
+    login: &HostLogin,
+    certificate: &Certificate,
+    hmac: &H,
+    revocations: &R,
+    verifier: &V,
+) -> Result<(), Refusal>
+    requires { IsCertificate (certificate_of certificate.now) }
+    ensures exactly { OkExactly (OfAsked (login_of login.now (H.hmac hmac.now))
+        (λ asked. IsTrustedCertificate asked (V.accepts verifier.now) (R.revokes revocations.now)
+        (certificate_of certificate.now))) result }
+    ensures refused { IfErr result (RefusesAsked (login_of login.now (H.hmac hmac.now))
+        (λ asked. IsWhyNoCertificate asked (V.accepts verifier.now) (R.revokes revocations.now)
+        (certificate_of certificate.now))) }
+    ensures asks { AsksOf (is_like_address login.now.host.now ≡ true)
+        (R.revokes_none revocations.now) (lines_of login.now.texts.now) result }
+{
+    let asked = login.asked(alloc)?;
+    let login = login.under(asked.as_str());
+    judge_asked(alloc, &login, certificate, hmac, revocations, verifier)
+}
+
+/// The same of a host under the name that is asked.
+fn judge_asked<H: HmacSha1, R: Revocations, V: RawVerifier>(
     alloc: Global,
     login: &HostLogin,
     certificate: &Certificate,

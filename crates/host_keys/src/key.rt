@@ -1,9 +1,10 @@
 //! Whether a key is the host's.
 
-ghost use Rattle.std.specs.Prelude.{IfErr};
+ghost use Rattle.std.specs.Prelude.{◌≡◌, IfErr, true};
+ghost use Rattle.sshkey_addresses.specs.Likeness.{is_like_address};
 ghost use Rattle.sshkey_keys.specs.Keys.{key_of};
-ghost use Rattle.host_keys.specs.Answers.{AsksOf, IsWhyNoKey, OkExactly};
-ghost use Rattle.host_keys.specs.Hosts.{IsTrustedKey, lines_of, login_of};
+ghost use Rattle.host_keys.specs.Answers.{AsksOf, IsWhyNoKey, OkExactly, RefusesHostKey};
+ghost use Rattle.host_keys.specs.Hosts.{IsHostKey, IsTrustedKey, lines_of, login_of};
 
 use crate::login::HostLogin;
 use crate::refusal::{Refusal, answer};
@@ -21,7 +22,10 @@ use std::alloc::Global;
 /// (ssh_config(5)), must not revoke it either, and ssh(1) has to accept its kind and size
 /// (`openssh_limits::is_let_in`).
 ///
+/// An address is asked about in its canonical text (`sshkey_addresses::asked_host`).
+///
 /// Unless memory runs out, it fails with the first of these that fits:
+/// - `Host`: the port is 0, the host is empty, or it is like an address and has no text as one;
 /// - `Revoked`: `revocations` or a line revokes the key;
 /// - `Unreadable`: a line that can't be read could be one for the host;
 /// - `Changed`: other keys are listed for the host, and not this one;
@@ -31,9 +35,29 @@ use std::alloc::Global;
 /// If it would refuse a host at another port than 22 with `Unknown`, it asks, as ssh(1) does, all
 /// the texts about the host's plain name, and that answer is the answer.
 ///
-/// It allocates only if a text has a line or `revocations` has to be asked
-/// (`Revocations::revokes_none`).
+/// It allocates only if a text has a line, `revocations` has to be asked
+/// (`Revocations::revokes_none`) or the host is like an address.
 pub fn check_key<H: HmacSha1, R: Revocations>(
+    alloc: Global,
+    login: &HostLogin,
+    key: &KeyData,
+    hmac: &H,
+    revocations: &R,
+) -> Result<(), Refusal>
+    ensures exactly { OkExactly (IsHostKey (login_of login.now (H.hmac hmac.now))
+        (R.revokes_key revocations.now) (key_of key.now)) result }
+    ensures refused { IfErr result (RefusesHostKey (login_of login.now (H.hmac hmac.now))
+        (R.revokes_key revocations.now) (key_of key.now)) }
+    ensures asks { AsksOf (is_like_address login.now.host.now ≡ true)
+        (R.revokes_none revocations.now) (lines_of login.now.texts.now) result }
+{
+    let asked = login.asked(alloc)?;
+    let login = login.under(asked.as_str());
+    check_asked(alloc, &login, key, hmac, revocations)
+}
+
+/// The same of a host under the name that is asked.
+fn check_asked<H: HmacSha1, R: Revocations>(
     alloc: Global,
     login: &HostLogin,
     key: &KeyData,

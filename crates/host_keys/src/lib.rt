@@ -4,6 +4,7 @@
 //! keys, and is proved from their contracts. Copy it and change it.
 #![tactic(auto)]
 
+mod asked;
 mod certificate;
 mod key;
 mod login;

@@ -7,9 +7,11 @@ pub struct HostLogin<'a> {
     /// Their lines are judged as if they stood in one, as by ssh(1). So give all of them at once:
     /// one file alone may list a key that another file revokes, or has changed at that port.
     pub texts: &'a [&'a str],
-    /// The name of the host.
+    /// The name or the address of the host, as the user typed it, without brackets. Of an address its
+    /// canonical text is asked (`sshkey_addresses::asked_host`). What stands in place of the name, as
+    /// ssh's `HostKeyAlias`, is asked alone, at port 22.
     pub host: &'a str,
-    /// The port.
+    /// The port, which is not 0.
     pub port: u16,
     /// The time, in seconds since 1970. Only a certificate is asked about it.
     pub unix_timestamp: u64,

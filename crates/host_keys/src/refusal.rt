@@ -2,8 +2,9 @@
 
 ghost use Rattle.std.specs.Prelude.{◌≡◌};
 ghost use Rattle.sshkey_base.specs.declared.error.Error.TheVariants.{Memory};
-ghost use Rattle.host_keys.specs.Answers.{IsRefusalFor, answer_of, verdict_answer};
+ghost use Rattle.host_keys.specs.Answers.{IsRefusalFor, IsRefusalForHost, answer_of, verdict_answer};
 
+use sshkey_addresses::HostFault;
 use sshkey_base::Error;
 use sshkey_cert::CertificateRefusal;
 use sshkey_known_hosts::Verdict;
@@ -31,6 +32,9 @@ pub enum Refusal {
     Invalid(CertificateRefusal),
     /// The bytes are not the certificate's normal form, and so not those that were signed.
     NotNormalForm,
+    /// Nothing can be asked about the host: the port is 0, the host is empty, or it is like an
+    /// address and has no text as one.
+    Host(HostFault),
     /// Memory ran out.
     Memory,
 }
@@ -44,6 +48,16 @@ impl Refusal {
             return Refusal::Memory;
         }
         Refusal::Certificate(error)
+    }
+
+    /// The refusal of a host for that fault.
+    pub(crate) fn of_host(fault: HostFault) -> Refusal
+        ensures { IsRefusalForHost fault result }
+    {
+        match fault {
+            HostFault::Memory => Refusal::Memory,
+            HostFault::Port | HostFault::Empty | HostFault::Address => Refusal::Host(fault),
+        }
     }
 }
 

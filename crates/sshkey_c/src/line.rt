@@ -1,7 +1,8 @@
 //! Lines of key files, of certificate files and of known_hosts.
 
-ghost use Rattle.std.specs.Prelude.{◌≡◌, ◌≢◌, ◌<◌, length};
+ghost use Rattle.std.specs.Prelude.{◌≡◌, ◌≢◌, ◌<◌, ◌⊎◌, length, true};
 ghost use Rattle.std.specs.Str.{IsUtf8};
+ghost use Rattle.sshkey_addresses.specs.Likeness.{is_like_address};
 ghost use Rattle.sshkey_entries.specs.Fields.{filled_lines, without_blanks};
 ghost use Rattle.sshkey_entries.specs.OtherKeys.{AreOtherKeyFields};
 ghost use Rattle.sshkey_entry_calls.specs.UnreadableLines.{TellsUnreadableLine};
@@ -53,7 +54,8 @@ pub extern "C" fn sshkey_unreadable_host_line(
         → TellsUnreadableLine known_hosts.now host.now port result number.new }
     ensures text { (IsUtf8 known_hosts.now → IsUtf8 host.now → ⊥) → result ≡ 4 }
     ensures kept { result ≢ 0 → number.new ≡ number.old }
-    ensures memory { result ≡ 1 → 0 < length (filled_lines known_hosts.now) }
+    ensures memory { result ≡ 1 → (0 < length (filled_lines known_hosts.now))
+        ⊎ (is_like_address host.now ≡ true) }
 {
     unreadable_host_line(alloc, known_hosts, host, port, number)
 }

@@ -8,3 +8,4 @@ mod Nothing
 mod RevokedFiles
 mod KeyKinds
 mod KeyLines
+mod AskedLines

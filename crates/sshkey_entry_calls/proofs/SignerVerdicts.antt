@@ -3,7 +3,7 @@ use denote.Ref.{Bor}
 use Rattle.std.proofs.Common.{◌≡◌, ◌≢◌, ◌<◌, arith, ◌∙◌, ℕ, List, [], Bool, subst, Option, Some, None, Result, Ok, Err, IfErr, refl, sym}
 use Rattle.allowed_signers.specs.AllowedSigners.{Counts, HasSignature, HasSigned, IsWhy, OkExactly}
 use Rattle.allowed_signers.specs.declared.signers.Refusal.{Refusal}
-use Rattle.allowed_signers.specs.declared.signers.Refusal.TheVariants.{Memory, NoSignature, NotAllowed, NotVerified, Revoked}
+use Rattle.allowed_signers.specs.declared.signers.Refusal.TheVariants.{Memory, NoIdentity, NoSignature, NotAllowed, NotVerified, Revoked}
 use Rattle.sshkey_base.specs.declared.error.Error.{Error}
 use Rattle.sshkey_calls.specs.Validations.{is_yes_number}
 use Rattle.sshkey_calls.proofs.Validations.{same_asking}
@@ -31,6 +31,7 @@ module _ (accepts : Question → Bool) (revokes : List ℕ → Bool) (of_revoked
     first = λ some. absurd (some refl);
   }
   judged high (Err NoSignature) none why = refused NoSignature (λ e. cc e) (λ _. none (λ e. cc e)) why
+  judged high (Err NoIdentity) none why = refused NoIdentity (λ e. cc e) (λ _. none (λ e. cc e)) why
   judged high (Err NotAllowed) none why = refused NotAllowed (λ e. cc e) (λ _. none (λ e. cc e)) why
   judged high (Err Revoked) none why = refused Revoked (λ e. absurd (omega (arith, high, e))) (λ _. none (λ e. cc e)) why
   judged high (Err NotVerified) none why = refused NotVerified (λ e. cc e) (λ _. none (λ e. cc e)) why
@@ -56,9 +57,10 @@ module _ (accepts : Question → Bool) (bytes message : List ℕ) (is_verified :
   module _ (revokes : List ℕ → Bool) (of_revoked : ℕ) (signers identity namespace : List ℕ) (time : ℕ) where
     why_there : (r : Refusal) → IsWhy (λ _. is_yes_number is_verified) revokes signers identity namespace [] time bytes r → IsWhy accepts revokes signers identity namespace message time bytes r
     why_there NoSignature why = why
+    why_there NoIdentity why = why
     why_there NotAllowed why = why
     why_there Revoked why = why
-    why_there NotVerified why = (why.0, why.1, (why.2.0, why.2.1, λ has. why.2.2 (back namespace why.0 why.1 has)))
+    why_there NotVerified why = (why.0, (why.1.0, why.1.1, (why.1.2.0, why.1.2.1, λ has. why.1.2.2 (back namespace why.1.0 why.1.1 has))))
     why_there Memory why = why
 
     pub judged_there : (n : ℕ) → IsJudged (λ _. is_yes_number is_verified) revokes of_revoked signers identity namespace [] time bytes n → IsJudged accepts revokes of_revoked signers identity namespace message time bytes n
@@ -66,8 +68,8 @@ module _ (accepts : Question → Bool) (bytes message : List ℕ) (is_verified :
       counts = record {
         yes_ = λ zero_.
             let h = is.counts.yes_ zero_ in
-            (h.0, h.1, record { allowed = h.2.allowed; unrevoked = h.2.unrevoked; signed = there namespace h.0 h.1 h.2.signed });
-        no_ = λ some other h. is.counts.no_ some other (h.0, h.1, record { allowed = h.2.allowed; unrevoked = h.2.unrevoked; signed = back namespace h.0 h.1 h.2.signed });
+            (h.0, h.1, record { identity_given = h.2.identity_given; allowed = h.2.allowed; unrevoked = h.2.unrevoked; signed = there namespace h.0 h.1 h.2.signed });
+        no_ = λ some other h. is.counts.no_ some other (h.0, h.1, record { identity_given = h.2.identity_given; allowed = h.2.allowed; unrevoked = h.2.unrevoked; signed = back namespace h.0 h.1 h.2.signed });
       };
       first = λ some other.
           let w = is.first some other in

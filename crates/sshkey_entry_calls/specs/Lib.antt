@@ -11,3 +11,4 @@ pub mod UnreadableLines
 pub mod Authorities
 pub mod Modes
 pub mod Verifiers
+pub mod AskedHosts

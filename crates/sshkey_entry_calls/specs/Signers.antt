@@ -4,7 +4,7 @@ use denote.Ref.{Bor}
 use Rattle.std.specs.Prelude.{◌≡◌, ◌≢◌, ℕ, List, Bool, Some, Result, Ok, Err}
 use Rattle.allowed_signers.specs.AllowedSigners.{Counts, HasSignature, IsWhy}
 use Rattle.allowed_signers.specs.declared.signers.Refusal.{Refusal}
-use Rattle.allowed_signers.specs.declared.signers.Refusal.TheVariants.{Memory, NoSignature, NotAllowed, NotVerified, Revoked}
+use Rattle.allowed_signers.specs.declared.signers.Refusal.TheVariants.{Memory, NoIdentity, NoSignature, NotAllowed, NotVerified, Revoked}
 use Rattle.sshkey_base.specs.Acceptance.{SpellsSome}
 use Rattle.sshkey_base.specs.declared.error.Error.{Error}
 use Rattle.sshkey_calls.specs.Validations.{SaysWhether, is_yes_number}
@@ -21,6 +21,7 @@ verdict_number of_revoked (Ok x) = 0
 verdict_number of_revoked (Err Memory) = 1
 verdict_number of_revoked (Err NoSignature) = 30
 verdict_number of_revoked (Err NotVerified) = 30
+verdict_number of_revoked (Err NoIdentity) = 103
 verdict_number of_revoked (Err NotAllowed) = 55
 verdict_number of_revoked (Err Revoked) = of_revoked
 

@@ -19,6 +19,9 @@ use sshkey_sshsig::SshSig;
 use std::alloc::Global;
 use std::str;
 
+/// The identity has no bytes.
+const NO_IDENTITY: u32 = 103;
+
 /// Whether the SSH signature that all the bytes spell counts as the identity's in that namespace,
 /// by a text of allowed signers, at that time, in seconds since 1970 (`allowed_signers::verify`). 1
 /// says that its question (`sshsig_question`) was answered yes, and every other number that it was
@@ -26,7 +29,7 @@ use std::str;
 ///
 /// Returns 0 if it does, 1 if memory ran out, 4 where the text, the identity or the namespace is
 /// not UTF-8, from 10 to 29 the fault of bytes that are no SSH signature, and else what is wrong
-/// first: 55 where no line lets its key sign, 58 where a revocation file cannot be read or there is
+/// first: 103 for an identity of no bytes, 55 where no line lets its key sign, 58 where a revocation file cannot be read or there is
 /// none, which revokes each key, 56 for a key that is revoked, and 30 where it was not verified, is in another
 /// namespace or has reserved bytes. So 30, before anything is verified, says that its key may sign.
 /// Memory is taken only for a part of the signature that is whole.
@@ -111,6 +114,7 @@ fn verdict_number(verdict: std::result::Result<(), Refusal>, of_revoked: u32) ->
 {
     match verdict {
         Ok(()) => DONE,
+        Err(Refusal::NoIdentity) => NO_IDENTITY,
         Err(Refusal::NotAllowed) => SIGNER_NOT_ALLOWED,
         Err(Refusal::Revoked) => of_revoked,
         Err(Refusal::NoSignature | Refusal::NotVerified) => NOT_SIGNED,

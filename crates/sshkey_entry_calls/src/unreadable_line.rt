@@ -1,20 +1,25 @@
 //! Which line of a text of known_hosts cannot be read.
 
-ghost use Rattle.std.specs.Prelude.{◌≡◌, ◌≢◌, ◌<◌, ◌⊎◌, None, Some, length};
+ghost use Rattle.std.specs.Prelude.{◌≡◌, ◌≢◌, ◌<◌, ◌⊎◌, None, Some, length, true};
 ghost use Rattle.std.specs.Str.{IsUtf8};
+ghost use Rattle.sshkey_addresses.specs.Likeness.{is_like_address};
 ghost use Rattle.sshkey_entries.specs.Fields.{filled_lines};
-ghost use Rattle.sshkey_entry_calls.specs.UnreadableLines.{TellsUnreadableLine};
+ghost use Rattle.sshkey_entry_calls.specs.UnreadableLines.{TellsLine, TellsUnreadableLine};
 
+use crate::asked_host::host_fault_number;
+use sshkey_addresses::asked_host;
 use sshkey_calls::number::{DONE, END, MEMORY, TEXT};
 use sshkey_known_hosts::{Hmac, unreadable_line};
 use std::alloc::Global;
 use std::str;
 
 /// The number of the first line, from 1, by which a text of known_hosts cannot be read for a host
-/// at a port (`sshkey_known_hosts::unreadable_line`).
+/// at a port (`sshkey_known_hosts::unreadable_line`), under the name that is asked
+/// (`sshkey_addresses::asked_host`).
 ///
 /// Returns 0 if there is one, 3 if there is none, 4 where the text or the host's name is not UTF-8,
-/// and 1 if memory ran out, which a text that is empty or has comments alone does not take. With
+/// `host_fault_number` where nothing can be asked about the host, and 1 if memory ran out, which a
+/// text that is empty or has comments alone does not take, nor a host that is like no address. With
 /// any answer but 0 the number stays as it was.
 pub fn unreadable_host_line(
     alloc: Global,
@@ -27,12 +32,25 @@ pub fn unreadable_host_line(
         → TellsUnreadableLine known_hosts.now host.now port result number.new }
     ensures text { (IsUtf8 known_hosts.now → IsUtf8 host.now → ⊥) → result ≡ 4 }
     ensures kept { result ≢ 0 → number.new ≡ number.old }
-    ensures memory { result ≡ 1 → 0 < length (filled_lines known_hosts.now) }
+    ensures memory { result ≡ 1 → (0 < length (filled_lines known_hosts.now))
+        ⊎ (is_like_address host.now ≡ true) }
 {
     let (Ok(text), Ok(host)) = (str::from_utf8(known_hosts), str::from_utf8(host)) else {
         return TEXT;
     };
-    let Ok(found) = unreadable_line(alloc, text, host, port, &Hmac) else {
+    match asked_host(alloc, host, port) {
+        Ok(asked) => find_line(alloc, text, asked.as_str(), port, number),
+        Err(fault) => host_fault_number(fault),
+    }
+}
+
+/// The same of a text and of a host by the name that is asked.
+fn find_line(alloc: Global, text: &str, name: &str, port: u16, number: &mut usize) -> u32
+    ensures line { TellsLine text.now name.now port result number.new }
+    ensures kept { result ≢ 0 → number.new ≡ number.old }
+    ensures memory { result ≡ 1 → 0 < length (filled_lines text.now) }
+{
+    let Ok(found) = unreadable_line(alloc, text, name, port, &Hmac) else {
         return MEMORY;
     };
     tell_line(found, number)

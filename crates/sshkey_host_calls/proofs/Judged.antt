@@ -13,6 +13,7 @@ is_memory refusal.Changed = inr (λ same. cc same)
 is_memory refusal.Unknown = inr (λ same. cc same)
 is_memory refusal.UnacceptedKey = inr (λ same. cc same)
 is_memory refusal.NotNormalForm = inr (λ same. cc same)
+is_memory (refusal.Host f) = inr (λ same. cc same)
 is_memory (refusal.Certificate e) = inr (λ same. cc same)
 is_memory (refusal.Invalid first) = inr (λ same. cc same)
 

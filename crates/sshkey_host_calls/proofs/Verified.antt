@@ -1,7 +1,7 @@
 -- The verifier that says to every question what was said to the one.
 use Rattle.std.proofs.Common.{◌≡◌, ℕ, List, Bool, Some, None, inl, inr, subst, sym, ◌∙◌}
-use Rattle.host_keys.specs.Answers.{IsWhyNoCertificate, RefusesHostCertificate}
-use Rattle.host_keys.specs.Hosts.{HostLogin, IsGoodFor, IsHostCertificate, IsTrustedCertificate, plain_name, signers}
+use Rattle.host_keys.specs.Answers.{IsWhyNoCertificate, RefusesAsked, RefusesHostCertificate}
+use Rattle.host_keys.specs.Hosts.{HostLogin, IsGoodFor, IsHostCertificate, IsTrustedCertificate, OfAsked, plain_name, signers}
 use Rattle.host_keys.specs.declared.refusal.Refusal.{Refusal}
 use Rattle.host_keys.specs.declared.refusal.Refusal.TheVariants as refusal
 use Rattle.sshkey_calls.specs.Validations.{Verified, is_yes_number}
@@ -36,6 +36,7 @@ module _ (login : HostLogin) (one other : Question → Bool) (revokes : List ℕ
   why_there refusal.Unknown why = why
   why_there refusal.UnacceptedKey why = why
   why_there refusal.NotNormalForm why = why
+  why_there (refusal.Host f) why = why
   why_there refusal.Memory why = why
 
 -- ---- what is told
@@ -44,19 +45,27 @@ module _ (login : HostLogin) (accepts : Question → Bool) (revokes : List ℕ �
   abbrev said : Question → Bool
   said _ = is_yes_number is_verified
 
-  same : (c : Certificate) → SpellsCertificate c bytes → first_refusal_for said (signers c) login.time (plain_name login.host) c ≡ first_refusal_for accepts (signers c) login.time (plain_name login.host) c
-  same c spelled = same_first_of accepts bytes is_verified v c spelled (signers c) login.time (Some (plain_name login.host))
+  same : (c : Certificate) → SpellsCertificate c bytes → (host : List ℕ) → first_refusal_for said (signers c) login.time (plain_name host) c ≡ first_refusal_for accepts (signers c) login.time (plain_name host) c
+  same c spelled host = same_first_of accepts bytes is_verified v c spelled (signers c) login.time (Some (plain_name host))
+
+  -- under the name that is asked
+  asked_there : (one other : Question → Bool) (c : Certificate) → ((host : List ℕ) → first_refusal_for one (signers c) login.time (plain_name host) c ≡ first_refusal_for other (signers c) login.time (plain_name host) c) → OfAsked login (λ asked. IsTrustedCertificate asked one revokes c) → OfAsked login (λ asked. IsTrustedCertificate asked other revokes c)
+  asked_there one other c same is = record { name = is.name; asked = is.asked; holds = trusted_there (record login { host = is.name }) one other revokes c (same is.name) is.holds }
+
+  why_asked : (c : Certificate) → SpellsCertificate c bytes → (r : Refusal) → RefusesAsked login (λ asked. IsWhyNoCertificate asked said revokes c) r → RefusesAsked login (λ asked. IsWhyNoCertificate asked accepts revokes c) r
+  why_asked c spelled r (inl fault) = inl fault
+  why_asked c spelled r (inr is) = inr (record { name = is.name; asked = is.asked; holds = why_there (record login { host = is.name }) said accepts revokes c (same c spelled is.name) r is.holds })
 
   pub holds_there : IsHostCertificate login said revokes bytes → IsHostCertificate login accepts revokes bytes
-  holds_there is = record { certificate = is.certificate; spelled = is.spelled; normal = is.normal; trusted = trusted_there login said accepts revokes is.certificate (same is.certificate is.spelled) is.trusted }
+  holds_there is = record { certificate = is.certificate; spelled = is.spelled; normal = is.normal; trusted = asked_there said accepts is.certificate (same is.certificate is.spelled) is.trusted }
 
   pub holds_back : IsHostCertificate login accepts revokes bytes → IsHostCertificate login said revokes bytes
-  holds_back is = record { certificate = is.certificate; spelled = is.spelled; normal = is.normal; trusted = trusted_there login accepts said revokes is.certificate (sym (same is.certificate is.spelled)) is.trusted }
+  holds_back is = record { certificate = is.certificate; spelled = is.spelled; normal = is.normal; trusted = asked_there accepts said is.certificate (λ host. sym (same is.certificate is.spelled host)) is.trusted }
 
   pub refuses_there : (r : Refusal) → RefusesHostCertificate login said revokes bytes r → RefusesHostCertificate login accepts revokes bytes r
   refuses_there r (inl unread) = inl unread
   refuses_there r (inr (c, spelled, inl other)) = inr (c, spelled, inl other)
-  refuses_there r (inr (c, spelled, inr why)) = inr (c, spelled, inr (why.0, why_there login said accepts revokes c (same c spelled) r why.1))
+  refuses_there r (inr (c, spelled, inr why)) = inr (c, spelled, inr (why.0, why_asked c spelled r why.1))
 
 -- ---- from what was said to each such verifier
 

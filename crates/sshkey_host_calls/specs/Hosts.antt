@@ -2,9 +2,9 @@
 use Rattle.std.specs.List.{list_all}
 use Rattle.std.specs.Prelude.{◌≡◌, ◌≢◌, ◌&&◌, ℕ, List, Bool, Some, Result, Ok, Err, if◌then◌else◌}
 use Rattle.std.specs.Str.{is_utf8}
-use Rattle.host_keys.specs.Answers.{IsWhyNoKey, RefusesHostCertificate}
+use Rattle.host_keys.specs.Answers.{RefusesHostCertificate, RefusesHostKey}
 use Rattle.host_keys.specs.Hosts as hosts
-use Rattle.host_keys.specs.Hosts.{IsHostCertificate, IsTrustedKey, lines_of}
+use Rattle.host_keys.specs.Hosts.{IsHostCertificate, IsHostKey, lines_of}
 use Rattle.host_keys.specs.declared.refusal.Refusal.{Refusal}
 use Rattle.host_keys.specs.declared.refusal.Refusal.TheVariants as refusal
 use Rattle.sshkey_base.specs.declared.error.Error.{Error}
@@ -12,6 +12,7 @@ use Rattle.sshkey_calls.specs.Numbers.{certificate_error_number, refusal_number}
 use Rattle.sshkey_calls.specs.Outcomes.{TellsOf}
 use Rattle.sshkey_calls.specs.Validations.{SaysWhether, Verified}
 use Rattle.sshkey_cert.specs.Validity.{refusal_of}
+use Rattle.sshkey_entry_calls.specs.AskedHosts.{host_fault_number}
 use Rattle.sshkey_entry_calls.specs.RevocationFiles.{AreReadOf, are_read, one_revokes, one_revokes_key}
 use Rattle.sshkey_known_hosts.specs.Hmac.{hmac_sha1}
 use Rattle.sshkey_model.specs.Certificates.{certificate_at, SpellsCertificate}
@@ -47,6 +48,7 @@ host_number are_read refusal.Changed = 52
 host_number are_read refusal.Unknown = 53
 host_number are_read refusal.UnacceptedKey = 59
 host_number are_read refusal.NotNormalForm = 70
+host_number are_read (refusal.Host f) = host_fault_number f
 host_number are_read (refusal.Certificate e) = certificate_error_number e
 host_number are_read (refusal.Invalid first) = refusal_number (Some (refusal_of first))
 host_number are_read refusal.Memory = 1
@@ -64,7 +66,7 @@ pub record IsJudged (Holds : Type 0) (IsWhy : Refusal → Type 0) (are_read : Bo
 
 -- Memory aside, it is the number of the verdict on the key, by what reading the files gives.
 abbrev pub TellsKey : HostLogin → Key → ℕ → Type 0
-TellsKey l k n = n ≢ 1 → (reads : List (Result RevokedKeys Error)) × AreReadOf l.revoked.now reads × IsJudged (IsTrustedKey (login_of l) (one_revokes_key reads) k) (IsWhyNoKey (login_of l) (one_revokes_key reads) k) (are_read reads) n
+TellsKey l k n = n ≢ 1 → (reads : List (Result RevokedKeys Error)) × AreReadOf l.revoked.now reads × IsJudged (IsHostKey (login_of l) (one_revokes_key reads) k) (RefusesHostKey (login_of l) (one_revokes_key reads) k) (are_read reads) n
 
 -- It is told of the key that the bytes spell.
 abbrev pub TellsHostKey : HostLogin → List ℕ → ℕ → Type 0

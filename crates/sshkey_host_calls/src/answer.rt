@@ -8,6 +8,7 @@ use sshkey_calls::number::{
     DONE, HOST_CHANGED, HOST_REVOKED, HOST_UNKNOWN, HOST_UNREADABLE, KEY_NOT_ACCEPTED, MEMORY,
     NOT_NORMAL_FORM, UNREADABLE_REVOCATIONS, certificate_error_number, refusal_number,
 };
+use sshkey_entry_calls::host_fault_number;
 
 /// The number of an answer, by whether each revocation file could be read.
 pub(crate) fn answer_number(answer: Result<(), Refusal>, are_read: bool) -> u32
@@ -22,6 +23,7 @@ pub(crate) fn answer_number(answer: Result<(), Refusal>, are_read: bool) -> u32
         Err(Refusal::Unknown) => HOST_UNKNOWN,
         Err(Refusal::UnacceptedKey) => KEY_NOT_ACCEPTED,
         Err(Refusal::NotNormalForm) => NOT_NORMAL_FORM,
+        Err(Refusal::Host(fault)) => host_fault_number(fault),
         Err(Refusal::Certificate(error)) => certificate_error_number(error),
         Err(Refusal::Invalid(first)) => refusal_number(Some(first)),
         Err(Refusal::Memory) => MEMORY,

@@ -20,7 +20,8 @@ use std::alloc::Global;
 ///
 /// Returns 0 if it is, 1 if memory ran out, 4 where a text or the host's name is not UTF-8, from 10
 /// to 29 the fault of bytes that are no certificate, and else what is wrong first: 70 for bytes that
-/// are not its normal form; 58 where a revocation file cannot be read, or there is none; 50 where
+/// are not its normal form; 100 for port 0, 101 for a host of no bytes, 102 for one that is like an
+/// address and has no text as one; 58 where a revocation file cannot be read, or there is none; 50 where
 /// the certificate or one of its keys is revoked, 51 where a line that cannot be read may be one for
 /// the host, 53 where the key that signed is no authority of the host, 59 for a kind or a size of
 /// key that ssh(1) does not accept; 71 for one of users, 73 for one with critical options, 75 and

@@ -18,7 +18,8 @@ use std::alloc::Global;
 /// of known_hosts and the revocation files. Hashed names are compared by `sshkey_known_hosts::Hmac`.
 ///
 /// Returns 0 if it is, 1 if memory ran out, 4 where a text or the host's name is not UTF-8, from 10
-/// to 29 the fault of bytes that are no key, and else what is wrong first: 58 where a revocation
+/// to 29 the fault of bytes that are no key, and else what is wrong first: 100 for port 0, 101 for a
+/// host of no bytes, 102 for one that is like an address and has no text as one; 58 where a revocation
 /// file cannot be read, or there is none; 50 for a key that is revoked, 51 where a line that cannot
 /// be read may be one for the host, 52 where the host has another key, 53 where no line is for the
 /// host, and 59 for a kind or a size of key that ssh(1) does not accept. Memory is taken only for

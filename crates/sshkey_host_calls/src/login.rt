@@ -16,7 +16,7 @@ use std::str;
 pub struct HostLogin<'a> {
     /// The texts of known_hosts: those of all the files that count, the user's and the machine's.
     pub known_hosts: &'a [&'a [u8]],
-    /// The name of the host.
+    /// The name or the address of the host, as the user typed it, without brackets.
     pub host: &'a [u8],
     /// Revocation files (`RevokedHostKeys` of ssh_config(5)): any of them revokes. One that cannot
     /// be read revokes everything, and so does no file at all.
@@ -26,7 +26,7 @@ pub struct HostLogin<'a> {
     /// How many bits an RSA key has at least, as `RequiredRSASize` in ssh_config(5). Below 1,024, as
     /// 0, it is 1,024.
     pub least_rsa_bits: u32,
-    /// The port.
+    /// The port, which is not 0.
     pub port: u16,
 }
 

@@ -50,8 +50,8 @@ pub mod known_hosts {
 /// Where a client may come from.
 pub mod addresses {
     pub use ssh_key::addresses::{
-        FromFault, Malformed, from_allows, from_allows_at, is_source_list, may_come_from,
-        source_address_allows,
+        AskedHost, FromFault, HostFault, Malformed, asked_host, from_allows, from_allows_at,
+        is_source_list, may_come_from, source_address_allows,
     };
 }
 

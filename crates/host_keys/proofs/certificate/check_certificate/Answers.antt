@@ -1,9 +1,15 @@
-use Rattle.std.proofs.Common.{◌≡◌, [], true, ap, inl, inr, refl, subst, sym, ◌∙◌}
+use Rattle.std.proofs.Common.{◌≡◌, ◌≢◌, ◌⊎◌, ℕ, Bool, IfErr, List, [], Result, Ok, Err, true, ap, inl, inr, refl, subst, sym, ◌∙◌}
 use Rattle.sshkey_cert.specs.CertificateValues.{certificate_of}
-use Rattle.sshkey_model.specs.Certificates.{Certificate, normal_certificate, certificate_format}
+use Rattle.sshkey_krl.specs.Revocation.{CertificateIdentity}
+use Rattle.sshkey_model.specs.Certificates.{Certificate, SpellsCertificate, normal_certificate, certificate_format}
 use Rattle.sshkey_model.specs.Parts.{flat}
+use Rattle.sshkey_model.specs.Verification.{Question}
 use Rattle.sshkey_base.proofs.Acceptance.{other_cause}
-use Rattle.host_keys.specs.Hosts.{IsHostCertificate, IsTrustedCertificate, lines_of, login_of}
+use Rattle.sshkey_addresses.specs.Likeness.{is_like_address}
+use Rattle.host_keys.specs.Answers.{IsWhyNoCertificate, RefusesAsked, RefusesHostCertificate}
+use Rattle.host_keys.specs.Hosts.{HostLogin, IsHostCertificate, IsTrustedCertificate, OfAsked, lines_of, login_of}
+use Rattle.host_keys.specs.declared.refusal.Refusal.{Refusal}
+use Rattle.host_keys.specs.declared.refusal.Refusal.TheVariants as refusal
 use Rattle.host_keys.proofs.Said.{as_much, asks_more, other_of}
 use Rattle.host_keys.proofs.certificate.check_certificate.Goals as goal
 
@@ -29,12 +35,20 @@ returns-clause-exactly g c =
     let login = login_of c.args.login.now (g.H.HmacSha1.hmac c.args.hmac.now) in
     let accepts = g.V.RawVerifier.accepts c.args.verifier.now in
     let revokes = g.R.Revocations.revokes c.args.revocations.now in
-    as_much {P = IsTrustedCertificate login accepts revokes (certificate_of c.in-Ok.read)} {Q = IsHostCertificate login accepts revokes c.args.certificate.now} _
+    as_much {P = OfAsked login (λ asked. IsTrustedCertificate asked accepts revokes (certificate_of c.in-Ok.read))} {Q = IsHostCertificate login accepts revokes c.args.certificate.now} _
     (λ trusted. record { certificate = certificate_of c.in-Ok.read; spelled = c.in-Ok.ensures.accepts.spelled; normal = c.is_normal_form.ensures.0 c.if-not-is_normal_form.false; trusted = trusted })
     (λ is.
     let same = (c.one_certificate.ensures (certificate_of c.in-Ok.read) is.certificate c.args.certificate.now c.args.certificate.now [] [] c.in-Ok.ensures.accepts.spelled is.spelled refl).0 in
-    subst (IsTrustedCertificate login accepts revokes) (sym same) is.trusted)
+    subst (λ (d : Certificate). OfAsked login (λ asked. IsTrustedCertificate asked accepts revokes d)) (sym same) is.trusted)
     c.judge.ensures.exactly
 
+module _ (login : HostLogin) (accepts : Question → Bool) (revokes : List ℕ → CertificateIdentity → Bool) (blob : List ℕ) (d : Certificate) (spelled : SpellsCertificate d blob) (normal : blob ≡ flat (normal_certificate d)) where
+  refused : (r : Result (Unit {0}) Refusal) → IfErr r (RefusesAsked login (λ asked. IsWhyNoCertificate asked accepts revokes d)) → IfErr r (λ e. e ≢ refusal.Memory → RefusesHostCertificate login accepts revokes blob e)
+  refused (Ok u) why = tt
+  refused (Err e) why = λ other. inr (d, spelled, inr (normal, why))
+
+pub returns-clause-refused : goal.returns-clause-refused
+returns-clause-refused g c = refused (login_of c.args.login.now (g.H.HmacSha1.hmac c.args.hmac.now)) (g.V.RawVerifier.accepts c.args.verifier.now) (g.R.Revocations.revokes c.args.revocations.now) c.args.certificate.now (certificate_of c.in-Ok.read) c.in-Ok.ensures.accepts.spelled (c.is_normal_form.ensures.0 c.if-not-is_normal_form.false) c.judge.result c.judge.ensures.refused
+
 pub returns-clause-asks : goal.returns-clause-asks
-returns-clause-asks g c = asks_more (certificate_format.needs c.args.certificate.now 0) (g.R.Revocations.revokes_none c.args.revocations.now) (lines_of c.args.login.now.texts.now) c.judge.result c.judge.ensures.asks
+returns-clause-asks g c = asks_more (is_like_address c.args.login.now.host.now ≡ true) (certificate_format.needs c.args.certificate.now 0 ⊎ (is_like_address c.args.login.now.host.now ≡ true)) inr (g.R.Revocations.revokes_none c.args.revocations.now) (lines_of c.args.login.now.texts.now) c.judge.result c.judge.ensures.asks

@@ -1,60 +1,43 @@
-use Rattle.std.proofs.Common.{ap, sym, subst, true≢false, ◌∙◌}
+use Rattle.std.proofs.Common.{◌≡◌, ℕ, true, IfErr, List, ap, inl, subst, sym}
 use Rattle.std.proofs.lemmas.Result.{err_from_is_err_and}
+use Rattle.sshkey_addresses.specs.AskedHosts.{IsAsked}
+use Rattle.sshkey_addresses.specs.Likeness.{is_like_address}
 use Rattle.sshkey_cert.specs.CertificateValues.{certificate_of}
-use Rattle.sshkey_krl.specs.Revocations.{is_certificate_revoked}
-use Rattle.openssh_limits.specs.Keys.{is_let_in}
-use Rattle.host_keys.specs.Answers.{AsksOf}
-use Rattle.host_keys.specs.Hosts.{IsBadFor, IsGoodFor, IsSaidOfSigned, IsTrustedCertificate, lines_of, login_of, plain_name}
-use Rattle.host_keys.proofs.Said.{as_much, asks_of, why_bad}
-use Rattle.host_keys.proofs.Signed.{judged, why_judged}
+use Rattle.host_keys.specs.Answers.{AsksOf, IsWhyNoCertificate, OkExactly}
+use Rattle.host_keys.specs.Hosts.{HostLogin, IsTrustedCertificate, login_of}
+use Rattle.host_keys.proofs.AskedNames.{exactly_asked, needs_name, none_asked, why_asked}
+use Rattle.host_keys.proofs.Said.{asks_more}
 use Rattle.host_keys.proofs.certificate.judge.Goals as goal
 
-pub returns-in_err-answer : goal.returns-in_err-answer
-returns-in_err-answer g c =
-    let hmac = g.H.HmacSha1.hmac c.args.hmac.now in
-    let certificate = certificate_of c.args.certificate.now in
-    let lines = lines_of c.args.login.now.texts.now in
-    let revoked = is_certificate_revoked (g.R.Revocations.revokes c.args.revocations.now) certificate in
-    let Bad = IsBadFor (g.V.RawVerifier.accepts c.args.verifier.now) c.args.login.now.unix_timestamp (plain_name c.args.login.now.host.now) certificate in
+pub returns-in_err-asked : goal.returns-in_err-asked
+returns-in_err-asked g c =
+    let login = login_of c.args.login.now (g.H.HmacSha1.hmac c.args.hmac.now) in
     let p = err_from_is_err_and c.from_residual.result c.from_residual.ensures.1 in
     rw (p.1, p.2) (record {
-      exactly = λ other (is : IsTrustedCertificate (login_of c.args.login.now hmac) (g.V.RawVerifier.accepts c.args.verifier.now) (g.R.Revocations.revokes c.args.revocations.now) certificate).
-          judged hmac c.args.login.now.host.now c.args.login.now.port certificate lines revoked _ _ _ _ c.public_key-key.ensures.value c.signature_key-signer.ensures.value c.is_certificate_revoked-revoked.ensures.said c.signed_verdict-said.ensures.answer _ (sym c.answer.ensures ∙ c.in_err-answer.was) other (is.unrevoked, is.by_authority);
-      refused = why_judged hmac c.args.login.now.host.now c.args.login.now.port certificate lines revoked _ _ _ _ c.public_key-key.ensures.value c.signature_key-signer.ensures.value c.is_certificate_revoked-revoked.ensures.said c.signed_verdict-said.ensures.answer _ (sym c.answer.ensures ∙ c.in_err-answer.was) _ Bad;
-      asks = subst (AsksOf ⊥ (g.R.Revocations.revokes_none c.args.revocations.now) lines) (sym c.answer.ensures ∙ c.in_err-answer.was) (asks_of ⊥ _ lines _ _ c.is_certificate_revoked-revoked.ensures.asks c.signed_verdict-said.ensures.asks);
+      exactly = none_asked login (λ asked. IsTrustedCertificate asked (g.V.RawVerifier.accepts c.args.verifier.now) (g.R.Revocations.revokes c.args.revocations.now) (certificate_of c.args.certificate.now)) _ c.in_err-asked.ensures;
+      refused = inl c.in_err-asked.ensures;
+      asks = needs_name login _ _ _ c.in_err-asked.ensures;
     })
-
-pub returns-then-not-is_let_in-clause-exactly : goal.returns-then-not-is_let_in-clause-exactly
-returns-then-not-is_let_in-clause-exactly g c = λ other is. true≢false (sym is.accepted ∙ ap (is_let_in c.args.login.now.least_rsa_bits) (sym c.public_key-key.ensures.value) ∙ sym c.is_let_in.ensures ∙ c.if-not-is_let_in.true)
-
-pub returns-then-not-is_let_in-clause-refused : goal.returns-then-not-is_let_in-clause-refused
-returns-then-not-is_let_in-clause-refused g c =
-    let hmac = g.H.HmacSha1.hmac c.args.hmac.now in
-    let certificate = certificate_of c.args.certificate.now in
-    let lines = lines_of c.args.login.now.texts.now in
-    let revoked = is_certificate_revoked (g.R.Revocations.revokes c.args.revocations.now) certificate in
-    let trusted = judged hmac c.args.login.now.host.now c.args.login.now.port certificate lines revoked _ _ _ _ c.public_key-key.ensures.value c.signature_key-signer.ensures.value c.is_certificate_revoked-revoked.ensures.said c.signed_verdict-said.ensures.answer _ (sym c.answer.ensures ∙ c.in_ok-answer.was) in
-    (trusted.0, trusted.1, ap (is_let_in c.args.login.now.least_rsa_bits) (sym c.public_key-key.ensures.value) ∙ sym c.is_let_in.ensures ∙ c.if-not-is_let_in.true)
 
 pub returns-clause-exactly : goal.returns-clause-exactly
 returns-clause-exactly g c =
     let hmac = g.H.HmacSha1.hmac c.args.hmac.now in
-    let certificate = certificate_of c.args.certificate.now in
-    let lines = lines_of c.args.login.now.texts.now in
-    let revoked = is_certificate_revoked (g.R.Revocations.revokes c.args.revocations.now) certificate in
-    let trusted = judged hmac c.args.login.now.host.now c.args.login.now.port certificate lines revoked _ _ _ _ c.public_key-key.ensures.value c.signature_key-signer.ensures.value c.is_certificate_revoked-revoked.ensures.said c.signed_verdict-said.ensures.answer _ (sym c.answer.ensures ∙ c.in_ok-answer.was) in
-    let accepted = ap (is_let_in c.args.login.now.least_rsa_bits) (sym c.public_key-key.ensures.value) ∙ sym c.is_let_in.ensures ∙ c.if-not-is_let_in.false in
-    as_much {P = IsGoodFor (g.V.RawVerifier.accepts c.args.verifier.now) c.args.login.now.unix_timestamp (plain_name c.args.login.now.host.now) certificate} {Q = IsTrustedCertificate (login_of c.args.login.now hmac) (g.V.RawVerifier.accepts c.args.verifier.now) (g.R.Revocations.revokes c.args.revocations.now) certificate} c.validate.result
-    (λ good. record { by_authority = trusted.1; unrevoked = trusted.0; accepted = accepted; good = good })
-    (λ is. is.good)
-    c.validate.ensures.exactly
+    let login = login_of c.args.login.now hmac in
+    let Holds = λ (l : HostLogin). IsTrustedCertificate l (g.V.RawVerifier.accepts c.args.verifier.now) (g.R.Revocations.revokes c.args.revocations.now) (certificate_of c.args.certificate.now) in
+    let asked = subst (IsAsked login.host login.port) (sym c.as_str.ensures) c.in_ok-asked.ensures in
+    exactly_asked login c.as_str.result.now asked c.judge_asked.result Holds (subst (λ (l : HostLogin). OkExactly (Holds l) c.judge_asked.result) (c.under-login.ensures hmac) c.judge_asked.ensures.exactly)
 
 pub returns-clause-refused : goal.returns-clause-refused
 returns-clause-refused g c =
     let hmac = g.H.HmacSha1.hmac c.args.hmac.now in
-    let certificate = certificate_of c.args.certificate.now in
-    let lines = lines_of c.args.login.now.texts.now in
-    let revoked = is_certificate_revoked (g.R.Revocations.revokes c.args.revocations.now) certificate in
-    let trusted = judged hmac c.args.login.now.host.now c.args.login.now.port certificate lines revoked _ _ _ _ c.public_key-key.ensures.value c.signature_key-signer.ensures.value c.is_certificate_revoked-revoked.ensures.said c.signed_verdict-said.ensures.answer _ (sym c.answer.ensures ∙ c.in_ok-answer.was) in
-    let accepted = ap (is_let_in c.args.login.now.least_rsa_bits) (sym c.public_key-key.ensures.value) ∙ sym c.is_let_in.ensures ∙ c.if-not-is_let_in.false in
-    why_bad (IsSaidOfSigned hmac c.args.login.now.host.now c.args.login.now.port certificate.signed.key certificate.signed.signature_key lines) revoked _ (g.V.RawVerifier.accepts c.args.verifier.now) c.args.login.now.unix_timestamp (plain_name c.args.login.now.host.now) certificate trusted accepted c.validate.result c.validate.ensures.refused
+    let login = login_of c.args.login.now hmac in
+    let Why = λ (l : HostLogin). IsWhyNoCertificate l (g.V.RawVerifier.accepts c.args.verifier.now) (g.R.Revocations.revokes c.args.revocations.now) (certificate_of c.args.certificate.now) in
+    let asked = subst (IsAsked login.host login.port) (sym c.as_str.ensures) c.in_ok-asked.ensures in
+    why_asked login c.as_str.result.now asked c.judge_asked.result Why (subst (λ (l : HostLogin). IfErr c.judge_asked.result (Why l)) (c.under-login.ensures hmac) c.judge_asked.ensures.refused)
+
+pub returns-clause-asks : goal.returns-clause-asks
+returns-clause-asks g c =
+    let hmac = g.H.HmacSha1.hmac c.args.hmac.now in
+    let none = g.R.Revocations.revokes_none c.args.revocations.now in
+    let lines = ap (λ (l : HostLogin). l.lines) (c.under-login.ensures hmac) in
+    asks_more ⊥ (is_like_address c.args.login.now.host.now ≡ true) (λ nothing. absurd nothing) none _ c.judge_asked.result (subst (λ (ls : List (List ℕ)). AsksOf ⊥ none ls c.judge_asked.result) lines c.judge_asked.ensures.asks)

@@ -1,56 +1,43 @@
-use Rattle.std.proofs.Common.{◌≡◌, ℕ, IfErr, Result, false, List, subst, sym, true≢false, ◌∙◌}
+use Rattle.std.proofs.Common.{◌≡◌, ℕ, true, IfErr, List, ap, inl, subst, sym}
 use Rattle.std.proofs.lemmas.Result.{err_from_is_err_and}
-use Rattle.openssh_limits.specs.Keys.{is_let_in}
+use Rattle.sshkey_addresses.specs.AskedHosts.{IsAsked}
+use Rattle.sshkey_addresses.specs.Likeness.{is_like_address}
 use Rattle.sshkey_keys.specs.Keys.{key_of}
-use Rattle.sshkey_known_hosts.specs.Verdicts.{IsVerdict}
-use Rattle.sshkey_krl.specs.Revocations.{is_key_revoked}
-use Rattle.sshkey_known_hosts.specs.declared.verdict.Verdict.TheVariants.{Trusted}
-use Rattle.host_keys.specs.Answers.{AsksOf, IsWhy, OkExactly}
-use Rattle.host_keys.specs.Hosts.{IsSaidOfKey, IsTrustedKey, lines_of, login_of}
-use Rattle.host_keys.specs.declared.refusal.Refusal.{Refusal}
-use Rattle.host_keys.proofs.Said.{asks_of, exactly, one_said, why}
+use Rattle.host_keys.specs.Answers.{AsksOf, IsWhyNoKey, OkExactly}
+use Rattle.host_keys.specs.Hosts.{HostLogin, IsTrustedKey, login_of}
+use Rattle.host_keys.proofs.AskedNames.{exactly_asked, needs_name, none_asked, why_asked}
+use Rattle.host_keys.proofs.Said.{asks_more}
 use Rattle.host_keys.proofs.key.check_key.Goals as goal
 
-pub returns-in_err-answer : goal.returns-in_err-answer
-returns-in_err-answer g c =
-    let hmac = g.H.HmacSha1.hmac c.args.hmac.now in
-    let key = key_of c.args.key.now in
-    let lines = lines_of c.args.login.now.texts.now in
-    let revoked = is_key_revoked (g.R.Revocations.revokes_key c.args.revocations.now) key in
-    let Said = IsSaidOfKey hmac c.args.login.now.host.now c.args.login.now.port key lines in
-    let one = one_said (λ (name : List ℕ). IsVerdict hmac name key lines) c.args.login.now.host.now c.args.login.now.port (λ name. c.one_verdict.ensures hmac name key lines) in
-    let told = exactly Said revoked one _ _ c.is_key_revoked-revoked.ensures.said c.key_verdict-said.ensures.answer in
+pub returns-in_err-asked : goal.returns-in_err-asked
+returns-in_err-asked g c =
+    let login = login_of c.args.login.now (g.H.HmacSha1.hmac c.args.hmac.now) in
     let p = err_from_is_err_and c.from_residual.result c.from_residual.ensures.1 in
-    let is = sym c.answer.ensures ∙ c.in_err-answer.was in
     rw (p.1, p.2) (record {
-      exactly = λ other (trusted : IsTrustedKey (login_of c.args.login.now hmac) (g.R.Revocations.revokes_key c.args.revocations.now) key). (subst (OkExactly ((revoked ≡ false) × Said Trusted)) is told) other (trusted.unrevoked, trusted.listed);
-      refused = subst (λ (r : Result (Unit {0}) Refusal). IfErr r (IsWhy Said revoked (is_let_in c.args.login.now.least_rsa_bits key) (λ r. ⊥))) is (why Said revoked _ (λ r. ⊥) _ _ c.is_key_revoked-revoked.ensures.said c.key_verdict-said.ensures.answer);
-      asks = subst (AsksOf ⊥ (g.R.Revocations.revokes_none c.args.revocations.now) lines) is (asks_of ⊥ _ lines _ _ c.is_key_revoked-revoked.ensures.asks c.key_verdict-said.ensures.asks);
+      exactly = none_asked login (λ asked. IsTrustedKey asked (g.R.Revocations.revokes_key c.args.revocations.now) (key_of c.args.key.now)) _ c.in_err-asked.ensures;
+      refused = inl c.in_err-asked.ensures;
+      asks = needs_name login _ _ _ c.in_err-asked.ensures;
     })
-
-pub returns-then-not-is_let_in-clause-exactly : goal.returns-then-not-is_let_in-clause-exactly
-returns-then-not-is_let_in-clause-exactly g c = λ other is. true≢false (sym is.accepted ∙ sym c.is_let_in.ensures ∙ c.if-not-is_let_in.true)
-
-pub returns-then-not-is_let_in-clause-refused : goal.returns-then-not-is_let_in-clause-refused
-returns-then-not-is_let_in-clause-refused g c =
-    let hmac = g.H.HmacSha1.hmac c.args.hmac.now in
-    let key = key_of c.args.key.now in
-    let lines = lines_of c.args.login.now.texts.now in
-    let revoked = is_key_revoked (g.R.Revocations.revokes_key c.args.revocations.now) key in
-    let Said = IsSaidOfKey hmac c.args.login.now.host.now c.args.login.now.port key lines in
-    let one = one_said (λ (name : List ℕ). IsVerdict hmac name key lines) c.args.login.now.host.now c.args.login.now.port (λ name. c.one_verdict.ensures hmac name key lines) in
-    let told = exactly Said revoked one _ _ c.is_key_revoked-revoked.ensures.said c.key_verdict-said.ensures.answer in
-    let trusted : (revoked ≡ false) × Said Trusted = subst (OkExactly ((revoked ≡ false) × Said Trusted)) (sym c.answer.ensures ∙ c.in_ok-answer.was) told in
-    (trusted.0, trusted.1, sym c.is_let_in.ensures ∙ c.if-not-is_let_in.true)
 
 pub returns-clause-exactly : goal.returns-clause-exactly
 returns-clause-exactly g c =
     let hmac = g.H.HmacSha1.hmac c.args.hmac.now in
-    let key = key_of c.args.key.now in
-    let lines = lines_of c.args.login.now.texts.now in
-    let revoked = is_key_revoked (g.R.Revocations.revokes_key c.args.revocations.now) key in
-    let Said = IsSaidOfKey hmac c.args.login.now.host.now c.args.login.now.port key lines in
-    let one = one_said (λ (name : List ℕ). IsVerdict hmac name key lines) c.args.login.now.host.now c.args.login.now.port (λ name. c.one_verdict.ensures hmac name key lines) in
-    let told = exactly Said revoked one _ _ c.is_key_revoked-revoked.ensures.said c.key_verdict-said.ensures.answer in
-    let trusted : (revoked ≡ false) × Said Trusted = subst (OkExactly ((revoked ≡ false) × Said Trusted)) (sym c.answer.ensures ∙ c.in_ok-answer.was) told in
-    record { listed = trusted.1; unrevoked = trusted.0; accepted = sym c.is_let_in.ensures ∙ c.if-not-is_let_in.false }
+    let login = login_of c.args.login.now hmac in
+    let Holds = λ (l : HostLogin). IsTrustedKey l (g.R.Revocations.revokes_key c.args.revocations.now) (key_of c.args.key.now) in
+    let asked = subst (IsAsked login.host login.port) (sym c.as_str.ensures) c.in_ok-asked.ensures in
+    exactly_asked login c.as_str.result.now asked c.check_asked.result Holds (subst (λ (l : HostLogin). OkExactly (Holds l) c.check_asked.result) (c.under-login.ensures hmac) c.check_asked.ensures.exactly)
+
+pub returns-clause-refused : goal.returns-clause-refused
+returns-clause-refused g c =
+    let hmac = g.H.HmacSha1.hmac c.args.hmac.now in
+    let login = login_of c.args.login.now hmac in
+    let Why = λ (l : HostLogin). IsWhyNoKey l (g.R.Revocations.revokes_key c.args.revocations.now) (key_of c.args.key.now) in
+    let asked = subst (IsAsked login.host login.port) (sym c.as_str.ensures) c.in_ok-asked.ensures in
+    why_asked login c.as_str.result.now asked c.check_asked.result Why (subst (λ (l : HostLogin). IfErr c.check_asked.result (Why l)) (c.under-login.ensures hmac) c.check_asked.ensures.refused)
+
+pub returns-clause-asks : goal.returns-clause-asks
+returns-clause-asks g c =
+    let hmac = g.H.HmacSha1.hmac c.args.hmac.now in
+    let none = g.R.Revocations.revokes_none c.args.revocations.now in
+    let lines = ap (λ (l : HostLogin). l.lines) (c.under-login.ensures hmac) in
+    asks_more ⊥ (is_like_address c.args.login.now.host.now ≡ true) (λ nothing. absurd nothing) none _ c.check_asked.result (subst (λ (ls : List (List ℕ)). AsksOf ⊥ none ls c.check_asked.result) lines c.check_asked.ensures.asks)

@@ -1,7 +1,7 @@
 use Rattle.std.proofs.Common.{◌≡◌, ap, subst, ◌∙◌}
-use Rattle.host_keys.specs.Answers.{IsWhyNoKey}
+use Rattle.host_keys.specs.Answers.{RefusesHostKey}
 use Rattle.host_keys.specs.Hosts as hosts
-use Rattle.host_keys.specs.Hosts.{IsTrustedKey, lines_of}
+use Rattle.host_keys.specs.Hosts.{IsHostKey, lines_of}
 use Rattle.sshkey_entry_calls.specs.RevocationFiles.{are_read, one_revokes_key, reads_of}
 use Rattle.sshkey_keys.specs.Keys.{key_of}
 use Rattle.sshkey_keys_ref.specs.KeyDataRef.{key_bytes}
@@ -18,9 +18,9 @@ returns c k spelled _ =
     let known = hosts.login_of c.with_texts-known.result hmac_sha1 in
     let login : known ≡ login_of c.args.login.now = c.with_texts-known.ensures ∙ ap (login_with c.args.login.now) (ap lines_of c.deref.ensures.value ∙ c.in-Ok-texts.ensures) in
     let one = key_blobs.one (key_of c.in-Ok.key) k (key_bytes c.args.key.now) c.in-Ok.ensures.spelled spelled in
-    let why = IsWhyNoKey known (one_revokes_key reads) (key_of c.in-Ok.key) in (
+    let why = RefusesHostKey known (one_revokes_key reads) (key_of c.in-Ok.key) in (
       reads,
       c.in-Ok-read.ensures.read,
-      subst (λ (x : hosts.HostLogin × Key). IsJudged (IsTrustedKey x.0 (one_revokes_key reads) x.1) (IsWhyNoKey x.0 (one_revokes_key reads) x.1) (are_read reads) c.answer_number.result) (λ i. (login i, one i))
-          (judged_as (IsTrustedKey known (one_revokes_key reads) (key_of c.in-Ok.key)) why (are_read reads) c.check_key.result c.answer_number.result c.are_read.result c.answer_number.ensures.number c.are_read.ensures c.answer_number.ensures.some c.check_key.ensures.exactly (for_others why c.check_key.result c.check_key.ensures.refused)),
+      subst (λ (x : hosts.HostLogin × Key). IsJudged (IsHostKey x.0 (one_revokes_key reads) x.1) (RefusesHostKey x.0 (one_revokes_key reads) x.1) (are_read reads) c.answer_number.result) (λ i. (login i, one i))
+          (judged_as (IsHostKey known (one_revokes_key reads) (key_of c.in-Ok.key)) why (are_read reads) c.check_key.result c.answer_number.result c.are_read.result c.answer_number.ensures.number c.are_read.ensures c.answer_number.ensures.some c.check_key.ensures.exactly (for_others why c.check_key.result c.check_key.ensures.refused)),
     )
