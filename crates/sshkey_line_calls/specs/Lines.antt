@@ -9,4 +9,5 @@ use Rattle.user_keys.specs.Spellings.{MaySpell, own_part}
 pub record TellsLine (k : Key) (line : List ℕ) (n : ℕ) : Type 0 where
   pub may : n ≡ 0 → 17 ≤ length (own_part k) → MaySpell (own_part k) line
   pub passed : n ≡ 3 → IsPassedOver k line
+  pub none : n ≡ 3 → 17 ≤ length (own_part k) → MaySpell (own_part k) line → ⊥
   pub others : n ≢ 1 → (n ≡ 0) ⊎ (n ≡ 3)

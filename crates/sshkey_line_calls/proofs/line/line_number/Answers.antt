@@ -6,4 +6,4 @@ pub returns-then-may_be_for : goal.returns-then-may_be_for
 returns-then-may_be_for c = it_may (key_of c.args.key.now) c.args.line.now c.may_be_for.result c.may_be_for.ensures.spelled c.if-may_be_for.true
 
 pub returns : goal.returns
-returns c = is_passed (key_of c.args.key.now) c.args.line.now (c.may_be_for.ensures.passed c.if-may_be_for.false)
+returns c = is_passed (key_of c.args.key.now) c.args.line.now c.may_be_for.result c.may_be_for.ensures.spelled c.if-may_be_for.false (c.may_be_for.ensures.passed c.if-may_be_for.false)
