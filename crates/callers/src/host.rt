@@ -101,7 +101,8 @@ fn shown(alloc: Global, answer: std::result::Result<(), Refusal>) -> Result<Stri
         Err(Refusal::Host(HostFault::Address)) => "no address",
         Err(Refusal::Certificate(error)) => return Err(error),
         Err(Refusal::Invalid(first)) => return Err(first.error()),
-        Err(Refusal::Memory | Refusal::Host(HostFault::Memory)) => return Err(ssh_key::Error::Memory),
+        Err(Refusal::Memory) => return Err(ssh_key::Error::Memory),
+        Err(Refusal::Host(HostFault::Memory)) => return Err(ssh_key::Error::Memory),
     };
     Ok(String::from_str(alloc, text)?)
 }
