@@ -2,8 +2,8 @@
 import hashlib
 from dataclasses import dataclass, field
 
-# the processor seconds that they may take
-MOST = 3500
+# the processor seconds that they may take: bodies, and definitions
+MOST, OF_DEFINITIONS = 2500, 1000
 # one in so many of the crates of which nothing changed is tried
 SHARE = 8
 # where nobody measured: what a check takes, and what a body takes in one; a definition has a check of its own
@@ -36,6 +36,8 @@ class Choice:
     tried: list = field(default_factory=list)
     trusted: list = field(default_factory=list)
     left: list = field(default_factory=list)
+    # the processor seconds that there are
+    most: int = MOST
 
     def begin(self, what):
         """What the log says of it first."""
@@ -46,7 +48,7 @@ class Choice:
         if self.trusted:
             yield f"{described(self.trusted, what)} were taken on trust: nothing changed since checks/tried.txt says that all were refused"
         if self.left:
-            yield f"{described(self.left, what)} were LEFT, since more than {MOST} processor seconds would be needed"
+            yield f"{described(self.left, what)} were LEFT, since more than {self.most} processor seconds would be needed"
         if self.trusted or self.left:
             yield "./test --all --wrong tries all, which a release asks for"
 
@@ -56,7 +58,7 @@ def described(crates, what):
     return f"{sum(it.count for it in crates)} {what} of {len(crates)} crate{'s'[: len(crates) - 1]} ({', '.join(names)})"
 
 
-def choose(crates, commit, most=MOST):
+def choose(crates, commit):
     """Chooses among the crates. Those whose own files changed come first. Then come, in an order that the commit draws, the others
     that changed and an eighth of those of which nothing changed. A crate that takes more than is left is passed over, if it is not
     the first."""
@@ -66,7 +68,8 @@ def choose(crates, commit, most=MOST):
 
     same = drawn((it for it in crates if it.change == NONE), "whether")
     share = -(-len(same) // SHARE)
-    choice = Choice(trusted=same[share:])
+    most = OF_DEFINITIONS if any(it.name.startswith("definitions:") for it in crates) else MOST
+    choice = Choice(trusted=same[share:], most=most)
     own = drawn((it for it in crates if it.change == OWN), "when")
     others = drawn([*(it for it in crates if it.change == BELOW), *same[:share]], "when")
     for it in [*own, *others]:
@@ -81,7 +84,7 @@ def choose(crates, commit, most=MOST):
 
 def questions():
     """What has to hold of the choice among crates that are made up, and whether it does."""
-    below = [Candidate(f"below{number}", 200, 1600, BELOW) for number in range(4)]
+    below = [Candidate(f"below{number}", 200, 1000, BELOW) for number in range(4)]
     same = [Candidate(f"same{number}", 5, 10, NONE) for number in range(16)]
     crates = [*below, Candidate("own", 40, 250, OWN), *same]
     choices = [choose(crates, f"commit {number}") for number in range(64)]
@@ -101,5 +104,8 @@ def questions():
     yield "the same commit draws the same", choose(crates, "commit 1") == choices[1]
     dear = Candidate("dear", 900, 2 * MOST, OWN)
     yield "what alone does not fit is tried alone", choose([dear, *below], "").tried == [dear]
+    own = Candidate("definitions:own", 60, OF_DEFINITIONS, OWN)
+    other = Candidate("definitions:other", 1, 20, OWN)
+    yield "definitions have their own seconds", len(choose([own, other], "").tried) == 1
     kept = [Candidate(it.name, it.count, 0, it.change) for it in below]
     yield "what was refused here before takes no time", names(choose([dear, *kept], "").tried) == names([dear, *kept])
