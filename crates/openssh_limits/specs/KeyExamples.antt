@@ -50,8 +50,22 @@ RsaKeys = (is_let_in 0 (rsa f4 of_1023_bits) ≡ false)
     × (is_read_key 0 (rsa f4 (0xed ∷ 0xcc ∷ [])) ≡ false)
     × (is_read_key 1024 (rsa f4 of_1023_bits) ≡ false)
 
+-- Each number of a key has to be read: RSA's and DSA's, once too large and once not positive.
+abbrev dsa_of : List ℕ → List ℕ → List ℕ → List ℕ → Key
+dsa_of p q g y = Dsa (record { p = p; q = q; g = g; y = y })
+
+abbrev pub Parts : Type 0
+Parts = (is_read_key 0 (rsa of_16384_bits of_16384_bits) ≡ true)
+    × (is_read_key 0 (rsa of_16385_bits of_16384_bits) ≡ false)
+    × (is_read_key 0 (rsa of_16384_bits of_16385_bits) ≡ false)
+    × (is_read_key 0 (dsa_of (7 ∷ []) (3 ∷ []) (2 ∷ []) (4 ∷ [])) ≡ true)
+    × (is_read_key 0 (dsa_of [] (3 ∷ []) (2 ∷ []) (4 ∷ [])) ≡ false)
+    × (is_read_key 0 (dsa_of (7 ∷ []) [] (2 ∷ []) (4 ∷ [])) ≡ false)
+    × (is_read_key 0 (dsa_of (7 ∷ []) (3 ∷ []) [] (4 ∷ [])) ≡ false)
+    × (is_read_key 0 (dsa_of (7 ∷ []) (3 ∷ []) (2 ∷ []) []) ≡ false)
+
 abbrev dsa : List ℕ → Key
-dsa y = Dsa (record { p = 7 ∷ []; q = 3 ∷ []; g = 2 ∷ []; y = y })
+dsa y = dsa_of (7 ∷ []) (3 ∷ []) (2 ∷ []) y
 
 abbrev on_p256 : ℕ → Key
 on_p256 tag = Ecdsa Nistp256 (tag ∷ replicate 64 1)
@@ -71,6 +85,7 @@ OtherKeys = (is_read_key 0 (dsa (4 ∷ [])) ≡ true)
     × (is_let_in 0 (on_p256 4) ≡ true)
     × (is_let_in 0 (on_p256 2) ≡ false)
     × (is_let_in 0 (on_p256 3) ≡ false)
+    × (is_let_in 0 (Ecdsa Nistp256 []) ≡ false)
     × (is_let_in 0 (held_p256 4 (codes "ssh:")) ≡ true)
     × (is_let_in 0 (held_p256 2 (codes "ssh:")) ≡ false)
     × (is_let_in 0 (held_p256 4 (codes "ssh:\0")) ≡ false)

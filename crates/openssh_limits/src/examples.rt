@@ -1,7 +1,7 @@
 //! Worked examples of the definitions, on both sides of each edge.
 
-ghost use Rattle.openssh_limits.specs.KeyExamples.{Numbers, OtherKeys, RsaKeys};
-ghost use Rattle.openssh_limits.specs.ReadExamples.{Principals};
+ghost use Rattle.openssh_limits.specs.KeyExamples.{Numbers, OtherKeys, Parts, RsaKeys};
+ghost use Rattle.openssh_limits.specs.ReadExamples.{Applications, Principals};
 
 /// Numbers of keys.
 pub fn numbers()
@@ -13,6 +13,11 @@ pub fn rsa_keys()
     ensures { RsaKeys }
 {}
 
+/// Numbers of RSA and DSA, each by itself.
+pub fn parts()
+    ensures { Parts }
+{}
+
 /// Keys of the other kinds.
 pub fn other_keys()
     ensures { OtherKeys }
@@ -21,4 +26,9 @@ pub fn other_keys()
 /// Principals.
 pub fn principals()
     ensures { Principals }
+{}
+
+/// Applications.
+pub fn applications()
+    ensures { Applications }
 {}

@@ -1,6 +1,6 @@
 //! Worked examples of key revocation lists, on both sides of each edge.
 
-ghost use Rattle.sshkey_krl.specs.KrlExamples.{Authorities, BitmapEdges, BitmapSizes, Kinds, NumberEdges, SerialEdges, TextEdges, WholeList};
+ghost use Rattle.sshkey_krl.specs.KrlExamples.{Authorities, BitmapEdges, BitmapSizes, KeySections, Kinds, NumberEdges, RevokedCertificates, RevokedKeys, SectionAuthorities, SerialEdges, TextEdges, Unread, WholeList};
 
 /// A list.
 pub fn whole_list()
@@ -40,4 +40,29 @@ pub fn kinds()
 /// Keys of authorities.
 pub fn authorities()
     ensures { Authorities }
+{}
+
+/// Whose certificates a section is about.
+pub fn section_authorities()
+    ensures { SectionAuthorities }
+{}
+
+/// Keys and their digests.
+pub fn key_sections()
+    ensures { KeySections }
+{}
+
+/// What a list of keys revokes.
+pub fn revoked_keys()
+    ensures { RevokedKeys }
+{}
+
+/// What a section about certificates revokes.
+pub fn revoked_certificates()
+    ensures { RevokedCertificates }
+{}
+
+/// Lists that could not be read.
+pub fn unread()
+    ensures { Unread }
 {}

@@ -4,8 +4,8 @@ use Rattle.sshkey_model.specs.Keys.{Key}
 use Rattle.user_keys.specs.Filters.{IsPassedOver}
 use Rattle.user_keys.specs.Spellings.{MaySpell, own_part}
 
--- 3 says that sshd surely does not take the line for one of the key, and 0 that the key may be
--- spelled in it, or is too short for that to be told; 1 is memory.
+-- 3 says that sshd surely does not take the line for one of the key, and that the key is not spelled
+-- in it, whatever its options say; 0 that it may be, or is too short for that to be told; 1 is memory.
 pub record TellsLine (k : Key) (line : List ℕ) (n : ℕ) : Type 0 where
   pub may : n ≡ 0 → 17 ≤ length (own_part k) → MaySpell (own_part k) line
   pub passed : n ≡ 3 → IsPassedOver k line

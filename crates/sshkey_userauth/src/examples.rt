@@ -1,7 +1,7 @@
 //! Worked examples of what clients sign, and both sides of each edge.
 #![tactic(auto, unfolding(sshkey_model::specs::Parts::flat))]
 
-ghost use Rattle.sshkey_userauth.specs.Examples.{Flags, Methods, OtherNames, RsaNames};
+ghost use Rattle.sshkey_userauth.specs.Examples.{CurveNames, FlagPlaces, Flags, KeyForms, Methods, OtherNames, RsaNames, SecurityKeyNames, Verdicts};
 
 /// The bytes of both methods; an empty host key is one.
 pub fn methods()
@@ -18,7 +18,32 @@ pub fn other_names()
     ensures { OtherNames }
 {}
 
+/// The names of ECDSA say the curve.
+pub fn curve_names()
+    ensures { CurveNames }
+{}
+
+/// The names of security keys, for keys and for certificates.
+pub fn security_key_names()
+    ensures { SecurityKeyNames }
+{}
+
 /// What the flags of a security key lack.
 pub fn flags()
     ensures { Flags }
+{}
+
+/// Where the flags stand in a signature.
+pub fn flag_places()
+    ensures { FlagPlaces }
+{}
+
+/// The service, the name and the flags, in this order.
+pub fn verdicts()
+    ensures { Verdicts }
+{}
+
+/// The key in a request.
+pub fn key_forms()
+    ensures { KeyForms }
 {}

@@ -120,11 +120,11 @@ module _ (one : OneCertificate) (IsLine : Certificate → ℕ → Terms → List
           }
 
       pub strict_by : (LetsBy : Certificate → List ℕ → Terms → Type 0) (MayLetBy : Certificate → List ℕ → Type 0) → LetsFirst (LetsBy c) (MayLetBy c) l.login.lines first.line (terms_of first.terms) → IsAsStrictBy LetsBy MayLetBy l g
-      strict_by LetsBy MayLetBy here d other takes told =
+      strict_by LetsBy MayLetBy here d other seen takes told =
           let one_d = same c d spelled other in
-          let taken = strict (LetsBy c) (MayLetBy c) l.login.lines first.line (terms_of first.terms) here takes (subst (λ (e : Certificate). TakesAsTold (LetsBy e) (MayLetBy e) takes) one_d told) in (
+          let taken = strict (LetsBy c) (MayLetBy c) l.login.lines first.line (terms_of first.terms) here seen takes (subst (λ (e : Certificate). TakesAsTold (LetsBy e) (MayLetBy e) l.login.lines seen takes) one_d told) in (
             terms_of first.terms,
-            subst (λ (n : ℕ). TakesFirst takes l.login.lines n (terms_of first.terms)) (sym line) taken,
+            subst (λ (n : ℕ). TakesFirst seen takes l.login.lines n (terms_of first.terms)) (sym line) taken,
             terms ∙ merged_as (terms_of first.terms) c p grant_is ∙ ap (λ (e : Certificate). merged (terms_of first.terms) e) (sym one_d),
           )
 

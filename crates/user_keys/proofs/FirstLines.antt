@@ -4,7 +4,7 @@ use Rattle.std.proofs.lemmas.Bool.{cases_lt}
 use Rattle.std.proofs.lemmas.List.{get_or_append_left, get_or-append_right, length-append}
 use Rattle.std.proofs.Math.Seq.{get_or-append_seam}
 use Rattle.std.specs.List.{Any}
-use Rattle.std.specs.Prelude.{IsErrAnd, IsSome}
+use Rattle.std.specs.Prelude.{Contains, IsErrAnd, IsSome, option_map}
 use Rattle.openssh_limits.specs.Keys.{is_let_in}
 use Rattle.sshkey_krl.specs.Revocations.{is_key_revoked}
 use Rattle.login_terms.specs.Terms.{Terms}
@@ -40,8 +40,9 @@ module _ {X : Type 0} (P : X → Type 0) where
   pub here : (before : List X) (x : X) (after : List X) → P x → Any P (before ++ (x ∷ after))
   here before x after p = (length before, x, omega (arith, length-append before (x ∷ after)), get_or-append_seam before x after x, p)
 
-  pub each : {Q : X → Type 0} → ((x : X) → Q x → P x) → (xs : List X) → Any Q xs → Any P xs
-  each there xs s = (s.0, s.1, s.2, s.3, there _ s.4)
+-- what a part of a list has the whole has
+in_whole : {X : Type 0} (xs ys : List X) (x : X) → Contains xs x → Contains (xs ++ ys) x
+in_whole xs ys x (k, l, is) = (k, omega (arith, l, length-append xs ys), get_or_append_left xs ys x k l ∙ is)
 
 -- where this holds, it holds of each error
 pub of_error : {X E : Type 0} {Q : Type 0} (r : Result X E) → Q → IfErr r (λ e. Q)
@@ -93,27 +94,25 @@ module _ (P : List ℕ → Type 0) where
 
 -- ---- the line that lets in
 
-is_some_of : (o : Option Terms) → IsSome o → (t : Terms) × (o ≡ Some t)
-is_some_of (Some t) some = (t, refl)
-is_some_of None some = absurd cc
+seen_some : (seen : Terms → Terms) (o : Option Terms) (t : Terms) → option_map seen o ≡ Some t → IsSome o
+seen_some seen (Some u) t is = refl
+seen_some seen None t is = absurd cc
 
 module _ (Lets : List ℕ → Terms → Type 0) (MayLet : List ℕ → Type 0) (all : List (List ℕ)) where
   -- sshd takes it, too
-  pub strict : (n : ℕ) (t : Terms) → LetsFirst Lets MayLet all n t → (takes : List ℕ → Option Terms) → TakesAsTold Lets MayLet takes → TakesFirst takes all n t
-  strict n t is takes as_told =
-      let taken : takes is.line ≡ Some t = as_told.told is.line t is.lets in
+  pub strict : (n : ℕ) (t : Terms) → LetsFirst Lets MayLet all n t → (seen : Terms → Terms) (takes : List ℕ → Option Terms) → TakesAsTold Lets MayLet all seen takes → TakesFirst seen takes all n t
+  strict n t is seen takes as_told =
       let first = is.first in
+      let among : Contains all is.line = subst (λ (l : List (List ℕ)). Contains l is.line) (sym first.is) (length first.before, omega (arith, length-append first.before (is.line ∷ first.after)), get_or-append_seam first.before is.line first.after is.line) in
+      let taken = as_told.told is.line t among is.lets in
       record {
         line = is.line;
         first = record {
           before = first.before;
           after = first.after;
           is = first.is;
-          none = λ some. first.none (each (EndsBy Lets MayLet) (λ l is. let u = is_some_of (takes l) is in elim (as_told.only l u.0 u.1) [
-            | inl lets ↦ inl (u.0, lets)
-            | inr may ↦ inr may
-          ]) first.before some);
-          holds = subst (λ (o : Option Terms). IsSome o) (sym taken) refl;
+          none = λ some. first.none (some.0, some.1, some.2, some.3, as_told.only some.1 (subst (λ (l : List (List ℕ)). Contains l some.1) (sym first.is) (in_whole first.before (is.line ∷ first.after) some.1 (some.0, some.2, some.3))) some.4);
+          holds = seen_some seen (takes is.line) (seen t) taken;
           counted = first.counted;
         };
         terms = taken;

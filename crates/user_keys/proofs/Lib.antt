@@ -10,3 +10,4 @@ mod ListedNames
 mod CertificateLogins
 mod PrincipalLines
 mod Principals
+mod LoginExamples

@@ -91,10 +91,10 @@ pub record AdmitsBy (IsLine : Certificate → ℕ → Terms → List ℕ → Typ
   pub line : IsLine certificate g.line terms name
   pub granted : BindsTogether (policy_login l (authorities certificate) name) certificate terms g
 
--- Whatever sshd makes of what cannot be told, it takes the grant's line first, and binds the login to
--- what that and the certificate say together.
+-- Whatever sshd makes of what cannot be told, it takes the grant's line first, on terms of which that
+-- is seen, and the grant is what those and the certificate say together.
 abbrev pub IsAsStrictBy : (Certificate → List ℕ → Terms → Type 0) → (Certificate → List ℕ → Type 0) → CertificateLogin → Grant → Type 0
-IsAsStrictBy LetsBy MayLetBy l g = (c : Certificate) → SpellsCertificate c l.blob → (takes : List ℕ → Option Terms) → TakesAsTold (LetsBy c) (MayLetBy c) takes → (t : Terms) × TakesFirst takes l.login.lines g.line t × (terms_of g.terms ≡ merged t c)
+IsAsStrictBy LetsBy MayLetBy l g = (c : Certificate) → SpellsCertificate c l.blob → (seen : Terms → Terms) (takes : List ℕ → Option Terms) → TakesAsTold (LetsBy c) (MayLetBy c) l.login.lines seen takes → (t : Terms) × TakesFirst seen takes l.login.lines g.line t × (terms_of g.terms ≡ merged t c)
 
 -- ---- who is refused
 

@@ -1,6 +1,6 @@
 -- The first line of a text that lets in, on terms that are told; and that sshd takes that line,
 -- whatever it makes of what cannot be told.
-use Rattle.std.specs.Prelude.{◌≡◌, ◌⊎◌, ◌+◌, ℕ, List, ◌∷◌, ◌++◌, IsSome, Option, Some, length}
+use Rattle.std.specs.Prelude.{◌≡◌, ◌⊎◌, ◌+◌, ℕ, List, ◌∷◌, ◌++◌, Contains, IsSome, Option, Some, false, length, option_map}
 use Rattle.std.specs.List.{Any}
 use Rattle.login_terms.specs.Terms.{Terms}
 
@@ -25,16 +25,21 @@ pub record LetsFirst (Lets : List ℕ → Terms → Type 0) (MayLet : List ℕ �
   pub alone : (u : Terms) → Lets line u → u ≡ t
   pub told : ¬ MayLet line
 
--- ---- sshd, since 10.5 and on whatever machine: before, `restrict` left tunnels
+-- ---- sshd, of whatever version and on whatever machine
 
--- It takes a line for one that lets in on some terms, or passes over it. It does so where that is
--- told here, and else only where it may.
-pub record TakesAsTold (Lets : List ℕ → Terms → Type 0) (MayLet : List ℕ → Type 0) (takes : List ℕ → Option Terms) : Type 0 where
-  pub told : (line : List ℕ) (t : Terms) → Lets line t → takes line ≡ Some t
-  pub only : (line : List ℕ) (t : Terms) → takes line ≡ Some t → Lets line t ⊎ MayLet line
+-- the terms but for tunnels, which `restrict` leaves before 10.5
+abbrev pub but_tunnels : Terms → Terms
+but_tunnels t = record t { permissions = record t.permissions { tunnels = false } }
 
--- The first line that it takes is that one, and it takes it on those terms.
-pub record TakesFirst (takes : List ℕ → Option Terms) (all : List (List ℕ)) (number : ℕ) (t : Terms) : Type 0 where
+-- It takes a line for one that lets in on some terms, or passes over it. Of the lines of the text it
+-- does so where that is told here, and else only where it may. What is seen of the terms is as told:
+-- all of them, or all but tunnels.
+pub record TakesAsTold (Lets : List ℕ → Terms → Type 0) (MayLet : List ℕ → Type 0) (all : List (List ℕ)) (seen : Terms → Terms) (takes : List ℕ → Option Terms) : Type 0 where
+  pub told : (line : List ℕ) (t : Terms) → Contains all line → Lets line t → option_map seen (takes line) ≡ Some (seen t)
+  pub only : (line : List ℕ) → Contains all line → IsSome (takes line) → EndsBy Lets MayLet line
+
+-- The first line that it takes is that one, and what is seen of the terms is as of those.
+pub record TakesFirst (seen : Terms → Terms) (takes : List ℕ → Option Terms) (all : List (List ℕ)) (number : ℕ) (t : Terms) : Type 0 where
   pub line : List ℕ
   pub first : IsFirst (λ l. IsSome (takes l)) all line number
-  pub terms : takes line ≡ Some t
+  pub terms : option_map seen (takes line) ≡ Some (seen t)

@@ -13,3 +13,5 @@ pub mod Principals
 pub mod PrincipalLogins
 pub mod Computed
 pub mod Examples
+pub mod TermExamples
+pub mod LoginExamples

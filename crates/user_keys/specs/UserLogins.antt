@@ -100,6 +100,7 @@ pub record Admits (login : UserLogin) (revokes_key : List ℕ → Bool) (g : Gra
   pub granted : GrantsFirst login g
   pub by_key : g.certified ≡ None
 
--- Whatever sshd makes of what cannot be told, it takes the grant's line first, and on its terms.
+-- Whatever sshd makes of what cannot be told, it takes the grant's line first, and on its terms, or on
+-- these but for what is not seen of them.
 abbrev pub IsAsStrict : UserLogin → Grant → Type 0
-IsAsStrict login g = (takes : List ℕ → Option Terms) → TakesAsTold (Lets login) (MayLet login) takes → TakesFirst takes login.lines g.line (terms_of g.terms)
+IsAsStrict login g = (seen : Terms → Terms) (takes : List ℕ → Option Terms) → TakesAsTold (Lets login) (MayLet login) login.lines seen takes → TakesFirst seen takes login.lines g.line (terms_of g.terms)

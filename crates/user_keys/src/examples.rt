@@ -2,6 +2,8 @@
 #![tactic(auto, unfolding(crate::specs::Computed::encode_symbols, crate::specs::Computed::without_front, crate::specs::Principals::after_last))]
 
 ghost use Rattle.user_keys.specs.Examples.{Listed, Marks, Merged, Names, Times, Together, White};
+ghost use Rattle.user_keys.specs.LoginExamples.{Entries, FirstRefused, LetsCertificate, LetsKey, LineEnds, MayLetIn, OddEntries, Parts, Restricted, WhiteSpace};
+ghost use Rattle.user_keys.specs.TermExamples.{Asked, Certified, Commands, Decided, Expiry, From, Misplaced, Named, Permitted, PrincipalLines, Principals, Strictest};
 
 /// Until when a line counts.
 pub fn times()
@@ -36,4 +38,114 @@ pub fn merged()
 /// The names in lines of a file of principals.
 pub fn names()
     ensures { Names }
+{}
+
+/// What a line says by its time.
+pub fn expiry()
+    ensures { Expiry }
+{}
+
+/// `principals` on the line of a key.
+pub fn misplaced()
+    ensures { Misplaced }
+{}
+
+/// Lines with and without `from`.
+pub fn from()
+    ensures { From }
+{}
+
+/// Whom a line and a certificate let in.
+pub fn named()
+    ensures { Named }
+{}
+
+/// What a certificate refuses.
+pub fn certified()
+    ensures { Certified }
+{}
+
+/// Touch and verification.
+pub fn strictest()
+    ensures { Strictest }
+{}
+
+/// What a certificate asks for.
+pub fn asked()
+    ensures { Asked }
+{}
+
+/// Commands of both.
+pub fn commands()
+    ensures { Commands }
+{}
+
+/// What both permit.
+pub fn permitted()
+    ensures { Permitted }
+{}
+
+/// Terms in a file of principals.
+pub fn decided()
+    ensures { Decided }
+{}
+
+/// Whose a name is.
+pub fn principals()
+    ensures { Principals }
+{}
+
+/// Lines of a file of principals.
+pub fn principal_lines()
+    ensures { PrincipalLines }
+{}
+
+/// The parts by which keys are sought.
+pub fn parts()
+    ensures { Parts }
+{}
+
+/// White space within Base64.
+pub fn white_space()
+    ensures { WhiteSpace }
+{}
+
+/// Where a line ends.
+pub fn line_ends()
+    ensures { LineEnds }
+{}
+
+/// Entries of a key.
+pub fn entries()
+    ensures { Entries }
+{}
+
+/// Entries that may be a key's.
+pub fn odd_entries()
+    ensures { OddEntries }
+{}
+
+/// Lines that let a key in.
+pub fn lets_key()
+    ensures { LetsKey }
+{}
+
+/// Lines that let a certificate in.
+pub fn lets_certificate()
+    ensures { LetsCertificate }
+{}
+
+/// Lines that may let in.
+pub fn may_let_in()
+    ensures { MayLetIn }
+{}
+
+/// The first line that refuses.
+pub fn first_refused()
+    ensures { FirstRefused }
+{}
+
+/// What each sshd makes of `restrict`.
+pub fn restricted()
+    ensures { Restricted }
 {}

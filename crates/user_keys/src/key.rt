@@ -32,7 +32,7 @@ use std::alloc::Global;
 /// - `NotListed`.
 ///
 /// So whatever sshd makes of what cannot be told here, it lets the key in by the line of the grant,
-/// and on its terms. (Before 10.5 `restrict` leaves tunnels.)
+/// and on its terms; before 10.5 on these but for tunnels, which `restrict` left.
 ///
 /// A time without `Z` cannot be told from 14 hours before the same time of UTC to 13 hours after
 /// it. Where `from` has a fault (`sshkey_addresses::FromFault`), its line cannot be told. A line may

@@ -4,4 +4,4 @@ use Rattle.openssh_limits.proofs.examples.other_keys.Goals as goal
 
 pub returns : goal.returns
 unfolding count_leading_zeros
-returns c = (refl, refl, refl, refl, refl, refl, refl, refl, refl, refl, refl, refl, refl, refl)
+returns c = (refl, refl, refl, refl, refl, refl, refl, refl, refl, refl, refl, refl, refl, refl, refl)

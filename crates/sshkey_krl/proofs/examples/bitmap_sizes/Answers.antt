@@ -5,4 +5,4 @@ use Rattle.sshkey_krl.proofs.examples.bitmap_sizes.Goals as goal
 
 pub returns : goal.returns
 unfolding count_leading_zeros significant
-returns c = (refl, refl)
+returns c = (refl, refl, refl, refl, refl)

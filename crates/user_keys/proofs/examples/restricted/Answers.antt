@@ -1,0 +1,13 @@
+use Rattle.std.proofs.Common.{refl, true}
+use Rattle.user_keys.specs.FirstLines.{but_tunnels}
+use Rattle.user_keys.specs.LoginExamples.{leaves_tunnels, restricted, takes_all}
+use Rattle.login_terms.specs.Terms.{none_permitted}
+use Rattle.user_keys.proofs.LoginExamples.{as_told, not_all}
+use Rattle.user_keys.proofs.examples.restricted.Goals as goal
+
+pub returns : goal.returns
+returns c = (
+  λ login g both strict. strict (λ t. t) takes_all (as_told login both (λ t. t) restricted refl),
+  λ login g both strict. strict but_tunnels leaves_tunnels (as_told login both but_tunnels (record restricted { permissions = record none_permitted { tunnels = true } }) refl),
+  λ login both. not_all login both,
+)

@@ -1,0 +1,155 @@
+-- Worked examples: which line lets a key or a certificate in, each part held and broken by itself; and
+-- which line an sshd takes.
+use Rattle.std.specs.Prelude.{◌≡◌, ℕ, List, [], ◌∷◌, ◌++◌, true, false, IsTrue, Option, None, Some, bytes_eq, codes, if◌then◌else◌, replicate}
+use Rattle.login_terms.specs.Terms.{Terms, no_terms, none_permitted, terms_of}
+use Rattle.sshkey_entries.specs.AuthorizedKeys.{AuthorizedKey}
+use Rattle.sshkey_model.specs.CertificateExamples.{openssh_certificate}
+use Rattle.sshkey_model.specs.Certificates.{Certificate}
+use Rattle.sshkey_model.specs.Keys.{Key, Dsa, Ecdsa, Ed25519, Rsa, SkEcdsa, SkEd25519, Opaque}
+use Rattle.sshkey_model.specs.Names.{Nistp256}
+use Rattle.user_keys.specs.Answers.{first_refused, refusal_for}
+use Rattle.user_keys.specs.FirstLines.{TakesAsTold, TakesFirst, but_tunnels}
+use Rattle.user_keys.specs.Lines.{IsEntryFor, MayBeEntryFor, MayBeFor, before_zero}
+use Rattle.user_keys.specs.Options.{AreTerms, MayBeTerms}
+use Rattle.user_keys.specs.Spellings.{is_white, own_part}
+use Rattle.user_keys.specs.TermExamples.{expiring, for_names}
+use Rattle.user_keys.specs.UserLogins.{IsAsStrict, IsOwn, Lets, MayLet, UserLogin, key_listed}
+use Rattle.user_keys.specs.declared.grant.Grant.{Grant}
+use Rattle.user_keys.specs.declared.refusal.Reason.TheVariants as reason
+use Rattle.user_keys.specs.declared.refusal.Refusal.TheVariants as refusal
+
+-- ---- the parts of keys
+
+abbrev held : List ℕ → Key
+held application = SkEd25519 (record { key = replicate 32 1; application = application })
+
+-- the point, or the last number
+abbrev pub Parts : Type 0
+Parts = (own_part (Dsa (record { p = codes "p"; q = codes "q"; g = codes "g"; y = codes "y" })) ≡ codes "y") × (own_part (Rsa (record { e = codes "e"; n = codes "n" })) ≡ codes "n")
+    × (own_part (Ecdsa Nistp256 (codes "p")) ≡ codes "p") × (own_part (Ed25519 (codes "p")) ≡ codes "p")
+    × (own_part (SkEcdsa (record { key = codes "p"; application = codes "ssh:" })) ≡ codes "p") × (own_part (SkEd25519 (record { key = codes "p"; application = codes "ssh:" })) ≡ codes "p")
+    × (own_part (Opaque (codes "key@example.org") (codes "p")) ≡ codes "p")
+
+-- White space that ends no word is passed over within Base64 (isspace(3)): a vertical tab, a form feed
+-- and a carriage return. What ends a word is not, nor is another control character.
+abbrev pub WhiteSpace : Type 0
+WhiteSpace = (is_white 0x0b ≡ true) × (is_white 0x0c ≡ true) × (is_white 0x0d ≡ true) × (is_white 0x08 ≡ false) × (is_white 0x09 ≡ false) × (is_white 0x0e ≡ false) × (is_white 0x20 ≡ false)
+
+-- A line ends at a zero byte.
+abbrev pub LineEnds : Type 0
+LineEnds = (before_zero (codes "ab\0c\0") ≡ codes "ab") × (before_zero (codes "ab") ≡ codes "ab") × (before_zero (codes "\0a") ≡ [])
+
+-- ---- lines
+
+abbrev entry_of : Key → List ℕ → AuthorizedKey
+entry_of key options = record { options = options; key = key; comment = [] }
+
+abbrev other : Key
+other = Ed25519 (replicate 32 2)
+
+-- An entry is for a key that has it, on terms that its options say, as that of an authority or of none.
+abbrev pub Entries : Type 0
+Entries = ((options : List ℕ) (t : Terms) → AreTerms options t → t.is_authority ≡ false → IsEntryFor false (held (codes "ssh:")) (entry_of (held (codes "ssh:")) options) t)
+    × ((options : List ℕ) (t : Terms) → IsEntryFor false (held (codes "ssh:")) (entry_of other options) t → ⊥)
+    × ((options : List ℕ) (t : Terms) → IsEntryFor false (held (codes "ssh:")) (entry_of (held (codes "ssh:x")) options) t → ⊥)
+    × ((options : List ℕ) (t : Terms) → IsEntryFor false (held (codes "ssh:")) (entry_of (held (codes "ssh:")) options) t → AreTerms options t)
+    × ((options : List ℕ) (t : Terms) → IsEntryFor false (held (codes "ssh:")) (entry_of (held (codes "ssh:")) options) t → IsTrue t.is_authority → ⊥)
+    × ((options : List ℕ) (t : Terms) → IsEntryFor true (held (codes "ssh:")) (entry_of (held (codes "ssh:")) options) t → t.is_authority ≡ false → ⊥)
+
+-- It may be for a key where sshd may read its options otherwise, or where the two keys have one point:
+-- sshd takes an application to end at a zero byte.
+abbrev pub OddEntries : Type 0
+OddEntries = ((options : List ℕ) → MayBeTerms options → MayBeEntryFor other (entry_of other options))
+    × ((options : List ℕ) → (MayBeTerms options → ⊥) → MayBeEntryFor other (entry_of other options) → ⊥)
+    × ((options : List ℕ) → MayBeEntryFor (held (codes "ssh:")) (entry_of (held (codes "ssh:\0")) options))
+    × ((options : List ℕ) → MayBeEntryFor (held (codes "ssh:")) (entry_of other options) → ⊥)
+
+-- ---- logins
+
+abbrev login_at : ℕ → Option Certificate → UserLogin
+login_at time certificate = record { lines = []; user = codes "alice"; offered = other; certificate = certificate; client = None; host = None; time = time; least_rsa_bits = 0 }
+
+abbrev by_key : ℕ → UserLogin
+by_key time = login_at time None
+
+-- A line of the key lets it in whose terms allow it: at its time, with no `principals`, and without a
+-- list of places where the client's is not known.
+abbrev pub LetsKey : Type 0
+LetsKey = ((line : List ℕ) → IsOwn (by_key 21) line no_terms → Lets (by_key 21) line no_terms)
+    × ((line : List ℕ) → IsOwn (by_key 10) line expiring → Lets (by_key 10) line expiring)
+    × ((line : List ℕ) (t : Terms) → Lets (by_key 10) line t → IsOwn (by_key 10) line t)
+    × ((line : List ℕ) (t : Terms) → Lets (by_key 10) line t → t.is_authority ≡ false)
+    × ((line : List ℕ) → Lets (by_key 21) line expiring → ⊥)
+    × ((line : List ℕ) → Lets (by_key 10) line (for_names (codes "alice")) → ⊥)
+    × ((line : List ℕ) → Lets (by_key 10) line (record no_terms { from = Some (codes "*") }) → ⊥)
+
+abbrev certificate_for : List (List ℕ) → Certificate
+certificate_for names = record openssh_certificate { signed = record openssh_certificate.signed { valid_principals = names; critical_options = record { name = codes "force-command"; value = codes "ls" } ∷ [] } }
+
+abbrev by_certificate : ℕ → List (List ℕ) → UserLogin
+by_certificate time names = login_at time (Some (certificate_for names))
+
+abbrev authority : Terms
+authority = record no_terms { is_authority = true }
+
+-- A line of the key that signed it lets a certificate in with `cert-authority`, if the terms allow it,
+-- it lists the user, and no other command stands in the line.
+abbrev pub LetsCertificate : Type 0
+LetsCertificate = ((line : List ℕ) → IsOwn (by_certificate 5 (codes "alice" ∷ [])) line authority → Lets (by_certificate 5 (codes "alice" ∷ [])) line authority)
+    × ((line : List ℕ) (t : Terms) → Lets (by_certificate 5 (codes "alice" ∷ [])) line t → IsTrue t.is_authority)
+    × ((line : List ℕ) → Lets (by_certificate 5 (codes "bob" ∷ [])) line authority → ⊥)
+    × ((line : List ℕ) → Lets (by_certificate 5 (codes "alice" ∷ [])) line (record authority { command = Some (codes "id") }) → ⊥)
+    × ((line : List ℕ) → Lets (by_certificate 21 (codes "alice" ∷ [])) line (record expiring { is_authority = true }) → ⊥)
+    × (key_listed other None ≡ other) × (key_listed other (Some openssh_certificate) ≡ openssh_certificate.signed.signature_key)
+
+-- A line may let in that may be for the key, or may allow the login; and none else.
+abbrev pub MayLetIn : Type 0
+MayLetIn = ((line : List ℕ) → MayBeFor other line → MayLet (by_key 5) line)
+    × ((line : List ℕ) → IsOwn (by_key 11) line expiring → MayLet (by_key 11) line)
+    × ((line : List ℕ) → (MayBeFor other line → ⊥) → ((t : Terms) → IsOwn (by_key 21) line t → t ≡ expiring) → MayLet (by_key 21) line → ⊥)
+    × ((line : List ℕ) → (MayBeFor other line → ⊥) → ((t : Terms) → IsOwn (by_key 5) line t → t ≡ no_terms) → MayLet (by_key 5) line → ⊥)
+
+-- Of the lines that refuse the first is told.
+abbrev pub FirstRefused : Type 0
+FirstRefused = (first_refused None 2 reason.Expired ≡ Some (2, reason.Expired)) × (first_refused (Some (1, reason.Elsewhere)) 2 reason.Expired ≡ Some (1, reason.Elsewhere))
+    × (refusal_for None ≡ refusal.NotListed) × (refusal_for (Some (2, reason.Expired)) ≡ refusal.NotAllowed 2 reason.Expired)
+
+-- ---- the line that an sshd takes
+
+abbrev pub key_line : List ℕ
+key_line = codes "ssh-ed25519 AAAAC3NzaC1lZDI1NTE5AAAAILM+rvN+ot98qgEN796jTiQfZfG1KaT0PtFDJ/XFSqti"
+
+abbrev pub restrict_line : List ℕ
+restrict_line = codes "restrict " ++ key_line
+
+abbrev pub restricted : Terms
+restricted = record no_terms { permissions = none_permitted }
+
+-- what an sshd makes of the two lines that takes `restrict` for those terms
+abbrev pub taking : Terms → List ℕ → Option Terms
+taking t line = if bytes_eq line restrict_line then Some t else if bytes_eq line key_line then Some no_terms else None
+
+-- before 10.5: `restrict` leaves tunnels
+abbrev pub leaves_tunnels : List ℕ → Option Terms
+leaves_tunnels = taking (record restricted { permissions = record none_permitted { tunnels = true } })
+
+-- since then
+abbrev pub takes_all : List ℕ → Option Terms
+takes_all = taking restricted
+
+-- The line lets in on these terms alone.
+pub record LetsAlone (login : UserLogin) (line : List ℕ) (t : Terms) : Type 0 where
+  pub lets : Lets login line t
+  pub alone : (u : Terms) → Lets login line u → u ≡ t
+
+pub record HasBoth (login : UserLogin) : Type 0 where
+  pub lines : login.lines ≡ restrict_line ∷ key_line ∷ []
+  pub first : LetsAlone login restrict_line restricted
+  pub second : LetsAlone login key_line no_terms
+
+-- What is promised of a grant is promised of both. The older one takes the grant's line on its terms
+-- but for tunnels, and on no more: all its terms are not as told.
+abbrev pub Restricted : Type 0
+Restricted = ((login : UserLogin) (g : Grant) → HasBoth login → IsAsStrict login g → TakesFirst (λ t. t) takes_all login.lines g.line (terms_of g.terms))
+    × ((login : UserLogin) (g : Grant) → HasBoth login → IsAsStrict login g → TakesFirst but_tunnels leaves_tunnels login.lines g.line (terms_of g.terms))
+    × ((login : UserLogin) → HasBoth login → TakesAsTold (Lets login) (MayLet login) login.lines (λ t. t) leaves_tunnels → ⊥)
