@@ -36,5 +36,6 @@ def announced(copy, says, count):
             file.write(f"{line}\n")
         changed.append(path.split("/")[0])
         names = [it for it in crates_of(copy.root) if it in changed]
-        wanted = f"To be proved: {len(opened)} of {number} crates: {' '.join(opened)}.\nChanged since they were proved here: {' '.join(names)}. "
+        wanted = f"To be proved: {len(opened)} of {number} crates: {' '.join(opened)}.\n"
+        wanted += f"Changed since they were proved here: {' '.join(names)}. "
         says(copy, ["prove"], count, f"./prove says what it proves after a change of {path}", wanted, **more)
