@@ -119,12 +119,13 @@ class Proved:
         for name in self.names:
             put(name, self.place(name))
 
-    def keep(self, passed):
-        """Keeps of which sources these crates are proved, and what was made of them, in place of what was kept of them."""
+    def keep(self, passed, out_of):
+        """Keeps of which sources these crates are proved, and what was made of them, in place of what was kept of them: that function
+        says where it was made, which is no folder that a commit brings."""
         try:
             os.makedirs(self.folder, exist_ok=True)
             if not self.is_kept_by_kit:
-                self.keep_what_was_made()
+                self.keep_what_was_made(out_of)
                 with open(self.mark(), "w", encoding="utf-8") as file:
                     file.write(str(passed))
             sums = {**self.last_sums(), **self.now}
@@ -133,7 +134,7 @@ class Proved:
         except OSError as error:
             print(f"what was proved could not be kept: {error}", flush=True)
 
-    def keep_what_was_made(self):
+    def keep_what_was_made(self, out_of):
         for name in self.names:
             for it in os.listdir(self.folder):
                 if it.rpartition("-")[0] == name and f"{self.folder}/{it}" != self.place(name):
@@ -141,5 +142,7 @@ class Proved:
             if not os.path.isdir(self.place(name)):
                 new = f"{self.place(name)}.new"
                 shutil.rmtree(new, ignore_errors=True)
-                shutil.copytree(f"{self.root}/crates/{name}/out", new, symlinks=True, ignore=NOT_KEPT)
+                os.makedirs(new)
+                if os.path.isdir(out_of(name)):
+                    shutil.copytree(out_of(name), new, symlinks=True, ignore=NOT_KEPT, dirs_exist_ok=True)
                 os.rename(new, self.place(name))
