@@ -11,7 +11,7 @@ import sys
 from lib.crates import crates_of
 from lib.proved import Proved
 crates = crates_of(sys.argv[1])
-Proved(sys.argv[1], crates, [it for it in crates if it not in sys.argv[2:]], False).keep(1)
+Proved(sys.argv[1], crates, [it for it in crates if it not in sys.argv[2:]], False).keep(1, None)
 """
 # a file, the line that is added to it, and what is proved then of all crates but those of callers
 CHANGES = [

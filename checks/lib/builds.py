@@ -7,7 +7,7 @@ import tempfile
 
 from lib.crates import crates_of
 from lib.harness import ROOT, unproved_program
-from lib.proved import Sums, kit
+from lib.proved import kit
 
 # Stands in for the toolchain's compiler: it keeps the module of the program and the words, and compiles only what comes before.
 COMPILER = """\
@@ -61,18 +61,11 @@ def compile_in(room, crate, toolchain):
 
 
 def build(name):
-    """Has the unproved program of that crate be there, of the sources as they stand; what was said where it is not."""
-    crate, program = crates_of(ROOT)[name], unproved_program(name)
-    total, mark = Sums(ROOT, crates_of(ROOT)).of(name), f"{program}.sum"
-    if os.path.isfile(program) and os.path.isfile(mark):
-        with open(mark, encoding="utf-8") as file:
-            if file.read() == total:
-                return ""
-    os.makedirs(os.path.dirname(program), exist_ok=True)
+    """Builds the unproved program of that crate, of the sources as they stand; what was said where that failed. It is built each time:
+    a commit can bring what stands in out/."""
     with tempfile.TemporaryDirectory() as room:
-        said = compile_in(room, crate, kit())
+        said = compile_in(room, crates_of(ROOT)[name], kit())
         if not said:
-            shutil.move(f"{room}/program", program)
-            with open(mark, "w", encoding="utf-8") as file:
-                file.write(total)
+            os.makedirs(os.path.dirname(unproved_program(name)), exist_ok=True)
+            os.replace(shutil.copy2(f"{room}/program", f"{unproved_program(name)}.new"), unproved_program(name))
     return said
