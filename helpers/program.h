@@ -25,10 +25,8 @@ void program_show_version(void);
 int program_show(int count, char **words, const char *help);
 
 /* Has the program end with program_untold as soon as libcrypto is refused memory, which itself
- * answers then as if a signature were wrong. Starts it without the texts of its errors and the older
- * names of ciphers and digests, which nobody asks for here; its configuration is read, where
- * administrators set FIPS. To be called before libcrypto is, once. */
-void program_start_libcrypto(void);
+ * answers then as if a signature were wrong. To be called before libcrypto is, once. */
+void program_end_without_memory(void);
 
 /* What is done with a line and its number: SSHKEY_DONE, or why no further one is to be given. */
 typedef uint32_t program_line(const char *line, size_t length, size_t number, void *given);

@@ -465,7 +465,7 @@ static bool read_words(int count, char **words, request *asked) {
 
 int main(int count, char **words) {
   request asked;
-  program_start_libcrypto();
+  program_end_without_memory();
   memset(&asked, 0, sizeof asked);
   asked.second = (uint64_t)time(NULL);
   asked.is_valid = true;

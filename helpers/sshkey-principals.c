@@ -92,7 +92,7 @@ static int answer_request(login_request *asked) {
 
 int main(int count, char **words) {
   login_request asked;
-  program_start_libcrypto();
+  program_end_without_memory();
   int status = program_show(count, words, help);
   if (status >= 0) return status;
   bool is_asked = login_read_words(count, words, LOGIN_BITS, &asked);

@@ -27,10 +27,10 @@ uint32_t judge_read_armour(judge_blob text, judge_blob *answer) {
   if (text.length < length || memcmp(text.bytes, front, length)) return SSHKEY_BASE64;
   size_t begin = line_after(text, length), at = begin;
   while (at < text.length && text.bytes[at] != '-') at++;
-  if (begin == length || at == begin) return SSHKEY_BASE64;
-  at--; /* where the line before the end has its line end */
-  if (text.length - at < after || memcmp(text.bytes + at, end, after)) return SSHKEY_BASE64;
-  judge_blob made = {malloc(at), at - begin};
+  if (begin == length) return SSHKEY_BASE64;
+  size_t last = at - 1; /* where the line before the end has its line end: it may be the first line */
+  if (text.length - last < after || memcmp(text.bytes + last, end, after)) return SSHKEY_BASE64;
+  judge_blob made = {malloc(at), last > begin ? last - begin : 0};
   if (!made.bytes) return SSHKEY_MEMORY;
   memcpy(made.bytes, text.bytes + begin, made.length);
   made.length = judge_decode_base64(made.bytes, made.length);
