@@ -12,8 +12,8 @@ from .papers import MACHINES, PACKAGE, filled, indented, proved_by
 SOURCES = [
     "CHANGELOG.md", "CONTACT", "CONTRIBUTING.md", "LICENSE-APACHE", "LICENSE-MIT", "Makefile", "NOTICE", "README.md", "SECURITY.md",
     "VERSION", "bindings", ":!bindings/dist", ":!bindings/library", ":!bindings/release", f":!{PACKAGE}/PROVED-BY", "checks/asked",
-    ":!checks/asked/user_key_logins.py", ":!checks/asked/user_key_sources.py", ":!checks/asked/openssh_*", "checks/callers",
-    "checks/entry-lines", "checks/foreign", "checks/foreign.c", "checks/hostile", "checks/hosts", "checks/lib/*.py", "checks/threads.c",
+    ":!checks/asked/openssh_*", "checks/addresses", "checks/callers", "checks/entry-lines", "checks/foreign", "checks/foreign.c",
+    "checks/hostile", "checks/hosts", "checks/lib/*.py", "checks/threads.c", "checks/user-keys",
     "docs/*.md", "docs/*.svg", "examples", "helpers", "include", "sshkey-check", "toolchain",
 ]  # fmt: skip
 TEXTS = [f"{PACKAGE}/sshkey_linux_{it}.S" for it in MACHINES]
