@@ -36,11 +36,11 @@ def answers(folder, rows, most):
     print(f"{len(chosen)} logins at sshd, from {' and '.join(addresses)}{lacking}", flush=True)
     logins = Logins(folder, CONFIGURATION)
     with ThreadPoolExecutor(len(os.sched_getaffinity(0))) as pool:
-        found = pool.map(lambda number, row: is_let_in(logins, number, *row[:3]), range(len(chosen)), chosen)
+        found = pool.map(lambda number, row: openssh_accepts_key(logins, number, *row[:3]), range(len(chosen)), chosen)
         return list(zip(chosen, found, strict=True))
 
 
-def is_let_in(logins, number, kind, items, address):
+def openssh_accepts_key(logins, number, kind, items, address):
     """Whether sshd lets in a client at the address, by the list of a line or of a certificate."""
     if kind == LINE:
         return logins.log_in(address, f'from="{items}" {logins.fields["own"]}')[0]

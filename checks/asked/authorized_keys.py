@@ -89,7 +89,7 @@ class Files:
             agent.shutdown()
             agent.server_close()
 
-    def is_let_in(self, configuration, user, key):
+    def openssh_accepts_key(self, configuration, user, key):
         agent = self.agents.get(key)
         return logs_in(self.maker, configuration, user, key, agent.path if agent else "none")
 
@@ -216,7 +216,7 @@ def check_offers(count, files):
     offers = list(files.offers())
     asked = [(way, user, key) for key, user in offers for way in ("reading", "asking")]
     with ThreadPoolExecutor(len(os.sched_getaffinity(0))) as pool:
-        found = list(pool.map(lambda it: files.is_let_in(*it), asked))
+        found = list(pool.map(lambda it: files.openssh_accepts_key(*it), asked))
     for (key, user), reads, asks in zip(offers, found[::2], found[1::2]):
         count.check(f"login of {user} by {key}, as sshd alone says: {'yes' if reads else 'no'}", reads == asks, reads, asks)
     # a certificate that lists nobody is for everybody in some versions of sshd, and for nobody in others

@@ -94,10 +94,10 @@ def option_lists(folder, configuration):
     logins, count = Logins(folder, configuration), Count()
     for items, wanted in PRINCIPALS.items():
         line = f'cert-authority,principals="{items}" {logins.fields["authority"]}'
-        is_let_in, _ = logins.log_in("127.0.0.1", line, "certified")
+        openssh_accepts_key, _ = logins.log_in("127.0.0.1", line, "certified")
         # it reads the names up to an empty one
         listed = "a" in itertools.takewhile(bool, items.split(","))
-        count.check(f"principals={items[-20:]!r}", is_let_in == listed == wanted, is_let_in, listed)
-    is_let_in, written = logins.log_in("127.0.0.1", f'environment="RAFENDILO=set" {logins.fields["own"]}', command="env")
-    count.check("environment sets nothing", is_let_in and written and b"RAFENDILO" not in written, written)
+        count.check(f"principals={items[-20:]!r}", openssh_accepts_key == listed == wanted, openssh_accepts_key, listed)
+    openssh_accepts_key, written = logins.log_in("127.0.0.1", f'environment="RAFENDILO=set" {logins.fields["own"]}', command="env")
+    count.check("environment sets nothing", openssh_accepts_key and written and b"RAFENDILO" not in written, written)
     return count

@@ -92,7 +92,7 @@ class Logins:
         for folder in (maker.folder, os.path.dirname(maker.folder)):
             os.chmod(folder, 0o711)
 
-    def is_let_in(self, number, user, authority, words, configuration="asking"):
+    def openssh_accepts_key(self, number, user, authority, words, configuration="asking"):
         key = f"login{number}"
         self.maker.key(key, "ed25519")
         if isinstance(authority, tuple):
@@ -156,8 +156,8 @@ def check_addresses(count, folder, program, helper):
             file.write(f"{text}\n")
     for number, (items, wanted) in enumerate((("127.0.0.0/8", True), ("192.0.2.0/24,127.0.0.1", True), ("192.0.2.0/24", False))):
         clients.certify(f"bound{number}", "-n", me, "-O", f"source-address={items}")
-        is_let_in, _ = clients.log_in("127.0.0.1", "", f"bound{number}")
-        count.check(f"login by principals, from 127.0.0.1 by a certificate for {items}", is_let_in == wanted, is_let_in)
+        openssh_accepts_key, _ = clients.log_in("127.0.0.1", "", f"bound{number}")
+        count.check(f"login by principals, from 127.0.0.1 by a certificate for {items}", openssh_accepts_key == wanted, openssh_accepts_key)
 
 
 def check_logins(count, built, folder, maker_in, helper):
@@ -174,7 +174,7 @@ def check_logins(count, built, folder, maker_in, helper):
         logins = Logins(maker_in(room), f"{out}/sshkey-principals", getpass.getuser(), helper)
         cases = list(logins.cases()) if out == built.plain else list(logins.cases())[:4]
         with ThreadPoolExecutor(len(os.sched_getaffinity(0))) as pool:
-            found = pool.map(lambda it: logins.is_let_in(it[0], *it[1][1:5]), list(enumerate(cases)))
-            for (case, *_, wanted), is_let_in in zip(cases, found):
-                count.check(f"login by principals, {name}: {case}", is_let_in == wanted, is_let_in)
+            found = pool.map(lambda it: logins.openssh_accepts_key(it[0], *it[1][1:5]), list(enumerate(cases)))
+            for (case, *_, wanted), openssh_accepts_key in zip(cases, found):
+                count.check(f"login by principals, {name}: {case}", openssh_accepts_key == wanted, openssh_accepts_key)
     check_addresses(count, f"{folder}/logins-by-addresses", f"{built.plain}/sshkey-principals", helper)

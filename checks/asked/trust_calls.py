@@ -50,10 +50,10 @@ def check_lines(judge):
 def keys():
     """Names, blobs of keys, whether OpenSSH lets somebody in by them, and whether a verifier may say yes."""
     three, modulus, name = mpint(3), of_bits(2048), b"ssh-rsa"
-    for bits, is_let_in, is_taken in (
+    for bits, openssh_accepts_key, is_taken in (
         (1023, False, False), (1024, True, False), (2047, True, False), (2048, True, True), (16384, True, True), (16385, False, False),
     ):  # fmt: skip
-        yield f"RSA of {bits} bits", string(name) + three + of_bits(bits), is_let_in, is_taken
+        yield f"RSA of {bits} bits", string(name) + three + of_bits(bits), openssh_accepts_key, is_taken
     for which, numbers in (("no exponent", ZERO + modulus), ("a negative one", NEGATIVE + modulus), ("no modulus", three + ZERO), ("a negative one", three + NEGATIVE)):
         yield f"RSA with {which}", string(name) + numbers, None, False
     yield "DSA", string(b"ssh-dss") + of_bits(1024) + of_bits(160) + three + three, None, False
@@ -69,11 +69,11 @@ def keys():
 
 def check_keys(judge):
     maker, cases = judge.made.maker, []
-    for name, blob, is_let_in, is_taken in keys():
+    for name, blob, openssh_accepts_key, is_taken in keys():
         cases.append((name, f"may-verify {blob.hex()}", "0" if is_taken else "59"))
         shown = ssh_keygen("-l", "-f", maker.write("taken.pub", f"{line_of(blob)}\n"), check=False)
-        if is_let_in is not None:
-            judge.check(f"ssh-keygen reads a key, {name}: {is_let_in}", (shown.returncode == 0) == is_let_in, shown.stderr)
+        if openssh_accepts_key is not None:
+            judge.check(f"ssh-keygen reads a key, {name}: {openssh_accepts_key}", (shown.returncode == 0) == openssh_accepts_key, shown.stderr)
     cases += [("no bytes", "may-verify -", str(judge.number("LENGTH")))]
     judge.hold("under a key a verifier may say yes", cases)
 

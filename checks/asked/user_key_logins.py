@@ -91,10 +91,10 @@ class Server(Logins):
         """What the command wrote, a line each, or None where sshd does not let the key in. Where there is no terminal, nothing runs, and
         the key asks for none."""
         for terminal in ("-tt", "-T"):
-            is_let_in, written = self.log_in(ADDRESS, text.removesuffix("\n"), key, ASKED, terminal)
-            if not is_let_in or written:
+            openssh_accepts_key, written = self.log_in(ADDRESS, text.removesuffix("\n"), key, ASKED, terminal)
+            if not openssh_accepts_key or written:
                 break
-        return written.decode().split() if is_let_in else None
+        return written.decode().split() if openssh_accepts_key else None
 
     def by_key(self, line):
         own = self.fields["own"]

@@ -33,13 +33,13 @@ type Draft struct {
 	Nonce []byte
 }
 
-// ToBeSigned gives the bytes that the authority has to sign for a certificate of the draft;
+// CertificateFields gives the bytes that the authority has to sign for a certificate of the draft;
 // JoinCertificate makes the certificate of them and the signature. It fails with a Status where the
 // draft tells no certificate: with ErrPrincipals and ErrEmptyWindow, with ErrFormat for a type that
 // is none and for a principal with a zero byte, which sshd takes to end there, and so for another
 // user's; with ErrTime for a time that is none, with ErrLabel for a key that has a private-use
 // name; with ErrMemory, and where there are no random bytes with what crypto/rand says.
-func (draft *Draft) ToBeSigned() ([]byte, error) {
+func (draft *Draft) CertificateFields() ([]byte, error) {
 	var memory held
 	defer memory.free()
 	asked, err := draft.held(&memory)
@@ -143,9 +143,9 @@ func JoinCertificate(toBeSigned, signature []byte) ([]byte, error) {
 //
 //	return sshkey.JoinStrings([]byte("ssh-ed25519"), ed25519.Sign(private, message))
 //
-// It fails with what sign fails with, and as Draft.ToBeSigned and JoinCertificate do.
+// It fails with what sign fails with, and as Draft.CertificateFields and JoinCertificate do.
 func MakeCertificate(draft Draft, sign func(message []byte) ([]byte, error)) ([]byte, error) {
-	message, err := draft.ToBeSigned()
+	message, err := draft.CertificateFields()
 	if err != nil {
 		return nil, err
 	}

@@ -105,15 +105,15 @@ func TestMakeCertificate(t *testing.T) {
 	refused := errors.New("no")
 	_, err := sshkey.MakeCertificate(draft, func([]byte) ([]byte, error) { return nil, refused })
 	same(t, "what the signer says", err, refused)
-	one, err := draft.ToBeSigned()
+	one, err := draft.CertificateFields()
 	same(t, "error", err, nil)
-	other, _ := draft.ToBeSigned()
+	other, _ := draft.CertificateFields()
 	same(t, "two nonces are one", bytes.Equal(one, other), false)
 	draft.ValidBefore = sshkey.SecondOf(time.Unix(-1, 0))
-	_, err = draft.ToBeSigned()
+	_, err = draft.CertificateFields()
 	same(t, "an end before 1970", err, sshkey.ErrTime)
 	draft.ValidBefore, draft.AllPrincipals = sshkey.Forever, true
-	_, err = draft.ToBeSigned()
+	_, err = draft.CertificateFields()
 	same(t, "some principals and all", err, sshkey.ErrPrincipals)
 }
 

@@ -74,7 +74,7 @@ var answers = map[string]func(of []string) ([]string, error){
 		if err != nil {
 			return nil, err
 		}
-		return made(draft.ToBeSigned())
+		return made(draft.CertificateFields())
 	},
 	"make": func(of []string) ([]string, error) {
 		draft, err := draftOf(of)

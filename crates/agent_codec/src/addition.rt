@@ -101,5 +101,5 @@ impl NormalForm for Addition {
 
     ghost IsWellFormed = { IsWellFormedAddition };
 
-    fn normal_spells() {}
+    fn lawful_normal_form() {}
 }

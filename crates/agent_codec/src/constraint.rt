@@ -120,5 +120,5 @@ impl Encode for Constraint {
 impl NormalForm for Constraint {
     ghost IsWellFormed = { IsWellFormedConstraint };
 
-    fn normal_spells() {}
+    fn lawful_normal_form() {}
 }

@@ -56,5 +56,5 @@ impl Encode for Identity {
 impl NormalForm for Identity {
     ghost IsWellFormed = { λ _. Unit {0} };
 
-    fn normal_spells() {}
+    fn lawful_normal_form() {}
 }

@@ -117,7 +117,7 @@ impl Encode for Request {
 impl NormalForm for Request {
     ghost IsWellFormed = { IsWellFormed };
 
-    fn normal_spells() {}
+    fn lawful_normal_form() {}
 }
 
 impl Framed for Request {

@@ -15,7 +15,7 @@ use crate::numbers::{EXTENSION_FAILURE, FAILURE, IDENTITIES_ANSWER, SIGN_RESPONS
 use extension::{encode_extension, extension_from, extension_len};
 use kind::ResponseKind;
 use ssh_key::encoding::{
-    Boxed, Bytes, Counted, Decode, Encode, NormalForm, Reader, Wide, Writer, counted_len,
+    Bytes, Counted, Decode, Encode, LengthPrefixed, NormalForm, Reader, Wide, Writer, counted_len,
     encode_counted, u32_of,
 };
 use ssh_key::{Error, Result, Signature, encoding};
@@ -105,7 +105,7 @@ impl Encode for Response {
 impl NormalForm for Response {
     ghost IsWellFormed = { IsWellFormed };
 
-    fn normal_spells() {}
+    fn lawful_normal_form() {}
 }
 
 impl Response {
@@ -149,7 +149,7 @@ impl Framed for Response {
                 Ok(Response::IdentitiesAnswer(identities))
             }
             ResponseKind::SignResponse => {
-                let Boxed(signature) = Boxed::<Signature>::decode(alloc, reader)?;
+                let LengthPrefixed(signature) = LengthPrefixed::<Signature>::decode(alloc, reader)?;
                 Ok(Response::SignResponse(signature))
             }
             ResponseKind::ExtensionFailure => Ok(Response::ExtensionFailure),

@@ -66,5 +66,5 @@ impl Encode for SignRequest {
 impl NormalForm for SignRequest {
     ghost IsWellFormed = { λ _. Unit {0} };
 
-    fn normal_spells() {}
+    fn lawful_normal_form() {}
 }

@@ -26,7 +26,7 @@ use Rattle.sshkey_entries.specs.Readings.{IsTheOne}
 use Rattle.allowed_signers.specs.Principals.{ArePrincipals}
 use Rattle.allowed_signers.specs.SignerOptions.{AreTerms, Permits, Terms, terms_of}
 use Rattle.allowed_signers.specs.declared.options.SignerOptions.{SignerOptions}
-use Rattle.allowed_signers.specs.declared.signers.Refusal.{Refusal}
+use Rattle.allowed_signers.specs.declared.signers.SignerRefusal.{SignerRefusal}
 
 is_no : false ≡ true → ⊥
 is_no same = cc
@@ -59,11 +59,11 @@ answered_memory (Err e) r is = only_memory e r is
 
 -- ---- the signature
 
-pub unread : (bytes : List ℕ) (e : Error) (r : Refusal) → (cause e ≢ NoMemory → IsSound (all_of bytes) → NoSpelling SpellsSshSignature bytes) → (cause e ≡ NoMemory → IsSound (all_of bytes) → ssh_signature_format.needs bytes 0) → IsRefusalFor e r → ReadsSignature bytes (Err r)
+pub unread : (bytes : List ℕ) (e : Error) (r : SignerRefusal) → (cause e ≢ NoMemory → IsSound (all_of bytes) → NoSpelling SpellsSshSignature bytes) → (cause e ≡ NoMemory → IsSound (all_of bytes) → ssh_signature_format.needs bytes 0) → IsRefusalFor e r → ReadsSignature bytes (Err r)
 unread bytes e r none asks (inl memory) = inl (memory.1, inl (asks (rw memory.0 refl) refl))
 unread bytes e r none asks (inr other) = inr (other.1, none (other_cause e other.0) refl)
 
-pub nothing_counts : (Holds : SshSignature → Type 0) (bytes : List ℕ) (r : Refusal) → ReadsSignature bytes (Err r) → OkExactly (HasSignature bytes Holds) (Err r)
+pub nothing_counts : (Holds : SshSignature → Type 0) (bytes : List ℕ) (r : SignerRefusal) → ReadsSignature bytes (Err r) → OkExactly (HasSignature bytes Holds) (Err r)
 nothing_counts Holds bytes r (inl memory) = λ other has. absurd (other memory.0)
 nothing_counts Holds bytes r (inr none) = λ other has. none.1 has.0 has.1
 

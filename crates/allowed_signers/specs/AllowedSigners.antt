@@ -23,8 +23,8 @@ use Rattle.sshkey_base.specs.declared.error.Error.TheVariants as error
 use Rattle.sshkey_sshsig.specs.declared.sshsig.SshSig.{SshSig}
 use Rattle.allowed_signers.specs.Principals.{HasPrincipals}
 use Rattle.allowed_signers.specs.SignerOptions.{Terms, AreTerms, Permits}
-use Rattle.allowed_signers.specs.declared.signers.Refusal.{Refusal}
-use Rattle.allowed_signers.specs.declared.signers.Refusal.TheVariants.{Memory, NoIdentity, NoSignature, NotAllowed, NotVerified, Revoked}
+use Rattle.allowed_signers.specs.declared.signers.SignerRefusal.{SignerRefusal}
+use Rattle.allowed_signers.specs.declared.signers.SignerRefusal.TheVariants.{Memory, NoIdentity, NoSignature, NotAllowed, NotVerified, Revoked}
 
 -- ---- a line
 
@@ -81,7 +81,7 @@ abbrev pub HasSignature : List ℕ → (SshSignature → Type 0) → Type 0
 HasSignature bytes Holds = (f : SshSignature) × SpellsSshSignature f bytes × Holds f
 
 -- Out of memory aside, Ok exactly if this holds.
-abbrev pub OkExactly : Type 0 → Result (Unit {0}) Refusal → Type 0
+abbrev pub OkExactly : Type 0 → Result (Unit {0}) SignerRefusal → Type 0
 OkExactly Holds (Ok x) = Holds
 OkExactly Holds (Err e) = e ≢ Memory → Holds → ⊥
 
@@ -91,7 +91,7 @@ abbrev pub NeedsMemory : List ℕ → Type 0
 NeedsMemory bytes = ssh_signature_format.needs bytes 0 ⊎ SpellsSome SpellsSshSignature bytes
 
 -- What is wrong first, or memory ran out where some is needed.
-abbrev pub IsWhy : (Question → Bool) → (List ℕ → Bool) → List ℕ → List ℕ → List ℕ → List ℕ → ℕ → List ℕ → Refusal → Type 0
+abbrev pub IsWhy : (Question → Bool) → (List ℕ → Bool) → List ℕ → List ℕ → List ℕ → List ℕ → ℕ → List ℕ → SignerRefusal → Type 0
 IsWhy accepts revokes signers identity namespace message time bytes NoSignature = NoSpelling SpellsSshSignature bytes
 IsWhy accepts revokes signers identity namespace message time bytes NoIdentity = HasSignature bytes (λ f. identity ≡ [])
 IsWhy accepts revokes signers identity namespace message time bytes NotAllowed = (identity ≢ []) × HasSignature bytes (λ f. ¬ IsAllowed identity namespace time f.key signers)
@@ -114,10 +114,10 @@ AnswersYesOrNo (Ok x) answer = answer ≡ Ok true
 AnswersYesOrNo (Err e) answer = IsNo e answer
 
 -- Memory was refused, or the bytes are no signature.
-abbrev pub IsRefusalFor : Error → Refusal → Type 0
+abbrev pub IsRefusalFor : Error → SignerRefusal → Type 0
 IsRefusalFor e r = ((e ≡ error.Memory) × (r ≡ Memory)) ⊎ ((e ≢ error.Memory) × (r ≡ NoSignature))
 
 -- The signature that the bytes spell; or they spell none, or memory ran out where some is needed.
-abbrev pub ReadsSignature : List ℕ → Result SshSig Refusal → Type 0
+abbrev pub ReadsSignature : List ℕ → Result SshSig SignerRefusal → Type 0
 ReadsSignature bytes (Ok f) = SpellsSshSignature (ssh_signature_of f) bytes
 ReadsSignature bytes (Err e) = ((e ≡ Memory) × NeedsMemory bytes) ⊎ ((e ≡ NoSignature) × NoSpelling SpellsSshSignature bytes)

@@ -10,4 +10,4 @@ mod line;
 mod options;
 mod signers;
 
-pub use signers::{Refusal, verify};
+pub use signers::{SignerRefusal, verify};

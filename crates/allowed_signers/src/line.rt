@@ -3,7 +3,7 @@
 ghost use Rattle.sshkey_entries.specs.Readings.{IsTheOne};
 ghost use Rattle.allowed_signers.specs.Principals.{ArePrincipals, IsFront, IsPlainFront, parts_of};
 
-use sshkey_entries::split_field;
+use sshkey_entries::split_blank;
 
 /// The principals at the front of a line, and what follows them. None are read where a carriage
 /// return stands in them: it ends an unquoted word for ssh-keygen, which would read other
@@ -35,7 +35,7 @@ fn split_front(line: &str) -> Option<(&str, &str)>
 fn split_word(line: &str) -> Option<(&str, &str)>
     ensures { IsTheOne parts_of (IsPlainFront line.now) result }
 {
-    let (word, rest) = split_field(line);
+    let (word, rest) = split_blank(line);
     if word.contains('"') {
         return None;
     }

@@ -10,11 +10,11 @@ ghost use Rattle.allowed_signers.specs.AllowedSigners.{AllowsSigner, AnswersYesO
 
 use crate::line::split_principals;
 use crate::options::SignerOptions;
-use openssh_limits::{has_read_application, is_read_text};
+use openssh_limits::{openssh_reads_application, openssh_reads_text};
 use sshkey_authorized_keys::{Entry, OpenSshEntry, OpenSshOptions};
 use sshkey_base::{Error, Result};
 use sshkey_entries::laws::one_authorized_line;
-use sshkey_entries::{FilledLines, LetterCase, matches_pattern_list};
+use sshkey_entries::{LetterCase, NonBlankLines, matches_pattern_list};
 use sshkey_keys::{KeyData, RawVerifier};
 use sshkey_krl::Revocations;
 use sshkey_sshsig::SshSig;
@@ -23,7 +23,7 @@ use std::alloc::Global;
 
 /// Why a signature does not count.
 #[derive(Debug, Drop)]
-pub enum Refusal {
+pub enum SignerRefusal {
     /// The bytes are no SSH signature.
     NoSignature,
     /// The identity has no bytes.
@@ -78,7 +78,7 @@ pub fn verify<R: Revocations, V: RawVerifier>(
     unix_timestamp: u64,
     revocations: &R,
     verifier: &V,
-) -> std::result::Result<(), Refusal>
+) -> std::result::Result<(), SignerRefusal>
     ensures exactly { OkExactly (HasSignature signature.now (Counts (V.accepts verifier.now)
         (R.revokes_key revocations.now) signers.now identity.now namespace.now message.now
         unix_timestamp)) result }
@@ -88,32 +88,32 @@ pub fn verify<R: Revocations, V: RawVerifier>(
     one_ssh_signature();
     let signature = read_signature(alloc, signature)?;
     if identity.is_empty() {
-        return Err(Refusal::NoIdentity);
+        return Err(SignerRefusal::NoIdentity);
     }
     let key = signature.public_key();
     let Ok(allowed) = is_allowed(alloc, signers, identity, namespace, unix_timestamp, key) else {
-        return Err(Refusal::Memory);
+        return Err(SignerRefusal::Memory);
     };
     if !allowed {
-        return Err(Refusal::NotAllowed);
+        return Err(SignerRefusal::NotAllowed);
     }
     let Ok(revoked) = revocations.is_key_revoked(alloc, key) else {
-        return Err(Refusal::Memory);
+        return Err(SignerRefusal::Memory);
     };
     if revoked {
-        return Err(Refusal::Revoked);
+        return Err(SignerRefusal::Revoked);
     }
     let Ok(signed) = has_signed(alloc, &signature, namespace, message, verifier) else {
-        return Err(Refusal::Memory);
+        return Err(SignerRefusal::Memory);
     };
     if !signed {
-        return Err(Refusal::NotVerified);
+        return Err(SignerRefusal::NotVerified);
     }
     Ok(())
 }
 
 /// The signature that the bytes spell.
-fn read_signature(alloc: Global, bytes: &[u8]) -> std::result::Result<SshSig, Refusal>
+fn read_signature(alloc: Global, bytes: &[u8]) -> std::result::Result<SshSig, SignerRefusal>
     ensures { ReadsSignature bytes.now result }
 {
     match SshSig::from_bytes(alloc, bytes) {
@@ -123,13 +123,13 @@ fn read_signature(alloc: Global, bytes: &[u8]) -> std::result::Result<SshSig, Re
 }
 
 /// Why bytes are no signature.
-fn refusal_of(error: Error) -> Refusal
+fn refusal_of(error: Error) -> SignerRefusal
     ensures { IsRefusalFor error result }
 {
     if error.is_memory() {
-        return Refusal::Memory;
+        return SignerRefusal::Memory;
     }
-    Refusal::NoSignature
+    SignerRefusal::NoSignature
 }
 
 /// Whether the signature's own key has made it of the message in the namespace, with nothing
@@ -199,7 +199,7 @@ fn is_allowed(
         unix_timestamp (key_of key.now) signers.now) }
     ensures memory { IfErr result (λ e. e ≡ Memory) }
 {
-    for line in FilledLines::new(signers) {
+    for line in NonBlankLines::new(signers) {
         let allowed = allows(alloc, line, identity, namespace, unix_timestamp, key)?;
         if allowed {
             return Ok(true);
@@ -222,7 +222,7 @@ fn allows(
         unix_timestamp (key_of key.now) line.now) }
     ensures memory { IfErr result (λ e. e ≡ Memory) }
 {
-    if !is_read_text(line) {
+    if !openssh_reads_text(line) {
         return Ok(false);
     }
     let Some((principals, rest)) = split_principals(line) else {
@@ -271,7 +271,7 @@ fn is_entry_for(
     if !key.is(entry.public_key().key_data()) {
         return Ok(false);
     }
-    if !has_read_application(key) {
+    if !openssh_reads_application(key) {
         return Ok(false);
     }
     options_permit(alloc, entry.options(), namespace, unix_timestamp)

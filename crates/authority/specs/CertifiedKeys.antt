@@ -1,6 +1,6 @@
 -- Which keys an authority certifies: those of some kinds by which OpenSSH lets somebody in.
 use Rattle.std.specs.Prelude.{Bool, true, false, IsTrue}
-use Rattle.openssh_limits.specs.Keys.{is_let_in}
+use Rattle.openssh_limits.specs.Keys.{openssh_accepts_key}
 use Rattle.ssh_key.specs.model.Keys.{Key, Dsa, Ecdsa, Ed25519, Rsa, SkEcdsa, SkEd25519, Opaque}
 use Rattle.authority.specs.declared.keys.KeyKinds.{KeyKinds}
 
@@ -22,4 +22,4 @@ is_among kinds (Opaque name k) = false
 -- And somebody is let in by it, where an RSA key has 2,048 bits or more.
 pub record IsCertifiable (kinds : KeyKinds) (key : Key) : Type 0 where
   pub among : IsTrue (is_among kinds key)
-  pub let_in : IsTrue (is_let_in 2048 key)
+  pub let_in : IsTrue (openssh_accepts_key 2048 key)

@@ -4,7 +4,7 @@ ghost use Rattle.std.specs.Prelude.{◌≡◌, ◌↔◌, IsTrue};
 ghost use Rattle.ssh_key.specs.keys.Keys.{key_of};
 ghost use Rattle.authority.specs.CertifiedKeys.{IsCertifiable, all, is_among};
 
-use openssh_limits::is_let_in;
+use openssh_limits::openssh_accepts_key;
 use ssh_key::public::KeyData;
 
 /// How many bits an RSA key has to have.
@@ -43,7 +43,7 @@ impl KeyKinds {
     pub(crate) fn allow(&self, key: &KeyData) -> bool
         ensures { IsTrue result ↔ IsCertifiable self.now (key_of key.now) }
     {
-        self.are_of(key) && is_let_in(key, LEAST_CERTIFIED_BITS)
+        self.are_of(key) && openssh_accepts_key(key, LEAST_CERTIFIED_BITS)
     }
 
     /// Whether the key is of one of the kinds.

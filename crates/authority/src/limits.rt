@@ -55,7 +55,7 @@ impl Limits {
     /// `ValidPrincipals` for the users, `Extensions` for the extensions and `ValidBefore` for the
     /// window, in that order.
     ///
-    /// What sshd accepts `openssh_limits::is_let_in` says, where an RSA key has to have 2,048 bits. A
+    /// What sshd accepts `openssh_limits::openssh_accepts_key` says, where an RSA key has to have 2,048 bits. A
     /// point that is not on its curve, which sshd does not read, is the caller's to refuse. A key
     /// under a private-use name is never certified: in certificates that name may be of another
     /// kind of key.

@@ -3,7 +3,7 @@
 use crate::revoked::read_lists;
 use crate::verified::Told;
 use crate::words::{NO_LINE, bytes, number, text};
-use allowed_signers::{Refusal, verify};
+use allowed_signers::{SignerRefusal, verify};
 use ssh_key::Result;
 use std::alloc::{AllocError, Global};
 
@@ -39,15 +39,15 @@ pub(crate) fn answer(alloc: Global, words: &[&str], told: &Told) -> Result<Strin
     shown(alloc, answer)
 }
 
-fn shown(alloc: Global, answer: std::result::Result<(), Refusal>) -> Result<String> {
+fn shown(alloc: Global, answer: std::result::Result<(), SignerRefusal>) -> Result<String> {
     let text = match answer {
         Ok(()) => "ok",
-        Err(Refusal::NoSignature) => "no signature",
-        Err(Refusal::NoIdentity) => "no identity",
-        Err(Refusal::NotAllowed) => "not allowed",
-        Err(Refusal::Revoked) => "revoked",
-        Err(Refusal::NotVerified) => "not verified",
-        Err(Refusal::Memory) => return Err(ssh_key::Error::Memory),
+        Err(SignerRefusal::NoSignature) => "no signature",
+        Err(SignerRefusal::NoIdentity) => "no identity",
+        Err(SignerRefusal::NotAllowed) => "not allowed",
+        Err(SignerRefusal::Revoked) => "revoked",
+        Err(SignerRefusal::NotVerified) => "not verified",
+        Err(SignerRefusal::Memory) => return Err(ssh_key::Error::Memory),
     };
     Ok(String::from_str(alloc, text)?)
 }

@@ -5,7 +5,7 @@ ghost use Rattle.callers.specs.Hashed.{hash_among, is_hash_of};
 
 use crate::words::{NO_LINE, bytes};
 use ssh_key::Result;
-use ssh_key::known_hosts::HmacSha1;
+use ssh_key::known_hosts::HostHasher;
 use std::alloc::Global;
 
 /// The HMAC-SHA1 of a name under a salt.
@@ -35,7 +35,7 @@ impl Hashes {
     }
 }
 
-impl HmacSha1 for Hashes {
+impl HostHasher for Hashes {
     ghost hmac = { λ hashes salt name. hash_among salt name hashes.0.items };
 
     fn hash(&self, key: &[u8], message: &[u8]) -> [u8; 20] {

@@ -4,7 +4,7 @@ use crate::hashes::Hashes;
 use crate::revoked::read_lists;
 use crate::verified::Told;
 use crate::words::{NO_LINE, blob, number, texts};
-use host_keys::{HostLogin, Refusal, check_certificate, check_key};
+use host_keys::{HostCheck, HostRefusal, check_certificate, check_key};
 use ssh_key::addresses::HostFault;
 use ssh_key::{PublicKey, Result};
 use std::alloc::{AllocError, Global};
@@ -23,7 +23,7 @@ pub(crate) fn key(
     let texts = texts(alloc, known_hosts)?;
     let key = PublicKey::from_openssh(alloc, key)?;
     let texts = borrowed(alloc, &texts)?;
-    let login = HostLogin {
+    let login = HostCheck {
         texts: &texts,
         host,
         port: port_of(port)?,
@@ -51,7 +51,7 @@ pub(crate) fn certificate(
     let texts = texts(alloc, known_hosts)?;
     let certificate = blob(alloc, certificate)?;
     let texts = borrowed(alloc, &texts)?;
-    let login = HostLogin {
+    let login = HostCheck {
         texts: &texts,
         host,
         port: port_of(port)?,
@@ -87,22 +87,22 @@ fn port_of(digits: &str) -> Result<u16> {
     }
 }
 
-fn shown(alloc: Global, answer: std::result::Result<(), Refusal>) -> Result<String> {
+fn shown(alloc: Global, answer: std::result::Result<(), HostRefusal>) -> Result<String> {
     let text = match answer {
         Ok(()) => "ok",
-        Err(Refusal::Revoked) => "revoked",
-        Err(Refusal::Unreadable) => "unreadable",
-        Err(Refusal::Changed) => "changed",
-        Err(Refusal::Unknown) => "unknown",
-        Err(Refusal::UnacceptedKey) => "unaccepted key",
-        Err(Refusal::NotNormalForm) => "no normal form",
-        Err(Refusal::Host(HostFault::Port)) => "no port",
-        Err(Refusal::Host(HostFault::Empty)) => "no host",
-        Err(Refusal::Host(HostFault::Address)) => "no address",
-        Err(Refusal::Certificate(error)) => return Err(error),
-        Err(Refusal::Invalid(first)) => return Err(first.error()),
-        Err(Refusal::Memory) => return Err(ssh_key::Error::Memory),
-        Err(Refusal::Host(HostFault::Memory)) => return Err(ssh_key::Error::Memory),
+        Err(HostRefusal::Revoked) => "revoked",
+        Err(HostRefusal::Unreadable) => "unreadable",
+        Err(HostRefusal::Changed) => "changed",
+        Err(HostRefusal::Unknown) => "unknown",
+        Err(HostRefusal::UnacceptedKey) => "unaccepted key",
+        Err(HostRefusal::NotNormalForm) => "no normal form",
+        Err(HostRefusal::Host(HostFault::Port)) => "no port",
+        Err(HostRefusal::Host(HostFault::Empty)) => "no host",
+        Err(HostRefusal::Host(HostFault::Address)) => "no address",
+        Err(HostRefusal::Certificate(error)) => return Err(error),
+        Err(HostRefusal::Invalid(first)) => return Err(first.error()),
+        Err(HostRefusal::Memory) => return Err(ssh_key::Error::Memory),
+        Err(HostRefusal::Host(HostFault::Memory)) => return Err(ssh_key::Error::Memory),
     };
     Ok(String::from_str(alloc, text)?)
 }

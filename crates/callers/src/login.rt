@@ -3,7 +3,7 @@
 use crate::revoked::read_lists;
 use crate::verified::Told;
 use crate::words::{NO_LINE, blob, fingerprints, number};
-use login_policy::{Client, Grant, Login, Refusal, log_in};
+use login_policy::{Client, Grant, Login, LoginRefusal, log_in};
 use ssh_key::certificate::CertificateRefusal;
 use ssh_key::{Certificate, Error, PublicKey, Result};
 use std::alloc::{AllocError, Global};
@@ -59,13 +59,13 @@ pub(crate) fn answer(
     };
     match log_in(alloc, &login, &read_lists(alloc, revoked)?.as_slice(), told) {
         Ok(grant) => Ok(shown(alloc, &grant)?),
-        Err(Refusal::Certificate(error)) => Err(error),
-        Err(Refusal::NotNormalForm) => Ok(String::from_str(alloc, "no normal form")?),
-        Err(Refusal::UnacceptedKey) => Ok(String::from_str(alloc, "unaccepted key")?),
-        Err(Refusal::Invalid(refusal)) => Ok(String::from_str(alloc, invalid(refusal))?),
-        Err(Refusal::Elsewhere) => Ok(String::from_str(alloc, "elsewhere")?),
-        Err(Refusal::Revoked) => Ok(String::from_str(alloc, "revoked")?),
-        Err(Refusal::Memory) => Err(Error::Memory),
+        Err(LoginRefusal::Certificate(error)) => Err(error),
+        Err(LoginRefusal::NotNormalForm) => Ok(String::from_str(alloc, "no normal form")?),
+        Err(LoginRefusal::UnacceptedKey) => Ok(String::from_str(alloc, "unaccepted key")?),
+        Err(LoginRefusal::Invalid(refusal)) => Ok(String::from_str(alloc, invalid(refusal))?),
+        Err(LoginRefusal::Elsewhere) => Ok(String::from_str(alloc, "elsewhere")?),
+        Err(LoginRefusal::Revoked) => Ok(String::from_str(alloc, "revoked")?),
+        Err(LoginRefusal::Memory) => Err(Error::Memory),
     }
 }
 

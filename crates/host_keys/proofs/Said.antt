@@ -9,8 +9,8 @@ use Rattle.sshkey_known_hosts.specs.declared.verdict.Verdict.{Verdict}
 use Rattle.sshkey_known_hosts.specs.declared.verdict.Verdict.TheVariants.{Revoked, Trusted, Unknown}
 use Rattle.host_keys.specs.Answers.{AsksOf, IsRefusalFor, IsWhy, OkExactly, answer_of}
 use Rattle.host_keys.specs.Hosts.{IsBadFor, IsSaid, IsSettled}
-use Rattle.host_keys.specs.declared.refusal.Refusal.{Refusal}
-use Rattle.host_keys.specs.declared.refusal.Refusal.TheVariants as refusal
+use Rattle.host_keys.specs.declared.refusal.HostRefusal.{HostRefusal}
+use Rattle.host_keys.specs.declared.refusal.HostRefusal.TheVariants as refusal
 
 module _ (Says : List ℕ → Verdict → Type 0) (host : List ℕ) (port : ℕ) where
   at_standard : (v : Verdict) → port ≡ standard_port → Says (known_name host port) v → IsSaid Says host port v
@@ -31,7 +31,7 @@ module _ (Says : List ℕ → Verdict → Type 0) (host : List ℕ) (port : ℕ)
 -- ---- what is answered
 
 -- what follows from one thing, where the other is the same
-pub as_much : {P Q : Type 0} (r : Result (Unit {0}) Refusal) → (P → Q) → (Q → P) → OkExactly P r → OkExactly Q r
+pub as_much : {P Q : Type 0} (r : Result (Unit {0}) HostRefusal) → (P → Q) → (Q → P) → OkExactly P r → OkExactly Q r
 as_much (Ok u) to from holds = to holds
 as_much (Err e) to from none = λ other q. none other (from q)
 
@@ -44,7 +44,7 @@ module _ {E F : Type 0} (Said : Verdict → Type 0) (revoked : Bool) where
   exactly one (Ok false) (Err e) is said = λ other. absurd (other refl)
   exactly one (Err e) says is said = λ other. absurd (other refl)
 
-  module _ (accepted : Bool) (Bad : Refusal → Type 0) where
+  module _ (accepted : Bool) (Bad : HostRefusal → Type 0) where
     pub why : (asked : Result Bool E) (says : Result Verdict F) → IfOk asked (λ yes. yes ≡ revoked) → IfOk says Said → IfErr (answer_of asked says) (IsWhy Said revoked accepted Bad)
     why (Ok true) says is said = inl (sym is)
     why (Ok false) (Ok Trusted) is said = tt
@@ -63,7 +63,7 @@ asks_of Reads none lines (Err e) says a s = λ m. inr (inr a)
 
 -- for what is wrong with the certificate
 module _ (Said : Verdict → Type 0) (revoked accepted : Bool) (accepts : Question → Bool) (t : ℕ) (host : List ℕ) (c : Certificate) (good : (revoked ≡ false) × Said Trusted) (let_in : IsTrue accepted) where
-  why_refused : (r : Refusal) → (r ≢ refusal.Memory → IsBadFor accepts t host c r) → IsWhy Said revoked accepted (IsBadFor accepts t host c) r
+  why_refused : (r : HostRefusal) → (r ≢ refusal.Memory → IsBadFor accepts t host c r) → IsWhy Said revoked accepted (IsBadFor accepts t host c) r
   why_refused refusal.Memory bad = tt
   why_refused (refusal.Certificate e) bad = (good.0, good.1, let_in, bad (λ same. cc same))
   why_refused (refusal.Invalid first) bad = (good.0, good.1, let_in, bad (λ same. cc same))
@@ -75,16 +75,16 @@ module _ (Said : Verdict → Type 0) (revoked accepted : Bool) (accepts : Questi
   why_refused refusal.NotNormalForm bad = absurd (bad (λ same. cc same))
   why_refused (refusal.Host f) bad = absurd (bad (λ same. cc same))
 
-  pub why_bad : (r : Result (Unit {0}) Refusal) → IfErr r (λ x. x ≢ refusal.Memory → IsBadFor accepts t host c x) → IfErr r (IsWhy Said revoked accepted (IsBadFor accepts t host c))
+  pub why_bad : (r : Result (Unit {0}) HostRefusal) → IfErr r (λ x. x ≢ refusal.Memory → IsBadFor accepts t host c x) → IfErr r (IsWhy Said revoked accepted (IsBadFor accepts t host c))
   why_bad (Ok u) bad = tt
   why_bad (Err r) bad = why_refused r bad
 
 -- a refusal for something else than memory is for an error that is no lack of memory
-pub other_of : (e : Error) (r : Refusal) → IsRefusalFor e r → r ≢ refusal.Memory → e ≢ Memory
+pub other_of : (e : Error) (r : HostRefusal) → IsRefusalFor e r → r ≢ refusal.Memory → e ≢ Memory
 other_of e r (inl ran_out) other = absurd (other ran_out.1)
 other_of e r (inr is) other = is.0
 
 -- who needs memory for less needs it for more
-pub asks_more : (P Q : Type 0) → (P → Q) → (none : Bool) (lines : List (List ℕ)) (r : Result (Unit {0}) Refusal) → AsksOf P none lines r → AsksOf Q none lines r
+pub asks_more : (P Q : Type 0) → (P → Q) → (none : Bool) (lines : List (List ℕ)) (r : Result (Unit {0}) HostRefusal) → AsksOf P none lines r → AsksOf Q none lines r
 asks_more P Q to none lines (Ok u) asks = tt
 asks_more P Q to none lines (Err e) asks = λ memory. elim (asks memory) [ inl p ↦ inl (to p) | inr rest ↦ inr rest ]

@@ -8,7 +8,7 @@ use Rattle.sshkey_known_hosts.specs.declared.verdict.Verdict.{Verdict}
 use Rattle.sshkey_known_hosts.specs.declared.verdict.Verdict.TheVariants.{Changed, Revoked, Trusted, Unknown, Unreadable}
 use Rattle.host_keys.specs.Answers.{IsWhy, OkExactly, answer_of}
 use Rattle.host_keys.specs.Hosts.{IsEitherRevoked, IsSaidOfSigned, IsVerdictOfSigned}
-use Rattle.host_keys.specs.declared.refusal.Refusal.{Refusal}
+use Rattle.host_keys.specs.declared.refusal.HostRefusal.{HostRefusal}
 use Rattle.host_keys.proofs.Said.{exactly, one_said, why}
 
 module _ (hmac : List ℕ → List ℕ → List ℕ) (name : List ℕ) (lines : List (List ℕ)) where
@@ -61,7 +61,7 @@ module _ (hmac : List ℕ → List ℕ → List ℕ) (name : List ℕ) (lines : 
 
 -- ---- what is answered of a certificate
 
-module _ {E F : Type 0} (hmac : List ℕ → List ℕ → List ℕ) (host : List ℕ) (port : ℕ) (c : Certificate) (lines : List (List ℕ)) (revoked : Bool) (asked : Result Bool E) (says : Result Verdict F) (k signer : Key) (own : k ≡ c.signed.key) (by : signer ≡ c.signed.signature_key) (is : IfOk asked (λ yes. yes ≡ revoked)) (said : IfOk says (IsSaidOfSigned hmac host port k signer lines)) (r : Result (Unit {0}) Refusal) (was : answer_of asked says ≡ r) where
+module _ {E F : Type 0} (hmac : List ℕ → List ℕ → List ℕ) (host : List ℕ) (port : ℕ) (c : Certificate) (lines : List (List ℕ)) (revoked : Bool) (asked : Result Bool E) (says : Result Verdict F) (k signer : Key) (own : k ≡ c.signed.key) (by : signer ≡ c.signed.signature_key) (is : IfOk asked (λ yes. yes ≡ revoked)) (said : IfOk says (IsSaidOfSigned hmac host port k signer lines)) (r : Result (Unit {0}) HostRefusal) (was : answer_of asked says ≡ r) where
   abbrev Said : Verdict → Type 0
   Said = IsSaidOfSigned hmac host port c.signed.key c.signed.signature_key lines
 
@@ -73,5 +73,5 @@ module _ {E F : Type 0} (hmac : List ℕ → List ℕ → List ℕ) (host : List
       let one = one_said (λ (name : List ℕ). IsVerdictOfSigned hmac name c.signed.key c.signed.signature_key lines) host port (λ name. one_verdict hmac name lines c.signed.key c.signed.signature_key) in
       subst (OkExactly ((revoked ≡ false) × Said Trusted)) was (exactly Said revoked one asked says is said_of_both)
 
-  pub why_judged : (accepted : Bool) (Bad : Refusal → Type 0) → IfErr r (IsWhy (IsSaidOfSigned hmac host port c.signed.key c.signed.signature_key lines) revoked accepted Bad)
-  why_judged accepted Bad = subst (λ (x : Result (Unit {0}) Refusal). IfErr x (IsWhy Said revoked accepted Bad)) was (why Said revoked accepted Bad asked says is said_of_both)
+  pub why_judged : (accepted : Bool) (Bad : HostRefusal → Type 0) → IfErr r (IsWhy (IsSaidOfSigned hmac host port c.signed.key c.signed.signature_key lines) revoked accepted Bad)
+  why_judged accepted Bad = subst (λ (x : Result (Unit {0}) HostRefusal). IfErr x (IsWhy Said revoked accepted Bad)) was (why Said revoked accepted Bad asked says is said_of_both)

@@ -1,6 +1,6 @@
 -- What is answered about a host, and why it is refused.
 use Rattle.std.specs.Prelude.{◌≡◌, ◌≢◌, ◌⊎◌, ◌<◌, length, ℕ, List, Bool, true, false, IsTrue, Result, Ok, Err}
-use Rattle.openssh_limits.specs.Keys.{is_let_in}
+use Rattle.openssh_limits.specs.Keys.{openssh_accepts_key}
 use Rattle.sshkey_addresses.specs.AskedHosts.{IsHostFault}
 use Rattle.sshkey_addresses.specs.declared.host.HostFault.{HostFault}
 use Rattle.sshkey_addresses.specs.declared.host.HostFault.TheVariants as fault
@@ -16,35 +16,35 @@ use Rattle.sshkey_base.specs.declared.error.Error.{Error}
 use Rattle.sshkey_base.specs.declared.error.Error.TheVariants.{Memory}
 use Rattle.sshkey_known_hosts.specs.declared.verdict.Verdict.{Verdict}
 use Rattle.sshkey_known_hosts.specs.declared.verdict.Verdict.TheVariants.{Changed, Revoked, Trusted, Unknown, Unreadable}
-use Rattle.host_keys.specs.Hosts.{HostLogin, IsBadFor, IsSaidOfKey, IsSaidOfSigned, OfAsked, plain_name}
-use Rattle.host_keys.specs.declared.refusal.Refusal.{Refusal}
-use Rattle.host_keys.specs.declared.refusal.Refusal.TheVariants as refusal
+use Rattle.host_keys.specs.Hosts.{HostCheck, IsBadFor, IsSaidOfKey, IsSaidOfSigned, OfAsked, plain_name}
+use Rattle.host_keys.specs.declared.refusal.HostRefusal.{HostRefusal}
+use Rattle.host_keys.specs.declared.refusal.HostRefusal.TheVariants as refusal
 
 -- Out of memory aside, Ok exactly if this holds.
-abbrev pub OkExactly : Type 0 → Result Unit Refusal → Type 0
+abbrev pub OkExactly : Type 0 → Result Unit HostRefusal → Type 0
 OkExactly Holds (Ok x) = Holds
 OkExactly Holds (Err e) = e ≢ refusal.Memory → Holds → ⊥
 
 -- Memory was refused only where what is shown or the host's name needs some, there is a line to be
 -- judged, or somebody says what is revoked.
-abbrev pub AsksOf : Type 0 → Bool → List (List ℕ) → Result Unit Refusal → Type 0
+abbrev pub AsksOf : Type 0 → Bool → List (List ℕ) → Result Unit HostRefusal → Type 0
 AsksOf Needs revokes_none lines (Ok x) = Unit {0}
 AsksOf Needs revokes_none lines (Err e) = e ≡ refusal.Memory → Needs ⊎ (0 < length lines) ⊎ (revokes_none ≡ false)
 
 -- The refusal is that of a certificate for the error, or memory ran out.
-abbrev pub IsRefusalFor : Error → Refusal → Type 0
+abbrev pub IsRefusalFor : Error → HostRefusal → Type 0
 IsRefusalFor e r = ((e ≡ Memory) × (r ≡ refusal.Memory)) ⊎ ((e ≢ Memory) × (r ≡ refusal.Certificate e))
 
 -- and that of a host for what is wrong with it
-abbrev pub IsRefusalForHost : HostFault → Refusal → Type 0
+abbrev pub IsRefusalForHost : HostFault → HostRefusal → Type 0
 IsRefusalForHost f r = ((f ≡ fault.Memory) × (r ≡ refusal.Memory)) ⊎ ((f ≢ fault.Memory) × (r ≡ refusal.Host f))
 
 -- Nothing can be asked about the host, for that fault; or it is asked, and refused for that reason.
-abbrev pub RefusesAsked : HostLogin → (HostLogin → Refusal → Type 0) → Refusal → Type 0
+abbrev pub RefusesAsked : HostCheck → (HostCheck → HostRefusal → Type 0) → HostRefusal → Type 0
 RefusesAsked login Why r = ((f : HostFault) × IsHostFault login.host login.port f × IsRefusalForHost f r) ⊎ OfAsked login (λ asked. Why asked r)
 
 -- what follows from a verdict
-abbrev pub verdict_answer : Verdict → Result Unit Refusal
+abbrev pub verdict_answer : Verdict → Result Unit HostRefusal
 verdict_answer Trusted = Ok tt
 verdict_answer Revoked = Err refusal.Revoked
 verdict_answer Unreadable = Err refusal.Unreadable
@@ -52,7 +52,7 @@ verdict_answer Changed = Err refusal.Changed
 verdict_answer Unknown = Err refusal.Unknown
 
 -- and from whether something is revoked, which comes first
-abbrev pub answer_of : {E F : Type 0} → Result Bool E → Result Verdict F → Result Unit Refusal
+abbrev pub answer_of : {E F : Type 0} → Result Bool E → Result Verdict F → Result Unit HostRefusal
 answer_of (Ok true) said = Err refusal.Revoked
 answer_of (Ok false) (Ok v) = verdict_answer v
 answer_of (Ok false) (Err e) = Err refusal.Memory
@@ -61,7 +61,7 @@ answer_of (Err e) said = Err refusal.Memory
 -- It is revoked, or that is said. Or it is not revoked, and that is said; or the host is trusted so
 -- far, and the key is not accepted; or it is, and the certificate is bad for that reason; or memory
 -- ran out.
-abbrev pub IsWhy : (Verdict → Type 0) → Bool → Bool → (Refusal → Type 0) → Refusal → Type 0
+abbrev pub IsWhy : (Verdict → Type 0) → Bool → Bool → (HostRefusal → Type 0) → HostRefusal → Type 0
 IsWhy Said revoked accepted Bad refusal.Revoked = (revoked ≡ true) ⊎ Said Revoked
 IsWhy Said revoked accepted Bad refusal.Unreadable = (revoked ≡ false) × Said Unreadable
 IsWhy Said revoked accepted Bad refusal.Changed = (revoked ≡ false) × Said Changed
@@ -73,16 +73,16 @@ IsWhy Said revoked accepted Bad refusal.NotNormalForm = ⊥
 IsWhy Said revoked accepted Bad (refusal.Host f) = ⊥
 IsWhy Said revoked accepted Bad refusal.Memory = Unit {0}
 
-abbrev pub IsWhyNoKey : HostLogin → (List ℕ → Bool) → Key → Refusal → Type 0
-IsWhyNoKey login revokes_key key = IsWhy (IsSaidOfKey login.hmac login.host login.port key login.lines) (is_key_revoked revokes_key key) (is_let_in login.least_rsa_bits key) (λ r. ⊥)
+abbrev pub IsWhyNoKey : HostCheck → (List ℕ → Bool) → Key → HostRefusal → Type 0
+IsWhyNoKey login revokes_key key = IsWhy (IsSaidOfKey login.hmac login.host login.port key login.lines) (is_key_revoked revokes_key key) (openssh_accepts_key login.least_rsa_bits key) (λ r. ⊥)
 
-abbrev pub RefusesHostKey : HostLogin → (List ℕ → Bool) → Key → Refusal → Type 0
+abbrev pub RefusesHostKey : HostCheck → (List ℕ → Bool) → Key → HostRefusal → Type 0
 RefusesHostKey login revokes_key key = RefusesAsked login (λ asked. IsWhyNoKey asked revokes_key key)
 
-abbrev pub IsWhyNoCertificate : HostLogin → (Question → Bool) → (List ℕ → CertificateIdentity → Bool) → Certificate → Refusal → Type 0
-IsWhyNoCertificate login accepts revokes c = IsWhy (IsSaidOfSigned login.hmac login.host login.port c.signed.key c.signed.signature_key login.lines) (is_certificate_revoked revokes c) (is_let_in login.least_rsa_bits c.signed.key) (IsBadFor accepts login.time (plain_name login.host) c)
+abbrev pub IsWhyNoCertificate : HostCheck → (Question → Bool) → (List ℕ → CertificateIdentity → Bool) → Certificate → HostRefusal → Type 0
+IsWhyNoCertificate login accepts revokes c = IsWhy (IsSaidOfSigned login.hmac login.host login.port c.signed.key c.signed.signature_key login.lines) (is_certificate_revoked revokes c) (openssh_accepts_key login.least_rsa_bits c.signed.key) (IsBadFor accepts login.time (plain_name login.host) c)
 
 -- The bytes spell no certificate, and have that fault. Or they spell one: they are not its normal
 -- form; or they are, and nothing can be asked about the host, or it is refused.
-abbrev pub RefusesHostCertificate : HostLogin → (Question → Bool) → (List ℕ → CertificateIdentity → Bool) → List ℕ → Refusal → Type 0
+abbrev pub RefusesHostCertificate : HostCheck → (Question → Bool) → (List ℕ → CertificateIdentity → Bool) → List ℕ → HostRefusal → Type 0
 RefusesHostCertificate login accepts revokes blob r = (NoSpelling SpellsCertificate blob × ((e : Error) × IsFaultOf blob e × IsRefusalFor e r)) ⊎ ((c : Certificate) × SpellsCertificate c blob × (((blob ≢ flat (normal_certificate c)) × (r ≡ refusal.NotNormalForm)) ⊎ ((blob ≡ flat (normal_certificate c)) × RefusesAsked login (λ asked. IsWhyNoCertificate asked accepts revokes c) r)))

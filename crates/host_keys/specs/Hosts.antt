@@ -2,7 +2,7 @@
 -- revoked (ssh(1), "VERIFYING HOST KEYS"; sshd(8), "SSH_KNOWN_HOSTS FILE FORMAT"; ssh_config(5),
 -- RevokedHostKeys; PROTOCOL.certkeys).
 use denote.Ref.{Bor}
-use Rattle.openssh_limits.specs.Keys.{is_let_in}
+use Rattle.openssh_limits.specs.Keys.{openssh_accepts_key}
 use Rattle.openssh_limits.specs.Read.{AreReadPrincipals}
 use Rattle.std.specs.List.{flat_map}
 use Rattle.std.specs.Prelude.{◌≡◌, ◌≢◌, ◌⊎◌, ℕ, List, [], ◌∷◌, Bool, false, IsTrue, Some}
@@ -28,9 +28,9 @@ use Rattle.sshkey_base.specs.declared.error.Error.TheVariants.{CertificateFieldI
 use Rattle.sshkey_base.specs.declared.certificate.field.Field.TheVariants as field
 use Rattle.sshkey_known_hosts.specs.declared.verdict.Verdict.{Verdict}
 use Rattle.sshkey_known_hosts.specs.declared.verdict.Verdict.TheVariants.{Changed, Revoked, Trusted, Unknown, Unreadable}
-use Rattle.host_keys.specs.declared.login.HostLogin as code
-use Rattle.host_keys.specs.declared.refusal.Refusal.{Refusal}
-use Rattle.host_keys.specs.declared.refusal.Refusal.TheVariants as refusal
+use Rattle.host_keys.specs.declared.host_check.HostCheck as code
+use Rattle.host_keys.specs.declared.refusal.HostRefusal.{HostRefusal}
+use Rattle.host_keys.specs.declared.refusal.HostRefusal.TheVariants as refusal
 
 -- ---- the lines
 
@@ -40,7 +40,7 @@ lines_of texts = flat_map (λ text. filled_lines text.now) texts
 
 -- The host that a client connects to, and what is known of it: an HMAC-SHA1, the lines of
 -- known_hosts, the host's name and port, the time, and how many bits an RSA key has at least.
-pub record HostLogin : Type 0 where
+pub record HostCheck : Type 0 where
   pub hmac : List ℕ → List ℕ → List ℕ
   pub lines : List (List ℕ)
   pub host : List ℕ
@@ -49,14 +49,14 @@ pub record HostLogin : Type 0 where
   pub least_rsa_bits : ℕ
 
 -- that of a call
-abbrev pub login_of : code.HostLogin → (List ℕ → List ℕ → List ℕ) → HostLogin
+abbrev pub login_of : code.HostCheck → (List ℕ → List ℕ → List ℕ) → HostCheck
 login_of l hmac = record { hmac = hmac; lines = lines_of l.texts.now; host = l.host.now; port = l.port; time = l.unix_timestamp; least_rsa_bits = l.least_rsa_bits }
 
 -- ---- names
 
 -- There is a name that is asked about, of an address its canonical text, and this holds of the host
 -- under it.
-pub record OfAsked (login : HostLogin) (Holds : HostLogin → Type 0) : Type 0 where
+pub record OfAsked (login : HostCheck) (Holds : HostCheck → Type 0) : Type 0 where
   pub name : List ℕ
   pub asked : IsAsked login.host login.port name
   pub holds : Holds (record login { host = name })
@@ -120,24 +120,24 @@ pub record IsGoodFor (accepts : Question → Bool) (t : ℕ) (host : List ℕ) (
   pub valid : IsValidFor accepts (signers c) t host c
 
 -- The key is the host's by the name that is asked, and ssh accepts it.
-pub record IsTrustedKey (login : HostLogin) (revokes_key : List ℕ → Bool) (key : Key) : Type 0 where
+pub record IsTrustedKey (login : HostCheck) (revokes_key : List ℕ → Bool) (key : Key) : Type 0 where
   pub listed : IsSaidOfKey login.hmac login.host login.port key login.lines Trusted
   pub unrevoked : is_key_revoked revokes_key key ≡ false
-  pub accepted : IsTrue (is_let_in login.least_rsa_bits key)
+  pub accepted : IsTrue (openssh_accepts_key login.least_rsa_bits key)
 
-abbrev pub IsHostKey : HostLogin → (List ℕ → Bool) → Key → Type 0
+abbrev pub IsHostKey : HostCheck → (List ℕ → Bool) → Key → Type 0
 IsHostKey login revokes_key key = OfAsked login (λ asked. IsTrustedKey asked revokes_key key)
 
 -- The certificate is the host's by the name that is asked: by an authority of the host, not revoked,
 -- of a key that ssh accepts, and good for the host.
-pub record IsTrustedCertificate (login : HostLogin) (accepts : Question → Bool) (revokes : List ℕ → CertificateIdentity → Bool) (c : Certificate) : Type 0 where
-  pub by_authority : IsSaidOfSigned login.hmac login.host login.port c.signed.key c.signed.signature_key login.lines Trusted
+pub record IsTrustedCertificate (login : HostCheck) (accepts : Question → Bool) (revokes : List ℕ → CertificateIdentity → Bool) (c : Certificate) : Type 0 where
+  pub trusted_by : IsSaidOfSigned login.hmac login.host login.port c.signed.key c.signed.signature_key login.lines Trusted
   pub unrevoked : is_certificate_revoked revokes c ≡ false
-  pub accepted : IsTrue (is_let_in login.least_rsa_bits c.signed.key)
+  pub accepted : IsTrue (openssh_accepts_key login.least_rsa_bits c.signed.key)
   pub good : IsGoodFor accepts login.time (plain_name login.host) c
 
 -- The bytes are those of a certificate, in its normal form, that is the host's.
-pub record IsHostCertificate (login : HostLogin) (accepts : Question → Bool) (revokes : List ℕ → CertificateIdentity → Bool) (blob : List ℕ) : Type 0 where
+pub record IsHostCertificate (login : HostCheck) (accepts : Question → Bool) (revokes : List ℕ → CertificateIdentity → Bool) (blob : List ℕ) : Type 0 where
   pub certificate : Certificate
   pub spelled : SpellsCertificate certificate blob
   pub normal : blob ≡ flat (normal_certificate certificate)
@@ -153,7 +153,7 @@ pub data HasOtherField (c : Certificate) : Error → Type 0 where
   OtherPrincipals : c.signed.certificate_type ≡ Host → c.signed.critical_options ≡ [] → IsWithout 0 c.signed.key_id → (AreForHosts c.signed.valid_principals → ⊥) → HasOtherField c (CertificateFieldInvalid field.ValidPrincipals)
 
 -- such a field; or, with the fields of one for hosts, what makes it not valid first
-abbrev pub IsBadFor : (Question → Bool) → ℕ → List ℕ → Certificate → Refusal → Type 0
+abbrev pub IsBadFor : (Question → Bool) → ℕ → List ℕ → Certificate → HostRefusal → Type 0
 IsBadFor accepts t host c (refusal.Certificate e) = HasOtherField c e
 IsBadFor accepts t host c (refusal.Invalid first) = HasHostFields c × (first_refusal_for accepts (signers c) t host c ≡ Some (refusal_of first))
 IsBadFor accepts t host c r = ⊥

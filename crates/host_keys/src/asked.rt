@@ -6,14 +6,14 @@ ghost use Rattle.sshkey_addresses.specs.declared.host.HostFault.{HostFault};
 ghost use Rattle.host_keys.specs.Answers.{IsRefusalForHost};
 ghost use Rattle.host_keys.specs.Hosts.{login_of};
 
-use crate::login::HostLogin;
-use crate::refusal::Refusal;
+use crate::host_check::HostCheck;
+use crate::refusal::HostRefusal;
 use sshkey_addresses::{AskedHost, asked_host};
 use std::alloc::Global;
 
-impl HostLogin<'_> {
+impl HostCheck<'_> {
     /// The name under which known_hosts and certificates list the host.
-    pub(crate) fn asked(&self, alloc: Global) -> Result<AskedHost<'_>, Refusal>
+    pub(crate) fn asked(&self, alloc: Global) -> Result<AskedHost<'_>, HostRefusal>
         ensures { MatchResult result
             (λ asked. IsAsked self.now.host.now self.now.port (asked_name asked))
             (λ r. (f : HostFault) × IsHostFault self.now.host.now self.now.port f
@@ -21,16 +21,16 @@ impl HostLogin<'_> {
     {
         match asked_host(alloc, self.host, self.port) {
             Ok(asked) => Ok(asked),
-            Err(fault) => Err(Refusal::of_host(fault)),
+            Err(fault) => Err(HostRefusal::of_host(fault)),
         }
     }
 
     /// The same host under that name.
-    pub(crate) fn under<'b>(&'b self, name: &'b str) -> HostLogin<'b>
+    pub(crate) fn under<'b>(&'b self, name: &'b str) -> HostCheck<'b>
         ensures { (hmac : List ℕ → List ℕ → List ℕ)
             → login_of result hmac ≡ record (login_of self.now hmac) { host = name.now } }
     {
-        HostLogin {
+        HostCheck {
             texts: self.texts,
             host: name,
             port: self.port,

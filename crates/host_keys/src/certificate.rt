@@ -10,19 +10,19 @@ ghost use Rattle.sshkey_model.specs.Parts.{BoxesFit, flat};
 ghost use Rattle.sshkey_model.specs.Refusals.{first_refusal_for};
 ghost use Rattle.host_keys.specs.Answers.{AsksOf, IsWhyNoCertificate, OkExactly, RefusesAsked, RefusesHostCertificate};
 ghost use Rattle.host_keys.specs.Hosts.{AreForHosts, HasHostFields, HasOtherField, IsBadFor, IsGoodFor, IsHostCertificate, IsTrustedCertificate, OfAsked, lines_of, login_of, plain_name, signers};
-ghost use Rattle.host_keys.specs.declared.refusal.Refusal.TheVariants as refusal;
+ghost use Rattle.host_keys.specs.declared.refusal.HostRefusal.TheVariants as refusal;
 
-use crate::login::HostLogin;
-use crate::refusal::{Refusal, answer};
+use crate::host_check::HostCheck;
+use crate::refusal::{HostRefusal, answer};
 use crate::verdict::signed_verdict;
-use openssh_limits::{are_read_principals, is_let_in, is_read_text};
+use openssh_limits::{openssh_accepts_key, openssh_reads_principals, openssh_reads_text};
 use sshkey_base::certificate::Field;
 use sshkey_base::{Error, HashAlg};
 use sshkey_cert::laws::one_certificate;
 use sshkey_cert::{Certificate, CertificateRefusal};
 use sshkey_cert_form::is_normal_form;
 use sshkey_keys::RawVerifier;
-use sshkey_known_hosts::HmacSha1;
+use sshkey_known_hosts::HostHasher;
 use sshkey_krl::Revocations;
 use sshkey_model::laws::key_fits;
 use std::alloc::Global;
@@ -32,7 +32,7 @@ use std::alloc::Global;
 /// - a line `@cert-authority` of the texts of known_hosts, as OpenSSH reads them, has the key that
 ///   signed it for the host at that port, and no line for it revokes one of the two keys;
 /// - `revocations`, such as the list of `RevokedHostKeys` (ssh_config(5)), does not revoke it;
-/// - ssh(1) accepts the kind and the size of its key (`openssh_limits::is_let_in`);
+/// - ssh(1) accepts the kind and the size of its key (`openssh_limits::openssh_accepts_key`);
 /// - it is one for hosts, without critical options, with texts that ssh(1) reads: at most 256
 ///   principals, and no zero byte in one or in the key id;
 /// - it lists a principal, and is valid at that time for the host's name in small letters, for which
@@ -63,14 +63,14 @@ use std::alloc::Global;
 ///
 /// `Memory` means what it means for `Certificate::from_bytes`, or that a text has a line,
 /// `revocations` had to be asked (`Revocations::revokes_none`) or the host is like an address.
-pub fn check_certificate<H: HmacSha1, R: Revocations, V: RawVerifier>(
+pub fn check_certificate<H: HostHasher, R: Revocations, V: RawVerifier>(
     alloc: Global,
-    login: &HostLogin,
+    login: &HostCheck,
     certificate: &[u8],
     hmac: &H,
     revocations: &R,
     verifier: &V,
-) -> Result<(), Refusal>
+) -> Result<(), HostRefusal>
     ensures exactly { OkExactly (IsHostCertificate (login_of login.now (H.hmac hmac.now))
         (V.accepts verifier.now) (R.revokes revocations.now) certificate.now) result }
     ensures refused { IfErr result (λ r. r ≢ refusal.Memory → RefusesHostCertificate
@@ -83,23 +83,23 @@ pub fn check_certificate<H: HmacSha1, R: Revocations, V: RawVerifier>(
     one_certificate();
     let read = match Certificate::from_bytes(alloc, certificate) {
         Ok(read) => read,
-        Err(error) => return Err(Refusal::of_certificate(error)),
+        Err(error) => return Err(HostRefusal::of_certificate(error)),
     };
     if !is_normal_form(&read, certificate) {
-        return Err(Refusal::NotNormalForm);
+        return Err(HostRefusal::NotNormalForm);
     }
     judge(alloc, login, &read, hmac, revocations, verifier)
 }
 
 /// Accepts the certificate if it is the host's.
-fn judge<H: HmacSha1, R: Revocations, V: RawVerifier>(
+fn judge<H: HostHasher, R: Revocations, V: RawVerifier>(
     alloc: Global,
-    login: &HostLogin,
+    login: &HostCheck,
     certificate: &Certificate,
     hmac: &H,
     revocations: &R,
     verifier: &V,
-) -> Result<(), Refusal>
+) -> Result<(), HostRefusal>
     requires { IsCertificate (certificate_of certificate.now) }
     ensures exactly { OkExactly (OfAsked (login_of login.now (H.hmac hmac.now))
         (λ asked. IsTrustedCertificate asked (V.accepts verifier.now) (R.revokes revocations.now)
@@ -116,14 +116,14 @@ fn judge<H: HmacSha1, R: Revocations, V: RawVerifier>(
 }
 
 /// The same of a host under the name that is asked.
-fn judge_asked<H: HmacSha1, R: Revocations, V: RawVerifier>(
+fn judge_asked<H: HostHasher, R: Revocations, V: RawVerifier>(
     alloc: Global,
-    login: &HostLogin,
+    login: &HostCheck,
     certificate: &Certificate,
     hmac: &H,
     revocations: &R,
     verifier: &V,
-) -> Result<(), Refusal>
+) -> Result<(), HostRefusal>
     requires { IsCertificate (certificate_of certificate.now) }
     ensures exactly { OkExactly (IsTrustedCertificate (login_of login.now (H.hmac hmac.now))
         (V.accepts verifier.now) (R.revokes revocations.now) (certificate_of certificate.now))
@@ -146,8 +146,8 @@ fn judge_asked<H: HmacSha1, R: Revocations, V: RawVerifier>(
         hmac,
     );
     answer(revoked, said)?;
-    if !is_let_in(key, login.least_rsa_bits) {
-        return Err(Refusal::UnacceptedKey);
+    if !openssh_accepts_key(key, login.least_rsa_bits) {
+        return Err(HostRefusal::UnacceptedKey);
     }
     validate(
         alloc,
@@ -165,7 +165,7 @@ fn validate<V: RawVerifier>(
     host: &str,
     unix_timestamp: u64,
     verifier: &V,
-) -> Result<(), Refusal>
+) -> Result<(), HostRefusal>
     requires { BoxesFit (normal_key (certificate_of certificate.now).signed.signature_key) }
     ensures exactly { OkExactly (IsGoodFor (V.accepts verifier.now) unix_timestamp
         (plain_name host.now) (certificate_of certificate.now)) result }
@@ -173,12 +173,12 @@ fn validate<V: RawVerifier>(
         unix_timestamp (plain_name host.now) (certificate_of certificate.now) r) }
 {
     if let Err(error) = check_fields(certificate) {
-        return Err(Refusal::Certificate(error));
+        return Err(HostRefusal::Certificate(error));
     }
     match first_refusal(alloc, certificate, host, unix_timestamp, verifier) {
         Ok(None) => Ok(()),
-        Ok(Some(first)) => Err(Refusal::Invalid(first)),
-        Err(_) => Err(Refusal::Memory),
+        Ok(Some(first)) => Err(HostRefusal::Invalid(first)),
+        Err(_) => Err(HostRefusal::Memory),
     }
 }
 
@@ -193,7 +193,7 @@ fn check_fields(certificate: &Certificate) -> sshkey_base::Result<()>
     if !certificate.critical_options().is_empty() {
         return Err(Error::CertificateFieldInvalid(Field::CriticalOptions));
     }
-    if !is_read_text(certificate.key_id()) {
+    if !openssh_reads_text(certificate.key_id()) {
         return Err(Error::CertificateFieldInvalid(Field::KeyId));
     }
     if !are_for_hosts(certificate.valid_principals()) {
@@ -227,5 +227,5 @@ fn first_refusal<V: RawVerifier>(
 fn are_for_hosts(names: &[String]) -> bool
     ensures { IsTrue result ↔ AreForHosts (map string_bytes names.now) }
 {
-    !names.is_empty() && are_read_principals(names)
+    !names.is_empty() && openssh_reads_principals(names)
 }

@@ -6,21 +6,21 @@ ghost use Rattle.sshkey_keys.specs.Keys.{key_of};
 ghost use Rattle.host_keys.specs.Answers.{AsksOf, IsWhyNoKey, OkExactly, RefusesHostKey};
 ghost use Rattle.host_keys.specs.Hosts.{IsHostKey, IsTrustedKey, lines_of, login_of};
 
-use crate::login::HostLogin;
-use crate::refusal::{Refusal, answer};
+use crate::host_check::HostCheck;
+use crate::refusal::{HostRefusal, answer};
 use crate::verdict::key_verdict;
-use openssh_limits::is_let_in;
+use openssh_limits::openssh_accepts_key;
 use sshkey_keys::KeyData;
-use sshkey_known_hosts::HmacSha1;
+use sshkey_known_hosts::HostHasher;
 use sshkey_known_hosts::laws::one_verdict;
 use sshkey_krl::Revocations;
 use std::alloc::Global;
 
 /// Accepts the key that a host shows if the texts of known_hosts, as OpenSSH reads them, list the
 /// key for the host at that port, and revoke it in no line for it
-/// (`sshkey_known_hosts::judge_key`). `revocations`, such as the list of `RevokedHostKeys`
+/// (`sshkey_known_hosts::key_verdict`). `revocations`, such as the list of `RevokedHostKeys`
 /// (ssh_config(5)), must not revoke it either, and ssh(1) has to accept its kind and size
-/// (`openssh_limits::is_let_in`).
+/// (`openssh_limits::openssh_accepts_key`).
 ///
 /// An address is asked about in its canonical text (`sshkey_addresses::asked_host`).
 ///
@@ -37,13 +37,13 @@ use std::alloc::Global;
 ///
 /// It allocates only if a text has a line, `revocations` has to be asked
 /// (`Revocations::revokes_none`) or the host is like an address.
-pub fn check_key<H: HmacSha1, R: Revocations>(
+pub fn check_key<H: HostHasher, R: Revocations>(
     alloc: Global,
-    login: &HostLogin,
+    login: &HostCheck,
     key: &KeyData,
     hmac: &H,
     revocations: &R,
-) -> Result<(), Refusal>
+) -> Result<(), HostRefusal>
     ensures exactly { OkExactly (IsHostKey (login_of login.now (H.hmac hmac.now))
         (R.revokes_key revocations.now) (key_of key.now)) result }
     ensures refused { IfErr result (RefusesHostKey (login_of login.now (H.hmac hmac.now))
@@ -57,13 +57,13 @@ pub fn check_key<H: HmacSha1, R: Revocations>(
 }
 
 /// The same of a host under the name that is asked.
-fn check_asked<H: HmacSha1, R: Revocations>(
+fn check_asked<H: HostHasher, R: Revocations>(
     alloc: Global,
-    login: &HostLogin,
+    login: &HostCheck,
     key: &KeyData,
     hmac: &H,
     revocations: &R,
-) -> Result<(), Refusal>
+) -> Result<(), HostRefusal>
     ensures exactly { OkExactly (IsTrustedKey (login_of login.now (H.hmac hmac.now))
         (R.revokes_key revocations.now) (key_of key.now)) result }
     ensures refused { IfErr result (IsWhyNoKey (login_of login.now (H.hmac hmac.now))
@@ -75,8 +75,8 @@ fn check_asked<H: HmacSha1, R: Revocations>(
     let revoked = revocations.is_key_revoked(alloc, key);
     let said = key_verdict(alloc, login.texts, login.host, login.port, key, hmac);
     answer(revoked, said)?;
-    if !is_let_in(key, login.least_rsa_bits) {
-        return Err(Refusal::UnacceptedKey);
+    if !openssh_accepts_key(key, login.least_rsa_bits) {
+        return Err(HostRefusal::UnacceptedKey);
     }
     Ok(())
 }

@@ -6,13 +6,13 @@
 
 mod asked;
 mod certificate;
+mod host_check;
 mod key;
-mod login;
 mod refusal;
 mod texts;
 mod verdict;
 
 pub use certificate::check_certificate;
+pub use host_check::HostCheck;
 pub use key::check_key;
-pub use login::HostLogin;
-pub use refusal::Refusal;
+pub use refusal::HostRefusal;

@@ -12,7 +12,7 @@ use std::alloc::AllocError;
 
 /// Why what a host shows is not taken for the host's.
 #[derive(Debug, Drop)]
-pub enum Refusal {
+pub enum HostRefusal {
     /// What the host shows is revoked: a line revokes the key, or of a certificate one of its two
     /// keys, or `revocations` revokes the key or the certificate.
     Revoked,
@@ -22,7 +22,7 @@ pub enum Refusal {
     Changed,
     /// Nothing is known of the host, or the key that signed the certificate is no authority of it.
     Unknown,
-    /// ssh(1) accepts no such key, by its kind or its size (`openssh_limits::is_let_in`).
+    /// ssh(1) accepts no such key, by its kind or its size (`openssh_limits::openssh_accepts_key`).
     UnacceptedKey,
     /// The bytes spell no certificate; or it is by an authority of the host, but for users, with a
     /// critical option, or with a text that ssh(1) does not read (`Error::CertificateFieldInvalid`).
@@ -39,38 +39,38 @@ pub enum Refusal {
     Memory,
 }
 
-impl Refusal {
+impl HostRefusal {
     /// The refusal of a certificate for that error.
-    pub(crate) fn of_certificate(error: Error) -> Refusal
+    pub(crate) fn of_certificate(error: Error) -> HostRefusal
         ensures { IsRefusalFor error result }
     {
         if error.is_memory() {
-            return Refusal::Memory;
+            return HostRefusal::Memory;
         }
-        Refusal::Certificate(error)
+        HostRefusal::Certificate(error)
     }
 
     /// The refusal of a host for that fault.
-    pub(crate) fn of_host(fault: HostFault) -> Refusal
+    pub(crate) fn of_host(fault: HostFault) -> HostRefusal
         ensures { IsRefusalForHost fault result }
     {
         match fault {
-            HostFault::Memory => Refusal::Memory,
-            HostFault::Port | HostFault::Empty | HostFault::Address => Refusal::Host(fault),
+            HostFault::Memory => HostRefusal::Memory,
+            HostFault::Port | HostFault::Empty | HostFault::Address => HostRefusal::Host(fault),
         }
     }
 }
 
 /// What follows from a verdict.
-fn verdict_answer(verdict: Verdict) -> Result<(), Refusal>
+fn verdict_answer(verdict: Verdict) -> Result<(), HostRefusal>
     ensures { result ≡ verdict_answer verdict }
 {
     match verdict {
         Verdict::Trusted => Ok(()),
-        Verdict::Revoked => Err(Refusal::Revoked),
-        Verdict::Unreadable => Err(Refusal::Unreadable),
-        Verdict::Changed => Err(Refusal::Changed),
-        Verdict::Unknown => Err(Refusal::Unknown),
+        Verdict::Revoked => Err(HostRefusal::Revoked),
+        Verdict::Unreadable => Err(HostRefusal::Unreadable),
+        Verdict::Changed => Err(HostRefusal::Changed),
+        Verdict::Unknown => Err(HostRefusal::Unknown),
     }
 }
 
@@ -78,12 +78,12 @@ fn verdict_answer(verdict: Verdict) -> Result<(), Refusal>
 pub(crate) fn answer(
     revoked: Result<bool, AllocError>,
     said: sshkey_base::Result<Verdict>,
-) -> Result<(), Refusal>
+) -> Result<(), HostRefusal>
     ensures { result ≡ answer_of revoked said }
 {
     match (revoked, said) {
-        (Ok(true), _) => Err(Refusal::Revoked),
+        (Ok(true), _) => Err(HostRefusal::Revoked),
         (Ok(false), Ok(verdict)) => verdict_answer(verdict),
-        (Err(_), _) | (_, Err(_)) => Err(Refusal::Memory),
+        (Err(_), _) | (_, Err(_)) => Err(HostRefusal::Memory),
     }
 }

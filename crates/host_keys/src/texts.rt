@@ -13,12 +13,12 @@ ghost use Rattle.host_keys.specs.Hosts.{lines_of};
 
 use sshkey_base::Result;
 use sshkey_keys::KeyData;
-use sshkey_known_hosts::{HmacSha1, Verdict, authorities, judge_key};
+use sshkey_known_hosts::{HostHasher, Verdict, authorities, key_verdict};
 use sshkey_public::PublicKey;
 use std::alloc::Global;
 
 /// What the texts say of a key at just that port. Fails only when out of memory.
-pub(crate) fn judge_all<H: HmacSha1>(
+pub(crate) fn judge_all<H: HostHasher>(
     alloc: Global,
     texts: &[&str],
     host: &str,
@@ -33,14 +33,14 @@ pub(crate) fn judge_all<H: HmacSha1>(
 {
     let mut found = Verdict::Unknown;
     for text in texts {
-        found = found.graver(judge_key(alloc, text, host, port, key, hmac)?);
+        found = found.max_severity(key_verdict(alloc, text, host, port, key, hmac)?);
     }
     Ok(found)
 }
 
 /// Whether a line of one of the texts has the key as that of an authority of the host. Fails only
 /// when out of memory.
-pub(crate) fn has_authority<H: HmacSha1>(
+pub(crate) fn has_authority<H: HostHasher>(
     alloc: Global,
     texts: &[&str],
     host: &str,

@@ -11,14 +11,14 @@ ghost use Rattle.host_keys.specs.Hosts.{IsSaidOfKey, IsSaidOfSigned, IsSettled, 
 use crate::texts::{has_authority, judge_all};
 use sshkey_base::Result;
 use sshkey_keys::KeyData;
-use sshkey_known_hosts::{HmacSha1, Verdict};
+use sshkey_known_hosts::{HostHasher, Verdict};
 use std::alloc::Global;
 
 /// The port at which a host is known by its plain name.
 const STANDARD_PORT: u16 = 22;
 
 /// What the texts say of the host's key. Fails only when out of memory.
-pub(crate) fn key_verdict<H: HmacSha1>(
+pub(crate) fn key_verdict<H: HostHasher>(
     alloc: Global,
     texts: &[&str],
     host: &str,
@@ -40,7 +40,7 @@ pub(crate) fn key_verdict<H: HmacSha1>(
 
 /// What the texts say of a key that the host shows and of the key that signed it. Fails only when
 /// out of memory.
-pub(crate) fn signed_verdict<H: HmacSha1>(
+pub(crate) fn signed_verdict<H: HostHasher>(
     alloc: Global,
     texts: &[&str],
     host: &str,
@@ -70,7 +70,7 @@ fn is_settled(verdict: Verdict, port: u16) -> bool
 }
 
 /// What the texts say of both at just that port. Fails only when out of memory.
-fn judge_signed<H: HmacSha1>(
+fn judge_signed<H: HostHasher>(
     alloc: Global,
     texts: &[&str],
     host: &str,

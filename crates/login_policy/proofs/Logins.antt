@@ -27,8 +27,8 @@ use Rattle.login_policy.specs.Principals.{AreForUser}
 use Rattle.login_policy.specs.Refusals.{ForHosts, HasWrongField, FromElsewhere, IsRefusalFor, IsRevoked, IsUntrusted, NotValid, OtherAuthority, OtherExtension, OtherKey, OtherKeyId, OtherPrincipals, RefusesSpelling, Unaccepted, UnknownOption}
 use Rattle.login_policy.specs.declared.client.Client.TheVariants.{At, LeftToCaller, Unknown}
 use Rattle.login_policy.specs.declared.grant.Grant.{Grant}
-use Rattle.login_policy.specs.declared.refusal.Refusal.{Refusal}
-use Rattle.login_policy.specs.declared.refusal.Refusal.TheVariants.{Certificate as of_certificate, Memory}
+use Rattle.login_policy.specs.declared.refusal.LoginRefusal.{LoginRefusal}
+use Rattle.login_policy.specs.declared.refusal.LoginRefusal.TheVariants.{Certificate as of_certificate, Memory}
 
 -- ---- principals
 
@@ -49,15 +49,15 @@ listed c user names (inr among) = among
 
 -- ---- the refusal of an error
 
-pub memory_of : (e : Error) (r : Refusal) → IsRefusalFor e r → r ≡ Memory → e ≡ error.Memory
+pub memory_of : (e : Error) (r : LoginRefusal) → IsRefusalFor e r → r ≡ Memory → e ≡ error.Memory
 memory_of e r (inl ran_out) memory = ran_out.0
 memory_of e r (inr is) memory = let named = is.1 in absurd cc
 
-pub other_of : (e : Error) (r : Refusal) → IsRefusalFor e r → r ≢ Memory → (e ≢ error.Memory) × (r ≡ of_certificate e)
+pub other_of : (e : Error) (r : LoginRefusal) → IsRefusalFor e r → r ≢ Memory → (e ≢ error.Memory) × (r ≡ of_certificate e)
 other_of e r (inl ran_out) other = absurd (other ran_out.1)
 other_of e r (inr is) other = is
 
-pub ran_out : (e : Error) (r : Refusal) → IsRefusalFor e r → e ≡ error.Memory → r ≡ Memory
+pub ran_out : (e : Error) (r : LoginRefusal) → IsRefusalFor e r → e ≡ error.Memory → r ≡ Memory
 ran_out e r (inl both) memory = both.1
 ran_out e r (inr is) memory = absurd (is.0 memory)
 
@@ -115,13 +115,13 @@ anywhere (Some list) = (λ yes. tt, λ any. refl)
 
 -- ---- what is refused lets nobody in
 
-untrusted : RefuseTheUnwanted → (login : Login) (c : Certificate) (r : Refusal) → IsUntrusted login c r → LetsIn login c → ⊥
+untrusted : RefuseTheUnwanted → (login : Login) (c : Certificate) (r : LoginRefusal) → IsUntrusted login c r → LetsIn login c → ⊥
 untrusted law login c r (OtherAuthority other) lets = by_another law login.accepts login.authorities login.time login.user c other (record { valid = lets.valid; allowed = inr lets.listed })
 untrusted law login c r (IsRevoked by revoked) lets = let unrevoked = lets.unrevoked in cc
 untrusted law login c r (FromElsewhere unrevoked valid elsewhere) lets = elsewhere lets.from
 untrusted law login c r (NotValid by unrevoked w refused) lets = invalid law login.accepts login.authorities login.time login.user c (refusal_of w) refused (record { valid = lets.valid; allowed = inr lets.listed })
 
-wrong_field : (user : List ℕ) (offered : Key) (least : ℕ) (c : Certificate) (r : Refusal) → HasWrongField user offered least c r → HasRightFields user offered least c → ⊥
+wrong_field : (user : List ℕ) (offered : Key) (least : ℕ) (c : Certificate) (r : LoginRefusal) → HasWrongField user offered least c r → HasRightFields user offered least c → ⊥
 wrong_field user offered least c r (ForHosts other) right = other right.for_users
 wrong_field user offered least c r (OtherKey users other) right = other right.own_key
 wrong_field user offered least c r (Unaccepted users own other) right = let accepted = right.accepted in cc
@@ -130,7 +130,7 @@ wrong_field user offered least c r (OtherExtension users own accepted known othe
 wrong_field user offered least c r (OtherKeyId users own accepted known plain other) right = other right.key_id
 wrong_field user offered least c r (OtherPrincipals users own accepted known plain id other) right = other right.principals
 
-pub field_not_memory : (user : List ℕ) (offered : Key) (least : ℕ) (c : Certificate) (r : Refusal) → HasWrongField user offered least c r → r ≢ Memory
+pub field_not_memory : (user : List ℕ) (offered : Key) (least : ℕ) (c : Certificate) (r : LoginRefusal) → HasWrongField user offered least c r → r ≢ Memory
 field_not_memory user offered least c r (ForHosts other) = λ memory. cc
 field_not_memory user offered least c r (OtherKey users other) = λ memory. cc
 field_not_memory user offered least c r (Unaccepted users own other) = λ memory. cc
@@ -144,7 +144,7 @@ abbrev OneCertificate : Type 0
 OneCertificate = (c d : Certificate) (a b r q : List ℕ) → SpellsCertificate c a → SpellsCertificate d b → a ++ r ≡ b ++ q → (c ≡ d) × (a ≡ b) × (r ≡ q)
 
 -- which decides
-pub refused : RefuseTheUnwanted → OneCertificate → (login : Login) (c : Certificate) (r : Refusal) → SpellsCertificate c login.blob → RefusesSpelling login c r → IsLogin login → ⊥
+pub refused : RefuseTheUnwanted → OneCertificate → (login : Login) (c : Certificate) (r : LoginRefusal) → SpellsCertificate c login.blob → RefusesSpelling login c r → IsLogin login → ⊥
 refused law one login c r spelled why is =
     let same = (one c is.certificate login.blob login.blob [] [] spelled is.spelled refl).0 in
     let lets = subst (LetsIn login) (sym same) is.lets_in in

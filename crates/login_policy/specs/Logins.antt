@@ -17,7 +17,7 @@ use Rattle.sshkey_model.specs.Parts.{flat}
 use Rattle.sshkey_model.specs.Validity.{IsValid}
 use Rattle.sshkey_model.specs.Verification.{Question}
 use Rattle.sshkey_cert_values.specs.OptionMaps.{options_of}
-use Rattle.openssh_limits.specs.Keys.{is_let_in}
+use Rattle.openssh_limits.specs.Keys.{openssh_accepts_key}
 use Rattle.login_policy.specs.KnownOptions.{IsKnownOption, IsPlainExtension}
 use Rattle.login_policy.specs.KnownOptions as options
 use Rattle.login_policy.specs.Principals.{AreForUser}
@@ -25,8 +25,8 @@ use Rattle.login_policy.specs.declared.client.Client.{Client}
 use Rattle.login_policy.specs.declared.client.Client.TheVariants.{At, LeftToCaller, Unknown}
 use Rattle.login_policy.specs.declared.grant.Grant.{Grant}
 use Rattle.login_policy.specs.declared.login.Login as code
-use Rattle.login_policy.specs.declared.refusal.Refusal.{Refusal}
-use Rattle.login_policy.specs.declared.refusal.Refusal.TheVariants.{Memory}
+use Rattle.login_policy.specs.declared.refusal.LoginRefusal.{LoginRefusal}
+use Rattle.login_policy.specs.declared.refusal.LoginRefusal.TheVariants.{Memory}
 
 -- A login that is asked for, and what decides it: whom the verifier accepts, what is revoked, which
 -- authorities are trusted, and where the client is. The blob is that of its certificate. An RSA key
@@ -49,7 +49,7 @@ login_of l accepts revokes = record { accepts = accepts; revokes = revokes; auth
 -- sshd accepts the offered key, of at least that size, and the key that signs for it, of any size by
 -- which it verifies (sshd_config(5), RequiredRSASize and CASignatureAlgorithms).
 abbrev pub are_accepted : ℕ → Key → Key → Bool
-are_accepted least_rsa_bits offered authority = is_let_in least_rsa_bits offered && is_let_in 0 authority
+are_accepted least_rsa_bits offered authority = openssh_accepts_key least_rsa_bits offered && openssh_accepts_key 0 authority
 
 -- The fields are those of a certificate for users, of the offered key, which is accepted, as is the
 -- key that signed, with only critical options that are known, nothing in a flag, and texts and
@@ -104,6 +104,6 @@ pub record IsLogin (login : Login) : Type 0 where
   pub lets_in : LetsIn login certificate
 
 -- Out of memory aside, Ok exactly if it is, and then with that certificate's grant.
-abbrev pub GrantsExactly : Login → Result Grant Refusal → Type 0
+abbrev pub GrantsExactly : Login → Result Grant LoginRefusal → Type 0
 GrantsExactly login (Ok g) = (is : IsLogin login) × IsGrantOf is.certificate g
 GrantsExactly login (Err r) = r ≢ Memory → IsLogin login → ⊥

@@ -22,18 +22,18 @@ use Rattle.sshkey_base.specs.declared.certificate.field.Field.TheVariants as fie
 use Rattle.login_policy.specs.KnownOptions.{IsKnownOption, IsPlainExtension, source_address}
 use Rattle.login_policy.specs.Logins.{HasRightFields, IsAllowedFrom, Login, are_accepted}
 use Rattle.login_policy.specs.Principals.{AreForUser}
-use Rattle.login_policy.specs.declared.refusal.Refusal.{Refusal}
-use Rattle.login_policy.specs.declared.refusal.Refusal.TheVariants as refusal
+use Rattle.login_policy.specs.declared.refusal.LoginRefusal.{LoginRefusal}
+use Rattle.login_policy.specs.declared.refusal.LoginRefusal.TheVariants as refusal
 
 -- The refusal is that of a certificate for the error, or memory ran out.
-abbrev pub IsRefusalFor : Error → Refusal → Type 0
+abbrev pub IsRefusalFor : Error → LoginRefusal → Type 0
 IsRefusalFor e r = ((e ≡ error.Memory) × (r ≡ refusal.Memory)) ⊎ ((e ≢ error.Memory) × (r ≡ refusal.Certificate e))
 
-abbrev pub invalid : Field → Refusal
+abbrev pub invalid : Field → LoginRefusal
 invalid f = refusal.Certificate (error.CertificateFieldInvalid f)
 
 -- The refusal names the first field that is wrong, or says that a key is not accepted.
-pub data HasWrongField (user : List ℕ) (offered : Key) (least_rsa_bits : ℕ) (c : Certificate) : Refusal → Type 0 where
+pub data HasWrongField (user : List ℕ) (offered : Key) (least_rsa_bits : ℕ) (c : Certificate) : LoginRefusal → Type 0 where
   ForHosts : c.signed.certificate_type ≢ User → HasWrongField user offered least_rsa_bits c (invalid field.CertType)
   OtherKey : c.signed.certificate_type ≡ User → c.signed.key ≢ offered → HasWrongField user offered least_rsa_bits c (invalid field.PublicKey)
   Unaccepted : c.signed.certificate_type ≡ User → c.signed.key ≡ offered → are_accepted least_rsa_bits offered c.signed.signature_key ≡ false → HasWrongField user offered least_rsa_bits c refusal.UnacceptedKey
@@ -44,22 +44,22 @@ pub data HasWrongField (user : List ℕ) (offered : Key) (least_rsa_bits : ℕ) 
 
 -- The refusal says what is wrong first once the fields are right: the authority, then revocation,
 -- then the signature, the time or the user's name, and only then where the client is.
-pub data IsUntrusted (login : Login) (c : Certificate) : Refusal → Type 0 where
+pub data IsUntrusted (login : Login) (c : Certificate) : LoginRefusal → Type 0 where
   OtherAuthority : has_trusted_authority login.authorities c ≡ false → IsUntrusted login c (refusal.Invalid Authority)
   IsRevoked : IsTrue (has_trusted_authority login.authorities c) → IsTrue (is_certificate_revoked login.revokes c) → IsUntrusted login c refusal.Revoked
   NotValid : IsTrue (has_trusted_authority login.authorities c) → is_certificate_revoked login.revokes c ≡ false → (w : CertificateRefusal) → first_refusal_for login.accepts login.authorities login.time login.user c ≡ Some (refusal_of w) → IsUntrusted login c (refusal.Invalid w)
   FromElsewhere : is_certificate_revoked login.revokes c ≡ false → IsValidFor login.accepts login.authorities login.time login.user c → (IsAllowedFrom (value_of source_address c.signed.critical_options) login.client → ⊥) → IsUntrusted login c refusal.Elsewhere
 
 -- The refusal says what is wrong first with a certificate in its normal form.
-abbrev pub RefusesCertificate : Login → Certificate → Refusal → Type 0
+abbrev pub RefusesCertificate : Login → Certificate → LoginRefusal → Type 0
 RefusesCertificate login c r = HasWrongField login.user login.offered login.least_rsa_bits c r ⊎ (HasRightFields login.user login.offered login.least_rsa_bits c × IsUntrusted login c r)
 
 -- The blob spells the certificate: it is not its normal form; or it is, and it is refused.
-abbrev pub RefusesSpelling : Login → Certificate → Refusal → Type 0
+abbrev pub RefusesSpelling : Login → Certificate → LoginRefusal → Type 0
 RefusesSpelling login c r = ((login.blob ≢ flat (normal_certificate c)) × (r ≡ refusal.NotNormalForm)) ⊎ ((login.blob ≡ flat (normal_certificate c)) × RefusesCertificate login c r)
 
 -- The blob is that of no certificate, and has that fault; or of one that is refused for that.
-abbrev pub RefusesLogin : Login → Refusal → Type 0
+abbrev pub RefusesLogin : Login → LoginRefusal → Type 0
 RefusesLogin login r = (NoSpelling SpellsCertificate login.blob × ((e : Error) × IsFaultOf login.blob e × IsRefusalFor e r)) ⊎ ((c : Certificate) × SpellsCertificate c login.blob × RefusesSpelling login c r)
 
 -- ---- where memory is needed

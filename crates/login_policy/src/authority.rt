@@ -9,10 +9,10 @@ ghost use Rattle.sshkey_model.specs.Names.{Sha256};
 ghost use Rattle.sshkey_model.specs.Principals.{IsValidFor};
 ghost use Rattle.login_policy.specs.Logins.{login_of};
 ghost use Rattle.login_policy.specs.Refusals.{IsUntrusted, NeedsJudging};
-ghost use Rattle.login_policy.specs.declared.refusal.Refusal.TheVariants.{Memory};
+ghost use Rattle.login_policy.specs.declared.refusal.LoginRefusal.TheVariants.{Memory};
 
 use crate::login::Login;
-use crate::refusal::Refusal;
+use crate::refusal::LoginRefusal;
 use sshkey_cert::{Certificate, CertificateRefusal};
 use sshkey_keys::{Fingerprint, RawVerifier};
 use sshkey_krl::Revocations;
@@ -28,7 +28,7 @@ pub(crate) fn validate<R: Revocations, V: RawVerifier>(
     login: &Login,
     revocations: &R,
     verifier: &V,
-) -> Result<Fingerprint, Refusal>
+) -> Result<Fingerprint, LoginRefusal>
     ensures valid { OnOk result (IsValidFor (V.accepts verifier.now)
         (fingerprints_of login.now.authorities.now) login.now.unix_timestamp login.now.user.now
         (certificate_of certificate.now)) }
@@ -43,17 +43,17 @@ pub(crate) fn validate<R: Revocations, V: RawVerifier>(
         (fingerprints_of login.now.authorities.now) (certificate_of certificate.now)) }
 {
     refused_or_wanted();
-    let Some(by) = certificate.by_authority(alloc, login.authorities)? else {
-        return Err(Refusal::Invalid(CertificateRefusal::Authority));
+    let Some(by) = certificate.trusted_by(alloc, login.authorities)? else {
+        return Err(LoginRefusal::Invalid(CertificateRefusal::Authority));
     };
     let Ok(is_revoked) = revocations.is_certificate_revoked(alloc, certificate) else {
-        return Err(Refusal::Memory);
+        return Err(LoginRefusal::Memory);
     };
     if is_revoked {
-        return Err(Refusal::Revoked);
+        return Err(LoginRefusal::Revoked);
     }
     match by.first_refusal_for(alloc, login.unix_timestamp, login.user, verifier)? {
         None => Ok(by.authority()),
-        Some(refusal) => Err(Refusal::Invalid(refusal)),
+        Some(refusal) => Err(LoginRefusal::Invalid(refusal)),
     }
 }

@@ -7,7 +7,7 @@ ghost use Rattle.sshkey_model.specs.Certificates.{IsCertificate};
 ghost use Rattle.sshkey_model.specs.Keys.{IsKey};
 ghost use Rattle.login_policy.specs.Logins.{are_accepted};
 
-use openssh_limits::is_let_in;
+use openssh_limits::openssh_accepts_key;
 use sshkey_cert::Certificate;
 use sshkey_keys::KeyData;
 
@@ -30,5 +30,6 @@ pub(crate) fn are_accepted(
     ensures { result ≡ are_accepted least_rsa_bits (key_of offered.now)
         (certificate_of certificate.now).signed.signature_key }
 {
-    is_let_in(offered, least_rsa_bits) && is_let_in(certificate.signature_key(), 0)
+    openssh_accepts_key(offered, least_rsa_bits)
+        && openssh_accepts_key(certificate.signature_key(), 0)
 }

@@ -17,4 +17,4 @@ mod refusal;
 pub use client::Client;
 pub use grant::Grant;
 pub use login::{Login, log_in};
-pub use refusal::Refusal;
+pub use refusal::LoginRefusal;

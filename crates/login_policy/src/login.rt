@@ -8,7 +8,7 @@ ghost use Rattle.sshkey_model.specs.Certificates.{IsCertificate};
 ghost use Rattle.sshkey_model.specs.Keys.{IsKey};
 ghost use Rattle.login_policy.specs.Logins.{GrantsExactly, HasRightFields, login_of};
 ghost use Rattle.login_policy.specs.Refusals.{HasWrongField, NeedsMemory, RefusesLogin, invalid};
-ghost use Rattle.login_policy.specs.declared.refusal.Refusal.TheVariants.{Memory};
+ghost use Rattle.login_policy.specs.declared.refusal.LoginRefusal.TheVariants.{Memory};
 
 use crate::authority::validate;
 use crate::client::Client;
@@ -16,8 +16,8 @@ use crate::grant::{Grant, grant_of};
 use crate::key::{are_accepted, is_key_of};
 use crate::options::{are_known, are_plain, is_allowed_from};
 use crate::principals::are_for;
-use crate::refusal::Refusal;
-use openssh_limits::is_read_text;
+use crate::refusal::LoginRefusal;
+use openssh_limits::openssh_reads_text;
 use sshkey_base::Error;
 use sshkey_base::certificate::Field;
 use sshkey_cert::Certificate;
@@ -56,7 +56,7 @@ pub struct Login<'a> {
 ///
 /// - no DSA key, none under a private-use name, and no RSA key of fewer bits than the login says or
 ///   of more than 16,384; a point that begins with 04; no zero byte in an application
-///   (`openssh_limits::is_let_in`). So is the authority's key, where RSA has 1,024 bits at least;
+///   (`openssh_limits::openssh_accepts_key`). So is the authority's key, where RSA has 1,024 bits at least;
 /// - no zero byte in the key id, a principal, or the name of an extension, and at most 256
 ///   principals;
 /// - critical options `force-command`, neither empty nor with a zero byte, `source-address`, a list
@@ -101,7 +101,7 @@ pub fn log_in<R: Revocations, V: RawVerifier>(
     login: &Login,
     revocations: &R,
     verifier: &V,
-) -> Result<Grant, Refusal>
+) -> Result<Grant, LoginRefusal>
     requires { IsKey (key_of login.now.offered.now) }
     ensures exactly { GrantsExactly
         (login_of login.now (V.accepts verifier.now) (R.revokes revocations.now)) result }
@@ -114,7 +114,7 @@ pub fn log_in<R: Revocations, V: RawVerifier>(
     refused_or_wanted();
     let certificate = Certificate::from_bytes(alloc, login.certificate)?;
     if !is_normal_form(&certificate, login.certificate) {
-        return Err(Refusal::NotNormalForm);
+        return Err(LoginRefusal::NotNormalForm);
     }
     check_fields(
         &certificate,
@@ -124,7 +124,7 @@ pub fn log_in<R: Revocations, V: RawVerifier>(
     )?;
     let authority = validate(alloc, &certificate, login, revocations, verifier)?;
     if !is_allowed_from(certificate.critical_options(), login.client) {
-        return Err(Refusal::Elsewhere);
+        return Err(LoginRefusal::Elsewhere);
     }
     Ok(grant_of(alloc, &certificate, authority)?)
 }
@@ -135,7 +135,7 @@ fn check_fields(
     user: &str,
     offered: &KeyData,
     least_rsa_bits: u32,
-) -> Result<(), Refusal>
+) -> Result<(), LoginRefusal>
     requires certificate { IsCertificate (certificate_of certificate.now) }
     requires offered { IsKey (key_of offered.now) }
     ensures right { OnOk result (HasRightFields user.now (key_of offered.now) least_rsa_bits
@@ -150,7 +150,7 @@ fn check_fields(
         return Err(invalid(Field::PublicKey));
     }
     if !are_accepted(certificate, offered, least_rsa_bits) {
-        return Err(Refusal::UnacceptedKey);
+        return Err(LoginRefusal::UnacceptedKey);
     }
     if !are_known(certificate.critical_options()) {
         return Err(invalid(Field::CriticalOptions));
@@ -158,7 +158,7 @@ fn check_fields(
     if !are_plain(certificate.extensions()) {
         return Err(invalid(Field::Extensions));
     }
-    if !is_read_text(certificate.key_id()) {
+    if !openssh_reads_text(certificate.key_id()) {
         return Err(invalid(Field::KeyId));
     }
     if !are_for(certificate.valid_principals(), user) {
@@ -168,8 +168,8 @@ fn check_fields(
 }
 
 /// The refusal of a certificate for that field.
-fn invalid(field: Field) -> Refusal
+fn invalid(field: Field) -> LoginRefusal
     ensures { result ≡ invalid field }
 {
-    Refusal::Certificate(Error::CertificateFieldInvalid(field))
+    LoginRefusal::Certificate(Error::CertificateFieldInvalid(field))
 }

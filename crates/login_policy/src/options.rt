@@ -8,7 +8,7 @@ ghost use Rattle.login_policy.specs.KnownOptions.{IsArgument, IsEmptyIfFlag, IsK
 ghost use Rattle.login_policy.specs.Logins.{IsAllowedFrom};
 
 use crate::client::Client;
-use openssh_limits::is_read_text;
+use openssh_limits::openssh_reads_text;
 use sshkey_addresses::{is_source_list, may_come_from};
 use sshkey_cert_values::OptionsMap;
 
@@ -85,7 +85,7 @@ fn is_known(name: &str, value: &str) -> bool
 fn is_argument(value: &str) -> bool
     ensures { IsTrue result ↔ IsArgument value.now }
 {
-    !value.is_empty() && is_read_text(value)
+    !value.is_empty() && openssh_reads_text(value)
 }
 
 /// Whether the name has no byte 0, and nothing stands in the value if it is that of a flag.
@@ -93,7 +93,7 @@ fn is_plain(name: &str, value: &str) -> bool
     ensures { IsTrue result
         ↔ IsPlainExtension (record { name = name.now; value = value.now }) }
 {
-    is_read_text(name) && is_empty_if_flag(name, value)
+    openssh_reads_text(name) && is_empty_if_flag(name, value)
 }
 
 /// Whether nothing stands in the value, if the name is that of a flag.

@@ -3,7 +3,7 @@
 ghost use Rattle.std.specs.Prelude.{◌↔◌, IsTrue, map, string_bytes};
 ghost use Rattle.login_policy.specs.Principals.{AreForUser};
 
-use openssh_limits::are_read_principals;
+use openssh_limits::openssh_reads_principals;
 
 /// Whether the user has a name, and the principals are some, such as sshd(8) reads. Does not
 /// allocate.
@@ -16,5 +16,5 @@ pub(crate) fn are_for(names: &[String], user: &str) -> bool
     if names.is_empty() {
         return false;
     }
-    are_read_principals(names)
+    openssh_reads_principals(names)
 }

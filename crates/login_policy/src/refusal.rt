@@ -7,7 +7,7 @@ use sshkey_cert::CertificateRefusal;
 
 /// Why a login is refused.
 #[derive(Debug, Drop, thiserror::Error)]
-pub enum Refusal {
+pub enum LoginRefusal {
     /// The bytes are no certificate, or a field of it lets nobody in, for that error. It is never
     /// `Error::Memory`.
     #[error("{0}")]
@@ -17,7 +17,7 @@ pub enum Refusal {
     /// string.
     #[error("certificate is not in its normal form")]
     NotNormalForm,
-    /// sshd(8) accepts no such key, by its kind or its size (`openssh_limits::is_let_in`), or no such
+    /// sshd(8) accepts no such key, by its kind or its size (`openssh_limits::openssh_accepts_key`), or no such
     /// key as signed the certificate.
     #[error("key is of a kind or size that is not accepted")]
     UnacceptedKey,
@@ -36,13 +36,13 @@ pub enum Refusal {
     Memory,
 }
 
-impl From<Error> for Refusal {
+impl From<Error> for LoginRefusal {
     ghost from_gives = { IsRefusalFor };
 
-    fn from(error: Error) -> Refusal {
+    fn from(error: Error) -> LoginRefusal {
         if error.is_memory() {
-            return Refusal::Memory;
+            return LoginRefusal::Memory;
         }
-        Refusal::Certificate(error)
+        LoginRefusal::Certificate(error)
     }
 }

@@ -6,7 +6,7 @@ use Rattle.std.proofs.lemmas.List.{get_or_default, length-map}
 use Rattle.std.proofs.lemmas.List.Elements.{All-cons, All-head, All-map, All-nil, All-tail}
 use Rattle.std.specs.Prelude.{◌==◌, All, String, replicate, string_bytes}
 use Rattle.sshkey_model.specs.Lines.{IsWithout}
-use Rattle.openssh_limits.specs.Keys.{is_read_text}
+use Rattle.openssh_limits.specs.Keys.{openssh_reads_text}
 use Rattle.openssh_limits.specs.Read.{AreReadPrincipals}
 
 -- ---- a text
@@ -15,13 +15,13 @@ here : (c : ℕ) (text : List ℕ) → c ≢ 0 → IsWithout 0 text → IsWithou
 here c text some rest zero l = some
 here c text some rest (suc i) l = rest i (omega (arith, l))
 
-one_byte : (c : ℕ) (text : List ℕ) (test : Bool) → (c == 0) ≡ test → (IsTrue (is_read_text text) ↔ IsWithout 0 text) → IsTrue (is_read_text (c ∷ text)) ↔ IsWithout 0 (c ∷ text)
+one_byte : (c : ℕ) (text : List ℕ) (test : Bool) → (c == 0) ≡ test → (IsTrue (openssh_reads_text text) ↔ IsWithout 0 text) → IsTrue (openssh_reads_text (c ∷ text)) ↔ IsWithout 0 (c ∷ text)
 one_byte c text true e rest = rw e (λ yes. absurd cc, λ is. absurd (is 0 (omega arith) (eqb-true c 0 e)))
 one_byte c text false e rest =
     let some : 0 < c = grind (arith, nat_tests) in
     rw e (λ yes. here c text (λ none. absurd (omega (arith, some, none))) (rest.0 yes), λ is. rest.1 (λ i l. is (suc i) (omega (arith, l))))
 
-pub without : (text : List ℕ) → IsTrue (is_read_text text) ↔ IsWithout 0 text
+pub without : (text : List ℕ) → IsTrue (openssh_reads_text text) ↔ IsWithout 0 text
 without [] = (λ yes i l. absurd (omega (arith, l)), λ is. refl)
 without (c ∷ text) = one_byte c text (c == 0) refl (without text)
 

@@ -2,7 +2,7 @@
 use Rattle.std.specs.Prelude.{◌≡◌, ℕ, List, [], ◌∷◌, true, false, codes, replicate}
 use Rattle.sshkey_model.specs.Keys.{Key, Dsa, Ecdsa, Ed25519, Rsa, SkEcdsa, SkEd25519, Opaque}
 use Rattle.sshkey_model.specs.Names.{Nistp256}
-use Rattle.openssh_limits.specs.Keys.{is_let_in, is_read_key, is_read_number, read_bits}
+use Rattle.openssh_limits.specs.Keys.{is_read_number, openssh_accepts_key, openssh_reads_key, read_bits}
 
 -- the powers of two of that many bits, as RFC 4251 writes them
 abbrev of_1023_bits : List ℕ
@@ -39,30 +39,30 @@ f4 = 1 ∷ 0 ∷ 1 ∷ []
 
 -- sshd's least is 1,024 bits, and a greater one may be asked for; a revocation file has its own.
 abbrev pub RsaKeys : Type 0
-RsaKeys = (is_let_in 0 (rsa f4 of_1023_bits) ≡ false)
-    × (is_let_in 0 (rsa f4 of_1024_bits) ≡ true)
-    × (is_let_in 512 (rsa f4 of_1023_bits) ≡ false)
-    × (is_let_in 1024 (rsa f4 of_1024_bits) ≡ true)
-    × (is_let_in 1025 (rsa f4 of_1024_bits) ≡ false)
-    × (is_let_in 0 (rsa (0xed ∷ 0xcc ∷ []) of_1024_bits) ≡ false)
-    × (is_let_in 0 (rsa [] of_1024_bits) ≡ false)
-    × (is_read_key 0 (rsa f4 of_1023_bits) ≡ true)
-    × (is_read_key 0 (rsa f4 (0xed ∷ 0xcc ∷ [])) ≡ false)
-    × (is_read_key 1024 (rsa f4 of_1023_bits) ≡ false)
+RsaKeys = (openssh_accepts_key 0 (rsa f4 of_1023_bits) ≡ false)
+    × (openssh_accepts_key 0 (rsa f4 of_1024_bits) ≡ true)
+    × (openssh_accepts_key 512 (rsa f4 of_1023_bits) ≡ false)
+    × (openssh_accepts_key 1024 (rsa f4 of_1024_bits) ≡ true)
+    × (openssh_accepts_key 1025 (rsa f4 of_1024_bits) ≡ false)
+    × (openssh_accepts_key 0 (rsa (0xed ∷ 0xcc ∷ []) of_1024_bits) ≡ false)
+    × (openssh_accepts_key 0 (rsa [] of_1024_bits) ≡ false)
+    × (openssh_reads_key 0 (rsa f4 of_1023_bits) ≡ true)
+    × (openssh_reads_key 0 (rsa f4 (0xed ∷ 0xcc ∷ [])) ≡ false)
+    × (openssh_reads_key 1024 (rsa f4 of_1023_bits) ≡ false)
 
 -- Each number of a key has to be read: RSA's and DSA's, once too large and once not positive.
 abbrev dsa_of : List ℕ → List ℕ → List ℕ → List ℕ → Key
 dsa_of p q g y = Dsa (record { p = p; q = q; g = g; y = y })
 
 abbrev pub Parts : Type 0
-Parts = (is_read_key 0 (rsa of_16384_bits of_16384_bits) ≡ true)
-    × (is_read_key 0 (rsa of_16385_bits of_16384_bits) ≡ false)
-    × (is_read_key 0 (rsa of_16384_bits of_16385_bits) ≡ false)
-    × (is_read_key 0 (dsa_of (7 ∷ []) (3 ∷ []) (2 ∷ []) (4 ∷ [])) ≡ true)
-    × (is_read_key 0 (dsa_of [] (3 ∷ []) (2 ∷ []) (4 ∷ [])) ≡ false)
-    × (is_read_key 0 (dsa_of (7 ∷ []) [] (2 ∷ []) (4 ∷ [])) ≡ false)
-    × (is_read_key 0 (dsa_of (7 ∷ []) (3 ∷ []) [] (4 ∷ [])) ≡ false)
-    × (is_read_key 0 (dsa_of (7 ∷ []) (3 ∷ []) (2 ∷ []) []) ≡ false)
+Parts = (openssh_reads_key 0 (rsa of_16384_bits of_16384_bits) ≡ true)
+    × (openssh_reads_key 0 (rsa of_16385_bits of_16384_bits) ≡ false)
+    × (openssh_reads_key 0 (rsa of_16384_bits of_16385_bits) ≡ false)
+    × (openssh_reads_key 0 (dsa_of (7 ∷ []) (3 ∷ []) (2 ∷ []) (4 ∷ [])) ≡ true)
+    × (openssh_reads_key 0 (dsa_of [] (3 ∷ []) (2 ∷ []) (4 ∷ [])) ≡ false)
+    × (openssh_reads_key 0 (dsa_of (7 ∷ []) [] (2 ∷ []) (4 ∷ [])) ≡ false)
+    × (openssh_reads_key 0 (dsa_of (7 ∷ []) (3 ∷ []) [] (4 ∷ [])) ≡ false)
+    × (openssh_reads_key 0 (dsa_of (7 ∷ []) (3 ∷ []) (2 ∷ []) []) ≡ false)
 
 abbrev dsa : List ℕ → Key
 dsa y = dsa_of (7 ∷ []) (3 ∷ []) (2 ∷ []) y
@@ -78,18 +78,18 @@ held_ed25519 application = SkEd25519 (record { key = replicate 32 1; application
 
 -- Keys of the other kinds: DSA is read and lets nobody in, a compressed point begins with 02 or 03.
 abbrev pub OtherKeys : Type 0
-OtherKeys = (is_read_key 0 (dsa (4 ∷ [])) ≡ true)
-    × (is_read_key 0 (dsa (0xed ∷ 0xcc ∷ [])) ≡ false)
-    × (is_let_in 0 (dsa (4 ∷ [])) ≡ false)
-    × (is_let_in 0 (Ed25519 (replicate 32 1)) ≡ true)
-    × (is_let_in 0 (on_p256 4) ≡ true)
-    × (is_let_in 0 (on_p256 2) ≡ false)
-    × (is_let_in 0 (on_p256 3) ≡ false)
-    × (is_let_in 0 (Ecdsa Nistp256 []) ≡ false)
-    × (is_let_in 0 (held_p256 4 (codes "ssh:")) ≡ true)
-    × (is_let_in 0 (held_p256 2 (codes "ssh:")) ≡ false)
-    × (is_let_in 0 (held_p256 4 (codes "ssh:\0")) ≡ false)
-    × (is_let_in 0 (held_ed25519 (codes "ssh:")) ≡ true)
-    × (is_let_in 0 (held_ed25519 (codes "\0ssh:")) ≡ false)
-    × (is_let_in 0 (Opaque (codes "key@example.org") []) ≡ false)
-    × (is_read_key 0 (Opaque (codes "key@example.org") []) ≡ false)
+OtherKeys = (openssh_reads_key 0 (dsa (4 ∷ [])) ≡ true)
+    × (openssh_reads_key 0 (dsa (0xed ∷ 0xcc ∷ [])) ≡ false)
+    × (openssh_accepts_key 0 (dsa (4 ∷ [])) ≡ false)
+    × (openssh_accepts_key 0 (Ed25519 (replicate 32 1)) ≡ true)
+    × (openssh_accepts_key 0 (on_p256 4) ≡ true)
+    × (openssh_accepts_key 0 (on_p256 2) ≡ false)
+    × (openssh_accepts_key 0 (on_p256 3) ≡ false)
+    × (openssh_accepts_key 0 (Ecdsa Nistp256 []) ≡ false)
+    × (openssh_accepts_key 0 (held_p256 4 (codes "ssh:")) ≡ true)
+    × (openssh_accepts_key 0 (held_p256 2 (codes "ssh:")) ≡ false)
+    × (openssh_accepts_key 0 (held_p256 4 (codes "ssh:\0")) ≡ false)
+    × (openssh_accepts_key 0 (held_ed25519 (codes "ssh:")) ≡ true)
+    × (openssh_accepts_key 0 (held_ed25519 (codes "\0ssh:")) ≡ false)
+    × (openssh_accepts_key 0 (Opaque (codes "key@example.org") []) ≡ false)
+    × (openssh_reads_key 0 (Opaque (codes "key@example.org") []) ≡ false)

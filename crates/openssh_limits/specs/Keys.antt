@@ -33,23 +33,23 @@ is_uncompressed [] = false
 is_uncompressed (tag ∷ rest) = tag == 4
 
 -- No byte of the text is 0.
-abbrev pub is_read_text : List ℕ → Bool
-is_read_text text = not (list_any (λ c. c == 0) text)
+abbrev pub openssh_reads_text : List ℕ → Bool
+openssh_reads_text text = not (list_any (λ c. c == 0) text)
 
 -- OpenSSH reads the key, if its point is on the curve, and an RSA key has at least so many bits.
-abbrev pub is_read_key : ℕ → Key → Bool
-is_read_key least (Dsa k) = is_read_number k.p && is_read_number k.q && is_read_number k.g && is_read_number k.y
-is_read_key least (Ecdsa c point) = is_uncompressed point
-is_read_key least (Ed25519 k) = true
-is_read_key least (Rsa k) = is_read_number k.e && is_read_number k.n && nat_le least (read_bits k.n)
-is_read_key least (SkEcdsa k) = is_uncompressed k.key && is_read_text k.application
-is_read_key least (SkEd25519 k) = is_read_text k.application
-is_read_key least (Opaque name k) = false
+abbrev pub openssh_reads_key : ℕ → Key → Bool
+openssh_reads_key least (Dsa k) = is_read_number k.p && is_read_number k.q && is_read_number k.g && is_read_number k.y
+openssh_reads_key least (Ecdsa c point) = is_uncompressed point
+openssh_reads_key least (Ed25519 k) = true
+openssh_reads_key least (Rsa k) = is_read_number k.e && is_read_number k.n && nat_le least (read_bits k.n)
+openssh_reads_key least (SkEcdsa k) = is_uncompressed k.key && openssh_reads_text k.application
+openssh_reads_key least (SkEd25519 k) = openssh_reads_text k.application
+openssh_reads_key least (Opaque name k) = false
 
 -- sshd's own least size of an RSA key (sshd_config(5), "RequiredRSASize"), where a smaller one is asked for
 abbrev pub required : ℕ → ℕ
 required least = if nat_lt least 1024 then 1024 else least
 
 -- It lets somebody in by the key: it reads it, and it is none of DSA.
-abbrev pub is_let_in : ℕ → Key → Bool
-is_let_in least key = not (is_dsa key) && is_read_key (required least) key
+abbrev pub openssh_accepts_key : ℕ → Key → Bool
+openssh_accepts_key least key = not (is_dsa key) && openssh_reads_key (required least) key

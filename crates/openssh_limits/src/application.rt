@@ -4,7 +4,7 @@ ghost use Rattle.std.specs.Prelude.{◌↔◌, IsTrue};
 ghost use Rattle.sshkey_keys.specs.Keys.{key_of};
 ghost use Rattle.openssh_limits.specs.Read.{HasReadApplication};
 
-use crate::texts::is_read_text;
+use crate::texts::openssh_reads_text;
 use sshkey_keys::KeyData;
 
 /// Returns whether OpenSSH reads the application of a security key as it is: no byte of it is 0.
@@ -12,12 +12,12 @@ use sshkey_keys::KeyData;
 ///
 /// A verifier is asked about the plain key alone, and so never sees the application. OpenSSH reads
 /// `ssh:\0` as `ssh:`, which is another key. Does not allocate.
-pub fn has_read_application(key: &KeyData) -> bool
+pub fn openssh_reads_application(key: &KeyData) -> bool
     ensures { IsTrue result ↔ HasReadApplication (key_of key.now) }
 {
     match key {
-        KeyData::SkEcdsaSha2NistP256(key) => is_read_text(key.application()),
-        KeyData::SkEd25519(key) => is_read_text(key.application()),
+        KeyData::SkEcdsaSha2NistP256(key) => openssh_reads_text(key.application()),
+        KeyData::SkEd25519(key) => openssh_reads_text(key.application()),
         KeyData::Dsa(_)
         | KeyData::Ecdsa(_)
         | KeyData::Ed25519(_)

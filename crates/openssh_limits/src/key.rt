@@ -6,7 +6,7 @@ ghost use Rattle.sshkey_keys_ref.specs.KeyDataRef.{key_bytes};
 ghost use Rattle.sshkey_keys_ref.specs.KeyRef.{Means};
 ghost use Rattle.sshkey_keys_ref.specs.Kinds.{dsa_of, rsa_of};
 ghost use Rattle.sshkey_model.specs.Keys.{Key, SpellsKey};
-ghost use Rattle.openssh_limits.specs.Keys.{is_let_in, is_read_key, is_uncompressed, required};
+ghost use Rattle.openssh_limits.specs.Keys.{is_uncompressed, openssh_accepts_key, openssh_reads_key, required};
 
 use crate::number::{is_read_number, read_bits};
 use crate::texts::has_no_zero;
@@ -16,13 +16,13 @@ use sshkey_keys_ref::{DsaRef, KeyDataRef, KeyRef, RsaRef};
 /// How many bits an RSA key has at least that OpenSSH reads.
 pub const LEAST_RSA_BITS: u32 = 1024;
 
-/// Returns whether OpenSSH lets somebody in by the key: it reads it (`is_read_key`), and it is none
+/// Returns whether OpenSSH lets somebody in by the key: it reads it (`openssh_reads_key`), and it is none
 /// of DSA. An RSA key has to have `least_rsa_bits`, as sshd_config(5) has it in `RequiredRSASize`.
 /// A number below 1,024 counts as 1,024, which is sshd's own. Does not allocate.
-pub fn is_let_in(key: &KeyData, least_rsa_bits: u32) -> bool
-    ensures { result ≡ is_let_in least_rsa_bits (key_of key.now) }
+pub fn openssh_accepts_key(key: &KeyData, least_rsa_bits: u32) -> bool
+    ensures { result ≡ openssh_accepts_key least_rsa_bits (key_of key.now) }
 {
-    !matches!(key, KeyData::Dsa(_)) && is_read_key(key, required(least_rsa_bits))
+    !matches!(key, KeyData::Dsa(_)) && openssh_reads_key(key, required(least_rsa_bits))
 }
 
 /// Returns whether OpenSSH reads the key, where an RSA key has to have `least_rsa_bits`: it is not
@@ -30,23 +30,23 @@ pub fn is_let_in(key: &KeyData, least_rsa_bits: u32) -> bool
 /// begins with 04, and no byte of an application is 0. Does not allocate.
 ///
 /// Whether a point is on its curve is not asked: OpenSSH refuses one that is not.
-pub fn is_read_key(key: &KeyData, least_rsa_bits: u32) -> bool
-    ensures { result ≡ is_read_key least_rsa_bits (key_of key.now) }
+pub fn openssh_reads_key(key: &KeyData, least_rsa_bits: u32) -> bool
+    ensures { result ≡ openssh_reads_key least_rsa_bits (key_of key.now) }
 {
     has_read_parts(&KeyRef::from(key), least_rsa_bits)
 }
 
-/// Does for a key that is a slice what `is_read_key` does. Does not allocate.
+/// Does for a key that is a slice what `openssh_reads_key` does. Does not allocate.
 pub fn is_read_key_ref(key: &KeyDataRef<'_>, least_rsa_bits: u32) -> bool
     ensures { (k : Key) → SpellsKey k (key_bytes key.now) →
-        result ≡ is_read_key least_rsa_bits k }
+        result ≡ openssh_reads_key least_rsa_bits k }
 {
     has_read_parts(&key.parts(), least_rsa_bits)
 }
 
 /// Whether OpenSSH reads the parts of a key.
 fn has_read_parts(key: &KeyRef<'_>, least_rsa_bits: u32) -> bool
-    ensures { (k : Key) → Means key.now k → result ≡ is_read_key least_rsa_bits k }
+    ensures { (k : Key) → Means key.now k → result ≡ openssh_reads_key least_rsa_bits k }
 {
     match key {
         KeyRef::Dsa(key) => is_read_dsa(key),
@@ -70,7 +70,7 @@ fn required(least_rsa_bits: u32) -> u32
 
 /// Whether OpenSSH reads the numbers of a DSA key.
 fn is_read_dsa(key: &DsaRef<'_>) -> bool
-    ensures { result ≡ is_read_key 0 (dsa_of key.now) }
+    ensures { result ≡ openssh_reads_key 0 (dsa_of key.now) }
 {
     is_read_number(key.p.0)
         && is_read_number(key.q.0)
@@ -80,7 +80,7 @@ fn is_read_dsa(key: &DsaRef<'_>) -> bool
 
 /// Whether OpenSSH reads the numbers of an RSA key, and it has so many bits.
 fn is_read_rsa(key: &RsaRef<'_>, least_bits: u32) -> bool
-    ensures { result ≡ is_read_key least_bits (rsa_of key.now) }
+    ensures { result ≡ openssh_reads_key least_bits (rsa_of key.now) }
 {
     is_read_number(key.e.0) && is_read_number(key.n.0) && least_bits <= read_bits(key.n.0)
 }

@@ -8,6 +8,6 @@ mod key;
 mod number;
 mod texts;
 
-pub use application::has_read_application;
-pub use key::{LEAST_RSA_BITS, is_let_in, is_read_key, is_read_key_ref};
-pub use texts::{are_read_principals, is_read_text};
+pub use application::openssh_reads_application;
+pub use key::{LEAST_RSA_BITS, is_read_key_ref, openssh_accepts_key, openssh_reads_key};
+pub use texts::{openssh_reads_principals, openssh_reads_text};

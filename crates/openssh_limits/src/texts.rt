@@ -2,7 +2,7 @@
 
 ghost use Rattle.std.specs.Prelude.{◌≡◌, ◌↔◌, IsTrue, All, map, string_bytes};
 ghost use Rattle.sshkey_model.specs.Lines.{IsWithout};
-ghost use Rattle.openssh_limits.specs.Keys.{is_read_text};
+ghost use Rattle.openssh_limits.specs.Keys.{openssh_reads_text};
 ghost use Rattle.openssh_limits.specs.Read.{AreReadPrincipals};
 
 /// How many principals OpenSSH reads of a certificate.
@@ -10,7 +10,7 @@ const MOST_PRINCIPALS: usize = 256;
 
 /// Returns whether OpenSSH reads these principals of a certificate as they are: at most 256, and no
 /// byte of one is 0. Does not allocate.
-pub fn are_read_principals(names: &[String]) -> bool
+pub fn openssh_reads_principals(names: &[String]) -> bool
     ensures { IsTrue result ↔ AreReadPrincipals (map string_bytes names.now) }
 {
     if names.len() > MOST_PRINCIPALS {
@@ -24,7 +24,7 @@ fn are_read_texts(texts: &[String]) -> bool
     ensures { IsTrue result ↔ All (λ n. IsWithout 0 (string_bytes n)) texts.now }
 {
     for text in texts {
-        if !is_read_text(text.as_str()) {
+        if !openssh_reads_text(text.as_str()) {
             return false;
         }
     }
@@ -33,7 +33,7 @@ fn are_read_texts(texts: &[String]) -> bool
 
 /// Returns whether OpenSSH reads the text as it is: no byte is 0. It takes a text to end at a zero
 /// byte that is its last, and refuses one with another zero byte. Does not allocate.
-pub fn is_read_text(text: &str) -> bool
+pub fn openssh_reads_text(text: &str) -> bool
     ensures { IsTrue result ↔ IsWithout 0 text.now }
 {
     has_no_zero(text)
@@ -41,7 +41,7 @@ pub fn is_read_text(text: &str) -> bool
 
 /// Whether no byte of the text is 0.
 pub(crate) fn has_no_zero(text: &str) -> bool
-    ensures { result ≡ is_read_text text.now }
+    ensures { result ≡ openssh_reads_text text.now }
 {
     !text.as_bytes().contains(&0)
 }

@@ -2,10 +2,12 @@
 
 pub use sshkey_base::certificate::Field;
 pub use sshkey_cert::{
-    Certificate, CertificateByAuthority, CertificateQuestion, CertificateRefusal, KeyOrCertificate,
-    contains_digest,
+    Certificate, CertificateQuestion, CertificateRefusal, KeyOrCertificate, TrustedCertificate,
+    contains_fingerprint,
 };
 pub use sshkey_cert_builder::Builder;
-pub use sshkey_cert_fields::ToBeSigned;
-pub use sshkey_cert_ref::{CertificateRef, Options, OptionsRef, Texts, TextsRef};
+pub use sshkey_cert_fields::CertificateFields;
+pub use sshkey_cert_ref::{
+    CertificateOptions, CertificateOptionsRef, CertificateRef, Principals, PrincipalsRef,
+};
 pub use sshkey_cert_values::{CertType, EndTime, FOREVER, MAX_SECS, OptionsMap, UnixTime};

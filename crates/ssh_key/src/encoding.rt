@@ -3,8 +3,10 @@
 pub use sshkey_base::encoding::{Error, Result};
 pub use sshkey_base::{
     Bytes, Decode, DecodeError, Encode, Label, LabelError, NestedReader, NormalForm, Reader,
-    ShortBytes, SliceWriter, Text, Writer, array_from, both_len, decode_boxed, decode_front,
+    ShortBytes, SliceWriter, Text, Writer, array_from, both_len, decode_front, decode_prefixed,
     decode_whole, each_len, encode_both, encode_each, encode_list, encode_string, encode_vec,
     erase_slice, length_from, list_len, string_len, u32_of,
 };
-pub use sshkey_terms::{Boxed, Counted, Then, Wide, counted_len, decode_each, encode_counted};
+pub use sshkey_terms::{
+    Counted, LengthPrefixed, Then, Wide, counted_len, decode_each, encode_counted,
+};

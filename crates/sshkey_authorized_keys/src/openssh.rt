@@ -15,7 +15,7 @@ use crate::entry::Entry;
 use crate::openssh_options::OpenSshOptions;
 use crate::option_syntax::is_plain_quote;
 use sshkey_base::{Error, Result};
-use sshkey_entries::{FilledLines, read_key_fields, skip_blanks};
+use sshkey_entries::{NonBlankLines, read_key_fields, skip_blanks};
 use sshkey_public::PublicKey;
 use std::alloc::Global;
 use std::marker::Model;
@@ -176,7 +176,7 @@ impl OpenSshEntry {
 #[derive(Drop)]
 pub struct OpenSshAuthorizedKeys<'a> {
     alloc: Global,
-    lines: FilledLines<'a>,
+    lines: NonBlankLines<'a>,
 }
 
 impl<'a> Model for OpenSshAuthorizedKeys<'a> {
@@ -191,7 +191,7 @@ impl<'a> OpenSshAuthorizedKeys<'a> {
     {
         OpenSshAuthorizedKeys {
             alloc,
-            lines: FilledLines::new(text),
+            lines: NonBlankLines::new(text),
         }
     }
 }

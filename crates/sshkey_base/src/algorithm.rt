@@ -216,7 +216,7 @@ impl Label for Algorithm {
         }
     }
 
-    fn lawful_names() {}
+    fn lawful_label() {}
 }
 
 impl AsStr for Algorithm {

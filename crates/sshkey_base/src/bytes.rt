@@ -69,7 +69,7 @@ impl Bytes {
     /// Reads a string as `decode` does. If the reader lends its bytes, the memory that they are
     /// copied into has room for `spare` more, which no contract can say.
     #[tactic(auto, using(crate::proofs::Steps::steps, crate::proofs::Stopping::stopping), unfolding(sshkey_model::specs::Reading::string_at))]
-    pub fn decode_with_spare<R: Reader>(
+    pub fn decode_with_spare_capacity<R: Reader>(
         alloc: Global,
         reader: &mut R,
         spare: usize,
@@ -133,7 +133,7 @@ impl Decode for Bytes {
         ensures asks { Asks encoding_cause NeedsString (R.source reader.old) result }
         ensures past { Stops encoding_cause string_format (R.source reader.old) result }
     {
-        Bytes::decode_with_spare(alloc, reader, 0)
+        Bytes::decode_with_spare_capacity(alloc, reader, 0)
     }
 }
 

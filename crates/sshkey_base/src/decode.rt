@@ -180,7 +180,7 @@ impl<const N: usize> Decode for [u8; N] {
 /// `TrailingData` and the number of bytes that the value leaves. Memory is allocated only by the
 /// value, in a part that stands whole.
 #[tactic(auto, using(crate::proofs::Boxes::boxes))]
-pub fn decode_boxed<T: Decode + Drop, R: Reader>(
+pub fn decode_prefixed<T: Decode + Drop, R: Reader>(
     alloc: Global,
     reader: &mut R,
 ) -> Result<T, T::Error>

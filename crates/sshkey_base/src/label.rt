@@ -56,7 +56,7 @@ pub trait Label: Sized {
 
     /// A name gives the value that has it, is ASCII, and is no longer than that of an algorithm in a
     /// certificate; what is no name is rejected as such. Does nothing.
-    fn lawful_names()
+    fn lawful_label()
         ensures checks { Checks Any bytes IsNamed (λ n. bytes (name n)) named }
         ensures ascii { (n : Named) → IsNamed n → are_ascii (name n) ≡ true }
         ensures short { (n : Named) → IsNamed n → nat_le (length (name n)) 73 ≡ true }
@@ -77,7 +77,7 @@ impl<T: Label> Decode for T {
     ghost format = { label_format T.IsNamed T.name T.named T.needs };
 
     fn lawful() {
-        T::lawful_names();
+        T::lawful_label();
     }
 
     #[inline(always)]
@@ -106,7 +106,7 @@ fn name_from<T: Label, R: Reader>(alloc: Global, len: usize, reader: &mut R) -> 
     ensures past { StopsBy encoding_cause (checked_at T.named (bytes_at len))
         (NeedsAfter T.needs len) (OverrunsBytes len) (R.source reader.old) result }
 {
-    T::lawful_names();
+    T::lawful_label();
     if let Some(name) = reader.ahead(len) {
         let value = named(alloc, name)?;
         reader.skip(len);
@@ -125,7 +125,7 @@ fn named<T: Label>(alloc: Global, name: &[u8]) -> Result<T>
     ensures gives { LooksUp T.stands_for T.named name.now result }
     ensures asks { AsksNamed encoding_cause T.needs name.now result }
 {
-    T::lawful_names();
+    T::lawful_label();
     match str::from_utf8(name) {
         Ok(text) => T::from_label(alloc, text),
         Err(_) => Err(Error::Label),

@@ -27,7 +27,7 @@ pub fn read_back<T: NormalForm>()
     ensures { ReadBackBeginning T.IsWellFormed T.normal T.means T.format }
 {
     T::lawful();
-    T::normal_spells();
+    T::lawful_normal_form();
 }
 
 /// Bytes begin with one value at most, and with one spelling of it. So no bytes spell two values,

@@ -27,7 +27,7 @@ mod writer;
 
 pub use algorithm::{Algorithm, AlgorithmName, EcdsaCurve, HashAlg, names};
 pub use bytes::{Bytes, erase_slice};
-pub use decode::{Decode, decode_boxed, decode_front, decode_whole};
+pub use decode::{Decode, decode_front, decode_prefixed, decode_whole};
 pub use decode_error::DecodeError;
 pub use encode::{Encode, both_len, encode_both, encode_string, encode_vec, string_len, u32_of};
 pub use error::{Error, Result};

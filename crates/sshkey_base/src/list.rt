@@ -150,5 +150,5 @@ impl Encode for Vec<String> {
 impl NormalForm for Vec<String> {
     ghost IsWellFormed = { λ _. Unit {0} };
 
-    fn normal_spells() {}
+    fn lawful_normal_form() {}
 }

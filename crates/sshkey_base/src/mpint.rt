@@ -283,5 +283,5 @@ impl Encode for Mpint {
 impl NormalForm for Mpint {
     ghost IsWellFormed = { λ _. Unit {0} };
 
-    fn normal_spells() {}
+    fn lawful_normal_form() {}
 }

@@ -23,7 +23,7 @@ pub(crate) fn take_name<R: Reader>(
     ensures past { announced_len (R.source reader.old) < len → result ≡ Err Error.Length }
 {
     if len <= MAX_LEN {
-        return Ok(Some(ShortBytes::take_from(len, reader)?));
+        return Ok(Some(ShortBytes::read_from(len, reader)?));
     }
     pass(len, reader)?;
     Ok(None)

@@ -17,7 +17,7 @@ pub trait NormalForm: Decode + Encode {
     ghost IsWellFormed: { Self → Type 0 };
 
     /// The normal form is a spelling of the value. Does nothing.
-    fn normal_spells()
+    fn lawful_normal_form()
         ensures { (x : Self) → IsWellFormed x → Fits (Self.normal x) →
             Self.format.Spells (Self.means x) (flat (Self.normal x)) };
 }
@@ -25,47 +25,47 @@ pub trait NormalForm: Decode + Encode {
 impl NormalForm for u8 {
     ghost IsWellFormed = { λ _. Unit {0} };
 
-    fn normal_spells() {}
+    fn lawful_normal_form() {}
 }
 
 impl NormalForm for u32 {
     ghost IsWellFormed = { λ _. Unit {0} };
 
-    fn normal_spells() {}
+    fn lawful_normal_form() {}
 }
 
 impl NormalForm for u64 {
     ghost IsWellFormed = { λ _. Unit {0} };
 
-    fn normal_spells() {}
+    fn lawful_normal_form() {}
 }
 
 impl NormalForm for Bytes {
     ghost IsWellFormed = { λ _. Unit {0} };
 
-    fn normal_spells() {}
+    fn lawful_normal_form() {}
 }
 
 impl NormalForm for Text {
     ghost IsWellFormed = { IsText };
 
-    fn normal_spells() {}
+    fn lawful_normal_form() {}
 }
 
 impl NormalForm for Vec<u8> {
     ghost IsWellFormed = { λ _. Unit {0} };
 
-    fn normal_spells() {}
+    fn lawful_normal_form() {}
 }
 
 impl<const N: usize> NormalForm for [u8; N] {
     ghost IsWellFormed = { λ b. length b ≡ N };
 
-    fn normal_spells() {}
+    fn lawful_normal_form() {}
 }
 
 impl<T: Label> NormalForm for T {
     ghost IsWellFormed = { λ x. T.IsNamed (T.stands_for x) };
 
-    fn normal_spells() {}
+    fn lawful_normal_form() {}
 }

@@ -51,7 +51,7 @@ impl<const MAX: usize> ShortBytes<MAX> {
 
     /// The next `len` bytes. Fails with `Length` if there are more than `MAX`, or more than are
     /// announced. After an error some bytes may have been consumed.
-    pub fn take_from<R: Reader>(len: usize, reader: &mut R) -> Result<ShortBytes<MAX>>
+    pub fn read_from<R: Reader>(len: usize, reader: &mut R) -> Result<ShortBytes<MAX>>
         ensures gives { DecodesAlways short_of (checked_at (at_most MAX) (bytes_at len))
             R.source reader.old result reader.new }
         ensures later { Later (R.source reader.old) (R.source reader.new) }
@@ -95,6 +95,6 @@ impl<const MAX: usize> Decode for ShortBytes<MAX> {
         ensures past { Stops encoding_cause (short_format MAX) (R.source reader.old) result }
     {
         let len = length_from(reader)?;
-        ShortBytes::take_from(len, reader)
+        ShortBytes::read_from(len, reader)
     }
 }

@@ -70,5 +70,5 @@ impl Encode for usize {
 impl NormalForm for usize {
     ghost IsWellFormed = { λ _. Unit {0} };
 
-    fn normal_spells() {}
+    fn lawful_normal_form() {}
 }

@@ -80,5 +80,5 @@ impl Encode for &str {
 impl NormalForm for String {
     ghost IsWellFormed = { λ _. Unit {0} };
 
-    fn normal_spells() {}
+    fn lawful_normal_form() {}
 }

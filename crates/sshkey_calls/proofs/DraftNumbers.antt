@@ -17,7 +17,7 @@ use Rattle.sshkey_base.proofs.Leaves.{texts_grammar}
 use Rattle.sshkey_terms.specs.Slices.{Keeps}
 use Rattle.sshkey_keys.proofs.KeyReaders.{key_grammar}
 use Rattle.sshkey_cert_values.proofs.OptionLists.{options_grammar}
-use Rattle.sshkey_calls.specs.Drafts.{IsCertifiable, IsWrong, TellsFields, certifiable_number, draft_fault, first_number, key_number, list_number, number_of, parts_fault, string_number, text_number}
+use Rattle.sshkey_calls.specs.Drafts.{IsCertifiable, IsWrong, TellsFields, certifiable_number, draft_fault, first_number, key_status, list_number, number_of, parts_fault, string_number, text_number}
 use Rattle.sshkey_calls.specs.Numbers.{fault_number}
 use Rattle.sshkey_calls.proofs.Drafts.{fits_number, short_string}
 use Rattle.sshkey_calls.specs.declared.draft.CertificateDraft.{CertificateDraft}
@@ -122,7 +122,7 @@ number_told wrong n (inr told) other = told
 
 -- ---- keys
 
-pub other_key : (k : Key) → (IsCertifiable k → ⊥) → key_number k ≡ 12
+pub other_key : (k : Key) → (IsCertifiable k → ⊥) → key_status k ≡ 12
 other_key (Opaque name k) not = refl
 other_key k not = absurd (not refl)
 

@@ -24,7 +24,7 @@ use Rattle.sshkey_cert_ref.proofs.Certificates.{spelled_by}
 use Rattle.sshkey_fingerprints.specs.Fingerprints.{digest_of}
 use Rattle.sshkey_fingerprints.specs.declared.fingerprint.Fingerprint as code
 use Rattle.sshkey_keys.specs.Fingerprints.{IsFingerprint}
-use Rattle.sshkey_calls.specs.Numbers.{refusal_number}
+use Rattle.sshkey_calls.specs.Numbers.{refusal_status}
 use Rattle.sshkey_calls.specs.Validations.{HasRenamedAuthority, IsGoodCertificate, IsGoodCertificateFor, SaysWhether, TellsFirst, TellsFirstFor, TellsRefusal, Verified, authorities_of, first_refusal_of, is_yes_number}
 use Rattle.sshkey_calls.specs.declared.digest.Sha256Digest.{Sha256Digest}
 
@@ -49,9 +49,9 @@ module _ (accepts : Question → Bool) (bytes : List ℕ) (is_verified : ℕ) (v
   same_first_of authorities t None = same_first authorities t
   same_first_of authorities t (Some wanted) = ap (λ (r : Option Refusal). or_else r (unless (allows c.signed.valid_principals wanted) UnlistedPrincipal None)) (same_first authorities t)
 
-  pub first_told : (authorities : List Fingerprint) (t : ℕ) (wanted : Option (List ℕ)) (n : ℕ) → (n ≢ 1 → n ≡ refusal_number (first_refusal_of (λ _. is_yes_number is_verified) authorities t wanted c)) → TellsRefusal (first_refusal_of accepts authorities t wanted) bytes n
+  pub first_told : (authorities : List Fingerprint) (t : ℕ) (wanted : Option (List ℕ)) (n : ℕ) → (n ≢ 1 → n ≡ refusal_status (first_refusal_of (λ _. is_yes_number is_verified) authorities t wanted c)) → TellsRefusal (first_refusal_of accepts authorities t wanted) bytes n
   first_told authorities t wanted n told d other not_memory =
-      told not_memory ∙ ap refusal_number (same_first_of authorities t wanted) ∙ ap (λ (x : Certificate). refusal_number (first_refusal_of accepts authorities t wanted x)) (one_spelled c d bytes spelled other)
+      told not_memory ∙ ap refusal_status (same_first_of authorities t wanted) ∙ ap (λ (x : Certificate). refusal_status (first_refusal_of accepts authorities t wanted x)) (one_spelled c d bytes spelled other)
 
 none_last : (first : Option Refusal) → or_else first None ≡ first
 none_last None = refl
@@ -64,7 +64,7 @@ principal_last name_of accepts authorities t c (Some x) b is = rw (allows_is b c
 
 -- ---- 0 says that it is valid
 
-nothing_wrong : (first : Option Refusal) → refusal_number first ≡ 0 → first ≡ None
+nothing_wrong : (first : Option Refusal) → refusal_status first ≡ 0 → first ≡ None
 nothing_wrong None e = refl
 nothing_wrong (Some NotSigned) e = absurd (omega (arith, e))
 nothing_wrong (Some UntrustedAuthority) e = absurd (omega (arith, e))
@@ -81,7 +81,7 @@ module _ (Valid : Certificate → Type 0) (refusal : Certificate → Option Refu
         make c s ((exactly c).0 (nothing_wrong (refusal c) (sym (told c s (λ one. absurd (omega (arith, zero_, one)))) ∙ zero_)));
     no_ = λ not_zero not_one holds.
         let (c, s, valid) = parts holds in
-        not_zero (told c s not_one ∙ ap refusal_number ((exactly c).1 valid));
+        not_zero (told c s not_one ∙ ap refusal_status ((exactly c).1 valid));
   }
 
 module _ (accepts : Question → Bool) (authorities : List Fingerprint) (t : ℕ) (bytes : List ℕ) (n : ℕ) (spelled : n ≡ 0 → SpellsSome SpellsCertificate bytes) where

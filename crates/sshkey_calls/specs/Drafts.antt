@@ -18,18 +18,18 @@ use Rattle.sshkey_calls.specs.Writing.{WritesOf}
 use Rattle.sshkey_calls.specs.declared.draft.CertificateDraft.{CertificateDraft}
 
 -- 12 for a key under a private-use name
-abbrev pub key_number : Key → ℕ
-key_number (Dsa k) = 0
-key_number (Ecdsa curve point) = 0
-key_number (Ed25519 k) = 0
-key_number (Rsa k) = 0
-key_number (SkEcdsa k) = 0
-key_number (SkEd25519 k) = 0
-key_number (Opaque name k) = 12
+abbrev pub key_status : Key → ℕ
+key_status (Dsa k) = 0
+key_status (Ecdsa curve point) = 0
+key_status (Ed25519 k) = 0
+key_status (Rsa k) = 0
+key_status (SkEcdsa k) = 0
+key_status (SkEd25519 k) = 0
+key_status (Opaque name k) = 12
 
 -- Certificates are of keys under the names of the standards.
 abbrev pub IsCertifiable : Key → Type 0
-IsCertifiable k = key_number k ≡ 0
+IsCertifiable k = key_status k ≡ 0
 
 -- The fields are those that the draft tells, and a certificate may have them: its window is not
 -- empty, and it lists no principals exactly if all are to be allowed.
@@ -87,7 +87,7 @@ draft_fault d = first_number (
 -- ---- its parts
 
 abbrev pub certifiable_number : Result Key Fault → ℕ
-certifiable_number (Ok k) = key_number k
+certifiable_number (Ok k) = key_status k
 certifiable_number (Err fault) = fault_number fault
 
 -- 11 for bytes that are no text

@@ -6,7 +6,7 @@ use Rattle.sshkey_model.specs.Keys.{key_format, SpellsKey}
 use Rattle.sshkey_public.specs.LineFaults.{HasFaultOfLine}
 use Rattle.sshkey_public.specs.LineNeeds.{NeedsValue}
 use Rattle.sshkey_model.specs.Certificates.{certificate_format, SpellsCertificate}
-use Rattle.sshkey_calls.specs.Numbers.{error_number}
+use Rattle.sshkey_calls.specs.Numbers.{error_status}
 use Rattle.sshkey_calls.specs.Rooms.{GivesValue, IsPlaced}
 use Rattle.sshkey_calls.specs.declared.line.Line.{Line}
 
@@ -55,11 +55,11 @@ pub record ReadsContent (Wanted : Content → Type 0) (n : ℕ) (was line : Line
 
 -- the number is that of a fault that the text has as the line of a key
 abbrev pub NumbersKeyFault : List ℕ → ℕ → Type 0
-NumbersKeyFault text n = (e : Error) × HasFaultOfLine key_format key_name SpellsKey text e × (n ≡ error_number e)
+NumbersKeyFault text n = (e : Error) × HasFaultOfLine key_format key_name SpellsKey text e × (n ≡ error_status e)
 
 -- or as the line of a certificate
 abbrev pub NumbersCertificateFault : List ℕ → ℕ → Type 0
-NumbersCertificateFault text n = (e : Error) × HasFaultOfLine certificate_format name_of_certificate SpellsCertificate text e × (n ≡ error_number e)
+NumbersCertificateFault text n = (e : Error) × HasFaultOfLine certificate_format name_of_certificate SpellsCertificate text e × (n ≡ error_status e)
 
 -- the fault as a certificate's line, but where that is 12, for a name that no certificate has, the
 -- one as a key's. (A key may have the name of a certificate: as a key of private use.)

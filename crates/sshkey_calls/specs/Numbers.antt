@@ -33,33 +33,33 @@ cause_number NoMemory = 1
 cause_number (Faulty f) = fault_number f
 cause_number Other = 23
 
-abbrev pub error_number : Error → ℕ
-error_number (Encoding Base64) = 10
-error_number e = cause_number (cause e)
+abbrev pub error_status : Error → ℕ
+error_status (Encoding Base64) = 10
+error_status e = cause_number (cause e)
 
 -- the field of a certificate that lets nobody in; no call meets another one
-abbrev pub field_number : Field → ℕ
-field_number field.CertType = 71
-field_number field.PublicKey = 72
-field_number field.CriticalOptions = 73
-field_number field.Extensions = 74
-field_number field.KeyId = 75
-field_number field.ValidPrincipals = 76
-field_number f = 23
+abbrev pub field_status : Field → ℕ
+field_status field.CertType = 71
+field_status field.PublicKey = 72
+field_status field.CriticalOptions = 73
+field_status field.Extensions = 74
+field_status field.KeyId = 75
+field_status field.ValidPrincipals = 76
+field_status f = 23
 
 -- why bytes are no certificate, or one that lets nobody in
-abbrev pub certificate_error_number : Error → ℕ
-certificate_error_number (CertificateFieldInvalid f) = field_number f
-certificate_error_number e = error_number e
+abbrev pub certificate_error_status : Error → ℕ
+certificate_error_status (CertificateFieldInvalid f) = field_status f
+certificate_error_status e = error_status e
 
 -- what is wrong with a certificate first, and 0 where nothing is
-abbrev pub refusal_number : Option Refusal → ℕ
-refusal_number None = 0
-refusal_number (Some NotSigned) = 30
-refusal_number (Some UntrustedAuthority) = 31
-refusal_number (Some InvalidTime) = 32
-refusal_number (Some OutOfWindow) = 33
-refusal_number (Some UnlistedPrincipal) = 34
+abbrev pub refusal_status : Option Refusal → ℕ
+refusal_status None = 0
+refusal_status (Some NotSigned) = 30
+refusal_status (Some UntrustedAuthority) = 31
+refusal_status (Some InvalidTime) = 32
+refusal_status (Some OutOfWindow) = 33
+refusal_status (Some UnlistedPrincipal) = 34
 
 -- the algorithm of a question; no question has one of the last
 abbrev pub algorithm_number : Algorithm → ℕ

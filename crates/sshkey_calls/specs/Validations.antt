@@ -12,7 +12,7 @@ use Rattle.sshkey_base.specs.declared.error.Error.{Error}
 use Rattle.sshkey_cert.specs.Questions.{certificate_question}
 use Rattle.sshkey_cert.specs.Validity.{refusal_of}
 use Rattle.sshkey_cert.specs.declared.certificate.refusal.CertificateRefusal.{CertificateRefusal}
-use Rattle.sshkey_calls.specs.Numbers.{refusal_number}
+use Rattle.sshkey_calls.specs.Numbers.{refusal_status}
 use Rattle.sshkey_calls.specs.declared.digest.Sha256Digest.{Sha256Digest}
 
 -- 1 says yes, and every other number no
@@ -47,7 +47,7 @@ pub record SaysWhether (Holds : Type 0) (n : ℕ) : Type 0 where
 
 -- The number is that of the refusal of the certificate that the bytes spell, memory aside.
 abbrev pub TellsRefusal : (Certificate → Option Refusal) → List ℕ → ℕ → Type 0
-TellsRefusal refusal bytes n = (c : Certificate) → SpellsCertificate c bytes → n ≢ 1 → n ≡ refusal_number (refusal c)
+TellsRefusal refusal bytes n = (c : Certificate) → SpellsCertificate c bytes → n ≢ 1 → n ≡ refusal_status (refusal c)
 
 -- It is the first refusal.
 abbrev pub TellsFirst : (Question → Bool) → List Fingerprint → ℕ → List ℕ → ℕ → Type 0

@@ -7,7 +7,7 @@ ghost use Rattle.sshkey_model.specs.Parts.{flat};
 ghost use Rattle.sshkey_calls.specs.NormalForms.{WritesCertifiedKey};
 ghost use Rattle.sshkey_calls.specs.Writing.{WritesContent};
 
-use crate::number::{MEMORY, error_number};
+use crate::number::{MEMORY, error_status};
 use crate::write::write_bytes;
 use sshkey_base::{Result, encode_vec};
 use sshkey_cert_ref::CertificateRef;
@@ -29,7 +29,7 @@ pub fn certificate_key(
 {
     match CertificateRef::from_bytes(certificate) {
         Ok(read) => write_key(alloc, &read, room, length),
-        Err(error) => error_number(error),
+        Err(error) => error_status(error),
     }
 }
 

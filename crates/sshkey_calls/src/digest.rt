@@ -20,7 +20,7 @@ pub struct Sha512Digest {
 }
 
 /// Whether the bytes are one of the digests. Does not allocate.
-pub fn contains_digest(digests: &[Sha256Digest], digest: &[u8]) -> bool
+pub fn contains_fingerprint(digests: &[Sha256Digest], digest: &[u8]) -> bool
     ensures { result ≡ list_any (λ d. bytes_eq digest.now d.bytes) digests.now }
 {
     digests.iter().any(|one| digest == one.bytes.as_slice())

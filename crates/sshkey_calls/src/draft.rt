@@ -10,9 +10,9 @@ ghost use Rattle.sshkey_calls.specs.Drafts.{IsToBeSigned, TellsWrong, draft_faul
 ghost use Rattle.sshkey_calls.specs.Writing.{WritesContent};
 
 use crate::draft_fields::fields_of;
-use crate::number::error_number;
+use crate::number::error_status;
 use crate::write::write_bytes;
-use sshkey_cert_fields::ToBeSigned;
+use sshkey_cert_fields::CertificateFields;
 use std::alloc::Global;
 
 /// What a certificate is to say.
@@ -77,7 +77,12 @@ pub fn certificate_to_be_signed(
 }
 
 /// Writes the bytes that are to be signed of these fields.
-fn write_fields(alloc: Global, fields: &ToBeSigned, room: &mut [u8], length: &mut usize) -> u32
+fn write_fields(
+    alloc: Global,
+    fields: &CertificateFields,
+    room: &mut [u8],
+    length: &mut usize,
+) -> u32
     ensures written { WritesContent (λ s. Fits (normal_to_be_signed (to_be_signed_of fields.now))
         × (s ≡ flat (normal_to_be_signed (to_be_signed_of fields.now))))
         result length.old length.new room.old room.new }
@@ -85,6 +90,6 @@ fn write_fields(alloc: Global, fields: &ToBeSigned, room: &mut [u8], length: &mu
 {
     match fields.signed_bytes(alloc) {
         Ok(bytes) => write_bytes(&bytes, room, length),
-        Err(error) => error_number(error),
+        Err(error) => error_status(error),
     }
 }

@@ -15,10 +15,10 @@ ghost use Rattle.sshkey_calls.specs.Drafts.{FindsOr, FindsPart, FitsString, IsCe
 
 use crate::draft::CertificateDraft;
 use crate::number::{
-    CHARACTER_ENCODING, EMPTY_WINDOW, FORMAT, LABEL, MEMORY, PRINCIPALS, TIME, error_number,
+    CHARACTER_ENCODING, EMPTY_WINDOW, FORMAT, LABEL, MEMORY, PRINCIPALS, TIME, error_status,
 };
 use sshkey_base::{Bytes, Error, Text, decode_whole, encode_vec};
-use sshkey_cert_fields::ToBeSigned;
+use sshkey_cert_fields::CertificateFields;
 use sshkey_cert_values::{CertType, EndTime, OptionsMap, UnixTime};
 use sshkey_keys::KeyData;
 use sshkey_keys_ref::KeyDataRef;
@@ -27,7 +27,10 @@ use std::convert::TryFrom;
 use std::str;
 
 /// The fields that the draft tells.
-pub(crate) fn fields_of(alloc: Global, draft: &CertificateDraft<'_>) -> Result<ToBeSigned, u32>
+pub(crate) fn fields_of(
+    alloc: Global,
+    draft: &CertificateDraft<'_>,
+) -> Result<CertificateFields, u32>
     ensures fields { FindsOr (TellsFields draft.now) to_be_signed_of
         (first_number (draft_fault draft.now ∷ parts_fault draft.now ∷ []))
         (SpellsSome SpellsKey draft.now.key.now) result }
@@ -48,7 +51,7 @@ fn fields_with(
     cert_type: CertType,
     valid_after: UnixTime,
     valid_before: EndTime,
-) -> Result<ToBeSigned, u32>
+) -> Result<CertificateFields, u32>
     requires { TellsNumbers draft.now cert_type valid_after valid_before }
     ensures { FindsOr (TellsFields draft.now) to_be_signed_of (parts_fault draft.now)
         (SpellsSome SpellsKey draft.now.key.now) result }
@@ -60,7 +63,7 @@ fn fields_with(
     let critical_options = options_from(alloc, draft.critical_options)?;
     let extensions = options_from(alloc, draft.extensions)?;
     let nonce = bytes_from(alloc, draft.nonce)?;
-    Ok(ToBeSigned {
+    Ok(CertificateFields {
         nonce,
         public_key,
         serial: draft.serial,
@@ -139,7 +142,7 @@ fn key_from(alloc: Global, blob: &[u8]) -> Result<KeyData, u32>
             Ok(key) => Ok(key),
             Err(_) => Err(MEMORY),
         },
-        Err(error) => Err(error_number(error)),
+        Err(error) => Err(error_status(error)),
     }
 }
 
@@ -175,7 +178,7 @@ fn principals_from(alloc: Global, strings: &[u8]) -> Result<Vec<String>, u32>
     let string = string_of(alloc, strings)?;
     match decode_whole::<Vec<String>, &[u8]>(alloc, string.as_slice()) {
         Ok(texts) => Ok(texts),
-        Err(error) => Err(error_number(Error::from(error))),
+        Err(error) => Err(error_status(Error::from(error))),
     }
 }
 
@@ -187,7 +190,7 @@ fn options_from(alloc: Global, options: &[u8]) -> Result<OptionsMap, u32>
     let string = string_of(alloc, options)?;
     match decode_whole::<OptionsMap, &[u8]>(alloc, string.as_slice()) {
         Ok(options) => Ok(options),
-        Err(error) => Err(error_number(error)),
+        Err(error) => Err(error_status(error)),
     }
 }
 
@@ -198,6 +201,6 @@ pub(crate) fn string_of(alloc: Global, bytes: &[u8]) -> Result<Vec<u8>, u32>
 {
     match encode_vec(alloc, &bytes) {
         Ok(string) => Ok(string),
-        Err(error) => Err(error_number(Error::from(error))),
+        Err(error) => Err(error_status(Error::from(error))),
     }
 }

@@ -6,7 +6,7 @@ ghost use Rattle.sshkey_model.specs.Certificates.{type_number};
 ghost use Rattle.sshkey_cert_values.specs.CertTypes.{type_of};
 ghost use Rattle.sshkey_calls.specs.Fields.{AreFieldsOf, GivesFields, IsNumberOf};
 
-use crate::number::{DONE, error_number};
+use crate::number::{DONE, error_status};
 use sshkey_cert_ref::CertificateRef;
 use sshkey_cert_values::CertType;
 
@@ -39,7 +39,7 @@ pub fn certificate_fields(certificate: &[u8], answer: &mut CertificateFields) ->
             *answer = fields_of(&read);
             DONE
         }
-        Err(error) => error_number(error),
+        Err(error) => error_status(error),
     }
 }
 

@@ -9,7 +9,7 @@ ghost use Rattle.sshkey_model.specs.Names.{Sha256, Sha512};
 ghost use Rattle.sshkey_calls.specs.Fingerprints.{FindsFingerprint, GivesKeyDigest, Prints};
 
 use crate::digest::{Sha256Digest, Sha512Digest};
-use crate::number::{DONE, MEMORY, ROOM, error_number};
+use crate::number::{DONE, MEMORY, ROOM, error_status};
 use base64::engine::general_purpose::STANDARD_NO_PAD;
 use sshkey_base::HashAlg;
 use sshkey_fingerprints::Fingerprint;
@@ -64,7 +64,7 @@ fn find_fingerprint(alloc: Global, hash_alg: HashAlg, key: &[u8]) -> Result<Fing
 {
     let read = match KeyDataRef::from_bytes(key) {
         Ok(read) => read,
-        Err(error) => return Err(error_number(error)),
+        Err(error) => return Err(error_status(error)),
     };
     let Ok(fingerprint) = read.fingerprint(alloc, hash_alg) else {
         return Err(MEMORY);

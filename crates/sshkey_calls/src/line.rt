@@ -8,7 +8,7 @@ ghost use Rattle.sshkey_model.specs.Lines.{IsCut, IsLine, IsNoLine, IsWithout, a
 ghost use Rattle.sshkey_calls.specs.KeyLines.{ArePlaced, HoldsContent, NeedsLine, NumbersKeyFault, ReadsContent, TellsLineFault, content_of, fault_of_either, line_bytes};
 ghost use Rattle.sshkey_calls.specs.Rooms.{IsLaidOut};
 
-use crate::number::{CHARACTER_ENCODING, LABEL, MEMORY, error_number};
+use crate::number::{CHARACTER_ENCODING, LABEL, MEMORY, error_status};
 use crate::part::{self, Part, add};
 use base64::decoded_len_estimate;
 use base64::engine::general_purpose::STANDARD;
@@ -71,9 +71,9 @@ fn read_text(alloc: Global, text: &str, room: &mut [u8], answer: &mut Line) -> u
     ensures memory { result ≡ 1 → NeedsLine text.now }
 {
     match sshkey_public::read_line::<KeyData>(alloc, text) {
-        Ok(read) => tell(alloc, text, read.1.as_str(), KEY, room, answer),
+        Ok(read) => write_line(alloc, text, read.1.as_str(), KEY, room, answer),
         Err(error) => {
-            let fault = error_number(error);
+            let fault = error_status(error);
             if fault == MEMORY {
                 return MEMORY;
             }
@@ -98,8 +98,8 @@ fn read_certificate(
     ensures memory { result ≡ 1 → NeedsLine text.now }
 {
     match sshkey_public::read_line::<Certificate>(alloc, text) {
-        Ok(read) => tell(alloc, text, read.1.as_str(), CERTIFICATE, room, answer),
-        Err(error) => fault_of(key_fault, error_number(error)),
+        Ok(read) => write_line(alloc, text, read.1.as_str(), CERTIFICATE, room, answer),
+        Err(error) => fault_of(key_fault, error_status(error)),
     }
 }
 
@@ -118,7 +118,7 @@ fn fault_of(of_key: u32, of_certificate: u32) -> u32
 }
 
 /// Answers with the content of a line whose comment it is, where there is room for it.
-fn tell(
+fn write_line(
     alloc: Global,
     text: &str,
     comment: &str,
@@ -130,11 +130,11 @@ fn tell(
         → ReadsContent (λ x. x ≡ content_of kind blob comment.now)
         result answer.old answer.new room.old room.new }
 {
-    part::answer_with(lay_out(alloc, text, comment, kind), room, answer)
+    part::answer_with(lay_out_line(alloc, text, comment, kind), room, answer)
 }
 
 /// The blob of a line and the comment after it, and where they are.
-fn lay_out(alloc: Global, text: &str, comment: &str, kind: u32) -> Result<(Vec<u8>, Line)>
+fn lay_out_line(alloc: Global, text: &str, comment: &str, kind: u32) -> Result<(Vec<u8>, Line)>
     ensures { (first blob : List ℕ) → IsLine text.now first blob comment.now → IsBytes blob
         → IfOk result (λ laid. IsLaidOut line_bytes ArePlaced (content_of kind blob comment.now)
         laid.0.items laid.1) }

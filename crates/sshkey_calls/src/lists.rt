@@ -4,7 +4,7 @@ ghost use Rattle.std.specs.Prelude.{◌≡◌, ◌-◌};
 ghost use Rattle.sshkey_cert_ref.specs.CertificateRef.{certificate_bytes, certificate_of};
 ghost use Rattle.sshkey_calls.specs.Lists.{ArePartsOf, GivesParts};
 
-use crate::number::{DONE, error_number};
+use crate::number::{DONE, error_status};
 use crate::part::Part;
 use sshkey_cert_ref::CertificateRef;
 
@@ -37,7 +37,7 @@ pub fn certificate_parts(certificate: &[u8], answer: &mut CertificateParts) -> u
             *answer = parts_of(&read);
             DONE
         }
-        Err(error) => error_number(error),
+        Err(error) => error_status(error),
     }
 }
 

@@ -12,7 +12,7 @@ ghost use Rattle.sshkey_calls.specs.NormalForms.{IsRenamedKey, WritesNormalCerti
 ghost use Rattle.sshkey_calls.specs.SshSignatures.{WritesNormalSshSignature};
 ghost use Rattle.sshkey_calls.specs.Writing.{WritesContent};
 
-use crate::number::{MEMORY, error_number};
+use crate::number::{MEMORY, error_status};
 use crate::write::write_bytes;
 use sshkey_base::{Encode, encode_vec};
 use sshkey_cert_ref::CertificateRef;
@@ -32,7 +32,7 @@ pub fn key_normal(alloc: Global, key: &[u8], room: &mut [u8], length: &mut usize
 {
     match KeyDataRef::from_bytes(key) {
         Ok(read) => write_key(alloc, &read, room, length),
-        Err(error) => error_number(error),
+        Err(error) => error_status(error),
     }
 }
 
@@ -68,7 +68,7 @@ pub fn certificate_normal(
 {
     match CertificateRef::from_bytes(certificate) {
         Ok(read) => write_certificate(alloc, &read, room, length),
-        Err(error) => error_number(error),
+        Err(error) => error_status(error),
     }
 }
 
@@ -101,7 +101,7 @@ pub fn sshsig_normal(alloc: Global, signature: &[u8], room: &mut [u8], length: &
 {
     match SshSig::from_bytes(alloc, signature) {
         Ok(read) => write_encoded(alloc, &read, room, length),
-        Err(error) => error_number(error),
+        Err(error) => error_status(error),
     }
 }
 
@@ -117,7 +117,7 @@ pub fn signature_normal(signature: &[u8], room: &mut [u8], length: &mut usize) -
 {
     match SignatureRef::from_bytes(signature) {
         Ok(read) => write_bytes(read.as_bytes(), room, length),
-        Err(error) => error_number(error),
+        Err(error) => error_status(error),
     }
 }
 

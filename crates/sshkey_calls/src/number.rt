@@ -7,7 +7,7 @@ ghost use Rattle.sshkey_base.specs.Names.{algorithm_of, curve_of, hash_of};
 ghost use Rattle.sshkey_cert.specs.Validity.{refusal_of};
 ghost use Rattle.sshkey_model.specs.Names.{Ecdsa, Rsa};
 ghost use Rattle.sshkey_model.specs.Reading.{Fault};
-ghost use Rattle.sshkey_calls.specs.Numbers.{algorithm_number, certificate_error_number, error_number, fault_number, field_number, refusal_number};
+ghost use Rattle.sshkey_calls.specs.Numbers.{algorithm_number, certificate_error_status, error_status, fault_number, field_status, refusal_status};
 
 use sshkey_base::certificate::Field;
 use sshkey_base::{Algorithm, EcdsaCurve, Error, HashAlg, encoding};
@@ -128,17 +128,17 @@ const ASK_RSA_SHA256: u32 = 6;
 const ASK_RSA_SHA512: u32 = 7;
 
 /// The number of an error: 1 for memory, and else that of its fault.
-pub fn error_number(error: Error) -> u32
+pub fn error_status(error: Error) -> u32
     ensures fault { (fault : Fault) → cause error ≡ Faulty fault → result ≡ fault_number fault }
     ensures memory { cause error ≡ NoMemory → result ≡ 1 }
-    ensures number { result ≡ error_number error }
+    ensures number { result ≡ error_status error }
     ensures some { result ≢ 0 }
     ensures apart { result ≢ 2 }
     ensures range { cause error ≢ NoMemory → (9 < result) × (result < 30) }
 {
     match error {
         Error::Memory => MEMORY,
-        Error::Encoding(fault) => encoding_number(fault),
+        Error::Encoding(fault) => encoding_status(fault),
         Error::FormatEncoding => FORMAT,
         Error::AlgorithmUnknown => ALGORITHM_UNKNOWN,
         Error::Crypto => CRYPTO,
@@ -158,8 +158,8 @@ pub fn error_number(error: Error) -> u32
 }
 
 /// The number of a fault of the encoding.
-fn encoding_number(fault: encoding::Error) -> u32
-    ensures number { result ≡ error_number (Encoding fault) }
+fn encoding_status(fault: encoding::Error) -> u32
+    ensures number { result ≡ error_status (Encoding fault) }
     ensures fault { (met : Fault) → encoding_cause fault ≡ Faulty met
         → result ≡ fault_number met }
     ensures some { 9 < result }
@@ -177,21 +177,21 @@ fn encoding_number(fault: encoding::Error) -> u32
 
 /// The number of why a certificate is refused that is read, or is none: from 71 to 76 for a field
 /// that lets nobody in, and else that of the error.
-pub fn certificate_error_number(error: Error) -> u32
-    ensures number { result ≡ certificate_error_number error }
+pub fn certificate_error_status(error: Error) -> u32
+    ensures number { result ≡ certificate_error_status error }
     ensures fault { (fault : Fault) → cause error ≡ Faulty fault → result ≡ fault_number fault }
     ensures memory { cause error ≡ NoMemory → result ≡ 1 }
     ensures range { cause error ≢ NoMemory → 9 < result }
 {
     match error {
-        Error::CertificateFieldInvalid(field) => field_number(field),
-        error => error_number(error),
+        Error::CertificateFieldInvalid(field) => field_status(field),
+        error => error_status(error),
     }
 }
 
 /// The number of a field of a certificate that lets nobody in.
-fn field_number(field: Field) -> u32
-    ensures number { result ≡ field_number field }
+fn field_status(field: Field) -> u32
+    ensures number { result ≡ field_status field }
     ensures range { 9 < result }
 {
     match field {
@@ -212,8 +212,8 @@ fn field_number(field: Field) -> u32
 }
 
 /// The number of what is wrong with a certificate first, and 0 where nothing is.
-pub fn refusal_number(first: Option<CertificateRefusal>) -> u32
-    ensures { result ≡ refusal_number (option_map refusal_of first) }
+pub fn refusal_status(first: Option<CertificateRefusal>) -> u32
+    ensures { result ≡ refusal_status (option_map refusal_of first) }
 {
     match first {
         None => DONE,

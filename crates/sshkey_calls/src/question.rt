@@ -7,7 +7,7 @@ ghost use Rattle.sshkey_keys.specs.Questions.{question_of};
 ghost use Rattle.sshkey_calls.specs.Questions.{ArePlaced, TellsCertificateQuestion, GivesQuestion, TellsQuestion, question_bytes};
 ghost use Rattle.sshkey_calls.specs.Rooms.{IsLaidOut};
 
-use crate::number::{MEMORY, UNSUPPORTED, algorithm_number, error_number};
+use crate::number::{MEMORY, UNSUPPORTED, algorithm_number, error_status};
 use crate::part::{self, Part, add, add_encoded};
 use sshkey_base::Result;
 use sshkey_cert::CertificateQuestion;
@@ -51,7 +51,7 @@ pub fn certificate_question(
 {
     match CertificateRef::from_bytes(certificate) {
         Ok(read) => ask(alloc, &read, room, answer),
-        Err(error) => error_number(error),
+        Err(error) => error_status(error),
     }
 }
 
@@ -66,13 +66,13 @@ fn ask(
         result answer.old answer.new room.old room.new }
 {
     match certificate.question(alloc) {
-        Ok(asked) => tell(alloc, &asked, room, answer),
+        Ok(asked) => write_question(alloc, &asked, room, answer),
         Err(_) => MEMORY,
     }
 }
 
 /// Answers with the question of a certificate, if it raises one.
-fn tell(
+fn write_question(
     alloc: Global,
     asked: &CertificateQuestion<'_>,
     room: &mut [u8],
@@ -113,11 +113,11 @@ pub(crate) fn answer_with(
     ensures { GivesQuestion (λ q. q ≡ question_of question.now)
         result answer.old answer.new room.old room.new }
 {
-    part::answer_with(lay_out(alloc, question), room, answer)
+    part::answer_with(lay_out_question(alloc, question), room, answer)
 }
 
 /// The bytes of the question's parts, one after the other, and where they are.
-fn lay_out(alloc: Global, question: &Asked<'_>) -> Result<(Vec<u8>, Question)>
+fn lay_out_question(alloc: Global, question: &Asked<'_>) -> Result<(Vec<u8>, Question)>
     ensures { IfOk result (λ laid. IsLaidOut question_bytes ArePlaced (question_of question.now)
         laid.0.items laid.1) }
 {

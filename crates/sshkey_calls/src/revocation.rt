@@ -13,7 +13,7 @@ ghost use Rattle.sshkey_calls.specs.NormalForms.{IsRenamedKey};
 ghost use Rattle.sshkey_calls.specs.Numbers.{fault_number};
 ghost use Rattle.sshkey_calls.specs.Revocations.{IsWhetherCertificateRevoked, IsWhetherKeyRevoked, TellsRevoked};
 
-use crate::number::{DONE, NOT_REVOKED, error_number};
+use crate::number::{DONE, NOT_REVOKED, error_status};
 use sshkey_base::{Error, Result, encode_vec};
 use sshkey_cert_ref::CertificateRef;
 use sshkey_keys::KeyData;
@@ -38,7 +38,7 @@ pub fn krl_revokes_key(alloc: Global, krl: &[u8], key: &[u8]) -> u32
     match is_key_revoked(alloc, krl, key) {
         Ok(true) => DONE,
         Ok(false) => NOT_REVOKED,
-        Err(error) => error_number(error),
+        Err(error) => error_status(error),
     }
 }
 
@@ -82,7 +82,7 @@ pub fn krl_revokes_certificate(alloc: Global, krl: &[u8], certificate: &[u8]) ->
     match is_certificate_revoked(alloc, krl, certificate) {
         Ok(true) => DONE,
         Ok(false) => NOT_REVOKED,
-        Err(error) => error_number(error),
+        Err(error) => error_status(error),
     }
 }
 

@@ -8,7 +8,7 @@ ghost use Rattle.sshkey_model.specs.Verification.{question};
 ghost use Rattle.sshkey_calls.specs.Questions.{TellsQuestion};
 ghost use Rattle.sshkey_calls.specs.Signatures.{TellsSignatureQuestion, TellsQuestionUnder};
 
-use crate::number::{MEMORY, error_number};
+use crate::number::{MEMORY, error_status};
 use crate::question::{Question, answer_question};
 use sshkey_keys_ref::{KeyDataRef, SignatureRef};
 use std::alloc::Global;
@@ -35,7 +35,7 @@ pub fn signature_question(
 {
     match KeyDataRef::from_bytes(key) {
         Ok(signer) => ask_under(alloc, &signer, message, signature, room, answer),
-        Err(error) => error_number(error),
+        Err(error) => error_status(error),
     }
 }
 
@@ -53,7 +53,7 @@ fn ask_under(
 {
     match SignatureRef::from_bytes(signature) {
         Ok(made) => ask(alloc, signer, message, &made, room, answer),
-        Err(error) => error_number(error),
+        Err(error) => error_status(error),
     }
 }
 

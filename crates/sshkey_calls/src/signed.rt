@@ -4,7 +4,7 @@ ghost use Rattle.std.specs.Prelude.{◌≡◌, ◌++◌, IfOk};
 ghost use Rattle.sshkey_calls.specs.Drafts.{FindsOr, FitsString, IsJoined, WritesCertificate, WritesSigned, string_number};
 
 use crate::draft_fields::string_of;
-use crate::number::{MEMORY, error_number};
+use crate::number::{MEMORY, error_status};
 use crate::write::write_bytes;
 use sshkey_cert_ref::CertificateRef;
 use std::alloc::Global;
@@ -58,6 +58,6 @@ fn write_certificate(certificate: &[u8], room: &mut [u8], length: &mut usize) ->
 {
     match CertificateRef::from_bytes(certificate) {
         Ok(_) => write_bytes(certificate, room, length),
-        Err(error) => error_number(error),
+        Err(error) => error_status(error),
     }
 }

@@ -11,7 +11,7 @@ ghost use Rattle.sshkey_calls.specs.Questions.{GivesQuestion};
 ghost use Rattle.sshkey_calls.specs.SshSignatures.{TellsDigestQuestion, TellsMessageQuestion, TellsSigner, TellsSshsigQuestion, TellsSshsigQuestionOfDigest, FindsSshSignature};
 
 use crate::digest::Sha256Digest;
-use crate::number::{DONE, LENGTH, MEMORY, OTHER_NAMESPACE, UNSUPPORTED, error_number};
+use crate::number::{DONE, LENGTH, MEMORY, OTHER_NAMESPACE, UNSUPPORTED, error_status};
 use crate::question::{Question, answer_with};
 use sshkey_base::HashAlg;
 use sshkey_keys::{KeyData, Question as Asked};
@@ -79,7 +79,7 @@ fn find_signature(alloc: Global, signature: &[u8], namespace: &[u8]) -> Result<S
         } else {
             Err(OTHER_NAMESPACE)
         },
-        Err(error) => Err(error_number(error)),
+        Err(error) => Err(error_status(error)),
     }
 }
 

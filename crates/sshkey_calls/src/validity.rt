@@ -10,12 +10,12 @@ ghost use Rattle.sshkey_model.specs.Principals.{Allows};
 ghost use Rattle.sshkey_model.specs.Reading.{Fault, whole};
 ghost use Rattle.sshkey_model.specs.Refusals.{first_refusal, is_signed};
 ghost use Rattle.sshkey_model.specs.Verification.{Question};
-ghost use Rattle.sshkey_calls.specs.Numbers.{fault_number, refusal_number};
+ghost use Rattle.sshkey_calls.specs.Numbers.{fault_number, refusal_status};
 ghost use Rattle.sshkey_calls.specs.Validations.{FindsRefusalOr, HasRenamedAuthority, IsGoodCertificate, IsGoodCertificateFor, SaysWhether, TellsFirst, TellsFirstFor, TellsRefusal, Verified, authorities_of, first_refusal_of, is_yes_number};
 
-use crate::digest::{Sha256Digest, contains_digest};
-use crate::number::{MEMORY, TEXT, error_number, refusal_number};
-use crate::verification::Verification;
+use crate::digest::{Sha256Digest, contains_fingerprint};
+use crate::given_answer::GivenAnswer;
+use crate::number::{MEMORY, TEXT, error_status, refusal_status};
 use sshkey_base::{HashAlg, Result};
 use sshkey_cert::{CertificateRefusal, refusal_of_authority_or_time, refusal_with_principal};
 use sshkey_cert_ref::CertificateRef;
@@ -124,7 +124,7 @@ fn validate(
             authorities,
             is_verified,
         ),
-        Err(error) => error_number(error),
+        Err(error) => error_status(error),
     }
 }
 
@@ -137,7 +137,7 @@ fn judge(
     authorities: &[Sha256Digest],
     is_verified: u32,
 ) -> u32
-    ensures told { result ≢ 1 → result ≡ refusal_number (first_refusal_of
+    ensures told { result ≢ 1 → result ≡ refusal_status (first_refusal_of
         (λ _. is_yes_number is_verified) (authorities_of authorities.now) unix_timestamp
         (option_map (λ p. p.now) principal.entry) (certificate_of certificate.now)) }
     ensures memory { result ≡ 1 → (choices_of certificate.now).signature_key ≢ Plain }
@@ -147,9 +147,9 @@ fn judge(
         certificate,
         unix_timestamp,
         authorities,
-        Verification::of(is_verified),
+        GivenAnswer::of(is_verified),
     ) {
-        Ok(first) => refusal_number(refusal_with_principal(
+        Ok(first) => refusal_status(refusal_with_principal(
             first,
             is_allowed(certificate, principal),
         )),
@@ -175,7 +175,7 @@ fn first_refusal(
     certificate: &CertificateRef<'_>,
     unix_timestamp: u64,
     authorities: &[Sha256Digest],
-    verification: Verification,
+    verification: GivenAnswer,
 ) -> Result<Option<CertificateRefusal>>
     ensures { FindsRefusalOr ((choices_of certificate.now).signature_key ≢ Plain)
         (first_refusal (λ _. verification.is_yes) (authorities_of authorities.now)
@@ -186,7 +186,7 @@ fn first_refusal(
     }
     let key = certificate.signature_key_ref();
     let authority = key.fingerprint(alloc, HashAlg::Sha256)?;
-    let is_trusted = contains_digest(authorities, authority.as_bytes());
+    let is_trusted = contains_fingerprint(authorities, authority.as_bytes());
     let window = (certificate.valid_after(), certificate.valid_before());
     Ok(refusal_of_authority_or_time(is_trusted, window, unix_timestamp))
 }
@@ -195,7 +195,7 @@ fn first_refusal(
 ///
 /// Whether it raises one does not depend on the signed bytes, so they are not assembled. Where
 /// memory for the question is refused, it raises one.
-fn is_signed(alloc: Global, certificate: &CertificateRef<'_>, verification: Verification) -> bool
+fn is_signed(alloc: Global, certificate: &CertificateRef<'_>, verification: GivenAnswer) -> bool
     ensures { result
         ≡ is_signed (λ _. verification.is_yes) (certificate_of certificate.now) }
 {

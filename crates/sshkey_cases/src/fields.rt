@@ -3,7 +3,7 @@
 use crate::bytes::part;
 use sshkey_base::{HashAlg, Result};
 use sshkey_cert::{Certificate, CertificateQuestion};
-use sshkey_cert_ref::{CertificateRef, OptionsRef};
+use sshkey_cert_ref::{CertificateOptionsRef, CertificateRef};
 use sshkey_cert_values::OptionsMap;
 use std::alloc::Global;
 
@@ -147,7 +147,7 @@ fn has_lists(slice: &CertificateRef<'_>, owned: &Certificate) -> bool {
         && has_options(slice.extensions(), owned.extensions())
 }
 
-fn has_options(slice: OptionsRef<'_>, owned: &OptionsMap) -> bool {
+fn has_options(slice: CertificateOptionsRef<'_>, owned: &OptionsMap) -> bool {
     slice.is_empty() == owned.is_empty()
         && owned
             .iter()

@@ -2,7 +2,7 @@
 
 use crate::bytes::{NO_LINE, text};
 use sshkey_base::{Result, Text};
-use sshkey_known_hosts::{Entry, Hmac, HostPatterns, Marker, authorities, judge_key};
+use sshkey_known_hosts::{Entry, HmacSha1, HostPatterns, Marker, authorities, key_verdict};
 use sshkey_public::PublicKey;
 use std::alloc::Global;
 
@@ -14,20 +14,20 @@ fn port_of(parts: &[Vec<u8>], place: usize) -> Result<u16> {
 /// Whether hosts are for a host at a port: `yes` or `no`.
 pub(crate) fn are_for(alloc: Global, parts: &[Vec<u8>]) -> Result<String> {
     let hosts = HostPatterns::from_text(alloc, text(parts, 0)?)?;
-    let is_for = hosts.matches(alloc, text(parts, 1)?, port_of(parts, 2)?, &Hmac)?;
+    let is_for = hosts.matches(alloc, text(parts, 1)?, port_of(parts, 2)?, &HmacSha1)?;
     Ok(String::from_str(alloc, if is_for { "yes" } else { "no" })?)
 }
 
 /// The verdict of a text on the key in a line, of a host at a port.
 pub(crate) fn judged(alloc: Global, parts: &[Vec<u8>]) -> Result<String> {
     let key = PublicKey::from_openssh(alloc, text(parts, 3)?)?;
-    let found = judge_key(
+    let found = key_verdict(
         alloc,
         text(parts, 0)?,
         text(parts, 1)?,
         port_of(parts, 2)?,
         key.key_data(),
-        &Hmac,
+        &HmacSha1,
     )?;
     Ok(format!(in alloc; "{found:?}")?)
 }
@@ -39,7 +39,7 @@ pub(crate) fn authorities_of(alloc: Global, parts: &[Vec<u8>]) -> Result<String>
         text(parts, 0)?,
         text(parts, 1)?,
         port_of(parts, 2)?,
-        &Hmac,
+        &HmacSha1,
     )?;
     let mut shown = String::new(alloc);
     for key in &keys {

@@ -4,7 +4,7 @@
 use crate::bytes::{part, text};
 use crate::signatures;
 use sshkey_base::{HashAlg, Result, encode_vec};
-use sshkey_cert_ref::{CertificateRef, OptionsRef, TextsRef};
+use sshkey_cert_ref::{CertificateOptionsRef, CertificateRef, PrincipalsRef};
 use sshkey_keys_ref::{KeyDataRef, SignatureRef, take_body};
 use std::alloc::Global;
 
@@ -67,7 +67,7 @@ pub(crate) fn body(alloc: Global, parts: &[Vec<u8>]) -> Result<String> {
 
 /// The texts of the list at the front, each after a space, and how many bytes are left.
 pub(crate) fn texts(alloc: Global, bytes: &[u8]) -> Result<String> {
-    let (texts, left) = TextsRef::from_front(bytes)?;
+    let (texts, left) = PrincipalsRef::from_front(bytes)?;
     let mut answer = format!(in alloc; "{} left:", left.len())?;
     for text in texts.iter() {
         answer.push_str(" ")?;
@@ -79,7 +79,7 @@ pub(crate) fn texts(alloc: Global, bytes: &[u8]) -> Result<String> {
 /// Whether the options at the front are written as they stand, each after a space, and how many
 /// bytes are left.
 pub(crate) fn options(alloc: Global, bytes: &[u8]) -> Result<String> {
-    let (options, left) = OptionsRef::from_front(bytes)?;
+    let (options, left) = CertificateOptionsRef::from_front(bytes)?;
     let form = if options.is_plain() {
         "plain"
     } else {

@@ -1,7 +1,7 @@
 //! Values of the wire encoding.
 
 use sshkey_base::{
-    Decode, Encode, Error, Mpint, Result, ShortBytes, decode_boxed, decode_whole, encode_vec,
+    Decode, Encode, Error, Mpint, Result, ShortBytes, decode_prefixed, decode_whole, encode_vec,
 };
 use std::alloc::Global;
 use std::fmt::{Debug, Display};
@@ -110,7 +110,7 @@ pub(crate) fn list(alloc: Global, bytes: &[u8]) -> Result<String> {
 /// A number of four bytes in a box.
 pub(crate) fn boxed(alloc: Global, bytes: &[u8]) -> Result<String> {
     let mut left = bytes;
-    let number = decode_boxed::<u32, _>(alloc, &mut left)?;
+    let number = decode_prefixed::<u32, _>(alloc, &mut left)?;
     Ok(format!(in alloc; "{number}, {} left", left.len())?)
 }
 

@@ -9,7 +9,7 @@ use sshkey_base::{
     decode_whole, encoding,
 };
 use sshkey_base64::{Base64Reader, write_base64};
-use sshkey_cert_ref::{OptionsRef, TextsRef};
+use sshkey_cert_ref::{CertificateOptionsRef, PrincipalsRef};
 use sshkey_ciphers::{Cipher, KdfAlg};
 use sshkey_doubles::AcceptAll;
 use sshkey_keys::{Fingerprint, KeyData};
@@ -35,8 +35,8 @@ pub(crate) fn value(alloc: Global, kind: &str, parts: &[Vec<u8>]) -> Result<Stri
         "fingerprint-of" => has_fingerprint(alloc, bytes, text(parts, 1)?)?,
         "key-slice" => KeyDataRef::from_bytes(bytes)?.as_bytes() == bytes,
         "signature-slice" => SignatureRef::from_bytes(bytes)?.as_bytes() == bytes,
-        "texts-slice" => TextsRef::from_bytes(bytes)?.contains(text(parts, 1)?),
-        "options-slice" => OptionsRef::from_bytes(bytes)?
+        "texts-slice" => PrincipalsRef::from_bytes(bytes)?.contains(text(parts, 1)?),
+        "options-slice" => CertificateOptionsRef::from_bytes(bytes)?
             .get(text(parts, 1)?)
             .is_some(),
         "openssh-options" => are_options(alloc, text(parts, 0)?)?,

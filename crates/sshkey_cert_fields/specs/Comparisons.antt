@@ -9,14 +9,14 @@ use Rattle.sshkey_keys.specs.Comparisons.{HasForm, key_parts}
 use Rattle.sshkey_cert_values.specs.Comparisons.{option_cmp, type_key}
 use Rattle.sshkey_cert_values.specs.OptionMaps.{options_of}
 use Rattle.sshkey_cert_values.specs.Times.{time_of, end_of}
-use Rattle.sshkey_cert_fields.specs.declared.to_be_signed.ToBeSigned.{ToBeSigned}
+use Rattle.sshkey_cert_fields.specs.declared.certificate_fields.CertificateFields.{CertificateFields}
 
 -- both of its keys are well-formed
-abbrev pub HasKeys : ToBeSigned → Type 0
+abbrev pub HasKeys : CertificateFields → Type 0
 HasKeys u = HasForm u.public_key × HasForm u.signature_key
 
 -- how two compare, field by field
-abbrev pub field_orders : ToBeSigned → ToBeSigned → List Ordering
+abbrev pub field_orders : CertificateFields → CertificateFields → List Ordering
 field_orders x y = bytes_cmp x.nonce y.nonce
     ∷ parts_cmp (key_parts x.public_key) (key_parts y.public_key)
     ∷ nat_cmp x.serial y.serial
@@ -32,5 +32,5 @@ field_orders x y = bytes_cmp x.nonce y.nonce
     ∷ []
 
 -- They are ordered by the first field that differs.
-abbrev pub IsOrderOfFields : (ToBeSigned → ToBeSigned → Ordering) → Type 0
-IsOrderOfFields cmp = (x y : ToBeSigned) → cmp x y ≡ first_of (field_orders x y)
+abbrev pub IsOrderOfFields : (CertificateFields → CertificateFields → Ordering) → Type 0
+IsOrderOfFields cmp = (x y : CertificateFields) → cmp x y ≡ first_of (field_orders x y)

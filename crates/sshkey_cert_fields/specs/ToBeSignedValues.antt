@@ -2,12 +2,12 @@
 use Rattle.sshkey_model.specs.Certificates as model
 use Rattle.sshkey_base.specs.TextLists.{texts_of}
 use Rattle.sshkey_keys.specs.Keys.{key_of}
-use Rattle.sshkey_cert_fields.specs.declared.to_be_signed.ToBeSigned.{ToBeSigned}
+use Rattle.sshkey_cert_fields.specs.declared.certificate_fields.CertificateFields.{CertificateFields}
 use Rattle.sshkey_cert_values.specs.CertTypes.{type_of}
 use Rattle.sshkey_cert_values.specs.OptionMaps.{options_of}
 use Rattle.sshkey_cert_values.specs.Times.{time_of, end_of}
 
-abbrev pub to_be_signed_of : ToBeSigned → model.SignedFields
+abbrev pub to_be_signed_of : CertificateFields → model.SignedFields
 to_be_signed_of u = record {
   nonce = u.nonce;
   key = key_of u.public_key;

@@ -1,7 +1,7 @@
 //! All of a certificate that its signature is over (PROTOCOL.certkeys).
 #![tactic(auto)]
 
+mod certificate_fields;
 pub mod laws;
-mod to_be_signed;
 
-pub use to_be_signed::ToBeSigned;
+pub use certificate_fields::CertificateFields;

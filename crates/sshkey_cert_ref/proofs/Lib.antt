@@ -5,7 +5,7 @@ pub mod OptionItems
 pub mod OptionSteps
 pub mod OptionLists
 pub mod PlainOptions
-pub mod Boxed
+pub mod LengthPrefixed
 pub mod Subjects
 pub mod Fields
 pub mod Certificates

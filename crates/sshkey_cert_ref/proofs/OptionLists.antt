@@ -9,7 +9,7 @@ use Rattle.sshkey_base.specs.Causes.{Cause}
 use Rattle.sshkey_base.specs.Reading.{NoSpelling}
 use Rattle.sshkey_base.proofs.Lengths.{with_rest}
 use Rattle.sshkey_base.proofs.MappedBoxes.{made}
-use Rattle.sshkey_cert_ref.specs.declared.options_ref.OptionsRef.{OptionsRef}
+use Rattle.sshkey_cert_ref.specs.declared.certificate_options_ref.CertificateOptionsRef.{CertificateOptionsRef}
 use Rattle.sshkey_cert_ref.specs.OptionLists.{SpellsEachOption, options_in, nestings_in, are_plain, plainness_from}
 use Rattle.sshkey_cert_ref.specs.Views.{bytes_of_options, spelled_options_of}
 use Rattle.sshkey_terms.specs.Slices.{Keeps, is_taken, found_or}
@@ -82,11 +82,11 @@ options_string b = rw (box_bytes (whole (to_end (list_whole option_at))) b) (go 
     go (Err f) = refl
 
 -- the options of bytes that were kept, or the fault of others
-pub kept_options : {E : Type 0} (cause : E → Cause) (b : List ℕ) (r : Result OptionsRef E) → Keeps bytes_of_options cause (list_whole option_at b) b r → AnswersAlways spelled_options_of cause (spelled_from b) r
+pub kept_options : {E : Type 0} (cause : E → Cause) (b : List ℕ) (r : Result CertificateOptionsRef E) → Keeps bytes_of_options cause (list_whole option_at b) b r → AnswersAlways spelled_options_of cause (spelled_from b) r
 unfolding options_in nestings_in
 kept_options {E} cause b r h = go (list_whole option_at b) r refl h
   where
-    go : (found : Result (List Pair) Fault) (r : Result OptionsRef E) → list_whole option_at b ≡ found → Keeps bytes_of_options cause found b r → AnswersAlways spelled_options_of cause (found >>= made two_lists) r
+    go : (found : Result (List Pair) Fault) (r : Result CertificateOptionsRef E) → list_whole option_at b ≡ found → Keeps bytes_of_options cause found b r → AnswersAlways spelled_options_of cause (found >>= made two_lists) r
     go (Ok xs) (Ok o) e h = rw (h, e) refl
     go (Ok xs) (Err d) e h = absurd h
     go (Err f) (Ok o) e h = absurd h

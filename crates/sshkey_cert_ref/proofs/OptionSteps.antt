@@ -13,7 +13,7 @@ use Rattle.sshkey_base.specs.Causes.{cause}
 use Rattle.sshkey_base.specs.Reading.{Refuses}
 use Rattle.sshkey_base.specs.Source.{all_of}
 use Rattle.sshkey_base.proofs.ReadLists.{Collects, collects_more, leaves_less}
-use Rattle.sshkey_cert_ref.specs.declared.options_ref.item.SpelledOption.{SpelledOption}
+use Rattle.sshkey_cert_ref.specs.declared.certificate_options_ref.item.SpelledOption.{SpelledOption}
 use Rattle.sshkey_cert_ref.specs.OptionLists.{options_in, are_plain, plainness_from}
 use Rattle.sshkey_cert_ref.specs.SpelledOptions.{pair_of, nesting}
 use Rattle.sshkey_keys_ref.specs.Taking.{TakesValue}

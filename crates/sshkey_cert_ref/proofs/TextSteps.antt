@@ -17,7 +17,7 @@ use Rattle.sshkey_cert_ref.specs.TextLists.{SpellsEachText, texts_in}
 use Rattle.sshkey_keys_ref.specs.Taking.{TakesValue}
 use Rattle.sshkey_terms.specs.Slices.{Keeps, is_taken}
 use Rattle.sshkey_cert_ref.specs.Views.{bytes_of_texts, texts_of}
-use Rattle.sshkey_cert_ref.specs.declared.texts_ref.TextsRef.{TextsRef}
+use Rattle.sshkey_cert_ref.specs.declared.principals_ref.PrincipalsRef.{PrincipalsRef}
 use Rattle.sshkey_base.proofs.Lengths.{with_rest}
 use Rattle.sshkey_terms.proofs.SliceFronts.{taken_value}
 use Rattle.sshkey_cert_ref.proofs.ListSteps.{first_of, empty_list, all_refused, all_taken}
@@ -130,11 +130,11 @@ judged_taken cause b h = go (text_list_at b) h
     go (Err f) h = absurd h
 
 -- the texts of bytes that were kept, or the fault of others
-pub kept_texts : {E : Type 0} (cause : E → Cause) (b : List ℕ) (r : Result TextsRef E) → Keeps bytes_of_texts cause (text_list_at b) b r → AnswersAlways texts_of cause (text_list_at b) r
+pub kept_texts : {E : Type 0} (cause : E → Cause) (b : List ℕ) (r : Result PrincipalsRef E) → Keeps bytes_of_texts cause (text_list_at b) b r → AnswersAlways texts_of cause (text_list_at b) r
 unfolding texts_in
 kept_texts {E} cause b r h = go (text_list_at b) r refl h
   where
-    go : (found : Result (List (List ℕ)) Fault) (r : Result TextsRef E) → text_list_at b ≡ found → Keeps bytes_of_texts cause found b r → AnswersAlways texts_of cause found r
+    go : (found : Result (List (List ℕ)) Fault) (r : Result PrincipalsRef E) → text_list_at b ≡ found → Keeps bytes_of_texts cause found b r → AnswersAlways texts_of cause found r
     go (Ok xs) (Ok t) e h = rw (h, e) refl
     go (Ok xs) (Err d) e h = absurd h
     go (Err f) (Ok t) e h = absurd h

@@ -2,7 +2,7 @@
 use Rattle.std.specs.Prelude.{ℕ, List, Bool, true, false}
 use denote.Ref.{Bor}
 use Rattle.sshkey_model.specs.Options.{CertificateOption, Nesting, Plain, Nested}
-use Rattle.sshkey_cert_ref.specs.declared.options_ref.item.SpelledOption.{SpelledOption}
+use Rattle.sshkey_cert_ref.specs.declared.certificate_options_ref.item.SpelledOption.{SpelledOption}
 
 abbrev pub nesting : Bool → Nesting
 nesting true = Nested

@@ -3,14 +3,14 @@
 #![tactic(auto)]
 
 mod certificate_name;
+mod certificate_options_ref;
 mod certificate_ref;
 mod leaves;
-mod options_ref;
 mod parts;
+mod principals_ref;
 mod strings;
-mod texts_ref;
 mod walk;
 
+pub use certificate_options_ref::{CertificateOptions, CertificateOptionsRef};
 pub use certificate_ref::CertificateRef;
-pub use options_ref::{Options, OptionsRef};
-pub use texts_ref::{Texts, TextsRef};
+pub use principals_ref::{Principals, PrincipalsRef};

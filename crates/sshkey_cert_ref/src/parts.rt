@@ -1,7 +1,7 @@
 //! The parts of a certificate before its signature.
 
-use crate::options_ref::OptionsRef;
-use crate::texts_ref::TextsRef;
+use crate::certificate_options_ref::CertificateOptionsRef;
+use crate::principals_ref::PrincipalsRef;
 use sshkey_cert_values::{CertType, EndTime, UnixTime};
 use sshkey_keys_ref::KeyDataRef;
 
@@ -21,15 +21,15 @@ pub(crate) struct Parts<'a> {
     /// A text that names the key.
     pub key_id: &'a str,
     /// The users or hosts that it is good for; none are all.
-    pub valid_principals: TextsRef<'a>,
+    pub valid_principals: PrincipalsRef<'a>,
     /// The first second of the window.
     pub valid_after: UnixTime,
     /// The first second after the window, or that there is none.
     pub valid_before: EndTime,
     /// The options that a reader has to know.
-    pub critical_options: OptionsRef<'a>,
+    pub critical_options: CertificateOptionsRef<'a>,
     /// The options that a reader may ignore.
-    pub extensions: OptionsRef<'a>,
+    pub extensions: CertificateOptionsRef<'a>,
     /// Bytes that have no meaning yet.
     pub reserved: &'a [u8],
     /// The key that signs.

@@ -6,10 +6,10 @@ ghost use Rattle.sshkey_cert_ref.specs.Parts.{AreCertificateParts};
 ghost use Rattle.sshkey_cert_ref.specs.Taking.{Cuts};
 
 use crate::certificate_name::CertificateName;
+use crate::certificate_options_ref::CertificateOptionsRef;
 use crate::leaves::{Field, KeyInString};
-use crate::options_ref::OptionsRef;
 use crate::parts::Parts;
-use crate::texts_ref::TextsRef;
+use crate::principals_ref::PrincipalsRef;
 use sshkey_base::Result;
 use sshkey_cert_values::{CertType, EndTime, UnixTime};
 use sshkey_keys_ref::take_body;
@@ -19,13 +19,16 @@ use sshkey_terms::{ReadFrom, Then, Wide};
 type Opening<'a> = Then<CertificateName<'a>, Wide<&'a [u8]>>;
 
 /// The serial number, the type, the key id, and the principals.
-type Grant<'a> = Then<Then<Wide<u64>, Field<CertType>>, Then<Wide<&'a str>, Wide<TextsRef<'a>>>>;
+type Grant<'a> = Then<
+    Then<Wide<u64>, Field<CertType>>,
+    Then<Wide<&'a str>, Wide<PrincipalsRef<'a>>>,
+>;
 
 /// The two times.
 type Window = Then<Field<UnixTime>, Field<EndTime>>;
 
 /// The critical options and the extensions.
-type Limits<'a> = Then<OptionsRef<'a>, OptionsRef<'a>>;
+type Limits<'a> = Then<CertificateOptionsRef<'a>, CertificateOptionsRef<'a>>;
 
 /// The reserved bytes, and the key that signed.
 type Authority<'a> = Then<Wide<&'a [u8]>, KeyInString<'a>>;

@@ -106,7 +106,7 @@ impl OptionsMap {
     ///
     /// A policy that does not know each critical option of a certificate has to reject it
     /// (PROTOCOL.certkeys).
-    pub fn names_are_among(&self, names: &[&str]) -> bool
+    pub fn names_are_subset_of(&self, names: &[&str]) -> bool
         ensures { IsTrue result ↔ All (IsNamedAmong names.now) (options_of self.now) }
     {
         for (name, _) in &self.0 {
@@ -224,5 +224,5 @@ impl Encode for OptionsMap {
 impl NormalForm for OptionsMap {
     ghost IsWellFormed = { λ m. AreOptions (options_of m) };
 
-    fn normal_spells() {}
+    fn lawful_normal_form() {}
 }

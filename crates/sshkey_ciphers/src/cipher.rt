@@ -174,7 +174,7 @@ impl Label for Cipher {
         Ok(Cipher::from_str(name)?)
     }
 
-    fn lawful_names() {}
+    fn lawful_label() {}
 }
 
 /// The name.

@@ -21,7 +21,7 @@ use sshkey_base::{
     Bytes, Decode, Encode, Error, NormalForm, Reader, Result, Writer, both_len, encode_both,
     encoding,
 };
-use sshkey_terms::{Boxed, Then, Wide};
+use sshkey_terms::{LengthPrefixed, Then, Wide};
 use std::alloc::Global;
 
 /// How the key of a cipher is derived from a password, with what that takes (OpenSSH,
@@ -191,7 +191,9 @@ fn bcrypt_from<R: Reader>(alloc: Global, reader: &mut R) -> Result<Kdf>
     ensures asks { Asks cause bcrypt_format.needs (R.source reader.old) result }
     ensures past { Stops cause bcrypt_format (R.source reader.old) result }
 {
-    let Wide(Boxed(Then(salt, rounds))) = Wide::<Boxed<Then<Bytes, u32>>>::decode(alloc, reader)?;
+    let Wide(LengthPrefixed(Then(salt, rounds))) = Wide::<LengthPrefixed<Then<Bytes, u32>>>::decode(
+        alloc, reader,
+    )?;
     Ok(Kdf::Bcrypt { salt, rounds })
 }
 
@@ -232,7 +234,7 @@ impl Encode for Kdf {
 impl NormalForm for Kdf {
     ghost IsWellFormed = { λ k. Any (kdf_of k) };
 
-    fn normal_spells() {}
+    fn lawful_normal_form() {}
 }
 
 /// What bcrypt takes, to be written.

@@ -105,7 +105,7 @@ impl Label for KdfAlg {
         Ok(KdfAlg::from_str(name)?)
     }
 
-    fn lawful_names() {}
+    fn lawful_label() {}
 }
 
 /// The name.

@@ -34,7 +34,7 @@ pub fn skip_blanks(text: &str) -> &str
 }
 
 /// The text up to its first space or tab, and what follows from there. Does not allocate.
-pub fn split_field(text: &str) -> (&str, &str)
+pub fn split_blank(text: &str) -> (&str, &str)
     ensures { CutsField text.now result.0.now result.1.now }
 {
     match first_blank(text.as_bytes()) {

@@ -6,7 +6,7 @@ ghost use Rattle.sshkey_keys.specs.Keys.{key_of};
 ghost use Rattle.sshkey_model.specs.Lines.{key_name};
 ghost use Rattle.sshkey_entries.specs.KeyFields.{AsksKeyFields, HasKeyFault, ReadsKeyFields};
 
-use crate::blanks::{skip_blanks, split_field};
+use crate::blanks::{skip_blanks, split_blank};
 use sshkey_base::{Error, Result, encoding};
 use sshkey_keys::KeyData;
 use sshkey_public::{PublicKey, copy_of_text, read_word};
@@ -33,8 +33,8 @@ pub fn read_key_fields(alloc: Global, text: &str) -> Result<PublicKey>
     ensures fault { RefusesFor HasKeyFault text.now result }
     ensures asks { AsksKeyFields text.now result }
 {
-    let (name, after_name) = split_field(text);
-    let (word, after_key) = split_field(skip_blanks(after_name));
+    let (name, after_name) = split_blank(text);
+    let (word, after_key) = split_blank(skip_blanks(after_name));
     if word.is_empty() {
         return Err(Error::Encoding(encoding::Error::Length));
     }

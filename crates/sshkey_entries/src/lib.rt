@@ -6,20 +6,20 @@ mod add_options;
 mod blanks;
 mod entry_lines;
 pub mod examples;
-mod filled_lines;
 mod from_line;
 mod key_fields;
 pub mod laws;
+mod non_blank_lines;
 mod other_key;
 mod reading;
 mod words;
 
 pub use add_options::AddOptions;
-pub use blanks::{skip_blanks, split_field};
+pub use blanks::{skip_blanks, split_blank};
 pub use entry_lines::{EntryLines, EntryTexts};
-pub use filled_lines::FilledLines;
 pub use from_line::{FromLine, entries_of_file, entries_of_text};
 pub use key_fields::read_key_fields;
+pub use non_blank_lines::NonBlankLines;
 pub use other_key::are_other_key_fields;
 pub use reading::Reading;
 pub use sshkey_patterns::{

@@ -7,7 +7,7 @@ ghost use Rattle.sshkey_model.specs.Parts.{are_bytes, flat};
 ghost use Rattle.sshkey_model.specs.Texts.{string};
 ghost use Rattle.sshkey_entries.specs.OtherKeys.{AreOtherKeyFields, HasNameCharacters, IsOtherName, IsShortName, SpellsName, is_name_character};
 
-use crate::blanks::{skip_blanks, split_field};
+use crate::blanks::{skip_blanks, split_blank};
 use sshkey_base::{Algorithm, Reader};
 use sshkey_base64::Base64Reader;
 
@@ -119,7 +119,7 @@ fn spells_name(word: &str, name: &str) -> bool
 pub fn are_other_key_fields(text: &str) -> bool
     ensures { IsTrue result ↔ AreOtherKeyFields text.now }
 {
-    let (name, after_name) = split_field(text);
-    let (word, _) = split_field(skip_blanks(after_name));
+    let (name, after_name) = split_blank(text);
+    let (word, _) = split_blank(skip_blanks(after_name));
     is_other_name(name) && spells_name(word, name)
 }

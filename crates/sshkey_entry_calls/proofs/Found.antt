@@ -2,7 +2,7 @@
 use Rattle.std.proofs.Common.{◌≡◌, ◌≢◌, ℕ, List, refl, subst}
 use Rattle.sshkey_base.specs.Causes.{NoMemory, cause}
 use Rattle.sshkey_base.specs.declared.error.Error.{Error}
-use Rattle.sshkey_calls.specs.Numbers.{error_number}
+use Rattle.sshkey_calls.specs.Numbers.{error_status}
 use Rattle.sshkey_calls.specs.Rooms.{IsAtFront, LacksRoom}
 use Rattle.sshkey_calls.proofs.Rooms.{none_given}
 use Rattle.sshkey_public.specs.PublicKeys.{comment_of, public_of}
@@ -31,5 +31,5 @@ no_fault HasFault line text_of a n was answer before after found not_zero not_on
 pub none_found : {A : Type 0} (IsEntry : A → Type 0) (text_of : A → EntryText) (e : Error) (n : ℕ) (was answer : EntryParts) (before after : List ℕ) → (answer ≡ was) × (after ≡ before) → n ≢ 0 → n ≢ 2 → (cause e ≡ NoMemory → n ≡ 1) → (cause e ≢ NoMemory → (a : A) → IsEntry a → ⊥) → FindsEntry IsEntry text_of n was answer before after
 none_found IsEntry text_of e n was answer before after same some apart memory none = none_given n was answer before after same some apart (λ not_one. none (λ is. not_one (memory is)))
 
-pub told : (HasFault : List ℕ → Error → Type 0) (line : List ℕ) (e : Error) (n : ℕ) → (cause e ≡ NoMemory → n ≡ 1) → n ≡ error_number e → (cause e ≢ NoMemory → HasFault line e) → TellsFault HasFault line n
+pub told : (HasFault : List ℕ → Error → Type 0) (line : List ℕ) (e : Error) (n : ℕ) → (cause e ≡ NoMemory → n ≡ 1) → n ≡ error_status e → (cause e ≢ NoMemory → HasFault line e) → TellsFault HasFault line n
 told HasFault line e n memory number fault _ not_one _ = (e, fault (λ is. not_one (memory is)), number)

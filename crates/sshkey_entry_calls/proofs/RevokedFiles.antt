@@ -18,7 +18,7 @@ use Rattle.sshkey_model.specs.Parts.{flat}
 use Rattle.sshkey_model.specs.Reading.{Fault, whole}
 use Rattle.sshkey_revoked_keys.specs.RevokedKeys.{AsksText, ReadsKrl, ReadsRevokedKeys, begins_krl}
 use Rattle.sshkey_revoked_keys.specs.declared.revoked_keys.RevokedKeys.{RevokedKeys}
-use Rattle.sshkey_entry_calls.specs.RevocationFiles.{IsReadOf, NeedsFile, are_read, revoked_number}
+use Rattle.sshkey_entry_calls.specs.RevocationFiles.{IsReadOf, NeedsFile, are_read, revoked_status}
 
 -- a list is refused for its fault alone
 no_list : (found : Result Krl Fault) (file : List ℕ) (e : Error) → ReadsKrl found file (Err e) → cause e ≢ NoMemory
@@ -53,7 +53,7 @@ module _ {R : Type 0} (Q : Bor (List ℕ) → R → Type 0) where
   read_next files i d l reads now read all q e = rw (take_more files i d l, e) (read_more (take i files) reads (get_or files i d) read all q)
 
 -- the number of what they revoke is none of those that say something else
-pub high_number : (reads : List (Result RevokedKeys Error)) → 1 < revoked_number reads
+pub high_number : (reads : List (Result RevokedKeys Error)) → 1 < revoked_status reads
 high_number reads = go (are_read reads)
   where
     go : (b : Bool) → 1 < (if b then 56 else 58)

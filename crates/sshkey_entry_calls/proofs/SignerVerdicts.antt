@@ -2,8 +2,8 @@
 use denote.Ref.{Bor}
 use Rattle.std.proofs.Common.{◌≡◌, ◌≢◌, ◌<◌, arith, ◌∙◌, ℕ, List, [], Bool, subst, Option, Some, None, Result, Ok, Err, IfErr, refl, sym}
 use Rattle.allowed_signers.specs.AllowedSigners.{Counts, HasSignature, HasSigned, IsWhy, OkExactly}
-use Rattle.allowed_signers.specs.declared.signers.Refusal.{Refusal}
-use Rattle.allowed_signers.specs.declared.signers.Refusal.TheVariants.{Memory, NoIdentity, NoSignature, NotAllowed, NotVerified, Revoked}
+use Rattle.allowed_signers.specs.declared.signers.SignerRefusal.{SignerRefusal}
+use Rattle.allowed_signers.specs.declared.signers.SignerRefusal.TheVariants.{Memory, NoIdentity, NoSignature, NotAllowed, NotVerified, Revoked}
 use Rattle.sshkey_base.specs.declared.error.Error.{Error}
 use Rattle.sshkey_calls.specs.Validations.{is_yes_number}
 use Rattle.sshkey_calls.proofs.Validations.{same_asking}
@@ -13,19 +13,19 @@ use Rattle.sshkey_model.specs.Verification.{Question, question}
 use Rattle.sshkey_model.specs.Verification as model
 use Rattle.sshkey_revoked_keys.specs.declared.revoked_keys.RevokedKeys.{RevokedKeys}
 use Rattle.sshkey_sshsig.specs.SshSignatureReaders.{SpellsSshSignature}
-use Rattle.sshkey_entry_calls.specs.RevocationFiles.{AreReadOf, one_revokes_key, revoked_number}
-use Rattle.sshkey_entry_calls.specs.Signers.{IsJudged, SaysOf, TellsSigner, verdict_number}
+use Rattle.sshkey_entry_calls.specs.RevocationFiles.{AreReadOf, one_revokes_key, revoked_status}
+use Rattle.sshkey_entry_calls.specs.Signers.{IsJudged, SaysOf, TellsSigner, verdict_status}
 
 -- ---- from a verdict to its number
 
 module _ (accepts : Question → Bool) (revokes : List ℕ → Bool) (of_revoked : ℕ) (signers identity namespace message : List ℕ) (time : ℕ) (bytes : List ℕ) where
-  refused : (r : Refusal) → verdict_number of_revoked (Err r) ≢ 0 → (verdict_number of_revoked (Err r) ≢ 1 → HasSignature bytes (Counts accepts revokes signers identity namespace message time) → ⊥) → IsWhy accepts revokes signers identity namespace message time bytes r → IsJudged accepts revokes of_revoked signers identity namespace message time bytes (verdict_number of_revoked (Err r))
+  refused : (r : SignerRefusal) → verdict_status of_revoked (Err r) ≢ 0 → (verdict_status of_revoked (Err r) ≢ 1 → HasSignature bytes (Counts accepts revokes signers identity namespace message time) → ⊥) → IsWhy accepts revokes signers identity namespace message time bytes r → IsJudged accepts revokes of_revoked signers identity namespace message time bytes (verdict_status of_revoked (Err r))
   refused r some none why = record {
     counts = record { yes_ = λ zero_. absurd (some zero_); no_ = λ _. none };
     first = λ _ _. (r, why, refl);
   }
 
-  pub judged : 1 < of_revoked → (verdict : Result (Unit {0}) Refusal) → OkExactly (HasSignature bytes (Counts accepts revokes signers identity namespace message time)) verdict → IfErr verdict (IsWhy accepts revokes signers identity namespace message time bytes) → IsJudged accepts revokes of_revoked signers identity namespace message time bytes (verdict_number of_revoked verdict)
+  pub judged : 1 < of_revoked → (verdict : Result (Unit {0}) SignerRefusal) → OkExactly (HasSignature bytes (Counts accepts revokes signers identity namespace message time)) verdict → IfErr verdict (IsWhy accepts revokes signers identity namespace message time bytes) → IsJudged accepts revokes of_revoked signers identity namespace message time bytes (verdict_status of_revoked verdict)
   judged high (Ok x) holds why = record {
     counts = record { yes_ = λ _. holds; no_ = λ some. absurd (some refl) };
     first = λ some. absurd (some refl);
@@ -55,7 +55,7 @@ module _ (accepts : Question → Bool) (bytes message : List ℕ) (is_verified :
     back has = record { verified = record { same_key = refl; same_namespace = has.verified.same_namespace; accepted = same f spelled ∙ has.verified.accepted }; nothing_reserved = has.nothing_reserved }
 
   module _ (revokes : List ℕ → Bool) (of_revoked : ℕ) (signers identity namespace : List ℕ) (time : ℕ) where
-    why_there : (r : Refusal) → IsWhy (λ _. is_yes_number is_verified) revokes signers identity namespace [] time bytes r → IsWhy accepts revokes signers identity namespace message time bytes r
+    why_there : (r : SignerRefusal) → IsWhy (λ _. is_yes_number is_verified) revokes signers identity namespace [] time bytes r → IsWhy accepts revokes signers identity namespace message time bytes r
     why_there NoSignature why = why
     why_there NoIdentity why = why
     why_there NotAllowed why = why
@@ -76,7 +76,7 @@ module _ (accepts : Question → Bool) (bytes message : List ℕ) (is_verified :
           (w.0, why_there w.0 w.1, w.2);
     }
 
-pub told : (signers identity namespace : List ℕ) (time : ℕ) (revoked : List (Bor (List ℕ))) (is_verified : ℕ) (bytes : List ℕ) (n : ℕ) (b : Bool) → b ≡ is_yes_number is_verified → (n ≢ 1 → (reads : List (Result RevokedKeys Error)) × AreReadOf revoked reads × IsJudged (λ _. b) (one_revokes_key reads) (revoked_number reads) signers identity namespace [] time bytes n) → TellsSigner signers identity namespace time revoked is_verified bytes n
+pub told : (signers identity namespace : List ℕ) (time : ℕ) (revoked : List (Bor (List ℕ))) (is_verified : ℕ) (bytes : List ℕ) (n : ℕ) (b : Bool) → b ≡ is_yes_number is_verified → (n ≢ 1 → (reads : List (Result RevokedKeys Error)) × AreReadOf revoked reads × IsJudged (λ _. b) (one_revokes_key reads) (revoked_status reads) signers identity namespace [] time bytes n) → TellsSigner signers identity namespace time revoked is_verified bytes n
 told signers identity namespace time revoked is_verified bytes n b same judged spelled not_memory =
     let j = judged not_memory in
-    (j.0, j.1, λ accepts message says. judged_there accepts bytes message is_verified says (one_revokes_key j.0) (revoked_number j.0) signers identity namespace time n (subst (λ (y : Bool). IsJudged (λ _. y) (one_revokes_key j.0) (revoked_number j.0) signers identity namespace [] time bytes n) same j.2))
+    (j.0, j.1, λ accepts message says. judged_there accepts bytes message is_verified says (one_revokes_key j.0) (revoked_status j.0) signers identity namespace time n (subst (λ (y : Bool). IsJudged (λ _. y) (one_revokes_key j.0) (revoked_status j.0) signers identity namespace [] time bytes n) same j.2))

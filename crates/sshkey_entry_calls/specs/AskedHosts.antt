@@ -3,8 +3,8 @@ use Rattle.std.specs.Prelude.{ℕ}
 use Rattle.sshkey_addresses.specs.declared.host.HostFault.{HostFault}
 use Rattle.sshkey_addresses.specs.declared.host.HostFault.TheVariants.{Address, Empty, Memory, Port}
 
-abbrev pub host_fault_number : HostFault → ℕ
-host_fault_number Port = 100
-host_fault_number Empty = 101
-host_fault_number Address = 102
-host_fault_number Memory = 1
+abbrev pub host_fault_status : HostFault → ℕ
+host_fault_status Port = 100
+host_fault_status Empty = 101
+host_fault_status Address = 102
+host_fault_status Memory = 1

@@ -5,7 +5,7 @@ use Rattle.std.specs.Prelude.{◌≡◌, ◌≢◌, ◌⊎◌, ℕ, List, ◌++�
 use Rattle.std.specs.Str.{IsUtf8}
 use Rattle.sshkey_base.specs.declared.error.Error.{Error}
 use Rattle.sshkey_calls.specs.Fingerprints.{GivesDigestOf}
-use Rattle.sshkey_calls.specs.Numbers.{error_number}
+use Rattle.sshkey_calls.specs.Numbers.{error_status}
 use Rattle.sshkey_entries.specs.Cuts.{CutsField}
 use Rattle.sshkey_entries.specs.Fields.{AreKeyFields, AreNoKeyFields, without_blanks}
 use Rattle.sshkey_entries.specs.Items.{is_comma}
@@ -34,7 +34,7 @@ pub record TellsFields (fields : List ℕ) (n : ℕ) (was answer : List ℕ) : T
   pub key : n ≡ 0 → (k : Key) × (comment : List ℕ) × AreKeyFields fields k comment × GivesDigestOf Sha256 k answer
   pub no_key : n ≢ 0 → n ≢ 1 → AreNoKeyFields fields
   pub later : n ≡ 61 → AreOtherKeyFields fields
-  pub fault : n ≢ 0 → n ≢ 1 → n ≢ 61 → ¬ AreOtherKeyFields fields × ((e : Error) × HasKeyFault fields e × (n ≡ error_number e))
+  pub fault : n ≢ 0 → n ≢ 1 → n ≢ 61 → ¬ AreOtherKeyFields fields × ((e : Error) × HasKeyFault fields e × (n ≡ error_status e))
   pub memory : n ≡ 1 → NeedsKey fields
   pub stays : n ≢ 0 → answer ≡ was
 

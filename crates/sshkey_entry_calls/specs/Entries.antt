@@ -7,7 +7,7 @@ use Rattle.sshkey_entries.specs.OpenSshLines.{IsAuthorizedLine}
 use Rattle.sshkey_entries.specs.KnownHosts.{CertAuthority, KnownHost, Marker, Revoked, hosts_text}
 use Rattle.sshkey_model.specs.Keys.{Key, normal_key}
 use Rattle.sshkey_model.specs.Parts.{flat}
-use Rattle.sshkey_calls.specs.Numbers.{error_number}
+use Rattle.sshkey_calls.specs.Numbers.{error_status}
 use Rattle.sshkey_calls.specs.Rooms.{GivesValue, IsPlaced}
 use Rattle.sshkey_entry_calls.specs.declared.entries.EntryParts.{EntryParts}
 
@@ -53,7 +53,7 @@ FindsEntry IsEntry text_of = GivesValue IsEntry (λ a. content_of (text_of a)) (
 
 -- The number is that of an error that names a fault of the line; 0, 1 and 2 name none.
 abbrev pub TellsFault : (List ℕ → Error → Type 0) → List ℕ → ℕ → Type 0
-TellsFault HasFault line n = n ≢ 0 → n ≢ 1 → n ≢ 2 → (e : Error) × HasFault line e × (n ≡ error_number e)
+TellsFault HasFault line n = n ≢ 0 → n ≢ 1 → n ≢ 2 → (e : Error) × HasFault line e × (n ≡ error_status e)
 
 -- Memory may be asked for: by the fields of the line, or for the entry that it is.
 abbrev pub NeedsAuthorizedEntry : List ℕ → Type 0

@@ -66,8 +66,8 @@ is_only_nothing (read ∷ []) = is_nothing read
 is_only_nothing (read ∷ other ∷ reads) = false
 
 -- the number of what they revoke: by a file that cannot be read, which revokes all, it is another one
-abbrev pub revoked_number : List (Result RevokedKeys Error) → ℕ
-revoked_number reads = if are_read reads then 56 else 58
+abbrev pub revoked_status : List (Result RevokedKeys Error) → ℕ
+revoked_status reads = if are_read reads then 56 else 58
 
 -- ---- memory
 

@@ -3,8 +3,8 @@
 use denote.Ref.{Bor}
 use Rattle.std.specs.Prelude.{◌≡◌, ◌≢◌, ℕ, List, Bool, Some, Result, Ok, Err}
 use Rattle.allowed_signers.specs.AllowedSigners.{Counts, HasSignature, IsWhy}
-use Rattle.allowed_signers.specs.declared.signers.Refusal.{Refusal}
-use Rattle.allowed_signers.specs.declared.signers.Refusal.TheVariants.{Memory, NoIdentity, NoSignature, NotAllowed, NotVerified, Revoked}
+use Rattle.allowed_signers.specs.declared.signers.SignerRefusal.{SignerRefusal}
+use Rattle.allowed_signers.specs.declared.signers.SignerRefusal.TheVariants.{Memory, NoIdentity, NoSignature, NotAllowed, NotVerified, Revoked}
 use Rattle.sshkey_base.specs.Acceptance.{SpellsSome}
 use Rattle.sshkey_base.specs.declared.error.Error.{Error}
 use Rattle.sshkey_calls.specs.Validations.{SaysWhether, is_yes_number}
@@ -13,17 +13,17 @@ use Rattle.sshkey_model.specs.SshSignatures.{SshSignature}
 use Rattle.sshkey_model.specs.Verification.{Question, question}
 use Rattle.sshkey_revoked_keys.specs.declared.revoked_keys.RevokedKeys.{RevokedKeys}
 use Rattle.sshkey_sshsig.specs.SshSignatureReaders.{SpellsSshSignature}
-use Rattle.sshkey_entry_calls.specs.RevocationFiles.{AreReadOf, one_revokes_key, revoked_number}
+use Rattle.sshkey_entry_calls.specs.RevocationFiles.{AreReadOf, one_revokes_key, revoked_status}
 
 -- the number of a verdict, where that one is told of a key that is revoked
-abbrev pub verdict_number : ℕ → Result (Unit {0}) Refusal → ℕ
-verdict_number of_revoked (Ok x) = 0
-verdict_number of_revoked (Err Memory) = 1
-verdict_number of_revoked (Err NoSignature) = 30
-verdict_number of_revoked (Err NotVerified) = 30
-verdict_number of_revoked (Err NoIdentity) = 103
-verdict_number of_revoked (Err NotAllowed) = 55
-verdict_number of_revoked (Err Revoked) = of_revoked
+abbrev pub verdict_status : ℕ → Result (Unit {0}) SignerRefusal → ℕ
+verdict_status of_revoked (Ok x) = 0
+verdict_status of_revoked (Err Memory) = 1
+verdict_status of_revoked (Err NoSignature) = 30
+verdict_status of_revoked (Err NotVerified) = 30
+verdict_status of_revoked (Err NoIdentity) = 103
+verdict_status of_revoked (Err NotAllowed) = 55
+verdict_status of_revoked (Err Revoked) = of_revoked
 
 -- ---- the verdict
 
@@ -35,9 +35,9 @@ SaysOf accepts bytes message is_verified = (f : SshSignature) → SpellsSshSigna
 -- 0 says exactly that the signature counts, and another number what is wrong first; 1 is memory.
 pub record IsJudged (accepts : Question → Bool) (revokes : List ℕ → Bool) (of_revoked : ℕ) (signers identity namespace message : List ℕ) (time : ℕ) (bytes : List ℕ) (n : ℕ) : Type 0 where
   pub counts : SaysWhether (HasSignature bytes (Counts accepts revokes signers identity namespace message time)) n
-  pub first : n ≢ 0 → n ≢ 1 → (r : Refusal) × IsWhy accepts revokes signers identity namespace message time bytes r × (n ≡ verdict_number of_revoked (Err r))
+  pub first : n ≢ 0 → n ≢ 1 → (r : SignerRefusal) × IsWhy accepts revokes signers identity namespace message time bytes r × (n ≡ verdict_status of_revoked (Err r))
 
 -- For bytes that spell a signature the number says this, memory aside, about each message about
 -- which the verification said so.
 abbrev pub TellsSigner : List ℕ → List ℕ → List ℕ → ℕ → List (Bor (List ℕ)) → ℕ → List ℕ → ℕ → Type 0
-TellsSigner signers identity namespace time revoked is_verified bytes n = SpellsSome SpellsSshSignature bytes → n ≢ 1 → (reads : List (Result RevokedKeys Error)) × AreReadOf revoked reads × ((accepts : Question → Bool) (message : List ℕ) → SaysOf accepts bytes message is_verified → IsJudged accepts (one_revokes_key reads) (revoked_number reads) signers identity namespace message time bytes n)
+TellsSigner signers identity namespace time revoked is_verified bytes n = SpellsSome SpellsSshSignature bytes → n ≢ 1 → (reads : List (Result RevokedKeys Error)) × AreReadOf revoked reads × ((accepts : Question → Bool) (message : List ℕ) → SaysOf accepts bytes message is_verified → IsJudged accepts (one_revokes_key reads) (revoked_status reads) signers identity namespace message time bytes n)

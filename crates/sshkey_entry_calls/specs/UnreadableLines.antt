@@ -6,7 +6,7 @@ use Rattle.sshkey_addresses.specs.declared.host.HostFault.{HostFault}
 use Rattle.sshkey_entries.specs.HostNames.{known_name}
 use Rattle.sshkey_known_hosts.specs.Hmac.{hmac_sha1}
 use Rattle.sshkey_known_hosts.specs.UnreadableLines.{HidesEntryIn, IsNumberOfFirst}
-use Rattle.sshkey_entry_calls.specs.AskedHosts.{host_fault_number}
+use Rattle.sshkey_entry_calls.specs.AskedHosts.{host_fault_status}
 
 -- the number of the first line of the text that is no entry and could be one for the host at the port
 abbrev pub IsUnreadableLine : List ℕ → List ℕ → ℕ → Option ℕ → Type 0
@@ -21,4 +21,4 @@ pub record TellsLine (text name : List ℕ) (port n number : ℕ) : Type 0 where
 -- It is told of the host by the name that is asked; or nothing can be asked about it, for the fault
 -- of that number.
 abbrev pub TellsUnreadableLine : List ℕ → List ℕ → ℕ → ℕ → ℕ → Type 0
-TellsUnreadableLine text host port n number = ((name : List ℕ) × IsAsked host port name × TellsLine text name port n number) ⊎ ((f : HostFault) × IsHostFault host port f × (n ≡ host_fault_number f))
+TellsUnreadableLine text host port n number = ((name : List ℕ) × IsAsked host port name × TellsLine text name port n number) ⊎ ((f : HostFault) × IsHostFault host port f × (n ≡ host_fault_status f))

@@ -2,7 +2,7 @@
 
 ghost use Rattle.std.specs.Prelude.{◌≡◌, MatchOption};
 ghost use Rattle.std.specs.declared.net.ip_addr.IpAddr.{IpAddr};
-ghost use Rattle.sshkey_entry_calls.specs.Addresses.{IsAddressOf, IsNameIn, TellsFrom, TellsFromAt, TellsSource, from_number, source_number};
+ghost use Rattle.sshkey_entry_calls.specs.Addresses.{IsAddressOf, IsNameIn, TellsFrom, TellsFromAt, TellsSource, from_status, source_status};
 
 use sshkey_addresses::{FromFault, Malformed, from_allows_at};
 use sshkey_calls::number::{DONE, ELSEWHERE, FORMAT, LENGTH, MEMORY, TEXT};
@@ -25,7 +25,7 @@ pub fn source_address_allows(list: &[u8], address: &[u8]) -> u32
     let Ok(list) = str::from_utf8(list) else {
         return TEXT;
     };
-    source_number(sshkey_addresses::source_address_allows(list, address))
+    source_status(sshkey_addresses::source_address_allows(list, address))
 }
 
 /// Whether a line of authorized_keys with that value of its option `from` lets a client in from the
@@ -53,7 +53,7 @@ pub fn from_allows(alloc: Global, list: &[u8], host: &[u8], address: &[u8]) -> u
 fn from_texts(alloc: Global, list: &str, host: &str, address: IpAddr) -> u32
     ensures { TellsFromAt list.now host.now address result }
 {
-    from_number(from_allows_at(alloc, list, name_of(host), address))
+    from_status(from_allows_at(alloc, list, name_of(host), address))
 }
 
 /// Returns the address of 4 or of 16 bytes, the most significant first, if there are that many. Does
@@ -78,8 +78,8 @@ fn name_of(host: &str) -> Option<&str>
     if host.is_empty() { None } else { Some(host) }
 }
 
-fn source_number(answer: Result<bool, Malformed>) -> u32
-    ensures { result ≡ source_number answer }
+fn source_status(answer: Result<bool, Malformed>) -> u32
+    ensures { result ≡ source_status answer }
 {
     match answer {
         Ok(true) => DONE,
@@ -88,8 +88,8 @@ fn source_number(answer: Result<bool, Malformed>) -> u32
     }
 }
 
-fn from_number(answer: Result<bool, FromFault>) -> u32
-    ensures { result ≡ from_number answer }
+fn from_status(answer: Result<bool, FromFault>) -> u32
+    ensures { result ≡ from_status answer }
 {
     match answer {
         Ok(true) => DONE,

@@ -1,7 +1,7 @@
 //! The number of what is wrong with a host that is asked about.
 
 ghost use Rattle.std.specs.Prelude.{◌≡◌, ◌≢◌};
-ghost use Rattle.sshkey_entry_calls.specs.AskedHosts.{host_fault_number};
+ghost use Rattle.sshkey_entry_calls.specs.AskedHosts.{host_fault_status};
 
 use sshkey_addresses::HostFault;
 use sshkey_calls::number::MEMORY;
@@ -15,8 +15,8 @@ const NO_ADDRESS: u32 = 102;
 
 /// The number of what is wrong with a host: 100 for port 0, 101 for a host of no bytes, 102 for one
 /// that is like an address and has no text as one, and 1 if memory ran out. Does not allocate.
-pub fn host_fault_number(fault: HostFault) -> u32
-    ensures number { result ≡ host_fault_number fault }
+pub fn host_fault_status(fault: HostFault) -> u32
+    ensures number { result ≡ host_fault_status fault }
     ensures some { result ≢ 0 }
 {
     match fault {

@@ -4,17 +4,17 @@ ghost use Rattle.std.specs.List.{list_any, slice_split};
 ghost use Rattle.std.specs.Prelude.{◌≡◌, ◌≢◌, ◌<◌, bytes_eq};
 ghost use Rattle.sshkey_base.specs.Causes.{NoMemory, cause};
 ghost use Rattle.sshkey_calls.specs.Fingerprints.{GivesDigestOf};
-ghost use Rattle.sshkey_calls.specs.Numbers.{error_number};
+ghost use Rattle.sshkey_calls.specs.Numbers.{error_status};
 ghost use Rattle.sshkey_entries.specs.Items.{is_comma};
 ghost use Rattle.sshkey_entries.specs.OtherKeys.{AreOtherKeyFields};
 ghost use Rattle.sshkey_keys.specs.Keys.{key_of};
 ghost use Rattle.sshkey_model.specs.Names.{Sha256};
 ghost use Rattle.sshkey_entry_calls.specs.Authorities.{BeginsWithFields, TellsAuthority, TellsFields, TellsUserAuthority, has_user};
 
-use crate::lines::{skip_blanks, split_field};
+use crate::lines::{skip_blanks, split_blank};
 use sshkey_base::{Error, HashAlg};
 use sshkey_calls::Sha256Digest;
-use sshkey_calls::number::{DONE, END, MEMORY, TEXT, error_number};
+use sshkey_calls::number::{DONE, END, MEMORY, TEXT, error_status};
 use sshkey_entries::{are_other_key_fields, read_key_fields};
 use sshkey_keys::KeyData;
 use std::alloc::Global;
@@ -48,7 +48,7 @@ pub fn authority(alloc: Global, line: &[u8], answer: &mut Sha256Digest) -> u32
 pub fn user_authority(alloc: Global, line: &[u8], user: &[u8], answer: &mut Sha256Digest) -> u32
     ensures { TellsUserAuthority line.now user.now result answer.old.bytes answer.new.bytes }
 {
-    let (list, rest) = split_field(skip_blanks(line));
+    let (list, rest) = split_blank(skip_blanks(line));
     if !has_user(list, user) {
         return END;
     }
@@ -59,8 +59,8 @@ pub fn user_authority(alloc: Global, line: &[u8], user: &[u8], answer: &mut Sha2
 fn key_fields(line: &[u8]) -> &[u8]
     ensures { BeginsWithFields line.now result.now }
 {
-    let (_, after_name) = split_field(line);
-    let (_, rest) = split_field(skip_blanks(after_name));
+    let (_, after_name) = split_blank(line);
+    let (_, rest) = split_blank(skip_blanks(after_name));
     &line[..line.len() - rest.len()]
 }
 
@@ -70,7 +70,7 @@ fn tell_fields(alloc: Global, fields: &str, answer: &mut Sha256Digest) -> u32
 {
     match read_key_fields(alloc, fields) {
         Ok(key) => tell_digest(alloc, key.key_data(), answer),
-        Err(error) => no_key_number(error, fields),
+        Err(error) => no_key_status(error, fields),
     }
 }
 
@@ -92,18 +92,18 @@ fn tell_digest(alloc: Global, key: &KeyData, answer: &mut Sha256Digest) -> u32
 }
 
 /// The number of fields that are no key's, with that error.
-fn no_key_number(error: Error, fields: &str) -> u32
+fn no_key_status(error: Error, fields: &str) -> u32
     ensures memory { cause error ≡ NoMemory → result ≡ 1 }
     ensures later { result ≡ 61 → AreOtherKeyFields fields.now }
     ensures fault { cause error ≢ NoMemory → result ≢ 61 →
-        (AreOtherKeyFields fields.now → ⊥) × (result ≡ error_number error) }
+        (AreOtherKeyFields fields.now → ⊥) × (result ≡ error_status error) }
     ensures some { result ≢ 0 }
     ensures range { cause error ≢ NoMemory → 9 < result }
 {
     if !error.is_memory() && are_other_key_fields(fields) {
         return LATER_KEY;
     }
-    error_number(error)
+    error_status(error)
 }
 
 /// Whether the user is one of the names of a list.

@@ -13,7 +13,7 @@ ghost use Rattle.sshkey_entry_calls.specs.Entries.{ArePlaced, FindsEntry, NeedsA
 
 use sshkey_authorized_keys::{Entry as AuthorizedEntry, OpenSshEntry};
 use sshkey_base::Result;
-use sshkey_calls::number::{MEMORY, TEXT, error_number};
+use sshkey_calls::number::{MEMORY, TEXT, error_status};
 use sshkey_calls::part::{self, Part, add, add_encoded};
 use sshkey_known_hosts::{Entry as KnownHost, Marker};
 use sshkey_public::PublicKey;
@@ -68,7 +68,7 @@ fn authorized_entry_of(alloc: Global, line: &str, room: &mut [u8], answer: &mut 
 {
     match AuthorizedEntry::from_line_openssh(alloc, line) {
         Ok(entry) => tell_authorized_key(alloc, &entry, room, answer),
-        Err(error) => error_number(error),
+        Err(error) => error_status(error),
     }
 }
 
@@ -114,7 +114,7 @@ fn known_host_of(alloc: Global, line: &str, room: &mut [u8], answer: &mut EntryP
 {
     match KnownHost::from_line_openssh(alloc, line) {
         Ok(entry) => tell_known_host(alloc, &entry, room, answer),
-        Err(error) => error_number(error),
+        Err(error) => error_status(error),
     }
 }
 
@@ -167,11 +167,11 @@ fn answer_with(
     ensures { FindsEntry (λ x. x ≡ entry_text front.now (public_of key.now) (comment_of key.now)
         marker) (λ x. x) result answer.old answer.new room.old room.new }
 {
-    part::answer_with(lay_out(alloc, front, key, marker), room, answer)
+    part::answer_with(lay_out_entry(alloc, front, key, marker), room, answer)
 }
 
 /// The bytes of an entry's parts, one after the other, and where they are.
-fn lay_out(
+fn lay_out_entry(
     alloc: Global,
     front: &str,
     key: &PublicKey,

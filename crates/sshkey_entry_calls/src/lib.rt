@@ -24,7 +24,7 @@ mod unreadable_line;
 mod verifiers;
 
 pub use addresses::{address_of, from_allows, source_address_allows};
-pub use asked_host::host_fault_number;
+pub use asked_host::host_fault_status;
 pub use authorities::{authority, user_authority};
 pub use entries::{EntryParts, authorized_entry, known_host};
 pub use lines::next_line;

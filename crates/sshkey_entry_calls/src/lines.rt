@@ -56,7 +56,7 @@ pub(crate) fn skip_blanks(line: &[u8]) -> &[u8]
 }
 
 /// The line up to its first space or tab, and what follows from there.
-pub(crate) fn split_field(line: &[u8]) -> (&[u8], &[u8])
+pub(crate) fn split_blank(line: &[u8]) -> (&[u8], &[u8])
     ensures { CutsField line.now result.0.now result.1.now }
 {
     match first_blank(line) {

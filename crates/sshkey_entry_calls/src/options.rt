@@ -73,7 +73,7 @@ fn tell_option(
     ensures { TellsOption text.now next result answer.old answer.new room.old room.new }
 {
     match first_option(text) {
-        Some(option) => part::answer_with(lay_out(alloc, &option, next), room, answer),
+        Some(option) => part::answer_with(lay_out_option(alloc, &option, next), room, answer),
         None => FORMAT,
     }
 }
@@ -126,7 +126,11 @@ fn option_end(bytes: &[u8]) -> usize
 }
 
 /// The bytes of an option's parts, one after the other, and where they are.
-fn lay_out(alloc: Global, option: &OpenSshOption<'_>, next: usize) -> Result<(Vec<u8>, OptionParts)>
+fn lay_out_option(
+    alloc: Global,
+    option: &OpenSshOption<'_>,
+    next: usize,
+) -> Result<(Vec<u8>, OptionParts)>
     ensures { IfOk result (λ laid. IsLaidOut option_bytes (ArePlaced next)
         (key_option_of option.now) laid.0.items laid.1) }
 {

@@ -6,7 +6,7 @@ ghost use Rattle.sshkey_base.specs.declared.error.Error.TheVariants as error;
 ghost use Rattle.sshkey_krl.specs.Revocation.{CertificateIdentity, certificate_identity};
 ghost use Rattle.sshkey_entry_calls.specs.RevocationFiles as files;
 ghost use Rattle.sshkey_entry_calls.specs.declared.revocation_files.RevocationFiles as declared;
-ghost use Rattle.sshkey_entry_calls.specs.RevocationFiles.{AreReadOf, IsReadOf, NeedsFile, NeedsFiles, are_read, is_nothing, is_only_nothing, reads_of, revoked_number};
+ghost use Rattle.sshkey_entry_calls.specs.RevocationFiles.{AreReadOf, IsReadOf, NeedsFile, NeedsFiles, are_read, is_nothing, is_only_nothing, reads_of, revoked_status};
 
 use sshkey_base::{Error, Result, encoding};
 use sshkey_calls::number::{REVOKED, UNREADABLE_REVOCATIONS};
@@ -59,8 +59,8 @@ impl<'a> RevocationFiles<'a> {
 
     /// Returns the number of what they revoke: 58 if one could not be read, or there is none, and
     /// else 56.
-    pub fn revoked_number(&self) -> u32
-        ensures { result ≡ revoked_number (reads_of self.now) }
+    pub fn revoked_status(&self) -> u32
+        ensures { result ≡ revoked_status (reads_of self.now) }
     {
         if self.are_read() {
             return REVOKED;

@@ -17,7 +17,7 @@ ghost use Rattle.sshkey_entry_calls.specs.Revocations.{IsWhether, TellsRevokedCe
 
 use crate::revocation_files::RevocationFiles;
 use sshkey_base::{Error, Result, encode_vec};
-use sshkey_calls::number::{DONE, MEMORY, NOT_REVOKED, UNREADABLE_REVOCATIONS, error_number};
+use sshkey_calls::number::{DONE, MEMORY, NOT_REVOKED, UNREADABLE_REVOCATIONS, error_status};
 use sshkey_cert_ref::CertificateRef;
 use sshkey_keys::KeyData;
 use sshkey_keys_ref::KeyDataRef;
@@ -40,7 +40,7 @@ pub fn revoked_key(alloc: Global, revoked: &[&[u8]], key: &[u8]) -> u32
     if !files.are_read() {
         return UNREADABLE_REVOCATIONS;
     }
-    key_number(alloc, &files, key)
+    key_status(alloc, &files, key)
 }
 
 /// Whether one of the revocation files revokes the certificate that all its bytes spell.
@@ -58,11 +58,11 @@ pub fn revoked_certificate(alloc: Global, revoked: &[&[u8]], certificate: &[u8])
     if !files.are_read() {
         return UNREADABLE_REVOCATIONS;
     }
-    certificate_number(alloc, &files, certificate)
+    certificate_status(alloc, &files, certificate)
 }
 
 /// The number of what the files say of the key.
-fn key_number(alloc: Global, files: &RevocationFiles<'_>, key: &[u8]) -> u32
+fn key_status(alloc: Global, files: &RevocationFiles<'_>, key: &[u8]) -> u32
     ensures exactly { TellsRevoked (IsWhether SpellsKey
         (λ k. values.is_key_revoked (one_revokes_key (reads_of files.now)) k) key.now) result }
     ensures fault { (met : Fault) → whole key_data_at key.now ≡ Err met
@@ -72,7 +72,7 @@ fn key_number(alloc: Global, files: &RevocationFiles<'_>, key: &[u8]) -> u32
     match is_key_revoked(alloc, files, key) {
         Ok(true) => DONE,
         Ok(false) => NOT_REVOKED,
-        Err(error) => error_number(error),
+        Err(error) => error_status(error),
     }
 }
 
@@ -95,7 +95,7 @@ fn is_key_revoked(alloc: Global, files: &RevocationFiles<'_>, key: &[u8]) -> Res
 }
 
 /// The number of what the files say of the certificate.
-fn certificate_number(alloc: Global, files: &RevocationFiles<'_>, certificate: &[u8]) -> u32
+fn certificate_status(alloc: Global, files: &RevocationFiles<'_>, certificate: &[u8]) -> u32
     ensures exactly { TellsRevoked (IsWhether SpellsCertificate
         (λ c. values.is_certificate_revoked (one_revokes (reads_of files.now)) c) certificate.now) result }
     ensures fault { (met : Fault) → whole certificate_at certificate.now ≡ Err met
@@ -105,7 +105,7 @@ fn certificate_number(alloc: Global, files: &RevocationFiles<'_>, certificate: &
     match is_certificate_revoked(alloc, files, certificate) {
         Ok(true) => DONE,
         Ok(false) => NOT_REVOKED,
-        Err(error) => error_number(error),
+        Err(error) => error_status(error),
     }
 }
 

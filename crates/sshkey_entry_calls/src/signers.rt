@@ -8,13 +8,13 @@ ghost use Rattle.sshkey_model.specs.Reading.{Fault, whole};
 ghost use Rattle.sshkey_revoked_keys.specs.declared.revoked_keys.RevokedKeys.{RevokedKeys};
 ghost use Rattle.sshkey_sshsig.specs.SshSignatureReaders.{ssh_signature_value_at};
 ghost use Rattle.sshkey_calls.specs.Numbers.{fault_number};
-ghost use Rattle.sshkey_entry_calls.specs.RevocationFiles.{AreReadOf, one_revokes_key, revoked_number};
-ghost use Rattle.sshkey_entry_calls.specs.Signers.{IsJudged, TellsSigner, verdict_number};
+ghost use Rattle.sshkey_entry_calls.specs.RevocationFiles.{AreReadOf, one_revokes_key, revoked_status};
+ghost use Rattle.sshkey_entry_calls.specs.Signers.{IsJudged, TellsSigner, verdict_status};
 
 use crate::revocation_files::RevocationFiles;
-use allowed_signers::{Refusal, verify};
-use sshkey_calls::Verification;
-use sshkey_calls::number::{DONE, MEMORY, NOT_SIGNED, SIGNER_NOT_ALLOWED, TEXT, error_number};
+use allowed_signers::{SignerRefusal, verify};
+use sshkey_calls::GivenAnswer;
+use sshkey_calls::number::{DONE, MEMORY, NOT_SIGNED, SIGNER_NOT_ALLOWED, TEXT, error_status};
 use sshkey_sshsig::SshSig;
 use std::alloc::Global;
 use std::str;
@@ -60,7 +60,7 @@ pub fn signer_verdict(
     ) else {
         return TEXT;
     };
-    let said = Verification::of(is_verified);
+    let said = GivenAnswer::of(is_verified);
     match SshSig::from_bytes(alloc, signature) {
         Ok(_) => judge(
             alloc,
@@ -72,7 +72,7 @@ pub fn signer_verdict(
             revoked,
             &said,
         ),
-        Err(error) => error_number(error),
+        Err(error) => error_status(error),
     }
 }
 
@@ -85,10 +85,10 @@ fn judge(
     signature: &[u8],
     unix_timestamp: u64,
     revoked: &[&[u8]],
-    said: &Verification,
+    said: &GivenAnswer,
 ) -> u32
     ensures { result ≢ 1 → (reads : List (Result RevokedKeys Error)) × AreReadOf revoked.now reads
-        × IsJudged (λ _. said.now.is_yes) (one_revokes_key reads) (revoked_number reads)
+        × IsJudged (λ _. said.now.is_yes) (one_revokes_key reads) (revoked_status reads)
         signers.now identity.now namespace.now [] unix_timestamp signature.now result }
 {
     let Ok(files) = RevocationFiles::read(alloc, revoked) else {
@@ -105,19 +105,19 @@ fn judge(
         &files,
         said,
     );
-    verdict_number(verdict, files.revoked_number())
+    verdict_status(verdict, files.revoked_status())
 }
 
 /// The number of a verdict, where that one is told of a key that is revoked.
-fn verdict_number(verdict: std::result::Result<(), Refusal>, of_revoked: u32) -> u32
-    ensures { result ≡ verdict_number of_revoked verdict }
+fn verdict_status(verdict: std::result::Result<(), SignerRefusal>, of_revoked: u32) -> u32
+    ensures { result ≡ verdict_status of_revoked verdict }
 {
     match verdict {
         Ok(()) => DONE,
-        Err(Refusal::NoIdentity) => NO_IDENTITY,
-        Err(Refusal::NotAllowed) => SIGNER_NOT_ALLOWED,
-        Err(Refusal::Revoked) => of_revoked,
-        Err(Refusal::NoSignature | Refusal::NotVerified) => NOT_SIGNED,
-        Err(Refusal::Memory) => MEMORY,
+        Err(SignerRefusal::NoIdentity) => NO_IDENTITY,
+        Err(SignerRefusal::NotAllowed) => SIGNER_NOT_ALLOWED,
+        Err(SignerRefusal::Revoked) => of_revoked,
+        Err(SignerRefusal::NoSignature | SignerRefusal::NotVerified) => NOT_SIGNED,
+        Err(SignerRefusal::Memory) => MEMORY,
     }
 }

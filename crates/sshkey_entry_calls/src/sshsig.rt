@@ -11,8 +11,8 @@ ghost use Rattle.sshkey_entry_calls.specs.SshSignatures.{IsJudgedByKeys, TellsBy
 
 use sshkey_base::HashAlg;
 use sshkey_calls::laws::one_outcome;
-use sshkey_calls::number::{DONE, MEMORY, NOT_SIGNED, SIGNER_NOT_ALLOWED, error_number};
-use sshkey_calls::{Sha256Digest, Verification, contains_digest};
+use sshkey_calls::number::{DONE, MEMORY, NOT_SIGNED, SIGNER_NOT_ALLOWED, error_status};
+use sshkey_calls::{GivenAnswer, Sha256Digest, contains_fingerprint};
 use sshkey_sshsig::SshSig;
 use std::alloc::Global;
 
@@ -45,9 +45,9 @@ pub fn sshsig_verdict(
             &read,
             namespace,
             signers,
-            Verification::of(is_verified),
+            GivenAnswer::of(is_verified),
         ),
-        Err(error) => error_number(error),
+        Err(error) => error_status(error),
     }
 }
 
@@ -57,7 +57,7 @@ fn judge(
     read: &SshSig,
     namespace: &[u8],
     signers: &[Sha256Digest],
-    said: Verification,
+    said: GivenAnswer,
 ) -> u32
     ensures { result ≢ 1 → IsJudgedByKeys (λ _. said.is_yes) (authorities_of signers.now)
         namespace.now [] (ssh_signature_of read.now) result }
@@ -65,7 +65,7 @@ fn judge(
     let Ok(signer) = read.public_key().fingerprint(alloc, HashAlg::Sha256) else {
         return MEMORY;
     };
-    if !contains_digest(signers, signer.as_bytes()) {
+    if !contains_fingerprint(signers, signer.as_bytes()) {
         return SIGNER_NOT_ALLOWED;
     }
     if !has_signed(read, namespace, said) {
@@ -78,7 +78,7 @@ fn judge(
 /// verification said yes to it.
 ///
 /// Whether it raises one does not depend on the message, so none is digested.
-fn has_signed(read: &SshSig, namespace: &[u8], said: Verification) -> bool
+fn has_signed(read: &SshSig, namespace: &[u8], said: GivenAnswer) -> bool
     ensures { IsTrue result
         ↔ HasSigned (λ _. said.is_yes) namespace.now [] (ssh_signature_of read.now) }
 {

@@ -6,10 +6,10 @@ ghost use Rattle.sshkey_addresses.specs.Likeness.{is_like_address};
 ghost use Rattle.sshkey_entries.specs.Fields.{filled_lines};
 ghost use Rattle.sshkey_entry_calls.specs.UnreadableLines.{TellsLine, TellsUnreadableLine};
 
-use crate::asked_host::host_fault_number;
+use crate::asked_host::host_fault_status;
 use sshkey_addresses::asked_host;
 use sshkey_calls::number::{DONE, END, MEMORY, TEXT};
-use sshkey_known_hosts::{Hmac, unreadable_line};
+use sshkey_known_hosts::{HmacSha1, unreadable_line};
 use std::alloc::Global;
 use std::str;
 
@@ -18,7 +18,7 @@ use std::str;
 /// (`sshkey_addresses::asked_host`).
 ///
 /// Returns 0 if there is one, 3 if there is none, 4 where the text or the host's name is not UTF-8,
-/// `host_fault_number` where nothing can be asked about the host, and 1 if memory ran out, which a
+/// `host_fault_status` where nothing can be asked about the host, and 1 if memory ran out, which a
 /// text that is empty or has comments alone does not take, nor a host that is like no address. With
 /// any answer but 0 the number stays as it was.
 pub fn unreadable_host_line(
@@ -40,7 +40,7 @@ pub fn unreadable_host_line(
     };
     match asked_host(alloc, host, port) {
         Ok(asked) => find_line(alloc, text, asked.as_str(), port, number),
-        Err(fault) => host_fault_number(fault),
+        Err(fault) => host_fault_status(fault),
     }
 }
 
@@ -50,7 +50,7 @@ fn find_line(alloc: Global, text: &str, name: &str, port: u16, number: &mut usiz
     ensures kept { result ≢ 0 → number.new ≡ number.old }
     ensures memory { result ≡ 1 → 0 < length (filled_lines text.now) }
 {
-    let Ok(found) = unreadable_line(alloc, text, name, port, &Hmac) else {
+    let Ok(found) = unreadable_line(alloc, text, name, port, &HmacSha1) else {
         return MEMORY;
     };
     tell_line(found, number)

@@ -8,14 +8,14 @@ ghost use Rattle.sshkey_model.specs.Keys.{Key, SpellsKey, key_data_at};
 ghost use Rattle.sshkey_entry_calls.specs.Verifiers.{verifier_number};
 
 use openssh_limits::is_read_key_ref;
-use sshkey_calls::number::{DONE, KEY_NOT_ACCEPTED, error_number};
+use sshkey_calls::number::{DONE, KEY_NOT_ACCEPTED, error_status};
 use sshkey_keys_ref::{KeyDataRef, KeyRef};
 
 /// How many bits an RSA key has at least whose signatures count.
 const LEAST_RSA_BITS: u32 = 2048;
 
 /// Whether a verifier may say yes to a signature under the key that all the bytes spell: OpenSSH
-/// lets somebody in by it (`openssh_limits::is_let_in`), and a key of RSA has 2,048 bits or more,
+/// lets somebody in by it (`openssh_limits::openssh_accepts_key`), and a key of RSA has 2,048 bits or more,
 /// where OpenSSH is content with 1,024. So it is no DSA key, no number in it is zero, negative or
 /// longer than 16,384 bits, and a point begins with 04. Does not allocate.
 ///
@@ -26,7 +26,7 @@ pub fn may_verify(key: &[u8]) -> u32
 {
     match KeyDataRef::from_bytes(key) {
         Ok(read) => verifier_number(&read),
-        Err(error) => error_number(error),
+        Err(error) => error_status(error),
     }
 }
 

@@ -1,11 +1,11 @@
 -- From what is answered of a host to its number.
 use Rattle.std.proofs.Common.{◌≡◌, ◌≢◌, ℕ, Bool, Result, Ok, Err, IfErr, inl, inr, refl, ap, subst, sym, ◌⊎◌, ◌∙◌}
 use Rattle.host_keys.specs.Answers.{OkExactly}
-use Rattle.host_keys.specs.declared.refusal.Refusal.{Refusal}
-use Rattle.host_keys.specs.declared.refusal.Refusal.TheVariants as refusal
-use Rattle.sshkey_host_calls.specs.Hosts.{IsJudged, answer_number, host_number}
+use Rattle.host_keys.specs.declared.refusal.HostRefusal.{HostRefusal}
+use Rattle.host_keys.specs.declared.refusal.HostRefusal.TheVariants as refusal
+use Rattle.sshkey_host_calls.specs.Hosts.{IsJudged, answer_status, host_status}
 
-is_memory : (r : Refusal) → (r ≡ refusal.Memory) ⊎ (r ≢ refusal.Memory)
+is_memory : (r : HostRefusal) → (r ≡ refusal.Memory) ⊎ (r ≢ refusal.Memory)
 is_memory refusal.Memory = inl refl
 is_memory refusal.Revoked = inr (λ same. cc same)
 is_memory refusal.Unreadable = inr (λ same. cc same)
@@ -17,30 +17,30 @@ is_memory (refusal.Host f) = inr (λ same. cc same)
 is_memory (refusal.Certificate e) = inr (λ same. cc same)
 is_memory (refusal.Invalid first) = inr (λ same. cc same)
 
-module _ (Holds : Type 0) (IsWhy : Refusal → Type 0) (are_read : Bool) where
-  refused : (r : Refusal) → (r ≡ refusal.Memory) ⊎ (r ≢ refusal.Memory) → host_number are_read r ≢ 0 → (r ≢ refusal.Memory → Holds → ⊥) → (r ≢ refusal.Memory → IsWhy r) → IsJudged Holds IsWhy are_read (host_number are_read r)
+module _ (Holds : Type 0) (IsWhy : HostRefusal → Type 0) (are_read : Bool) where
+  refused : (r : HostRefusal) → (r ≡ refusal.Memory) ⊎ (r ≢ refusal.Memory) → host_status are_read r ≢ 0 → (r ≢ refusal.Memory → Holds → ⊥) → (r ≢ refusal.Memory → IsWhy r) → IsJudged Holds IsWhy are_read (host_status are_read r)
   refused r (inl memory) some none why = record {
-    says = record { yes_ = λ zero_. absurd (some zero_); no_ = λ _ other. absurd (other (ap (host_number are_read) memory)) };
-    first = λ _ other. absurd (other (ap (host_number are_read) memory));
+    says = record { yes_ = λ zero_. absurd (some zero_); no_ = λ _ other. absurd (other (ap (host_status are_read) memory)) };
+    first = λ _ other. absurd (other (ap (host_status are_read) memory));
   }
   refused r (inr other) some none why = record {
     says = record { yes_ = λ zero_. absurd (some zero_); no_ = λ _ _. none other };
     first = λ _ _. (r, why other, refl);
   }
 
-  pub judged : (answer : Result (Unit {0}) Refusal) → IfErr answer (λ r. answer_number are_read answer ≢ 0) → OkExactly Holds answer → IfErr answer (λ r. r ≢ refusal.Memory → IsWhy r) → IsJudged Holds IsWhy are_read (answer_number are_read answer)
+  pub judged : (answer : Result (Unit {0}) HostRefusal) → IfErr answer (λ r. answer_status are_read answer ≢ 0) → OkExactly Holds answer → IfErr answer (λ r. r ≢ refusal.Memory → IsWhy r) → IsJudged Holds IsWhy are_read (answer_status are_read answer)
   judged (Ok x) some holds why = record {
     says = record { yes_ = λ _. holds; no_ = λ not_zero. absurd (not_zero refl) };
     first = λ not_zero. absurd (not_zero refl);
   }
   judged (Err r) some none why = refused r (is_memory r) some none why
 
-  pub judged_as : (answer : Result (Unit {0}) Refusal) (n : ℕ) (b : Bool) → n ≡ answer_number b answer → b ≡ are_read → IfErr answer (λ r. n ≢ 0) → OkExactly Holds answer → IfErr answer (λ r. r ≢ refusal.Memory → IsWhy r) → IsJudged Holds IsWhy are_read n
+  pub judged_as : (answer : Result (Unit {0}) HostRefusal) (n : ℕ) (b : Bool) → n ≡ answer_status b answer → b ≡ are_read → IfErr answer (λ r. n ≢ 0) → OkExactly Holds answer → IfErr answer (λ r. r ≢ refusal.Memory → IsWhy r) → IsJudged Holds IsWhy are_read n
   judged_as answer n b number same some exactly why =
-      let is : n ≡ answer_number are_read answer = number ∙ ap (λ (x : Bool). answer_number x answer) same in
+      let is : n ≡ answer_status are_read answer = number ∙ ap (λ (x : Bool). answer_status x answer) same in
       subst (IsJudged Holds IsWhy are_read) (sym is) (judged answer (subst (λ (x : ℕ). IfErr answer (λ r. x ≢ 0)) is some) exactly why)
 
 -- what holds anyway holds for something else than memory
-pub for_others : (IsWhy : Refusal → Type 0) (answer : Result (Unit {0}) Refusal) → IfErr answer IsWhy → IfErr answer (λ r. r ≢ refusal.Memory → IsWhy r)
+pub for_others : (IsWhy : HostRefusal → Type 0) (answer : Result (Unit {0}) HostRefusal) → IfErr answer IsWhy → IfErr answer (λ r. r ≢ refusal.Memory → IsWhy r)
 for_others IsWhy (Ok x) why = tt
 for_others IsWhy (Err r) why = λ _. why

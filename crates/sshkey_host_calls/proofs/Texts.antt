@@ -10,7 +10,7 @@ use Rattle.sshkey_entries.specs.Fields.{filled_lines}
 use Rattle.host_keys.specs.Hosts.{lines_of}
 use Rattle.host_keys.proofs.SeveralTexts.{more_lines}
 use Rattle.sshkey_host_calls.specs.Hosts.{are_texts}
-use Rattle.sshkey_host_calls.specs.declared.login.HostLogin.{HostLogin}
+use Rattle.sshkey_host_calls.specs.declared.request.HostRequest.{HostRequest}
 
 -- the same of one text more
 pub same_more : (bytes : List (Bor (List ℕ))) (i : ℕ) (d : Bor (List ℕ)) (l : i < length bytes) (texts : List (Bor (List ℕ))) (text : Bor (List ℕ)) → lines_of texts ≡ lines_of (take i bytes) → text.now ≡ (get_or bytes i d).now → lines_of (texts ++ (text ∷ [])) ≡ lines_of (take (i + 1) bytes)
@@ -33,7 +33,7 @@ both : (a b : Bool) → (a && b) ≡ true → (a ≡ true) × (b ≡ true)
 both true b is = (refl, is)
 both false b is = absurd (cc is)
 
-module _ (l : HostLogin) (are : are_texts l ≡ true) where
+module _ (l : HostRequest) (are : are_texts l ≡ true) where
   pub host_is : is_utf8 l.host.now ≡ true
   host_is = (both (is_utf8 l.host.now) (list_all (λ text. is_utf8 text.now) l.known_hosts.now) are).0
 

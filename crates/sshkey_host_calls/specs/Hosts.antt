@@ -5,85 +5,85 @@ use Rattle.std.specs.Str.{is_utf8}
 use Rattle.host_keys.specs.Answers.{RefusesHostCertificate, RefusesHostKey}
 use Rattle.host_keys.specs.Hosts as hosts
 use Rattle.host_keys.specs.Hosts.{IsHostCertificate, IsHostKey, lines_of}
-use Rattle.host_keys.specs.declared.refusal.Refusal.{Refusal}
-use Rattle.host_keys.specs.declared.refusal.Refusal.TheVariants as refusal
+use Rattle.host_keys.specs.declared.refusal.HostRefusal.{HostRefusal}
+use Rattle.host_keys.specs.declared.refusal.HostRefusal.TheVariants as refusal
 use Rattle.sshkey_base.specs.declared.error.Error.{Error}
-use Rattle.sshkey_calls.specs.Numbers.{certificate_error_number, refusal_number}
+use Rattle.sshkey_calls.specs.Numbers.{certificate_error_status, refusal_status}
 use Rattle.sshkey_calls.specs.Outcomes.{TellsOf}
 use Rattle.sshkey_calls.specs.Validations.{SaysWhether, Verified}
 use Rattle.sshkey_cert.specs.Validity.{refusal_of}
-use Rattle.sshkey_entry_calls.specs.AskedHosts.{host_fault_number}
+use Rattle.sshkey_entry_calls.specs.AskedHosts.{host_fault_status}
 use Rattle.sshkey_entry_calls.specs.RevocationFiles.{AreReadOf, are_read, one_revokes, one_revokes_key}
 use Rattle.sshkey_known_hosts.specs.Hmac.{hmac_sha1}
 use Rattle.sshkey_model.specs.Certificates.{certificate_at, SpellsCertificate}
 use Rattle.sshkey_model.specs.Keys.{Key, SpellsKey, key_data_at}
 use Rattle.sshkey_model.specs.Verification.{Question}
 use Rattle.sshkey_revoked_keys.specs.declared.revoked_keys.RevokedKeys.{RevokedKeys}
-use Rattle.sshkey_host_calls.specs.declared.login.HostLogin.{HostLogin}
+use Rattle.sshkey_host_calls.specs.declared.request.HostRequest.{HostRequest}
 
 -- ---- what is known
 
 -- the name of the host and the texts of known_hosts are UTF-8
-abbrev pub are_texts : HostLogin → Bool
+abbrev pub are_texts : HostRequest → Bool
 are_texts l = is_utf8 l.host.now && list_all (λ text. is_utf8 text.now) l.known_hosts.now
 
 -- the host, by these lines, under HMAC-SHA1
-abbrev pub login_with : HostLogin → List (List ℕ) → hosts.HostLogin
+abbrev pub login_with : HostRequest → List (List ℕ) → hosts.HostRequest
 login_with l lines = record { hmac = hmac_sha1; lines = lines; host = l.host.now; port = l.port; time = l.unix_timestamp; least_rsa_bits = l.least_rsa_bits }
 
 -- by the lines of all the texts
-abbrev pub login_of : HostLogin → hosts.HostLogin
+abbrev pub login_of : HostRequest → hosts.HostRequest
 login_of l = login_with l (lines_of l.known_hosts.now)
 
 -- ---- numbers
 
 -- What could not be read revokes everything.
-abbrev pub revoked_number : Bool → ℕ
-revoked_number are_read = if are_read then 50 else 58
+abbrev pub revoked_status : Bool → ℕ
+revoked_status are_read = if are_read then 50 else 58
 
-abbrev pub host_number : Bool → Refusal → ℕ
-host_number are_read refusal.Revoked = revoked_number are_read
-host_number are_read refusal.Unreadable = 51
-host_number are_read refusal.Changed = 52
-host_number are_read refusal.Unknown = 53
-host_number are_read refusal.UnacceptedKey = 59
-host_number are_read refusal.NotNormalForm = 70
-host_number are_read (refusal.Host f) = host_fault_number f
-host_number are_read (refusal.Certificate e) = certificate_error_number e
-host_number are_read (refusal.Invalid first) = refusal_number (Some (refusal_of first))
-host_number are_read refusal.Memory = 1
+abbrev pub host_status : Bool → HostRefusal → ℕ
+host_status are_read refusal.Revoked = revoked_status are_read
+host_status are_read refusal.Unreadable = 51
+host_status are_read refusal.Changed = 52
+host_status are_read refusal.Unknown = 53
+host_status are_read refusal.UnacceptedKey = 59
+host_status are_read refusal.NotNormalForm = 70
+host_status are_read (refusal.Host f) = host_fault_status f
+host_status are_read (refusal.Certificate e) = certificate_error_status e
+host_status are_read (refusal.Invalid first) = refusal_status (Some (refusal_of first))
+host_status are_read refusal.Memory = 1
 
-abbrev pub answer_number : Bool → Result (Unit {0}) Refusal → ℕ
-answer_number are_read (Ok x) = 0
-answer_number are_read (Err r) = host_number are_read r
+abbrev pub answer_status : Bool → Result (Unit {0}) HostRefusal → ℕ
+answer_status are_read (Ok x) = 0
+answer_status are_read (Err r) = host_status are_read r
 
 -- ---- what is told
 
 -- 0 says exactly that this holds, and another number what is wrong first; 1 is memory.
-pub record IsJudged (Holds : Type 0) (IsWhy : Refusal → Type 0) (are_read : Bool) (n : ℕ) : Type 0 where
+pub record IsJudged (Holds : Type 0) (IsWhy : HostRefusal → Type 0) (are_read : Bool) (n : ℕ) : Type 0 where
   pub says : SaysWhether Holds n
-  pub first : n ≢ 0 → n ≢ 1 → (r : Refusal) × IsWhy r × (n ≡ host_number are_read r)
+  pub first : n ≢ 0 → n ≢ 1 → (r : HostRefusal) × IsWhy r × (n ≡ host_status are_read r)
 
 -- Memory aside, it is the number of the verdict on the key, by what reading the files gives.
-abbrev pub TellsKey : HostLogin → Key → ℕ → Type 0
+abbrev pub TellsKey : HostRequest → Key → ℕ → Type 0
 TellsKey l k n = n ≢ 1 → (reads : List (Result RevokedKeys Error)) × AreReadOf l.revoked.now reads × IsJudged (IsHostKey (login_of l) (one_revokes_key reads) k) (RefusesHostKey (login_of l) (one_revokes_key reads) k) (are_read reads) n
 
 -- It is told of the key that the bytes spell.
-abbrev pub TellsHostKey : HostLogin → List ℕ → ℕ → Type 0
+abbrev pub TellsHostKey : HostRequest → List ℕ → ℕ → Type 0
 TellsHostKey l bytes n = TellsOf SpellsKey key_data_at bytes (λ k. TellsKey l k n) n (Unit {0})
 
 -- the verdict on the certificate, for that verifier
-abbrev pub IsJudgedCertificate : HostLogin → (Question → Bool) → List (Result RevokedKeys Error) → List ℕ → ℕ → Type 0
+abbrev pub IsJudgedCertificate : HostRequest → (Question → Bool) → List (Result RevokedKeys Error) → List ℕ → ℕ → Type 0
 IsJudgedCertificate l accepts reads bytes n = IsJudged (IsHostCertificate (login_of l) accepts (one_revokes reads) bytes) (RefusesHostCertificate (login_of l) accepts (one_revokes reads) bytes) (are_read reads) n
 
 -- Memory aside, it is the number of that verdict, by what reading the files gives.
-abbrev pub JudgesCertificate : HostLogin → (Question → Bool) → List ℕ → ℕ → Type 0
+abbrev pub JudgesCertificate : HostRequest → (Question → Bool) → List ℕ → ℕ → Type 0
 JudgesCertificate l accepts bytes n = n ≢ 1 → (reads : List (Result RevokedKeys Error)) × AreReadOf l.revoked.now reads × IsJudgedCertificate l accepts reads bytes n
 
 -- The same for each verifier that says so of this certificate's question.
-abbrev pub TellsCertificate : HostLogin → List ℕ → ℕ → ℕ → Type 0
+abbrev pub TellsCertificate : HostRequest → List ℕ → ℕ → ℕ → Type 0
 TellsCertificate l bytes is_verified n = n ≢ 1 → (reads : List (Result RevokedKeys Error)) × AreReadOf l.revoked.now reads × ((accepts : Question → Bool) → Verified accepts bytes is_verified → IsJudgedCertificate l accepts reads bytes n)
 
 -- It is told of the certificate that the bytes spell.
-abbrev pub TellsHostCertificate : HostLogin → List ℕ → ℕ → ℕ → Type 0
+abbrev pub TellsHostCertificate : HostRequest → List ℕ → ℕ → ℕ → Type 0
 TellsHostCertificate l bytes is_verified n = TellsOf SpellsCertificate certificate_at bytes (λ c. TellsCertificate l bytes is_verified n) n (Unit {0})

@@ -3,20 +3,20 @@
 ghost use Rattle.std.specs.Prelude.{◌≡◌, false, true};
 ghost use Rattle.sshkey_host_calls.specs.Hosts.{JudgesCertificate, TellsHostCertificate, are_texts};
 
-use crate::answer::answer_number;
-use crate::login::HostLogin;
+use crate::answer::answer_status;
+use crate::request::HostRequest;
 use host_keys::check_certificate;
-use sshkey_calls::Verification;
-use sshkey_calls::number::{MEMORY, TEXT, error_number};
+use sshkey_calls::GivenAnswer;
+use sshkey_calls::number::{MEMORY, TEXT, error_status};
 use sshkey_cert_ref::CertificateRef;
 use sshkey_entry_calls::RevocationFiles;
-use sshkey_known_hosts::Hmac;
+use sshkey_known_hosts::HmacSha1;
 use std::alloc::Global;
 
 /// Whether the certificate that the bytes spell is the host's (`host_keys::check_certificate`), by
 /// all the texts of known_hosts and the revocation files, where 1 says that its question
 /// (`sshkey_calls::certificate_question`) was answered yes, and every other number that it was not.
-/// Hashed names are compared by `sshkey_known_hosts::Hmac`.
+/// Hashed names are compared by `sshkey_known_hosts::HmacSha1`.
 ///
 /// Returns 0 if it is, 1 if memory ran out, 4 where a text or the host's name is not UTF-8, from 10
 /// to 29 the fault of bytes that are no certificate, and else what is wrong first: 70 for bytes that
@@ -33,7 +33,7 @@ use std::alloc::Global;
 /// bytes that are a certificate.
 pub fn host_certificate_verdict(
     alloc: Global,
-    login: &HostLogin<'_>,
+    login: &HostRequest<'_>,
     certificate: &[u8],
     is_verified: u32,
 ) -> u32
@@ -45,13 +45,13 @@ pub fn host_certificate_verdict(
         return TEXT;
     }
     match CertificateRef::from_bytes(certificate) {
-        Ok(_) => judge(alloc, login, certificate, &Verification::of(is_verified)),
-        Err(error) => error_number(error),
+        Ok(_) => judge(alloc, login, certificate, &GivenAnswer::of(is_verified)),
+        Err(error) => error_status(error),
     }
 }
 
 /// The same of texts and a certificate.
-fn judge(alloc: Global, login: &HostLogin<'_>, certificate: &[u8], said: &Verification) -> u32
+fn judge(alloc: Global, login: &HostRequest<'_>, certificate: &[u8], said: &GivenAnswer) -> u32
     requires { are_texts login.now ≡ true }
     ensures { JudgesCertificate login.now (λ _. said.now.is_yes) certificate.now result }
 {
@@ -62,8 +62,8 @@ fn judge(alloc: Global, login: &HostLogin<'_>, certificate: &[u8], said: &Verifi
         return MEMORY;
     };
     let known = login.with_texts(&texts);
-    answer_number(
-        check_certificate(alloc, &known, certificate, &Hmac, &files, said),
+    answer_status(
+        check_certificate(alloc, &known, certificate, &HmacSha1, &files, said),
         files.are_read(),
     )
 }

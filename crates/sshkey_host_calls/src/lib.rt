@@ -8,8 +8,8 @@
 mod answer;
 mod certificate;
 mod key;
-mod login;
+mod request;
 
 pub use certificate::host_certificate_verdict;
 pub use key::host_key_verdict;
-pub use login::HostLogin;
+pub use request::HostRequest;

@@ -320,5 +320,5 @@ impl Encode for KeyData {
 impl NormalForm for KeyData {
     ghost IsWellFormed = { λ k. IsKey (key_of k) };
 
-    fn normal_spells() {}
+    fn lawful_normal_form() {}
 }

@@ -46,6 +46,6 @@ pub(crate) fn point_from<const LONGEST: usize, P: PointString, R: Reader>(
         reader.skip(len);
         return Ok(point);
     }
-    let bytes = ShortBytes::<LONGEST>::take_from(len, reader)?;
+    let bytes = ShortBytes::<LONGEST>::read_from(len, reader)?;
     P::from_point_string(bytes.as_slice())
 }

@@ -13,7 +13,7 @@ use Rattle.sshkey_entries.specs.OpenSshLines.{IsHostLine, IsOtherHostLine}
 use Rattle.sshkey_entries.proofs.OneOpenSshLine.{one_host_line}
 use Rattle.sshkey_entries.proofs.OtherKeys.{one_other_line, other_line_none}
 use Rattle.sshkey_known_hosts.specs.HostEntries.{marker_of}
-use Rattle.sshkey_known_hosts.specs.Verdicts.{IsVerdict, graver_of, marked_verdict_of}
+use Rattle.sshkey_known_hosts.specs.Verdicts.{IsVerdict, marked_verdict_of, max_severity_of}
 use Rattle.sshkey_known_hosts.specs.declared.marker.Marker.{Marker}
 use Rattle.sshkey_known_hosts.specs.declared.marker.Marker.TheVariants as marker
 use Rattle.sshkey_known_hosts.specs.declared.verdict.Verdict.{Verdict}
@@ -97,7 +97,7 @@ module _ (hmac : List ℕ → List ℕ → List ℕ) (name : List ℕ) (key : Ke
     none_known : (IsKnown hmac name xs → ⊥) → (IsKnown hmac name ys → ⊥) → IsKnown hmac name (xs ++ ys) → ⊥
     none_known = neither (IsKnownBy hmac name) xs ys
 
-    pub both : (v w : Verdict) → IsVerdict hmac name key xs v → IsVerdict hmac name key ys w → IsVerdict hmac name key (xs ++ ys) (graver_of v w)
+    pub both : (v w : Verdict) → IsVerdict hmac name key xs v → IsVerdict hmac name key ys w → IsVerdict hmac name key (xs ++ ys) (max_severity_of v w)
     both Revoked w a b = first (Lists hmac name (Some known.Revoked) key) xs ys a
     both v Revoked a b = later (Lists hmac name (Some known.Revoked) key) xs ys b
     both Unreadable w a b = (no_revoked a.0 b.0, first (HidesEntry hmac name) xs ys a.1)

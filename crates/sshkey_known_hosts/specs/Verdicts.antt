@@ -33,16 +33,16 @@ abbrev pub OneVerdict : Type 0
 OneVerdict = (hmac : List ℕ → List ℕ → List ℕ) (name : List ℕ) (key : Key) (lines : List (List ℕ)) (v w : Verdict) → IsVerdict hmac name key lines v → IsVerdict hmac name key lines w → v ≡ w
 
 -- of two verdicts the one that comes first
-abbrev pub graver_of : Verdict → Verdict → Verdict
-graver_of Revoked w = Revoked
-graver_of v Revoked = Revoked
-graver_of Unreadable w = Unreadable
-graver_of v Unreadable = Unreadable
-graver_of Trusted w = Trusted
-graver_of v Trusted = Trusted
-graver_of Changed w = Changed
-graver_of v Changed = Changed
-graver_of Unknown Unknown = Unknown
+abbrev pub max_severity_of : Verdict → Verdict → Verdict
+max_severity_of Revoked w = Revoked
+max_severity_of v Revoked = Revoked
+max_severity_of Unreadable w = Unreadable
+max_severity_of v Unreadable = Unreadable
+max_severity_of Trusted w = Trusted
+max_severity_of v Trusted = Trusted
+max_severity_of Changed w = Changed
+max_severity_of v Changed = Changed
+max_severity_of Unknown Unknown = Unknown
 
 -- Where lines have the first verdict and other lines the second, all of them have the third.
 abbrev pub SayTogether : Verdict → Verdict → Verdict → Type 0

@@ -7,13 +7,13 @@ ghost use Rattle.sshkey_entries.specs.HostNames.{known_name};
 ghost use Rattle.sshkey_entries.specs.HostVerdicts.{IsForOthers};
 ghost use Rattle.sshkey_known_hosts.specs.Verdicts.{AreAuthorities, AreInOrder, IsAuthorityLine, is_authority_of};
 
-use crate::hmac_sha1::HmacSha1;
+use crate::host_hasher::HostHasher;
 use crate::host_line::{HostLine, read_host_line};
 use crate::host_name::known_name;
 use crate::marker::Marker;
 use crate::verdict::has_lines;
 use sshkey_base::Result;
-use sshkey_entries::FilledLines;
+use sshkey_entries::NonBlankLines;
 use sshkey_public::PublicKey;
 use std::alloc::Global;
 
@@ -25,7 +25,7 @@ fn is_authority(marker: Option<Marker>) -> bool
 
 /// The key of a line that is an entry of an authority for that name. Takes no memory for a line that
 /// is for others.
-fn line_authority<H: HmacSha1>(
+fn line_authority<H: HostHasher>(
     alloc: Global,
     line: &str,
     name: &str,
@@ -53,10 +53,10 @@ fn line_authority<H: HmacSha1>(
 /// in the order of the lines (sshd(8), "SSH_KNOWN_HOSTS FILE FORMAT").
 ///
 /// A line that is no entry gives none, and an authority may be revoked by another line, as may the
-/// key that it certified: before a certificate is trusted, ask `judge_key` about both keys, and
+/// key that it certified: before a certificate is trusted, ask `key_verdict` about both keys, and
 /// refuse it where one is `Revoked` or `Unreadable`. Fails only when out of memory, and never of a
 /// text that is empty or has comments alone.
-pub fn authorities<H: HmacSha1>(
+pub fn authorities<H: HostHasher>(
     alloc: Global,
     text: &str,
     host: &str,
@@ -75,7 +75,7 @@ pub fn authorities<H: HmacSha1>(
     }
     let name = known_name(alloc, host, port)?;
     let mut found = Vec::new(alloc);
-    for line in FilledLines::new(text) {
+    for line in NonBlankLines::new(text) {
         if let Some(key) = line_authority(alloc, line, name.as_str(), hmac)? {
             found.push(key)?;
         }

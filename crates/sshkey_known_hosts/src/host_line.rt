@@ -6,12 +6,12 @@ ghost use Rattle.sshkey_entries.specs.HostVerdicts.{IsForOthers};
 ghost use Rattle.sshkey_known_hosts.specs.HostEntries.{marker_of};
 ghost use Rattle.sshkey_known_hosts.specs.HostLines.{HasNamedHosts, IsCut, IsToHost, is_unreadable};
 
-use crate::hmac_sha1::HmacSha1;
+use crate::host_hasher::HostHasher;
 use crate::marker::Marker;
 use crate::named_hosts::are_for;
 use crate::openssh::{is_comment, split_marker_field};
 use sshkey_base::{Error, Result};
-use sshkey_entries::{are_other_key_fields, read_key_fields, skip_blanks, split_field};
+use sshkey_entries::{are_other_key_fields, read_key_fields, skip_blanks, split_blank};
 use sshkey_public::PublicKey;
 use std::alloc::Global;
 
@@ -51,7 +51,7 @@ enum HostCut<'a> {
 }
 
 /// The line, cut after its hosts. Takes no memory.
-fn cut_hosts<'a, H: HmacSha1>(line: &'a str, name: &str, hmac: &H) -> HostCut<'a>
+fn cut_hosts<'a, H: HostHasher>(line: &'a str, name: &str, hmac: &H) -> HostCut<'a>
     ensures { IsCut (H.hmac hmac.now) name.now line.now result }
 {
     if line.contains('\0') {
@@ -61,7 +61,7 @@ fn cut_hosts<'a, H: HmacSha1>(line: &'a str, name: &str, hmac: &H) -> HostCut<'a
     let Ok((marker, unmarked)) = split_marker_field(text) else {
         return HostCut::Unreadable;
     };
-    let (hosts, rest) = split_field(unmarked);
+    let (hosts, rest) = split_blank(unmarked);
     match are_for(hosts, name, hmac) {
         None => HostCut::Unreadable,
         Some(false) => HostCut::ForOthers,
@@ -97,7 +97,7 @@ fn read_fields(alloc: Global, marker: Option<Marker>, fields: &str) -> Result<Ho
 
 /// What a line is to the host of that name. Fails only when out of memory, and takes none for a
 /// line that is for others.
-pub(crate) fn read_host_line<H: HmacSha1>(
+pub(crate) fn read_host_line<H: HostHasher>(
     alloc: Global,
     line: &str,
     name: &str,

@@ -10,7 +10,7 @@ ghost use Rattle.sshkey_public.specs.OneLine.{IsOneLine};
 ghost use Rattle.sshkey_known_hosts.specs.HostEntries.{hosts_of, ReadsHashed, ReadsPatterns, ReadsBase64};
 ghost use Rattle.sshkey_known_hosts.specs.HostFaults.{RefusesHosts};
 
-use crate::hmac_sha1::HmacSha1;
+use crate::host_hasher::HostHasher;
 use crate::host_name::{are_named, known_name};
 use base64::DecodeAllocError;
 use base64::engine::general_purpose::STANDARD;
@@ -129,7 +129,7 @@ impl HostPatterns {
     /// well: that is port 22 here.
     ///
     /// Fails only when out of memory, which the name takes.
-    pub fn matches<H: HmacSha1>(
+    pub fn matches<H: HostHasher>(
         &self,
         alloc: Global,
         host: &str,
@@ -145,7 +145,7 @@ impl HostPatterns {
     }
 
     /// Whether they are for that name.
-    pub(crate) fn are_for<H: HmacSha1>(&self, name: &str, hmac: &H) -> bool
+    pub(crate) fn are_for<H: HostHasher>(&self, name: &str, hmac: &H) -> bool
         ensures { IsTrue result ↔ AreFor (H.hmac hmac.now) name.now (hosts_of self.now) }
     {
         match self {

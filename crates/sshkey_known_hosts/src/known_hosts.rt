@@ -40,7 +40,7 @@ impl<'a> KnownHosts<'a> {
     /// The entries of a text as the crate ssh-key reads it. Does not allocate.
     ///
     /// Do not decide on a host by it: it rejects revocations that ssh(1) reads, as one with two
-    /// spaces after `@revoked`. Use `judge_key`, or `openssh`.
+    /// spaces after `@revoked`. Use `key_verdict`, or `openssh`.
     pub fn new(alloc: Global, text: &'a str) -> KnownHosts<'a>
         ensures { result ≡ entries text.now }
     {

@@ -4,8 +4,8 @@
 mod authority;
 mod entry;
 pub mod examples;
-mod hmac;
 mod hmac_sha1;
+mod host_hasher;
 mod host_line;
 mod host_name;
 mod host_patterns;
@@ -20,11 +20,11 @@ mod verdict;
 
 pub use authority::authorities;
 pub use entry::Entry;
-pub use hmac::Hmac;
 pub use hmac_sha1::HmacSha1;
+pub use host_hasher::HostHasher;
 pub use host_patterns::HostPatterns;
 pub use known_hosts::KnownHosts;
 pub use marker::Marker;
 pub use openssh::OpenSshKnownHosts;
 pub use unreadable::unreadable_line;
-pub use verdict::{Verdict, judge_key};
+pub use verdict::{Verdict, key_verdict};

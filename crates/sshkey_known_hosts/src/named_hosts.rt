@@ -6,7 +6,7 @@ ghost use Rattle.sshkey_entries.specs.Items.{patterns};
 ghost use Rattle.sshkey_entries.specs.KnownHosts.{hashed_mark};
 ghost use Rattle.sshkey_known_hosts.specs.NamedHosts.{ReadsAll, ReadsTwenty, TellsHosts};
 
-use crate::hmac_sha1::HmacSha1;
+use crate::host_hasher::HostHasher;
 use sshkey_base::Reader;
 use sshkey_base64::Base64Reader;
 use sshkey_entries::{LetterCase, matches_pattern_list, split_pattern};
@@ -40,7 +40,7 @@ fn read_twenty(word: &str) -> Option<([u8; LEN], usize)>
 }
 
 /// Whether the salt and the hash after the mark are the name's, or none if no such two stand there.
-fn is_hash_of<H: HmacSha1>(hashed: &str, name: &str, hmac: &H) -> Option<bool>
+fn is_hash_of<H: HostHasher>(hashed: &str, name: &str, hmac: &H) -> Option<bool>
     ensures { TellsHosts (H.hmac hmac.now) name.now (hashed_mark ++ hashed.now) result }
 {
     let (salt, hash) = hashed.split_once('|')?;
@@ -62,7 +62,7 @@ fn are_patterns_for(text: &str, name: &str) -> bool
 }
 
 /// Whether the hosts of that text are for the name, or none if it is no text of hosts.
-pub(crate) fn are_for<H: HmacSha1>(text: &str, name: &str, hmac: &H) -> Option<bool>
+pub(crate) fn are_for<H: HostHasher>(text: &str, name: &str, hmac: &H) -> Option<bool>
     ensures { TellsHosts (H.hmac hmac.now) name.now text.now result }
 {
     if let Some(hashed) = text.strip_prefix("|1|") {

@@ -16,7 +16,7 @@ use crate::entry::Entry;
 use crate::host_patterns::HostPatterns;
 use crate::marker::Marker;
 use sshkey_base::{Error, Result};
-use sshkey_entries::{FilledLines, read_key_fields, skip_blanks, split_field};
+use sshkey_entries::{NonBlankLines, read_key_fields, skip_blanks, split_blank};
 use std::alloc::Global;
 use std::marker::Model;
 use std::str::FromStr;
@@ -63,7 +63,7 @@ pub(crate) fn split_marker_field(text: &str) -> Result<(Option<Marker>, &str)>
     if !is_marked(text) {
         return Ok((None, text));
     }
-    let (word, after) = split_field(text);
+    let (word, after) = split_blank(text);
     let marker = Marker::from_str(word)?;
     if !ends_marker(marker, after) {
         return Err(Error::FormatEncoding);
@@ -108,7 +108,7 @@ impl Entry {
             return Err(Error::FormatEncoding);
         }
         let (marker, unmarked) = split_marker_field(text)?;
-        let (hosts, rest) = split_field(unmarked);
+        let (hosts, rest) = split_blank(unmarked);
         let host_patterns = HostPatterns::from_text(alloc, hosts)?;
         let public_key = read_key_fields(alloc, skip_blanks(rest))?;
         Ok(Entry {
@@ -130,7 +130,7 @@ impl Entry {
 #[derive(Drop)]
 pub struct OpenSshKnownHosts<'a> {
     alloc: Global,
-    lines: FilledLines<'a>,
+    lines: NonBlankLines<'a>,
 }
 
 impl<'a> Model for OpenSshKnownHosts<'a> {
@@ -145,7 +145,7 @@ impl<'a> OpenSshKnownHosts<'a> {
     {
         OpenSshKnownHosts {
             alloc,
-            lines: FilledLines::new(text),
+            lines: NonBlankLines::new(text),
         }
     }
 }

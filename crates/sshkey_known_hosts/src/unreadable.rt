@@ -7,7 +7,7 @@ ghost use Rattle.sshkey_entries.specs.Fields.{filled_lines};
 ghost use Rattle.sshkey_entries.specs.HostNames.{known_name};
 ghost use Rattle.sshkey_known_hosts.specs.UnreadableLines.{HidesEntryIn, IsNumberOfFirst};
 
-use crate::hmac_sha1::HmacSha1;
+use crate::host_hasher::HostHasher;
 use crate::host_line::read_host_line;
 use crate::host_name::known_name;
 use crate::openssh::is_comment;
@@ -17,7 +17,7 @@ use sshkey_entries::skip_blanks;
 use std::alloc::Global;
 
 /// Whether the line is neither empty nor a comment, and no entry, and could be one for the name.
-fn hides_entry<H: HmacSha1>(alloc: Global, line: &str, name: &str, hmac: &H) -> Result<bool>
+fn hides_entry<H: HostHasher>(alloc: Global, line: &str, name: &str, hmac: &H) -> Result<bool>
     ensures answer { IfOk result
         (λ yes. IsTrue yes ↔ HidesEntryIn (H.hmac hmac.now) name.now line.now) }
     ensures memory { IfErr result (λ e. e ≡ wide.Memory) }
@@ -30,11 +30,11 @@ fn hides_entry<H: HmacSha1>(alloc: Global, line: &str, name: &str, hmac: &H) -> 
 }
 
 /// The number of the first line, from 1, that is no entry and could be one for the host: the line
-/// by which `judge_key` says `Unreadable` of each key that no other line revokes. `None` if there
+/// by which `key_verdict` says `Unreadable` of each key that no other line revokes. `None` if there
 /// is none, and then it never says so. Empty lines and comments are counted.
 ///
 /// Fails only when out of memory, and never of a text that is empty or has comments alone.
-pub fn unreadable_line<H: HmacSha1>(
+pub fn unreadable_line<H: HostHasher>(
     alloc: Global,
     text: &str,
     host: &str,

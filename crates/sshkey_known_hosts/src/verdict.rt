@@ -6,14 +6,14 @@ ghost use Rattle.sshkey_entries.specs.Fields.{filled_lines};
 ghost use Rattle.sshkey_entries.specs.HostNames.{known_name};
 ghost use Rattle.sshkey_entries.specs.HostVerdicts.{IsForOthers};
 ghost use Rattle.sshkey_keys.specs.Keys.{key_of};
-ghost use Rattle.sshkey_known_hosts.specs.Verdicts.{IsVerdict, SayTogether, graver_of, marked_verdict_of};
+ghost use Rattle.sshkey_known_hosts.specs.Verdicts.{IsVerdict, SayTogether, marked_verdict_of, max_severity_of};
 
-use crate::hmac_sha1::HmacSha1;
+use crate::host_hasher::HostHasher;
 use crate::host_line::{HostLine, read_host_line};
 use crate::host_name::known_name;
 use crate::marker::Marker;
 use sshkey_base::Result;
-use sshkey_entries::FilledLines;
+use sshkey_entries::NonBlankLines;
 use sshkey_keys::KeyData;
 use std::alloc::Global;
 
@@ -35,17 +35,17 @@ pub enum Verdict {
 impl Verdict {
     /// Returns the graver of the two, the one that stands first in the list above: what two texts
     /// say together, by what each of them says of the same key, host and port.
-    pub fn graver(self, other: Verdict) -> Verdict
-        ensures first { result ≡ graver_of self other }
+    pub fn max_severity(self, other: Verdict) -> Verdict
+        ensures first { result ≡ max_severity_of self other }
         ensures together { SayTogether self other result }
     {
-        graver(self, other)
+        max_severity(self, other)
     }
 }
 
 /// Of two verdicts the one that stands first.
-fn graver(one: Verdict, other: Verdict) -> Verdict
-    ensures { result ≡ graver_of one other }
+fn max_severity(one: Verdict, other: Verdict) -> Verdict
+    ensures { result ≡ max_severity_of one other }
 {
     match (one, other) {
         (Verdict::Revoked, _) | (_, Verdict::Revoked) => Verdict::Revoked,
@@ -69,7 +69,7 @@ fn marked_verdict(marker: Option<Marker>, same: bool) -> Verdict
 }
 
 /// What a line says of a key of that name. Takes no memory for a line that is for others.
-fn line_verdict<H: HmacSha1>(
+fn line_verdict<H: HostHasher>(
     alloc: Global,
     line: &str,
     name: &str,
@@ -96,7 +96,7 @@ fn line_verdict<H: HmacSha1>(
 pub(crate) fn has_lines(text: &str) -> bool
     ensures { IsTrue result ↔ (0 < length (filled_lines text.now)) }
 {
-    FilledLines::new(text).next().is_some()
+    NonBlankLines::new(text).next().is_some()
 }
 
 /// What a text of known_hosts, as OpenSSH reads it, says of a host's key (sshd(8),
@@ -121,10 +121,10 @@ pub(crate) fn has_lines(text: &str) -> bool
 /// // as in crates/host_keys/src/texts.rt
 /// let mut found = Verdict::Unknown;
 /// for text in texts {
-///     found = found.graver(judge_key(alloc, text, host, port, key, hmac)?);
+///     found = found.graver(key_verdict(alloc, text, host, port, key, hmac)?);
 /// }
 /// ```
-pub fn judge_key<H: HmacSha1>(
+pub fn key_verdict<H: HostHasher>(
     alloc: Global,
     text: &str,
     host: &str,
@@ -142,8 +142,8 @@ pub fn judge_key<H: HmacSha1>(
     }
     let name = known_name(alloc, host, port)?;
     let mut found = Verdict::Unknown;
-    for line in FilledLines::new(text) {
-        found = found.graver(line_verdict(alloc, line, name.as_str(), key, hmac)?);
+    for line in NonBlankLines::new(text) {
+        found = found.max_severity(line_verdict(alloc, line, name.as_str(), key, hmac)?);
     }
     Ok(found)
 }

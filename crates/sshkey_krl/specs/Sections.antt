@@ -1,6 +1,6 @@
 -- How the sections of a key revocation list are spelled (PROTOCOL.krl).
 use Rattle.std.specs.Prelude.{ℕ, List, [], ◌∷◌, Result, Ok, Err, ◌==◌, Bool, if◌then◌else◌}
-use Rattle.openssh_limits.specs.Keys.{is_read_key}
+use Rattle.openssh_limits.specs.Keys.{openssh_reads_key}
 use Rattle.sshkey_model.specs.Formats.{Format}
 use Rattle.sshkey_model.specs.Leaves.{array_format, string_format}
 use Rattle.sshkey_model.specs.Keys.{Key, key_data_at}
@@ -16,7 +16,7 @@ use Rattle.sshkey_krl.specs.declared.section.SectionKind.TheVariants as kinds
 
 -- OpenSSH reads RSA from 1,024 bits on.
 abbrev pub is_read_signer : Key → Bool
-is_read_signer = is_read_key 1024
+is_read_signer = openssh_reads_key 1024
 
 abbrev signer : Key → Result Authority Fault
 signer k = if is_read_signer k then Ok (Signer k) else Err FormatEncoding

@@ -9,7 +9,7 @@ ghost use Rattle.sshkey_krl.specs.Renamed.{ssh_rsa};
 ghost use Rattle.sshkey_krl.specs.Sections.{is_read_signer};
 ghost use Rattle.sshkey_krl.specs.Written.{is_read_authority};
 
-use openssh_limits::{LEAST_RSA_BITS, is_read_key, is_read_key_ref};
+use openssh_limits::{LEAST_RSA_BITS, is_read_key_ref, openssh_reads_key};
 use sshkey_keys::KeyData;
 use sshkey_keys_ref::KeyDataRef;
 
@@ -28,7 +28,7 @@ pub(crate) fn is_read_authority(authority: Option<&KeyData>) -> bool
     ensures { result ≡ is_read_authority (authority_of authority.entry) }
 {
     match authority {
-        Some(key) => is_read_key(key, LEAST_RSA_BITS),
+        Some(key) => openssh_reads_key(key, LEAST_RSA_BITS),
         None => true,
     }
 }

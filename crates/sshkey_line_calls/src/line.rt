@@ -6,15 +6,15 @@ ghost use Rattle.sshkey_model.specs.Keys.{SpellsKey, key_data_at};
 ghost use Rattle.sshkey_model.specs.Certificates.{certificate_at, SpellsCertificate};
 ghost use Rattle.sshkey_line_calls.specs.Lines.{TellsLine};
 
-use sshkey_calls::number::{DONE, END, MEMORY, error_number};
+use sshkey_calls::number::{DONE, END, MEMORY, error_status};
 use sshkey_cert_ref::CertificateRef;
 use sshkey_keys::KeyData;
 use sshkey_keys_ref::KeyDataRef;
 use std::alloc::Global;
-use user_keys::may_be_for;
+use user_keys::line_may_name_key;
 
 /// Whether sshd(8) may take a line of authorized_keys for one of the key that all the bytes spell
-/// (`user_keys::may_be_for`). Nothing is asked of the bytes of the line.
+/// (`user_keys::line_may_name_key`). Nothing is asked of the bytes of the line.
 ///
 /// Returns 0 if it may, 3 if it surely does not, 1 if memory ran out, and from 10 to 29 the fault of
 /// bytes that are no key. Memory is taken for a key of RSA or DSA, a security key and one under a
@@ -25,10 +25,10 @@ pub fn may_be_for_key(alloc: Global, line: &[u8], key: &[u8]) -> u32
 {
     match KeyDataRef::from_bytes(key) {
         Ok(read) => match read.to_key_data(alloc) {
-            Ok(key) => line_number(line, &key),
+            Ok(key) => line_status(line, &key),
             Err(_) => MEMORY,
         },
-        Err(error) => error_number(error),
+        Err(error) => error_status(error),
     }
 }
 
@@ -42,18 +42,18 @@ pub fn may_be_for_certificate(alloc: Global, line: &[u8], certificate: &[u8]) ->
 {
     match CertificateRef::from_bytes(certificate) {
         Ok(read) => match read.signature_key(alloc) {
-            Ok(key) => line_number(line, &key),
+            Ok(key) => line_status(line, &key),
             Err(_) => MEMORY,
         },
-        Err(error) => error_number(error),
+        Err(error) => error_status(error),
     }
 }
 
 /// The number of a line and a key.
-fn line_number(line: &[u8], key: &KeyData) -> u32
+fn line_status(line: &[u8], key: &KeyData) -> u32
     ensures { TellsLine (key_of key.now) line.now result }
 {
-    if may_be_for(line, key) {
+    if line_may_name_key(line, key) {
         return DONE;
     }
     END

@@ -2,20 +2,20 @@
 use Rattle.std.proofs.Common.{◌≡◌, ◌≢◌, ◌<◌, ℕ, List, Bool, true, false, Result, ap, arith, inl, inr, refl, subst, sym, ◌∙◌}
 use Rattle.login_policy.specs.Logins.{IsLogin, Login}
 use Rattle.login_policy.specs.Refusals.{RefusesLogin}
-use Rattle.login_policy.specs.declared.refusal.Refusal.{Refusal}
-use Rattle.login_policy.specs.declared.refusal.Refusal.TheVariants as refusal
+use Rattle.login_policy.specs.declared.refusal.LoginRefusal.{LoginRefusal}
+use Rattle.login_policy.specs.declared.refusal.LoginRefusal.TheVariants as refusal
 use Rattle.sshkey_base.specs.declared.error.Error.{Error}
 use Rattle.sshkey_calls.specs.Validations.{authorities_of, is_yes_number}
-use Rattle.sshkey_entry_calls.specs.RevocationFiles.{are_read, one_revokes, revoked_number}
+use Rattle.sshkey_entry_calls.specs.RevocationFiles.{are_read, one_revokes, revoked_status}
 use Rattle.sshkey_model.specs.Fingerprints.{Fingerprint}
 use Rattle.sshkey_revoked_keys.specs.declared.revoked_keys.RevokedKeys.{RevokedKeys}
 use Rattle.std.specs.Prelude.{if◌then◌else◌}
 use Rattle.sshkey_login_calls.proofs.Verifiers.{kept_out, let_in, refused}
-use Rattle.sshkey_login_calls.specs.Logins.{IsReadingOf, Reading, TellsLogin, login_number, login_of}
+use Rattle.sshkey_login_calls.specs.Logins.{IsReadingOf, Reading, TellsLogin, login_of, login_status}
 use Rattle.sshkey_login_calls.specs.declared.request.LoginRequest.{LoginRequest}
 
 -- the number for what is revoked is none of those that say something else
-pub some_revoked : (reads : List (Result RevokedKeys Error)) → 2 < revoked_number reads
+pub some_revoked : (reads : List (Result RevokedKeys Error)) → 2 < revoked_status reads
 some_revoked reads = go (are_read reads)
   where
     go : (b : Bool) → 2 < (if b then 56 else 58)
@@ -43,9 +43,9 @@ module _ (l : LoginRequest) (r : Reading) (n : ℕ) (says : Bool) (authorities :
     },
   )
 
-  pub denied : (e : Refusal) (m : ℕ) → m ≡ login_number (revoked_number r.files) e → (m ≢ 1 → 2 < m) → (e ≢ refusal.Memory → IsLogin (asked_of l r says authorities user) → ⊥) → (e ≢ refusal.Memory → RefusesLogin (asked_of l r says authorities user) e) → IsReadingOf l r → TellsLogin l n m
+  pub denied : (e : LoginRefusal) (m : ℕ) → m ≡ login_status (revoked_status r.files) e → (m ≢ 1 → 2 < m) → (e ≢ refusal.Memory → IsLogin (asked_of l r says authorities user) → ⊥) → (e ≢ refusal.Memory → RefusesLogin (asked_of l r says authorities user) e) → IsReadingOf l r → TellsLogin l n m
   denied e m is high out why reading not_memory =
-      let other : e ≢ refusal.Memory = λ memory. not_memory (is ∙ ap (login_number (revoked_number r.files)) memory) in (
+      let other : e ≢ refusal.Memory = λ memory. not_memory (is ∙ ap (login_status (revoked_status r.files)) memory) in (
         r,
         reading,
         λ accepts v. record {

@@ -3,7 +3,7 @@
 use Rattle.std.proofs.Common.{◌≡◌, ℕ, List, Bool, None, ap, inl, inr, sym, ◌∙◌}
 use Rattle.login_policy.specs.Logins.{IsLogin, LetsIn, Login}
 use Rattle.login_policy.specs.Refusals.{FromElsewhere, IsRevoked, IsUntrusted, NotValid, OtherAuthority, RefusesLogin}
-use Rattle.login_policy.specs.declared.refusal.Refusal.{Refusal}
+use Rattle.login_policy.specs.declared.refusal.LoginRefusal.{LoginRefusal}
 use Rattle.sshkey_calls.proofs.Validations.{same_signed}
 use Rattle.sshkey_calls.specs.Validations.{Verified, is_yes_number}
 use Rattle.sshkey_model.specs.Certificates.{Certificate, SpellsCertificate}
@@ -40,13 +40,13 @@ module _ (p : Login) (n : ℕ) (accepts : Question → Bool) (v : Verified accep
   first : (c : Certificate) → SpellsCertificate c p.blob → (given : List Fingerprint) (t : ℕ) (user : List ℕ) → first_refusal_for (λ _. is_yes_number n) given t user c ≡ first_refusal_for accepts given t user c
   first c spelled given t user = ap (λ (b : Bool). or_else (unless b NotSigned (refusal_of_authority_or_time (has_trusted_authority given c) (c.signed.valid_after, c.signed.valid_before) t)) (unless (allows c.signed.valid_principals user) UnlistedPrincipal None)) (signed c spelled)
 
-  untrusted : (c : Certificate) (e : Refusal) → SpellsCertificate c p.blob → IsUntrusted (by p (λ _. is_yes_number n)) c e → IsUntrusted (by p accepts) c e
+  untrusted : (c : Certificate) (e : LoginRefusal) → SpellsCertificate c p.blob → IsUntrusted (by p (λ _. is_yes_number n)) c e → IsUntrusted (by p accepts) c e
   untrusted c e spelled (OtherAuthority other) = OtherAuthority other
   untrusted c e spelled (IsRevoked given revoked) = IsRevoked given revoked
   untrusted c e spelled (NotValid given unrevoked w refused) = NotValid given unrevoked w (sym (first c spelled p.authorities p.time p.user) ∙ refused)
   untrusted c e spelled (FromElsewhere unrevoked is elsewhere) = FromElsewhere unrevoked (record { valid = valid c spelled _ _ is.valid; allowed = is.allowed }) elsewhere
 
-  pub refused : (e : Refusal) → RefusesLogin (by p (λ _. is_yes_number n)) e → RefusesLogin (by p accepts) e
+  pub refused : (e : LoginRefusal) → RefusesLogin (by p (λ _. is_yes_number n)) e → RefusesLogin (by p accepts) e
   refused e (inl none) = inl none
   refused e (inr (c, spelled, inl other)) = inr (c, spelled, inl other)
   refused e (inr (c, spelled, inr (normal, inl wrong))) = inr (c, spelled, inr (normal, inl wrong))

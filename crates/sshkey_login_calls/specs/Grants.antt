@@ -68,16 +68,16 @@ abbrev pub no_part : Part
 no_part = record { start = 0; length = 0 }
 
 -- the grant of nothing, which says only how many bytes are needed
-abbrev pub nothing : ℕ → GrantParts
-nothing needed = record { force_command = no_part; key_id = no_part; length = needed; serial = 0; authority = record { bytes = replicate 32 0 }; permits = 0 }
+abbrev pub empty_grant : ℕ → GrantParts
+empty_grant needed = record { force_command = no_part; key_id = no_part; length = needed; serial = 0; authority = record { bytes = replicate 32 0 }; permits = 0 }
 
 -- With 0 the answer is the grant of the certificate that the bytes spell, and its bytes are at the
 -- front of the room. With 2 the room is too short for them, and nothing is granted. With every other
 -- number nothing is granted either, and nothing changed in the room.
 pub record TellsGrant (blob : List ℕ) (n : ℕ) (answer : GrantParts) (before after : List ℕ) : Type 0 where
   pub given : n ≡ 0 → (c : Certificate) × SpellsCertificate c blob × IsAtFront (grant_bytes c) (ArePlaced c answer) before after
-  pub short : n ≡ 2 → (c : Certificate) × SpellsCertificate c blob × LacksRoom (grant_bytes c) answer.length before after × (answer ≡ nothing answer.length)
-  pub none : n ≢ 0 → n ≢ 2 → (answer ≡ nothing 0) × (after ≡ before)
+  pub short : n ≡ 2 → (c : Certificate) × SpellsCertificate c blob × LacksRoom (grant_bytes c) answer.length before after × (answer ≡ empty_grant answer.length)
+  pub none : n ≢ 0 → n ≢ 2 → (answer ≡ empty_grant 0) × (after ≡ before)
 
 -- ---- how it is given
 

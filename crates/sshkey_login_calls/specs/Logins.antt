@@ -5,28 +5,28 @@ use Rattle.login_policy.specs.Logins.{IsLogin, Login}
 use Rattle.login_policy.specs.Refusals.{RefusesLogin}
 use Rattle.login_policy.specs.declared.client.Client.{Client}
 use Rattle.login_policy.specs.declared.client.Client.TheVariants as client
-use Rattle.login_policy.specs.declared.refusal.Refusal.{Refusal}
-use Rattle.login_policy.specs.declared.refusal.Refusal.TheVariants as refusal
+use Rattle.login_policy.specs.declared.refusal.LoginRefusal.{LoginRefusal}
+use Rattle.login_policy.specs.declared.refusal.LoginRefusal.TheVariants as refusal
 use Rattle.sshkey_base.specs.declared.error.Error.{Error}
-use Rattle.sshkey_calls.specs.Numbers.{certificate_error_number, refusal_number}
+use Rattle.sshkey_calls.specs.Numbers.{certificate_error_status, refusal_status}
 use Rattle.sshkey_calls.specs.Validations.{Verified, authorities_of}
 use Rattle.sshkey_cert.specs.Validity.{refusal_of}
 use Rattle.sshkey_entry_calls.specs.Addresses.{IsAddressOf}
-use Rattle.sshkey_entry_calls.specs.RevocationFiles.{AreReadOf, one_revokes, revoked_number}
+use Rattle.sshkey_entry_calls.specs.RevocationFiles.{AreReadOf, one_revokes, revoked_status}
 use Rattle.sshkey_model.specs.Keys.{Key, SpellsKey}
 use Rattle.sshkey_model.specs.Verification.{Question}
 use Rattle.sshkey_revoked_keys.specs.declared.revoked_keys.RevokedKeys.{RevokedKeys}
 use Rattle.sshkey_login_calls.specs.declared.request.LoginRequest.{LoginRequest}
 
 -- the number of a refusal, where the first is that of a certificate that is revoked
-abbrev pub login_number : ℕ → Refusal → ℕ
-login_number of_revoked (refusal.Certificate e) = certificate_error_number e
-login_number of_revoked refusal.NotNormalForm = 70
-login_number of_revoked refusal.UnacceptedKey = 59
-login_number of_revoked refusal.Revoked = of_revoked
-login_number of_revoked (refusal.Invalid w) = refusal_number (Some (refusal_of w))
-login_number of_revoked refusal.Elsewhere = 57
-login_number of_revoked refusal.Memory = 1
+abbrev pub login_status : ℕ → LoginRefusal → ℕ
+login_status of_revoked (refusal.Certificate e) = certificate_error_status e
+login_status of_revoked refusal.NotNormalForm = 70
+login_status of_revoked refusal.UnacceptedKey = 59
+login_status of_revoked refusal.Revoked = of_revoked
+login_status of_revoked (refusal.Invalid w) = refusal_status (Some (refusal_of w))
+login_status of_revoked refusal.Elsewhere = 57
+login_status of_revoked refusal.Memory = 1
 
 -- ---- the login
 
@@ -58,12 +58,12 @@ login_of l r accepts = record { accepts = accepts; revokes = one_revokes r.files
 pub record DecidesLogin (login : Login) (of_revoked n : ℕ) : Type 0 where
   pub let_in : (n ≡ 0) ⊎ (n ≡ 2) → IsLogin login
   pub kept_out : n ≢ 0 → n ≢ 2 → IsLogin login → ⊥
-  pub first : n ≢ 0 → n ≢ 2 → (r : Refusal) × RefusesLogin login r × (n ≡ login_number of_revoked r)
+  pub first : n ≢ 0 → n ≢ 2 → (r : LoginRefusal) × RefusesLogin login r × (n ≡ login_status of_revoked r)
 
 -- Memory aside, it says this for every verifier that says so about the question of the certificate,
 -- whatever it says about all others.
 abbrev pub TellsLogin : LoginRequest → ℕ → ℕ → Type 0
-TellsLogin l is_verified n = n ≢ 1 → (r : Reading) × IsReadingOf l r × ((accepts : Question → Bool) → Verified accepts l.certificate.now is_verified → DecidesLogin (login_of l r accepts) (revoked_number r.files) n)
+TellsLogin l is_verified n = n ≢ 1 → (r : Reading) × IsReadingOf l r × ((accepts : Question → Bool) → Verified accepts l.certificate.now is_verified → DecidesLogin (login_of l r accepts) (revoked_status r.files) n)
 
 -- the number of what is wrong, and 0 where something is granted
 abbrev pub number_of : {A : Type 0} → Result A ℕ → ℕ

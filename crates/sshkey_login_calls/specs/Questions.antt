@@ -4,7 +4,7 @@ use Rattle.sshkey_calls.specs.Questions.{ArePlaced, question_bytes}
 use Rattle.sshkey_calls.specs.Rooms.{IsAtFront, LacksRoom}
 use Rattle.sshkey_calls.specs.declared.question.Question as code
 use Rattle.sshkey_cert.specs.Questions.{certificate_question}
-use Rattle.sshkey_entry_calls.specs.RevocationFiles.{revoked_number}
+use Rattle.sshkey_entry_calls.specs.RevocationFiles.{revoked_status}
 use Rattle.sshkey_model.specs.Certificates.{Certificate, SpellsCertificate}
 use Rattle.sshkey_model.specs.Verification.{Question}
 use Rattle.sshkey_login_calls.specs.Logins.{DecidesLogin, IsReadingOf, Reading, login_of}
@@ -30,7 +30,7 @@ pub record AnswersQuestion (bytes : List ℕ) (n : ℕ) (was answer : code.Quest
 
 -- it is what the policy says of the login where the verifier says no, whatever is asked
 abbrev pub DecidesUnverified : LoginRequest → Reading → ℕ → Type 0
-DecidesUnverified l r = DecidesLogin (login_of l r (λ _. false)) (revoked_number r.files)
+DecidesUnverified l r = DecidesLogin (login_of l r (λ _. false)) (revoked_status r.files)
 
 -- With 0 the question of the certificate is answered, and with 2 the room is too short for it: then
 -- 30 is said of the login. Every other number is what is said of it; with 30 nothing is asked, since

@@ -11,10 +11,10 @@ use Rattle.sshkey_model.specs.Names.{Sha256}
 use Rattle.sshkey_model.specs.Parts.{flat}
 use Rattle.sshkey_model.specs.Texts.{string}
 use Rattle.sshkey_times.specs.declared.times.Span.{Span}
-use Rattle.sshkey_login_calls.specs.Grants.{bit, no_part, nothing, or_empty}
+use Rattle.sshkey_login_calls.specs.Grants.{bit, empty_grant, no_part, or_empty}
 use Rattle.sshkey_login_calls.specs.declared.user_grant.UserGrantParts.{UserGrantParts}
 use Rattle.user_keys.specs.declared.grant.Certified.{Certified}
-use Rattle.user_keys.specs.declared.grant.Grant.{Grant}
+use Rattle.user_keys.specs.declared.grant.UserGrant.{UserGrant}
 
 -- ---- what is permitted
 
@@ -85,25 +85,25 @@ permit_strings [] = []
 permit_strings (p ∷ more) = flat (string p.host) ++ (flat (string (port_bytes p.port)) ++ permit_strings more)
 
 -- the command that has to run, or no bytes
-abbrev pub command_of : Grant → List ℕ
+abbrev pub command_of : UserGrant → List ℕ
 command_of g = or_empty (terms_of g.terms).command
 
 -- what stands before each part
-abbrev pub before_open : Grant → List ℕ
+abbrev pub before_open : UserGrant → List ℕ
 before_open g = command_of g ++ key_id_of g.certified
 
-abbrev pub before_listen : Grant → List ℕ
+abbrev pub before_listen : UserGrant → List ℕ
 before_listen g = before_open g ++ permit_strings (terms_of g.terms).permit_open
 
-abbrev pub before_environment : Grant → List ℕ
+abbrev pub before_environment : UserGrant → List ℕ
 before_environment g = before_listen g ++ permit_strings (terms_of g.terms).permit_listen
 
-abbrev pub user_grant_bytes : Grant → List ℕ
+abbrev pub user_grant_bytes : UserGrant → List ℕ
 user_grant_bytes g = before_environment g ++ strings (terms_of g.terms).environment
 
 -- The answer says where each part is, what is permitted, until when, by which line and which
 -- certificate.
-pub record ArePlaced (g : Grant) (a : UserGrantParts) : Type 0 where
+pub record ArePlaced (g : UserGrant) (a : UserGrantParts) : Type 0 where
   pub force_command : IsPlaced 0 (command_of g) a.grant.force_command
   pub key_id : IsPlaced (length (command_of g)) (key_id_of g.certified) a.grant.key_id
   pub permit_open : IsPlaced (length (before_open g)) (permit_strings (terms_of g.terms).permit_open) a.permit_open
@@ -119,7 +119,7 @@ pub record ArePlaced (g : Grant) (a : UserGrantParts) : Type 0 where
 
 -- the grant of nothing, which says only how many bytes are needed, or which line refuses
 abbrev pub no_grant : ℕ → ℕ → UserGrantParts
-no_grant needed line = record { grant = nothing needed; permit_open = no_part; permit_listen = no_part; environment = no_part; expires = record { first = 0; last = 0 }; line = line; tunnel = 0 }
+no_grant needed line = record { grant = empty_grant needed; permit_open = no_part; permit_listen = no_part; environment = no_part; expires = record { first = 0; last = 0 }; line = line; tunnel = 0 }
 
 -- ---- how it is laid out
 

@@ -9,11 +9,11 @@ use Rattle.sshkey_base.specs.declared.error.Error.{Error}
 use Rattle.sshkey_calls.specs.Rooms.{IsAtFront, IsLaidOut, LacksRoom}
 use Rattle.sshkey_calls.specs.Validations.{Verified, authorities_of}
 use Rattle.sshkey_entry_calls.specs.Addresses.{IsNameIn}
-use Rattle.sshkey_entry_calls.specs.RevocationFiles.{one_revokes, one_revokes_key, revoked_number}
+use Rattle.sshkey_entry_calls.specs.RevocationFiles.{one_revokes, one_revokes_key, revoked_status}
 use Rattle.sshkey_model.specs.Fingerprints.{Fingerprint}
 use Rattle.sshkey_model.specs.Verification.{Question}
 use Rattle.sshkey_revoked_keys.specs.declared.revoked_keys.RevokedKeys.{RevokedKeys}
-use Rattle.sshkey_login_calls.specs.Logins.{IsReadingOf, Reading, login_number}
+use Rattle.sshkey_login_calls.specs.Logins.{IsReadingOf, Reading, login_status}
 use Rattle.sshkey_login_calls.specs.UserGrants.{ArePlaced, no_grant, user_grant_bytes}
 use Rattle.sshkey_login_calls.specs.declared.denial.Denial.{Denial}
 use Rattle.sshkey_login_calls.specs.declared.request.LoginRequest.{LoginRequest}
@@ -25,36 +25,36 @@ use Rattle.user_keys.specs.CertificateLogins.{AdmitsCertificate, CertificateLogi
 use Rattle.user_keys.specs.PrincipalLogins.{AdmitsPrincipal, IsWhyNoPrincipal}
 use Rattle.user_keys.specs.Principals.{lines_at_feeds}
 use Rattle.user_keys.specs.UserLogins.{Admits, UserLogin, login_of}
-use Rattle.user_keys.specs.declared.grant.Grant.{Grant}
+use Rattle.user_keys.specs.declared.grant.UserGrant.{UserGrant}
 use Rattle.user_keys.specs.declared.login.UserLogin as code
 use Rattle.user_keys.specs.declared.refusal.Reason.{Reason}
 use Rattle.user_keys.specs.declared.refusal.Reason.TheVariants as reason
-use Rattle.user_keys.specs.declared.refusal.Refusal.{Refusal}
-use Rattle.user_keys.specs.declared.refusal.Refusal.TheVariants as refusal
+use Rattle.user_keys.specs.declared.refusal.UserRefusal.{UserRefusal}
+use Rattle.user_keys.specs.declared.refusal.UserRefusal.TheVariants as refusal
 use denote.Ref.{Bor}
 
 -- ---- numbers
 
-abbrev pub reason_number : Reason → ℕ
-reason_number reason.Expired = 91
-reason_number reason.MisplacedOption = 92
-reason_number reason.Elsewhere = 93
-reason_number reason.Command = 94
-reason_number reason.Principals = 95
+abbrev pub reason_status : Reason → ℕ
+reason_status reason.Expired = 91
+reason_status reason.MisplacedOption = 92
+reason_status reason.Elsewhere = 93
+reason_status reason.Command = 94
+reason_status reason.Principals = 95
 
 abbrev pub denied : ℕ → ℕ → Denial
 denied number line = record { number = number; line = line }
 
 -- the number of a refusal and the line that is its reason, where the first is the number of what is
 -- revoked
-abbrev pub denied_by : ℕ → Refusal → Denial
-denied_by of_revoked refusal.NotListed = denied 90 0
-denied_by of_revoked (refusal.NotAllowed line reason) = denied (reason_number reason) line
-denied_by of_revoked (refusal.Unclear line) = denied 96 line
-denied_by of_revoked refusal.UnacceptedKey = denied 59 0
-denied_by of_revoked refusal.Revoked = denied of_revoked 0
-denied_by of_revoked (refusal.Certificate r) = denied (login_number of_revoked r) 0
-denied_by of_revoked refusal.Memory = denied 1 0
+abbrev pub denial_of : ℕ → UserRefusal → Denial
+denial_of of_revoked refusal.NotListed = denied 90 0
+denial_of of_revoked (refusal.NotAllowed line reason) = denied (reason_status reason) line
+denial_of of_revoked (refusal.Unclear line) = denied 96 line
+denial_of of_revoked refusal.UnacceptedKey = denied 59 0
+denial_of of_revoked refusal.Revoked = denied of_revoked 0
+denial_of of_revoked (refusal.Certificate r) = denied (login_status of_revoked r) 0
+denial_of of_revoked refusal.Memory = denied 1 0
 
 -- ---- the login
 
@@ -85,32 +85,32 @@ certificate_login login files accepts blob = record { login = login; blob = blob
 
 -- Who holds the key is let in: by authorized_keys by these bytes of a certificate, or, where there
 -- are none, by the key; by a file of principals by these bytes, and by one of those authorities.
-abbrev pub AdmitsUser : UserFile → UserLogin → List Fingerprint → List (Result RevokedKeys Error) → (Question → Bool) → List ℕ → Grant → Type 0
+abbrev pub AdmitsUser : UserFile → UserLogin → List Fingerprint → List (Result RevokedKeys Error) → (Question → Bool) → List ℕ → UserGrant → Type 0
 AdmitsUser file.AuthorizedKeys login authorities files accepts [] g = Admits login (one_revokes_key files) g
 AdmitsUser file.AuthorizedKeys login authorities files accepts (b ∷ blob) g = AdmitsCertificate (certificate_login login files accepts (b ∷ blob)) g
 AdmitsUser file.Principals login authorities files accepts blob g = AdmitsPrincipal (certificate_login login files accepts blob) authorities g
 
 -- It is why not.
-abbrev pub RefusesUser : UserFile → UserLogin → List Fingerprint → List (Result RevokedKeys Error) → (Question → Bool) → List ℕ → Refusal → Type 0
+abbrev pub RefusesUser : UserFile → UserLogin → List Fingerprint → List (Result RevokedKeys Error) → (Question → Bool) → List ℕ → UserRefusal → Type 0
 RefusesUser file.AuthorizedKeys login authorities files accepts [] r = IsWhyNoKey login (one_revokes_key files) r
 RefusesUser file.AuthorizedKeys login authorities files accepts (b ∷ blob) r = IsWhyNoCertificate (certificate_login login files accepts (b ∷ blob)) r
 RefusesUser file.Principals login authorities files accepts blob r = IsWhyNoPrincipal (certificate_login login files accepts blob) authorities r
 
 -- What is read of the login, what the host is called, and this for every verifier that says so about
 -- the question of the certificate, whatever it says about all others.
-abbrev pub ForVerified : UserFile → LoginRequest → List ℕ → List ℕ → ℕ → ((Grant → Type 0) → (Refusal → Type 0) → ℕ → Type 0) → Type 0
-ForVerified f l text host is_verified Decides = (r : Reading) × IsReadingOf l r × ((name : Option (Bor (List ℕ))) × IsNameIn host name × ((accepts : Question → Bool) → Verified accepts l.certificate.now is_verified → Decides (AdmitsUser f (user_login f l r text name) (authorities_of l.authorities.now) r.files accepts l.certificate.now) (RefusesUser f (user_login f l r text name) (authorities_of l.authorities.now) r.files accepts l.certificate.now) (revoked_number r.files)))
+abbrev pub ForVerified : UserFile → LoginRequest → List ℕ → List ℕ → ℕ → ((UserGrant → Type 0) → (UserRefusal → Type 0) → ℕ → Type 0) → Type 0
+ForVerified f l text host is_verified Decides = (r : Reading) × IsReadingOf l r × ((name : Option (Bor (List ℕ))) × IsNameIn host name × ((accepts : Question → Bool) → Verified accepts l.certificate.now is_verified → Decides (AdmitsUser f (user_login f l r text name) (authorities_of l.authorities.now) r.files accepts l.certificate.now) (RefusesUser f (user_login f l r text name) (authorities_of l.authorities.now) r.files accepts l.certificate.now) (revoked_status r.files)))
 
 -- ---- the verdict
 
 -- With 0 the answer is the grant of who is let in, and its bytes are at the front of the room. With
 -- 2 the room is too short for them, and nothing is granted. Every other number says that nobody is
 -- let in, and what is wrong first; the answer has the line that is its reason, and nothing else.
-pub record DecidesUser (n : ℕ) (a : UserGrantParts) (before after : List ℕ) (Admitted : Grant → Type 0) (Refused : Refusal → Type 0) (of_revoked : ℕ) : Type 0 where
-  pub given : n ≡ 0 → (g : Grant) × Admitted g × IsAtFront (user_grant_bytes g) (ArePlaced g a) before after
-  pub short : n ≡ 2 → (g : Grant) × Admitted g × LacksRoom (user_grant_bytes g) a.grant.length before after × (a ≡ no_grant a.grant.length 0)
-  pub kept_out : n ≢ 0 → n ≢ 2 → (g : Grant) → Admitted g → ⊥
-  pub first : n ≢ 0 → n ≢ 2 → (r : Refusal) × Refused r × (denied n a.line ≡ denied_by of_revoked r)
+pub record DecidesUser (n : ℕ) (a : UserGrantParts) (before after : List ℕ) (Admitted : UserGrant → Type 0) (Refused : UserRefusal → Type 0) (of_revoked : ℕ) : Type 0 where
+  pub given : n ≡ 0 → (g : UserGrant) × Admitted g × IsAtFront (user_grant_bytes g) (ArePlaced g a) before after
+  pub short : n ≡ 2 → (g : UserGrant) × Admitted g × LacksRoom (user_grant_bytes g) a.grant.length before after × (a ≡ no_grant a.grant.length 0)
+  pub kept_out : n ≢ 0 → n ≢ 2 → (g : UserGrant) → Admitted g → ⊥
+  pub first : n ≢ 0 → n ≢ 2 → (r : UserRefusal) × Refused r × (denied n a.line ≡ denial_of of_revoked r)
 
 -- memory aside
 abbrev pub TellsFile : UserFile → LoginRequest → List ℕ → List ℕ → ℕ → ℕ → UserGrantParts → List ℕ → List ℕ → Type 0
@@ -129,9 +129,9 @@ IsDenied a = a ≡ no_grant 0 a.line
 -- ---- how it is given
 
 -- What is laid out is a grant of who is let in; or nobody is, for that.
-abbrev pub DecidesLaid : {Z : Type 0} → Result (Vec ℕ Z × UserGrantParts) Denial → (Grant → Type 0) → (Refusal → Type 0) → ℕ → Type 0
-DecidesLaid (Ok laid) Admitted Refused of_revoked = (g : Grant) × Admitted g × IsLaidOut user_grant_bytes ArePlaced g laid.0.items laid.1
-DecidesLaid (Err d) Admitted Refused of_revoked = ((g : Grant) → Admitted g → ⊥) × ((r : Refusal) × Refused r × (d ≡ denied_by of_revoked r))
+abbrev pub DecidesLaid : {Z : Type 0} → Result (Vec ℕ Z × UserGrantParts) Denial → (UserGrant → Type 0) → (UserRefusal → Type 0) → ℕ → Type 0
+DecidesLaid (Ok laid) Admitted Refused of_revoked = (g : UserGrant) × Admitted g × IsLaidOut user_grant_bytes ArePlaced g laid.0.items laid.1
+DecidesLaid (Err d) Admitted Refused of_revoked = ((g : UserGrant) → Admitted g → ⊥) × ((r : UserRefusal) × Refused r × (d ≡ denial_of of_revoked r))
 
 -- memory ran out
 abbrev pub RanOut : {A : Type 0} → Result A Denial → Type 0

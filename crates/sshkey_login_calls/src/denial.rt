@@ -1,11 +1,11 @@
 //! Why authorized_keys or a file of principals lets nobody in, as numbers.
 
 ghost use Rattle.std.specs.Prelude.{◌≡◌, ◌≢◌, ◌<◌};
-ghost use Rattle.sshkey_login_calls.specs.UserKeys.{denied, denied_by, reason_number};
+ghost use Rattle.sshkey_login_calls.specs.UserKeys.{denial_of, denied, reason_status};
 
-use crate::login::login_number;
+use crate::login::login_status;
 use sshkey_calls::number::{KEY_NOT_ACCEPTED, MEMORY};
-use user_keys::{Reason, Refusal};
+use user_keys::{Reason, UserRefusal};
 
 /// No line is for the key, for the authority that signed the certificate, or for a principal of it.
 const NOT_LISTED: u32 = 90;
@@ -39,30 +39,30 @@ pub(crate) fn denied(number: u32) -> Denial
 }
 
 /// What is answered to a refusal, where the number of what is revoked is given.
-pub(crate) fn denied_by(refusal: Refusal, of_revoked: u32) -> Denial
+pub(crate) fn denial_of(refusal: UserRefusal, of_revoked: u32) -> Denial
     requires { 2 < of_revoked }
-    ensures denial { result ≡ denied_by of_revoked refusal }
+    ensures denial { result ≡ denial_of of_revoked refusal }
     ensures refused { result.number ≢ 1 → 2 < result.number }
 {
     match refusal {
-        Refusal::NotListed => denied(NOT_LISTED),
-        Refusal::NotAllowed { line, reason } => Denial {
-            number: reason_number(reason),
+        UserRefusal::NotListed => denied(NOT_LISTED),
+        UserRefusal::NotAllowed { line, reason } => Denial {
+            number: reason_status(reason),
             line,
         },
-        Refusal::Unclear { line } => Denial {
+        UserRefusal::Unclear { line } => Denial {
             number: UNCLEAR,
             line,
         },
-        Refusal::UnacceptedKey => denied(KEY_NOT_ACCEPTED),
-        Refusal::Revoked => denied(of_revoked),
-        Refusal::Certificate(refusal) => denied(login_number(refusal, of_revoked)),
-        Refusal::Memory => denied(MEMORY),
+        UserRefusal::UnacceptedKey => denied(KEY_NOT_ACCEPTED),
+        UserRefusal::Revoked => denied(of_revoked),
+        UserRefusal::Certificate(refusal) => denied(login_status(refusal, of_revoked)),
+        UserRefusal::Memory => denied(MEMORY),
     }
 }
 
-fn reason_number(reason: Reason) -> u32
-    ensures number { result ≡ reason_number reason }
+fn reason_status(reason: Reason) -> u32
+    ensures number { result ≡ reason_status reason }
     ensures range { 2 < result }
 {
     match reason {

@@ -7,7 +7,7 @@ ghost use Rattle.sshkey_calls.specs.Rooms.{IsLaidOut};
 ghost use Rattle.sshkey_fingerprints.specs.Fingerprints.{digest_of, fingerprint_hash};
 ghost use Rattle.sshkey_model.specs.Certificates.{Certificate};
 ghost use Rattle.sshkey_model.specs.Names.{Sha256};
-ghost use Rattle.sshkey_login_calls.specs.Grants.{ArePlaced, Gives, bit, grant_bytes, nothing, or_empty, permits_of};
+ghost use Rattle.sshkey_login_calls.specs.Grants.{ArePlaced, Gives, bit, empty_grant, grant_bytes, or_empty, permits_of};
 
 use login_policy::Grant;
 use sshkey_base::Result;
@@ -54,8 +54,8 @@ pub struct GrantParts {
 }
 
 /// The grant of nothing, which needs a room of that many bytes.
-pub(crate) fn nothing(length: usize) -> GrantParts
-    ensures { result ≡ nothing length }
+pub(crate) fn empty_grant(length: usize) -> GrantParts
+    ensures { result ≡ empty_grant length }
 {
     let part = Part {
         start: 0,
@@ -73,7 +73,7 @@ pub(crate) fn nothing(length: usize) -> GrantParts
 
 /// Answers with the grant, its bytes in the room. Where the room is shorter, it stays as it was, and
 /// the answer is the other one, which says only how many bytes there are.
-pub(crate) fn give<G: Copy>(
+pub(crate) fn write_grant<G: Copy>(
     content: &[u8],
     grant: G,
     short: G,
@@ -92,7 +92,7 @@ pub(crate) fn give<G: Copy>(
 
 /// The bytes of what is granted, one part after the other, and where they are. Fails only when out
 /// of memory.
-pub(crate) fn lay_out(alloc: Global, grant: &Grant) -> Result<(Vec<u8>, GrantParts)>
+pub(crate) fn lay_out_grant(alloc: Global, grant: &Grant) -> Result<(Vec<u8>, GrantParts)>
     requires { fingerprint_hash grant.now.authority ≡ Sha256 }
     ensures laid { IfOk result (λ laid. (c : Certificate) → IsGrantOf c grant.now
         → IsLaidOut grant_bytes ArePlaced c laid.0.items laid.1) }

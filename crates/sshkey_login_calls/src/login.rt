@@ -10,16 +10,16 @@ ghost use Rattle.sshkey_model.specs.Keys.{SpellsKey, key_data_at};
 ghost use Rattle.sshkey_keys_ref.specs.KeyDataRef.{key_bytes};
 ghost use Rattle.sshkey_model.specs.Reading.{Fault, whole};
 ghost use Rattle.sshkey_login_calls.specs.Grants.{IsGranted, TellsGrant};
-ghost use Rattle.sshkey_login_calls.specs.Logins.{TellsLogin, login_number, number_of};
+ghost use Rattle.sshkey_login_calls.specs.Logins.{TellsLogin, login_status, number_of};
 
-use crate::grant::{GrantParts, give, lay_out, nothing};
+use crate::grant::{GrantParts, empty_grant, lay_out_grant, write_grant};
 use crate::request::{LoginRequest, client_of};
-use login_policy::{Login, Refusal, log_in};
+use login_policy::{Login, LoginRefusal, log_in};
 use sshkey_calls::number::{
-    ELSEWHERE, KEY_NOT_ACCEPTED, MEMORY, NOT_NORMAL_FORM, TEXT, certificate_error_number,
-    error_number, refusal_number,
+    ELSEWHERE, KEY_NOT_ACCEPTED, MEMORY, NOT_NORMAL_FORM, TEXT, certificate_error_status,
+    error_status, refusal_status,
 };
-use sshkey_calls::{Sha256Digest, Verification};
+use sshkey_calls::{GivenAnswer, Sha256Digest};
 use sshkey_entry_calls::RevocationFiles;
 use sshkey_keys::Fingerprint;
 use sshkey_keys_ref::KeyDataRef;
@@ -64,11 +64,11 @@ pub fn login_verdict(
 {
     match judge(alloc, login, is_verified) {
         Ok((content, grant)) => {
-            let short = nothing(grant.length);
-            give(&content, grant, short, room, answer)
+            let short = empty_grant(grant.length);
+            write_grant(&content, grant, short, room, answer)
         }
         Err(number) => {
-            *answer = nothing(0);
+            *answer = empty_grant(0);
             number
         }
     }
@@ -96,7 +96,7 @@ fn judge(
     };
     match KeyDataRef::from_bytes(login.key) {
         Ok(key) => judge_of(alloc, login, user, &key, is_verified),
-        Err(error) => Err(error_number(error)),
+        Err(error) => Err(error_status(error)),
     }
 }
 
@@ -131,13 +131,13 @@ pub(crate) fn judge_of(
         least_rsa_bits: login.least_rsa_bits,
         client: client_of(login),
     };
-    let said = Verification::of(is_verified);
+    let said = GivenAnswer::of(is_verified);
     match log_in(alloc, &asked, &files, &said) {
-        Ok(grant) => match lay_out(alloc, &grant) {
+        Ok(grant) => match lay_out_grant(alloc, &grant) {
             Ok(laid) => Ok(laid),
             Err(_) => Err(MEMORY),
         },
-        Err(refusal) => Err(login_number(refusal, files.revoked_number())),
+        Err(refusal) => Err(login_status(refusal, files.revoked_status())),
     }
 }
 
@@ -156,18 +156,18 @@ pub(crate) fn fingerprints(
 }
 
 /// The number of a refusal, where the one of a certificate that is revoked is given.
-pub(crate) fn login_number(refusal: Refusal, of_revoked: u32) -> u32
+pub(crate) fn login_status(refusal: LoginRefusal, of_revoked: u32) -> u32
     requires { 2 < of_revoked }
-    ensures number { result ≡ login_number of_revoked refusal }
+    ensures number { result ≡ login_status of_revoked refusal }
     ensures refused { result ≢ 1 → 2 < result }
 {
     match refusal {
-        Refusal::Certificate(error) => certificate_error_number(error),
-        Refusal::NotNormalForm => NOT_NORMAL_FORM,
-        Refusal::UnacceptedKey => KEY_NOT_ACCEPTED,
-        Refusal::Revoked => of_revoked,
-        Refusal::Invalid(refusal) => refusal_number(Some(refusal)),
-        Refusal::Elsewhere => ELSEWHERE,
-        Refusal::Memory => MEMORY,
+        LoginRefusal::Certificate(error) => certificate_error_status(error),
+        LoginRefusal::NotNormalForm => NOT_NORMAL_FORM,
+        LoginRefusal::UnacceptedKey => KEY_NOT_ACCEPTED,
+        LoginRefusal::Revoked => of_revoked,
+        LoginRefusal::Invalid(refusal) => refusal_status(Some(refusal)),
+        LoginRefusal::Elsewhere => ELSEWHERE,
+        LoginRefusal::Memory => MEMORY,
     }
 }

@@ -12,7 +12,7 @@ ghost use Rattle.sshkey_login_calls.specs.Questions.{AnswersQuestion, TellsLogin
 use crate::login::judge_of;
 use crate::request::LoginRequest;
 use sshkey_calls::laws::one_outcome;
-use sshkey_calls::number::{NOT_SIGNED, ROOM, TEXT, error_number};
+use sshkey_calls::number::{NOT_SIGNED, ROOM, TEXT, error_status};
 use sshkey_calls::{Question, certificate_question};
 use sshkey_keys_ref::KeyDataRef;
 use std::alloc::Global;
@@ -50,7 +50,7 @@ pub fn login_question(
     };
     match KeyDataRef::from_bytes(login.key) {
         Ok(key) => ask_of(alloc, login, user, &key, room, answer),
-        Err(error) => error_number(error),
+        Err(error) => error_status(error),
     }
 }
 

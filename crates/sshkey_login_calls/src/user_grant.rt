@@ -11,7 +11,7 @@ ghost use Rattle.sshkey_login_calls.specs.UserGrants.{AddsPart, ArePlaced, IsByS
 
 use crate::grant::{
     AGENT_FORWARDING, ANY_COMMAND, GrantParts, NO_TOUCH, NO_VERIFICATION, PORT_FORWARDING, PTY,
-    USER_RC, X11_FORWARDING, bit, nothing,
+    USER_RC, X11_FORWARDING, bit, empty_grant,
 };
 use login_terms::{Permit, Terms};
 use sshkey_base::Result;
@@ -19,7 +19,7 @@ use sshkey_calls::part::{add, add_encoded};
 use sshkey_calls::{Part, Sha256Digest};
 use sshkey_entry_calls::TimeSpan;
 use std::alloc::Global;
-use user_keys::{Certified, Grant};
+use user_keys::{Certified, UserGrant};
 
 /// Tunnels (tun(4)).
 const TUNNELS: u32 = 256;
@@ -64,7 +64,7 @@ pub(crate) fn no_grant(length: usize, line: usize) -> UserGrantParts
         length: 0,
     };
     UserGrantParts {
-        grant: nothing(length),
+        grant: empty_grant(length),
         permit_open: part,
         permit_listen: part,
         environment: part,
@@ -76,7 +76,7 @@ pub(crate) fn no_grant(length: usize, line: usize) -> UserGrantParts
 
 /// The bytes of what is granted, one part after the other, and where they are. Fails where there is
 /// no memory for them.
-pub(crate) fn lay_out_user(alloc: Global, grant: &Grant) -> Result<(Vec<u8>, UserGrantParts)>
+pub(crate) fn lay_out_user(alloc: Global, grant: &UserGrant) -> Result<(Vec<u8>, UserGrantParts)>
     requires { IsBySha256 grant.now.certified }
     ensures { IfOk result
         (λ laid. IsLaidOut user_grant_bytes ArePlaced grant.now laid.0.items laid.1) }

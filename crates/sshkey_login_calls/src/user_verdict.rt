@@ -13,25 +13,27 @@ ghost use Rattle.sshkey_model.specs.Reading.{Fault, whole};
 ghost use Rattle.sshkey_login_calls.specs.UserKeys.{AdmitsUser, AreTexts, IsDenied, Judges, RefusesUser, TellsFile, TellsPrincipals, TellsUser, address_in, login_in};
 ghost use Rattle.sshkey_login_calls.specs.declared.user_verdict.UserFile.TheVariants as file;
 ghost use Rattle.user_keys.specs.Answers.{GrantsExactly};
-ghost use Rattle.user_keys.specs.declared.refusal.Refusal.TheVariants as refusal;
+ghost use Rattle.user_keys.specs.declared.refusal.UserRefusal.TheVariants as refusal;
 
-use crate::denial::{Denial, denied, denied_by};
-use crate::grant::give;
+use crate::denial::{Denial, denial_of, denied};
+use crate::grant::write_grant;
 use crate::login::fingerprints;
 use crate::request::{LoginRequest, client_of};
 use crate::user_grant::{UserGrantParts, lay_out_user, no_grant};
 use login_policy::Client;
-use sshkey_calls::Verification;
-use sshkey_calls::number::{MEMORY, TEXT, error_number};
+use sshkey_calls::GivenAnswer;
+use sshkey_calls::number::{MEMORY, TEXT, error_status};
 use sshkey_entry_calls::RevocationFiles;
 use sshkey_keys_ref::KeyDataRef;
 use std::alloc::Global;
 use std::net::IpAddr;
 use std::str;
-use user_keys::{Grant, Refusal, UserLogin, admit_certificate, admit_key, admit_principal};
+use user_keys::{
+    UserGrant, UserLogin, UserRefusal, log_in_by_certificate, log_in_by_key, log_in_by_principal,
+};
 
-/// Whether a text of authorized_keys lets the login in (`user_keys::admit_key`; and
-/// `user_keys::admit_certificate`, where the login's certificate has bytes), and what it is granted.
+/// Whether a text of authorized_keys lets the login in (`user_keys::log_in_by_key`; and
+/// `user_keys::log_in_by_certificate`, where the login's certificate has bytes), and what it is granted.
 /// The host is the name that was found for the client's address; with no bytes the address stands
 /// for it. The login's authorities are not looked at, and where its caller judges the address there
 /// is none here. 1 says that the question of the certificate (`sshkey_calls::certificate_question`)
@@ -84,7 +86,7 @@ pub fn user_keys_verdict(
 
 /// Whether a text in the form of `AuthorizedPrincipalsFile` (sshd_config(5)) lets in who holds the
 /// login's certificate, by one of the login's authorities, which are those of `TrustedUserCAKeys`
-/// (`user_keys::admit_principal`), and what the login is granted. The user is not asked about.
+/// (`user_keys::log_in_by_principal`), and what the login is granted. The user is not asked about.
 ///
 /// The answer and its number are those of `user_keys_verdict`, of which 95 never comes, and 10 to 29
 /// are of no bytes of a certificate too. The first line for a principal of the certificate decides:
@@ -157,7 +159,7 @@ fn verdict_of(
     match judge(alloc, login, asked) {
         Ok((content, grant)) => {
             let short = no_grant(grant.grant.length, 0);
-            give(&content, grant, short, room, answer)
+            write_grant(&content, grant, short, room, answer)
         }
         Err(denial) => {
             *answer = no_grant(0, denial.line);
@@ -191,7 +193,7 @@ fn judge(
     };
     match KeyDataRef::from_bytes(login.key) {
         Ok(key) => judge_texts(alloc, login, asked, &Texts { user, host }, &key),
-        Err(error) => Err(denied(error_number(error))),
+        Err(error) => Err(denied(error_status(error))),
     }
 }
 
@@ -231,13 +233,13 @@ fn judge_texts(
         unix_timestamp: login.unix_timestamp,
         least_rsa_bits: login.least_rsa_bits,
     };
-    let said = Verification::of(asked.is_verified);
+    let said = GivenAnswer::of(asked.is_verified);
     match admit(alloc, asked.file, &user_login, login, &files, &said) {
         Ok(grant) => match lay_out_user(alloc, &grant) {
             Ok(laid) => Ok(laid),
             Err(_) => Err(denied(MEMORY)),
         },
-        Err(refusal) => Err(denied_by(refusal, files.revoked_number())),
+        Err(refusal) => Err(denial_of(refusal, files.revoked_status())),
     }
 }
 
@@ -248,8 +250,8 @@ fn admit(
     login: &UserLogin,
     request: &LoginRequest<'_>,
     files: &RevocationFiles<'_>,
-    said: &Verification,
-) -> Result<Grant, Refusal>
+    said: &GivenAnswer,
+) -> Result<UserGrant, UserRefusal>
     requires { IsKey (key_of login.now.offered.now) }
     ensures exactly { GrantsExactly (AdmitsUser file (login_in file login.now)
         (authorities_of request.now.authorities.now) (reads_of files.now) (λ _. said.now.is_yes)
@@ -259,20 +261,20 @@ fn admit(
         (reads_of files.now) (λ _. said.now.is_yes) request.now.certificate.now r) }
 {
     match file {
-        UserFile::AuthorizedKeys => admit_by_keys(alloc, login, request, files, said),
-        UserFile::Principals => admit_by_principals(alloc, login, request, files, said),
+        UserFile::AuthorizedKeys => log_in_by_keys(alloc, login, request, files, said),
+        UserFile::Principals => log_in_by_principals(alloc, login, request, files, said),
     }
 }
 
 /// Whether authorized_keys lets in, by the certificate of the key, or by the key where that has no
 /// bytes.
-fn admit_by_keys(
+fn log_in_by_keys(
     alloc: Global,
     login: &UserLogin,
     request: &LoginRequest<'_>,
     files: &RevocationFiles<'_>,
-    said: &Verification,
-) -> Result<Grant, Refusal>
+    said: &GivenAnswer,
+) -> Result<UserGrant, UserRefusal>
     requires { IsKey (key_of login.now.offered.now) }
     ensures exactly { GrantsExactly (AdmitsUser file.AuthorizedKeys
         (login_in file.AuthorizedKeys login.now)
@@ -283,19 +285,19 @@ fn admit_by_keys(
         (reads_of files.now) (λ _. said.now.is_yes) request.now.certificate.now r) }
 {
     if request.certificate.is_empty() {
-        return admit_key(alloc, login, files);
+        return log_in_by_key(alloc, login, files);
     }
-    admit_certificate(alloc, login, request.certificate, files, said)
+    log_in_by_certificate(alloc, login, request.certificate, files, said)
 }
 
 /// Whether a file of principals lets in, by the certificate of the key.
-fn admit_by_principals(
+fn log_in_by_principals(
     alloc: Global,
     login: &UserLogin,
     request: &LoginRequest<'_>,
     files: &RevocationFiles<'_>,
-    said: &Verification,
-) -> Result<Grant, Refusal>
+    said: &GivenAnswer,
+) -> Result<UserGrant, UserRefusal>
     requires { IsKey (key_of login.now.offered.now) }
     ensures exactly { GrantsExactly (AdmitsUser file.Principals (login_in file.Principals login.now)
         (authorities_of request.now.authorities.now) (reads_of files.now) (λ _. said.now.is_yes)
@@ -305,9 +307,9 @@ fn admit_by_principals(
         (reads_of files.now) (λ _. said.now.is_yes) request.now.certificate.now r) }
 {
     let Ok(authorities) = fingerprints(alloc, request.authorities) else {
-        return Err(Refusal::Memory);
+        return Err(UserRefusal::Memory);
     };
-    admit_principal(alloc, login, request.certificate, &authorities, files, said)
+    log_in_by_principal(alloc, login, request.certificate, &authorities, files, said)
 }
 
 /// The client's address, if it is known.

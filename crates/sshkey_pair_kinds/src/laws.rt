@@ -9,7 +9,7 @@ use crate::dsa::{DsaKeypair, DsaPrivateKey};
 use crate::ecdsa::{EcdsaKeypair, EcdsaPrivateKey};
 use crate::ed25519::{Ed25519Keypair, Ed25519PrivateKey};
 use crate::rsa::{RsaKeypair, RsaPrivateKey};
-use crate::security_pair::{SkEcdsaSha2NistP256, SkEd25519};
+use crate::sk_keypair::{SkEcdsaSha2NistP256, SkEd25519};
 use sshkey_kinds::laws::{compared_sk_ecdsa_keys, compared_sk_ed25519_keys};
 pub use sshkey_model::laws::private::{
     prefix_ecdsa_pair, prefix_pair, prefix_rsa_private, prefix_scalar,

@@ -7,10 +7,10 @@ mod ed25519;
 mod held;
 pub mod laws;
 mod rsa;
-mod security_pair;
+mod sk_keypair;
 
 pub use dsa::{DsaKeypair, DsaPrivateKey};
 pub use ecdsa::{EcdsaKeypair, EcdsaPrivateKey};
 pub use ed25519::{Ed25519Keypair, Ed25519PrivateKey};
 pub use rsa::{RsaKeypair, RsaPrivateKey};
-pub use security_pair::{SkEcdsaSha2NistP256, SkEd25519};
+pub use sk_keypair::{SkEcdsaSha2NistP256, SkEd25519};

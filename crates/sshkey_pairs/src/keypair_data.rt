@@ -316,7 +316,7 @@ impl NormalForm for KeypairData {
 
     ghost IsWellFormed = { λ k. IsWellFormedPair (pair_of k) };
 
-    fn normal_spells() {}
+    fn lawful_normal_form() {}
 }
 
 /// The xor of the whole words of four bytes, most significant byte first.

@@ -14,7 +14,7 @@ ghost use Rattle.sshkey_private.specs.Openings.{opening_of, magic_of, one_of, on
 use sshkey_base::{Decode, Error, Reader, Result, array_from, encoding};
 use sshkey_ciphers::{Cipher, Kdf};
 use sshkey_keys::KeyData;
-use sshkey_terms::{Boxed, Then, Wide};
+use sshkey_terms::{LengthPrefixed, Then, Wide};
 use std::alloc::Global;
 
 /// What a private key begins with.
@@ -40,7 +40,7 @@ struct One(u32);
 type Sealing = Then<Magic, Then<Wide<Cipher>, Kdf>>;
 
 /// The number of keys, and the public key in a string.
-type Keys = Then<One, Boxed<KeyData>>;
+type Keys = Then<One, LengthPrefixed<KeyData>>;
 
 /// The magic bytes, cipher, key derivation, the number 1, and the public key in a string.
 ///
@@ -57,7 +57,7 @@ pub(crate) fn opening_from<R: Reader>(alloc: Global, reader: &mut R) -> Result<O
 {
     let Then(sealing, keys) = Then::<Sealing, Keys>::decode(alloc, reader)?;
     let Then(_, Then(Wide(cipher), kdf)) = sealing;
-    let Then(_, Boxed(public)) = keys;
+    let Then(_, LengthPrefixed(public)) = keys;
     Ok(Opening {
         cipher,
         kdf,

@@ -119,7 +119,7 @@ impl NormalForm for PrivateKey {
 
     ghost IsWellFormed = { λ k. IsPrivateKey (private_of k) };
 
-    fn normal_spells() {}
+    fn lawful_normal_form() {}
 }
 
 impl PrivateKey {

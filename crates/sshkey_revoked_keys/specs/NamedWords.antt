@@ -1,6 +1,6 @@
 -- What a word of Base64 says under a name.
 use Rattle.std.specs.Prelude.{◌≡◌, ◌≢◌, ◌⊎◌, ℕ, List, Bool, true, false, IsTrue}
-use Rattle.openssh_limits.specs.Keys.{is_read_key}
+use Rattle.openssh_limits.specs.Keys.{openssh_reads_key}
 use Rattle.openssh_limits.specs.Read.{AreReadPrincipals}
 use Rattle.sshkey_model.specs.Formats.{Format}
 use Rattle.sshkey_base.specs.declared.error.Error.{Error}
@@ -38,7 +38,7 @@ pub record HasReadFault {V Y : Type 0} (f : Format Y) (name : V → List ℕ) (S
 
 -- a key of any size: a line with one that is too short for it is passed over, and nobody logs in by it
 abbrev pub IsReadKey : Key → Type 0
-IsReadKey k = IsTrue (is_read_key 0 k)
+IsReadKey k = IsTrue (openssh_reads_key 0 k)
 
 -- a certificate: its key, the key that signed it, its key id and its principals
 pub record IsReadCertificate (c : Certificate) : Type 0 where

@@ -13,10 +13,12 @@ ghost use Rattle.sshkey_revoked_keys.specs.NamedWords.{HasNamedFault, IsReadCert
 ghost use Rattle.sshkey_revoked_keys.specs.RevokedLines.{HasLineFault, NeedsEntry, NeedsLine, RevokesKey, is_certified_name, revoked_lines};
 
 use crate::named_word::read_named;
-use openssh_limits::{LEAST_RSA_BITS, are_read_principals, is_read_key, is_read_text};
+use openssh_limits::{
+    LEAST_RSA_BITS, openssh_reads_key, openssh_reads_principals, openssh_reads_text,
+};
 use sshkey_base::{Algorithm, Error, Result, encode_vec, encoding};
 use sshkey_cert::Certificate;
-use sshkey_entries::{skip_blanks, split_field};
+use sshkey_entries::{skip_blanks, split_blank};
 use sshkey_keys::KeyData;
 use std::alloc::Global;
 
@@ -65,8 +67,8 @@ fn read_line(alloc: Global, line: &str) -> Result<Vec<u8>>
     ensures fault { RefusesFor HasLineFault line.now result }
     ensures asks { AsksEntry NeedsEntry line.now result }
 {
-    let (name, after) = split_field(line);
-    let (word, _) = split_field(skip_blanks(after));
+    let (name, after) = split_blank(line);
+    let (word, _) = split_blank(skip_blanks(after));
     let word = without_return(word);
     if word.is_empty() {
         return Err(Error::Encoding(encoding::Error::Length));
@@ -126,16 +128,16 @@ fn is_read_certificate(certificate: &Certificate) -> bool
     ensures { IsTrue result ↔ IsReadCertificate (certificate_of certificate.now) }
 {
     is_read_line_key(certificate.public_key())
-        && is_read_key(certificate.signature_key(), LEAST_RSA_BITS)
-        && is_read_text(certificate.key_id())
-        && are_read_principals(certificate.valid_principals())
+        && openssh_reads_key(certificate.signature_key(), LEAST_RSA_BITS)
+        && openssh_reads_text(certificate.key_id())
+        && openssh_reads_principals(certificate.valid_principals())
 }
 
 /// Whether OpenSSH reads the key, or passes it over since it is too short.
 fn is_read_line_key(key: &KeyData) -> bool
     ensures { IsTrue result ↔ IsReadKey (key_of key.now) }
 {
-    is_read_key(key, 0)
+    openssh_reads_key(key, 0)
 }
 
 /// The bytes of the normal form of a key, whose parts were read. Fails only when out of memory.

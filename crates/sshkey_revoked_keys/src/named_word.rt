@@ -38,7 +38,7 @@ pub(crate) fn read_named<T: Blob + Drop>(alloc: Global, name: &str, word: &str) 
     ensures fault { RefusesFor (HasNameFault T.format T.name T.Spelling name.now) word.now result }
     ensures asks { AsksWord T.format word.now result }
 {
-    T::stands();
+    T::lawful_blob();
     let value: T = read_word(alloc, word)?;
     if !is_named(&value, name) {
         return Err(Error::AlgorithmUnknown);

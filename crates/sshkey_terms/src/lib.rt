@@ -12,17 +12,17 @@
 //! What is read off a slice without memory ([`split_bytes`] and its like) stands here too.
 #![tactic(auto)]
 
-mod boxed;
 mod counted;
 mod leaves;
+mod length_prefixed;
 mod read_from;
 mod split;
 mod then;
 mod wide;
 
-pub use boxed::Boxed;
 pub use counted::{Counted, counted_len, decode_each, encode_counted};
 pub use leaves::bytes_from;
+pub use length_prefixed::LengthPrefixed;
 pub use read_from::ReadFrom;
 pub use split::{split_bytes, split_string, split_text, split_u32, split_u64};
 pub use then::Then;

@@ -12,7 +12,7 @@ use Rattle.sshkey_userauth.specs.Judgements.{HasNoKey, IsAsked, LacksKey, judged
 use Rattle.sshkey_userauth.specs.Requests.{UserauthRequest, userauth_request}
 use Rattle.sshkey_userauth.specs.declared.judgement.Requirements.{Requirements}
 use Rattle.sshkey_userauth.specs.declared.judgement.name.KeyForm.{KeyForm}
-use Rattle.sshkey_userauth.specs.declared.refusal.Refusal.TheVariants.{Key as NoKey}
+use Rattle.sshkey_userauth.specs.declared.refusal.UserauthRefusal.TheVariants.{Key as NoKey}
 
 module _ (r : UserauthRequest) (required : Requirements) (g : Signature) where
   -- what is found of the key is the same by each form of it

@@ -11,8 +11,8 @@ use Rattle.sshkey_userauth.specs.Judgements.{flags_of, form_of, judged, key_from
 use Rattle.sshkey_userauth.specs.Requests.{UserauthRequest, userauth_request}
 use Rattle.sshkey_userauth.specs.declared.judgement.Requirements.{Requirements}
 use Rattle.sshkey_userauth.specs.declared.judgement.name.KeyForm.TheVariants.{Plain, Certified}
-use Rattle.sshkey_userauth.specs.declared.refusal.Refusal.TheVariants as refusals
-use Rattle.sshkey_userauth.specs.declared.refusal.Refusal.TheVariants.{Touch, Verification}
+use Rattle.sshkey_userauth.specs.declared.refusal.UserauthRefusal.TheVariants as refusals
+use Rattle.sshkey_userauth.specs.declared.refusal.UserauthRefusal.TheVariants.{Touch, Verification}
 
 -- ---- bytes
 

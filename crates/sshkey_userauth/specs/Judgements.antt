@@ -15,8 +15,8 @@ use Rattle.sshkey_userauth.specs.Requests.{UserauthRequest, userauth_request}
 use Rattle.sshkey_userauth.specs.declared.judgement.Requirements.{Requirements}
 use Rattle.sshkey_userauth.specs.declared.judgement.name.KeyForm.{KeyForm}
 use Rattle.sshkey_userauth.specs.declared.judgement.name.KeyForm.TheVariants.{Plain, Certified}
-use Rattle.sshkey_userauth.specs.declared.refusal.Refusal.{Refusal}
-use Rattle.sshkey_userauth.specs.declared.refusal.Refusal.TheVariants as refusals
+use Rattle.sshkey_userauth.specs.declared.refusal.UserauthRefusal.{UserauthRefusal}
+use Rattle.sshkey_userauth.specs.declared.refusal.UserauthRefusal.TheVariants as refusals
 
 -- ---- the names of algorithms
 
@@ -66,7 +66,7 @@ abbrev pub lacks_verification : ℕ → Bool
 lacks_verification flags = bit_and flags 0x04 == 0
 
 -- what the flags lack of what is required
-abbrev pub lacking : Requirements → Option ℕ → Result (Unit {0}) Refusal
+abbrev pub lacking : Requirements → Option ℕ → Result (Unit {0}) UserauthRefusal
 lacking required None = Ok tt
 lacking required (Some flags) =
     if required.touch_required && lacks_touch flags then Err refusals.Touch
@@ -78,21 +78,21 @@ lacking required (Some flags) =
 abbrev pub connection : List ℕ
 connection = codes "ssh-connection"
 
-abbrev pub named_form : Option KeyForm → Result KeyForm Refusal
+abbrev pub named_form : Option KeyForm → Result KeyForm UserauthRefusal
 named_form None = Err refusals.Algorithm
 named_form (Some form) = Ok form
 
-abbrev pub with_flags : Result (Unit {0}) Refusal → KeyForm → Result KeyForm Refusal
+abbrev pub with_flags : Result (Unit {0}) UserauthRefusal → KeyForm → Result KeyForm UserauthRefusal
 with_flags (Ok x) form = Ok form
 with_flags (Err e) form = Err e
 
-abbrev pub named_with_flags : Result KeyForm Refusal → Result (Unit {0}) Refusal → Result KeyForm Refusal
+abbrev pub named_with_flags : Result KeyForm UserauthRefusal → Result (Unit {0}) UserauthRefusal → Result KeyForm UserauthRefusal
 named_with_flags (Err e) flags = Err e
 named_with_flags (Ok form) flags = with_flags flags form
 
 -- how the key stands in the request, or what is wrong first: the service, the algorithm's name, the
 -- flags
-abbrev pub judged : UserauthRequest → Requirements → Signature → Result KeyForm Refusal
+abbrev pub judged : UserauthRequest → Requirements → Signature → Result KeyForm UserauthRefusal
 judged r required g =
     if bytes_eq r.service connection
     then named_with_flags (named_form (form_of r.algorithm g.algorithm)) (lacking required (flags_of g))
@@ -106,7 +106,7 @@ key_from Plain b = whole key_data_at b
 key_from Certified b = whole certificate_at b >>= λ c. Ok c.0.signed.key
 
 -- The key in the bytes, or why there is none, or that there is no memory for one that is there.
-abbrev pub ReadsKey : KeyForm → List ℕ → Result KeyData Refusal → Type 0
+abbrev pub ReadsKey : KeyForm → List ℕ → Result KeyData UserauthRefusal → Type 0
 ReadsKey form b (Ok key) = key_from form b ≡ Ok (key_of key)
 ReadsKey form b (Err (refusals.Key e)) = IsErrAnd (key_from form b) (λ fault. cause e ≡ Faulty fault)
 ReadsKey form b (Err refusals.Memory) = IsOk (key_from form b)
@@ -124,7 +124,7 @@ pub record IsAsked (r : UserauthRequest) (required : Requirements) (g : Signatur
   pub question : q ≡ question key (flat (userauth_request r)) g
 
 -- The request is judged well, and its key is not read for that reason.
-pub record HasNoKey (r : UserauthRequest) (required : Requirements) (g : Signature) (e : Refusal) : Type 0 where
+pub record HasNoKey (r : UserauthRequest) (required : Requirements) (g : Signature) (e : UserauthRefusal) : Type 0 where
   pub form : KeyForm
   pub judged : judged r required g ≡ Ok form
   pub none : ReadsKey form r.public_key (Err e)
@@ -135,5 +135,5 @@ pub record LacksKey (r : UserauthRequest) (required : Requirements) (g : Signatu
   pub judged : judged r required g ≡ Ok form
   pub none : key_from form r.public_key ≡ Err fault
 
-abbrev pub IsRefused : UserauthRequest → Requirements → Signature → Refusal → Type 0
+abbrev pub IsRefused : UserauthRequest → Requirements → Signature → UserauthRefusal → Type 0
 IsRefused r required g e = (judged r required g ≡ Err e) ⊎ HasNoKey r required g e

@@ -10,13 +10,13 @@ ghost use Rattle.sshkey_userauth.specs.Judgements.{IsAsked, IsRefused, connectio
 ghost use Rattle.sshkey_userauth.specs.Questions.{asks};
 ghost use Rattle.sshkey_userauth.specs.RequestFormats.{SpellsUserauthRequest};
 ghost use Rattle.sshkey_userauth.specs.Values.{request_of};
-ghost use Rattle.sshkey_userauth.specs.declared.refusal.Refusal.TheVariants as refusals;
+ghost use Rattle.sshkey_userauth.specs.declared.refusal.UserauthRefusal.TheVariants as refusals;
 
 mod flags;
 mod key;
 mod name;
 
-use crate::refusal::Refusal;
+use crate::refusal::UserauthRefusal;
 use crate::request::UserauthRequest;
 pub use flags::check_flags;
 use key::key_in;
@@ -65,7 +65,7 @@ impl UserauthRequest<'_> {
         signed: &'a [u8],
         signature: &'a Signature,
         requirements: Requirements,
-    ) -> Result<UserauthQuestion<'a>, Refusal>
+    ) -> Result<UserauthQuestion<'a>, UserauthRefusal>
         ensures other { (SpellsUserauthRequest (request_of self.now) signed.now → ⊥)
             → result ≡ Err refusals.SignedBytes }
         ensures asked { IfOk result (λ q. IsAsked (request_of self.now) requirements
@@ -74,7 +74,7 @@ impl UserauthRequest<'_> {
             (λ e. IsRefused (request_of self.now) requirements (signature_of signature.now) e) }
     {
         if !self.is_spelled(signed) {
-            return Err(Refusal::SignedBytes);
+            return Err(UserauthRefusal::SignedBytes);
         }
         let form = self.judge(signature, requirements)?;
         let key = key_in(alloc, form, self.public_key)?;
@@ -86,18 +86,22 @@ impl UserauthRequest<'_> {
     }
 
     /// How the key stands in the request, or what is wrong first.
-    fn judge(&self, signature: &Signature, requirements: Requirements) -> Result<KeyForm, Refusal>
+    fn judge(
+        &self,
+        signature: &Signature,
+        requirements: Requirements,
+    ) -> Result<KeyForm, UserauthRefusal>
         ensures { result ≡ judged (request_of self.now) requirements (signature_of signature.now) }
     {
         if self.service != CONNECTION {
-            return Err(Refusal::Service);
+            return Err(UserauthRefusal::Service);
         }
         match form_of(self.algorithm, signature.algorithm()) {
             Some(form) => match check_flags(signature, requirements) {
                 Ok(()) => Ok(form),
                 Err(refusal) => Err(refusal),
             },
-            None => Err(Refusal::Algorithm),
+            None => Err(UserauthRefusal::Algorithm),
         }
     }
 }

@@ -8,5 +8,5 @@ mod refusal;
 mod request;
 
 pub use judgement::{CONNECTION, Requirements, UserauthQuestion, check_flags};
-pub use refusal::Refusal;
+pub use refusal::UserauthRefusal;
 pub use request::UserauthRequest;

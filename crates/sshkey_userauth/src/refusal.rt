@@ -4,7 +4,7 @@ use sshkey_base::Error;
 
 /// Why a client's signature is refused, before a verifier is asked.
 #[derive(Debug, Drop)]
-pub enum Refusal {
+pub enum UserauthRefusal {
     /// The signed bytes are not those of the request.
     SignedBytes,
     /// The service is not `ssh-connection`.

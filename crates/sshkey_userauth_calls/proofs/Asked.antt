@@ -15,10 +15,10 @@ use Rattle.sshkey_userauth.specs.Judgements.{HasNoKey, IsAsked, IsRefused, Lacks
 use Rattle.sshkey_userauth.specs.RequestFormats.{SpellsUserauthRequest}
 use Rattle.sshkey_userauth.specs.Requests.{UserauthRequest}
 use Rattle.sshkey_userauth.specs.declared.judgement.Requirements.{Requirements}
-use Rattle.sshkey_userauth.specs.declared.refusal.Refusal.{Refusal}
-use Rattle.sshkey_userauth.specs.declared.refusal.Refusal.TheVariants as refusals
+use Rattle.sshkey_userauth.specs.declared.refusal.UserauthRefusal.{UserauthRefusal}
+use Rattle.sshkey_userauth.specs.declared.refusal.UserauthRefusal.TheVariants as refusals
 use Rattle.sshkey_userauth.proofs.Once.{asked_keyed, lacks_key, one_asked, one_lack}
-use Rattle.sshkey_userauth_calls.specs.Userauths.{TellsAsked, TellsAskedWhere, refusal_number}
+use Rattle.sshkey_userauth_calls.specs.Userauths.{TellsAsked, TellsAskedWhere, refusal_status}
 
 -- the bytes spell one signature only
 pub one_signature : (g h : Signature) (bytes : List ℕ) → SpellsSignature g bytes → SpellsSignature h bytes → g ≡ h
@@ -42,11 +42,11 @@ module _ (r : UserauthRequest) (required : Requirements) (g : Signature) (n : �
   }
 
   module _ (same : (answer ≡ was) × (after ≡ before)) (some : n ≢ 0) (apart : n ≢ 2) where
-    misjudged_told : (e : Refusal) → n ≡ refusal_number e → judged r required g ≡ Err e → TellsAsked r required g n was answer before after
+    misjudged_told : (e : UserauthRefusal) → n ≡ refusal_status e → judged r required g ≡ Err e → TellsAsked r required g n was answer before after
     misjudged_told e number wrong = record {
       raised = none_given n was answer before after same some apart (λ _ q is. absurd (cc (is.judged, wrong)));
       unsupported = λ is. absurd (cc (is.judged, wrong));
-      misjudged = λ f other _. let which : e ≡ f = cc (wrong, other) in number ∙ ap refusal_number which;
+      misjudged = λ f other _. let which : e ≡ f = cc (wrong, other) in number ∙ ap refusal_status which;
       no_key = λ fault lacks. absurd (cc (lacks.judged, wrong));
     }
 
@@ -58,7 +58,7 @@ module _ (r : UserauthRequest) (required : Requirements) (g : Signature) (n : �
       no_key = λ met also _. number ∙ ap fault_number (one_lack r required g fault met lacks also);
     }
 
-    no_key_told : (e : Refusal) → n ≡ refusal_number e → ((x : Error) (fault : Fault) → e ≡ refusals.Key x → cause x ≡ Faulty fault → n ≡ fault_number fault) → HasNoKey r required g e → TellsAsked r required g n was answer before after
+    no_key_told : (e : UserauthRefusal) → n ≡ refusal_status e → ((x : Error) (fault : Fault) → e ≡ refusals.Key x → cause x ≡ Faulty fault → n ≡ fault_number fault) → HasNoKey r required g e → TellsAsked r required g n was answer before after
     no_key_told (refusals.Key x) number key has =
         let met = lacks_key r required g x has in
         keyless_told met.0 (key x met.0 refl met.2) met.1
@@ -69,7 +69,7 @@ module _ (r : UserauthRequest) (required : Requirements) (g : Signature) (n : �
     no_key_told refusals.Touch number key has = absurd has.none
     no_key_told refusals.Verification number key has = absurd has.none
 
-    pub refused_told : (e : Refusal) → n ≡ refusal_number e → ((x : Error) (fault : Fault) → e ≡ refusals.Key x → cause x ≡ Faulty fault → n ≡ fault_number fault) → IsRefused r required g e → TellsAsked r required g n was answer before after
+    pub refused_told : (e : UserauthRefusal) → n ≡ refusal_status e → ((x : Error) (fault : Fault) → e ≡ refusals.Key x → cause x ≡ Faulty fault → n ≡ fault_number fault) → IsRefused r required g e → TellsAsked r required g n was answer before after
     refused_told e number key (inl wrong) = misjudged_told e number wrong
     refused_told e number key (inr has) = no_key_told e number key has
 

@@ -6,12 +6,12 @@ use Rattle.sshkey_model.specs.Verification.{Question, question}
 use Rattle.sshkey_calls.specs.Outcomes.{TellsOf}
 use Rattle.sshkey_userauth.specs.Judgements.{flags_of, lacking}
 use Rattle.sshkey_userauth.specs.declared.judgement.Requirements.{Requirements}
-use Rattle.sshkey_userauth.specs.declared.refusal.Refusal.{Refusal}
-use Rattle.sshkey_userauth_calls.specs.Userauths.{refusal_number}
+use Rattle.sshkey_userauth.specs.declared.refusal.UserauthRefusal.{UserauthRefusal}
+use Rattle.sshkey_userauth_calls.specs.Userauths.{refusal_status}
 
-abbrev pub checked_number : Result (Unit {0}) Refusal → ℕ
-checked_number (Ok x) = 0
-checked_number (Err e) = refusal_number e
+abbrev pub checked_status : Result (Unit {0}) UserauthRefusal → ℕ
+checked_status (Ok x) = 0
+checked_status (Err e) = refusal_status e
 
 -- 40 where nothing is asked, since key and signature do not go together
 abbrev pub number_if_asked : Option Question → ℕ → ℕ
@@ -21,7 +21,7 @@ number_if_asked (Some q) n = n
 -- what the flags lack first, and 0 where they lack nothing; whether something is asked does not
 -- depend on the message
 abbrev pub flags_number : Requirements → Key → Signature → ℕ
-flags_number required k g = number_if_asked (question k [] g) (checked_number (lacking required (flags_of g)))
+flags_number required k g = number_if_asked (question k [] g) (checked_status (lacking required (flags_of g)))
 
 -- It is answered of the signature that the bytes spell, memory aside.
 abbrev pub TellsFlagsUnder : Requirements → Key → List ℕ → ℕ → Type 0

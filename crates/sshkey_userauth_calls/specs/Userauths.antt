@@ -3,7 +3,7 @@ use Rattle.std.specs.Prelude.{◌≡◌, ◌≢◌, ◌==◌, ℕ, List, Option,
 use Rattle.sshkey_model.specs.Parts.{BoxesFit}
 use Rattle.sshkey_model.specs.Reading.{Fault}
 use Rattle.sshkey_model.specs.Signatures.{Signature, signature_at, SpellsSignature}
-use Rattle.sshkey_calls.specs.Numbers.{error_number, fault_number}
+use Rattle.sshkey_calls.specs.Numbers.{error_status, fault_number}
 use Rattle.sshkey_calls.specs.Outcomes.{TellsOf}
 use Rattle.sshkey_calls.specs.Questions.{GivesQuestion}
 use Rattle.sshkey_calls.specs.declared.question.Question.{Question}
@@ -11,8 +11,8 @@ use Rattle.sshkey_userauth.specs.Judgements.{IsAsked, LacksKey, connection, judg
 use Rattle.sshkey_userauth.specs.RequestFormats.{SpellsUserauthRequest}
 use Rattle.sshkey_userauth.specs.Requests.{UserauthRequest, userauth_request}
 use Rattle.sshkey_userauth.specs.declared.judgement.Requirements.{Requirements}
-use Rattle.sshkey_userauth.specs.declared.refusal.Refusal.{Refusal}
-use Rattle.sshkey_userauth.specs.declared.refusal.Refusal.TheVariants as refusals
+use Rattle.sshkey_userauth.specs.declared.refusal.UserauthRefusal.{UserauthRefusal}
+use Rattle.sshkey_userauth.specs.declared.refusal.UserauthRefusal.TheVariants as refusals
 use Rattle.sshkey_userauth_calls.specs.declared.signature.UserauthSignature.{UserauthSignature}
 
 -- ---- what is expected
@@ -31,14 +31,14 @@ requirements_of permits = record { touch_required = bit_and permits 64 == 0; ver
 
 -- ---- what is told
 
-abbrev pub refusal_number : Refusal → ℕ
-refusal_number refusals.SignedBytes = 80
-refusal_number refusals.Service = 80
-refusal_number refusals.Algorithm = 81
-refusal_number refusals.Touch = 82
-refusal_number refusals.Verification = 83
-refusal_number (refusals.Key e) = error_number e
-refusal_number refusals.Memory = 1
+abbrev pub refusal_status : UserauthRefusal → ℕ
+refusal_status refusals.SignedBytes = 80
+refusal_status refusals.Service = 80
+refusal_status refusals.Algorithm = 81
+refusal_status refusals.Touch = 82
+refusal_status refusals.Verification = 83
+refusal_status (refusals.Key e) = error_status e
+refusal_status refusals.Memory = 1
 
 -- What a call answers of a signature that is to be one of the request: the one question that is
 -- asked. Or, memory aside, 40 where nothing is asked, since key and signature do not go together;
@@ -46,7 +46,7 @@ refusal_number refusals.Memory = 1
 pub record TellsAsked (r : UserauthRequest) (required : Requirements) (g : Signature) (n : ℕ) (was answer : Question) (before after : List ℕ) : Type 0 where
   pub raised : GivesQuestion (λ q. IsAsked r required g (Some q)) n was answer before after
   pub unsupported : IsAsked r required g None → n ≢ 1 → n ≡ 40
-  pub misjudged : (e : Refusal) → judged r required g ≡ Err e → n ≢ 1 → n ≡ refusal_number e
+  pub misjudged : (e : UserauthRefusal) → judged r required g ≡ Err e → n ≢ 1 → n ≡ refusal_status e
   pub no_key : (fault : Fault) → LacksKey r required g fault → n ≢ 1 → n ≡ fault_number fault
 
 -- It answers so where this holds. Else it answers that number, memory aside, and nothing changes.

@@ -5,14 +5,14 @@ ghost use Rattle.sshkey_keys_ref.specs.KeyDataRef.{key_bytes};
 ghost use Rattle.sshkey_keys_ref.specs.SignatureRef.{signature_bytes};
 ghost use Rattle.sshkey_model.specs.Keys.{Key, SpellsKey};
 ghost use Rattle.sshkey_model.specs.Signatures.{Signature, SpellsSignature};
-ghost use Rattle.sshkey_userauth_calls.specs.Flags.{TellsFlags, TellsFlagsUnder, checked_number, flags_number};
+ghost use Rattle.sshkey_userauth_calls.specs.Flags.{TellsFlags, TellsFlagsUnder, checked_status, flags_number};
 ghost use Rattle.sshkey_userauth_calls.specs.Userauths.{requirements_of};
 
-use crate::refusal::refusal_number;
+use crate::refusal::refusal_status;
 use crate::signature::requirements_of;
-use sshkey_calls::number::{DONE, MEMORY, UNSUPPORTED, error_number};
+use sshkey_calls::number::{DONE, MEMORY, UNSUPPORTED, error_status};
 use sshkey_keys_ref::{KeyDataRef, SignatureRef};
-use sshkey_userauth::{Refusal, check_flags};
+use sshkey_userauth::{UserauthRefusal, check_flags};
 use std::alloc::Global;
 
 /// Whether the flags in a client's signature under the key that all the bytes spell are what a
@@ -28,7 +28,7 @@ pub fn grant_flags(alloc: Global, permits: u32, key: &[u8], signature: &[u8]) ->
 {
     match KeyDataRef::from_bytes(key) {
         Ok(signer) => flags_under(alloc, permits, &signer, signature),
-        Err(error) => error_number(error),
+        Err(error) => error_status(error),
     }
 }
 
@@ -39,7 +39,7 @@ fn flags_under(alloc: Global, permits: u32, signer: &KeyDataRef<'_>, signature: 
 {
     match SignatureRef::from_bytes(signature) {
         Ok(made) => flags_in(alloc, permits, signer, &made),
-        Err(error) => error_number(error),
+        Err(error) => error_status(error),
     }
 }
 
@@ -56,17 +56,17 @@ fn flags_in(alloc: Global, permits: u32, signer: &KeyDataRef<'_>, made: &Signatu
         return MEMORY;
     };
     match key.question(&[], &signature) {
-        Some(_) => checked_number(check_flags(&signature, requirements_of(permits))),
+        Some(_) => checked_status(check_flags(&signature, requirements_of(permits))),
         None => UNSUPPORTED,
     }
 }
 
 /// The number of what the flags lack first, and 0 where they lack nothing.
-fn checked_number(checked: Result<(), Refusal>) -> u32
-    ensures { result ≡ checked_number checked }
+fn checked_status(checked: Result<(), UserauthRefusal>) -> u32
+    ensures { result ≡ checked_status checked }
 {
     match checked {
         Ok(()) => DONE,
-        Err(refusal) => refusal_number(refusal),
+        Err(refusal) => refusal_status(refusal),
     }
 }

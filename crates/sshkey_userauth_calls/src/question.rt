@@ -7,9 +7,9 @@ ghost use Rattle.sshkey_userauth.specs.RequestFormats.{SpellsUserauthRequest};
 ghost use Rattle.sshkey_userauth.specs.Requests.{userauth_request};
 ghost use Rattle.sshkey_userauth_calls.specs.Userauths.{TellsAskedWhere, TellsUserauthQuestion, TellsUserauthQuestionOf, expected, requirements_of};
 
-use crate::refusal::refusal_number;
+use crate::refusal::refusal_status;
 use crate::signature::{UserauthSignature, requirements_of};
-use sshkey_calls::number::{MEMORY, error_number};
+use sshkey_calls::number::{MEMORY, error_status};
 use sshkey_calls::{Question, answer_question};
 use sshkey_keys_ref::SignatureRef;
 use std::alloc::Global;
@@ -40,7 +40,7 @@ pub fn userauth_question(
 {
     match SignatureRef::from_bytes(signed.signature) {
         Ok(made) => ask_of_request(alloc, signed, &made, room, answer),
-        Err(error) => error_number(error),
+        Err(error) => error_status(error),
     }
 }
 
@@ -60,7 +60,7 @@ pub fn userauth_question_of(
 {
     match SignatureRef::from_bytes(signed.signature) {
         Ok(made) => ask(alloc, signed, &made, bytes, room, answer),
-        Err(error) => error_number(error),
+        Err(error) => error_status(error),
     }
 }
 
@@ -78,7 +78,7 @@ fn ask_of_request(
 {
     match signed.expected().to_bytes(alloc) {
         Ok(bytes) => ask(alloc, signed, made, &bytes, room, answer),
-        Err(error) => error_number(error),
+        Err(error) => error_status(error),
     }
 }
 
@@ -104,6 +104,6 @@ fn ask(
         .question(alloc, bytes, &signature, requirements)
     {
         Ok(asked) => answer_question(alloc, asked.question(), room, answer),
-        Err(refusal) => refusal_number(refusal),
+        Err(refusal) => refusal_status(refusal),
     }
 }

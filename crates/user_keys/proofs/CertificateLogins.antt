@@ -6,10 +6,10 @@ use Rattle.login_policy.specs.Logins.{IsGrantOf, IsLogin, LetsIn}
 use Rattle.login_policy.specs.Refusals.{IsRefusalFor}
 use Rattle.login_policy.specs.declared.client.Client.{Client}
 use Rattle.login_policy.specs.declared.grant.Grant as grants
-use Rattle.login_policy.specs.declared.refusal.Refusal as policies
-use Rattle.login_policy.specs.declared.refusal.Refusal.TheVariants as policy_refusal
+use Rattle.login_policy.specs.declared.refusal.LoginRefusal as policies
+use Rattle.login_policy.specs.declared.refusal.LoginRefusal.TheVariants as policy_refusal
 use Rattle.login_terms.specs.Terms.{Terms, terms_of}
-use Rattle.openssh_limits.specs.Keys.{is_let_in}
+use Rattle.openssh_limits.specs.Keys.{openssh_accepts_key}
 use Rattle.sshkey_base.specs.declared.error.Error.{Error}
 use Rattle.sshkey_base.specs.declared.error.Error.TheVariants as error
 use Rattle.sshkey_cert.specs.Validity.{fingerprint_of}
@@ -30,19 +30,19 @@ use Rattle.user_keys.specs.Spellings.{MaySpell, own_part}
 use Rattle.user_keys.specs.UserLogins.{GrantsFirst, Lets, MayLet}
 use Rattle.user_keys.specs.declared.answer.Judgement.{Judgement}
 use Rattle.user_keys.specs.declared.answer.Judgement.TheVariants as judgement
-use Rattle.user_keys.specs.declared.grant.Grant.{Grant}
-use Rattle.user_keys.specs.declared.refusal.Refusal.{Refusal}
-use Rattle.user_keys.specs.declared.refusal.Refusal.TheVariants as refusal
+use Rattle.user_keys.specs.declared.grant.UserGrant.{UserGrant}
+use Rattle.user_keys.specs.declared.refusal.UserRefusal.{UserRefusal}
+use Rattle.user_keys.specs.declared.refusal.UserRefusal.TheVariants as refusal
 use Rattle.user_keys.proofs.FirstLines.{here, none_lets, nothing_lets, one_terms, strict}
 use Rattle.user_keys.proofs.Lines.{own_spells}
 
 -- ---- refusals
 
-pub other_refusal : (p : policies.Refusal) (r : Refusal) → IsRefusalOf p r → r ≢ refusal.Memory → (p ≢ policy_refusal.Memory) × (r ≡ refusal.Certificate p)
+pub other_refusal : (p : policies.LoginRefusal) (r : UserRefusal) → IsRefusalOf p r → r ≢ refusal.Memory → (p ≢ policy_refusal.Memory) × (r ≡ refusal.Certificate p)
 other_refusal p r (inl memory) other = absurd (other memory.1)
 other_refusal p r (inr is) other = is
 
-pub other_error : (e : Error) (p : policies.Refusal) → IsRefusalFor e p → p ≢ policy_refusal.Memory → (e ≢ error.Memory) × (p ≡ policy_refusal.Certificate e)
+pub other_error : (e : Error) (p : policies.LoginRefusal) → IsRefusalFor e p → p ≢ policy_refusal.Memory → (e ≢ error.Memory) × (p ≡ policy_refusal.Certificate e)
 other_error e p (inl memory) other = absurd (other memory.1)
 other_error e p (inr is) other = is
 
@@ -76,31 +76,31 @@ module _ (one : OneCertificate) (IsLine : Certificate → ℕ → Terms → List
   same : (c d : Certificate) → SpellsCertificate c l.blob → SpellsCertificate d l.blob → d ≡ c
   same c d spelled other = (one d c l.blob l.blob [] [] other spelled refl).0
 
-  pub unread : (r : Refusal) → IsWhyUnread l.blob r → (g : Grant) → AdmitsBy IsLine authorities l g → ⊥
+  pub unread : (r : UserRefusal) → IsWhyUnread l.blob r → (g : UserGrant) → AdmitsBy IsLine authorities l g → ⊥
   unread r (inl none) g is = none.0 is.certificate is.spelled
-  unread r (inr other) g is = let yes = subst (λ (d : Certificate). IsTrue (is_let_in 0 d.signed.signature_key)) (same other.0 is.certificate other.1 is.spelled) is.accepted in let no = other.2 in absurd cc
+  unread r (inr other) g is = let yes = subst (λ (d : Certificate). IsTrue (openssh_accepts_key 0 d.signed.signature_key)) (same other.0 is.certificate other.1 is.spelled) is.accepted in let no = other.2 in absurd cc
 
   module _ (c : Certificate) (spelled : SpellsCertificate c l.blob) where
     -- what is said of a grant is said of this certificate
-    pub said : (g : Grant) → AdmitsBy IsLine authorities l g → (t : Terms) × (name : List ℕ) × IsLine c g.line t name × BindsTogether (policy_login l (authorities c) name) c t g
+    pub said : (g : UserGrant) → AdmitsBy IsLine authorities l g → (t : Terms) × (name : List ℕ) × IsLine c g.line t name × BindsTogether (policy_login l (authorities c) name) c t g
     said g is = subst (λ (d : Certificate). (t : Terms) × (name : List ℕ) × IsLine d g.line t name × BindsTogether (policy_login l (authorities d) name) d t g) (same c is.certificate spelled is.spelled) (is.terms, is.name, is.line, is.granted)
 
     -- no line, no grant
-    pub unlisted : ((n : ℕ) (t : Terms) (name : List ℕ) → IsLine c n t name → ⊥) → (g : Grant) → AdmitsBy IsLine authorities l g → ⊥
+    pub unlisted : ((n : ℕ) (t : Terms) (name : List ℕ) → IsLine c n t name → ⊥) → (g : UserGrant) → AdmitsBy IsLine authorities l g → ⊥
     unlisted none g is = let s = said g is in none g.line s.0 s.1 s.2
 
     -- nor where the policy refuses for the one name
-    pub unwanted : (name : List ℕ) → ((n : ℕ) (t : Terms) (other : List ℕ) → IsLine c n t other → other ≡ name) → (IsLogin (policy_login l (authorities c) name) → ⊥) → (g : Grant) → AdmitsBy IsLine authorities l g → ⊥
+    pub unwanted : (name : List ℕ) → ((n : ℕ) (t : Terms) (other : List ℕ) → IsLine c n t other → other ≡ name) → (IsLogin (policy_login l (authorities c) name) → ⊥) → (g : UserGrant) → AdmitsBy IsLine authorities l g → ⊥
     unwanted name only refused g is =
         let s = said g is in
         let binds = subst (λ (x : List ℕ). BindsTogether (policy_login l (authorities c) x) c s.0 g) (only g.line s.0 s.1 s.2) s.3 in
         refused (record { certificate = c; spelled = spelled; normal = binds.normal; lets_in = binds.lets_in })
 
-    module _ (first g : Grant) (name : List ℕ) (p : grants.Grant) (is : IsLogin (policy_login l (authorities c) name)) (says : IsGrantOf is.certificate p) (line : g.line ≡ first.line) (terms : terms_of g.terms ≡ merged_with (terms_of first.terms) (option_map string_bytes p.force_command) (options_of p.extensions) p.touch_required p.verify_required) where
+    module _ (first g : UserGrant) (name : List ℕ) (p : grants.Grant) (is : IsLogin (policy_login l (authorities c) name)) (says : IsGrantOf is.certificate p) (line : g.line ≡ first.line) (terms : terms_of g.terms ≡ merged_with (terms_of first.terms) (option_map string_bytes p.force_command) (options_of p.extensions) p.touch_required p.verify_required) where
       grant_is : IsGrantOf c p
       grant_is = subst (λ (d : Certificate). IsGrantOf d p) (same c is.certificate spelled is.spelled) says
 
-      pub admitted : IsTrue (is_let_in 0 c.signed.signature_key) → IsLine c first.line (terms_of first.terms) name → g.certified ≡ Some (record { serial = p.serial; key_id = p.key_id; authority = p.authority }) → AdmitsBy IsLine authorities l g
+      pub admitted : IsTrue (openssh_accepts_key 0 c.signed.signature_key) → IsLine c first.line (terms_of first.terms) name → g.certified ≡ Some (record { serial = p.serial; key_id = p.key_id; authority = p.authority }) → AdmitsBy IsLine authorities l g
       admitted accepted here certified =
           let own_one = same c is.certificate spelled is.spelled in
           let grant = grant_is in
@@ -141,7 +141,7 @@ named_if_allowed false false judgement.Unclear e = absurd cc
 named_if_allowed false false (judgement.Refuses r) e = absurd cc
 
 module _ (l : CertificateLogin) (c : Certificate) where
-  pub no_line : (r : Refusal) → IsWhyNoLine (by l.login c) r → (n : ℕ) (t : Terms) (name : List ℕ) → IsLineFor l.login c n t name → ⊥
+  pub no_line : (r : UserRefusal) → IsWhyNoLine (by l.login c) r → (n : ℕ) (t : Terms) (name : List ℕ) → IsLineFor l.login c n t name → ⊥
   no_line refusal.NotListed why n t name is = nothing_lets (Lets (by l.login c)) (MayLet (by l.login c)) l.login.lines why.0 n t is.0
   no_line (refusal.NotAllowed m reason) why n t name is = nothing_lets (Lets (by l.login c)) (MayLet (by l.login c)) l.login.lines why.0 n t is.0
   no_line (refusal.Unclear m) why n t name is = none_lets (Lets (by l.login c)) (MayLet (by l.login c)) l.login.lines why.0 m why.1 why.2 n t is.0
@@ -150,7 +150,7 @@ module _ (l : CertificateLogin) (c : Certificate) where
   no_line (refusal.Certificate p) why n t name is = why
   no_line refusal.Memory why n t name is = why
 
-  module _ (first : Grant) (granted : GrantsFirst (by l.login c) first) where
+  module _ (first : UserGrant) (granted : GrantsFirst (by l.login c) first) where
     pub no_name : name_for c l.login.user (terms_of first.terms) ≡ None → ⊥
     no_name none =
         let yes : is_some (name_for c l.login.user (terms_of first.terms)) ≡ true = named_if_allowed _ _ granted.lets.allowed.0 granted.lets.allowed.2 in

@@ -5,7 +5,7 @@ use Rattle.std.proofs.lemmas.List.{get_or_append_left, get_or-append_right, leng
 use Rattle.std.proofs.Math.Seq.{get_or-append_seam}
 use Rattle.std.specs.List.{Any}
 use Rattle.std.specs.Prelude.{Contains, IsErrAnd, IsSome, option_map}
-use Rattle.openssh_limits.specs.Keys.{is_let_in}
+use Rattle.openssh_limits.specs.Keys.{openssh_accepts_key}
 use Rattle.sshkey_krl.specs.Revocations.{is_key_revoked}
 use Rattle.login_terms.specs.Terms.{Terms}
 use Rattle.user_keys.specs.Answers.{AsksOfLines, GrantsExactly, IsWhyNoLine, SaysOf, first_refused, refusal_for}
@@ -13,10 +13,10 @@ use Rattle.user_keys.specs.Spellings.{MaySpell, own_part}
 use Rattle.user_keys.specs.FirstLines.{EndsBy, IsFirst, LetsFirst, TakesAsTold, TakesFirst}
 use Rattle.user_keys.specs.UserLogins.{Admits, Ends, GrantsFirst, IsListedBy, RefusesFor, UserLogin, listed_key}
 use Rattle.user_keys.specs.declared.answer.LineVerdict.TheVariants as verdict
-use Rattle.user_keys.specs.declared.grant.Grant.{Grant}
+use Rattle.user_keys.specs.declared.grant.UserGrant.{UserGrant}
 use Rattle.user_keys.specs.declared.refusal.Reason.{Reason}
-use Rattle.user_keys.specs.declared.refusal.Refusal.{Refusal}
-use Rattle.user_keys.specs.declared.refusal.Refusal.TheVariants as refusal
+use Rattle.user_keys.specs.declared.refusal.UserRefusal.{UserRefusal}
+use Rattle.user_keys.specs.declared.refusal.UserRefusal.TheVariants as refusal
 
 -- ---- some of a list
 
@@ -51,11 +51,11 @@ of_error (Err e) q = q
 
 -- ---- out of memory
 
-pub out_of_memory : (P : Grant → Type 0) (r : Result Grant Refusal) → IsErrAnd r (λ e. e ≡ refusal.Memory) → GrantsExactly P r
+pub out_of_memory : (P : UserGrant → Type 0) (r : Result UserGrant UserRefusal) → IsErrAnd r (λ e. e ≡ refusal.Memory) → GrantsExactly P r
 out_of_memory P (Ok g) is = absurd is
 out_of_memory P (Err e) is = λ other. absurd (other is)
 
-pub asked : (login : UserLogin) (r : Result Grant Refusal) → Any (MaySpell (own_part (listed_key login))) login.lines → AsksOfLines login r
+pub asked : (login : UserLogin) (r : Result UserGrant UserRefusal) → Any (MaySpell (own_part (listed_key login))) login.lines → AsksOfLines login r
 asked login (Ok g) some = tt
 asked login (Err e) some = λ memory. some
 
@@ -133,7 +133,7 @@ module _ (Lets : List ℕ → Terms → Type 0) (MayLet : List ℕ → Type 0) (
   one_terms n m t u is too = is.alone u (subst (λ (l : List ℕ). Lets l u) (one_line n m t u is too) too.lets)
 
 module _ (login : UserLogin) where
-  pub granted : (g : Grant) (line : List ℕ) → IsFirst (Ends login) login.lines line g.line → SaysOf login line (verdict.Lets g.terms) → GrantsFirst login g
+  pub granted : (g : UserGrant) (line : List ℕ) → IsFirst (Ends login) login.lines line g.line → SaysOf login line (verdict.Lets g.terms) → GrantsFirst login g
   granted g line first says = record { line = line; first = first; lets = says.0; alone = says.1; told = says.2 }
 
   -- ---- the line that refuses
@@ -161,6 +161,6 @@ module _ (login : UserLogin) where
 
 -- ---- the whole
 
-pub admitted : (login : UserLogin) (revokes_key : List ℕ → Bool) → IsTrue (is_let_in login.least_rsa_bits login.offered) → is_key_revoked revokes_key login.offered ≡ false → (r : Result Grant Refusal) → IfOk r (λ g. g.certified ≡ None) → GrantsExactly (GrantsFirst login) r → GrantsExactly (Admits login revokes_key) r
+pub admitted : (login : UserLogin) (revokes_key : List ℕ → Bool) → IsTrue (openssh_accepts_key login.least_rsa_bits login.offered) → is_key_revoked revokes_key login.offered ≡ false → (r : Result UserGrant UserRefusal) → IfOk r (λ g. g.certified ≡ None) → GrantsExactly (GrantsFirst login) r → GrantsExactly (Admits login revokes_key) r
 admitted login revokes_key accepted unrevoked (Ok g) by_key is = record { accepted = accepted; unrevoked = unrevoked; granted = is; by_key = by_key }
 admitted login revokes_key accepted unrevoked (Err r) by_key none = λ other g is. none other g is.granted

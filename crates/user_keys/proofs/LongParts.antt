@@ -2,7 +2,7 @@
 use Rattle.std.proofs.Common.{◌≡◌, ◌≤◌, ◌*◌, ℕ, zero, suc, List, [], ◌∷◌, Bool, true, false, IsTrue, ◌&&◌, Some, None, cond, length, arith, tests}
 use Rattle.std.proofs.lemmas.Bool.{and_parts, leb-true}
 use Rattle.std.specs.Prelude.{nat_le, nat_lt}
-use Rattle.openssh_limits.specs.Keys.{bit_len, bits_in, is_let_in, is_read_number, read_bits, required}
+use Rattle.openssh_limits.specs.Keys.{bit_len, bits_in, is_read_number, openssh_accepts_key, read_bits, required}
 use Rattle.sshkey_model.specs.Keys.{Dsa, Ecdsa, Ed25519, IsKey, Key, Opaque, Rsa, SkEcdsa, SkEd25519}
 use Rattle.sshkey_model.specs.Names.{Nistp256, Nistp384, Nistp521}
 use Rattle.sshkey_model.specs.Points.{is_point}
@@ -41,7 +41,7 @@ long_point size (tag ∷ rest) big e = grind (arith, tests)
 
 -- ---- keys
 
-pub long_part : (least : ℕ) (k : Key) → IsKey k → IsTrue (is_let_in least k) → 17 ≤ length (own_part k)
+pub long_part : (least : ℕ) (k : Key) → IsKey k → IsTrue (openssh_accepts_key least k) → 17 ≤ length (own_part k)
 long_part least (Dsa k) is lets = absurd cc
 long_part least (Ecdsa Nistp256 point) is lets = long_point 32 point (omega arith) is.1
 long_part least (Ecdsa Nistp384 point) is lets = long_point 48 point (omega arith) is.1

@@ -17,8 +17,8 @@ use Rattle.user_keys.specs.Principals.{Decides, DecidesBy, HasOptions, MayDecide
 use Rattle.user_keys.specs.UserLogins.{UserLogin}
 use Rattle.user_keys.specs.declared.answer.Judgement.{Judgement}
 use Rattle.user_keys.specs.declared.answer.Judgement.TheVariants as judgement
-use Rattle.user_keys.specs.declared.refusal.Refusal.{Refusal}
-use Rattle.user_keys.specs.declared.refusal.Refusal.TheVariants as refusal
+use Rattle.user_keys.specs.declared.refusal.UserRefusal.{UserRefusal}
+use Rattle.user_keys.specs.declared.refusal.UserRefusal.TheVariants as refusal
 use Rattle.user_keys.proofs.FirstLines.{here, none_lets, nothing_lets, one_line, one_terms}
 use Rattle.user_keys.proofs.Judgements.{one_judgement}
 use Rattle.user_keys.proofs.ListedNames.{mapped}
@@ -93,7 +93,7 @@ module _ (c : Certificate) (all before more : List (List ℕ)) (line : List ℕ)
 pub names_in : (c : Certificate) (all before more : List (List ℕ)) (line : List ℕ) → all ≡ before ++ (line ∷ more) → IsTrue (names_principal c line) → Any (λ x. IsTrue (names_principal c x)) all
 names_in c all before more line is has = subst (Any (λ x. IsTrue (names_principal c x))) (sym is) (here (λ x. IsTrue (names_principal c x)) before line more has)
 
-pub if_memory : {X : Type 0} {Q : Type 0} (r : Result X Refusal) → Q → IfErr r (λ e. e ≡ refusal.Memory → Q)
+pub if_memory : {X : Type 0} {Q : Type 0} (r : Result X UserRefusal) → Q → IfErr r (λ e. e ≡ refusal.Memory → Q)
 if_memory (Ok x) q = tt
 if_memory (Err e) q = λ memory. q
 
@@ -115,11 +115,11 @@ module _ (login : UserLogin) (c : Certificate) where
     refused_for : (j : Judgement) → JudgesPrincipal login c t j → (judgement.Allows ≡ j → ⊥) → (n : ℕ) (u : Terms) (other : List ℕ) → IsPrincipalLine login c n u other → ⊥
     refused_for j says not n u other is = not (one_judged t judgement.Allows j (subst (λ (v : Terms). JudgesPrincipal login c v judgement.Allows) (same_terms n u other is.0) is.1) says)
 
-    pub not_allowed : (r : Refusal) → IsWhyNotAllowed login c number t r → (n : ℕ) (u : Terms) (other : List ℕ) → IsPrincipalLine login c n u other → ⊥
+    pub not_allowed : (r : UserRefusal) → IsWhyNotAllowed login c number t r → (n : ℕ) (u : Terms) (other : List ℕ) → IsPrincipalLine login c n u other → ⊥
     not_allowed r (inl refuses) = refused_for (judgement.Refuses refuses.0) refuses.1 (λ e. cc)
     not_allowed r (inr unclear) = refused_for judgement.Unclear unclear.0 (λ e. cc)
 
-  pub undecided : (r : Refusal) → IsWhyNoDecision c login.lines r → (n : ℕ) (u : Terms) (other : List ℕ) → IsPrincipalLine login c n u other → ⊥
+  pub undecided : (r : UserRefusal) → IsWhyNoDecision c login.lines r → (n : ℕ) (u : Terms) (other : List ℕ) → IsPrincipalLine login c n u other → ⊥
   undecided r (inl none) n u other is = nothing_lets (Decides c) (MayDecide c) login.lines none.0 n u is.0.0
   undecided r (inr may) n u other is = none_lets (Decides c) (MayDecide c) login.lines may.0 may.1 may.2 may.3 n u is.0.0
 

@@ -10,10 +10,10 @@ use Rattle.login_policy.specs.Refusals.{RefusesLogin}
 use Rattle.login_policy.specs.declared.client.Client.{Client}
 use Rattle.login_policy.specs.declared.client.Client.TheVariants.{At, Unknown}
 use Rattle.login_policy.specs.declared.grant.Grant as grants
-use Rattle.login_policy.specs.declared.refusal.Refusal as policies
-use Rattle.login_policy.specs.declared.refusal.Refusal.TheVariants as policy_refusal
+use Rattle.login_policy.specs.declared.refusal.LoginRefusal as policies
+use Rattle.login_policy.specs.declared.refusal.LoginRefusal.TheVariants as policy_refusal
 use Rattle.login_terms.specs.Terms.{Terms, terms_of}
-use Rattle.openssh_limits.specs.Keys.{is_let_in}
+use Rattle.openssh_limits.specs.Keys.{openssh_accepts_key}
 use Rattle.sshkey_base.specs.Reading.{NoSpelling}
 use Rattle.sshkey_base.specs.declared.error.Error.{Error}
 use Rattle.sshkey_cert_form.specs.Faults.{IsFaultOf}
@@ -31,9 +31,9 @@ use Rattle.user_keys.specs.Spellings.{MaySpell, own_part}
 use Rattle.user_keys.specs.UserLogins.{Lets, MayLet, UserLogin, login_of}
 use Rattle.user_keys.specs.declared.login.UserLogin as code
 use Rattle.user_keys.specs.declared.grant.Certified.{Certified}
-use Rattle.user_keys.specs.declared.grant.Grant.{Grant}
-use Rattle.user_keys.specs.declared.refusal.Refusal.{Refusal}
-use Rattle.user_keys.specs.declared.refusal.Refusal.TheVariants as refusal
+use Rattle.user_keys.specs.declared.grant.UserGrant.{UserGrant}
+use Rattle.user_keys.specs.declared.refusal.UserRefusal.{UserRefusal}
+use Rattle.user_keys.specs.declared.refusal.UserRefusal.TheVariants as refusal
 
 -- What is known of whoever shows a certificate, and what decides beside the text: the bytes of the
 -- certificate, whom the verifier accepts, and what is revoked.
@@ -73,7 +73,7 @@ IsCertified c (Some by) = IsCertifiedBy c by
 
 -- The policy of certificates lets the certificate in, in its normal form, and the login is bound to
 -- what those terms and the certificate say together.
-pub record BindsTogether (p : policy.Login) (c : Certificate) (t : Terms) (g : Grant) : Type 0 where
+pub record BindsTogether (p : policy.Login) (c : Certificate) (t : Terms) (g : UserGrant) : Type 0 where
   pub normal : p.blob ≡ flat (normal_certificate c)
   pub lets_in : LetsIn p c
   pub merges : terms_of g.terms ≡ merged t c
@@ -82,10 +82,10 @@ pub record BindsTogether (p : policy.Login) (c : Certificate) (t : Terms) (g : G
 -- The bytes are those of a certificate whose authority's key sshd accepts; the grant's line is one
 -- that lets it in on some terms and for a name (`IsLine`); and for that name, by those authorities,
 -- the policy lets it in, too.
-pub record AdmitsBy (IsLine : Certificate → ℕ → Terms → List ℕ → Type 0) (authorities : Certificate → List Fingerprint) (l : CertificateLogin) (g : Grant) : Type 0 where
+pub record AdmitsBy (IsLine : Certificate → ℕ → Terms → List ℕ → Type 0) (authorities : Certificate → List Fingerprint) (l : CertificateLogin) (g : UserGrant) : Type 0 where
   pub certificate : Certificate
   pub spelled : SpellsCertificate certificate l.blob
-  pub accepted : IsTrue (is_let_in 0 certificate.signed.signature_key)
+  pub accepted : IsTrue (openssh_accepts_key 0 certificate.signed.signature_key)
   pub terms : Terms
   pub name : List ℕ
   pub line : IsLine certificate g.line terms name
@@ -93,22 +93,22 @@ pub record AdmitsBy (IsLine : Certificate → ℕ → Terms → List ℕ → Typ
 
 -- Whatever sshd makes of what cannot be told, it takes the grant's line first, on terms of which that
 -- is seen, and the grant is what those and the certificate say together.
-abbrev pub IsAsStrictBy : (Certificate → List ℕ → Terms → Type 0) → (Certificate → List ℕ → Type 0) → CertificateLogin → Grant → Type 0
+abbrev pub IsAsStrictBy : (Certificate → List ℕ → Terms → Type 0) → (Certificate → List ℕ → Type 0) → CertificateLogin → UserGrant → Type 0
 IsAsStrictBy LetsBy MayLetBy l g = (c : Certificate) → SpellsCertificate c l.blob → (seen : Terms → Terms) (takes : List ℕ → Option Terms) → TakesAsTold (LetsBy c) (MayLetBy c) l.login.lines seen takes → (t : Terms) × TakesFirst seen takes l.login.lines g.line t × (terms_of g.terms ≡ merged t c)
 
 -- ---- who is refused
 
 -- The bytes are those of no certificate, and have that fault; or of one whose authority's key sshd
 -- does not accept.
-abbrev pub IsWhyUnread : List ℕ → Refusal → Type 0
+abbrev pub IsWhyUnread : List ℕ → UserRefusal → Type 0
 IsWhyUnread blob r = (NoSpelling SpellsCertificate blob × ((e : Error) × IsFaultOf blob e × (r ≡ refusal.Certificate (policy_refusal.Certificate e))))
-    ⊎ ((c : Certificate) × SpellsCertificate c blob × (is_let_in 0 c.signed.signature_key ≡ false) × (r ≡ refusal.UnacceptedKey))
+    ⊎ ((c : Certificate) × SpellsCertificate c blob × (openssh_accepts_key 0 c.signed.signature_key ≡ false) × (r ≡ refusal.UnacceptedKey))
 
-abbrev pub RefusesByPolicy : policy.Login → Refusal → Type 0
-RefusesByPolicy p r = (e : policies.Refusal) × RefusesLogin p e × (r ≡ refusal.Certificate e)
+abbrev pub RefusesByPolicy : policy.Login → UserRefusal → Type 0
+RefusesByPolicy p r = (e : policies.LoginRefusal) × RefusesLogin p e × (r ≡ refusal.Certificate e)
 
 -- A line lets the certificate in, and the policy refuses it for that.
-pub record IsRefusedAfter (IsLine : ℕ → Terms → List ℕ → Type 0) (authorities : List Fingerprint) (l : CertificateLogin) (r : Refusal) : Type 0 where
+pub record IsRefusedAfter (IsLine : ℕ → Terms → List ℕ → Type 0) (authorities : List Fingerprint) (l : CertificateLogin) (r : UserRefusal) : Type 0 where
   pub number : ℕ
   pub terms : Terms
   pub name : List ℕ
@@ -116,9 +116,9 @@ pub record IsRefusedAfter (IsLine : ℕ → Terms → List ℕ → Type 0) (auth
   pub refused : RefusesByPolicy (policy_login l authorities name) r
 
 -- No such certificate is read; or one is, and no line lets it in for that, or the policy refuses.
-abbrev pub IsWhyRefusedBy : (Certificate → Refusal → Type 0) → (Certificate → ℕ → Terms → List ℕ → Type 0) → (Certificate → List Fingerprint) → CertificateLogin → Refusal → Type 0
+abbrev pub IsWhyRefusedBy : (Certificate → UserRefusal → Type 0) → (Certificate → ℕ → Terms → List ℕ → Type 0) → (Certificate → List Fingerprint) → CertificateLogin → UserRefusal → Type 0
 IsWhyRefusedBy IsWhyNone IsLine authorities l r = IsWhyUnread l.blob r
-    ⊎ ((c : Certificate) × SpellsCertificate c l.blob × IsTrue (is_let_in 0 c.signed.signature_key) × (IsWhyNone c r ⊎ IsRefusedAfter (IsLine c) (authorities c) l r))
+    ⊎ ((c : Certificate) × SpellsCertificate c l.blob × IsTrue (openssh_accepts_key 0 c.signed.signature_key) × (IsWhyNone c r ⊎ IsRefusedAfter (IsLine c) (authorities c) l r))
 
 -- The bytes need memory to be read; or one of the lines may need some.
 abbrev pub NeedsMemoryBy : (Certificate → List ℕ → Type 0) → CertificateLogin → Type 0
@@ -134,13 +134,13 @@ signer c = fingerprint Sha256 c.signed.signature_key ∷ []
 abbrev pub IsLineFor : UserLogin → Certificate → ℕ → Terms → List ℕ → Type 0
 IsLineFor login c number t name = LetsFirst (Lets (by login c)) (MayLet (by login c)) login.lines number t × (name_for c login.user t ≡ Some name)
 
-abbrev pub AdmitsCertificate : CertificateLogin → Grant → Type 0
+abbrev pub AdmitsCertificate : CertificateLogin → UserGrant → Type 0
 AdmitsCertificate l g = AdmitsBy (IsLineFor l.login) signer l g
 
-abbrev pub IsAsStrictWith : CertificateLogin → Grant → Type 0
+abbrev pub IsAsStrictWith : CertificateLogin → UserGrant → Type 0
 IsAsStrictWith l g = IsAsStrictBy (λ c. Lets (by l.login c)) (λ c. MayLet (by l.login c)) l g
 
-abbrev pub IsWhyNoCertificate : CertificateLogin → Refusal → Type 0
+abbrev pub IsWhyNoCertificate : CertificateLogin → UserRefusal → Type 0
 IsWhyNoCertificate l r = IsWhyRefusedBy (λ c. IsWhyNoLine (by l.login c)) (IsLineFor l.login) signer l r
 
 -- The key that signed the certificate may be spelled in a line.
@@ -149,10 +149,10 @@ NeedsMemory l = NeedsMemoryBy (λ c. MaySpell (own_part c.signed.signature_key))
 
 -- ---- what the policy says
 
-abbrev pub IsRefusalOf : policies.Refusal → Refusal → Type 0
+abbrev pub IsRefusalOf : policies.LoginRefusal → UserRefusal → Type 0
 IsRefusalOf p r = ((p ≡ policy_refusal.Memory) × (r ≡ refusal.Memory)) ⊎ ((p ≢ policy_refusal.Memory) × (r ≡ refusal.Certificate p))
 
 -- The policy grants this; or, out of memory aside, refuses.
-abbrev pub PolicyGrants : policy.Login → Result grants.Grant Refusal → Type 0
+abbrev pub PolicyGrants : policy.Login → Result grants.Grant UserRefusal → Type 0
 PolicyGrants p (Ok g) = (is : IsLogin p) × IsGrantOf is.certificate g
 PolicyGrants p (Err r) = r ≢ refusal.Memory → IsLogin p → ⊥

@@ -14,9 +14,9 @@ use Rattle.user_keys.specs.Options.{AreTerms, MayBeTerms}
 use Rattle.user_keys.specs.Spellings.{is_white, own_part}
 use Rattle.user_keys.specs.TermExamples.{expiring, for_names}
 use Rattle.user_keys.specs.UserLogins.{IsAsStrict, IsOwn, Lets, MayLet, UserLogin, key_listed}
-use Rattle.user_keys.specs.declared.grant.Grant.{Grant}
+use Rattle.user_keys.specs.declared.grant.UserGrant.{UserGrant}
 use Rattle.user_keys.specs.declared.refusal.Reason.TheVariants as reason
-use Rattle.user_keys.specs.declared.refusal.Refusal.TheVariants as refusal
+use Rattle.user_keys.specs.declared.refusal.UserRefusal.TheVariants as refusal
 
 -- ---- the parts of keys
 
@@ -143,6 +143,6 @@ pub record HasBoth (login : UserLogin) : Type 0 where
 -- What is promised of a grant is promised of both. The older one takes the grant's line on its terms
 -- but for tunnels, and on no more: all its terms are not as told.
 abbrev pub Restricted : Type 0
-Restricted = ((login : UserLogin) (g : Grant) → HasBoth login → IsAsStrict login g → TakesFirst (λ t. t) takes_all login.lines g.line (terms_of g.terms))
-    × ((login : UserLogin) (g : Grant) → HasBoth login → IsAsStrict login g → TakesFirst but_tunnels leaves_tunnels login.lines g.line (terms_of g.terms))
+Restricted = ((login : UserLogin) (g : UserGrant) → HasBoth login → IsAsStrict login g → TakesFirst (λ t. t) takes_all login.lines g.line (terms_of g.terms))
+    × ((login : UserLogin) (g : UserGrant) → HasBoth login → IsAsStrict login g → TakesFirst but_tunnels leaves_tunnels login.lines g.line (terms_of g.terms))
     × ((login : UserLogin) → HasBoth login → TakesAsTold (Lets login) (MayLet login) login.lines (λ t. t) leaves_tunnels → ⊥)

@@ -18,13 +18,13 @@ use Rattle.user_keys.specs.Principals.{Decides, MayDecide, lines_at_feeds, name_
 use Rattle.user_keys.specs.UserLogins.{UserLogin, login_of}
 use Rattle.user_keys.specs.declared.answer.Judgement.{Judgement}
 use Rattle.user_keys.specs.declared.answer.Judgement.TheVariants.{Allows, Refuses, Unclear}
-use Rattle.user_keys.specs.declared.grant.Grant.{Grant}
+use Rattle.user_keys.specs.declared.grant.UserGrant.{UserGrant}
 use Rattle.user_keys.specs.declared.login.UserLogin as code
 use Rattle.user_keys.specs.declared.principal.Decision.{Decision}
 use Rattle.user_keys.specs.declared.refusal.Reason.{Reason}
 use Rattle.user_keys.specs.declared.refusal.Reason.TheVariants.{MisplacedOption}
-use Rattle.user_keys.specs.declared.refusal.Refusal.{Refusal}
-use Rattle.user_keys.specs.declared.refusal.Refusal.TheVariants as refusal
+use Rattle.user_keys.specs.declared.refusal.UserRefusal.{UserRefusal}
+use Rattle.user_keys.specs.declared.refusal.UserRefusal.TheVariants as refusal
 
 -- that of a call
 abbrev pub principal_login : code.UserLogin → List ℕ → (Question → Bool) → (List ℕ → krl.CertificateIdentity → Bool) → CertificateLogin
@@ -50,30 +50,30 @@ IsPrincipalLine login c number t name = DecidesFirst c login.lines number t name
 
 -- ---- who is let in
 
-abbrev pub AdmitsPrincipal : CertificateLogin → List Fingerprint → Grant → Type 0
+abbrev pub AdmitsPrincipal : CertificateLogin → List Fingerprint → UserGrant → Type 0
 AdmitsPrincipal l authorities g = AdmitsBy (IsPrincipalLine l.login) (λ c. authorities) l g
 
-abbrev pub IsAsStrictInPlace : CertificateLogin → Grant → Type 0
+abbrev pub IsAsStrictInPlace : CertificateLogin → UserGrant → Type 0
 IsAsStrictInPlace l g = IsAsStrictBy Decides MayDecide l g
 
 -- ---- who is refused
 
 -- No line names a principal of the certificate; or whether the first that may do so counts cannot be
 -- told.
-abbrev pub IsWhyNoDecision : Certificate → List (List ℕ) → Refusal → Type 0
+abbrev pub IsWhyNoDecision : Certificate → List (List ℕ) → UserRefusal → Type 0
 IsWhyNoDecision c lines r = ((¬ Any (EndsBy (Decides c) (MayDecide c)) lines) × (r ≡ refusal.NotListed))
     ⊎ ((line : List ℕ) × (n : ℕ) × IsFirst (EndsBy (Decides c) (MayDecide c)) lines line n × MayDecide c line × (r ≡ refusal.Unclear n))
 
 -- The terms of the line with that number refuse for that, or whether they do cannot be told.
-abbrev pub IsWhyNotAllowed : UserLogin → Certificate → ℕ → Terms → Refusal → Type 0
+abbrev pub IsWhyNotAllowed : UserLogin → Certificate → ℕ → Terms → UserRefusal → Type 0
 IsWhyNotAllowed login c n t r = ((reason : Reason) × JudgesPrincipal login c t (Refuses reason) × (r ≡ refusal.NotAllowed n reason)) ⊎ (JudgesPrincipal login c t Unclear × (r ≡ refusal.Unclear n))
 
 -- No line decides; or one does, and its terms do not allow the login.
-abbrev pub IsWhyUndecided : UserLogin → Certificate → Refusal → Type 0
+abbrev pub IsWhyUndecided : UserLogin → Certificate → UserRefusal → Type 0
 IsWhyUndecided login c r = IsWhyNoDecision c login.lines r
     ⊎ ((n : ℕ) × (t : Terms) × (name : List ℕ) × DecidesFirst c login.lines n t name × IsWhyNotAllowed login c n t r)
 
-abbrev pub IsWhyNoPrincipal : CertificateLogin → List Fingerprint → Refusal → Type 0
+abbrev pub IsWhyNoPrincipal : CertificateLogin → List Fingerprint → UserRefusal → Type 0
 IsWhyNoPrincipal l authorities r = IsWhyRefusedBy (IsWhyUndecided l.login) (IsPrincipalLine l.login) (λ c. authorities) l r
 
 -- A line names a principal of the certificate.
@@ -83,11 +83,11 @@ NeedsMemoryInPlace l = NeedsMemoryBy (λ c line. IsTrue (names_principal c line)
 -- ---- what is found of a text
 
 -- The line that decides; or that cannot be told, or no line does.
-abbrev pub FindsDecision : Certificate → List (List ℕ) → Result Decision Refusal → Type 0
+abbrev pub FindsDecision : Certificate → List (List ℕ) → Result Decision UserRefusal → Type 0
 FindsDecision c lines (Ok d) = DecidesFirst c lines d.first.line (terms_of d.first.terms) d.name.now × (d.first.certified ≡ None)
 FindsDecision c lines (Err r) = r ≢ refusal.Memory → IsWhyNoDecision c lines r
 
 -- The terms of that line allow the certificate; or why not.
-abbrev pub ChecksTerms : UserLogin → Certificate → ℕ → Terms → Result Unit Refusal → Type 0
+abbrev pub ChecksTerms : UserLogin → Certificate → ℕ → Terms → Result Unit UserRefusal → Type 0
 ChecksTerms login c n t (Ok u) = JudgesPrincipal login c t Allows
 ChecksTerms login c n t (Err r) = r ≢ refusal.Memory → IsWhyNotAllowed login c n t r

@@ -4,7 +4,7 @@
 use Rattle.std.specs.Prelude.{◌≡◌, ◌⊎◌, ℕ, List, Bool, false, IsTrue, Option, Some, None, is_some}
 use Rattle.std.specs.Str.Lines.{lines}
 use Rattle.std.specs.declared.net.ip_addr.IpAddr.{IpAddr}
-use Rattle.openssh_limits.specs.Keys.{is_let_in}
+use Rattle.openssh_limits.specs.Keys.{openssh_accepts_key}
 use Rattle.sshkey_keys.specs.Keys.{key_of}
 use Rattle.sshkey_krl.specs.Revocations.{is_key_revoked}
 use Rattle.sshkey_model.specs.Certificates.{Certificate}
@@ -16,7 +16,7 @@ use Rattle.user_keys.specs.Certificates.{JudgesCertificate}
 use Rattle.user_keys.specs.Lines.{IsFor, MayBeFor}
 use Rattle.user_keys.specs.declared.answer.Judgement.{Judgement}
 use Rattle.user_keys.specs.declared.answer.Judgement.TheVariants.{Allows, Refuses, Unclear}
-use Rattle.user_keys.specs.declared.grant.Grant.{Grant}
+use Rattle.user_keys.specs.declared.grant.UserGrant.{UserGrant}
 use Rattle.user_keys.specs.declared.login.UserLogin as code
 use Rattle.user_keys.specs.declared.refusal.Reason.{Reason}
 use denote.Ref.{Bor}
@@ -90,17 +90,17 @@ IsListedBy login line = (t : Terms) × IsOwn login line t
 
 -- The first line that lets the key in or may do so lets it in for sure, and on the grant's terms
 -- alone.
-abbrev pub GrantsFirst : UserLogin → Grant → Type 0
+abbrev pub GrantsFirst : UserLogin → UserGrant → Type 0
 GrantsFirst login g = LetsFirst (Lets login) (MayLet login) login.lines g.line (terms_of g.terms)
 
 -- Who holds the key is let in, and the login is bound to what the grant says.
-pub record Admits (login : UserLogin) (revokes_key : List ℕ → Bool) (g : Grant) : Type 0 where
-  pub accepted : IsTrue (is_let_in login.least_rsa_bits login.offered)
+pub record Admits (login : UserLogin) (revokes_key : List ℕ → Bool) (g : UserGrant) : Type 0 where
+  pub accepted : IsTrue (openssh_accepts_key login.least_rsa_bits login.offered)
   pub unrevoked : is_key_revoked revokes_key login.offered ≡ false
   pub granted : GrantsFirst login g
   pub by_key : g.certified ≡ None
 
 -- Whatever sshd makes of what cannot be told, it takes the grant's line first, and on its terms, or on
 -- these but for what is not seen of them.
-abbrev pub IsAsStrict : UserLogin → Grant → Type 0
+abbrev pub IsAsStrict : UserLogin → UserGrant → Type 0
 IsAsStrict login g = (seen : Terms → Terms) (takes : List ℕ → Option Terms) → TakesAsTold (Lets login) (MayLet login) login.lines seen takes → TakesFirst seen takes login.lines g.line (terms_of g.terms)

@@ -3,7 +3,7 @@
 ghost use Rattle.std.specs.Prelude.{◌≡◌};
 ghost use Rattle.user_keys.specs.Answers.{FollowsFrom, first_refused, refusal_for};
 
-use crate::refusal::{Reason, Refusal};
+use crate::refusal::{Reason, UserRefusal};
 use login_terms::Terms;
 
 /// Whether something holds for sshd(8).
@@ -65,11 +65,11 @@ pub(crate) fn first_refused(
 }
 
 /// What refuses where no line lets in: the first line that refuses, if one does.
-pub(crate) fn refusal_for(refused: Option<(usize, Reason)>) -> Refusal
+pub(crate) fn refusal_for(refused: Option<(usize, Reason)>) -> UserRefusal
     ensures { result ≡ refusal_for refused }
 {
     match refused {
-        Some((line, reason)) => Refusal::NotAllowed { line, reason },
-        None => Refusal::NotListed,
+        Some((line, reason)) => UserRefusal::NotAllowed { line, reason },
+        None => UserRefusal::NotListed,
     }
 }

@@ -8,16 +8,16 @@ ghost use Rattle.sshkey_model.specs.Keys.{IsKey};
 ghost use Rattle.user_keys.specs.Answers.{GrantsExactly};
 ghost use Rattle.user_keys.specs.CertificateLogins.{AdmitsCertificate, IsAsStrictWith, IsWhyNoCertificate, NeedsMemory, login_with};
 ghost use Rattle.user_keys.specs.Certificates.{judged_by, judged_with};
-ghost use Rattle.user_keys.specs.declared.refusal.Refusal.TheVariants as refusal;
+ghost use Rattle.user_keys.specs.declared.refusal.UserRefusal.TheVariants as refusal;
 
 use crate::answer::Judgement;
 use crate::first_line::first_grant;
-use crate::grant::Grant;
+use crate::grant::UserGrant;
 use crate::login::UserLogin;
 use crate::merge::{agree, merged};
 use crate::names::name_listed;
 use crate::policy::{log_in_as, read_certificate};
-use crate::refusal::{Reason, Refusal};
+use crate::refusal::{Reason, UserRefusal};
 use login_terms::Terms;
 use sshkey_base::HashAlg;
 use sshkey_cert::Certificate;
@@ -34,10 +34,10 @@ use std::alloc::Global;
 /// where there are two the same; what both permit; and a touch or a verified user where one of them
 /// asks for it.
 ///
-/// A line that refuses is passed over, as is one that sshd rejects (`admit_key`).
+/// A line that refuses is passed over, as is one that sshd rejects (`log_in_by_key`).
 ///
 /// Unless memory runs out, it fails with the first of these that fits:
-/// - `Certificate` with `login_policy::Refusal::Certificate`: the bytes are no certificate;
+/// - `Certificate` with `login_policy::UserRefusal::Certificate`: the bytes are no certificate;
 /// - `UnacceptedKey`: sshd accepts no key of the kind or the size of that which signed it;
 /// - `Unclear`: a line may be for the authority, or may allow the certificate, and none before it
 ///   lets it in;
@@ -50,13 +50,13 @@ use std::alloc::Global;
 ///
 /// `Memory` means that the bytes need memory to be read (`Certificate::from_bytes`), or that a line
 /// may have the key that signed the certificate: other lines ask for none.
-pub fn admit_certificate<R: Revocations, V: RawVerifier>(
+pub fn log_in_by_certificate<R: Revocations, V: RawVerifier>(
     alloc: Global,
     login: &UserLogin,
     certificate: &[u8],
     revocations: &R,
     verifier: &V,
-) -> Result<Grant, Refusal>
+) -> Result<UserGrant, UserRefusal>
     requires { IsKey (key_of login.now.offered.now) }
     ensures exactly { GrantsExactly (AdmitsCertificate (login_with login.now certificate.now
         (V.accepts verifier.now) (R.revokes revocations.now))) result }
@@ -74,10 +74,10 @@ pub fn admit_certificate<R: Revocations, V: RawVerifier>(
     // a line that lets the certificate in does so for a name
     let Some(name) = name_listed(read.valid_principals(), login.user, &first.terms.principals)
     else {
-        return Err(Refusal::NotListed);
+        return Err(UserRefusal::NotListed);
     };
     let Ok(authority) = read.signature_key().fingerprint(alloc, HashAlg::Sha256) else {
-        return Err(Refusal::Memory);
+        return Err(UserRefusal::Memory);
     };
     let granted = log_in_as(
         alloc,

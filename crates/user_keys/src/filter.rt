@@ -18,7 +18,7 @@ const LEAST_PART: usize = 17;
 ///
 /// Where a key is spelled is sought by its point or its last number. It may be in any line if that
 /// has fewer than 17 bytes; OpenSSH lets nobody in by such a key. Does not allocate.
-pub fn may_be_for(line: &[u8], key: &KeyData) -> bool
+pub fn line_may_name_key(line: &[u8], key: &KeyData) -> bool
     ensures spelled { 17 ≤ length (own_part (key_of key.now))
         → IsTrue result ↔ MaySpell (own_part (key_of key.now)) line.now }
     ensures passed { result ≡ false → IsPassedOver (key_of key.now) line.now }

@@ -7,15 +7,15 @@ ghost use Rattle.sshkey_keys.specs.Keys.{key_of};
 ghost use Rattle.user_keys.specs.Answers.{AsksOfLines, GrantsExactly, IsWhyNoLine, SaysOf};
 ghost use Rattle.user_keys.specs.Spellings.{AreMarks, MaySpell, own_part};
 ghost use Rattle.user_keys.specs.UserLogins.{GrantsFirst, IsAsStrict, JudgesLogin, key_listed, listed_key, login_of};
-ghost use Rattle.user_keys.specs.declared.refusal.Refusal.TheVariants as refusal;
+ghost use Rattle.user_keys.specs.declared.refusal.UserRefusal.TheVariants as refusal;
 
 use crate::answer::{Judgement, LineVerdict, first_refused, refusal_for, verdict_of};
 use crate::certificate::judgement_with;
-use crate::grant::Grant;
+use crate::grant::UserGrant;
 use crate::line::{judge, terms_for};
 use crate::login::UserLogin;
 use crate::marks::Marks;
-use crate::refusal::Refusal;
+use crate::refusal::UserRefusal;
 use crate::text::next_line;
 use login_terms::{Reading, Terms};
 use sshkey_cert::Certificate;
@@ -28,7 +28,7 @@ pub(crate) fn first_grant(
     alloc: Global,
     login: &UserLogin,
     certificate: Option<&Certificate>,
-) -> Result<Grant, Refusal>
+) -> Result<UserGrant, UserRefusal>
     requires { 17 ≤ length (own_part (key_listed (key_of login.now.offered.now)
         (option_map (λ c. certificate_of c.now) certificate))) }
     ensures exactly { GrantsExactly (GrantsFirst (login_of login.now
@@ -51,13 +51,13 @@ pub(crate) fn first_grant(
         rest = more;
         match judge_line(alloc, text, login, certificate, &marks)? {
             LineVerdict::Lets(terms) => {
-                return Ok(Grant {
+                return Ok(UserGrant {
                     line,
                     terms,
                     certified: None,
                 });
             }
-            LineVerdict::Unclear => return Err(Refusal::Unclear { line }),
+            LineVerdict::Unclear => return Err(UserRefusal::Unclear { line }),
             LineVerdict::Refuses(reason) => refused = first_refused(refused, line, reason),
             LineVerdict::Passes => {}
         }

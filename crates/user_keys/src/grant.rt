@@ -5,7 +5,7 @@ use sshkey_keys::Fingerprint;
 
 /// What a login is bound to, and what it may do.
 #[derive(Drop)]
-pub struct Grant {
+pub struct UserGrant {
     /// The number of the line that lets in, from 1. Empty lines and comments are counted.
     pub line: usize,
     /// What the options of that line say. Of a login by a certificate what both say: the command of

@@ -5,13 +5,13 @@ ghost use Rattle.sshkey_keys.specs.Keys.{key_of};
 ghost use Rattle.sshkey_model.specs.Keys.{IsKey};
 ghost use Rattle.user_keys.specs.Answers.{AsksOfKey, GrantsExactly, IsWhyNoKey};
 ghost use Rattle.user_keys.specs.UserLogins.{Admits, IsAsStrict, login_of};
-ghost use Rattle.user_keys.specs.declared.refusal.Refusal.TheVariants as refusal;
+ghost use Rattle.user_keys.specs.declared.refusal.UserRefusal.TheVariants as refusal;
 
 use crate::first_line::first_grant;
-use crate::grant::Grant;
+use crate::grant::UserGrant;
 use crate::login::UserLogin;
-use crate::refusal::Refusal;
-use openssh_limits::is_let_in;
+use crate::refusal::UserRefusal;
+use openssh_limits::openssh_accepts_key;
 use sshkey_krl::Revocations;
 use std::alloc::Global;
 
@@ -42,11 +42,11 @@ use std::alloc::Global;
 ///
 /// `Memory` means that a line may have the key, or that `revocations` had to be asked
 /// (`Revocations::revokes_none`): other lines ask for none.
-pub fn admit_key<R: Revocations>(
+pub fn log_in_by_key<R: Revocations>(
     alloc: Global,
     login: &UserLogin,
     revocations: &R,
-) -> Result<Grant, Refusal>
+) -> Result<UserGrant, UserRefusal>
     requires { IsKey (key_of login.now.offered.now) }
     ensures exactly { GrantsExactly
         (Admits (login_of login.now None) (R.revokes_key revocations.now)) result }
@@ -55,14 +55,14 @@ pub fn admit_key<R: Revocations>(
         → IsWhyNoKey (login_of login.now None) (R.revokes_key revocations.now) r) }
     ensures asks { AsksOfKey (login_of login.now None) (R.revokes_none revocations.now) result }
 {
-    if !is_let_in(login.offered, login.least_rsa_bits) {
-        return Err(Refusal::UnacceptedKey);
+    if !openssh_accepts_key(login.offered, login.least_rsa_bits) {
+        return Err(UserRefusal::UnacceptedKey);
     }
     let Ok(is_revoked) = revocations.is_key_revoked(alloc, login.offered) else {
-        return Err(Refusal::Memory);
+        return Err(UserRefusal::Memory);
     };
     if is_revoked {
-        return Err(Refusal::Revoked);
+        return Err(UserRefusal::Revoked);
     }
     first_grant(alloc, login, None)
 }

@@ -27,10 +27,10 @@ mod refusal;
 mod text;
 mod time;
 
-pub use certificate::admit_certificate;
-pub use filter::may_be_for;
-pub use grant::{Certified, Grant};
-pub use key::admit_key;
+pub use certificate::log_in_by_certificate;
+pub use filter::line_may_name_key;
+pub use grant::{Certified, UserGrant};
+pub use key::log_in_by_key;
 pub use login::UserLogin;
-pub use principal::admit_principal;
-pub use refusal::{Reason, Refusal};
+pub use principal::log_in_by_principal;
+pub use refusal::{Reason, UserRefusal};

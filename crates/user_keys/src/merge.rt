@@ -5,13 +5,13 @@ ghost use Rattle.login_terms.specs.Terms.{terms_of};
 ghost use Rattle.sshkey_cert_values.specs.OptionMaps.{options_of};
 ghost use Rattle.user_keys.specs.Certificates.{agree, both_permit, merged_with};
 
-use crate::grant::{Certified, Grant};
+use crate::grant::{Certified, UserGrant};
 use login_terms::Permissions;
 use sshkey_cert_values::OptionsMap;
 
 /// What a login by a certificate is bound to, which a line and the policy grant each. The commands
 /// agree.
-pub(crate) fn merged(first: Grant, login: login_policy::Grant) -> Grant
+pub(crate) fn merged(first: UserGrant, login: login_policy::Grant) -> UserGrant
     ensures line { result.line ≡ first.line }
     ensures terms { terms_of result.terms ≡ merged_with (terms_of first.terms)
         (option_map string_bytes login.force_command) (options_of login.extensions)
@@ -22,7 +22,7 @@ pub(crate) fn merged(first: Grant, login: login_policy::Grant) -> Grant
       authority = login.authority;
     }) }
 {
-    let Grant {
+    let UserGrant {
         line,
         mut terms,
         certified: _,
@@ -42,7 +42,7 @@ pub(crate) fn merged(first: Grant, login: login_policy::Grant) -> Grant
     terms.permissions = both_permit(terms.permissions, &extensions);
     terms.touch_required = terms.touch_required || touch_required;
     terms.verify_required = terms.verify_required || verify_required;
-    Grant {
+    UserGrant {
         line,
         terms,
         certified: Some(Certified {

@@ -1,19 +1,19 @@
 //! What a certificate says by itself, whatever line lets it in.
 
 ghost use Rattle.std.specs.Prelude.{◌≡◌, ◌≢◌, IfErr, IfOk, IsTrue};
-ghost use Rattle.openssh_limits.specs.Keys.{is_let_in};
+ghost use Rattle.openssh_limits.specs.Keys.{openssh_accepts_key};
 ghost use Rattle.sshkey_model.specs.Certificates.{certificate_format, SpellsCertificate};
 ghost use Rattle.sshkey_cert.specs.CertificateValues.{certificate_of};
 ghost use Rattle.sshkey_cert.specs.Validity.{fingerprints_of};
 ghost use Rattle.sshkey_keys.specs.Keys.{key_of};
 ghost use Rattle.sshkey_model.specs.Keys.{IsKey};
 ghost use Rattle.user_keys.specs.CertificateLogins.{IsWhyUnread, PolicyGrants, RefusesByPolicy, client_of, login_with, policy_login};
-ghost use Rattle.user_keys.specs.declared.refusal.Refusal.TheVariants as refusal;
+ghost use Rattle.user_keys.specs.declared.refusal.UserRefusal.TheVariants as refusal;
 
 use crate::login::UserLogin;
-use crate::refusal::Refusal;
+use crate::refusal::UserRefusal;
 use login_policy::{Client, Login, log_in};
-use openssh_limits::is_let_in;
+use openssh_limits::openssh_accepts_key;
 use sshkey_cert::Certificate;
 use sshkey_keys::{Fingerprint, RawVerifier};
 use sshkey_krl::Revocations;
@@ -21,18 +21,18 @@ use std::alloc::Global;
 use std::net::IpAddr;
 
 /// Reads a certificate by an authority whose key sshd(8) accepts.
-pub(crate) fn read_certificate(alloc: Global, bytes: &[u8]) -> Result<Certificate, Refusal>
+pub(crate) fn read_certificate(alloc: Global, bytes: &[u8]) -> Result<Certificate, UserRefusal>
     ensures reads { IfOk result (λ c. SpellsCertificate (certificate_of c) bytes.now
-        × IsTrue (is_let_in 0 (certificate_of c).signed.signature_key)) }
+        × IsTrue (openssh_accepts_key 0 (certificate_of c).signed.signature_key)) }
     ensures refused { IfErr result (λ r. r ≢ refusal.Memory → IsWhyUnread bytes.now r) }
     ensures asks { IfErr result (λ r. r ≡ refusal.Memory → certificate_format.needs bytes.now 0) }
 {
     let read = match Certificate::from_bytes(alloc, bytes) {
         Ok(read) => read,
-        Err(error) => return Err(Refusal::from(login_policy::Refusal::from(error))),
+        Err(error) => return Err(UserRefusal::from(login_policy::UserRefusal::from(error))),
     };
-    if !is_let_in(read.signature_key(), 0) {
-        return Err(Refusal::UnacceptedKey);
+    if !openssh_accepts_key(read.signature_key(), 0) {
+        return Err(UserRefusal::UnacceptedKey);
     }
     Ok(read)
 }
@@ -47,7 +47,7 @@ pub(crate) fn log_in_as<R: Revocations, V: RawVerifier>(
     authorities: &[Fingerprint],
     revocations: &R,
     verifier: &V,
-) -> Result<login_policy::Grant, Refusal>
+) -> Result<login_policy::Grant, UserRefusal>
     requires { IsKey (key_of login.now.offered.now) }
     ensures exactly { PolicyGrants (policy_login (login_with login.now certificate.now
         (V.accepts verifier.now) (R.revokes revocations.now)) (fingerprints_of authorities.now)

@@ -13,11 +13,11 @@ ghost use Rattle.user_keys.specs.Answers.{GrantsExactly};
 ghost use Rattle.user_keys.specs.PrincipalLogins.{AdmitsPrincipal, ChecksTerms, FindsDecision, IsAsStrictInPlace, IsWhyNoPrincipal, NeedsMemoryInPlace, judged_in_place, principal_login};
 ghost use Rattle.user_keys.specs.Principals.{DecidesBy, MayDecideBy, is_principal, lines_at_feeds, names_principal};
 ghost use Rattle.user_keys.specs.UserLogins.{login_of};
-ghost use Rattle.user_keys.specs.declared.refusal.Refusal.TheVariants as refusal;
+ghost use Rattle.user_keys.specs.declared.refusal.UserRefusal.TheVariants as refusal;
 
 use crate::answer::Judgement;
 use crate::certificate::judged_by;
-use crate::grant::Grant;
+use crate::grant::UserGrant;
 use crate::line::judge;
 use crate::login::UserLogin;
 use crate::merge::{agree, merged};
@@ -25,7 +25,7 @@ use crate::names::{is_listed, listed_as};
 use crate::options::read_terms;
 use crate::policy::{log_in_as, read_certificate};
 use crate::principal_line::PrincipalLine;
-use crate::refusal::{Reason, Refusal};
+use crate::refusal::{Reason, UserRefusal};
 use crate::text::split_line;
 use login_terms::{Reading, Terms};
 use sshkey_cert::Certificate;
@@ -39,7 +39,7 @@ use std::alloc::{AllocError, Global};
 /// that it lists, and allows the certificate, the place and the time. The authorities are those of
 /// TrustedUserCAKeys, by the SHA-256 fingerprints of their keys. The certificate is judged as by
 /// `login_policy::log_in`, with these, for that principal: the user is not asked about. The grant is
-/// what the line and the certificate say together, as of `admit_certificate`.
+/// what the line and the certificate say together, as of `log_in_by_certificate`.
 ///
 /// The first line for such a principal decides: if it refuses, no other lets in, of another file
 /// neither. So ask about one file after the other as long as the answer is `NotListed`. A line
@@ -51,7 +51,7 @@ use std::alloc::{AllocError, Global};
 /// is `Unclear` where it is no UTF-8 up to a `#`.
 ///
 /// Unless memory runs out, it fails with the first of these that fits:
-/// - `Certificate` with `login_policy::Refusal::Certificate`: the bytes are no certificate;
+/// - `Certificate` with `login_policy::UserRefusal::Certificate`: the bytes are no certificate;
 /// - `UnacceptedKey`: sshd accepts no key of the kind or the size of that which signed it;
 /// - `NotListed`: no line is for a principal;
 /// - `Unclear`: the first that is or may be so may be read, or may allow the certificate;
@@ -63,14 +63,14 @@ use std::alloc::{AllocError, Global};
 ///
 /// `Memory` means that the bytes need memory to be read (`Certificate::from_bytes`), or that a line
 /// is for a principal: other lines ask for none.
-pub fn admit_principal<R: Revocations, V: RawVerifier>(
+pub fn log_in_by_principal<R: Revocations, V: RawVerifier>(
     alloc: Global,
     login: &UserLogin,
     certificate: &[u8],
     authorities: &[Fingerprint],
     revocations: &R,
     verifier: &V,
-) -> Result<Grant, Refusal>
+) -> Result<UserGrant, UserRefusal>
     requires { IsKey (key_of login.now.offered.now) }
     ensures exactly { GrantsExactly (AdmitsPrincipal (principal_login login.now certificate.now
         (V.accepts verifier.now) (R.revokes revocations.now)) (fingerprints_of authorities.now))
@@ -92,7 +92,7 @@ pub fn admit_principal<R: Revocations, V: RawVerifier>(
     };
     // the name is a principal's
     let Some(name) = listed_as(read.valid_principals(), name) else {
-        return Err(Refusal::NotListed);
+        return Err(UserRefusal::NotListed);
     };
     check_terms(alloc, &first, login, &read)?;
     let granted = log_in_as(
@@ -110,7 +110,7 @@ pub fn admit_principal<R: Revocations, V: RawVerifier>(
 /// The line that decides, and the principal that it is for.
 #[derive(Drop)]
 struct Decision<'a> {
-    first: Grant,
+    first: UserGrant,
     name: &'a [u8],
 }
 
@@ -119,7 +119,7 @@ fn first_principal<'a>(
     alloc: Global,
     text: &'a [u8],
     certificate: &Certificate,
-) -> Result<Decision<'a>, Refusal>
+) -> Result<Decision<'a>, UserRefusal>
     ensures exactly { FindsDecision (certificate_of certificate.now) (lines_at_feeds text.now)
         result }
     ensures asks { IfErr result (λ r. r ≡ refusal.Memory
@@ -135,7 +135,7 @@ fn first_principal<'a>(
         match decide(alloc, &entry, certificate)? {
             Reading::Is(terms) => {
                 return Ok(Decision {
-                    first: Grant {
+                    first: UserGrant {
                         line,
                         terms,
                         certified: None,
@@ -143,11 +143,11 @@ fn first_principal<'a>(
                     name: entry.name,
                 });
             }
-            Reading::Unclear => return Err(Refusal::Unclear { line }),
+            Reading::Unclear => return Err(UserRefusal::Unclear { line }),
             Reading::Rejected => {}
         }
         let Some(next) = more else {
-            return Err(Refusal::NotListed);
+            return Err(UserRefusal::NotListed);
         };
         rest = next;
     }
@@ -179,10 +179,10 @@ fn decide(
 /// Whether the terms of the line that decides allow the certificate; else why not.
 fn check_terms(
     alloc: Global,
-    first: &Grant,
+    first: &UserGrant,
     login: &UserLogin,
     certificate: &Certificate,
-) -> Result<(), Refusal>
+) -> Result<(), UserRefusal>
     ensures { ChecksTerms (login_of login.now None) (certificate_of certificate.now)
         first.now.line (terms_of first.now.terms) result }
 {
@@ -190,8 +190,8 @@ fn check_terms(
     let alone = judge(alloc, &first.terms, login)?;
     match judged_in_place(&first.terms, certificate, alone) {
         Judgement::Allows => Ok(()),
-        Judgement::Refuses(reason) => Err(Refusal::NotAllowed { line, reason }),
-        Judgement::Unclear => Err(Refusal::Unclear { line }),
+        Judgement::Refuses(reason) => Err(UserRefusal::NotAllowed { line, reason }),
+        Judgement::Unclear => Err(UserRefusal::Unclear { line }),
     }
 }
 

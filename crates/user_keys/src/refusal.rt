@@ -2,13 +2,13 @@
 
 ghost use Rattle.std.specs.Prelude.{◌≡◌};
 ghost use Rattle.user_keys.specs.CertificateLogins.{IsRefusalOf};
-ghost use Rattle.user_keys.specs.declared.refusal.Refusal.TheVariants.{Memory};
+ghost use Rattle.user_keys.specs.declared.refusal.UserRefusal.TheVariants.{Memory};
 
 use std::alloc::AllocError;
 
 /// Why a login is refused.
 #[derive(Debug, Drop)]
-pub enum Refusal {
+pub enum UserRefusal {
     /// No line is for the key; or, of a certificate, no line `cert-authority` for the key that
     /// signed it, or none that names one of its principals. A line whose options sshd(8) rejects is
     /// for nobody.
@@ -27,14 +27,14 @@ pub enum Refusal {
         /// The number of that line, from 1.
         line: usize,
     },
-    /// sshd(8) accepts no such key, by its kind or its size (`openssh_limits::is_let_in`); or, of a
+    /// sshd(8) accepts no such key, by its kind or its size (`openssh_limits::openssh_accepts_key`); or, of a
     /// certificate, no such key as signed it.
     UnacceptedKey,
     /// The key is revoked.
     Revoked,
     /// It is no certificate, or a line allows it, and it is refused for that
-    /// (`login_policy::log_in`). It is never `login_policy::Refusal::Memory`.
-    Certificate(login_policy::Refusal),
+    /// (`login_policy::log_in`). It is never `login_policy::UserRefusal::Memory`.
+    Certificate(login_policy::UserRefusal),
     /// Memory ran out.
     Memory,
 }
@@ -56,21 +56,21 @@ pub enum Reason {
     Principals,
 }
 
-impl From<AllocError> for Refusal {
+impl From<AllocError> for UserRefusal {
     ghost from_gives = { λ _ r. r ≡ Memory };
 
-    fn from(_error: AllocError) -> Refusal {
-        Refusal::Memory
+    fn from(_error: AllocError) -> UserRefusal {
+        UserRefusal::Memory
     }
 }
 
-impl From<login_policy::Refusal> for Refusal {
+impl From<login_policy::UserRefusal> for UserRefusal {
     ghost from_gives = { IsRefusalOf };
 
-    fn from(refusal: login_policy::Refusal) -> Refusal {
-        if matches!(refusal, login_policy::Refusal::Memory) {
-            return Refusal::Memory;
+    fn from(refusal: login_policy::UserRefusal) -> UserRefusal {
+        if matches!(refusal, login_policy::UserRefusal::Memory) {
+            return UserRefusal::Memory;
         }
-        Refusal::Certificate(refusal)
+        UserRefusal::Certificate(refusal)
     }
 }

@@ -7,10 +7,12 @@ use sshkey_cert::Certificate;
 use sshkey_public::PublicKey;
 use sshkey_revoked_keys::RevokedKeys;
 use std::alloc::Global;
-use user_keys::{Grant, Refusal, admit_certificate, admit_key, admit_principal};
+use user_keys::{
+    UserGrant, UserRefusal, log_in_by_certificate, log_in_by_key, log_in_by_principal,
+};
 
 /// Whether a login is let in, and to what.
-pub(crate) type Admission = std::result::Result<Grant, Refusal>;
+pub(crate) type Admission = std::result::Result<UserGrant, UserRefusal>;
 
 /// Whether the login is let in that a line asks about. Fails where the line is no question.
 pub(crate) fn ask(alloc: Global, line: &str) -> Result<Admission> {
@@ -41,7 +43,7 @@ fn verified(word: &str) -> Result<Verified> {
 
 fn key(alloc: Global, words: &Words) -> Result<Admission> {
     let offered = PublicKey::from_bytes(alloc, &words.shown)?;
-    Ok(admit_key(
+    Ok(log_in_by_key(
         alloc,
         &words.login(offered.key_data()),
         &RevokedKeys::from_bytes(alloc, &words.revoked),
@@ -50,7 +52,7 @@ fn key(alloc: Global, words: &Words) -> Result<Admission> {
 
 fn certificate(alloc: Global, verifier: &Verified, words: &Words) -> Result<Admission> {
     let certificate = Certificate::from_bytes(alloc, &words.shown)?;
-    Ok(admit_certificate(
+    Ok(log_in_by_certificate(
         alloc,
         &words.login(certificate.public_key()),
         &words.shown,
@@ -68,7 +70,7 @@ fn principal(
     let authority = PublicKey::from_bytes(alloc, &bytes(alloc, authority)?)?;
     let trusted = authority.fingerprint(alloc, HashAlg::Sha256)?;
     let certificate = Certificate::from_bytes(alloc, &words.shown)?;
-    Ok(admit_principal(
+    Ok(log_in_by_principal(
         alloc,
         &words.login(certificate.public_key()),
         &words.shown,

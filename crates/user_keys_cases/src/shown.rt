@@ -3,7 +3,7 @@
 use crate::ask::Admission;
 use login_terms::{Permissions, Permit};
 use std::io::{self, Write};
-use user_keys::{Certified, Grant, Reason, Refusal};
+use user_keys::{Certified, Reason, UserGrant, UserRefusal};
 
 /// Writes what a login is bound to, or why it is refused.
 pub(crate) fn show<W: Write>(output: &mut W, admission: &Admission) -> io::Result<()> {
@@ -16,7 +16,7 @@ pub(crate) fn show<W: Write>(output: &mut W, admission: &Admission) -> io::Resul
     }
 }
 
-fn show_grant<W: Write>(output: &mut W, grant: &Grant) -> io::Result<()> {
+fn show_grant<W: Write>(output: &mut W, grant: &UserGrant) -> io::Result<()> {
     let terms = &grant.terms;
     write!(output, "{} command=", grant.line)?;
     if let Some(command) = &terms.command {
@@ -98,17 +98,17 @@ fn show_text<W: Write>(output: &mut W, text: &str) -> io::Result<()> {
     Ok(())
 }
 
-fn show_refusal<W: Write>(output: &mut W, refusal: &Refusal) -> io::Result<()> {
+fn show_refusal<W: Write>(output: &mut W, refusal: &UserRefusal) -> io::Result<()> {
     match refusal {
-        Refusal::NotListed => writeln!(output, "no: not listed"),
-        Refusal::NotAllowed { line, reason } => {
+        UserRefusal::NotListed => writeln!(output, "no: not listed"),
+        UserRefusal::NotAllowed { line, reason } => {
             writeln!(output, "no: not allowed by line {line}, {}", why(*reason))
         }
-        Refusal::Unclear { line } => writeln!(output, "no: line {line} cannot be told"),
-        Refusal::UnacceptedKey => writeln!(output, "no: unaccepted key"),
-        Refusal::Revoked => writeln!(output, "no: revoked"),
-        Refusal::Certificate(refusal) => writeln!(output, "no: certificate, {refusal:?}"),
-        Refusal::Memory => writeln!(output, "out of memory"),
+        UserRefusal::Unclear { line } => writeln!(output, "no: line {line} cannot be told"),
+        UserRefusal::UnacceptedKey => writeln!(output, "no: unaccepted key"),
+        UserRefusal::Revoked => writeln!(output, "no: revoked"),
+        UserRefusal::Certificate(refusal) => writeln!(output, "no: certificate, {refusal:?}"),
+        UserRefusal::Memory => writeln!(output, "out of memory"),
     }
 }
 

@@ -7,4 +7,4 @@ pub use Rattle.sshkey_authorized_keys.specs.declared.openssh.OpenSshEntry
 pub use Rattle.sshkey_authorized_keys.specs.declared.openssh_option.OpenSshOption
 pub use Rattle.sshkey_authorized_keys.specs.declared.openssh_option.OpenSshOptionsIter
 pub use Rattle.sshkey_authorized_keys.specs.declared.openssh_options.OpenSshOptions
-pub use Rattle.sshkey_entries.specs.declared.filled_lines.FilledLines
+pub use Rattle.sshkey_entries.specs.declared.non_blank_lines.NonBlankLines

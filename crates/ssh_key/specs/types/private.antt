@@ -2,7 +2,7 @@ pub use Rattle.sshkey_pairs.specs.declared.keypair_data.KeypairData
 pub use Rattle.sshkey_pairs.specs.declared.opaque.OpaqueKeypair
 pub use Rattle.sshkey_pairs.specs.declared.opaque.OpaqueKeypairBytes
 pub use Rattle.sshkey_pairs.specs.declared.opaque.OpaquePrivateKeyBytes
-pub use Rattle.sshkey_pair_kinds.specs.declared.security_pair.SecurityPair
+pub use Rattle.sshkey_pair_kinds.specs.declared.sk_keypair.SkKeypair
 pub use Rattle.sshkey_pair_kinds.specs.SkEcdsaSha2NistP256
 pub use Rattle.sshkey_pair_kinds.specs.SkEd25519
 pub use Rattle.sshkey_pair_kinds.specs.declared.dsa.DsaKeypair

@@ -104,7 +104,7 @@ impl Label for EcdsaCurve {
         Ok(EcdsaCurve::from_str(name)?)
     }
 
-    fn lawful_names() {}
+    fn lawful_label() {}
 }
 
 impl AsStr for EcdsaCurve {

@@ -117,7 +117,7 @@ impl Label for HashAlg {
         Ok(HashAlg::from_str(name)?)
     }
 
-    fn lawful_names() {}
+    fn lawful_label() {}
 }
 
 impl AsStr for HashAlg {

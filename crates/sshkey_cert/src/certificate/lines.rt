@@ -32,7 +32,7 @@ impl Blob for Certificate {
 
     ghost Spelling = { SpellsCertificate };
 
-    fn stands() {}
+    fn lawful_blob() {}
 
     fn write_name<W: Writer>(&self, writer: &mut W) -> encoding::Result<()> {
         self.fields.public_key.write_certificate_name(writer)

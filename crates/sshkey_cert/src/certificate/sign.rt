@@ -12,7 +12,7 @@ ghost use Rattle.sshkey_cert.specs.Signing.{IsSignatureOf, PermitsToSign, Refuse
 
 use super::Certificate;
 use sshkey_base::{Result, Text};
-use sshkey_cert_fields::ToBeSigned;
+use sshkey_cert_fields::CertificateFields;
 use sshkey_keys::{Signature, SigningKey};
 use std::alloc::Global;
 
@@ -29,7 +29,7 @@ impl Certificate {
     /// own.
     pub fn sign<S: SigningKey>(
         alloc: Global,
-        fields: ToBeSigned,
+        fields: CertificateFields,
         signing_key: &S,
         comment: Text,
     ) -> Result<Certificate>
@@ -60,7 +60,7 @@ impl Certificate {
 /// What the signer makes of the bytes that are signed.
 fn signature_by<S: SigningKey>(
     alloc: Global,
-    fields: &ToBeSigned,
+    fields: &CertificateFields,
     signing_key: &S,
 ) -> Result<Signature>
     requires permits { PermitsToSign (S.permits signing_key.now) (to_be_signed_of fields.now) }
@@ -75,7 +75,7 @@ fn signature_by<S: SigningKey>(
 }
 
 /// The bytes that are signed, if they fit.
-fn checked_bytes(alloc: Global, fields: &ToBeSigned) -> Result<Vec<u8>>
+fn checked_bytes(alloc: Global, fields: &CertificateFields) -> Result<Vec<u8>>
     ensures made { MakesBlob (normal_to_be_signed (to_be_signed_of fields.now)) result }
     ensures fits { OnOk result (signed_fits (to_be_signed_of fields.now) ≡ true) }
 {

@@ -14,7 +14,7 @@ use super::Builder;
 use sshkey_base::certificate::Field;
 use sshkey_base::{Bytes, Error, Result, Text};
 use sshkey_cert::Certificate;
-use sshkey_cert_fields::ToBeSigned;
+use sshkey_cert_fields::CertificateFields;
 use sshkey_cert_values::CertType;
 use sshkey_keys::{KeyData, SigningKey};
 use std::alloc::Global;
@@ -63,7 +63,7 @@ impl Builder {
 
     /// The fields, with the defaults for those that were not set, and the comment. The principals
     /// were named.
-    fn fields(self, alloc: Global, signature_key: KeyData) -> (ToBeSigned, Text)
+    fn fields(self, alloc: Global, signature_key: KeyData) -> (CertificateFields, Text)
         requires { IsSome self.valid_principals }
         ensures key { result.0.public_key ≡ given_key self }
         ensures fields { to_be_signed_of result.0 ≡ drafted (draft_of self) (key_of signature_key) }
@@ -83,7 +83,7 @@ impl Builder {
             extensions,
             comment,
         } = self;
-        let fields = ToBeSigned {
+        let fields = CertificateFields {
             nonce,
             public_key,
             serial: serial.unwrap_or(0),

@@ -9,8 +9,8 @@ ghost use Rattle.sshkey_cert_ref.specs.Views.{texts_of, options_of, nestings_of}
 ghost use Rattle.sshkey_cert_ref.specs.CertificateRef.{certificate_of, choices_of};
 
 use super::CertificateRef;
-use crate::options_ref::OptionsRef;
-use crate::texts_ref::TextsRef;
+use crate::certificate_options_ref::CertificateOptionsRef;
+use crate::principals_ref::PrincipalsRef;
 use sshkey_cert_values::CertType;
 
 impl<'a> CertificateRef<'a> {
@@ -52,7 +52,7 @@ impl<'a> CertificateRef<'a> {
     }
 
     /// The principals; where there are none, `allows_principal` allows all.
-    pub fn valid_principals(&self) -> TextsRef<'a>
+    pub fn valid_principals(&self) -> PrincipalsRef<'a>
         ensures { texts_of result ≡ (certificate_of self.now).signed.valid_principals }
     {
         self.parts.valid_principals
@@ -83,7 +83,7 @@ impl<'a> CertificateRef<'a> {
 
     /// Restrictions on the use of the certificate. Refuse a certificate that has one that you do
     /// not know.
-    pub fn critical_options(&self) -> OptionsRef<'a>
+    pub fn critical_options(&self) -> CertificateOptionsRef<'a>
         ensures options { options_of result
             ≡ (certificate_of self.now).signed.critical_options }
         ensures choices { nestings_of result ≡ (choices_of self.now).critical_options }
@@ -92,7 +92,7 @@ impl<'a> CertificateRef<'a> {
     }
 
     /// What else the certificate grants. Ignore an extension that you do not know.
-    pub fn extensions(&self) -> OptionsRef<'a>
+    pub fn extensions(&self) -> CertificateOptionsRef<'a>
         ensures options { options_of result ≡ (certificate_of self.now).signed.extensions }
         ensures choices { nestings_of result ≡ (choices_of self.now).extensions }
     {

@@ -8,7 +8,7 @@ ghost use Rattle.sshkey_cert_ref.specs.CertificateRef.{NeedsAnswer, certificate_
 use super::CertificateRef;
 use sshkey_base::Result;
 use sshkey_cert::{
-    CertificateRefusal, contains_digest, refusal_of_authority_or_time, refusal_with_principal,
+    CertificateRefusal, contains_fingerprint, refusal_of_authority_or_time, refusal_with_principal,
 };
 use sshkey_fingerprints::Fingerprint;
 use sshkey_keys::RawVerifier;
@@ -33,7 +33,7 @@ impl CertificateRef<'_> {
             return Ok(Some(CertificateRefusal::Signature));
         }
         let authority = self.authority(alloc)?;
-        let is_trusted = contains_digest(fingerprints, authority.as_bytes());
+        let is_trusted = contains_fingerprint(fingerprints, authority.as_bytes());
         let window = (self.valid_after(), self.valid_before());
         Ok(refusal_of_authority_or_time(is_trusted, window, unix_timestamp))
     }

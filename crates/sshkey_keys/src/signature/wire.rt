@@ -162,7 +162,7 @@ fn decode_trailed<R: Reader>(alloc: Global, reader: &mut R, algorithm: &Algorith
         (OverrunsInside (OverrunsNumbers (algorithm_of algorithm.now)) 5)
         (R.source reader.old) result }
 {
-    let bytes = Bytes::decode_with_spare(alloc, reader, TRAILER_LEN)?;
+    let bytes = Bytes::decode_with_spare_capacity(alloc, reader, TRAILER_LEN)?;
     let trailer = array_from::<5, R>(reader)?;
     joined(algorithm, bytes, &trailer)
 }
@@ -239,5 +239,5 @@ fn encode_blob<W: Writer>(
 impl NormalForm for Signature {
     ghost IsWellFormed = { λ g. IsSignature (signature_of g) };
 
-    fn normal_spells() {}
+    fn lawful_normal_form() {}
 }

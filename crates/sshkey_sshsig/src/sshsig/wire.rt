@@ -21,7 +21,7 @@ use sshkey_base::{
     decode_whole, encode_vec, encoding,
 };
 use sshkey_keys::{KeyData, Signature};
-use sshkey_terms::{Boxed, Then, Wide};
+use sshkey_terms::{LengthPrefixed, Then, Wide};
 use std::alloc::Global;
 
 /// What an SSH signature begins with.
@@ -142,10 +142,10 @@ impl Decode for Namespace {
 }
 
 /// The bytes `SSHSIG`, the version and the key in a string.
-type Opening = Then<Magic, Then<Version, Boxed<KeyData>>>;
+type Opening = Then<Magic, Then<Version, LengthPrefixed<KeyData>>>;
 
 /// The namespace, the reserved bytes, the hash's name and the signature in a string.
-type Statement = Then<Namespace, Then<Wide<Bytes>, Then<Wide<HashAlg>, Boxed<Signature>>>>;
+type Statement = Then<Namespace, Then<Wide<Bytes>, Then<Wide<HashAlg>, LengthPrefixed<Signature>>>>;
 
 /// The bytes `SSHSIG`, the version, the key in a string, the namespace, the reserved bytes, the
 /// hash's name, and the signature in a string.
@@ -167,8 +167,8 @@ impl Decode for SshSig {
 
     fn decode<R: Reader>(alloc: Global, reader: &mut R) -> Result<SshSig> {
         let Then(opening, statement) = Then::<Opening, Statement>::decode(alloc, reader)?;
-        let Then(_, Then(version, Boxed(public_key))) = opening;
-        let Then(namespace, Then(Wide(reserved), Then(Wide(hash_alg), Boxed(signature)))) =
+        let Then(_, Then(version, LengthPrefixed(public_key))) = opening;
+        let Then(namespace, Then(Wide(reserved), Then(Wide(hash_alg), LengthPrefixed(signature)))) =
             statement;
         Ok(SshSig {
             version: version.number,
@@ -224,5 +224,5 @@ fn encode_statement<W: Writer>(signature: &SshSig, writer: &mut W) -> encoding::
 impl NormalForm for SshSig {
     ghost IsWellFormed = { λ f. IsSshSignature (ssh_signature_of f) };
 
-    fn normal_spells() {}
+    fn lawful_normal_form() {}
 }

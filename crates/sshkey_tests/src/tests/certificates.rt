@@ -3,7 +3,7 @@
 use super::support::is_wanted;
 use base64::engine::general_purpose::STANDARD;
 use sshkey_base::{Algorithm, Error, HashAlg};
-use sshkey_cert::{Certificate, contains_digest};
+use sshkey_cert::{Certificate, contains_fingerprint};
 use sshkey_cert_ref::CertificateRef;
 use sshkey_doubles::{Only, OutOfMemory};
 use sshkey_keys::Fingerprint;
@@ -59,9 +59,9 @@ fn has_option(certificate: &Certificate) -> bool {
 
 /// The SHA-256 digest counts, the SHA-512 one never does.
 fn one_digest_counts(given: [Fingerprint; 2]) -> bool {
-    contains_digest(&given, given[0].as_bytes())
-        && !contains_digest(&given, given[1].as_bytes())
-        && !contains_digest(&given[1..], given[0].as_bytes())
+    contains_fingerprint(&given, given[0].as_bytes())
+        && !contains_fingerprint(&given, given[1].as_bytes())
+        && !contains_fingerprint(&given[1..], given[0].as_bytes())
 }
 
 /// A verifier that is out of memory has no answer.

@@ -1,10 +1,10 @@
 //! The lists of a certificate that is a slice, walked over by a `for` as they are.
 
-use ssh_key::certificate::{OptionsRef, TextsRef};
+use ssh_key::certificate::{CertificateOptionsRef, PrincipalsRef};
 
 /// Whether a `for` over the texts gives these, in order.
 fn are_texts(bytes: &[u8], expected: &[&str]) -> bool {
-    let Ok(texts) = TextsRef::from_bytes(bytes) else {
+    let Ok(texts) = PrincipalsRef::from_bytes(bytes) else {
         return false;
     };
     let mut wanted = expected.iter();
@@ -18,7 +18,7 @@ fn are_texts(bytes: &[u8], expected: &[&str]) -> bool {
 
 /// Whether a `for` over the options gives these names, in order.
 fn are_names(bytes: &[u8], expected: &[&str]) -> bool {
-    let Ok(options) = OptionsRef::from_bytes(bytes) else {
+    let Ok(options) = CertificateOptionsRef::from_bytes(bytes) else {
         return false;
     };
     let mut wanted = expected.iter();

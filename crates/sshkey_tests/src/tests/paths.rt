@@ -14,36 +14,37 @@ pub mod root {
 /// Who may log in.
 pub mod authorized_keys {
     pub use ssh_key::authorized_keys::{
-        AuthorizedKeys, ConfigOpts, ConfigOptsIter, Entry, FilledLines, OpenSshAuthorizedKeys,
-        OpenSshEntry, OpenSshOption, OpenSshOptions, OpenSshOptionsIter, split_field,
+        AuthorizedKeys, ConfigOpts, ConfigOptsIter, Entry, NonBlankLines, OpenSshAuthorizedKeys,
+        OpenSshEntry, OpenSshOption, OpenSshOptions, OpenSshOptionsIter, split_blank,
     };
 }
 
 /// Certificates.
 pub mod certificate {
     pub use ssh_key::certificate::{
-        Builder, CertType, Certificate, CertificateByAuthority, CertificateQuestion,
-        CertificateRef, CertificateRefusal, EndTime, FOREVER, Field, KeyOrCertificate, MAX_SECS,
-        Options, OptionsMap, OptionsRef, Texts, TextsRef, ToBeSigned, UnixTime, contains_digest,
+        Builder, CertType, Certificate, CertificateFields, CertificateOptions,
+        CertificateOptionsRef, CertificateQuestion, CertificateRef, CertificateRefusal, EndTime,
+        FOREVER, Field, KeyOrCertificate, MAX_SECS, OptionsMap, Principals, PrincipalsRef,
+        TrustedCertificate, UnixTime, contains_fingerprint,
     };
 }
 
 /// The wire encoding.
 pub mod encoding {
     pub use ssh_key::encoding::{
-        Boxed, Bytes, Counted, Decode, DecodeError, Encode, Error, Label, LabelError, NestedReader,
-        NormalForm, Reader, Result, ShortBytes, SliceWriter, Text, Then, Wide, Writer, array_from,
-        both_len, counted_len, decode_boxed, decode_each, decode_front, decode_whole, each_len,
-        encode_both, encode_counted, encode_each, encode_list, encode_string, encode_vec,
-        erase_slice, length_from, list_len, string_len, u32_of,
+        Bytes, Counted, Decode, DecodeError, Encode, Error, Label, LabelError, LengthPrefixed,
+        NestedReader, NormalForm, Reader, Result, ShortBytes, SliceWriter, Text, Then, Wide,
+        Writer, array_from, both_len, counted_len, decode_each, decode_front, decode_prefixed,
+        decode_whole, each_len, encode_both, encode_counted, encode_each, encode_list,
+        encode_string, encode_vec, erase_slice, length_from, list_len, string_len, u32_of,
     };
 }
 
 /// Which keys hosts have.
 pub mod known_hosts {
     pub use ssh_key::known_hosts::{
-        Entry, Hmac, HmacSha1, HostPatterns, KnownHosts, Marker, OpenSshKnownHosts, Verdict,
-        authorities, judge_key, unreadable_line,
+        Entry, HmacSha1, HostHasher, HostPatterns, KnownHosts, Marker, OpenSshKnownHosts, Verdict,
+        authorities, key_verdict, unreadable_line,
     };
 }
 

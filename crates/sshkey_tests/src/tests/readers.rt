@@ -33,7 +33,7 @@ fn lends(bytes: &[u8]) -> Result<bool> {
         let mut first = [0];
         part.read(&mut first)?;
         let short = ShortBytes::<2>::ahead(3, part).is_none();
-        let rest = ShortBytes::<2>::take_from(2, part)?;
+        let rest = ShortBytes::<2>::read_from(2, part)?;
         Ok(none && short && first == [5] && rest.as_slice() == [6, 7].as_slice())
     })
 }

@@ -5,7 +5,7 @@ ghost use Rattle.sshkey_keys.specs.Signatures.{signature_of};
 ghost use Rattle.sshkey_userauth.specs.Judgements.{flags_of, lacking};
 
 use super::Requirements;
-use crate::refusal::Refusal;
+use crate::refusal::UserauthRefusal;
 use sshkey_keys::{Signature, has_trailer, split_trailer};
 
 /// Somebody touched the security key (`SSH_SK_USER_PRESENCE_REQD`).
@@ -20,16 +20,16 @@ const USER_VERIFIED: u8 = 0x04;
 /// Fails with the first of these: `Touch` if a touch is required, and the bit 0x01 is not set;
 /// `Verification` if verification is required, and the bit 0x04 is not set. So ask it only about a
 /// signature that was verified under the client's key: another one may say anything.
-pub fn check_flags(signature: &Signature, requirements: Requirements) -> Result<(), Refusal>
+pub fn check_flags(signature: &Signature, requirements: Requirements) -> Result<(), UserauthRefusal>
     ensures { result ≡ lacking requirements (flags_of (signature_of signature.now)) }
 {
     match flags_of(signature) {
         Some(flags) => {
             if requirements.touch_required && flags & USER_PRESENT == 0 {
-                return Err(Refusal::Touch);
+                return Err(UserauthRefusal::Touch);
             }
             if requirements.verify_required && flags & USER_VERIFIED == 0 {
-                return Err(Refusal::Verification);
+                return Err(UserauthRefusal::Verification);
             }
             Ok(())
         }

@@ -6,12 +6,12 @@ use Rattle.allowed_signers.proofs.line.split_word.Goals as goal
 
 pub returns-then-contains : goal.returns-then-contains
 returns-then-contains c =
-    let here = (contains_char quote c.split_field.result.0.now c.contains.result c.contains.ensures.cases (lit< tt)).0 c.if-contains.true in
-    quoted_word c.args.line.now c.split_field.result.0.now c.split_field.result.1.now here.0 c.split_field.ensures here.1 here.2
+    let here = (contains_char quote c.split_blank.result.0.now c.contains.result c.contains.ensures.cases (lit< tt)).0 c.if-contains.true in
+    quoted_word c.args.line.now c.split_blank.result.0.now c.split_blank.result.1.now here.0 c.split_blank.ensures here.1 here.2
 
 pub returns : goal.returns
 returns c =
-    let found = contains_char quote c.split_field.result.0.now c.contains.result c.contains.ensures.cases (lit< tt) in (
-      (λ i l e. cc (sym (found.1 i l e) ∙ c.if-contains.false), c.split_field.ensures),
-      one_word c.args.line.now c.split_field.result.0.now c.split_field.result.1.now c.split_field.ensures,
+    let found = contains_char quote c.split_blank.result.0.now c.contains.result c.contains.ensures.cases (lit< tt) in (
+      (λ i l e. cc (sym (found.1 i l e) ∙ c.if-contains.false), c.split_blank.ensures),
+      one_word c.args.line.now c.split_blank.result.0.now c.split_blank.result.1.now c.split_blank.ensures,
     )

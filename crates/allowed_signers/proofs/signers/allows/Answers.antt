@@ -4,10 +4,10 @@ use Rattle.allowed_signers.specs.AllowedSigners.{AllowsSigner}
 use Rattle.allowed_signers.proofs.Decisions.{line_decides, never, no_front, not_listed}
 use Rattle.allowed_signers.proofs.signers.allows.Goals as goal
 
-pub returns-then-not-is_read_text-clause-answer : goal.returns-then-not-is_read_text-clause-answer
-returns-then-not-is_read_text-clause-answer c =
+pub returns-then-not-openssh_reads_text-clause-answer : goal.returns-then-not-openssh_reads_text-clause-answer
+returns-then-not-openssh_reads_text-clause-answer c =
     never (AllowsSigner c.args.identity.now c.args.namespace.now c.args.unix_timestamp (key_of c.args.key.now) c.args.line.now)
-    (λ is. let yes : c.is_read_text.result ≡ true = c.is_read_text.ensures.1 is.no_zero in absurd cc)
+    (λ is. let yes : c.openssh_reads_text.result ≡ true = c.openssh_reads_text.ensures.1 is.no_zero in absurd cc)
 
 pub returns-in_default-clause-answer : goal.returns-in_default-clause-answer
 returns-in_default-clause-answer c = no_front c.args.identity.now c.args.namespace.now c.args.unix_timestamp (key_of c.args.key.now) c.args.line.now c.in_default.ensures
@@ -20,5 +20,5 @@ returns-then-not-matches_pattern_list-clause-answer c =
 pub returns-clause-answer : goal.returns-clause-answer
 returns-clause-answer c =
     line_decides c.args.identity.now c.args.namespace.now c.args.unix_timestamp (key_of c.args.key.now) c.args.line.now c.in-Some.principals.now c.in-Some.rest.now c.in-Some.ensures.0 c.in-Some.ensures.1
-    (c.is_read_text.ensures.0 c.if-not-is_read_text.false)
+    (c.openssh_reads_text.ensures.0 c.if-not-openssh_reads_text.false)
     (c.matches_pattern_list.ensures.0 c.if-not-matches_pattern_list.false) c.has_entry_for.result c.has_entry_for.ensures.answer

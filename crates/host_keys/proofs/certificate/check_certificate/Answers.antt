@@ -7,9 +7,9 @@ use Rattle.sshkey_model.specs.Verification.{Question}
 use Rattle.sshkey_base.proofs.Acceptance.{other_cause}
 use Rattle.sshkey_addresses.specs.Likeness.{is_like_address}
 use Rattle.host_keys.specs.Answers.{IsWhyNoCertificate, RefusesAsked, RefusesHostCertificate}
-use Rattle.host_keys.specs.Hosts.{HostLogin, IsHostCertificate, IsTrustedCertificate, OfAsked, lines_of, login_of}
-use Rattle.host_keys.specs.declared.refusal.Refusal.{Refusal}
-use Rattle.host_keys.specs.declared.refusal.Refusal.TheVariants as refusal
+use Rattle.host_keys.specs.Hosts.{HostCheck, IsHostCertificate, IsTrustedCertificate, OfAsked, lines_of, login_of}
+use Rattle.host_keys.specs.declared.refusal.HostRefusal.{HostRefusal}
+use Rattle.host_keys.specs.declared.refusal.HostRefusal.TheVariants as refusal
 use Rattle.host_keys.proofs.Said.{as_much, asks_more, other_of}
 use Rattle.host_keys.proofs.certificate.check_certificate.Goals as goal
 
@@ -32,7 +32,7 @@ returns-then-not-is_normal_form-clause-refused g c = λ other. inr (certificate_
 
 pub returns-clause-exactly : goal.returns-clause-exactly
 returns-clause-exactly g c =
-    let login = login_of c.args.login.now (g.H.HmacSha1.hmac c.args.hmac.now) in
+    let login = login_of c.args.login.now (g.H.HostHasher.hmac c.args.hmac.now) in
     let accepts = g.V.RawVerifier.accepts c.args.verifier.now in
     let revokes = g.R.Revocations.revokes c.args.revocations.now in
     as_much {P = OfAsked login (λ asked. IsTrustedCertificate asked accepts revokes (certificate_of c.in-Ok.read))} {Q = IsHostCertificate login accepts revokes c.args.certificate.now} _
@@ -42,13 +42,13 @@ returns-clause-exactly g c =
     subst (λ (d : Certificate). OfAsked login (λ asked. IsTrustedCertificate asked accepts revokes d)) (sym same) is.trusted)
     c.judge.ensures.exactly
 
-module _ (login : HostLogin) (accepts : Question → Bool) (revokes : List ℕ → CertificateIdentity → Bool) (blob : List ℕ) (d : Certificate) (spelled : SpellsCertificate d blob) (normal : blob ≡ flat (normal_certificate d)) where
-  refused : (r : Result (Unit {0}) Refusal) → IfErr r (RefusesAsked login (λ asked. IsWhyNoCertificate asked accepts revokes d)) → IfErr r (λ e. e ≢ refusal.Memory → RefusesHostCertificate login accepts revokes blob e)
+module _ (login : HostCheck) (accepts : Question → Bool) (revokes : List ℕ → CertificateIdentity → Bool) (blob : List ℕ) (d : Certificate) (spelled : SpellsCertificate d blob) (normal : blob ≡ flat (normal_certificate d)) where
+  refused : (r : Result (Unit {0}) HostRefusal) → IfErr r (RefusesAsked login (λ asked. IsWhyNoCertificate asked accepts revokes d)) → IfErr r (λ e. e ≢ refusal.Memory → RefusesHostCertificate login accepts revokes blob e)
   refused (Ok u) why = tt
   refused (Err e) why = λ other. inr (d, spelled, inr (normal, why))
 
 pub returns-clause-refused : goal.returns-clause-refused
-returns-clause-refused g c = refused (login_of c.args.login.now (g.H.HmacSha1.hmac c.args.hmac.now)) (g.V.RawVerifier.accepts c.args.verifier.now) (g.R.Revocations.revokes c.args.revocations.now) c.args.certificate.now (certificate_of c.in-Ok.read) c.in-Ok.ensures.accepts.spelled (c.is_normal_form.ensures.0 c.if-not-is_normal_form.false) c.judge.result c.judge.ensures.refused
+returns-clause-refused g c = refused (login_of c.args.login.now (g.H.HostHasher.hmac c.args.hmac.now)) (g.V.RawVerifier.accepts c.args.verifier.now) (g.R.Revocations.revokes c.args.revocations.now) c.args.certificate.now (certificate_of c.in-Ok.read) c.in-Ok.ensures.accepts.spelled (c.is_normal_form.ensures.0 c.if-not-is_normal_form.false) c.judge.result c.judge.ensures.refused
 
 pub returns-clause-asks : goal.returns-clause-asks
 returns-clause-asks g c = asks_more (is_like_address c.args.login.now.host.now ≡ true) (certificate_format.needs c.args.certificate.now 0 ⊎ (is_like_address c.args.login.now.host.now ≡ true)) inr (g.R.Revocations.revokes_none c.args.revocations.now) (lines_of c.args.login.now.texts.now) c.judge.result c.judge.ensures.asks

@@ -7,4 +7,4 @@ use Rattle.host_keys.proofs.texts.has_authority.Given as goal
 
 -- no line of the texts so far has it as an authority's
 abbrev pub invariant-loop-text : goal.invariant-loop-text
-invariant-loop-text g l = IsAuthority (g.H.HmacSha1.hmac l.hmac) (known_name l.host l.port) (key_of l.key) (lines_of (take l.text-index l.texts)) → ⊥
+invariant-loop-text g l = IsAuthority (g.H.HostHasher.hmac l.hmac) (known_name l.host l.port) (key_of l.key) (lines_of (take l.text-index l.texts)) → ⊥

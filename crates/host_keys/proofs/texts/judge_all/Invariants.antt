@@ -7,4 +7,4 @@ use Rattle.host_keys.proofs.texts.judge_all.Given as goal
 
 -- the verdict on the lines of the texts so far
 abbrev pub invariant-loop-text : goal.invariant-loop-text
-invariant-loop-text g l = IsVerdict (g.H.HmacSha1.hmac l.hmac) (known_name l.host l.port) (key_of l.key) (lines_of (take l.text-index l.texts)) l.found
+invariant-loop-text g l = IsVerdict (g.H.HostHasher.hmac l.hmac) (known_name l.host l.port) (key_of l.key) (lines_of (take l.text-index l.texts)) l.found

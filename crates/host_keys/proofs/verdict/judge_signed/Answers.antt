@@ -7,7 +7,7 @@ use Rattle.host_keys.proofs.verdict.judge_signed.Goals as goal
 
 pub returns-then-is_unreadable-clause-answer : goal.returns-then-is_unreadable-clause-answer
 returns-then-is_unreadable-clause-answer g c =
-    unreadable (g.H.HmacSha1.hmac c.args.hmac.now) (known_name c.args.host.now c.args.port) (lines_of c.args.texts.now) (key_of c.args.key.now) (key_of c.args.signer.now) c.in_ok-of_key.of_key c.in_ok-of_signer.of_signer
+    unreadable (g.H.HostHasher.hmac c.args.hmac.now) (known_name c.args.host.now c.args.port) (lines_of c.args.texts.now) (key_of c.args.key.now) (key_of c.args.signer.now) c.in_ok-of_key.of_key c.in_ok-of_signer.of_signer
     (λ e. let yes : c.is_revoked.result ≡ true = c.is_revoked.ensures.1 e in absurd cc)
     (λ e. let yes : c.is_revoked-else-is_revoked.result ≡ true = c.is_revoked-else-is_revoked.ensures.1 e in absurd cc)
     c.in_ok-of_key.ensures.answer c.in_ok-of_signer.ensures.answer
@@ -15,7 +15,7 @@ returns-then-is_unreadable-clause-answer g c =
 
 pub returns-then-branch-clause-answer : goal.returns-then-branch-clause-answer
 returns-then-branch-clause-answer g c =
-    trusted (g.H.HmacSha1.hmac c.args.hmac.now) (known_name c.args.host.now c.args.port) (lines_of c.args.texts.now) (key_of c.args.key.now) (key_of c.args.signer.now) c.in_ok-of_key.of_key c.in_ok-of_signer.of_signer
+    trusted (g.H.HostHasher.hmac c.args.hmac.now) (known_name c.args.host.now c.args.port) (lines_of c.args.texts.now) (key_of c.args.key.now) (key_of c.args.signer.now) c.in_ok-of_key.of_key c.in_ok-of_signer.of_signer
     (λ e. let yes : c.is_revoked.result ≡ true = c.is_revoked.ensures.1 e in absurd cc)
     (λ e. let yes : c.is_revoked-else-is_revoked.result ≡ true = c.is_revoked-else-is_revoked.ensures.1 e in absurd cc)
     c.in_ok-of_key.ensures.answer c.in_ok-of_signer.ensures.answer
@@ -24,7 +24,7 @@ returns-then-branch-clause-answer g c =
 
 pub returns-clause-answer : goal.returns-clause-answer
 returns-clause-answer g c =
-    unknown (g.H.HmacSha1.hmac c.args.hmac.now) (known_name c.args.host.now c.args.port) (lines_of c.args.texts.now) (key_of c.args.key.now) (key_of c.args.signer.now) c.in_ok-of_key.of_key c.in_ok-of_signer.of_signer
+    unknown (g.H.HostHasher.hmac c.args.hmac.now) (known_name c.args.host.now c.args.port) (lines_of c.args.texts.now) (key_of c.args.key.now) (key_of c.args.signer.now) c.in_ok-of_key.of_key c.in_ok-of_signer.of_signer
     (λ e. let yes : c.is_revoked.result ≡ true = c.is_revoked.ensures.1 e in absurd cc)
     (λ e. let yes : c.is_revoked-else-is_revoked.result ≡ true = c.is_revoked-else-is_revoked.ensures.1 e in absurd cc)
     c.in_ok-of_key.ensures.answer c.in_ok-of_signer.ensures.answer

@@ -7,5 +7,5 @@ use Rattle.host_keys.proofs.verdict.key_verdict.Goals as goal
 
 pub returns-then-is_settled-clause-answer : goal.returns-then-is_settled-clause-answer
 returns-then-is_settled-clause-answer g c =
-    settled (λ (name : List ℕ). IsVerdict (g.H.HmacSha1.hmac c.args.hmac.now) name (key_of c.args.key.now) (lines_of c.args.texts.now)) c.args.host.now c.args.port _
+    settled (λ (name : List ℕ). IsVerdict (g.H.HostHasher.hmac c.args.hmac.now) name (key_of c.args.key.now) (lines_of c.args.texts.now)) c.args.host.now c.args.port _
     (c.is_settled.ensures.0 c.if-is_settled.true) c.in_ok-verdict.ensures.answer

@@ -27,19 +27,19 @@ returns-then-not-are_plain-clause-wrong c =
     let yes : c.are_plain.result ≡ true = c.are_plain.ensures.1 (rw c.extensions.ensures all) in
     absurd cc))
 
-pub returns-then-not-is_read_text-clause-wrong : goal.returns-then-not-is_read_text-clause-wrong
-returns-then-not-is_read_text-clause-wrong c =
+pub returns-then-not-openssh_reads_text-clause-wrong : goal.returns-then-not-openssh_reads_text-clause-wrong
+returns-then-not-openssh_reads_text-clause-wrong c =
     let known = rw c.critical_options.ensures at (c.are_known.ensures.0 c.if-not-are_known.false) in
     let plain = rw c.extensions.ensures at (c.are_plain.ensures.0 c.if-not-are_plain.false) in
-    rw c.invalid-then-not-is_read_text.ensures (OtherKeyId (sym c.cert_type.ensures ∙ c.is_user.ensures.0 c.if-not-is_user.false) (c.is_key_of.ensures.0 c.if-not-is_key_of.false) (sym c.are_accepted.ensures ∙ c.if-not-are_accepted.false) known plain (λ none.
-    let yes : c.is_read_text.result ≡ true = c.is_read_text.ensures.1 (rw c.key_id.ensures none) in
+    rw c.invalid-then-not-openssh_reads_text.ensures (OtherKeyId (sym c.cert_type.ensures ∙ c.is_user.ensures.0 c.if-not-is_user.false) (c.is_key_of.ensures.0 c.if-not-is_key_of.false) (sym c.are_accepted.ensures ∙ c.if-not-are_accepted.false) known plain (λ none.
+    let yes : c.openssh_reads_text.result ≡ true = c.openssh_reads_text.ensures.1 (rw c.key_id.ensures none) in
     absurd cc))
 
 pub returns-then-not-are_for-clause-wrong : goal.returns-then-not-are_for-clause-wrong
 returns-then-not-are_for-clause-wrong c =
     let known = rw c.critical_options.ensures at (c.are_known.ensures.0 c.if-not-are_known.false) in
     let plain = rw c.extensions.ensures at (c.are_plain.ensures.0 c.if-not-are_plain.false) in
-    let id = rw c.key_id.ensures at (c.is_read_text.ensures.0 c.if-not-is_read_text.false) in
+    let id = rw c.key_id.ensures at (c.openssh_reads_text.ensures.0 c.if-not-openssh_reads_text.false) in
     rw c.invalid-then-not-are_for.ensures (OtherPrincipals (sym c.cert_type.ensures ∙ c.is_user.ensures.0 c.if-not-is_user.false) (c.is_key_of.ensures.0 c.if-not-is_key_of.false) (sym c.are_accepted.ensures ∙ c.if-not-are_accepted.false) known plain id (λ names.
     let yes : c.are_for.result ≡ true = c.are_for.ensures.1 (rw c.valid_principals.ensures names) in
     absurd cc))
@@ -51,6 +51,6 @@ returns-clause-right c = record {
   accepted = sym c.are_accepted.ensures ∙ c.if-not-are_accepted.false;
   known = rw c.critical_options.ensures at (c.are_known.ensures.0 c.if-not-are_known.false);
   plain = rw c.extensions.ensures at (c.are_plain.ensures.0 c.if-not-are_plain.false);
-  key_id = rw c.key_id.ensures at (c.is_read_text.ensures.0 c.if-not-is_read_text.false);
+  key_id = rw c.key_id.ensures at (c.openssh_reads_text.ensures.0 c.if-not-openssh_reads_text.false);
   principals = rw c.valid_principals.ensures at (c.are_for.ensures.0 c.if-not-are_for.false);
 }

@@ -11,6 +11,6 @@ returns-then-is_empty-2 c = (λ yes. absurd cc, λ are. absurd (nobody c.args.na
 
 pub returns : goal.returns
 returns c = (
-  λ yes. record { named = filled c.args.user.now c.is_empty.result c.is_empty.ensures c.if-is_empty.false; some = somebody c.args.names.now (sym c.is_empty-2.ensures ∙ c.if-is_empty-2.false); read = c.are_read_principals.ensures.0 yes },
-  λ are. c.are_read_principals.ensures.1 are.read,
+  λ yes. record { named = filled c.args.user.now c.is_empty.result c.is_empty.ensures c.if-is_empty.false; some = somebody c.args.names.now (sym c.is_empty-2.ensures ∙ c.if-is_empty-2.false); read = c.openssh_reads_principals.ensures.0 yes },
+  λ are. c.openssh_reads_principals.ensures.1 are.read,
 )

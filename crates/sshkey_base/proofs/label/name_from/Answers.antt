@@ -29,7 +29,7 @@ returns-in-Some-2-clause-asks g c =
     named_asks encoding_cause g.T.Label.needs c.args.len _ _ (short_of c.in-Some-2.name) c.named-in-Some-2.result name (rw c.as_slice.ensures at c.named-in-Some-2.ensures.asks)
 
 pub returns-in-None-clause-gives : goal.returns-in-None-clause-gives
-returns-in-None-clause-gives g c = long_refused c.lawful_names.ensures.checks c.lawful_names.ensures.short c.lawful_names.ensures.refusals c.args.len _ _ (long_reads c.args.len _ _ (rw c.in-None.is at c.in_ok-name.ensures.gives))
+returns-in-None-clause-gives g c = long_refused c.lawful_label.ensures.checks c.lawful_label.ensures.short c.lawful_label.ensures.refusals c.args.len _ _ (long_reads c.args.len _ _ (rw c.in-None.is at c.in_ok-name.ensures.gives))
 
 pub returns-in_err-value-clause-past : goal.returns-in_err-value-clause-past
 returns-in_err-value-clause-past g c =
@@ -47,4 +47,4 @@ returns-in-Some-2-clause-past g c =
     named_stops g.T.Label.stands_for encoding_cause g.T.Label.named g.T.Label.needs c.args.len _ _ (short_of c.in-Some-2.name) c.named-in-Some-2.result name (looked_up_names g.T.Label.stands_for g.T.Label.named _ _ (rw c.as_slice.ensures at c.named-in-Some-2.ensures.gives)) (rw c.as_slice.ensures at c.named-in-Some-2.ensures.asks)
 
 pub returns-in-None-clause-past : goal.returns-in-None-clause-past
-returns-in-None-clause-past g c = long_stopped c.lawful_names.ensures.checks c.lawful_names.ensures.short c.lawful_names.ensures.refusals c.args.len _ _ _ (long_reads c.args.len _ _ (rw c.in-None.is at c.in_ok-name.ensures.gives))
+returns-in-None-clause-past g c = long_stopped c.lawful_label.ensures.checks c.lawful_label.ensures.short c.lawful_label.ensures.refusals c.args.len _ _ _ (long_reads c.args.len _ _ (rw c.in-None.is at c.in_ok-name.ensures.gives))

@@ -14,7 +14,7 @@ pub returns-in-Ok-clause-long : goal.returns-in-Ok-clause-long
 returns-in-Ok-clause-long c some not_memory apart = absurd (c.write_bytes.ensures.written.none some not_memory apart _ refl)
 
 pub returns-in-Err-clause-written : goal.returns-in-Err-clause-written
-returns-in-Err-clause-written c = none_given _ _ _ _ _ (refl, refl) c.error_number.ensures.some c.error_number.ensures.apart (λ not_memory s is. unfit (normal_to_be_signed (to_be_signed_of c.args.fields.now)) c.in-Err.error c.error_number.result c.in-Err.ensures c.error_number.ensures.memory not_memory is.0)
+returns-in-Err-clause-written c = none_given _ _ _ _ _ (refl, refl) c.error_status.ensures.some c.error_status.ensures.apart (λ not_memory s is. unfit (normal_to_be_signed (to_be_signed_of c.args.fields.now)) c.in-Err.error c.error_status.result c.in-Err.ensures c.error_status.ensures.memory not_memory is.0)
 
 pub returns-in-Err-clause-long : goal.returns-in-Err-clause-long
-returns-in-Err-clause-long c _ not_memory _ = long_or_out (normal_to_be_signed (to_be_signed_of c.args.fields.now)) c.in-Err.error c.error_number.result c.in-Err.ensures c.error_number.ensures.memory c.error_number.ensures.fault not_memory
+returns-in-Err-clause-long c _ not_memory _ = long_or_out (normal_to_be_signed (to_be_signed_of c.args.fields.now)) c.in-Err.error c.error_status.result c.in-Err.ensures c.error_status.ensures.memory c.error_status.ensures.fault not_memory

@@ -18,4 +18,4 @@ returns-in-Ok-to_key_data c =
     (spelled, ap number_of (key_is k b spelled))
 
 pub returns : goal.returns
-returns c = inr (kept_number key_bytes cause c.args.blob.now (whole key_data_at c.args.blob.now) c.in-Err.error c.error_number.result c.error_number.ensures.range c.error_number.ensures.fault c.in-Err.ensures.keeps)
+returns c = inr (kept_number key_bytes cause c.args.blob.now (whole key_data_at c.args.blob.now) c.in-Err.error c.error_status.result c.error_status.ensures.range c.error_status.ensures.fault c.in-Err.ensures.keeps)

@@ -28,5 +28,5 @@ returns c =
     let b = c.args.options.now in
     let e = c.in-Err.error in
     let refused = subst (λ (s : List ℕ). IsRefused 0 (cause e) (whole options_value_at s)) (c.as_slice.ensures.value ∙ c.in_ok-string.ensures.0.0) c.in-Err.ensures.gives in
-    refused_number (whole options_value_at (flat (string b))) (cause e) c.error_number.result _ refused c.error_number.ensures.memory c.error_number.ensures.fault c.error_number.ensures.range
+    refused_number (whole options_value_at (flat (string b))) (cause e) c.error_status.result _ refused c.error_status.ensures.memory c.error_status.ensures.fault c.error_status.ensures.range
     (listed_wrong options_value_at b c.in_ok-string.ensures.1)

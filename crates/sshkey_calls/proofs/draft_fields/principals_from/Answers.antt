@@ -28,8 +28,8 @@ returns c =
     let e = c.in-Err.error in
     let says = ap cause c.from.ensures ∙ same_cause e in
     let refused = subst (λ (s : List ℕ). IsRefused 0 (encoding_cause e) (whole texts_at s)) (c.as_slice.ensures.value ∙ c.in_ok-string.ensures.0.0) c.in-Err.ensures.gives in
-    refused_number (whole texts_at (flat (string b))) (encoding_cause e) c.error_number.result _ refused
-    (λ memory. c.error_number.ensures.memory (says ∙ memory))
-    (λ fault is. c.error_number.ensures.fault fault (says ∙ is))
-    (λ other. c.error_number.ensures.range (λ memory. other (sym says ∙ memory)))
+    refused_number (whole texts_at (flat (string b))) (encoding_cause e) c.error_status.result _ refused
+    (λ memory. c.error_status.ensures.memory (says ∙ memory))
+    (λ fault is. c.error_status.ensures.fault fault (says ∙ is))
+    (λ other. c.error_status.ensures.range (λ memory. other (sym says ∙ memory)))
     (listed_wrong texts_at b c.in_ok-string.ensures.1)

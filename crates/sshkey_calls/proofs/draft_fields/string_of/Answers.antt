@@ -9,6 +9,6 @@ returns-in-Ok c =
     (made, fits_number c.args.bytes.now made.1)
 
 pub returns-in-Err : goal.returns-in-Err
-returns-in-Err c = short_or_long c.args.bytes.now c.in-Err.error c.error_number.result c.in-Err.ensures
-    (λ memory. c.error_number.ensures.memory (ap cause c.from.ensures ∙ memory))
-    (λ fault is. c.error_number.ensures.fault fault (ap cause c.from.ensures ∙ is))
+returns-in-Err c = short_or_long c.args.bytes.now c.in-Err.error c.error_status.result c.in-Err.ensures
+    (λ memory. c.error_status.ensures.memory (ap cause c.from.ensures ∙ memory))
+    (λ fault is. c.error_status.ensures.fault fault (ap cause c.from.ensures ∙ is))

@@ -9,7 +9,7 @@ use Rattle.sshkey_calls.proofs.Outcomes.{refused}
 use Rattle.sshkey_calls.proofs.key.find_fingerprint.Goals as goal
 
 pub returns-in-Err : goal.returns-in-Err
-returns-in-Err c = refused key_bytes cause c.args.key.now c.in-Err.error _ c.error_number.ensures.fault SpellsKey key_data_at c.in-Err.ensures.keeps tt
+returns-in-Err c = refused key_bytes cause c.args.key.now c.in-Err.error _ c.error_status.ensures.fault SpellsKey key_data_at c.in-Err.ensures.keeps tt
 
 pub returns-in_default : goal.returns-in_default
 returns-in_default c =

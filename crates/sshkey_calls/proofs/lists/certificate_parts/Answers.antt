@@ -14,4 +14,4 @@ returns-in-Ok c =
     inl (certificate_of c.in-Ok.read, c.in-Ok.ensures.accepts, (refl, subst (λ (b : List ℕ). ArePartsOf (certificate_of c.in-Ok.read) b c.parts_of.result) same c.parts_of.ensures))
 
 pub returns-in-Err : goal.returns-in-Err
-returns-in-Err c = refused certificate_bytes cause c.args.certificate.now c.in-Err.error _ c.error_number.ensures.fault SpellsCertificate certificate_at c.in-Err.ensures.keeps refl
+returns-in-Err c = refused certificate_bytes cause c.args.certificate.now c.in-Err.error _ c.error_status.ensures.fault SpellsCertificate certificate_at c.in-Err.ensures.keeps refl

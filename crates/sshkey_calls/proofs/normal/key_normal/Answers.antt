@@ -26,7 +26,7 @@ returns-in-Ok-clause-memory c one =
     renamed_key (key_bytes c.in-Ok.read) c.args.key.now same c.in-Ok.ensures.accepts (c.write_key.ensures.memory one)
 
 pub returns-in-Err-clause-normal : goal.returns-in-Err-clause-normal
-returns-in-Err-clause-normal c = refused key_bytes cause c.args.key.now c.in-Err.error _ c.error_number.ensures.fault SpellsKey key_data_at c.in-Err.ensures.keeps (refl, refl)
+returns-in-Err-clause-normal c = refused key_bytes cause c.args.key.now c.in-Err.error _ c.error_status.ensures.fault SpellsKey key_data_at c.in-Err.ensures.keeps (refl, refl)
 
 pub returns-in-Err-clause-memory : goal.returns-in-Err-clause-memory
-returns-in-Err-clause-memory c one = absurd (never_memory key_bytes cause c.args.key.now (whole key_data_at c.args.key.now) _ _ c.error_number.ensures.range c.in-Err.ensures.keeps one)
+returns-in-Err-clause-memory c one = absurd (never_memory key_bytes cause c.args.key.now (whole key_data_at c.args.key.now) _ _ c.error_status.ensures.range c.in-Err.ensures.keeps one)

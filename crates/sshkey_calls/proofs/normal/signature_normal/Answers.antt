@@ -18,7 +18,7 @@ pub returns-in-Ok-clause-memory : goal.returns-in-Ok-clause-memory
 returns-in-Ok-clause-memory c = c.write_bytes.ensures.memory
 
 pub returns-in-Err-clause-normal : goal.returns-in-Err-clause-normal
-returns-in-Err-clause-normal c = refused signature_bytes cause c.args.signature.now c.in-Err.error _ c.error_number.ensures.fault SpellsSignature signature_at c.in-Err.ensures.keeps (refl, refl)
+returns-in-Err-clause-normal c = refused signature_bytes cause c.args.signature.now c.in-Err.error _ c.error_status.ensures.fault SpellsSignature signature_at c.in-Err.ensures.keeps (refl, refl)
 
 pub returns-in-Err-clause-memory : goal.returns-in-Err-clause-memory
-returns-in-Err-clause-memory c = never_memory signature_bytes cause c.args.signature.now (whole signature_at c.args.signature.now) _ _ c.error_number.ensures.range c.in-Err.ensures.keeps
+returns-in-Err-clause-memory c = never_memory signature_bytes cause c.args.signature.now (whole signature_at c.args.signature.now) _ _ c.error_status.ensures.range c.in-Err.ensures.keeps

@@ -8,4 +8,4 @@ pub returns-in-Ok : goal.returns-in-Ok
 returns-in-Ok c = inl (inl (ssh_signature_of c.in-Ok.read, c.in-Ok.ensures.accepts.spelled, c.write_encoded.ensures))
 
 pub returns-in-Err : goal.returns-in-Err
-returns-in-Err c = unread (cause c.in-Err.error) c.args.signature.now _ c.in-Err.ensures.gives c.in-Err.ensures.asks c.error_number.ensures.memory c.error_number.ensures.fault (refl, refl)
+returns-in-Err c = unread (cause c.in-Err.error) c.args.signature.now _ c.in-Err.ensures.gives c.in-Err.ensures.asks c.error_status.ensures.memory c.error_status.ensures.fault (refl, refl)

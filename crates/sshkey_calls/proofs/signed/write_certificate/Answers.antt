@@ -9,4 +9,4 @@ pub returns-in-Ok : goal.returns-in-Ok
 returns-in-Ok c = inl (certificate_of c.in-Ok.field-0, c.in-Ok.ensures.accepts, c.write_bytes.ensures.written)
 
 pub returns-in-Err : goal.returns-in-Err
-returns-in-Err c = refused certificate_bytes cause c.args.certificate.now c.in-Err.error _ c.error_number.ensures.fault SpellsCertificate certificate_at c.in-Err.ensures.keeps (refl, refl)
+returns-in-Err c = refused certificate_bytes cause c.args.certificate.now c.in-Err.error _ c.error_status.ensures.fault SpellsCertificate certificate_at c.in-Err.ensures.keeps (refl, refl)

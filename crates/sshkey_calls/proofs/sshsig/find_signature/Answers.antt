@@ -11,4 +11,4 @@ pub returns-else-is_in : goal.returns-else-is_in
 returns-else-is_in c = inl (inl (ssh_signature_of c.in-Ok.read, c.in-Ok.ensures.accepts.spelled, (λ same. let yes_ = c.is_in.ensures.1 same in cc (yes_, c.if-is_in.false), refl)))
 
 pub returns-in-Err : goal.returns-in-Err
-returns-in-Err c = unread (cause c.in-Err.error) c.args.signature.now _ c.in-Err.ensures.gives c.in-Err.ensures.asks c.error_number.ensures.memory c.error_number.ensures.fault tt
+returns-in-Err c = unread (cause c.in-Err.error) c.args.signature.now _ c.in-Err.ensures.gives c.in-Err.ensures.asks c.error_status.ensures.memory c.error_status.ensures.fault tt

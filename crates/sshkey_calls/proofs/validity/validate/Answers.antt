@@ -23,10 +23,10 @@ pub returns-in-Err-clause-first : goal.returns-in-Err-clause-first
 returns-in-Err-clause-first c accepts v d spelled _ = absurd (c.in-Err.ensures.accepts d spelled)
 
 pub returns-in-Err-clause-spelled : goal.returns-in-Err-clause-spelled
-returns-in-Err-clause-spelled c zero_ = absurd (c.error_number.ensures.some zero_)
+returns-in-Err-clause-spelled c zero_ = absurd (c.error_status.ensures.some zero_)
 
 pub returns-in-Err-clause-fault : goal.returns-in-Err-clause-fault
-returns-in-Err-clause-fault c fault is = c.error_number.ensures.fault fault (rw is at c.in-Err.ensures.keeps)
+returns-in-Err-clause-fault c fault is = c.error_status.ensures.fault fault (rw is at c.in-Err.ensures.keeps)
 
 pub returns-in-Err-clause-memory : goal.returns-in-Err-clause-memory
-returns-in-Err-clause-memory c one = absurd (never_memory certificate_bytes cause c.args.certificate.now (whole certificate_at c.args.certificate.now) _ _ c.error_number.ensures.range c.in-Err.ensures.keeps one)
+returns-in-Err-clause-memory c one = absurd (never_memory certificate_bytes cause c.args.certificate.now (whole certificate_at c.args.certificate.now) _ _ c.error_status.ensures.range c.in-Err.ensures.keeps one)

@@ -9,7 +9,7 @@ use Rattle.sshkey_cert_values.specs.Times.{time_of, end_of}
 use Rattle.sshkey_cert_ref.specs.Spelled.{certified_in}
 use Rattle.sshkey_cert_ref.specs.Views.{texts_of, spelled_options_of}
 use Rattle.sshkey_cert_ref.specs.Fields.{spelled_key_of}
-use Rattle.sshkey_cert_ref.proofs.Boxed.{key_is}
+use Rattle.sshkey_cert_ref.proofs.LengthPrefixed.{key_is}
 use Rattle.sshkey_cert_ref.proofs.Fields.{after_key_format, fields_at, fields_are, opening_format}
 use Rattle.sshkey_cert_ref.proofs.Subjects.{known, certified_body, refused_body, named_key, key_bytes}
 use Rattle.sshkey_cert_ref.proofs.walk.split_parts.Goals as goal

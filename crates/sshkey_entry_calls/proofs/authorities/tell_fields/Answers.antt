@@ -5,12 +5,12 @@ use Rattle.sshkey_entry_calls.proofs.authorities.tell_fields.Goals as goal
 
 pub returns-in-Err : goal.returns-in-Err
 returns-in-Err c = record {
-  key = λ none. absurd (c.no_key_number.ensures.some none);
-  no_key = λ _ some. c.in-Err.ensures.reads (λ m. some (c.no_key_number.ensures.memory m));
-  later = c.no_key_number.ensures.later;
+  key = λ none. absurd (c.no_key_status.ensures.some none);
+  no_key = λ _ some. c.in-Err.ensures.reads (λ m. some (c.no_key_status.ensures.memory m));
+  later = c.no_key_status.ensures.later;
   fault = λ _ some other.
-      let told = c.no_key_number.ensures.fault (λ m. some (c.no_key_number.ensures.memory m)) other in
-      (told.0, (c.in-Err.error, c.in-Err.ensures.fault (λ m. some (c.no_key_number.ensures.memory m)), told.1));
-  memory = λ one. inl (c.in-Err.ensures.asks (memory_alone (cause c.in-Err.error) c.no_key_number.result c.no_key_number.ensures.range one));
+      let told = c.no_key_status.ensures.fault (λ m. some (c.no_key_status.ensures.memory m)) other in
+      (told.0, (c.in-Err.error, c.in-Err.ensures.fault (λ m. some (c.no_key_status.ensures.memory m)), told.1));
+  memory = λ one. inl (c.in-Err.ensures.asks (memory_alone (cause c.in-Err.error) c.no_key_status.result c.no_key_status.ensures.range one));
   stays = λ _. refl;
 }

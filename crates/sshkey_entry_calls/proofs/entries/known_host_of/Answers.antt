@@ -17,13 +17,13 @@ pub returns-in-Ok-clause-fault : goal.returns-in-Ok-clause-fault
 returns-in-Ok-clause-fault c = no_fault HasLineFault c.args.line.now of_known_host (known_host_of c.in-Ok.entry) _ _ _ _ _ c.tell_known_host.ensures
 
 pub returns-in-Err-clause-entry : goal.returns-in-Err-clause-entry
-returns-in-Err-clause-entry c = none_found (IsHostLine c.args.line.now) of_known_host c.in-Err.error _ _ _ _ _ (refl, refl) c.error_number.ensures.some c.error_number.ensures.apart c.error_number.ensures.memory c.in-Err.ensures.reads
+returns-in-Err-clause-entry c = none_found (IsHostLine c.args.line.now) of_known_host c.in-Err.error _ _ _ _ _ (refl, refl) c.error_status.ensures.some c.error_status.ensures.apart c.error_status.ensures.memory c.in-Err.ensures.reads
 
 pub returns-in-Err-clause-fault : goal.returns-in-Err-clause-fault
-returns-in-Err-clause-fault c = told HasLineFault c.args.line.now c.in-Err.error _ c.error_number.ensures.memory c.error_number.ensures.number c.in-Err.ensures.fault
+returns-in-Err-clause-fault c = told HasLineFault c.args.line.now c.in-Err.error _ c.error_status.ensures.memory c.error_status.ensures.number c.in-Err.ensures.fault
 
 pub returns-in-Ok-clause-memory : goal.returns-in-Ok-clause-memory
 returns-in-Ok-clause-memory c _ = entry_needs c.args.line.now (known_host_of c.in-Ok.entry) c.in-Ok.ensures.reads
 
 pub returns-in-Err-clause-memory : goal.returns-in-Err-clause-memory
-returns-in-Err-clause-memory c one = c.in-Err.ensures.asks (only_memory (cause c.in-Err.error) _ c.error_number.ensures.range one)
+returns-in-Err-clause-memory c one = c.in-Err.ensures.asks (only_memory (cause c.in-Err.error) _ c.error_status.ensures.range one)

@@ -23,12 +23,12 @@ pub returns-in-Ok-clause-memory : goal.returns-in-Ok-clause-memory
 returns-in-Ok-clause-memory c _ = inr (ssh_signature_of c.in-Ok.field-0, c.in-Ok.ensures.accepts.spelled)
 
 pub returns-clause-verdict : goal.returns-clause-verdict
-returns-clause-verdict c _ _ _ spelled not_memory = absurd (c.in-Err.ensures.accepts (λ memory. not_memory (c.error_number.ensures.memory memory)) refl spelled.0 spelled.1)
+returns-clause-verdict c _ _ _ spelled not_memory = absurd (c.in-Err.ensures.accepts (λ memory. not_memory (c.error_status.ensures.memory memory)) refl spelled.0 spelled.1)
 
 pub returns-clause-fault : goal.returns-clause-fault
 returns-clause-fault c _ _ _ fault is not_memory =
-    let met = c.in-Err.ensures.gives.fault (λ memory. not_memory (c.error_number.ensures.memory memory)) refl in
-    c.error_number.ensures.fault fault (rw is at met)
+    let met = c.in-Err.ensures.gives.fault (λ memory. not_memory (c.error_status.ensures.memory memory)) refl in
+    c.error_status.ensures.fault fault (rw is at met)
 
 pub returns-clause-memory : goal.returns-clause-memory
-returns-clause-memory c one = inl (c.in-Err.ensures.asks (only_memory (cause c.in-Err.error) _ c.error_number.ensures.range one) refl)
+returns-clause-memory c one = inl (c.in-Err.ensures.asks (only_memory (cause c.in-Err.error) _ c.error_status.ensures.range one) refl)

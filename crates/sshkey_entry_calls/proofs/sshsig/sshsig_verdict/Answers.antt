@@ -10,4 +10,4 @@ returns-in-Ok-clause-verdict c =
     c.one_outcome.ensures.ssh_signature.one c.of.result.is_yes c.of.ensures c.judge.ensures
 
 pub returns-in-Err-clause-verdict : goal.returns-in-Err-clause-verdict
-returns-in-Err-clause-verdict c f spelled not_memory = absurd (c.in-Err.ensures.accepts (λ memory. not_memory (c.error_number.ensures.memory memory)) refl f spelled)
+returns-in-Err-clause-verdict c f spelled not_memory = absurd (c.in-Err.ensures.accepts (λ memory. not_memory (c.error_status.ensures.memory memory)) refl f spelled)

@@ -18,9 +18,9 @@ returns-in-Ok-clause-line c _ _ =
 pub returns-in-Err-clause-line : goal.returns-in-Err-clause-line
 returns-in-Err-clause-line c _ _ =
     let host : c.in-Ok-Ok.host.now ≡ c.args.host.now = search rules in
-    inr (c.in-Err.fault, subst (λ (t : List ℕ). IsHostFault t c.args.port c.in-Err.fault) host c.in-Err.ensures, c.host_fault_number.ensures.number)
+    inr (c.in-Err.fault, subst (λ (t : List ℕ). IsHostFault t c.args.port c.in-Err.fault) host c.in-Err.ensures, c.host_fault_status.ensures.number)
 
 pub returns-in-Err-clause-memory : goal.returns-in-Err-clause-memory
 returns-in-Err-clause-memory c one =
     let host : c.in-Ok-Ok.host.now ≡ c.args.host.now = search rules in
-    inr (needs_memory c.args.host.now c.args.port c.in-Err.fault (subst (λ (t : List ℕ). IsHostFault t c.args.port c.in-Err.fault) host c.in-Err.ensures) (sym c.host_fault_number.ensures.number ∙ one))
+    inr (needs_memory c.args.host.now c.args.port c.in-Err.fault (subst (λ (t : List ℕ). IsHostFault t c.args.port c.in-Err.fault) host c.in-Err.ensures) (sym c.host_fault_status.ensures.number ∙ one))

@@ -14,4 +14,4 @@ returns-in-Ok c =
     inl (k.0, k.1, c.verifier_number.ensures k.0 (subst (SpellsKey k.0) (sym same) k.1))
 
 pub returns-in-Err : goal.returns-in-Err
-returns-in-Err c = refused key_bytes cause c.args.key.now c.in-Err.error _ c.error_number.ensures.fault SpellsKey key_data_at c.in-Err.ensures.keeps tt
+returns-in-Err c = refused key_bytes cause c.args.key.now c.in-Err.error _ c.error_status.ensures.fault SpellsKey key_data_at c.in-Err.ensures.keeps tt

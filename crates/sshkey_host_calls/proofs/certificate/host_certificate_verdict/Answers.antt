@@ -12,4 +12,4 @@ returns-in-Ok-clause-verdict c _ =
     inl (_, read, told c.args.login.now c.args.certificate.now c.args.is_verified c.judge.result c.of.result.is_yes c.of.ensures c.judge.ensures)
 
 pub returns-in-Err-clause-verdict : goal.returns-in-Err-clause-verdict
-returns-in-Err-clause-verdict c _ = refused certificate_bytes cause c.args.certificate.now c.in-Err.error _ c.error_number.ensures.fault SpellsCertificate certificate_at c.in-Err.ensures.keeps tt
+returns-in-Err-clause-verdict c _ = refused certificate_bytes cause c.args.certificate.now c.in-Err.error _ c.error_status.ensures.fault SpellsCertificate certificate_at c.in-Err.ensures.keeps tt

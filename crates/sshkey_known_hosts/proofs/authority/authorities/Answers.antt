@@ -9,18 +9,18 @@ use Rattle.sshkey_known_hosts.proofs.authority.authorities.Goals as goal
 pub returns-clause-in_order : goal.returns-clause-in_order
 returns-clause-in_order g c =
     let was = c.loop-line.invariant.2 in
-    subst (λ (l : List (List ℕ)). AreInOrder (g.H.HmacSha1.hmac c.args.hmac.now) (known_name c.args.host.now c.args.port) l c.loop-line.found.items) (sym (was.1 ∙ ap (λ (l : List (List ℕ)). was.0 ++ l) c.in-None.ensures.steps.0 ∙ append-nil was.0)) was.2
+    subst (λ (l : List (List ℕ)). AreInOrder (g.H.HostHasher.hmac c.args.hmac.now) (known_name c.args.host.now c.args.port) l c.loop-line.found.items) (sym (was.1 ∙ ap (λ (l : List (List ℕ)). was.0 ++ l) c.in-None.ensures.steps.0 ∙ append-nil was.0)) was.2
 
 pub returns-clause-answer : goal.returns-clause-answer
 returns-clause-answer g c =
     let was = c.loop-line.invariant.2 in
-    subst (λ (l : List (List ℕ)). AreAuthorities (g.H.HmacSha1.hmac c.args.hmac.now) (known_name c.args.host.now c.args.port) l c.loop-line.found.items) (sym (was.1 ∙ ap (λ (l : List (List ℕ)). was.0 ++ l) c.in-None.ensures.steps.0 ∙ append-nil was.0))
-    (in_any_order (g.H.HmacSha1.hmac c.args.hmac.now) (known_name c.args.host.now c.args.port) was.0 c.loop-line.found.items was.2)
+    subst (λ (l : List (List ℕ)). AreAuthorities (g.H.HostHasher.hmac c.args.hmac.now) (known_name c.args.host.now c.args.port) l c.loop-line.found.items) (sym (was.1 ∙ ap (λ (l : List (List ℕ)). was.0 ++ l) c.in-None.ensures.steps.0 ∙ append-nil was.0))
+    (in_any_order (g.H.HostHasher.hmac c.args.hmac.now) (known_name c.args.host.now c.args.port) was.0 c.loop-line.found.items was.2)
 
 pub loop-line-preserved : goal.loop-line-preserved
 loop-line-preserved g c =
     let was = c.loop-line.invariant.2 in
-    let hmac = g.H.HmacSha1.hmac c.args.hmac.now in
+    let hmac = g.H.HostHasher.hmac c.args.hmac.now in
     let name = known_name c.args.host.now c.args.port in
     let line = c.in-Some.line.now in
     let named = subst (λ (n : List ℕ). IsAuthorityLine hmac n line c.in_ok-key.field-0) (c.as_str.ensures.value ∙ c.in_ok-name.ensures.name) c.in_ok-key.ensures.answer in
@@ -37,7 +37,7 @@ loop-line-preserved g c =
 pub loop-line-preserved-in-Continue-branch-4 : goal.loop-line-preserved-in-Continue-branch-4
 loop-line-preserved-in-Continue-branch-4 g c =
     let was = c.loop-line.invariant.2 in
-    let hmac = g.H.HmacSha1.hmac c.args.hmac.now in
+    let hmac = g.H.HostHasher.hmac c.args.hmac.now in
     let name = known_name c.args.host.now c.args.port in
     let line = c.in-Some.line.now in
     let named = subst (λ (n : List ℕ). IsAuthorityLine hmac n line c.in_ok-key.field-0) (c.as_str.ensures.value ∙ c.in_ok-name.ensures.name) c.in_ok-key.ensures.answer in
@@ -54,11 +54,11 @@ loop-line-preserved-in-Continue-branch-4 g c =
 pub returns-then-not-has_lines-clause-in_order : goal.returns-then-not-has_lines-clause-in_order
 returns-then-not-has_lines-clause-in_order g c =
     let none = no_lines (filled_lines c.args.text.now) (λ some. cc (sym c.if-not-has_lines.true ∙ c.has_lines.ensures.1 some)) in
-    subst (λ (l : List (List ℕ)). AreInOrder (g.H.HmacSha1.hmac c.args.hmac.now) (known_name c.args.host.now c.args.port) l c.new.result.items) (sym none) c.new.ensures.items
+    subst (λ (l : List (List ℕ)). AreInOrder (g.H.HostHasher.hmac c.args.hmac.now) (known_name c.args.host.now c.args.port) l c.new.result.items) (sym none) c.new.ensures.items
 
 pub returns-then-not-has_lines-clause-answer : goal.returns-then-not-has_lines-clause-answer
 returns-then-not-has_lines-clause-answer g c =
-    let hmac = g.H.HmacSha1.hmac c.args.hmac.now in
+    let hmac = g.H.HostHasher.hmac c.args.hmac.now in
     let name = known_name c.args.host.now c.args.port in
     let none = no_lines (filled_lines c.args.text.now) (λ some. cc (sym c.if-not-has_lines.true ∙ c.has_lines.ensures.1 some)) in
     subst (λ (l : List (List ℕ)). AreAuthorities hmac name l c.new.result.items) (sym none) (in_any_order hmac name [] c.new.result.items c.new.ensures.items)

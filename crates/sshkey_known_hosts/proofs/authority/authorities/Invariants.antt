@@ -9,4 +9,4 @@ abbrev pub invariant-loop-line : goal.invariant-loop-line
 invariant-loop-line g l =
     (goal.iterator-loop-line g).can_next l.line-iterator ×
     (goal.iterator-loop-line g).is_finite l.line-iterator ×
-    ((before : List (List ℕ)) × (filled_lines l.text ≡ before ++ l.line-iterator) × AreInOrder (g.H.HmacSha1.hmac l.hmac) (known_name l.host l.port) before l.found.items)
+    ((before : List (List ℕ)) × (filled_lines l.text ≡ before ++ l.line-iterator) × AreInOrder (g.H.HostHasher.hmac l.hmac) (known_name l.host l.port) before l.found.items)

@@ -8,7 +8,7 @@ use Rattle.sshkey_known_hosts.proofs.authority.line_authority.Goals as goal
 
 pub returns-then-is_authority-clause-answer : goal.returns-then-is_authority-clause-answer
 returns-then-is_authority-clause-answer g c =
-    let hmac = g.H.HmacSha1.hmac c.args.hmac.now in
+    let hmac = g.H.HostHasher.hmac c.args.hmac.now in
     let it = subst (IsToHost hmac c.args.name.now c.args.line.now) c.in-Entry.is c.in_ok-marker.ensures.answer in
     let l = it.0 in
     an_authority hmac c.args.name.now c.args.line.now l.entry l.read c.in-Entry.public_key l.key_is (sym it.1)
@@ -16,7 +16,7 @@ returns-then-is_authority-clause-answer g c =
 
 pub returns-else-is_authority-clause-answer : goal.returns-else-is_authority-clause-answer
 returns-else-is_authority-clause-answer g c =
-    let hmac = g.H.HmacSha1.hmac c.args.hmac.now in
+    let hmac = g.H.HostHasher.hmac c.args.hmac.now in
     let it = subst (IsToHost hmac c.args.name.now c.args.line.now) c.in-Entry.is c.in_ok-marker.ensures.answer in
     let l = it.0 in
     no_authority hmac c.args.name.now c.args.line.now l.entry l.read
@@ -24,15 +24,15 @@ returns-else-is_authority-clause-answer g c =
 
 pub returns-in-ForOthers-clause-answer : goal.returns-in-ForOthers-clause-answer
 returns-in-ForOthers-clause-answer g c key =
-    let hmac = g.H.HmacSha1.hmac c.args.hmac.now in
+    let hmac = g.H.HostHasher.hmac c.args.hmac.now in
     lists_none hmac c.args.name.now c.args.line.now (subst (IsToHost hmac c.args.name.now c.args.line.now) c.in-ForOthers.is c.in_ok-marker.ensures.answer) (Some CertAuthority) key
 
 pub returns-in-OtherKey-clause-answer : goal.returns-in-OtherKey-clause-answer
 returns-in-OtherKey-clause-answer g c key listed =
-    let l = subst (IsToHost (g.H.HmacSha1.hmac c.args.hmac.now) c.args.name.now c.args.line.now) c.in-OtherKey.is c.in_ok-marker.ensures.answer in
+    let l = subst (IsToHost (g.H.HostHasher.hmac c.args.hmac.now) c.args.name.now c.args.line.now) c.in-OtherKey.is c.in_ok-marker.ensures.answer in
     other_line_none c.args.line.now _ l.hosts l.read listed.entry listed.read
 
 pub returns-in-Unreadable-clause-answer : goal.returns-in-Unreadable-clause-answer
 returns-in-Unreadable-clause-answer g c key listed =
-    let hides = subst (IsToHost (g.H.HmacSha1.hmac c.args.hmac.now) c.args.name.now c.args.line.now) c.in-Unreadable.is c.in_ok-marker.ensures.answer in
+    let hides = subst (IsToHost (g.H.HostHasher.hmac c.args.hmac.now) c.args.name.now c.args.line.now) c.in-Unreadable.is c.in_ok-marker.ensures.answer in
     hides.0 listed.entry listed.read

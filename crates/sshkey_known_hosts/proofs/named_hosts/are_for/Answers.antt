@@ -5,10 +5,10 @@ use Rattle.sshkey_known_hosts.proofs.NamedHosts.{tells_none, tells_patterns}
 use Rattle.sshkey_known_hosts.proofs.named_hosts.are_for.Goals as goal
 
 pub returns-then-is_empty : goal.returns-then-is_empty
-returns-then-is_empty g c = tells_none (g.H.HmacSha1.hmac c.args.hmac.now) c.args.name.now c.args.text.now (eqb-true (length c.args.text.now) 0 (sym c.is_empty.ensures ∙ c.if-is_empty.true))
+returns-then-is_empty g c = tells_none (g.H.HostHasher.hmac c.args.hmac.now) c.args.name.now c.args.text.now (eqb-true (length c.args.text.now) 0 (sym c.is_empty.ensures ∙ c.if-is_empty.true))
 
 pub returns : goal.returns
 returns g c =
     let some : 0 < length c.args.text.now = omega (arith, eqb-false (length c.args.text.now) 0 (sym c.is_empty.ensures ∙ c.if-is_empty.false)) in
     let plain : IsMarkedHashed c.args.text.now → ⊥ = λ m. c.in_default.ensures.cases m.0 m.1 in
-    tells_patterns (g.H.HmacSha1.hmac c.args.hmac.now) c.args.name.now c.args.text.now plain some c.are_patterns_for.result c.are_patterns_for.ensures
+    tells_patterns (g.H.HostHasher.hmac c.args.hmac.now) c.args.name.now c.args.text.now plain some c.are_patterns_for.result c.are_patterns_for.ensures

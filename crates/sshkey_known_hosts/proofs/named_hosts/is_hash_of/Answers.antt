@@ -26,7 +26,7 @@ returns-then-hash-ne-LEN g c =
 
 pub returns-then-salt-eq-LEN : goal.returns-then-salt-eq-LEN
 returns-then-salt-eq-LEN g c =
-    let hmac = g.H.HmacSha1.hmac c.args.hmac.now in
+    let hmac = g.H.HostHasher.hmac c.args.hmac.now in
     let s = c.in_ok-salt-2.ensures in
     let h = c.in_ok-hash.ensures in
     let is = hashed c.args.hashed.now c.in_ok-salt.salt c.in_ok-salt.hash c.in_ok-salt.ensures.cases s.0 h.0 s.2 s.1 h.2 h.1 (h.3.0 ∙ c.if-hash-ne-LEN.false) in
@@ -39,7 +39,7 @@ returns-then-salt-eq-LEN g c =
 
 pub returns-else-salt-eq-LEN : goal.returns-else-salt-eq-LEN
 returns-else-salt-eq-LEN g c =
-    let hmac = g.H.HmacSha1.hmac c.args.hmac.now in
+    let hmac = g.H.HostHasher.hmac c.args.hmac.now in
     let s = c.in_ok-salt-2.ensures in
     let h = c.in_ok-hash.ensures in
     let is = hashed c.args.hashed.now c.in_ok-salt.salt c.in_ok-salt.hash c.in_ok-salt.ensures.cases s.0 h.0 s.2 s.1 h.2 h.1 (h.3.0 ∙ c.if-hash-ne-LEN.false) in

@@ -9,13 +9,13 @@ returns-then-not-is_marked c = (refl, λ here. cc (sym c.if-not-is_marked.true �
 
 pub returns-in_err-marker : goal.returns-in_err-marker
 returns-in_err-marker c = let p = err_from_is_err_and c.from_residual.result c.from_residual.ensures.1 in
-    rw (p.1, p.2) (c.in_err-marker.ensures.0, no_marker c.args.text.now c.split_field.result.0.now c.split_field.result.1.now _ c.split_field.ensures refl (c.is_marked.ensures.0 c.if-not-is_marked.false) c.in_err-marker.ensures.1)
+    rw (p.1, p.2) (c.in_err-marker.ensures.0, no_marker c.args.text.now c.split_blank.result.0.now c.split_blank.result.1.now _ c.split_blank.ensures refl (c.is_marked.ensures.0 c.if-not-is_marked.false) c.in_err-marker.ensures.1)
 
 pub returns-then-not-ends_marker : goal.returns-then-not-ends_marker
-returns-then-not-ends_marker c = (refl, no_end c.args.text.now c.split_field.result.0.now c.split_field.result.1.now _ c.split_field.ensures refl (marker_of c.in_ok-marker.marker) c.in_ok-marker.ensures (λ ends. cc (sym c.if-not-ends_marker.true ∙ c.ends_marker.ensures.1 ends)) (c.is_marked.ensures.0 c.if-not-is_marked.false))
+returns-then-not-ends_marker c = (refl, no_end c.args.text.now c.split_blank.result.0.now c.split_blank.result.1.now _ c.split_blank.ensures refl (marker_of c.in_ok-marker.marker) c.in_ok-marker.ensures (λ ends. cc (sym c.if-not-ends_marker.true ∙ c.ends_marker.ensures.1 ends)) (c.is_marked.ensures.0 c.if-not-is_marked.false))
 
 pub returns-then-is_marked : goal.returns-then-is_marked
-returns-then-is_marked c = (refl, two_markers c.args.text.now c.split_field.result.0.now c.split_field.result.1.now c.skip_blanks-rest.result.now c.split_field.ensures c.skip_blanks-rest.ensures (c.is_marked.ensures.0 c.if-not-is_marked.false) (c.is_marked-2.ensures.0 c.if-is_marked.true))
+returns-then-is_marked c = (refl, two_markers c.args.text.now c.split_blank.result.0.now c.split_blank.result.1.now c.skip_blanks-rest.result.now c.split_blank.ensures c.skip_blanks-rest.ensures (c.is_marked.ensures.0 c.if-not-is_marked.false) (c.is_marked-2.ensures.0 c.if-is_marked.true))
 
 pub returns : goal.returns
-returns c = marked c.args.text.now c.split_field.result.0.now c.split_field.result.1.now c.skip_blanks-rest.result.now c.split_field.ensures c.skip_blanks-rest.ensures (marker_of c.in_ok-marker.marker) c.in_ok-marker.ensures (c.ends_marker.ensures.0 c.if-not-ends_marker.false) (λ here. cc (sym c.if-is_marked.false ∙ c.is_marked-2.ensures.1 here))
+returns c = marked c.args.text.now c.split_blank.result.0.now c.split_blank.result.1.now c.skip_blanks-rest.result.now c.split_blank.ensures c.skip_blanks-rest.ensures (marker_of c.in_ok-marker.marker) c.in_ok-marker.ensures (c.ends_marker.ensures.0 c.if-not-ends_marker.false) (λ here. cc (sym c.if-is_marked.false ∙ c.is_marked-2.ensures.1 here))

@@ -10,7 +10,7 @@ use Rattle.sshkey_known_hosts.proofs.unreadable.unreadable_line.Goals as goal
 
 pub returns-then-not-has_lines-clause-answer : goal.returns-then-not-has_lines-clause-answer
 returns-then-not-has_lines-clause-answer g c =
-    none_filled (g.H.HmacSha1.hmac c.args.hmac.now) (known_name c.args.host.now c.args.port) c.args.text.now (λ some. cc (sym c.if-not-has_lines.true ∙ c.has_lines.ensures.1 some))
+    none_filled (g.H.HostHasher.hmac c.args.hmac.now) (known_name c.args.host.now c.args.port) c.args.text.now (λ some. cc (sym c.if-not-has_lines.true ∙ c.has_lines.ensures.1 some))
 
 pub loop-line-init : goal.loop-line-init
 loop-line-init g c =
@@ -20,7 +20,7 @@ loop-line-init g c =
 pub loop-line-preserved : goal.loop-line-preserved
 loop-line-preserved g c =
     let was = c.loop-line.invariant.2 in
-    let hmac = g.H.HmacSha1.hmac c.args.hmac.now in
+    let hmac = g.H.HostHasher.hmac c.args.hmac.now in
     let name = known_name c.args.host.now c.args.port in
     let step = c.in-Some.ensures.steps.0 in
     let line = c.in-Some.line.now in
@@ -41,7 +41,7 @@ loop-line-preserved g c =
 pub returns-then-branch-clause-answer : goal.returns-then-branch-clause-answer
 returns-then-branch-clause-answer g c =
     let was = c.loop-line.invariant.2 in
-    let hmac = g.H.HmacSha1.hmac c.args.hmac.now in
+    let hmac = g.H.HostHasher.hmac c.args.hmac.now in
     let step = c.in-Some.ensures.steps.0 in
     let line = c.in-Some.line.now in
     let left = lines_rest c.next.new.self in

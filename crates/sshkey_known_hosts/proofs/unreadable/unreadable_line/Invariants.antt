@@ -11,4 +11,4 @@ abbrev pub invariant-loop-line : goal.invariant-loop-line
 invariant-loop-line g l =
     (goal.iterator-loop-line g).can_next l.line-iterator ×
     (goal.iterator-loop-line g).is_finite l.line-iterator ×
-    ((before : List (List ℕ)) × (lines l.text ≡ before ++ lines (lines_rest l.line-iterator)) × ¬ Any (HidesEntryIn (g.H.HmacSha1.hmac l.hmac) (known_name l.host l.port)) before × (l.number ≡ length before) × (l.number + length (lines_rest l.line-iterator) ≤ length l.text))
+    ((before : List (List ℕ)) × (lines l.text ≡ before ++ lines (lines_rest l.line-iterator)) × ¬ Any (HidesEntryIn (g.H.HostHasher.hmac l.hmac) (known_name l.host l.port)) before × (l.number ≡ length before) × (l.number + length (lines_rest l.line-iterator) ≤ length l.text))

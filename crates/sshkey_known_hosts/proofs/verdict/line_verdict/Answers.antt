@@ -9,12 +9,12 @@ use Rattle.sshkey_known_hosts.proofs.verdict.line_verdict.Goals as goal
 
 pub returns-in-ForOthers-clause-answer : goal.returns-in-ForOthers-clause-answer
 returns-in-ForOthers-clause-answer g c =
-    let hmac = g.H.HmacSha1.hmac c.args.hmac.now in
+    let hmac = g.H.HostHasher.hmac c.args.hmac.now in
     passed_over hmac c.args.name.now (key_of c.args.key.now) c.args.line.now (subst (IsToHost hmac c.args.name.now c.args.line.now) c.in-ForOthers.is c.in_ok-read_host_line.ensures.answer)
 
 pub returns-in-Entry-clause-answer : goal.returns-in-Entry-clause-answer
 returns-in-Entry-clause-answer g c =
-    let hmac = g.H.HmacSha1.hmac c.args.hmac.now in
+    let hmac = g.H.HostHasher.hmac c.args.hmac.now in
     let key = key_of c.args.key.now in
     let it = subst (IsToHost hmac c.args.name.now c.args.line.now) c.in-Entry.is c.in_ok-read_host_line.ensures.answer in
     let l = it.0 in
@@ -25,7 +25,7 @@ returns-in-Entry-clause-answer g c =
 
 pub returns-in-OtherKey-clause-answer : goal.returns-in-OtherKey-clause-answer
 returns-in-OtherKey-clause-answer g c =
-    let hmac = g.H.HmacSha1.hmac c.args.hmac.now in
+    let hmac = g.H.HostHasher.hmac c.args.hmac.now in
     let key = key_of c.args.key.now in
     let l = subst (IsToHost hmac c.args.name.now c.args.line.now) c.in-OtherKey.is c.in_ok-read_host_line.ensures.answer in
     subst (IsVerdict hmac c.args.name.now key (c.args.line.now ∷ [])) (sym c.marked_verdict-in-OtherKey.ensures)
@@ -33,6 +33,6 @@ returns-in-OtherKey-clause-answer g c =
 
 pub returns-in-Unreadable-clause-answer : goal.returns-in-Unreadable-clause-answer
 returns-in-Unreadable-clause-answer g c =
-    let hmac = g.H.HmacSha1.hmac c.args.hmac.now in
+    let hmac = g.H.HostHasher.hmac c.args.hmac.now in
     let it = subst (IsToHost hmac c.args.name.now c.args.line.now) c.in-Unreadable.is c.in_ok-read_host_line.ensures.answer in
     hides hmac c.args.name.now (key_of c.args.key.now) c.args.line.now it.0 it

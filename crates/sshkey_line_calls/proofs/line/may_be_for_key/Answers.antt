@@ -17,7 +17,7 @@ returns-in-Ok c =
 pub returns-in-Ok-to_key_data : goal.returns-in-Ok-to_key_data
 returns-in-Ok-to_key_data c =
     let same = kept_bytes key_bytes cause c.args.key.now c.in-Ok.read (whole key_data_at c.args.key.now) c.in-Ok.ensures.keeps in
-    inl (key_of c.in-Ok-to_key_data.key, subst (SpellsKey (key_of c.in-Ok-to_key_data.key)) same c.in-Ok-to_key_data.ensures.spelled, c.line_number.ensures)
+    inl (key_of c.in-Ok-to_key_data.key, subst (SpellsKey (key_of c.in-Ok-to_key_data.key)) same c.in-Ok-to_key_data.ensures.spelled, c.line_status.ensures)
 
 pub returns : goal.returns
-returns c = refused key_bytes cause c.args.key.now c.in-Err.error _ c.error_number.ensures.fault SpellsKey key_data_at c.in-Err.ensures.keeps tt
+returns c = refused key_bytes cause c.args.key.now c.in-Err.error _ c.error_status.ensures.fault SpellsKey key_data_at c.in-Err.ensures.keeps tt

@@ -3,7 +3,7 @@ use Rattle.sshkey_calls.specs.Validations.{authorities_of}
 use Rattle.sshkey_entry_calls.specs.RevocationFiles.{reads_of}
 use Rattle.sshkey_keys.specs.Keys.{key_of}
 use Rattle.sshkey_model.specs.Keys.{SpellsKey}
-use Rattle.sshkey_login_calls.specs.UserKeys.{denied_by}
+use Rattle.sshkey_login_calls.specs.UserKeys.{denial_of}
 use Rattle.sshkey_login_calls.proofs.UserKeys.{by_sha256, granted, not_granted}
 use Rattle.sshkey_login_calls.proofs.user_verdict.judge_texts.Goals as goal
 
@@ -22,5 +22,5 @@ returns-clause-verdict c named same_key not_memory =
     not_granted c.args.asked.now.file c.args.login.now (record { key = key_of c.in-Ok.offered; files = reads_of c.in-Ok-read.files; client = c.client_of.result }) c.args.asked.now.text.now c.args.texts.now.host.now c.name_of.result c.args.asked.now.is_verified c.of-said.result.is_yes c.args.texts.now.user.now c.address_in.result
     c.of-said.ensures named c.address_in.ensures
     (record { key = subst (SpellsKey (key_of c.in-Ok.offered)) same_key c.in-Ok.ensures.spelled; files = c.in-Ok-read.ensures.read; client = c.client_of.ensures })
-    c.name_of.ensures c.in-Err.refusal c.denied_by.result
-    (c.denied_by.ensures.denial ∙ ap (λ of_revoked. denied_by of_revoked c.in-Err.refusal) c.revoked_number.ensures) not_memory c.in-Err.ensures.exactly c.in-Err.ensures.refused
+    c.name_of.ensures c.in-Err.refusal c.denial_of.result
+    (c.denial_of.ensures.denial ∙ ap (λ of_revoked. denial_of of_revoked c.in-Err.refusal) c.revoked_status.ensures) not_memory c.in-Err.ensures.exactly c.in-Err.ensures.refused

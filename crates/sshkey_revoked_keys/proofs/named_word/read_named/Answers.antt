@@ -13,11 +13,11 @@ returns-in_err-value-clause-fault g c = let p = err_from_is_err_and c.from_resid
     rw (p.1, p.2) (λ other. record { bad_word = λ _. c.in_err-value.ensures.fault other; other_name = λ v is _. absurd (c.in_err-value.ensures.reads other v is) })
 
 pub is_named-requires : goal.is_named-requires
-is_named-requires g c = short_name c.stands.ensures _ _ c.in_ok-value.ensures.reads
+is_named-requires g c = short_name c.lawful_blob.ensures _ _ c.in_ok-value.ensures.reads
 
 pub returns-then-not-is_named-clause-reads : goal.returns-then-not-is_named-clause-reads
 returns-then-not-is_named-clause-reads g c = λ _ v is.
-    let same = one_value _ c.stands.ensures.blobs _ _ _ is.spelled c.in_ok-value.ensures.reads in
+    let same = one_value _ c.lawful_blob.ensures.blobs _ _ _ is.spelled c.in_ok-value.ensures.reads in
     cc (sym c.if-not-is_named.true ∙ c.is_named.ensures.1 (is.named ∙ ap g.T.Blob.name same))
 
 pub returns-then-not-is_named-clause-fault : goal.returns-then-not-is_named-clause-fault

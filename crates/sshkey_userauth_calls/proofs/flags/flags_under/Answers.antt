@@ -14,4 +14,4 @@ returns-in-Ok c k by =
     inl (g.0, g.1, c.flags_in.ensures k g.0 by (subst (SpellsSignature g.0) (sym same) g.1))
 
 pub returns-in-Err : goal.returns-in-Err
-returns-in-Err c k by = refused signature_bytes cause c.args.signature.now c.in-Err.error _ c.error_number.ensures.fault SpellsSignature signature_at c.in-Err.ensures.keeps tt
+returns-in-Err c k by = refused signature_bytes cause c.args.signature.now c.in-Err.error _ c.error_status.ensures.fault SpellsSignature signature_at c.in-Err.ensures.keeps tt

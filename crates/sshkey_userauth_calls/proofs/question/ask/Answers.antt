@@ -4,8 +4,8 @@ use Rattle.sshkey_keys_ref.specs.SignatureRef.{signature_bytes}
 use Rattle.sshkey_userauth.specs.Questions.{asks}
 use Rattle.sshkey_userauth.specs.RequestFormats.{SpellsUserauthRequest}
 use Rattle.sshkey_userauth.specs.Values.{request_of}
-use Rattle.sshkey_userauth.specs.declared.refusal.Refusal.TheVariants.{SignedBytes}
-use Rattle.sshkey_userauth_calls.specs.Userauths.{expected, refusal_number, requirements_of}
+use Rattle.sshkey_userauth.specs.declared.refusal.UserauthRefusal.TheVariants.{SignedBytes}
+use Rattle.sshkey_userauth_calls.specs.Userauths.{expected, refusal_status, requirements_of}
 use Rattle.sshkey_userauth_calls.proofs.Asked.{asked_told, memory_where, one_signature, refused_told, same_where, told_where}
 use Rattle.sshkey_userauth_calls.proofs.question.ask.Goals as goal
 
@@ -29,10 +29,10 @@ returns c g made =
     let required = c.requirements_of-requirements.result in
     let signature = signature_of c.in-Ok.signature in
     let same = one_signature signature g (signature_bytes c.args.made.now) c.in-Ok.ensures.spelled made in
-    let n = c.refusal_number.result in
+    let n = c.refusal_status.result in
     same_where c.args.bytes.now r (expected c.args.signed.now) required (requirements_of c.args.signed.now.permits) signature g 80 n _ _ _ _ c.expected.ensures c.requirements_of-requirements.ensures same
     (record {
-      asked = λ spelled. refused_told r required signature n _ _ _ _ (refl, refl) c.refusal_number.ensures.some c.refusal_number.ensures.apart c.in-Err.refusal c.refusal_number.ensures.number c.refusal_number.ensures.key (c.in-Err.ensures.refused spelled);
-      other = λ no _. let which : c.in-Err.refusal ≡ SignedBytes = cc (c.in-Err.ensures.other no) in c.refusal_number.ensures.number ∙ ap refusal_number which;
+      asked = λ spelled. refused_told r required signature n _ _ _ _ (refl, refl) c.refusal_status.ensures.some c.refusal_status.ensures.apart c.in-Err.refusal c.refusal_status.ensures.number c.refusal_status.ensures.key (c.in-Err.ensures.refused spelled);
+      other = λ no _. let which : c.in-Err.refusal ≡ SignedBytes = cc (c.in-Err.ensures.other no) in c.refusal_status.ensures.number ∙ ap refusal_status which;
       stays = λ _. (refl, refl);
     })

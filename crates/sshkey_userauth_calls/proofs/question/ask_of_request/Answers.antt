@@ -1,7 +1,7 @@
 use Rattle.std.proofs.Common.{ap, inl, inr, refl, subst, sym, ◌∙◌}
 use Rattle.sshkey_base.specs.Causes.{cause}
 use Rattle.sshkey_model.specs.Parts.{BoxesFit}
-use Rattle.sshkey_calls.specs.Numbers.{error_number}
+use Rattle.sshkey_calls.specs.Numbers.{error_status}
 use Rattle.sshkey_userauth.specs.RequestFormats.{SpellsUserauthRequest}
 use Rattle.sshkey_userauth.specs.Requests.{UserauthRequest, userauth_request}
 use Rattle.sshkey_userauth.specs.Values.{request_of}
@@ -26,8 +26,8 @@ pub returns-in-Err : goal.returns-in-Err
 returns-in-Err c g made = elim c.in-Err.ensures [
   | inl long ↦ record {
     asked = λ fits. absurd (long.0 (subst (λ (x : UserauthRequest). BoxesFit (userauth_request x)) (sym c.expected.ensures) fits));
-    other = λ _ _. c.error_number.ensures.number ∙ ap error_number long.1;
+    other = λ _ _. c.error_status.ensures.number ∙ ap error_status long.1;
     stays = λ _. (refl, refl);
   }
-  | inr out ↦ memory_where (expected c.args.signed.now) (requirements_of c.args.signed.now.permits) g c.args.answer.now c.args.answer.now c.args.room.now c.args.room.now (BoxesFit (userauth_request (expected c.args.signed.now))) 13 c.error_number.result (c.error_number.ensures.memory (ap cause out.1))
+  | inr out ↦ memory_where (expected c.args.signed.now) (requirements_of c.args.signed.now.permits) g c.args.answer.now c.args.answer.now c.args.room.now c.args.room.now (BoxesFit (userauth_request (expected c.args.signed.now))) 13 c.error_status.result (c.error_status.ensures.memory (ap cause out.1))
 ]

@@ -14,4 +14,4 @@ returns-in-Ok c =
     inl (g.0, g.1, c.ask.ensures g.0 (subst (SpellsSignature g.0) (sym same) g.1))
 
 pub returns-in-Err : goal.returns-in-Err
-returns-in-Err c = refused signature_bytes cause c.args.signed.now.signature.now c.in-Err.error _ c.error_number.ensures.fault SpellsSignature signature_at c.in-Err.ensures.keeps (refl, refl)
+returns-in-Err c = refused signature_bytes cause c.args.signed.now.signature.now c.in-Err.error _ c.error_status.ensures.fault SpellsSignature signature_at c.in-Err.ensures.keeps (refl, refl)

@@ -4,5 +4,5 @@ use Rattle.sshkey_keys.specs.Keys.{key_of}
 use Rattle.sshkey_keys.specs.declared.key_data.KeyData.{KeyData}
 use Rattle.user_keys_cases.proofs.ask.certificate.Goals as goal
 
-pub admit_certificate-requires : goal.admit_certificate-requires
-admit_certificate-requires c = subst (λ (k : KeyData). IsKey (key_of k)) (sym c.login.ensures) (c.public_key.ensures.well_formed c.in_ok-certificate.ensures.accepts.spelled.is)
+pub log_in_by_certificate-requires : goal.log_in_by_certificate-requires
+log_in_by_certificate-requires c = subst (λ (k : KeyData). IsKey (key_of k)) (sym c.login.ensures) (c.public_key.ensures.well_formed c.in_ok-certificate.ensures.accepts.spelled.is)

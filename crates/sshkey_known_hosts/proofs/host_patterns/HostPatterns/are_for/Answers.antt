@@ -10,7 +10,7 @@ for_so n ps qs = subst (AreForName n)
 pub returns-in-Patterns : goal.returns-in-Patterns
 returns-in-Patterns g c =
     let is = c.in-Patterns.is in
-    let hmac = g.H.HmacSha1.hmac c.args.hmac.now in (
+    let hmac = g.H.HostHasher.hmac c.args.hmac.now in (
       λ t. subst (λ (x : HostPatterns). AreFor hmac c.args.name.now (hosts_of x)) (sym is) (for_so _ _ _ c.deref.ensures.value (c.are_named.ensures.0 t)),
       λ h. c.are_named.ensures.1 (for_so _ _ _ (sym c.deref.ensures.value) (subst (λ (x : HostPatterns). AreFor hmac c.args.name.now (hosts_of x)) is h)),
     )

@@ -1,5 +1,0 @@
-use Rattle.sshkey_cert_ref.proofs.OptionLists.{options_spelled}
-use Rattle.sshkey_cert_ref.proofs.options_ref.OptionsRef.as_bytes.Goals as goal
-
-pub returns-clause-spelled : goal.returns-clause-spelled
-returns-clause-spelled c = options_spelled c.args.self.now.bytes.now c.args.self.now.form

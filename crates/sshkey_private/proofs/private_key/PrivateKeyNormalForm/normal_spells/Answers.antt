@@ -1,6 +1,0 @@
-use Rattle.sshkey_private.specs.PrivateKeys.{private_of}
-use Rattle.sshkey_private.proofs.PrivateKeyTrees.{private_normal}
-use Rattle.sshkey_private.proofs.private_key.PrivateKeyNormalForm.normal_spells.Goals as goal
-
-pub returns : goal.returns
-returns c k = private_normal (private_of k)
