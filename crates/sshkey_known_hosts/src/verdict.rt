@@ -111,7 +111,7 @@ pub(crate) fn has_lines(text: &str) -> bool
 /// key `Changed`, and else it is `Unknown`. Of authorities nothing is said here.
 ///
 /// It judges this text alone, and another file may revoke the key: ask about every file that
-/// counts, and join the verdicts by `Verdict::graver`, as `host_keys::check_key` does.
+/// counts, and join the verdicts by `Verdict::max_severity`, as `host_keys::check_key` does.
 ///
 /// `HostPatterns::matches` says which entries are for a host at a port. Fails only when out of
 /// memory, which the host's name takes, and a line that could be for the host: a text that is empty
@@ -121,7 +121,7 @@ pub(crate) fn has_lines(text: &str) -> bool
 /// // as in crates/host_keys/src/texts.rt
 /// let mut found = Verdict::Unknown;
 /// for text in texts {
-///     found = found.graver(key_verdict(alloc, text, host, port, key, hmac)?);
+///     found = found.max_severity(key_verdict(alloc, text, host, port, key, hmac)?);
 /// }
 /// ```
 pub fn key_verdict<H: HostHasher>(
