@@ -55,10 +55,10 @@ impl Limits {
     /// `ValidPrincipals` for the users, `Extensions` for the extensions and `ValidBefore` for the
     /// window, in that order.
     ///
-    /// What sshd accepts `openssh_limits::openssh_accepts_key` says, where an RSA key has to have 2,048 bits. A
-    /// point that is not on its curve, which sshd does not read, is the caller's to refuse. A key
-    /// under a private-use name is never certified: in certificates that name may be of another
-    /// kind of key.
+    /// What sshd accepts `openssh_limits::openssh_accepts_key` says, where an RSA key has to have
+    /// 2,048 bits. A point that is not on its curve, which sshd does not read, is the caller's to
+    /// refuse. A key under a private-use name is never certified: in certificates that name may be
+    /// of another kind of key.
     ///
     /// A window may begin before now, as that of `ssh-keygen -V -5m:+1h` does for machines whose
     /// clock is slow, and then these seconds count too: this example has 3,900.

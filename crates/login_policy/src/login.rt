@@ -56,7 +56,8 @@ pub struct Login<'a> {
 ///
 /// - no DSA key, none under a private-use name, and no RSA key of fewer bits than the login says or
 ///   of more than 16,384; a point that begins with 04; no zero byte in an application
-///   (`openssh_limits::openssh_accepts_key`). So is the authority's key, where RSA has 1,024 bits at least;
+///   (`openssh_limits::openssh_accepts_key`). So is the authority's key, where RSA has 1,024 bits
+///   at least;
 /// - no zero byte in the key id, a principal, or the name of an extension, and at most 256
 ///   principals;
 /// - critical options `force-command`, neither empty nor with a zero byte, `source-address`, a list

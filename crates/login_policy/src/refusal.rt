@@ -17,8 +17,8 @@ pub enum LoginRefusal {
     /// string.
     #[error("certificate is not in its normal form")]
     NotNormalForm,
-    /// sshd(8) accepts no such key, by its kind or its size (`openssh_limits::openssh_accepts_key`), or no such
-    /// key as signed the certificate.
+    /// sshd(8) accepts no such key, by its kind or its size
+    /// (`openssh_limits::openssh_accepts_key`), or no such key as signed the certificate.
     #[error("key is of a kind or size that is not accepted")]
     UnacceptedKey,
     /// The certificate is revoked: its number, its key id, the certified key or the authority's.

@@ -16,9 +16,9 @@ use sshkey_keys_ref::{DsaRef, KeyDataRef, KeyRef, RsaRef};
 /// How many bits an RSA key has at least that OpenSSH reads.
 pub const LEAST_RSA_BITS: u32 = 1024;
 
-/// Returns whether OpenSSH lets somebody in by the key: it reads it (`openssh_reads_key`), and it is none
-/// of DSA. An RSA key has to have `least_rsa_bits`, as sshd_config(5) has it in `RequiredRSASize`.
-/// A number below 1,024 counts as 1,024, which is sshd's own. Does not allocate.
+/// Returns whether OpenSSH lets somebody in by the key: it reads it (`openssh_reads_key`), and it
+/// is none of DSA. An RSA key has to have `least_rsa_bits`, as sshd_config(5) has it in
+/// `RequiredRSASize`. A number below 1,024 counts as 1,024, which is sshd's own. Does not allocate.
 pub fn openssh_accepts_key(key: &KeyData, least_rsa_bits: u32) -> bool
     ensures { result ≡ openssh_accepts_key least_rsa_bits (key_of key.now) }
 {

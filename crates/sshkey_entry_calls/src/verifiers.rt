@@ -15,9 +15,9 @@ use sshkey_keys_ref::{KeyDataRef, KeyRef};
 const LEAST_RSA_BITS: u32 = 2048;
 
 /// Whether a verifier may say yes to a signature under the key that all the bytes spell: OpenSSH
-/// lets somebody in by it (`openssh_limits::openssh_accepts_key`), and a key of RSA has 2,048 bits or more,
-/// where OpenSSH is content with 1,024. So it is no DSA key, no number in it is zero, negative or
-/// longer than 16,384 bits, and a point begins with 04. Does not allocate.
+/// lets somebody in by it (`openssh_limits::openssh_accepts_key`), and a key of RSA has 2,048 bits
+/// or more, where OpenSSH is content with 1,024. So it is no DSA key, no number in it is zero,
+/// negative or longer than 16,384 bits, and a point begins with 04. Does not allocate.
 ///
 /// Returns 0 if it may, 59 if not, and from 10 to 29 the fault of bytes that are no key.
 pub fn may_verify(key: &[u8]) -> u32

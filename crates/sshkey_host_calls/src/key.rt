@@ -14,8 +14,9 @@ use sshkey_keys_ref::KeyDataRef;
 use sshkey_known_hosts::HmacSha1;
 use std::alloc::Global;
 
-/// Whether the key that all its bytes spell is the host's (`host_keys::check_key`), by all the texts
-/// of known_hosts and the revocation files. Hashed names are compared by `sshkey_known_hosts::HmacSha1`.
+/// Whether the key that all its bytes spell is the host's (`host_keys::check_key`), by all the
+/// texts of known_hosts and the revocation files. Hashed names are compared by
+/// `sshkey_known_hosts::HmacSha1`.
 ///
 /// Returns 0 if it is, 1 if memory ran out, 4 where a text or the host's name is not UTF-8, from 10
 /// to 29 the fault of bytes that are no key, and else what is wrong first: 100 for port 0, 101 for a

@@ -2,7 +2,8 @@
 
 ghost use Rattle.std.specs.Prelude.{◌≡◌, ℕ, List};
 
-/// HMAC-SHA1 (RFC 2104), by which hashed names are compared. `HmacSha1` computes it, or code of yours.
+/// HMAC-SHA1 (RFC 2104), by which hashed names are compared. `HmacSha1` computes it, or code of
+/// yours.
 pub trait HostHasher {
     /// The HMAC of a message under a key: a function of its value, the key and the message.
     ghost hmac: { Self → List ℕ → List ℕ → List ℕ };

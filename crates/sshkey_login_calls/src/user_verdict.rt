@@ -33,11 +33,11 @@ use user_keys::{
 };
 
 /// Whether a text of authorized_keys lets the login in (`user_keys::log_in_by_key`; and
-/// `user_keys::log_in_by_certificate`, where the login's certificate has bytes), and what it is granted.
-/// The host is the name that was found for the client's address; with no bytes the address stands
-/// for it. The login's authorities are not looked at, and where its caller judges the address there
-/// is none here. 1 says that the question of the certificate (`sshkey_calls::certificate_question`)
-/// was answered yes, and every other number that it was not.
+/// `user_keys::log_in_by_certificate`, where the login's certificate has bytes), and what it is
+/// granted. The host is the name that was found for the client's address; with no bytes the address
+/// stands for it. The login's authorities are not looked at, and where its caller judges the
+/// address there is none here. 1 says that the question of the certificate
+/// (`sshkey_calls::certificate_question`) was answered yes, and every other number that it was not.
 ///
 /// Returns 0 with the grant, exactly if the text lets in for every verifier that says so about that
 /// question; 2 if it does where the room is too short for the grant, and then the answer is nothing

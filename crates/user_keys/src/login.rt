@@ -7,8 +7,8 @@ use std::net::IpAddr;
 #[derive(Debug, Clone, Copy)]
 pub struct UserLogin<'a> {
     /// The text of authorized_keys, of one file: ask about one file after the other, as long as the
-    /// answer is `NotListed` or `NotAllowed`. Or that of a file of principals (`log_in_by_principal`).
-    /// Lines need not be UTF-8, as for sshd(8).
+    /// answer is `NotListed` or `NotAllowed`. Or that of a file of principals
+    /// (`log_in_by_principal`). Lines need not be UTF-8, as for sshd(8).
     pub text: &'a [u8],
     /// The name of the user who is to be let in. Only a certificate is asked about it, by
     /// authorized_keys.

@@ -27,8 +27,8 @@ pub enum UserRefusal {
         /// The number of that line, from 1.
         line: usize,
     },
-    /// sshd(8) accepts no such key, by its kind or its size (`openssh_limits::openssh_accepts_key`); or, of a
-    /// certificate, no such key as signed it.
+    /// sshd(8) accepts no such key, by its kind or its size
+    /// (`openssh_limits::openssh_accepts_key`); or, of a certificate, no such key as signed it.
     UnacceptedKey,
     /// The key is revoked.
     Revoked,

@@ -10,9 +10,9 @@ ghost use Rattle.sshkey_terms.specs.Slices.{is_taken};
 use super::{CertificateOptionsRef, first_option};
 use std::marker::Model;
 
-/// The options of a `CertificateOptionsRef`, each a name and a value, as parts of its bytes. An empty value
-/// is the empty text, in whichever way it stands there. Each call asks anew whether the bytes of
-/// one name and one value are UTF-8.
+/// The options of a `CertificateOptionsRef`, each a name and a value, as parts of its bytes. An
+/// empty value is the empty text, in whichever way it stands there. Each call asks anew whether the
+/// bytes of one name and one value are UTF-8.
 ///
 /// Contracts see the list of those that are left.
 #[derive(Debug, Clone, Drop)]

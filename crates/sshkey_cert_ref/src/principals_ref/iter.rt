@@ -10,8 +10,8 @@ use super::{PrincipalsRef, first_text};
 use std::marker::Model;
 use std::str;
 
-/// The texts of a `PrincipalsRef`, each as a part of its bytes. Each call asks anew whether the bytes of
-/// one text are UTF-8.
+/// The texts of a `PrincipalsRef`, each as a part of its bytes. Each call asks anew whether the
+/// bytes of one text are UTF-8.
 ///
 /// Contracts see the list of those that are left.
 #[derive(Debug, Clone, Drop)]
