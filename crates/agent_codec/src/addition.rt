@@ -3,10 +3,9 @@
 ghost use Rattle.std.specs.Prelude.{◌≡◌, ◌+◌, ◌^◌, false};
 ghost use Rattle.ssh_key.specs.pairs.PairKinds.{is_encrypted};
 
-use ssh_key::encoding::{
-    Bytes, Decode, Encode, NormalForm, Reader, Then, Wide, Writer, both_len, encode_both,
-};
+use ssh_key::encoding::{Bytes, Decode, Encode, NormalForm, Reader, Writer, both_len, encode_both};
 use ssh_key::private::KeypairData;
+use ssh_key::terms::{Then, Wide};
 use ssh_key::{Error, Result, encoding};
 use std::alloc::Global;
 

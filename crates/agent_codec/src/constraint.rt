@@ -15,8 +15,9 @@ use crate::kind::decode_kind;
 use crate::numbers::{CONSTRAIN_CONFIRM, CONSTRAIN_EXTENSION, CONSTRAIN_LIFETIME};
 use kind::ConstraintKind;
 use ssh_key::encoding::{
-    Bytes, Decode, Encode, NormalForm, Reader, Text, Then, Wide, Writer, both_len, encode_both,
+    Bytes, Decode, Encode, NormalForm, Reader, Text, Writer, both_len, encode_both,
 };
+use ssh_key::terms::{Then, Wide};
 use ssh_key::{Error, Result, encoding};
 use std::alloc::Global;
 

@@ -5,8 +5,9 @@ ghost use Rattle.agent_codec.specs.Records as model;
 ghost use Rattle.agent_codec.specs.Records.{identity, identity_format, identity_of};
 
 use ssh_key::encoding::{
-    Bytes, Decode, Encode, Error, NormalForm, Reader, Result, Then, Writer, both_len, encode_both,
+    Bytes, Decode, Encode, Error, NormalForm, Reader, Result, Writer, both_len, encode_both,
 };
+use ssh_key::terms::Then;
 use std::alloc::Global;
 
 /// A key of the answer to `SSH_AGENTC_REQUEST_IDENTITIES` (draft-miller-ssh-agent, section 4.4).

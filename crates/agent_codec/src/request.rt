@@ -18,7 +18,8 @@ use crate::numbers::{
 use crate::sign_request::SignRequest;
 use constrained::{constrained_from, constrained_len, encode_constrained};
 use kind::RequestKind;
-use ssh_key::encoding::{Bytes, Decode, Encode, NormalForm, Reader, Wide, Writer, encode_both};
+use ssh_key::encoding::{Bytes, Decode, Encode, NormalForm, Reader, Writer, encode_both};
+use ssh_key::terms::Wide;
 use ssh_key::{Error, Result, encoding};
 use std::alloc::Global;
 

@@ -14,10 +14,8 @@ use crate::identity::Identity;
 use crate::numbers::{EXTENSION_FAILURE, FAILURE, IDENTITIES_ANSWER, SIGN_RESPONSE, SUCCESS};
 use extension::{encode_extension, extension_from, extension_len};
 use kind::ResponseKind;
-use ssh_key::encoding::{
-    Bytes, Counted, Decode, Encode, LengthPrefixed, NormalForm, Reader, Wide, Writer, counted_len,
-    encode_counted, u32_of,
-};
+use ssh_key::encoding::{Bytes, Decode, Encode, NormalForm, Reader, Writer, u32_of};
+use ssh_key::terms::{Counted, LengthPrefixed, Wide, counted_len, encode_counted};
 use ssh_key::{Error, Result, Signature, encoding};
 use std::alloc::Global;
 

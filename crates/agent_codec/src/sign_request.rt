@@ -4,9 +4,8 @@ ghost use Rattle.std.specs.Prelude.{◌+◌, ◌*◌, ◌^◌};
 ghost use Rattle.agent_codec.specs.Records as model;
 ghost use Rattle.agent_codec.specs.Records.{sign_request, sign_request_format, sign_request_of};
 
-use ssh_key::encoding::{
-    Bytes, Decode, Encode, NormalForm, Reader, Then, Wide, Writer, both_len, encode_both,
-};
+use ssh_key::encoding::{Bytes, Decode, Encode, NormalForm, Reader, Writer, both_len, encode_both};
+use ssh_key::terms::{Then, Wide};
 use ssh_key::{Error, Result, encoding};
 use std::alloc::Global;
 

@@ -28,3 +28,4 @@ pub mod patterns
 pub mod private
 pub mod public
 pub mod revocation
+pub mod terms

@@ -7,6 +7,3 @@ pub use sshkey_base::{
     decode_whole, each_len, encode_both, encode_each, encode_list, encode_string, encode_vec,
     erase_slice, length_from, list_len, string_len, u32_of,
 };
-pub use sshkey_terms::{
-    Counted, LengthPrefixed, Then, Wide, counted_len, decode_each, encode_counted,
-};

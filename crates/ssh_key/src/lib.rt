@@ -17,6 +17,7 @@ pub mod patterns;
 pub mod private;
 pub mod public;
 pub mod revocation;
+pub mod terms;
 
 pub use sshkey_authorized_keys::AuthorizedKeys;
 pub use sshkey_base::{Algorithm, AlgorithmName, EcdsaCurve, Error, HashAlg, Mpint, Result};

@@ -12,9 +12,8 @@ use super::Request;
 use crate::addition::Addition;
 use crate::constraint::Constraint;
 use crate::numbers::ADD_ID_CONSTRAINED;
-use ssh_key::encoding::{
-    Decode, Encode, Reader, Writer, decode_each, each_len, encode_each, u32_of,
-};
+use ssh_key::encoding::{Decode, Encode, Reader, Writer, each_len, encode_each, u32_of};
+use ssh_key::terms::decode_each;
 use ssh_key::{Result, encoding};
 use std::alloc::Global;
 

@@ -10,9 +10,8 @@ ghost use Rattle.agent_codec.specs.Responses.{extended, extension_body, response
 
 use super::Response;
 use crate::numbers::EXTENSION_RESPONSE;
-use ssh_key::encoding::{
-    Bytes, Decode, Encode, Reader, Wide, Writer, decode_each, each_len, encode_each, u32_of,
-};
+use ssh_key::encoding::{Bytes, Decode, Encode, Reader, Writer, each_len, encode_each, u32_of};
+use ssh_key::terms::{Wide, decode_each};
 use ssh_key::{Result, encoding};
 use std::alloc::Global;
 

@@ -5,4 +5,3 @@ pub use Rattle.sshkey_base.specs.declared.reader.NestedReader
 pub use Rattle.sshkey_base.specs.declared.short_bytes.ShortBytes
 pub use Rattle.sshkey_base.specs.declared.writer.SliceWriter
 pub use Rattle.sshkey_base.specs.declared.text.Text
-pub use Rattle.sshkey_terms.specs.declared.counted.read.Counted

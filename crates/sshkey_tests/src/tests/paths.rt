@@ -32,11 +32,17 @@ pub mod certificate {
 /// The wire encoding.
 pub mod encoding {
     pub use ssh_key::encoding::{
-        Bytes, Counted, Decode, DecodeError, Encode, Error, Label, LabelError, LengthPrefixed,
-        NestedReader, NormalForm, Reader, Result, ShortBytes, SliceWriter, Text, Then, Wide,
-        Writer, array_from, both_len, counted_len, decode_each, decode_front, decode_prefixed,
-        decode_whole, each_len, encode_both, encode_counted, encode_each, encode_list,
+        Bytes, Decode, DecodeError, Encode, Error, Label, LabelError, NestedReader, NormalForm,
+        Reader, Result, ShortBytes, SliceWriter, Text, Writer, array_from, both_len, decode_front,
+        decode_prefixed, decode_whole, each_len, encode_both, encode_each, encode_list,
         encode_string, encode_vec, erase_slice, length_from, list_len, string_len, u32_of,
+    };
+}
+
+/// What a format is made of.
+pub mod terms {
+    pub use ssh_key::terms::{
+        Counted, LengthPrefixed, Then, Wide, counted_len, decode_each, encode_counted,
     };
 }
 

@@ -2,7 +2,8 @@
 
 use super::pairs::bytes_of;
 use super::support::is_wanted;
-use ssh_key::encoding::{Decode, Then, Wide, decode_whole};
+use ssh_key::encoding::{Decode, decode_whole};
+use ssh_key::terms::{Then, Wide};
 use ssh_key::{Error, PrivateKey, Result};
 use std::alloc::Global;
 

@@ -1,0 +1,1 @@
+pub use Rattle.sshkey_terms.specs.declared.counted.read.Counted
