@@ -13,6 +13,7 @@ pub use Rattle.sshkey_ciphers.specs.declared.kdf_alg.KdfAlg
 pub use Rattle.sshkey_fingerprints.specs.declared.fingerprint.Fingerprint
 pub use Rattle.sshkey_keys.specs.declared.question.Question
 pub use Rattle.sshkey_keys.specs.declared.signature.Signature
+pub use Rattle.sshkey_keys.specs.declared.signature_question.SignatureQuestion
 pub use Rattle.sshkey_keys_ref.specs.declared.signature_ref.SignatureRef
 pub use Rattle.sshkey_known_hosts.specs.declared.known_hosts.KnownHosts
 pub use Rattle.sshkey_private.specs.declared.private_key.PrivateKey

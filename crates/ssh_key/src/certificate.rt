@@ -2,8 +2,7 @@
 
 pub use sshkey_base::certificate::Field;
 pub use sshkey_cert::{
-    Certificate, CertificateQuestion, CertificateRefusal, KeyOrCertificate, TrustedCertificate,
-    contains_fingerprint,
+    Certificate, CertificateRefusal, KeyOrCertificate, TrustedCertificate, contains_fingerprint,
 };
 pub use sshkey_cert_builder::Builder;
 pub use sshkey_cert_fields::CertificateFields;

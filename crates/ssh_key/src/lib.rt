@@ -24,7 +24,9 @@ pub use sshkey_base::{Algorithm, AlgorithmName, EcdsaCurve, Error, HashAlg, Mpin
 pub use sshkey_cert::Certificate;
 pub use sshkey_cert_ref::CertificateRef;
 pub use sshkey_ciphers::{Cipher, Kdf, KdfAlg};
-pub use sshkey_keys::{Fingerprint, Question, RawVerifier, Signature, SigningKey};
+pub use sshkey_keys::{
+    Fingerprint, Question, RawVerifier, Signature, SignatureQuestion, SigningKey,
+};
 pub use sshkey_keys_ref::SignatureRef;
 pub use sshkey_known_hosts::KnownHosts;
 pub use sshkey_private::PrivateKey;

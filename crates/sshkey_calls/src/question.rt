@@ -2,17 +2,16 @@
 
 ghost use Rattle.std.specs.Prelude.{◌≡◌, IfOk, option_map};
 ghost use Rattle.sshkey_cert_ref.specs.CertificateRef.{certificate_of};
-ghost use Rattle.sshkey_cert.specs.Questions.{asks, certificate_question};
-ghost use Rattle.sshkey_keys.specs.Questions.{question_of};
+ghost use Rattle.sshkey_cert.specs.Questions.{certificate_question};
+ghost use Rattle.sshkey_keys.specs.Questions.{asks, question_of};
 ghost use Rattle.sshkey_calls.specs.Questions.{ArePlaced, TellsCertificateQuestion, GivesQuestion, TellsQuestion, question_bytes};
 ghost use Rattle.sshkey_calls.specs.Rooms.{IsLaidOut};
 
 use crate::number::{MEMORY, UNSUPPORTED, algorithm_number, error_status};
 use crate::part::{self, Part, add, add_encoded};
 use sshkey_base::Result;
-use sshkey_cert::CertificateQuestion;
 use sshkey_cert_ref::CertificateRef;
-use sshkey_keys::Question as Asked;
+use sshkey_keys::{Question as Asked, SignatureQuestion};
 use std::alloc::Global;
 
 /// What has to be verified: that the signature is one of the message under the key, by the
@@ -74,7 +73,7 @@ fn ask(
 /// Answers with the question of a certificate, if it raises one.
 fn write_question(
     alloc: Global,
-    asked: &CertificateQuestion<'_>,
+    asked: &SignatureQuestion<'_>,
     room: &mut [u8],
     answer: &mut Question,
 ) -> u32

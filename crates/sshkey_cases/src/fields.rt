@@ -2,9 +2,10 @@
 
 use crate::bytes::part;
 use sshkey_base::{HashAlg, Result};
-use sshkey_cert::{Certificate, CertificateQuestion};
+use sshkey_cert::Certificate;
 use sshkey_cert_ref::{CertificateOptionsRef, CertificateRef};
 use sshkey_cert_values::OptionsMap;
+use sshkey_keys::SignatureQuestion;
 use std::alloc::Global;
 
 /// Whom no certificate of these questions names.
@@ -99,7 +100,7 @@ fn keys(alloc: Global, certificate: &Certificate) -> Result<String> {
 }
 
 /// Under which algorithm a verifier is asked, and about how many of the first bytes.
-fn asked(alloc: Global, asked: &CertificateQuestion<'_>, bytes: &[u8]) -> Result<String> {
+fn asked(alloc: Global, asked: &SignatureQuestion<'_>, bytes: &[u8]) -> Result<String> {
     match asked.question() {
         Some(question) if bytes.starts_with(question.message()) => {
             let (algorithm, len) = (question.algorithm(), question.message().len());

@@ -3,8 +3,8 @@
 use crate::bytes::{part, text};
 use sshkey_base::{Error, Result};
 use sshkey_doubles::{AcceptAll, RefuseAll};
-use sshkey_keys::Signature;
-use sshkey_userauth::{Refusal, Requirements, UserauthQuestion, UserauthRequest};
+use sshkey_keys::{Signature, SignatureQuestion};
+use sshkey_userauth::{Refusal, Requirements, UserauthRequest};
 use std::alloc::Global;
 
 /// The parts of the request that all the bytes spell, each with how many bytes it has or its text,
@@ -33,13 +33,13 @@ pub(crate) fn asked(alloc: Global, parts: &[Vec<u8>]) -> Result<String> {
     };
     said(
         alloc,
-        request.question(alloc, part(parts, 1), &signature, required),
+        request.question(alloc, part(parts, 1), signature, required),
     )
 }
 
 fn said(
     alloc: Global,
-    answer: std::result::Result<UserauthQuestion<'_>, Refusal>,
+    answer: std::result::Result<SignatureQuestion<'_>, Refusal>,
 ) -> Result<String> {
     match answer {
         Ok(question) => {

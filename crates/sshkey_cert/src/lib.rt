@@ -6,7 +6,7 @@ mod key_or_certificate;
 pub mod laws;
 
 pub use certificate::{
-    Certificate, CertificateQuestion, CertificateRefusal, TrustedCertificate, contains_fingerprint,
-    question_about, refusal_of_authority_or_time, refusal_with_principal, result_of_refusal,
+    Certificate, CertificateRefusal, TrustedCertificate, contains_fingerprint,
+    refusal_of_authority_or_time, refusal_with_principal, result_of_refusal,
 };
 pub use key_or_certificate::KeyOrCertificate;

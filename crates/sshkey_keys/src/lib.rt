@@ -7,6 +7,7 @@ mod question;
 mod raw_verifier;
 mod security_key;
 mod signature;
+mod signature_question;
 mod signing_key;
 mod verify;
 
@@ -15,5 +16,6 @@ pub use question::Question;
 pub use raw_verifier::RawVerifier;
 pub use security_key::security_key_message;
 pub use signature::{Signature, check_string, has_trailer, split_trailer};
+pub use signature_question::SignatureQuestion;
 pub use signing_key::SigningKey;
 pub use sshkey_fingerprints::Fingerprint;

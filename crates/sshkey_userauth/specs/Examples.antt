@@ -7,7 +7,7 @@ use Rattle.sshkey_model.specs.Names.{Nistp256, Nistp384, Nistp521, Sha256, Sha51
 use Rattle.sshkey_model.specs.Parts.{flat}
 use Rattle.sshkey_model.specs.Reading.{Label}
 use Rattle.sshkey_model.specs.Signatures.{Signature}
-use Rattle.sshkey_userauth.specs.Judgements.{flags_of, form_of, judged, key_from, lacking}
+use Rattle.sshkey_userauth.specs.Judgements.{flags_of, form_of, form_under, judged, key_from, lacking}
 use Rattle.sshkey_userauth.specs.Requests.{UserauthRequest, userauth_request}
 use Rattle.sshkey_userauth.specs.declared.judgement.Requirements.{Requirements}
 use Rattle.sshkey_userauth.specs.declared.judgement.name.KeyForm.TheVariants.{Plain, Certified}
@@ -78,6 +78,30 @@ SecurityKeyNames = (form_of (codes "sk-ecdsa-sha2-nistp256@openssh.com") SkEcdsa
     × (form_of (codes "sk-ecdsa-sha2-nistp256@openssh.com") (Ecdsa Nistp256) ≡ None)
     × (form_of (codes "webauthn-sk-ecdsa-sha2-nistp256@openssh.com") SkEcdsa ≡ None)
     × (form_of (codes "key@example.org") (Other (codes "key@example.org")) ≡ None)
+
+abbrev rsa : keys.Key
+rsa = keys.Rsa (record { e = hex "010001"; n = hex "00c7" })
+
+abbrev security_key : keys.SecurityKey
+security_key = record { key = replicate 32 0x03; application = codes "ssh:" }
+
+-- An RSA key signs under two names, each for itself and in certificates, and by none of them with
+-- SHA-1. A key signs under no name of another curve or of a key that is not in hardware.
+abbrev pub KeyNames : Type 0
+KeyNames = (form_under (codes "rsa-sha2-256") rsa ≡ Some Plain)
+    × (form_under (codes "rsa-sha2-512") rsa ≡ Some Plain)
+    × (form_under (codes "rsa-sha2-256-cert-v01@openssh.com") rsa ≡ Some Certified)
+    × (form_under (codes "rsa-sha2-512-cert-v01@openssh.com") rsa ≡ Some Certified)
+    × (form_under (codes "ssh-rsa") rsa ≡ None)
+    × (form_under (codes "ssh-rsa-cert-v01@openssh.com") rsa ≡ None)
+    × (form_under (codes "ecdsa-sha2-nistp384") (keys.Ecdsa Nistp384 (hex "04")) ≡ Some Plain)
+    × (form_under (codes "ecdsa-sha2-nistp256") (keys.Ecdsa Nistp384 (hex "04")) ≡ None)
+    × (form_under (codes "ssh-ed25519-cert-v01@openssh.com") (keys.Ed25519 (replicate 32 0x03)) ≡ Some Certified)
+    × (form_under (codes "ssh-ed25519") (keys.SkEd25519 security_key) ≡ None)
+    × (form_under (codes "sk-ssh-ed25519@openssh.com") (keys.SkEd25519 security_key) ≡ Some Plain)
+    × (form_under (codes "sk-ecdsa-sha2-nistp256@openssh.com") (keys.SkEcdsa security_key) ≡ Some Plain)
+    × (form_under (codes "ssh-dss") (keys.Dsa (record { p = []; q = []; g = []; y = [] })) ≡ None)
+    × (form_under (codes "key@example.org") (keys.Opaque (codes "key@example.org") []) ≡ None)
 
 -- ---- flags (PROTOCOL.u2f)
 

@@ -3,6 +3,7 @@ use Rattle.std.specs.Prelude.{◌≡◌, ◌⊎◌, ℕ, List, [], ◌∷◌, Bo
 use Rattle.std.specs.Result.{IsOk}
 use Rattle.sshkey_base.specs.Causes.{Faulty, cause}
 use Rattle.sshkey_model.specs.Certificates.{certificate_at}
+use Rattle.sshkey_model.specs.Keys as keys
 use Rattle.sshkey_model.specs.Keys.{Key, key_data_at}
 use Rattle.sshkey_model.specs.Names.{Nistp256, Nistp384, Nistp521, Sha256, Sha512, Algorithm, Dsa, Ecdsa, Ed25519, Rsa, SkEcdsa, SkEd25519, Other}
 use Rattle.sshkey_model.specs.Parts.{flat}
@@ -46,6 +47,23 @@ form_among (Some names) name =
 -- how the key stands in a request with that name, if the signature is by that algorithm
 abbrev pub form_of : List ℕ → Algorithm → Option KeyForm
 form_of name a = form_among (request_names a) name
+
+abbrev pub first_form : Option KeyForm → Option KeyForm → Option KeyForm
+first_form None other = other
+first_form (Some form) other = Some form
+
+abbrev pub form_under_rsa : List ℕ → Option KeyForm
+form_under_rsa name = first_form (form_of name (Rsa (Some Sha512))) (form_of name (Rsa (Some Sha256)))
+
+-- how such a key stands in a request with that name, whichever of its algorithms the signature is by
+abbrev pub form_under : List ℕ → Key → Option KeyForm
+form_under name (keys.Dsa k) = None
+form_under name (keys.Ecdsa c point) = form_of name (Ecdsa c)
+form_under name (keys.Ed25519 k) = form_of name Ed25519
+form_under name (keys.Rsa k) = form_under_rsa name
+form_under name (keys.SkEcdsa k) = form_of name SkEcdsa
+form_under name (keys.SkEd25519 k) = form_of name SkEd25519
+form_under name (keys.Opaque own k) = None
 
 -- ---- the flags of a security key (PROTOCOL.u2f)
 

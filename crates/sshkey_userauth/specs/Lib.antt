@@ -2,5 +2,4 @@ pub mod Requests
 pub mod RequestFormats
 pub mod Values
 pub mod Judgements
-pub mod Questions
 pub mod Examples

@@ -12,6 +12,10 @@ use Rattle.sshkey_userauth.specs.declared.request.part.Credential.{Credential}
 abbrev pub lent : Bor (List ℕ) → List ℕ
 lent b = b.now
 
+-- two lent slices
+abbrev pub both : Bor (List ℕ) × Bor (List ℕ) → List ℕ × List ℕ
+both p = (lent p.0, lent p.1)
+
 abbrev pub request_of : UserauthRequest → model.UserauthRequest
 request_of r = record { session_id = r.session_id.now; user = r.user.now; service = r.service.now; algorithm = r.algorithm.now; public_key = r.public_key.now; host_key = option_map lent r.host_key }
 

@@ -1,7 +1,7 @@
 //! Worked examples of what clients sign, and both sides of each edge.
 #![tactic(auto, unfolding(sshkey_model::specs::Parts::flat))]
 
-ghost use Rattle.sshkey_userauth.specs.Examples.{CurveNames, FlagPlaces, Flags, KeyForms, Methods, OtherNames, RsaNames, SecurityKeyNames, Verdicts};
+ghost use Rattle.sshkey_userauth.specs.Examples.{CurveNames, FlagPlaces, Flags, KeyForms, KeyNames, Methods, OtherNames, RsaNames, SecurityKeyNames, Verdicts};
 
 /// The bytes of both methods; an empty host key is one.
 pub fn methods()
@@ -26,6 +26,11 @@ pub fn curve_names()
 /// The names of security keys, for keys and for certificates.
 pub fn security_key_names()
     ensures { SecurityKeyNames }
+{}
+
+/// The names under which a key signs.
+pub fn key_names()
+    ensures { KeyNames }
 {}
 
 /// What the flags of a security key lack.

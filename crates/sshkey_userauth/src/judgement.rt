@@ -1,13 +1,9 @@
 //! What is asked about a client's signature.
 
-ghost use Rattle.std.specs.Prelude.{◌≡◌, IfOk, IfErr, Err, option_map};
-ghost use Rattle.sshkey_keys.specs.Keys.{key_of};
-ghost use Rattle.sshkey_keys.specs.Questions.{question_of};
+ghost use Rattle.std.specs.Prelude.{◌≡◌, IfOk, IfErr, Err};
+ghost use Rattle.sshkey_keys.specs.Questions.{asks};
 ghost use Rattle.sshkey_keys.specs.Signatures.{signature_of};
-ghost use Rattle.sshkey_model.specs.Verification.{is_yes};
-ghost use Rattle.sshkey_keys.specs.Asked.{RunsOut};
 ghost use Rattle.sshkey_userauth.specs.Judgements.{IsAsked, IsRefused, connection, judged};
-ghost use Rattle.sshkey_userauth.specs.Questions.{asks};
 ghost use Rattle.sshkey_userauth.specs.RequestFormats.{SpellsUserauthRequest};
 ghost use Rattle.sshkey_userauth.specs.Values.{request_of};
 ghost use Rattle.sshkey_userauth.specs.declared.refusal.UserauthRefusal.TheVariants as refusals;
@@ -18,11 +14,13 @@ mod name;
 
 use crate::refusal::UserauthRefusal;
 use crate::request::UserauthRequest;
-pub use flags::check_flags;
+pub use flags::{check_flag_byte, check_flags};
 use key::key_in;
-use name::{KeyForm, form_of};
-use sshkey_keys::{KeyData, Question, RawVerifier, Signature};
-use std::alloc::{AllocError, Global};
+use name::form_of;
+pub use name::{KeyForm, form_under};
+use sshkey_keys::{Signature, SignatureQuestion};
+use std::alloc::Global;
+use std::borrow::CowSlice;
 
 /// The service that starts after a login (RFC 4254).
 pub const CONNECTION: &[u8] = b"ssh-connection";
@@ -35,14 +33,6 @@ pub struct Requirements {
     pub touch_required: bool,
     /// Whether the security key has to have verified its user: the bit 0x04.
     pub verify_required: bool,
-}
-
-/// What a verifier is asked about a client's signature, with the key that this takes.
-#[derive(Drop)]
-pub struct UserauthQuestion<'a> {
-    key: KeyData,
-    message: &'a [u8],
-    signature: &'a Signature,
 }
 
 impl UserauthRequest<'_> {
@@ -63,30 +53,31 @@ impl UserauthRequest<'_> {
         &self,
         alloc: Global,
         signed: &'a [u8],
-        signature: &'a Signature,
+        signature: Signature,
         requirements: Requirements,
-    ) -> Result<UserauthQuestion<'a>, UserauthRefusal>
+    ) -> Result<SignatureQuestion<'a>, UserauthRefusal>
         ensures other { (SpellsUserauthRequest (request_of self.now) signed.now → ⊥)
             → result ≡ Err refusals.SignedBytes }
         ensures asked { IfOk result (λ q. IsAsked (request_of self.now) requirements
-            (signature_of signature.now) (asks q)) }
+            (signature_of signature) (asks q)) }
         ensures refused { SpellsUserauthRequest (request_of self.now) signed.now → IfErr result
-            (λ e. IsRefused (request_of self.now) requirements (signature_of signature.now) e) }
+            (λ e. IsRefused (request_of self.now) requirements (signature_of signature) e) }
     {
         if !self.is_spelled(signed) {
             return Err(UserauthRefusal::SignedBytes);
         }
-        let form = self.judge(signature, requirements)?;
+        let form = self.key_form(&signature, requirements)?;
         let key = key_in(alloc, form, self.public_key)?;
-        Ok(UserauthQuestion {
-            key,
-            message: signed,
-            signature,
-        })
+        let message = CowSlice::Borrowed(signed);
+        Ok(SignatureQuestion::new(key, message, signature))
     }
 
-    /// How the key stands in the request, or what is wrong first.
-    fn judge(
+    /// How the key stands in the request, by its algorithm's name: as itself or in a certificate.
+    /// It looks at neither key nor signed bytes, and verifies nothing. Does not allocate.
+    ///
+    /// Fails with the first of these: `Service`; `Algorithm`, `Touch` and `Verification`, as
+    /// `question` does.
+    pub fn key_form(
         &self,
         signature: &Signature,
         requirements: Requirements,
@@ -103,26 +94,5 @@ impl UserauthRequest<'_> {
             },
             None => Err(UserauthRefusal::Algorithm),
         }
-    }
-}
-
-impl UserauthQuestion<'_> {
-    /// The question, or `None` if the key and the signature's algorithm do not go together: then no
-    /// verifier is asked, and nobody is let in. A security key's is already the one about the plain
-    /// key within. Does not allocate.
-    pub fn question(&self) -> Option<Question<'_>>
-        ensures { option_map question_of result ≡ asks self.now }
-    {
-        self.key.question(self.message, self.signature)
-    }
-
-    /// Whether the verifier is asked that question, and returns true. Fails only if the verifier
-    /// runs out of memory.
-    pub fn is_accepted<V: RawVerifier>(&self, verifier: &V) -> std::result::Result<bool, AllocError>
-        ensures answer { IfOk result
-            (λ yes. yes ≡ is_yes (V.accepts verifier.now) (asks self.now)) }
-        ensures memory { IfErr result (λ _. RunsOut (V.runs_out verifier.now) (asks self.now)) }
-    {
-        self.key.accepts(self.message, self.signature, verifier)
     }
 }

@@ -7,6 +7,6 @@ pub mod laws;
 mod refusal;
 mod request;
 
-pub use judgement::{CONNECTION, Requirements, UserauthQuestion, check_flags};
+pub use judgement::{CONNECTION, KeyForm, Requirements, check_flag_byte, check_flags, form_under};
 pub use refusal::UserauthRefusal;
 pub use request::UserauthRequest;

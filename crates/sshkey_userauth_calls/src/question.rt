@@ -101,7 +101,7 @@ fn ask(
     let requirements = requirements_of(signed.permits);
     match signed
         .expected()
-        .question(alloc, bytes, &signature, requirements)
+        .question(alloc, bytes, signature, requirements)
     {
         Ok(asked) => answer_question(alloc, asked.question(), room, answer),
         Err(refusal) => refusal_status(refusal),

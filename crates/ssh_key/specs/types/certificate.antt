@@ -2,7 +2,6 @@ pub use Rattle.sshkey_base.specs.declared.certificate.field.Field
 pub use Rattle.sshkey_cert_builder.specs.declared.builder.Builder
 pub use Rattle.sshkey_cert.specs.declared.certificate.Certificate
 pub use Rattle.sshkey_cert.specs.declared.certificate.trusted_by.TrustedCertificate
-pub use Rattle.sshkey_cert.specs.declared.certificate.question.CertificateQuestion
 pub use Rattle.sshkey_cert.specs.declared.certificate.refusal.CertificateRefusal
 pub use Rattle.sshkey_cert.specs.declared.key_or_certificate.KeyOrCertificate
 pub use Rattle.sshkey_cert_ref.specs.declared.certificate_ref.CertificateRef

@@ -4,21 +4,22 @@ ghost use Rattle.std.specs.Cow.{cow_slice_items};
 ghost use Rattle.std.specs.Prelude.{◌≡◌, IfOk, IfErr};
 ghost use Rattle.sshkey_base.specs.Causes.{NoMemory, cause};
 ghost use Rattle.sshkey_base.specs.declared.error.Error.TheVariants as wide;
-ghost use Rattle.sshkey_cert.specs.Questions.{asks, certificate_question};
+ghost use Rattle.sshkey_cert.specs.Questions.{certificate_question};
+ghost use Rattle.sshkey_keys.specs.Questions.{asks};
 ghost use Rattle.sshkey_model.specs.Certificates.{normal_to_be_signed};
 ghost use Rattle.sshkey_model.specs.Parts.{flat};
 ghost use Rattle.sshkey_cert_ref.specs.CertificateRef.{IsUnplain, certificate_of};
 
 use super::CertificateRef;
 use sshkey_base::{Error, Result};
-use sshkey_cert::{CertificateQuestion, question_about};
+use sshkey_keys::SignatureQuestion;
 use std::alloc::Global;
 use std::borrow::CowSlice;
 
 impl<'a> CertificateRef<'a> {
     /// What a verifier is asked about the certificate, with the memory that this takes. Fails only
     /// when out of memory.
-    pub fn question(&self, alloc: Global) -> Result<CertificateQuestion<'a>>
+    pub fn question(&self, alloc: Global) -> Result<SignatureQuestion<'a>>
         ensures value { IfOk result
             (λ q. asks q ≡ certificate_question (certificate_of self.now)) }
         ensures memory { IfErr result (λ e. cause e ≡ NoMemory) }
@@ -26,7 +27,7 @@ impl<'a> CertificateRef<'a> {
         let message = self.message(alloc)?;
         let signature = self.signature(alloc)?;
         let key = self.signature_key(alloc)?;
-        Ok(question_about(key, signature, message))
+        Ok(SignatureQuestion::new(key, message, signature))
     }
 
     /// The bytes that the signature is over: a part of the certificate where they are one, and else

@@ -6,8 +6,8 @@ pub mod root {
     pub use ssh_key::{
         Algorithm, AlgorithmName, AuthorizedKeys, Base64Reader, Blob, Certificate, CertificateRef,
         Cipher, EcdsaCurve, Error, Fingerprint, HashAlg, Kdf, KdfAlg, KnownHosts, Mpint,
-        PrivateKey, PublicKey, Question, RawVerifier, Result, Signature, SignatureRef, SigningKey,
-        SshSig, read_line, write_line,
+        PrivateKey, PublicKey, Question, RawVerifier, Result, Signature, SignatureQuestion,
+        SignatureRef, SigningKey, SshSig, read_line, write_line,
     };
 }
 
@@ -23,9 +23,9 @@ pub mod authorized_keys {
 pub mod certificate {
     pub use ssh_key::certificate::{
         Builder, CertType, Certificate, CertificateFields, CertificateOptions,
-        CertificateOptionsRef, CertificateQuestion, CertificateRef, CertificateRefusal, EndTime,
-        FOREVER, Field, KeyOrCertificate, MAX_SECS, OptionsMap, Principals, PrincipalsRef,
-        TrustedCertificate, UnixTime, contains_fingerprint,
+        CertificateOptionsRef, CertificateRef, CertificateRefusal, EndTime, FOREVER, Field,
+        KeyOrCertificate, MAX_SECS, OptionsMap, Principals, PrincipalsRef, TrustedCertificate,
+        UnixTime, contains_fingerprint,
     };
 }
 

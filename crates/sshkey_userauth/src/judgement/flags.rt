@@ -23,7 +23,15 @@ const USER_VERIFIED: u8 = 0x04;
 pub fn check_flags(signature: &Signature, requirements: Requirements) -> Result<(), UserauthRefusal>
     ensures { result ≡ lacking requirements (flags_of (signature_of signature.now)) }
 {
-    match flags_of(signature) {
+    check_flag_byte(flags_of(signature), requirements)
+}
+
+/// The same of the flags in a signature that somebody else has seen, who tells them: `None` are
+/// those of a signature that has none. Does not allocate.
+pub fn check_flag_byte(flags: Option<u8>, requirements: Requirements) -> Result<(), UserauthRefusal>
+    ensures { result ≡ lacking requirements flags }
+{
+    match flags {
         Some(flags) => {
             if requirements.touch_required && flags & USER_PRESENT == 0 {
                 return Err(UserauthRefusal::Touch);

@@ -1,7 +1,7 @@
 use Rattle.std.proofs.Common.{◌≡◌, ap, refl, ◌∙◌}
+use Rattle.sshkey_keys.specs.Questions.{asks}
 use Rattle.sshkey_keys.specs.Signatures.{signature_of}
 use Rattle.sshkey_keys_ref.specs.SignatureRef.{signature_bytes}
-use Rattle.sshkey_userauth.specs.Questions.{asks}
 use Rattle.sshkey_userauth.specs.RequestFormats.{SpellsUserauthRequest}
 use Rattle.sshkey_userauth.specs.Values.{request_of}
 use Rattle.sshkey_userauth.specs.declared.refusal.UserauthRefusal.TheVariants.{SignedBytes}

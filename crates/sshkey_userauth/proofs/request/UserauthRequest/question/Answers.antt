@@ -25,5 +25,5 @@ returns-clause-asked c =
       judged = sym c.in_ok-form.ensures;
       key = key_of c.in_ok-key.key;
       held = c.in_ok-key.ensures;
-      question = ap (λ (m : List ℕ). question (key_of c.in_ok-key.key) m (signature_of c.args.signature.now)) (these_bytes (request_of c.args.self.now) c.args.signed.now spelled);
+      question = ap (λ (m : List ℕ). question (key_of c.in_ok-key.key) m (signature_of c.args.signature)) (these_bytes (request_of c.args.self.now) c.args.signed.now spelled);
     }
