@@ -3,15 +3,16 @@
 
     host.py [--revoked FILE].. HOST PORT KNOWN_HOSTS.. <id_ed25519.pub
 
-The input has a line for each key, as public key files have; `ssh-keyscan -p PORT HOST | cut -d' ' -f2-` shows those of a host. The
-answer to each is a word: revoked, unreadable, trusted, changed, unknown, or unaccepted for a kind or a size of key that OpenSSH does
-not take. FILE is one of ssh's RevokedHostKeys, a key revocation list or keys, one a line; where one can't be read, no key has an
-answer. The status is 0 if all are trusted, 1 if not, and 2 where it can't tell: so also where there is no key.
+The input has a line for each key, as public key files have, or what `ssh-keyscan -p PORT HOST` prints, comments too. The answer to each
+key is a word: revoked, unreadable, trusted, changed, unknown, unaccepted for a kind or a size of key that OpenSSH does not take, or later
+for a kind that only a later OpenSSH has. FILE is one of ssh's RevokedHostKeys, a key revocation list or keys, one a line; where one can't
+be read, no key has an answer. The status is 0 if a key is trusted, and each other is too or is a later one. It is 1 if not, and 2 where
+it can't tell: so also where there is no key.
 """
 from __future__ import annotations
 
 import sys
-from collections.abc import Collection
+from collections.abc import Collection, Iterable, Iterator
 
 try:
     import sshkey
@@ -39,6 +40,23 @@ def word_for(login: sshkey.HostLogin, key: bytes) -> str:
     return "trusted"
 
 
+def keys_in(lines: Iterable[bytes], host: str, port: int) -> Iterator[bytes]:
+    """The lines without the host that ssh-keyscan writes in front of keys, and without its comments, also where `cut` took the host
+    or the sign of a comment away."""
+    name = f"{host if port == 22 else f'[{host}]:{port}'} ".encode()
+    banner = f"{host}:{port} SSH-".encode()
+    for line in lines:
+        if not line.startswith((b"#", banner)):
+            yield line[len(name) :] if line.startswith(name) else line
+
+
+def word_of_line(login: sshkey.HostLogin, line: bytes) -> str:
+    """What is said of the key of a line. Raises Refused where there is none."""
+    if sshkey.is_other_key_line(line.rstrip()):
+        return "later"
+    return word_for(login, sshkey.read_line(line).blob)
+
+
 def port_of(word: str) -> int:
     """The number of the digits. Raises ValueError where there is another character, or none."""
     if not (word.isascii() and word.isdecimal()):
@@ -52,17 +70,17 @@ def content(path: str) -> bytes:
 
 
 def are_trusted(host: str, port: int, paths: Collection[str], revoked: Collection[bytes]) -> bool:
-    """Whether each key of the input is, of which it prints the word. Raises ValueError where a line has no key."""
+    """Whether each key of the input is, but later ones, of which it prints the words. Raises ValueError where a line has no key."""
     login = sshkey.HostLogin([content(it) for it in paths], host, port, revoked)
     words = []
-    for line in sys.stdin.buffer:
-        words.append(word_for(login, sshkey.read_line(line).blob))
+    for line in keys_in(sys.stdin.buffer, host, port):
+        words.append(word_of_line(login, line))
         print(words[-1], flush=True)
     if not words:
         raise ValueError("no key was given")
     if "unreadable" in words:
         tell_unreadable(login, paths)
-    return set(words) == {"trusted"}
+    return set(words) - {"later"} == {"trusted"}
 
 
 def tell_unreadable(login: sshkey.HostLogin, paths: Collection[str]) -> None:

@@ -305,6 +305,7 @@ def check_host_words(count, built, maker):
     cases += [
         ("another name", "22", f"ssh-rsa {blob}\n", UNTOLD), ("no name", "22", f"{blob}\n", UNTOLD), ("an empty line", "22", "\n", UNTOLD),
         ("a certificate", "22", maker.read("user0-cert.pub") + "\n", UNTOLD), ("half a key", "22", f"ssh-ed25519 {blob[:40]}\n", UNTOLD),
+        ("another host's key", "22", f"x.example {line}\n", UNTOLD), ("the key at another port", "22", f"[h.example]:2222 {line}\n", UNTOLD),
     ]  # fmt: skip
     for case, port, given, wanted in cases:
         ran = run([*python(built, "host.py"), "h.example", port, known], input=given)
@@ -316,6 +317,26 @@ def check_host_words(count, built, maker):
     ):  # fmt: skip
         ran = run([*python(built, "host.py"), host, port, known], input=f"{line}\n")
         count.check(f"host.py: the host {host!r} at {port}", (ran.returncode, ran.stdout) == (wanted, said), ran)
+    check_scanned(count, built, maker)
+
+
+def check_scanned(count, built, maker):
+    """host.py reads what ssh-keyscan prints, which since 9.8 writes comments to standard output, and names keys of a later kind."""
+    line, later = maker.read("holder.pub"), LATER["later"]
+    known, other = maker.write("scanned", f"h.example,[h.example]:2222 {line}\n"), maker.read("issuer.pub")
+    comment = "h.example:{} SSH-2.0-OpenSSH_10.6p1 Debian-1\n"
+    for case, port, given, wanted, said in (
+        ("a comment", "22", f"# {comment.format(22)}h.example {line}\n", VALID, "trusted\n"), ("a comment alone", "22", f"# {comment.format(22)}", UNTOLD, ""),
+        ("a comment without its sign", "22", f"{comment.format(22)}{line}\n", VALID, "trusted\n"),
+        ("a port", "2222", f"# {comment.format(2222)}[h.example]:2222 {line}\n", VALID, "trusted\n"),
+        ("a later kind beside it", "22", f"h.example {later}\nh.example {line}\n", VALID, "later\ntrusted\n"),
+        ("a later kind without the host", "22", f"{line}\n{later}\n", VALID, "trusted\nlater\n"),
+        ("a later kind alone", "22", f"h.example {later}\n", INVALID, "later\n"),
+        ("a later kind beside another key", "22", f"h.example {later}\nh.example {other}\n", INVALID, "later\nchanged\n"),
+        ("a later kind that is cut", "22", f"h.example {LATER['cut']}\n", UNTOLD, ""),
+    ):  # fmt: skip
+        ran = run([*python(built, "host.py"), "h.example", port, known], input=given)
+        count.check(f"host.py, scanned: {case}", (ran.returncode, ran.stdout) == (wanted, said) and bool(ran.stderr) == (wanted == UNTOLD), ran)
 
 
 def check_copies(count, built, maker):
