@@ -72,7 +72,7 @@ static uint32_t told(uint32_t answer, judge_blob signature) {
 /* SSHKEY_DONE where the signature is one of the message with that digest. */
 static uint32_t judge_question(judge_blob signature, const char *name_space, judge_blob digest) {
   /* a room of this length is enough */
-  size_t room_length = 2 * signature.length + 256;
+  size_t room_length = 2 * signature.length + 2304;
   uint8_t *room = calloc(1, room_length);
   sshkey_question question;
   sshkey_sha256 signer = {{0}};

@@ -9,7 +9,7 @@
  * asked. */
 static uint32_t judge_is_login(const sshkey_login *login, uint32_t *is_verified) {
   /* a room of this length is enough */
-  size_t room_length = 2 * login->certificate.length + 256;
+  size_t room_length = 2 * login->certificate.length + 2304;
   uint8_t *room = calloc(1, room_length);
   sshkey_question question;
   memset(&question, 0, sizeof question);
@@ -33,7 +33,7 @@ uint32_t judge_userauth(const sshkey_userauth *request) {
   /* a room of this length is enough */
   size_t room_length = 2 * (request->session_id.length + request->user.length +
                             request->algorithm.length + request->public_key.length +
-                            request->host_key.length + request->signature.length) + 512;
+                            request->host_key.length + request->signature.length) + 2560;
   uint8_t *room = calloc(1, room_length);
   sshkey_question question;
   memset(&question, 0, sizeof question);
@@ -48,7 +48,7 @@ uint32_t judge_userauth(const sshkey_userauth *request) {
  * says; or SSHKEY_MEMORY. */
 static uint32_t judge_is_certified(sshkey_span certificate, uint32_t *is_verified) {
   /* a room of this length is enough */
-  size_t room_length = 2 * certificate.length + 256;
+  size_t room_length = 2 * certificate.length + 2304;
   uint8_t *room = calloc(1, room_length);
   sshkey_question question;
   memset(&question, 0, sizeof question);

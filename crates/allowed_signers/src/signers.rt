@@ -6,6 +6,7 @@ ghost use Rattle.sshkey_keys.specs.Keys.{key_of};
 ghost use Rattle.sshkey_model.specs.Keys.{IsKey};
 ghost use Rattle.sshkey_sshsig.specs.SshSignatures.{ssh_signature_of};
 ghost use Rattle.sshkey_base.specs.declared.error.Error.TheVariants.{Memory};
+ghost use Rattle.sshkey_padding.specs.Padding.{padding};
 ghost use Rattle.allowed_signers.specs.AllowedSigners.{AllowsSigner, AnswersYesOrNo, Counts, HasEntryFor, HasSignature, HasSigned, IsAllowed, IsEntryFor, IsNo, IsRefusalFor, IsWhy, OkExactly, OptionsPermit, ReadsSignature, SpelledBySome};
 
 use crate::line::split_principals;
@@ -17,6 +18,7 @@ use sshkey_entries::laws::one_authorized_line;
 use sshkey_entries::{LetterCase, NonBlankLines, matches_pattern_list};
 use sshkey_keys::{KeyData, RawVerifier};
 use sshkey_krl::Revocations;
+use sshkey_padding::Padding;
 use sshkey_sshsig::SshSig;
 use sshkey_sshsig::laws::{one_ssh_signature, signed_parts_fit};
 use std::alloc::Global;
@@ -65,7 +67,9 @@ pub enum SignerRefusal {
 /// allocation for what stands in front of their fault failed: a length that they only state
 /// allocates nothing. One with reserved bytes is not verified. One by a security key counts
 /// whatever its flags say, also where nobody touched it, as for ssh-keygen: the flags are the fifth
-/// byte from the end of `Signature::as_bytes`, and the bit 0x01 says that somebody did. Keys that
+/// byte from the end of `Signature::as_bytes`, and the bit 0x01 says that somebody did. The verifier
+/// is asked about an RSA signature with the zeros in front that its signer left out, as ssh-keygen
+/// verifies it (`sshkey_padding::Padding`). Keys that
 /// ssh-keygen does not read are left to the verifier: RSA keys of fewer than 1,024 bits or more
 /// than 16,384, keys with negative numbers, and points that are compressed or not on their curve.
 pub fn verify<R: Revocations, V: RawVerifier>(
@@ -79,11 +83,12 @@ pub fn verify<R: Revocations, V: RawVerifier>(
     revocations: &R,
     verifier: &V,
 ) -> std::result::Result<(), SignerRefusal>
-    ensures exactly { OkExactly (HasSignature signature.now (Counts (V.accepts verifier.now)
+    ensures exactly { OkExactly (HasSignature signature.now (Counts
+        (padding (V.accepts verifier.now)) (R.revokes_key revocations.now) signers.now identity.now
+        namespace.now message.now unix_timestamp)) result }
+    ensures refused { IfErr result (IsWhy (padding (V.accepts verifier.now))
         (R.revokes_key revocations.now) signers.now identity.now namespace.now message.now
-        unix_timestamp)) result }
-    ensures refused { IfErr result (IsWhy (V.accepts verifier.now) (R.revokes_key revocations.now)
-        signers.now identity.now namespace.now message.now unix_timestamp signature.now) }
+        unix_timestamp signature.now) }
 {
     one_ssh_signature();
     let signature = read_signature(alloc, signature)?;
@@ -103,7 +108,8 @@ pub fn verify<R: Revocations, V: RawVerifier>(
     if revoked {
         return Err(SignerRefusal::Revoked);
     }
-    let Ok(signed) = has_signed(alloc, &signature, namespace, message, verifier) else {
+    let padding = Padding { verifier };
+    let Ok(signed) = has_signed(alloc, &signature, namespace, message, &padding) else {
         return Err(SignerRefusal::Memory);
     };
     if !signed {

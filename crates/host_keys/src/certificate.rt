@@ -8,6 +8,7 @@ ghost use Rattle.sshkey_model.specs.Certificates.{IsCertificate, normal_certific
 ghost use Rattle.sshkey_model.specs.Keys.{normal_key};
 ghost use Rattle.sshkey_model.specs.Parts.{BoxesFit, flat};
 ghost use Rattle.sshkey_model.specs.Refusals.{first_refusal_for};
+ghost use Rattle.sshkey_padding.specs.Padding.{padding};
 ghost use Rattle.host_keys.specs.Answers.{AsksOf, IsWhyNoCertificate, OkExactly, RefusesAsked, RefusesHostCertificate};
 ghost use Rattle.host_keys.specs.Hosts.{AreForHosts, HasHostFields, HasOtherField, IsBadFor, IsGoodFor, IsHostCertificate, IsTrustedCertificate, OfAsked, lines_of, login_of, plain_name, signers};
 ghost use Rattle.host_keys.specs.declared.refusal.HostRefusal.TheVariants as refusal;
@@ -25,6 +26,7 @@ use sshkey_keys::RawVerifier;
 use sshkey_known_hosts::HostHasher;
 use sshkey_krl::Revocations;
 use sshkey_model::laws::key_fits;
+use sshkey_padding::Padding;
 use std::alloc::Global;
 
 /// Accepts the certificate that a host shows, in its bytes, if all of these hold:
@@ -55,7 +57,9 @@ use std::alloc::Global;
 /// - `Invalid` with the first refusal (`Certificate::first_refusal_for`), which is never
 ///   `Authority`.
 ///
-/// So the verifier is asked only about a certificate by an authority of the host.
+/// So the verifier is asked only about a certificate by an authority of the host. It is asked about
+/// an RSA signature with the zeros in front that the authority left out, as ssh(1) verifies it
+/// (`sshkey_padding::Padding`).
 ///
 /// If it would refuse a host at another port than 22 with `Unknown`, it asks, as ssh(1) does, all
 /// the texts about the host's plain name. Whether the certified key is one that the host is known
@@ -72,10 +76,10 @@ pub fn check_certificate<H: HostHasher, R: Revocations, V: RawVerifier>(
     verifier: &V,
 ) -> Result<(), HostRefusal>
     ensures exactly { OkExactly (IsHostCertificate (login_of login.now (H.hmac hmac.now))
-        (V.accepts verifier.now) (R.revokes revocations.now) certificate.now) result }
+        (padding (V.accepts verifier.now)) (R.revokes revocations.now) certificate.now) result }
     ensures refused { IfErr result (λ r. r ≢ refusal.Memory → RefusesHostCertificate
-        (login_of login.now (H.hmac hmac.now)) (V.accepts verifier.now) (R.revokes revocations.now)
-        certificate.now r) }
+        (login_of login.now (H.hmac hmac.now)) (padding (V.accepts verifier.now))
+        (R.revokes revocations.now) certificate.now r) }
     ensures asks { AsksOf (certificate_format.needs certificate.now 0
         ⊎ (is_like_address login.now.host.now ≡ true)) (R.revokes_none revocations.now)
         (lines_of login.now.texts.now) result }
@@ -88,7 +92,8 @@ pub fn check_certificate<H: HostHasher, R: Revocations, V: RawVerifier>(
     if !is_normal_form(&read, certificate) {
         return Err(HostRefusal::NotNormalForm);
     }
-    judge(alloc, login, &read, hmac, revocations, verifier)
+    let padding = Padding { verifier };
+    judge(alloc, login, &read, hmac, revocations, &padding)
 }
 
 /// Accepts the certificate if it is the host's.

@@ -6,6 +6,7 @@ ghost use Rattle.sshkey_cert.specs.Validity.{fingerprints_of};
 ghost use Rattle.sshkey_keys.specs.Keys.{key_of};
 ghost use Rattle.sshkey_model.specs.Certificates.{IsCertificate};
 ghost use Rattle.sshkey_model.specs.Keys.{IsKey};
+ghost use Rattle.sshkey_padding.specs.Padding.{padding};
 ghost use Rattle.login_policy.specs.Logins.{GrantsExactly, HasRightFields, login_of};
 ghost use Rattle.login_policy.specs.Refusals.{HasWrongField, NeedsMemory, RefusesLogin, invalid};
 ghost use Rattle.login_policy.specs.declared.refusal.LoginRefusal.TheVariants.{Memory};
@@ -26,6 +27,7 @@ use sshkey_cert_form::is_normal_form;
 use sshkey_keys::{Fingerprint, KeyData, RawVerifier};
 use sshkey_krl::Revocations;
 use sshkey_model::laws::certificates::refused_or_wanted;
+use sshkey_padding::Padding;
 use std::alloc::Global;
 
 /// A login that is asked for, and whom the server trusts.
@@ -86,7 +88,9 @@ pub struct Login<'a> {
 /// For bytes that are no certificate, `Memory` means what it means for `Certificate::from_bytes`.
 ///
 /// The verifier is asked only about a certificate by one of the authorities that is not revoked: a
-/// key that a client made and signed with never reaches it.
+/// key that a client made and signed with never reaches it. It is asked about an RSA signature with
+/// the zeros in front that the authority left out, as sshd(8) verifies it
+/// (`sshkey_padding::Padding`).
 ///
 /// Who knows of no revocation writes `NoRevocations`. Pass on what reading a list gave: an `Err`
 /// revokes every certificate.
@@ -105,9 +109,10 @@ pub fn log_in<R: Revocations, V: RawVerifier>(
 ) -> Result<Grant, LoginRefusal>
     requires { IsKey (key_of login.now.offered.now) }
     ensures exactly { GrantsExactly
-        (login_of login.now (V.accepts verifier.now) (R.revokes revocations.now)) result }
+        (login_of login.now (padding (V.accepts verifier.now)) (R.revokes revocations.now))
+        result }
     ensures refused { IfErr result (λ r. r ≢ Memory → RefusesLogin
-        (login_of login.now (V.accepts verifier.now) (R.revokes revocations.now)) r) }
+        (login_of login.now (padding (V.accepts verifier.now)) (R.revokes revocations.now)) r) }
     ensures memory { IfErr result (λ r. r ≡ Memory
         → NeedsMemory (fingerprints_of login.now.authorities.now) login.now.certificate.now) }
 {
@@ -123,7 +128,8 @@ pub fn log_in<R: Revocations, V: RawVerifier>(
         login.offered,
         login.least_rsa_bits,
     )?;
-    let authority = validate(alloc, &certificate, login, revocations, verifier)?;
+    let padding = Padding { verifier };
+    let authority = validate(alloc, &certificate, login, revocations, &padding)?;
     if !is_allowed_from(certificate.critical_options(), login.client) {
         return Err(LoginRefusal::Elsewhere);
     }

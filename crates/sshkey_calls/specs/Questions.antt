@@ -5,21 +5,22 @@ use Rattle.sshkey_model.specs.Keys.{normal_key}
 use Rattle.sshkey_model.specs.Parts.{flat}
 use Rattle.sshkey_model.specs.Verification as model
 use Rattle.sshkey_cert.specs.Questions.{certificate_question}
+use Rattle.sshkey_padding.specs.Padding.{padded_blob}
 use Rattle.sshkey_calls.specs.Numbers.{algorithm_number}
 use Rattle.sshkey_calls.specs.Outcomes.{TellsOf}
 use Rattle.sshkey_calls.specs.Rooms.{GivesValue, IsPlaced}
 use Rattle.sshkey_calls.specs.declared.question.Question.{Question}
 
--- its parts, one after the other
+-- its parts, one after the other, an RSA signature with the zeros in front that its signer left out
 abbrev pub question_bytes : model.Question → List ℕ
-question_bytes q = flat (normal_key q.key) ++ (q.message ++ q.blob)
+question_bytes q = flat (normal_key q.key) ++ (q.message ++ padded_blob q.key q.blob)
 
 -- The answer says where each of them is, how many bytes they take, and the algorithm.
 pub record ArePlaced (q : model.Question) (answer : Question) : Type 0 where
   pub algorithm : answer.algorithm ≡ algorithm_number q.algorithm
   pub key : IsPlaced 0 (flat (normal_key q.key)) answer.key
   pub message : IsPlaced (length (flat (normal_key q.key))) q.message answer.message
-  pub signature : IsPlaced (length (flat (normal_key q.key)) + length q.message) q.blob answer.signature
+  pub signature : IsPlaced (length (flat (normal_key q.key)) + length q.message) (padded_blob q.key q.blob) answer.signature
   pub length : answer.length ≡ length (question_bytes q)
 
 -- What a call answers that looks for the one question that `Raised` tells.

@@ -12,6 +12,7 @@ use crate::part::{self, Part, add, add_encoded};
 use sshkey_base::Result;
 use sshkey_cert_ref::CertificateRef;
 use sshkey_keys::{Question as Asked, SignatureQuestion};
+use sshkey_padding::padded_signature;
 use std::alloc::Global;
 
 /// What has to be verified: that the signature is one of the message under the key, by the
@@ -24,7 +25,9 @@ pub struct Question {
     /// The message that was signed.
     pub message: Part,
     /// The bytes of the signature, in the form that the algorithm has (RFC 4253, section 6.6;
-    /// RFC 5656, section 3.1.2; RFC 8709, section 6).
+    /// RFC 5656, section 3.1.2; RFC 8709, section 6). One by RSA has at least as many bytes as the
+    /// modulus, up to 16,384 bits: in front are the zeros that its signer left out (RFC 8332,
+    /// section 3).
     pub signature: Part,
     /// How many bytes of the room this takes.
     pub length: usize,
@@ -115,19 +118,18 @@ pub(crate) fn answer_with(
     part::answer_with(lay_out_question(alloc, question), room, answer)
 }
 
-/// The bytes of the question's parts, one after the other, and where they are.
+/// The bytes of the question's parts, one after the other, and where they are. An RSA signature has
+/// the zeros in front that its signer left out.
 fn lay_out_question(alloc: Global, question: &Asked<'_>) -> Result<(Vec<u8>, Question)>
     ensures { IfOk result (λ laid. IsLaidOut question_bytes ArePlaced (question_of question.now)
         laid.0.items laid.1) }
 {
-    let after = question
-        .message()
-        .len()
-        .saturating_add(question.signature().len());
+    let padded = padded_signature(alloc, question.key(), question.signature())?;
+    let after = question.message().len().saturating_add(padded.len());
     let mut content = part::with_capacity(alloc, question.key(), after)?;
     let key = add_encoded(question.key(), &mut content)?;
     let message = add(question.message(), &mut content)?;
-    let signature = add(question.signature(), &mut content)?;
+    let signature = add(&padded, &mut content)?;
     let length = content.len();
     Ok((
         content,

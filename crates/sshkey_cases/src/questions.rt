@@ -199,6 +199,7 @@ fn answer_of_messages(alloc: Global, question: &str, parts: &[Vec<u8>]) -> Resul
         "drawn-certificate" => drawn::certificate(alloc, bytes),
         "login" => requests::told(alloc, bytes),
         "login-question" => requests::asked(alloc, parts),
+        "known-login" => requests::known(alloc, parts),
         _ => answer_of_slices(alloc, question, parts),
     }
 }

@@ -1,10 +1,12 @@
 //! What clients sign for logins.
 
 use crate::bytes::{part, text};
+use crate::signatures::knower;
 use sshkey_base::{Error, Result};
 use sshkey_doubles::{AcceptAll, RefuseAll};
 use sshkey_keys::{Signature, SignatureQuestion};
-use sshkey_userauth::{Refusal, Requirements, UserauthRequest};
+use sshkey_padding::Padding;
+use sshkey_userauth::{Requirements, UserauthRefusal, UserauthRequest};
 use std::alloc::Global;
 
 /// The parts of the request that all the bytes spell, each with how many bytes it has or its text,
@@ -37,9 +39,30 @@ pub(crate) fn asked(alloc: Global, parts: &[Vec<u8>]) -> Result<String> {
     )
 }
 
+/// Whether a verifier that knows one signature, of the request that the second byte string spells,
+/// accepts for it the signature that the fourth spells, as `Padding` asks it.
+pub(crate) fn known(alloc: Global, parts: &[Vec<u8>]) -> Result<String> {
+    let knower = knower(alloc, parts)?;
+    let bytes = part(parts, 1);
+    let request = UserauthRequest::from_bytes(bytes)?;
+    let signature = Signature::from_bytes(alloc, part(parts, 3))?;
+    let required = Requirements {
+        touch_required: false,
+        verify_required: false,
+    };
+    match request.question(alloc, bytes, signature, required) {
+        Ok(question) => {
+            let yes = question.is_accepted(&Padding { verifier: &knower })?;
+            Ok(format!(in alloc; "{yes}")?)
+        }
+        Err(UserauthRefusal::Memory) => Err(Error::Memory),
+        Err(refusal) => Ok(format!(in alloc; "{refusal:?}")?),
+    }
+}
+
 fn said(
     alloc: Global,
-    answer: std::result::Result<SignatureQuestion<'_>, Refusal>,
+    answer: std::result::Result<SignatureQuestion<'_>, UserauthRefusal>,
 ) -> Result<String> {
     match answer {
         Ok(question) => {
@@ -47,7 +70,7 @@ fn said(
             let no = question.is_accepted(&RefuseAll)?;
             Ok(format!(in alloc; "asked, {yes} or {no}")?)
         }
-        Err(Refusal::Memory) => Err(Error::Memory),
+        Err(UserauthRefusal::Memory) => Err(Error::Memory),
         Err(refusal) => Ok(format!(in alloc; "{refusal:?}")?),
     }
 }

@@ -5,6 +5,7 @@ ghost use Rattle.login_terms.specs.Terms.{terms_of};
 ghost use Rattle.sshkey_cert.specs.CertificateValues.{certificate_of};
 ghost use Rattle.sshkey_keys.specs.Keys.{key_of};
 ghost use Rattle.sshkey_model.specs.Keys.{IsKey};
+ghost use Rattle.sshkey_padding.specs.Padding.{padding};
 ghost use Rattle.user_keys.specs.Answers.{GrantsExactly};
 ghost use Rattle.user_keys.specs.CertificateLogins.{AdmitsCertificate, IsAsStrictWith, IsWhyNoCertificate, NeedsMemory, login_with};
 ghost use Rattle.user_keys.specs.Certificates.{judged_by, judged_with};
@@ -59,14 +60,14 @@ pub fn log_in_by_certificate<R: Revocations, V: RawVerifier>(
 ) -> Result<UserGrant, UserRefusal>
     requires { IsKey (key_of login.now.offered.now) }
     ensures exactly { GrantsExactly (AdmitsCertificate (login_with login.now certificate.now
-        (V.accepts verifier.now) (R.revokes revocations.now))) result }
+        (padding (V.accepts verifier.now)) (R.revokes revocations.now))) result }
     ensures as_strict { IfOk result (IsAsStrictWith (login_with login.now certificate.now
-        (V.accepts verifier.now) (R.revokes revocations.now))) }
+        (padding (V.accepts verifier.now)) (R.revokes revocations.now))) }
     ensures refused { IfErr result (λ r. r ≢ refusal.Memory
-        → IsWhyNoCertificate (login_with login.now certificate.now (V.accepts verifier.now)
+        → IsWhyNoCertificate (login_with login.now certificate.now (padding (V.accepts verifier.now))
         (R.revokes revocations.now)) r) }
     ensures asks { IfErr result (λ r. r ≡ refusal.Memory → NeedsMemory (login_with login.now
-        certificate.now (V.accepts verifier.now) (R.revokes revocations.now))) }
+        certificate.now (padding (V.accepts verifier.now)) (R.revokes revocations.now))) }
 {
     one_certificate();
     let read = read_certificate(alloc, certificate)?;

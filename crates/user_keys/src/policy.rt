@@ -7,6 +7,7 @@ ghost use Rattle.sshkey_cert.specs.CertificateValues.{certificate_of};
 ghost use Rattle.sshkey_cert.specs.Validity.{fingerprints_of};
 ghost use Rattle.sshkey_keys.specs.Keys.{key_of};
 ghost use Rattle.sshkey_model.specs.Keys.{IsKey};
+ghost use Rattle.sshkey_padding.specs.Padding.{padding};
 ghost use Rattle.user_keys.specs.CertificateLogins.{IsWhyUnread, PolicyGrants, RefusesByPolicy, client_of, login_with, policy_login};
 ghost use Rattle.user_keys.specs.declared.refusal.UserRefusal.TheVariants as refusal;
 
@@ -50,10 +51,11 @@ pub(crate) fn log_in_as<R: Revocations, V: RawVerifier>(
 ) -> Result<login_policy::Grant, UserRefusal>
     requires { IsKey (key_of login.now.offered.now) }
     ensures exactly { PolicyGrants (policy_login (login_with login.now certificate.now
-        (V.accepts verifier.now) (R.revokes revocations.now)) (fingerprints_of authorities.now)
-        name.now) result }
+        (padding (V.accepts verifier.now)) (R.revokes revocations.now))
+        (fingerprints_of authorities.now) name.now) result }
     ensures refused { IfErr result (λ r. r ≢ refusal.Memory → RefusesByPolicy (policy_login
-        (login_with login.now certificate.now (V.accepts verifier.now) (R.revokes revocations.now))
+        (login_with login.now certificate.now (padding (V.accepts verifier.now))
+        (R.revokes revocations.now))
         (fingerprints_of authorities.now) name.now) r) }
 {
     let granted = log_in(

@@ -9,6 +9,7 @@ ghost use Rattle.sshkey_cert.specs.CertificateValues.{certificate_of};
 ghost use Rattle.sshkey_cert.specs.Validity.{fingerprints_of};
 ghost use Rattle.sshkey_keys.specs.Keys.{key_of};
 ghost use Rattle.sshkey_model.specs.Keys.{IsKey};
+ghost use Rattle.sshkey_padding.specs.Padding.{padding};
 ghost use Rattle.user_keys.specs.Answers.{GrantsExactly};
 ghost use Rattle.user_keys.specs.PrincipalLogins.{AdmitsPrincipal, ChecksTerms, FindsDecision, IsAsStrictInPlace, IsWhyNoPrincipal, NeedsMemoryInPlace, judged_in_place, principal_login};
 ghost use Rattle.user_keys.specs.Principals.{DecidesBy, MayDecideBy, is_principal, lines_at_feeds, names_principal};
@@ -73,16 +74,17 @@ pub fn log_in_by_principal<R: Revocations, V: RawVerifier>(
 ) -> Result<UserGrant, UserRefusal>
     requires { IsKey (key_of login.now.offered.now) }
     ensures exactly { GrantsExactly (AdmitsPrincipal (principal_login login.now certificate.now
-        (V.accepts verifier.now) (R.revokes revocations.now)) (fingerprints_of authorities.now))
-        result }
+        (padding (V.accepts verifier.now)) (R.revokes revocations.now))
+        (fingerprints_of authorities.now)) result }
     ensures as_strict { IfOk result (IsAsStrictInPlace (principal_login login.now certificate.now
-        (V.accepts verifier.now) (R.revokes revocations.now))) }
+        (padding (V.accepts verifier.now)) (R.revokes revocations.now))) }
     ensures refused { IfErr result (λ r. r ≢ refusal.Memory
-        → IsWhyNoPrincipal (principal_login login.now certificate.now (V.accepts verifier.now)
-        (R.revokes revocations.now)) (fingerprints_of authorities.now) r) }
+        → IsWhyNoPrincipal (principal_login login.now certificate.now
+        (padding (V.accepts verifier.now)) (R.revokes revocations.now))
+        (fingerprints_of authorities.now) r) }
     ensures asks { IfErr result (λ r. r ≡ refusal.Memory
-        → NeedsMemoryInPlace (principal_login login.now certificate.now (V.accepts verifier.now)
-        (R.revokes revocations.now))) }
+        → NeedsMemoryInPlace (principal_login login.now certificate.now
+        (padding (V.accepts verifier.now)) (R.revokes revocations.now))) }
 {
     one_certificate();
     let read = read_certificate(alloc, certificate)?;

@@ -6,6 +6,7 @@ use Rattle.sshkey_model.specs.Parts.{flat}
 use Rattle.sshkey_model.specs.Verification.{Question}
 use Rattle.sshkey_base.proofs.Acceptance.{other_cause}
 use Rattle.sshkey_addresses.specs.Likeness.{is_like_address}
+use Rattle.sshkey_padding.specs.Padding.{padding}
 use Rattle.host_keys.specs.Answers.{IsWhyNoCertificate, RefusesAsked, RefusesHostCertificate}
 use Rattle.host_keys.specs.Hosts.{HostCheck, IsHostCertificate, IsTrustedCertificate, OfAsked, lines_of, login_of}
 use Rattle.host_keys.specs.declared.refusal.HostRefusal.{HostRefusal}
@@ -33,7 +34,7 @@ returns-then-not-is_normal_form-clause-refused g c = λ other. inr (certificate_
 pub returns-clause-exactly : goal.returns-clause-exactly
 returns-clause-exactly g c =
     let login = login_of c.args.login.now (g.H.HostHasher.hmac c.args.hmac.now) in
-    let accepts = g.V.RawVerifier.accepts c.args.verifier.now in
+    let accepts = padding (g.V.RawVerifier.accepts c.args.verifier.now) in
     let revokes = g.R.Revocations.revokes c.args.revocations.now in
     as_much {P = OfAsked login (λ asked. IsTrustedCertificate asked accepts revokes (certificate_of c.in-Ok.read))} {Q = IsHostCertificate login accepts revokes c.args.certificate.now} _
     (λ trusted. record { certificate = certificate_of c.in-Ok.read; spelled = c.in-Ok.ensures.accepts.spelled; normal = c.is_normal_form.ensures.0 c.if-not-is_normal_form.false; trusted = trusted })
@@ -48,7 +49,7 @@ module _ (login : HostCheck) (accepts : Question → Bool) (revokes : List ℕ �
   refused (Err e) why = λ other. inr (d, spelled, inr (normal, why))
 
 pub returns-clause-refused : goal.returns-clause-refused
-returns-clause-refused g c = refused (login_of c.args.login.now (g.H.HostHasher.hmac c.args.hmac.now)) (g.V.RawVerifier.accepts c.args.verifier.now) (g.R.Revocations.revokes c.args.revocations.now) c.args.certificate.now (certificate_of c.in-Ok.read) c.in-Ok.ensures.accepts.spelled (c.is_normal_form.ensures.0 c.if-not-is_normal_form.false) c.judge.result c.judge.ensures.refused
+returns-clause-refused g c = refused (login_of c.args.login.now (g.H.HostHasher.hmac c.args.hmac.now)) (padding (g.V.RawVerifier.accepts c.args.verifier.now)) (g.R.Revocations.revokes c.args.revocations.now) c.args.certificate.now (certificate_of c.in-Ok.read) c.in-Ok.ensures.accepts.spelled (c.is_normal_form.ensures.0 c.if-not-is_normal_form.false) c.judge.result c.judge.ensures.refused
 
 pub returns-clause-asks : goal.returns-clause-asks
 returns-clause-asks g c = asks_more (is_like_address c.args.login.now.host.now ≡ true) (certificate_format.needs c.args.certificate.now 0 ⊎ (is_like_address c.args.login.now.host.now ≡ true)) inr (g.R.Revocations.revokes_none c.args.revocations.now) (lines_of c.args.login.now.texts.now) c.judge.result c.judge.ensures.asks

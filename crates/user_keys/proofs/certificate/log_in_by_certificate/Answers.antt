@@ -7,6 +7,7 @@ use Rattle.sshkey_keys.specs.Fingerprints.{IsFingerprint}
 use Rattle.sshkey_model.specs.Fingerprints.{Fingerprint}
 use Rattle.sshkey_model.specs.Keys.{IsKey, Key}
 use Rattle.sshkey_model.specs.Names.{Sha256}
+use Rattle.sshkey_padding.specs.Padding.{padding}
 use Rattle.user_keys.specs.CertificateLogins.{IsLineFor, PolicyGrants, RefusesByPolicy, by, login_with, policy_login, signer}
 use Rattle.user_keys.specs.Certificates.{name_for, name_listed}
 use Rattle.user_keys.specs.UserLogins.{Lets, MayLet}
@@ -16,7 +17,7 @@ use Rattle.user_keys.proofs.certificate.log_in_by_certificate.Goals as goal
 
 pub returns-in_err-read-clause-exactly : goal.returns-in_err-read-clause-exactly
 returns-in_err-read-clause-exactly g c =
-    let l = login_with c.args.login.now c.args.certificate.now (g.V.RawVerifier.accepts c.args.verifier.now) (g.R.Revocations.revokes c.args.revocations.now) in
+    let l = login_with c.args.login.now c.args.certificate.now (padding (g.V.RawVerifier.accepts c.args.verifier.now)) (g.R.Revocations.revokes c.args.revocations.now) in
     let p = err_from_is_err_and c.from_residual.result c.from_residual.ensures.1 in
     let one = c.one_certificate.ensures in
     rw (p.1, p.2) (λ other. unread one (IsLineFor l.login) signer l c.in_err-read.field-0.0 (c.in_err-read.ensures.refused other))
@@ -28,7 +29,7 @@ returns-in_err-read-clause-refused g c =
 
 pub returns-in_err-first-clause-exactly : goal.returns-in_err-first-clause-exactly
 returns-in_err-first-clause-exactly g c =
-    let l = login_with c.args.login.now c.args.certificate.now (g.V.RawVerifier.accepts c.args.verifier.now) (g.R.Revocations.revokes c.args.revocations.now) in
+    let l = login_with c.args.login.now c.args.certificate.now (padding (g.V.RawVerifier.accepts c.args.verifier.now)) (g.R.Revocations.revokes c.args.revocations.now) in
     let k = certificate_of c.in_ok-read.read in
     let spelled = c.in_ok-read.ensures.reads.0 in
     let one = c.one_certificate.ensures in
@@ -37,7 +38,7 @@ returns-in_err-first-clause-exactly g c =
 
 pub returns-in_err-first-clause-refused : goal.returns-in_err-first-clause-refused
 returns-in_err-first-clause-refused g c =
-    let l = login_with c.args.login.now c.args.certificate.now (g.V.RawVerifier.accepts c.args.verifier.now) (g.R.Revocations.revokes c.args.revocations.now) in
+    let l = login_with c.args.login.now c.args.certificate.now (padding (g.V.RawVerifier.accepts c.args.verifier.now)) (g.R.Revocations.revokes c.args.revocations.now) in
     let k = certificate_of c.in_ok-read.read in
     let spelled = c.in_ok-read.ensures.reads.0 in
     let one = c.one_certificate.ensures in
@@ -47,7 +48,7 @@ returns-in_err-first-clause-refused g c =
 
 pub returns-in_default-clause-exactly : goal.returns-in_default-clause-exactly
 returns-in_default-clause-exactly g c =
-    let l = login_with c.args.login.now c.args.certificate.now (g.V.RawVerifier.accepts c.args.verifier.now) (g.R.Revocations.revokes c.args.revocations.now) in
+    let l = login_with c.args.login.now c.args.certificate.now (padding (g.V.RawVerifier.accepts c.args.verifier.now)) (g.R.Revocations.revokes c.args.revocations.now) in
     let k = certificate_of c.in_ok-read.read in
     let spelled = c.in_ok-read.ensures.reads.0 in
     let one = c.one_certificate.ensures in
@@ -58,7 +59,7 @@ returns-in_default-clause-exactly g c =
 
 pub returns-in_default-clause-refused : goal.returns-in_default-clause-refused
 returns-in_default-clause-refused g c =
-    let l = login_with c.args.login.now c.args.certificate.now (g.V.RawVerifier.accepts c.args.verifier.now) (g.R.Revocations.revokes c.args.revocations.now) in
+    let l = login_with c.args.login.now c.args.certificate.now (padding (g.V.RawVerifier.accepts c.args.verifier.now)) (g.R.Revocations.revokes c.args.revocations.now) in
     let k = certificate_of c.in_ok-read.read in
     let spelled = c.in_ok-read.ensures.reads.0 in
     let one = c.one_certificate.ensures in
@@ -69,7 +70,7 @@ returns-in_default-clause-refused g c =
 
 pub returns-in_default-fingerprint-clause-asks : goal.returns-in_default-fingerprint-clause-asks
 returns-in_default-fingerprint-clause-asks g c =
-    let l = login_with c.args.login.now c.args.certificate.now (g.V.RawVerifier.accepts c.args.verifier.now) (g.R.Revocations.revokes c.args.revocations.now) in
+    let l = login_with c.args.login.now c.args.certificate.now (padding (g.V.RawVerifier.accepts c.args.verifier.now)) (g.R.Revocations.revokes c.args.revocations.now) in
     let k = certificate_of c.in_ok-read.read in
     let spelled = c.in_ok-read.ensures.reads.0 in
     let one = c.one_certificate.ensures in
@@ -80,7 +81,7 @@ returns-in_default-fingerprint-clause-asks g c =
 
 pub returns-in_err-granted-clause-exactly : goal.returns-in_err-granted-clause-exactly
 returns-in_err-granted-clause-exactly g c =
-    let l = login_with c.args.login.now c.args.certificate.now (g.V.RawVerifier.accepts c.args.verifier.now) (g.R.Revocations.revokes c.args.revocations.now) in
+    let l = login_with c.args.login.now c.args.certificate.now (padding (g.V.RawVerifier.accepts c.args.verifier.now)) (g.R.Revocations.revokes c.args.revocations.now) in
     let k = certificate_of c.in_ok-read.read in
     let spelled = c.in_ok-read.ensures.reads.0 in
     let one = c.one_certificate.ensures in
@@ -93,7 +94,7 @@ returns-in_err-granted-clause-exactly g c =
 
 pub returns-in_err-granted-clause-refused : goal.returns-in_err-granted-clause-refused
 returns-in_err-granted-clause-refused g c =
-    let l = login_with c.args.login.now c.args.certificate.now (g.V.RawVerifier.accepts c.args.verifier.now) (g.R.Revocations.revokes c.args.revocations.now) in
+    let l = login_with c.args.login.now c.args.certificate.now (padding (g.V.RawVerifier.accepts c.args.verifier.now)) (g.R.Revocations.revokes c.args.revocations.now) in
     let k = certificate_of c.in_ok-read.read in
     let spelled = c.in_ok-read.ensures.reads.0 in
     let one = c.one_certificate.ensures in
@@ -107,7 +108,7 @@ returns-in_err-granted-clause-refused g c =
 
 pub returns-in_err-granted-clause-asks : goal.returns-in_err-granted-clause-asks
 returns-in_err-granted-clause-asks g c =
-    let l = login_with c.args.login.now c.args.certificate.now (g.V.RawVerifier.accepts c.args.verifier.now) (g.R.Revocations.revokes c.args.revocations.now) in
+    let l = login_with c.args.login.now c.args.certificate.now (padding (g.V.RawVerifier.accepts c.args.verifier.now)) (g.R.Revocations.revokes c.args.revocations.now) in
     let k = certificate_of c.in_ok-read.read in
     let spelled = c.in_ok-read.ensures.reads.0 in
     let one = c.one_certificate.ensures in
@@ -119,7 +120,7 @@ returns-in_err-granted-clause-asks g c =
 
 pub returns-clause-exactly : goal.returns-clause-exactly
 returns-clause-exactly g c =
-    let l = login_with c.args.login.now c.args.certificate.now (g.V.RawVerifier.accepts c.args.verifier.now) (g.R.Revocations.revokes c.args.revocations.now) in
+    let l = login_with c.args.login.now c.args.certificate.now (padding (g.V.RawVerifier.accepts c.args.verifier.now)) (g.R.Revocations.revokes c.args.revocations.now) in
     let k = certificate_of c.in_ok-read.read in
     let spelled = c.in_ok-read.ensures.reads.0 in
     let one = c.one_certificate.ensures in
@@ -133,7 +134,7 @@ returns-clause-exactly g c =
 
 pub returns-clause-as_strict : goal.returns-clause-as_strict
 returns-clause-as_strict g c =
-    let l = login_with c.args.login.now c.args.certificate.now (g.V.RawVerifier.accepts c.args.verifier.now) (g.R.Revocations.revokes c.args.revocations.now) in
+    let l = login_with c.args.login.now c.args.certificate.now (padding (g.V.RawVerifier.accepts c.args.verifier.now)) (g.R.Revocations.revokes c.args.revocations.now) in
     let k = certificate_of c.in_ok-read.read in
     let spelled = c.in_ok-read.ensures.reads.0 in
     let one = c.one_certificate.ensures in

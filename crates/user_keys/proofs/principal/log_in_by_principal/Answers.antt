@@ -3,6 +3,7 @@ use Rattle.std.proofs.lemmas.Result.{err_from_is_err_and}
 use Rattle.login_terms.specs.Terms.{terms_of}
 use Rattle.sshkey_cert.specs.CertificateValues.{certificate_of}
 use Rattle.sshkey_cert.specs.Validity.{fingerprints_of}
+use Rattle.sshkey_padding.specs.Padding.{padding}
 use Rattle.user_keys.specs.PrincipalLogins.{DecidesFirst, IsPrincipalLine, principal_login}
 use Rattle.user_keys.specs.Principals.{Decides, MayDecide}
 use Rattle.user_keys.proofs.CertificateLogins.{admitted, strict_by, unlisted, unread, unwanted}
@@ -11,7 +12,7 @@ use Rattle.user_keys.proofs.principal.log_in_by_principal.Goals as goal
 
 pub returns-in_err-read-clause-exactly : goal.returns-in_err-read-clause-exactly
 returns-in_err-read-clause-exactly g c =
-    let l = principal_login c.args.login.now c.args.certificate.now (g.V.RawVerifier.accepts c.args.verifier.now) (g.R.Revocations.revokes c.args.revocations.now) in
+    let l = principal_login c.args.login.now c.args.certificate.now (padding (g.V.RawVerifier.accepts c.args.verifier.now)) (g.R.Revocations.revokes c.args.revocations.now) in
     let trusted = fingerprints_of c.args.authorities.now in
     let one = c.one_certificate.ensures in
     let p = err_from_is_err_and c.from_residual.result c.from_residual.ensures.1 in
@@ -24,7 +25,7 @@ returns-in_err-read-clause-refused g c =
 
 pub returns-in-Err-clause-exactly : goal.returns-in-Err-clause-exactly
 returns-in-Err-clause-exactly g c =
-    let l = principal_login c.args.login.now c.args.certificate.now (g.V.RawVerifier.accepts c.args.verifier.now) (g.R.Revocations.revokes c.args.revocations.now) in
+    let l = principal_login c.args.login.now c.args.certificate.now (padding (g.V.RawVerifier.accepts c.args.verifier.now)) (g.R.Revocations.revokes c.args.revocations.now) in
     let trusted = fingerprints_of c.args.authorities.now in
     let one = c.one_certificate.ensures in
     let k = certificate_of c.in_ok-read.read in
@@ -33,7 +34,7 @@ returns-in-Err-clause-exactly g c =
 
 pub returns-in-Err-clause-refused : goal.returns-in-Err-clause-refused
 returns-in-Err-clause-refused g c =
-    let l = principal_login c.args.login.now c.args.certificate.now (g.V.RawVerifier.accepts c.args.verifier.now) (g.R.Revocations.revokes c.args.revocations.now) in
+    let l = principal_login c.args.login.now c.args.certificate.now (padding (g.V.RawVerifier.accepts c.args.verifier.now)) (g.R.Revocations.revokes c.args.revocations.now) in
     let trusted = fingerprints_of c.args.authorities.now in
     let one = c.one_certificate.ensures in
     let k = certificate_of c.in_ok-read.read in
@@ -43,21 +44,21 @@ returns-in-Err-clause-refused g c =
 
 pub returns-in_default-clause-exactly : goal.returns-in_default-clause-exactly
 returns-in_default-clause-exactly g c =
-    let l = principal_login c.args.login.now c.args.certificate.now (g.V.RawVerifier.accepts c.args.verifier.now) (g.R.Revocations.revokes c.args.revocations.now) in
+    let l = principal_login c.args.login.now c.args.certificate.now (padding (g.V.RawVerifier.accepts c.args.verifier.now)) (g.R.Revocations.revokes c.args.revocations.now) in
     let k = certificate_of c.in_ok-read.read in
     let d = c.in-Ok.decision in
     absurd (unnamed k l.login.lines d.first.line (terms_of d.first.terms) d.name.now c.valid_principals.result.now c.valid_principals.ensures c.in-Ok.ensures.exactly.0 (c.listed_as.ensures.none c.in_default.is))
 
 pub returns-in_default-clause-refused : goal.returns-in_default-clause-refused
 returns-in_default-clause-refused g c =
-    let l = principal_login c.args.login.now c.args.certificate.now (g.V.RawVerifier.accepts c.args.verifier.now) (g.R.Revocations.revokes c.args.revocations.now) in
+    let l = principal_login c.args.login.now c.args.certificate.now (padding (g.V.RawVerifier.accepts c.args.verifier.now)) (g.R.Revocations.revokes c.args.revocations.now) in
     let k = certificate_of c.in_ok-read.read in
     let d = c.in-Ok.decision in
     absurd (unnamed k l.login.lines d.first.line (terms_of d.first.terms) d.name.now c.valid_principals.result.now c.valid_principals.ensures c.in-Ok.ensures.exactly.0 (c.listed_as.ensures.none c.in_default.is))
 
 pub returns-in_err-check_terms-clause-exactly : goal.returns-in_err-check_terms-clause-exactly
 returns-in_err-check_terms-clause-exactly g c =
-    let l = principal_login c.args.login.now c.args.certificate.now (g.V.RawVerifier.accepts c.args.verifier.now) (g.R.Revocations.revokes c.args.revocations.now) in
+    let l = principal_login c.args.login.now c.args.certificate.now (padding (g.V.RawVerifier.accepts c.args.verifier.now)) (g.R.Revocations.revokes c.args.revocations.now) in
     let trusted = fingerprints_of c.args.authorities.now in
     let one = c.one_certificate.ensures in
     let k = certificate_of c.in_ok-read.read in
@@ -70,7 +71,7 @@ returns-in_err-check_terms-clause-exactly g c =
 
 pub returns-in_err-check_terms-clause-refused : goal.returns-in_err-check_terms-clause-refused
 returns-in_err-check_terms-clause-refused g c =
-    let l = principal_login c.args.login.now c.args.certificate.now (g.V.RawVerifier.accepts c.args.verifier.now) (g.R.Revocations.revokes c.args.revocations.now) in
+    let l = principal_login c.args.login.now c.args.certificate.now (padding (g.V.RawVerifier.accepts c.args.verifier.now)) (g.R.Revocations.revokes c.args.revocations.now) in
     let trusted = fingerprints_of c.args.authorities.now in
     let one = c.one_certificate.ensures in
     let k = certificate_of c.in_ok-read.read in
@@ -84,7 +85,7 @@ returns-in_err-check_terms-clause-refused g c =
 
 pub returns-in_err-check_terms-clause-asks : goal.returns-in_err-check_terms-clause-asks
 returns-in_err-check_terms-clause-asks g c =
-    let l = principal_login c.args.login.now c.args.certificate.now (g.V.RawVerifier.accepts c.args.verifier.now) (g.R.Revocations.revokes c.args.revocations.now) in
+    let l = principal_login c.args.login.now c.args.certificate.now (padding (g.V.RawVerifier.accepts c.args.verifier.now)) (g.R.Revocations.revokes c.args.revocations.now) in
     let trusted = fingerprints_of c.args.authorities.now in
     let one = c.one_certificate.ensures in
     let k = certificate_of c.in_ok-read.read in
@@ -97,7 +98,7 @@ returns-in_err-check_terms-clause-asks g c =
 
 pub returns-in_err-granted-clause-exactly : goal.returns-in_err-granted-clause-exactly
 returns-in_err-granted-clause-exactly g c =
-    let l = principal_login c.args.login.now c.args.certificate.now (g.V.RawVerifier.accepts c.args.verifier.now) (g.R.Revocations.revokes c.args.revocations.now) in
+    let l = principal_login c.args.login.now c.args.certificate.now (padding (g.V.RawVerifier.accepts c.args.verifier.now)) (g.R.Revocations.revokes c.args.revocations.now) in
     let trusted = fingerprints_of c.args.authorities.now in
     let one = c.one_certificate.ensures in
     let k = certificate_of c.in_ok-read.read in
@@ -110,7 +111,7 @@ returns-in_err-granted-clause-exactly g c =
 
 pub returns-in_err-granted-clause-refused : goal.returns-in_err-granted-clause-refused
 returns-in_err-granted-clause-refused g c =
-    let l = principal_login c.args.login.now c.args.certificate.now (g.V.RawVerifier.accepts c.args.verifier.now) (g.R.Revocations.revokes c.args.revocations.now) in
+    let l = principal_login c.args.login.now c.args.certificate.now (padding (g.V.RawVerifier.accepts c.args.verifier.now)) (g.R.Revocations.revokes c.args.revocations.now) in
     let trusted = fingerprints_of c.args.authorities.now in
     let one = c.one_certificate.ensures in
     let k = certificate_of c.in_ok-read.read in
@@ -124,7 +125,7 @@ returns-in_err-granted-clause-refused g c =
 
 pub returns-in_err-granted-clause-asks : goal.returns-in_err-granted-clause-asks
 returns-in_err-granted-clause-asks g c =
-    let l = principal_login c.args.login.now c.args.certificate.now (g.V.RawVerifier.accepts c.args.verifier.now) (g.R.Revocations.revokes c.args.revocations.now) in
+    let l = principal_login c.args.login.now c.args.certificate.now (padding (g.V.RawVerifier.accepts c.args.verifier.now)) (g.R.Revocations.revokes c.args.revocations.now) in
     let trusted = fingerprints_of c.args.authorities.now in
     let one = c.one_certificate.ensures in
     let k = certificate_of c.in_ok-read.read in
@@ -137,7 +138,7 @@ returns-in_err-granted-clause-asks g c =
 
 pub returns-clause-exactly : goal.returns-clause-exactly
 returns-clause-exactly g c =
-    let l = principal_login c.args.login.now c.args.certificate.now (g.V.RawVerifier.accepts c.args.verifier.now) (g.R.Revocations.revokes c.args.revocations.now) in
+    let l = principal_login c.args.login.now c.args.certificate.now (padding (g.V.RawVerifier.accepts c.args.verifier.now)) (g.R.Revocations.revokes c.args.revocations.now) in
     let trusted = fingerprints_of c.args.authorities.now in
     let one = c.one_certificate.ensures in
     let k = certificate_of c.in_ok-read.read in
@@ -151,7 +152,7 @@ returns-clause-exactly g c =
 
 pub returns-clause-as_strict : goal.returns-clause-as_strict
 returns-clause-as_strict g c =
-    let l = principal_login c.args.login.now c.args.certificate.now (g.V.RawVerifier.accepts c.args.verifier.now) (g.R.Revocations.revokes c.args.revocations.now) in
+    let l = principal_login c.args.login.now c.args.certificate.now (padding (g.V.RawVerifier.accepts c.args.verifier.now)) (g.R.Revocations.revokes c.args.revocations.now) in
     let trusted = fingerprints_of c.args.authorities.now in
     let one = c.one_certificate.ensures in
     let k = certificate_of c.in_ok-read.read in
