@@ -293,7 +293,8 @@ enum {
   SSHKEY_ASK_P521 = 4, /* with SHA-512 */
   /* after the name the key, 32 bytes; signature: 64 bytes */
   SSHKEY_ASK_ED25519 = 5,
-  /* PKCS#1 v1.5; after the name e and n; signature: an unsigned number, any bytes */
+  /* PKCS#1 v1.5; after the name e and n; signature: an unsigned number, as long as n or longer: a
+   * shorter one has got the zeros in front that its signer left out, under n up to 16,384 bits */
   SSHKEY_ASK_RSA_SHA256 = 6, /* with SHA-256 */
   SSHKEY_ASK_RSA_SHA512 = 7  /* with SHA-512 */
 };
@@ -390,7 +391,7 @@ uint32_t sshkey_strict_mode(uint64_t owner, uint64_t user, uint32_t mode);
  *
  * SSHKEY_DONE exactly if the bytes are a certificate and key and signature go together (memory and
  * room aside); else SSHKEY_UNSUPPORTED, or 10 to 29 for bytes that are no certificate. A room of
- * twice the certificate's length and 256 bytes is enough. */
+ * twice the certificate's length and 2,304 bytes is enough. */
 uint32_t sshkey_certificate_question(const uint8_t *certificate, size_t certificate_length,
                                      uint8_t *room, size_t room_length, sshkey_question *answer);
 
@@ -546,7 +547,7 @@ uint32_t sshkey_fingerprint_sha512_text(const sshkey_sha512 *digest, uint8_t *ro
  *
  * SSHKEY_DONE exactly if the bytes are a key and a signature that go together (memory and room
  * aside); else SSHKEY_UNSUPPORTED, or 10 to 29 for bytes that are no key, or else no signature.
- * SSHKEY_MEMORY only where they are both. A room as long as the three together, and 256 bytes, is
+ * SSHKEY_MEMORY only where they are both. A room as long as the three together, and 2,304 bytes, is
  * enough. */
 uint32_t sshkey_signature_question(const uint8_t *key, size_t key_length, const uint8_t *message,
                                    size_t message_length, const uint8_t *signature,
@@ -610,7 +611,7 @@ typedef struct {
  * SSHKEY_DONE, or SSHKEY_ROOM, only where sshkey_login_verdict, asked with 0, says
  * SSHKEY_NOT_SIGNED: all that is looked at before is right. Else what that says; SSHKEY_NOT_SIGNED
  * is said of a certificate that raises no question. Only with SSHKEY_DONE is there something to
- * verify. A room of twice the certificate's length and 256 bytes is enough. SSHKEY_MEMORY only
+ * verify. A room of twice the certificate's length and 2,304 bytes is enough. SSHKEY_MEMORY only
  * where the user is UTF-8 and the key is one. */
 uint32_t sshkey_login_question(const sshkey_login *login, uint8_t *room, size_t room_length,
                                sshkey_question *answer);
@@ -661,7 +662,7 @@ typedef struct {
  * grant wants (memory and room aside): then the signature is the client's exactly if your
  * verification says yes. Else 10 to 29 for bytes that are no signature; SSHKEY_LENGTH for a part
  * that no string can hold; 81 to 83; 10 to 29 for a public_key that is none; SSHKEY_UNSUPPORTED. A
- * room of twice the length of all the parts, and 256 bytes, is enough. */
+ * room of twice the length of all the parts, and 2,304 bytes, is enough. */
 uint32_t sshkey_userauth_question(const sshkey_userauth *request, uint8_t *room,
                                   size_t room_length, sshkey_question *answer);
 
@@ -689,7 +690,7 @@ uint32_t sshkey_grant_flags(uint32_t permits, const uint8_t *key, size_t key_len
  *
  * SSHKEY_DONE exactly if the bytes are an SSH signature for that namespace whose key and signature
  * go together (memory and room aside); else SSHKEY_OTHER_NAMESPACE, SSHKEY_UNSUPPORTED, or 10 to 29
- * for bytes that are no signature. A room of twice its length and 256 bytes is enough. */
+ * for bytes that are no signature. A room of twice its length and 2,304 bytes is enough. */
 uint32_t sshkey_sshsig_question(const uint8_t *signature, size_t signature_length,
                                 const uint8_t *name_space, size_t name_space_length,
                                 const uint8_t *message, size_t message_length, uint8_t *room,
