@@ -2,4 +2,4 @@ pub mod PrivateHalves
 pub mod Pairs
 pub mod SkEcdsaSha2NistP256
 pub mod SkEd25519
-pub mod SecurityPairs
+pub mod SkKeypairs

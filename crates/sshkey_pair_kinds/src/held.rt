@@ -4,7 +4,7 @@ ghost use Rattle.std.specs.Prelude.{◌≡◌, ◌≤◌, ◌+◌, ◌*◌, ◌^
 ghost use Rattle.sshkey_base.specs.declared.error.Error.TheVariants as wide;
 ghost use Rattle.sshkey_base.specs.declared.encoding.Error.TheVariants as encoding;
 ghost use Rattle.sshkey_model.specs.KeyPairs.{SecurityPrivate, security_private};
-ghost use Rattle.sshkey_pair_kinds.specs.SecurityPairs.{held_anew, held_of};
+ghost use Rattle.sshkey_pair_kinds.specs.SkKeypairs.{held_anew, held_of};
 
 use sshkey_base::{Bytes, Decode, Encode, Error, Reader, Result, Secret, Writer, encoding};
 use sshkey_terms::Then;

@@ -4,7 +4,7 @@ ghost use Rattle.std.specs.Prelude.{◌≡◌, ◌≤◌, ◌+◌, ◌*◌, ◌^
 ghost use Rattle.sshkey_base.specs.declared.error.Error.TheVariants as wide;
 ghost use Rattle.sshkey_base.specs.declared.encoding.Error.TheVariants as encoding;
 ghost use Rattle.sshkey_model.specs.KeyPairs.{KeyPair, pair, Plain};
-ghost use Rattle.sshkey_pair_kinds.specs.SecurityPairs.{sk_ecdsa_pair_of, sk_ed25519_pair_of, sk_public, sk_held, held_anew};
+ghost use Rattle.sshkey_pair_kinds.specs.SkKeypairs.{sk_ecdsa_pair_of, sk_ed25519_pair_of, sk_public, sk_held, held_anew};
 
 use crate::held::Held;
 use sshkey_base::{Decode, Encode, Error, Reader, Result, Writer, both_len, encode_both, encoding};

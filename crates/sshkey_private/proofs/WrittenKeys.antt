@@ -9,7 +9,7 @@ use Rattle.sshkey_pairs.specs.declared.keypair_data.KeypairData.TheVariants as k
 use Rattle.sshkey_pairs.specs.Keypairs.{ciphertext_of, pair_of}
 use Rattle.sshkey_pairs.specs.PairKinds.{is_encrypted}
 use Rattle.sshkey_pair_kinds.specs.Pairs.{dsa_pair_of, rsa_pair_of, ecdsa_pair_of, ed25519_pair_of}
-use Rattle.sshkey_pair_kinds.specs.SecurityPairs.{sk_ecdsa_pair_of, sk_ed25519_pair_of}
+use Rattle.sshkey_pair_kinds.specs.SkKeypairs.{sk_ecdsa_pair_of, sk_ed25519_pair_of}
 use Rattle.sshkey_pairs.specs.OpaquePairs.{opaque_pair_of}
 use Rattle.sshkey_private.specs.Forms.{has_form}
 use Rattle.sshkey_private.specs.declared.private_key.write.Part.{Part}
