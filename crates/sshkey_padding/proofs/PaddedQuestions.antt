@@ -1,5 +1,5 @@
 -- The question about a padded signature is one that a verifier may be asked.
-use Rattle.std.proofs.Common.{◌≡◌, ℕ, ◌≤◌, ◌+◌, List, ◌++◌, length, take, true, false, Bool, Some, None, replicate, refl, ap, subst, arith, ◌∙◌}
+use Rattle.std.proofs.Common.{◌≡◌, ℕ, ◌≤◌, ◌+◌, List, ◌++◌, length, take, true, false, Bool, Some, None, replicate, refl, sym, ap, subst, arith, ◌∙◌}
 use Rattle.std.proofs.lemmas.List.{length-replicate, take-replicate}
 use Rattle.std.proofs.lemmas.Slice.{take-put_mid}
 use Rattle.sshkey_model.specs.Keys.{Key, RsaKey, Dsa, Ecdsa, Ed25519, Rsa, SkEcdsa, SkEd25519, Opaque}
@@ -40,7 +40,9 @@ still_asked a (SkEcdsa k) m blob asked = asked
 still_asked a (SkEd25519 k) m blob asked = asked
 still_asked a (Opaque name k) m blob asked = asked
 
-pub placed : (zeros : ℕ) (bytes : List ℕ) → zeros + length bytes ≤ 2048 → take (zeros + length bytes) (put_mid zeros (length bytes) (replicate 2048 0) bytes) ≡ replicate zeros 0 ++ bytes
-placed zeros bytes fits =
-    let within : zeros ≤ length (replicate 2048 0) = omega (arith, fits, length-replicate 2048 0) in
-    take-put_mid zeros (length bytes) (replicate 2048 0) bytes (zeros + length bytes) refl within ∙ ap (λ (front : List ℕ). front ++ bytes) (take-replicate zeros 2048 0 (omega (arith, fits)))
+-- the bytes, written into a room of zeros after so many of them
+pub placed : (zeros k : ℕ) (room written bytes : List ℕ) → room ≡ replicate 2048 0 → written ≡ bytes → zeros + length bytes ≤ 2048 → take (zeros + length bytes) (put_mid zeros k room written) ≡ replicate zeros 0 ++ bytes
+placed zeros k room written bytes of_zeros same fits =
+    let within : zeros ≤ length room = omega (arith, fits, ap (λ (l : List ℕ). length l) of_zeros, length-replicate {A = ℕ} 2048 0) in
+    take-put_mid zeros k room written (zeros + length bytes) (ap (λ (l : List ℕ). zeros + length l) (sym same)) within
+    ∙ (ap (λ (l : List ℕ). take zeros l ++ written) of_zeros ∙ (ap (λ (l : List ℕ). l ++ written) (take-replicate zeros 2048 0 (omega (arith, fits))) ∙ ap (λ (l : List ℕ). replicate zeros 0 ++ l) same))

@@ -83,7 +83,7 @@ fn missing_zeros(key: &KeyData, signature: &[u8]) -> usize
 
 /// How many bytes a positive number has that OpenSSH reads; 0 of any other.
 fn len_in(number: Option<&[u8]>) -> usize
-    ensures is { result ≡ len_in (option_map (λ bytes. bytes.now) number) }
+    ensures is { result ≡ len_in (option_map (λ bytes. bytes.now) number.entry) }
     ensures most { result ≤ 2048 }
 {
     match number {
