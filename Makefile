@@ -1,6 +1,6 @@
 # Builds what other languages link, of the text of the proved crate sshkey_c, and the programs of helpers/:
 #
-#     out/libsshkey.a  out/libsshkey.so  out/libsshkey.so.1  out/sshkey.pc
+#     out/librafendilo.a  out/librafendilo.so  out/librafendilo.so.2  out/rafendilo.pc
 #     out/sshkey-check  out/sshkey-principals  out/sshkey-authorized-keys
 #
 # and with `make go`, which takes Go (Debian: golang-go), the example in Go: out/check-go;
@@ -10,7 +10,7 @@
 # Any C compiler for Linux on x86-64 or aarch64 does: the text stands in the tree, as bindings/library
 # last wrote it. The helpers take OpenSSL's libcrypto (Debian: libssl-dev), and `make lib` is without
 # them. `make check` asks the library's calls, and holds their answers against
-# ssh-keygen. `make install PREFIX=/usr/local` copies header, libraries, a sshkey.pc that goes with
+# ssh-keygen. `make install PREFIX=/usr/local` copies header, libraries, a rafendilo.pc that goes with
 # them where they are moved, the helpers and their manual pages; `make uninstall` removes them.
 # docs/FOREIGN.md is the page to read.
 
@@ -25,9 +25,9 @@ LIBDIR := $(PREFIX)/lib
 
 VERSION := $(shell cat $(ROOT)/VERSION)
 # of the header, whose # would begin a comment here
-ABI := $(shell sed -n 's/^.define SSHKEY_ABI //p' $(ROOT)/include/sshkey.h)
+ABI := $(shell sed -n 's/^.define RAF_ABI //p' $(ROOT)/include/rafendilo.h)
 # the name by which the loader asks for the library
-SONAME := libsshkey.so.$(ABI)
+SONAME := librafendilo.so.$(ABI)
 FILL := sed -e 's|@version@|$(VERSION)|'
 
 CC := cc
@@ -35,7 +35,7 @@ CFLAGS := -O2
 # the processor that is compiled for, as Go calls it
 PROCESSOR := $(patsubst aarch64-%,arm64,$(patsubst x86_64-%,amd64,$(shell $(CC) -dumpmachine)))
 # the text of the crate for it, which stands where Go reads it; an archive does as well
-TEXT := $(ROOT)/bindings/go/sshkey/sshkey_linux_$(PROCESSOR).S
+TEXT := $(ROOT)/bindings/go/rafendilo/rafendilo_linux_$(PROCESSOR).S
 # the flag, where the compiler takes it
 TAKEN = $(shell $(CC) -Werror $(1) -E -x c /dev/null >/dev/null 2>&1 && echo $(1))
 # sshd starts the helpers with what a client sent; some compilers define the last themselves
@@ -46,19 +46,19 @@ HARDENED := -fstack-protector-strong $(call TAKEN,-fstack-clash-protection) \
 READONLY := -Wl,-z,relro,-z,now
 WARNED := -std=c11 -D_POSIX_C_SOURCE=200809L -Wall -Wextra -pedantic -I$(ROOT)/include
 CRYPTO := -lcrypto
-HEADERS := $(ROOT)/include/sshkey.h $(wildcard $(ROOT)/helpers/*.h)
+HEADERS := $(ROOT)/include/rafendilo.h $(wildcard $(ROOT)/helpers/*.h)
 PROGRAMS := $(OUT)/sshkey-check $(OUT)/sshkey-principals $(OUT)/sshkey-authorized-keys
 # what they are linked with, each with what it takes of it
-PARTS := $(addprefix $(OUT)/,program.o login.o memory.o show.o certificate.o sshsig.o judge.o sha1.o verdict.o verify.o)
+PARTS := $(addprefix $(OUT)/,program.o login.o memory.o show.o certificate.o sshsig.o reading.o sha1.o verdict.o verify.o)
 PAGES := $(notdir $(wildcard $(ROOT)/helpers/*.[18]))
 
-vpath %.c $(ROOT)/helpers $(ROOT)/bindings/go/sshkey
+vpath %.c $(ROOT)/helpers $(ROOT)/bindings/go/rafendilo
 
-lib: $(OUT)/libsshkey.a $(OUT)/libsshkey.so $(OUT)/$(SONAME) $(OUT)/sshkey.pc
+lib: $(OUT)/librafendilo.a $(OUT)/librafendilo.so $(OUT)/$(SONAME) $(OUT)/rafendilo.pc
 all: lib $(PROGRAMS)
 
 # where it is of other sources than stand here, that is said, and no more; a package has none
-$(ROOT)/bindings/go/sshkey/sshkey_linux_$(PROCESSOR).S: always
+$(ROOT)/bindings/go/rafendilo/rafendilo_linux_$(PROCESSOR).S: always
 ifneq ($(wildcard $(ROOT)/crates.txt),)
 	@! command -v python3 >/dev/null || $(ROOT)/bindings/library --is-current || true
 endif
@@ -75,20 +75,20 @@ $(OUT)/library.o: $(TEXT) $(OUT)/processor
 # malloc and its like, as the crate asks for them
 $(OUT)/heap.o: HARDENED += -fPIC
 
-$(OUT)/libsshkey.a: $(OUT)/library.o $(OUT)/heap.o
+$(OUT)/librafendilo.a: $(OUT)/library.o $(OUT)/heap.o
 	rm -f $@
 	$(AR) rcs $@ $^
 
-$(OUT)/libsshkey.so: $(OUT)/libsshkey.a $(ROOT)/bindings/sshkey.map
+$(OUT)/librafendilo.so: $(OUT)/librafendilo.a $(ROOT)/bindings/rafendilo.map
 	$(CC) $(CFLAGS) -shared -o $@ $(LDFLAGS) $(READONLY) -Wl,-soname,$(SONAME) \
-		-Wl,--version-script=$(ROOT)/bindings/sshkey.map -Wl,--no-undefined \
-		-Wl,--whole-archive $(OUT)/libsshkey.a -Wl,--no-whole-archive
+		-Wl,--version-script=$(ROOT)/bindings/rafendilo.map -Wl,--no-undefined \
+		-Wl,--whole-archive $(OUT)/librafendilo.a -Wl,--no-whole-archive
 
-$(OUT)/$(SONAME): $(OUT)/libsshkey.so
-	ln -sf libsshkey.so $@
+$(OUT)/$(SONAME): $(OUT)/librafendilo.so
+	ln -sf librafendilo.so $@
 
 # where header and libraries are: here, or where they are installed
-$(OUT)/sshkey.pc: $(ROOT)/bindings/sshkey.pc.in $(ROOT)/VERSION
+$(OUT)/rafendilo.pc: $(ROOT)/bindings/rafendilo.pc.in $(ROOT)/VERSION
 	@mkdir -p $(OUT)
 	$(FILL) -e 's|@include@|$(ROOT)/include|' -e 's|@lib@|$${pcfiledir}|' $< >$@
 
@@ -102,7 +102,7 @@ $(OUT)/parts.a: $(PARTS)
 # it verifies nothing
 $(OUT)/sshkey-authorized-keys: CRYPTO :=
 
-$(PROGRAMS): $(OUT)/%: $(OUT)/%.o $(OUT)/parts.a $(OUT)/libsshkey.a
+$(PROGRAMS): $(OUT)/%: $(OUT)/%.o $(OUT)/parts.a $(OUT)/librafendilo.a
 	$(CC) $(CFLAGS) -pie $(LDFLAGS) $(READONLY) -o $@ $^ $(CRYPTO)
 
 # both packages read the text themselves
@@ -125,7 +125,7 @@ check: lib
 
 INCLUDE := $(DESTDIR)$(PREFIX)/include
 LIB := $(DESTDIR)$(LIBDIR)
-# the prefix, from where sshkey.pc is installed if that is below it
+# the prefix, from where rafendilo.pc is installed if that is below it
 UP := $(subst $() ,/,$(patsubst %,..,$(subst /, ,$(LIBDIR:$(PREFIX)/%=%)/pkgconfig)))
 FROM_LIB := $(if $(filter $(PREFIX)/%,$(LIBDIR)),$${pcfiledir}/$(UP),$(PREFIX))
 BIN := $(DESTDIR)$(PREFIX)/bin
@@ -135,14 +135,14 @@ INSTALLED = $(MAN)/man$(patsubst .%,%,$(suffix $(1)))/$(1)
 
 install: all
 	install -d $(INCLUDE) $(LIB)/pkgconfig $(BIN) $(MAN)/man1 $(MAN)/man8
-	install -m 644 $(ROOT)/include/sshkey.h $(INCLUDE)
-	install -m 644 $(OUT)/libsshkey.a $(LIB)
-	install -m 755 $(OUT)/libsshkey.so $(LIB)/libsshkey.so.$(VERSION)
-	ln -sf libsshkey.so.$(VERSION) $(LIB)/$(SONAME)
-	ln -sf $(SONAME) $(LIB)/libsshkey.so
+	install -m 644 $(ROOT)/include/rafendilo.h $(INCLUDE)
+	install -m 644 $(OUT)/librafendilo.a $(LIB)
+	install -m 755 $(OUT)/librafendilo.so $(LIB)/librafendilo.so.$(VERSION)
+	ln -sf librafendilo.so.$(VERSION) $(LIB)/$(SONAME)
+	ln -sf $(SONAME) $(LIB)/librafendilo.so
 	$(FILL) -e 's|@include@|$(FROM_LIB)/include|' -e 's|@lib@|$${pcfiledir}/..|' \
-		$(ROOT)/bindings/sshkey.pc.in >$(LIB)/pkgconfig/sshkey.pc
-	chmod 644 $(LIB)/pkgconfig/sshkey.pc
+		$(ROOT)/bindings/rafendilo.pc.in >$(LIB)/pkgconfig/rafendilo.pc
+	chmod 644 $(LIB)/pkgconfig/rafendilo.pc
 	install -m 755 $(PROGRAMS) $(BIN)
 	$(foreach it,$(PAGES),sed 's|/usr/local/bin|$(abspath $(PREFIX))/bin|' $(ROOT)/helpers/$(it) \
 		>$(call INSTALLED,$(it)) && chmod 644 $(call INSTALLED,$(it)) &&) true
@@ -151,8 +151,8 @@ install: all
 	@echo "    useradd -r -M -s /usr/sbin/nologin sshkey"
 
 uninstall:
-	rm -f $(INCLUDE)/sshkey.h $(LIB)/libsshkey.a $(LIB)/pkgconfig/sshkey.pc \
-		$(LIB)/libsshkey.so $(LIB)/$(SONAME) $(LIB)/libsshkey.so.$(VERSION) \
+	rm -f $(INCLUDE)/rafendilo.h $(LIB)/librafendilo.a $(LIB)/pkgconfig/rafendilo.pc \
+		$(LIB)/librafendilo.so $(LIB)/$(SONAME) $(LIB)/librafendilo.so.$(VERSION) \
 		$(addprefix $(BIN)/,$(notdir $(PROGRAMS))) $(foreach it,$(PAGES),$(call INSTALLED,$(it)))
 
 clean:

@@ -3,70 +3,70 @@
  *     foreign question|validate|login-question|verdict|log-in|fields|fingerprint|verify CALLS <FILE.pub
  *
  * `login-question` and `verdict` are those of a login which lets in, and `log-in` both, which is all
- * that judge_log_in asks but the verification; `verify` is what libcrypto takes to answer. It prints
+ * that raf_log_in asks but the verification; `verify` is what libcrypto takes to answer. It prints
  * nanoseconds of processor time a call. */
 #include <stdio.h>
 #include <stdlib.h>
 #include <string.h>
 #include <time.h>
 
-#include "judge.h"
+#include "reading.h"
 #include "verify.h"
 
-static sshkey_question question;
+static raf_question question;
 static uint8_t room[1 << 16], key[1 << 16];
 static size_t key_length;
-static sshkey_sha256 authority;
+static raf_sha256 authority;
 
-static sshkey_login login_by(judge_blob given) {
-  sshkey_login login = {judge_span(given), judge_text("user"), {key, key_length}, judge_text(""),
-                        {&authority, 1}, SSHKEY_NO_REVOCATIONS, 1, 0, 0};
+static raf_login login_by(raf_blob given) {
+  raf_login login = {raf_blob_span(given), raf_text_span("user"), {key, key_length}, raf_text_span(""),
+                        {&authority, 1}, RAF_NO_REVOCATIONS, 1, 0, 0};
   return login;
 }
 
-static uint32_t login_question(judge_blob given) {
-  sshkey_login login = login_by(given);
-  return sshkey_login_question(&login, room, sizeof room, &question);
+static uint32_t login_question(raf_blob given) {
+  raf_login login = login_by(given);
+  return raf_login_question(&login, room, sizeof room, &question);
 }
 
-static uint32_t verdict(judge_blob given) {
-  sshkey_grant grant;
-  sshkey_login login = login_by(given);
+static uint32_t verdict(raf_blob given) {
+  raf_grant grant;
+  raf_login login = login_by(given);
   memset(&grant, 0, sizeof grant);
-  return sshkey_login_verdict(&login, 1, room, sizeof room, &grant);
+  return raf_check_login(&login, 1, room, sizeof room, &grant);
 }
 
-static uint32_t ask(judge_blob given) {
-  return sshkey_certificate_question(given.bytes, given.length, room, sizeof room, &question);
+static uint32_t ask(raf_blob given) {
+  return raf_certificate_question(given.bytes, given.length, room, sizeof room, &question);
 }
 
-/* The calls of judge_log_in. */
-static uint32_t log_in(judge_blob given) {
+/* The calls of raf_log_in. */
+static uint32_t log_in(raf_blob given) {
   login_question(given);
   return verdict(given);
 }
 
 /* Reads the certified key and the authority that the verdict is given. */
-static void read_certificate(judge_blob given) {
-  sshkey_parts parts;
+static void read_certificate(raf_blob given) {
+  raf_parts parts;
   memset(&parts, 0, sizeof parts);
-  if (sshkey_certificate_parts(given.bytes, given.length, &parts) != SSHKEY_DONE) return;
-  sshkey_fingerprint(given.bytes + parts.authority.start, parts.authority.length, &authority);
-  sshkey_certificate_key(given.bytes, given.length, key, sizeof key, &key_length);
+  if (raf_certificate_parts(given.bytes, given.length, &parts) != RAF_DONE) return;
+  raf_fingerprint(given.bytes + parts.authority.start, parts.authority.length, &authority);
+  raf_certificate_key(given.bytes, given.length, key, sizeof key, &key_length);
 }
 
-static uint32_t call(const char *what, judge_blob given) {
-  sshkey_sha256 digest = {{0}};
-  sshkey_fields fields = {0, 0, 0, 0, 0, 0};
-  if (!strcmp(what, "verify")) return judge_is_signature(&question, room);
+static uint32_t call(const char *what, raf_blob given) {
+  raf_sha256 digest = {{0}};
+  raf_fields fields = {0, 0, 0, 0, 0, 0};
+  if (!strcmp(what, "verify")) return raf_is_signature(&question, room);
   if (!strcmp(what, "login-question")) return login_question(given);
   if (!strcmp(what, "verdict")) return verdict(given);
   if (!strcmp(what, "log-in")) return log_in(given);
   if (!strcmp(what, "validate"))
-    return sshkey_certificate_validate_for(given.bytes, given.length, 1, (const uint8_t *)"user", 4,
+    return raf_check_certificate_for(given.bytes, given.length, 1, (const uint8_t *)"user", 4,
                                            &digest, 1, 1);
-  if (!strcmp(what, "fields")) return sshkey_certificate_fields(given.bytes, given.length, &fields);
-  if (!strcmp(what, "fingerprint")) return sshkey_fingerprint(given.bytes, given.length, &digest);
+  if (!strcmp(what, "fields")) return raf_certificate_fields(given.bytes, given.length, &fields);
+  if (!strcmp(what, "fingerprint")) return raf_fingerprint(given.bytes, given.length, &digest);
   return ask(given);
 }
 
@@ -74,10 +74,10 @@ int main(int count, char **words) {
   char *line = NULL;
   size_t held = 0;
   ssize_t length = count == 3 ? getline(&line, &held, stdin) : -1;
-  judge_blob given;
+  raf_blob given;
   if (length < 0) return 2;
-  if (judge_read_line(line, (size_t)length, SSHKEY_LINE_CERTIFICATE, &given) != SSHKEY_DONE &&
-      judge_read_line(line, (size_t)length, SSHKEY_LINE_KEY, &given) != SSHKEY_DONE)
+  if (raf_read_line_blob(line, (size_t)length, RAF_LINE_CERTIFICATE, &given) != RAF_DONE &&
+      raf_read_line_blob(line, (size_t)length, RAF_LINE_KEY, &given) != RAF_DONE)
     return 2;
   long calls = strtol(words[2], NULL, 10);
   read_certificate(given);

@@ -1,4 +1,4 @@
-/* Asks the library that include/sshkey.h declares, for checks/foreign: a line of the input is a
+/* Asks the library that include/rafendilo.h declares, for checks/foreign: a line of the input is a
  * question, and has a line of the answer. It answers those of asked/answers.py that the header has
  * calls for, and these. SPAN.. are 7 words of bytes, or of several byte strings with commas between,
  * and NUMBER.. 5 numbers, as asked/calls.h passes them to the call of that name:
@@ -13,15 +13,15 @@
  *     verifications .. as `log-in`        how often the verifier was asked
  *     names                               version and ABI of the header and of the library, and
  *                                         numbers of answers with their names
- *     meanings                            the words of judge.h for each of these numbers
+ *     meanings                            the words of reading.h for each of these numbers
  */
 #include <inttypes.h>
 #include <stdio.h>
 #include <stdlib.h>
 #include <string.h>
 
-#include "judge.h"
-#include "sshkey.h"
+#include "reading.h"
+#include "rafendilo.h"
 #include "sshsig.h"
 #include "verdict.h"
 #include "verify.h"
@@ -30,8 +30,8 @@
 #define MOST 16
 #define FILLED 0xa5
 
-static judge_blob made(size_t length) {
-  judge_blob it = {malloc(length ? length : 1), length};
+static raf_blob made(size_t length) {
+  raf_blob it = {malloc(length ? length : 1), length};
   if (!it.bytes) exit(3);
   memset(it.bytes, FILLED, length ? length : 1);
   return it;
@@ -42,9 +42,9 @@ static unsigned digit(char letter) {
 }
 
 /* The bytes of a word, or of its part before a comma; `-` and `none` have no bytes. */
-static judge_blob bytes_of(const char *word) {
+static raf_blob bytes_of(const char *word) {
   size_t digits = strcspn(word, ",");
-  judge_blob it = made(*word == '-' || *word == 'n' ? 0 : digits / 2);
+  raf_blob it = made(*word == '-' || *word == 'n' ? 0 : digits / 2);
   for (size_t at = 0; at < it.length; at++)
     it.bytes[at] = (uint8_t)(digit(word[2 * at]) << 4 | digit(word[2 * at + 1]));
   return it;
@@ -57,7 +57,7 @@ static uint32_t sum_of(const uint8_t *bytes, size_t length) {
   return sum;
 }
 
-static bool is_filled(judge_blob room, size_t from) {
+static bool is_filled(raf_blob room, size_t from) {
   for (size_t at = from; at < room.length; at++)
     if (room.bytes[at] != FILLED) return false;
   return true;
@@ -72,10 +72,10 @@ static bool is_filled(judge_blob room, size_t from) {
 static given_spans several_of(const char *word) {
   size_t count = *word != 'n';
   for (const char *at = word; *at; at++) count += *at == ',';
-  given_spans it = {calloc(count + 1, sizeof(sshkey_span)), count};
+  given_spans it = {calloc(count + 1, sizeof(raf_span)), count};
   if (!it.items) exit(3);
   for (size_t at = 0; at < count; at++, word += strcspn(word, ",") + 1)
-    it.items[at] = judge_span(bytes_of(word));
+    it.items[at] = raf_blob_span(bytes_of(word));
   return it;
 }
 
@@ -108,7 +108,7 @@ static void say_word(const uint8_t *bytes, size_t length) {
   for (size_t at = 0; at < length; at++) printf("%02x", bytes[at]);
 }
 
-static void say_part(const char *front, judge_blob of, sshkey_part part) {
+static void say_part(const char *front, raf_blob of, raf_part part) {
   printf("%s", front);
   if (part.start > of.length || part.length > of.length - part.start)
     printf("outside");
@@ -118,7 +118,7 @@ static void say_part(const char *front, judge_blob of, sshkey_part part) {
 
 static bool is_done(uint32_t answer) {
   printf("%" PRIu32, answer);
-  return answer == SSHKEY_DONE;
+  return answer == RAF_DONE;
 }
 
 /* Makes the call of that name in a room that is long enough. Nothing may be written after the
@@ -130,7 +130,7 @@ static uint32_t ask(given_call *it, const char *name, const size_t *length) {
   it->room = made(enough);
   it->name = name;
   uint32_t answer = called(it, FILLED);
-  if (length && answer == SSHKEY_DONE && !is_filled(it->room, *length)) printf("more is written ");
+  if (length && answer == RAF_DONE && !is_filled(it->room, *length)) printf("more is written ");
   return answer;
 }
 
@@ -147,16 +147,16 @@ static void ask_question(given_call *it, const char *name) {
 
 static void ask_is_signature(given_call *it, const char *name) {
   if (is_done(ask(it, name, &it->question.length)))
-    printf(" %d", judge_is_signature(&it->question, it->room.bytes));
+    printf(" %d", raf_is_signature(&it->question, it->room.bytes));
 }
 
 static void ask_written(given_call *it, const char *name) {
-  if (is_done(ask(it, name, &it->length))) say_part(" ", it->room, (sshkey_part){0, it->length});
+  if (is_done(ask(it, name, &it->length))) say_part(" ", it->room, (raf_part){0, it->length});
 }
 
 static void ask_fields(given_call *it, const char *name) {
   if (!is_done(ask(it, name, NULL))) return;
-  const sshkey_fields *of = &it->fields;
+  const raf_fields *of = &it->fields;
   printf(" %" PRIu64 " %" PRIu64 " %" PRIu64, of->serial, of->valid_after, of->valid_before);
   printf(" %" PRIu32 " %" PRIu32 " %" PRIu32, of->certificate_type, of->lists_principals,
          of->has_critical_options);
@@ -164,7 +164,7 @@ static void ask_fields(given_call *it, const char *name) {
 
 static void ask_line(given_call *it, const char *name) {
   if (!is_done(ask(it, name, &it->line.length))) return;
-  printf(" %" PRIu32, it->line.kind - SSHKEY_LINE_KEY);
+  printf(" %" PRIu32, it->line.kind - RAF_LINE_KEY);
   say_part(" ", it->room, it->line.blob);
   say_part(" ", it->room, it->line.comment);
 }
@@ -179,11 +179,11 @@ static void ask_entry(given_call *it, const char *name) {
 
 static void ask_options(given_call *it, const char *name) {
   uint32_t answer = ask(it, name, &it->entry_option.length);
-  for (; answer == SSHKEY_DONE; answer = ask(it, name, &it->entry_option.length))
+  for (; answer == RAF_DONE; answer = ask(it, name, &it->entry_option.length))
     it->numbers[0] = it->entry_option.next;
   it->numbers[0] = 0;
-  if (!is_done(answer == SSHKEY_END ? SSHKEY_DONE : answer)) return;
-  while (ask(it, name, &it->entry_option.length) == SSHKEY_DONE) {
+  if (!is_done(answer == RAF_END ? RAF_DONE : answer)) return;
+  while (ask(it, name, &it->entry_option.length) == RAF_DONE) {
     say_part(" ", it->room, it->entry_option.name);
     if (it->entry_option.has_value) say_part("=", it->room, it->entry_option.value);
     it->numbers[0] = it->entry_option.next;
@@ -200,7 +200,7 @@ static void ask_time(given_call *it, const char *name) {
 
 static void ask_addresses(given_call *it, const char *name) {
   printf("%" PRIu32 " ", ask(it, name, NULL));
-  printf("%" PRIu32, ask(it, "from_allows", NULL));
+  printf("%" PRIu32, ask(it, "check_from", NULL));
 }
 
 static void ask_number(given_call *it, const char *name) {
@@ -209,7 +209,7 @@ static void ask_number(given_call *it, const char *name) {
 
 static void ask_revoked(given_call *it, const char *name) {
   uint32_t answer = ask(it, name, NULL);
-  if (answer == SSHKEY_NOT_REVOKED)
+  if (answer == RAF_NOT_REVOKED)
     printf("0 0");
   else if (is_done(answer))
     printf(" 1");
@@ -222,13 +222,13 @@ static void ask_digest(given_call *it, const char *name) {
 }
 
 static void ask_key(given_call *it, const char *name) {
-  uint8_t text[SSHKEY_FINGERPRINT_TEXT], longer[SSHKEY_FINGERPRINT_SHA512_TEXT];
+  uint8_t text[RAF_FINGERPRINT_TEXT], longer[RAF_FINGERPRINT_SHA512_TEXT];
   if (!is_done(ask(it, name, NULL))) return;
-  sshkey_sha256 digest = it->sha256;
-  uint32_t others = sshkey_fingerprint_text(&digest, text, sizeof text);
+  raf_sha256 digest = it->sha256;
+  uint32_t others = raf_fingerprint_text(&digest, text, sizeof text);
   others |= ask(it, "fingerprint_sha512", NULL);
-  others |= sshkey_fingerprint_sha512_text(&it->sha512, longer, sizeof longer);
-  if (others != SSHKEY_DONE) printf(" and another call not");
+  others |= raf_fingerprint_sha512_text(&it->sha512, longer, sizeof longer);
+  if (others != RAF_DONE) printf(" and another call not");
   putchar(' ');
   say_word(digest.bytes, sizeof digest.bytes);
   printf(" %.*s ", (int)sizeof text, (const char *)text);
@@ -238,38 +238,38 @@ static void ask_key(given_call *it, const char *name) {
 
 /* ---- what is listed */
 
-static void say_principals(judge_blob list) {
-  sshkey_part part = {0, 0};
+static void say_principals(raf_blob list) {
+  raf_part part = {0, 0};
   uint32_t answer;
-  while ((answer = sshkey_next_string(list.bytes, list.length, part.start + part.length, &part))
-         == SSHKEY_DONE)
+  while ((answer = raf_next_string(list.bytes, list.length, part.start + part.length, &part))
+         == RAF_DONE)
     say_part(" principal=", list, part);
-  if (answer != SSHKEY_END) printf(" no string");
+  if (answer != RAF_END) printf(" no string");
 }
 
-static void say_options(const char *front, judge_blob list) {
-  sshkey_certificate_option_parts it = {{0, 0}, {0, 0}, 0};
+static void say_options(const char *front, raf_blob list) {
+  raf_certificate_option_parts it = {{0, 0}, {0, 0}, 0};
   uint32_t answer;
-  while ((answer = sshkey_next_option(list.bytes, list.length, it.next, &it)) == SSHKEY_DONE) {
+  while ((answer = raf_next_certificate_option(list.bytes, list.length, it.next, &it)) == RAF_DONE) {
     say_part(front, list, it.name);
     say_part("=", list, it.value);
   }
-  if (answer != SSHKEY_END) printf(" no option");
+  if (answer != RAF_END) printf(" no option");
 }
 
-static judge_blob list_of(judge_blob certificate, sshkey_part part) {
-  return (judge_blob){certificate.bytes + part.start, part.length};
+static raf_blob list_of(raf_blob certificate, raf_part part) {
+  return (raf_blob){certificate.bytes + part.start, part.length};
 }
 
 static void ask_lists(given_call *it, const char *name) {
-  judge_blob certificate = it->spans[0];
-  sshkey_parts parts;
+  raf_blob certificate = it->spans[0];
+  raf_parts parts;
   uint32_t of_key = ask(it, name, &it->length);
-  uint32_t answer = sshkey_certificate_parts(certificate.bytes, certificate.length, &parts);
+  uint32_t answer = raf_certificate_parts(certificate.bytes, certificate.length, &parts);
   if (of_key != answer) printf("the key is answered %" PRIu32 " ", of_key);
   if (!is_done(answer)) return;
   say_part(" ", certificate, parts.key_id);
-  say_part(" ", it->room, (sshkey_part){0, it->length});
+  say_part(" ", it->room, (raf_part){0, it->length});
   say_part(" ", certificate, parts.authority);
   say_principals(list_of(certificate, parts.principals));
   say_options(" critical=", list_of(certificate, parts.critical_options));
@@ -277,17 +277,17 @@ static void ask_lists(given_call *it, const char *name) {
 }
 
 static void ask_lines(given_call *it, const char *name) {
-  judge_blob text = it->spans[0];
+  raf_blob text = it->spans[0];
   size_t place = 0;
   (void)name;
   putchar('0');
-  for (sshkey_part part; sshkey_next_line(text.bytes, text.length, place, &part) == SSHKEY_DONE;
+  for (raf_part part; raf_next_line(text.bytes, text.length, place, &part) == RAF_DONE;
        place = part.start + part.length)
     say_part(" ", text, part);
   size_t ends[] = {place, text.length, text.length + 1, SIZE_MAX};
   for (size_t at = 0; at < sizeof ends / sizeof *ends; at++) {
-    sshkey_part part;
-    if (sshkey_next_line(text.bytes, text.length, ends[at], &part) != SSHKEY_END)
+    raf_part part;
+    if (raf_next_line(text.bytes, text.length, ends[at], &part) != RAF_END)
       printf(" no end at %zu", ends[at]);
   }
 }
@@ -299,7 +299,7 @@ static void ask_places(given_call *it, const char *name) {
     it->numbers[0] = at <= length ? at : after[at - length - 1];
     if (at) putchar(' ');
     if (!is_done(ask(it, name, NULL))) continue;
-    const sshkey_certificate_option_parts *of = &it->certificate_option;
+    const raf_certificate_option_parts *of = &it->certificate_option;
     if (!strcmp(name, "next_string"))
       printf(":%zu:%zu", it->part.start, it->part.length);
     else
@@ -308,7 +308,7 @@ static void ask_places(given_call *it, const char *name) {
   }
 }
 
-#include "asked/judge_calls.h"
+#include "asked/helper_calls.h"
 
 /* ---- questions about any call */
 
@@ -320,17 +320,17 @@ static size_t told(const given_call *it) {
 
 static void ask_rooms(given_call *it) {
   size_t length = 0, needed = 0;
-  uint32_t answer = SSHKEY_ROOM;
+  uint32_t answer = RAF_SHORT_BUFFER;
   for (bool is_kept = true; is_kept; length += is_kept) {
     free(it->room.bytes);
     it->room = made(length);
     answer = called(it, 0);
-    is_kept = answer == SSHKEY_ROOM && is_filled(it->room, 0) && (!length || told(it) == needed);
+    is_kept = answer == RAF_SHORT_BUFFER && is_filled(it->room, 0) && (!length || told(it) == needed);
     needed = told(it);
     it->grant.length = it->user_grant.grant.length = 0;
     bool is_none = is_zero(&it->grant, sizeof it->grant);
     is_none &= is_zero(&it->user_grant, sizeof it->user_grant);
-    if (answer == SSHKEY_ROOM && !is_none) printf("and a grant ");
+    if (answer == RAF_SHORT_BUFFER && !is_none) printf("and a grant ");
   }
   printf("%" PRIu32 " %zu %zu", answer, length, needed);
 }
@@ -359,34 +359,34 @@ static const struct {
     {"lines", ask_lines, "next_line", 1},
     {"entry", ask_entry, "authorized_entry", 1},
     {"host", ask_entry, "known_host", 1},
-    {"options", ask_options, "next_entry_option", 1},
-    {"log-in", ask_log_in, "login_verdict", 6},
-    {"log-in-by-keys", ask_log_in_by_keys, "user_keys_verdict", 8},
-    {"log-in-by-principals", ask_log_in_by_keys, "principals_verdict", 8},
-    {"verifications", ask_verifications, "login_verdict", 6},
-    {"host-key", ask_number, "host_key_verdict", 4},
-    {"host-certificate", ask_host_certificate, "host_certificate_verdict", 4},
+    {"options", ask_options, "next_line_option", 1},
+    {"log-in", ask_log_in, "check_login", 6},
+    {"log-in-by-keys", ask_log_in_by_keys, "check_user_keys", 8},
+    {"log-in-by-principals", ask_log_in_by_keys, "check_principals", 8},
+    {"verifications", ask_verifications, "check_login", 6},
+    {"host-key", ask_number, "check_host_key", 4},
+    {"host-certificate", ask_host_certificate, "check_host_certificate", 4},
     {"unreadable-line", ask_counted, "unreadable_host_line", 2},
     {"userauth", ask_question, "userauth_question", 6},
     {"userauth-of", ask_question, "userauth_question_of", 7},
     {"is-userauth", ask_userauth, "userauth_question", 6},
-    {"flags", ask_number, "grant_flags", 2},
-    {"other-key-line", ask_number, "is_other_key_line", 1},
+    {"flags", ask_number, "check_grant_flags", 2},
+    {"other-key-line", ask_number, "is_later_key_line", 1},
     {"line-authority", ask_digest, "authority", 1},
     {"user-authority", ask_digest, "user_authority", 2},
-    {"for-key", ask_number, "may_be_for_key", 2},
-    {"for-certificate", ask_number, "may_be_for_certificate", 2},
+    {"for-key", ask_number, "line_may_name_key", 2},
+    {"for-certificate", ask_number, "line_may_name_authority", 2},
     {"may-verify", ask_number, "may_verify", 1},
-    {"strict-mode", ask_number, "strict_mode", 0},
-    {"addresses", ask_addresses, "source_address_allows", 3},
+    {"safe-mode", ask_number, "check_safe_mode", 0},
+    {"addresses", ask_addresses, "check_source_address", 3},
     {"time", ask_time, "read_time", 1},
-    {"signer", ask_number, "signer_verdict", 5},
-    {"revokes-key", ask_revoked, "krl_revokes_key", 2},
-    {"revokes-certificate", ask_revoked, "krl_revokes_certificate", 2},
-    {"revoked-key", ask_revoked, "revoked_key", 2},
-    {"revoked-certificate", ask_revoked, "revoked_certificate", 2},
+    {"signer", ask_number, "check_signer", 5},
+    {"unrevoked-key-by-krl", ask_revoked, "check_unrevoked_key_by_krl", 2},
+    {"unrevoked-certificate-by-krl", ask_revoked, "check_unrevoked_certificate_by_krl", 2},
+    {"unrevoked-key", ask_revoked, "check_unrevoked_key", 2},
+    {"unrevoked-certificate", ask_revoked, "check_unrevoked_certificate", 2},
     {"string-places", ask_places, "next_string", 1},
-    {"option-places", ask_places, "next_option", 1},
+    {"option-places", ask_places, "next_certificate_option", 1},
 };
 
 /* Answers a question whose first word after the question's is a call, or the kind of one. */
@@ -408,7 +408,7 @@ static void answer_of_call(char **words) {
 }
 
 static void answer(char **words) {
-  if (has_judged(words)) return;
+  if (has_answered_helper(words)) return;
   for (size_t at = 0; at < sizeof questions / sizeof *questions; at++) {
     if (strcmp(words[0], questions[at].what)) continue;
     given_call it = given_by(words + 1, questions[at].spans);

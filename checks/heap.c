@@ -1,4 +1,4 @@
-/* Holds the calls of bindings/go/sshkey/heap.c to what the toolchain's library libc assumes of them
+/* Holds the calls of bindings/go/rafendilo/heap.c to what the toolchain's library libc assumes of them
  * (src/heap.rt, src/types.rt), for checks/text: it is linked with --wrap of malloc and realloc. Each
  * line tells what does not hold; a block that is not freed is what its sanitizer tells of. */
 #include <stdbool.h>

@@ -1,4 +1,4 @@
-/* Calls each function of helpers/judge.h, sshsig.h, verdict.h and verify.h from threads at the same time, for
+/* Calls each function of helpers/reading.h, sshsig.h, verdict.h and verify.h from threads at the same time, for
  * checks/asked/threads.py: what a thread is answered has to be what the same call answers alone.
  *
  *     threads FOLDER..
@@ -9,8 +9,8 @@
 #include <stdlib.h>
 #include <string.h>
 
-#include "judge.h"
-#include "sshkey.h"
+#include "reading.h"
+#include "rafendilo.h"
 #include "sshsig.h"
 #include "verdict.h"
 #include "verify.h"
@@ -37,11 +37,11 @@ static void note_bytes(asked *it, const uint8_t *bytes, size_t length) {
   note(it, sum);
 }
 
-static judge_blob file_of(const asked *it, const char *name) {
+static raf_blob file_of(const asked *it, const char *name) {
   char path[4096];
-  judge_blob read = {NULL, 0};
+  raf_blob read = {NULL, 0};
   snprintf(path, sizeof path, "%s/%s", it->folder, name);
-  if (!judge_read_file(path, &read)) abort();
+  if (!raf_read_file(path, &read)) abort();
   return read;
 }
 
@@ -54,11 +54,11 @@ static FILE *opened(const asked *it, const char *name) {
 }
 
 /* The key or the certificate in the first line of a file. */
-static judge_blob line_of(asked *it, const char *name, uint32_t kind) {
-  judge_blob text = file_of(it, name), found = {NULL, 0};
+static raf_blob line_of(asked *it, const char *name, uint32_t kind) {
+  raf_blob text = file_of(it, name), found = {NULL, 0};
   size_t length = 0;
   while (length < text.length && text.bytes[length] != '\n') length++;
-  note(it, judge_read_line((const char *)text.bytes, length, kind, &found));
+  note(it, raf_read_line_blob((const char *)text.bytes, length, kind, &found));
   free(text.bytes);
   if (!found.bytes) abort();
   return found;
@@ -66,7 +66,7 @@ static judge_blob line_of(asked *it, const char *name, uint32_t kind) {
 
 /* A file as a text that ends with a zero byte. */
 static char *text_of(const asked *it, const char *name) {
-  judge_blob read = file_of(it, name);
+  raf_blob read = file_of(it, name);
   char *text = calloc(1, read.length + 1);
   if (!text) abort();
   memcpy(text, read.bytes, read.length);
@@ -75,26 +75,26 @@ static char *text_of(const asked *it, const char *name) {
 }
 
 /* A request of the user's, which the key of the first folder has signed. */
-static void ask_request(asked *it, judge_blob key) {
-  judge_blob signature = file_of(it, "request.sig");
-  sshkey_userauth request = {judge_text("a session"), judge_text("alice"),
-                             judge_text("ssh-ed25519"), judge_span(key), judge_text(""),
-                             judge_span(signature), 0, 0};
-  note(it, judge_userauth(&request));
+static void ask_request(asked *it, raf_blob key) {
+  raf_blob signature = file_of(it, "request.sig");
+  raf_userauth request = {raf_text_span("a session"), raf_text_span("alice"),
+                             raf_text_span("ssh-ed25519"), raf_blob_span(key), raf_text_span(""),
+                             raf_blob_span(signature), 0, 0};
+  note(it, raf_verify_userauth(&request));
   free(signature.bytes);
 }
 
 /* The user's key alone, by a text that lists it. */
-static void ask_key(asked *it, judge_blob key, uint64_t now, sshkey_spans revoked) {
-  judge_authorities none = {NULL, 0};
-  judge_blob text = file_of(it, "user.pub");
-  sshkey_login login = {judge_text(""), judge_text("alice"), judge_span(key), judge_text(""),
-                        judge_digests(none), revoked, now, 0, 0};
+static void ask_key(asked *it, raf_blob key, uint64_t now, raf_spans revoked) {
+  raf_authorities none = {NULL, 0};
+  raf_blob text = file_of(it, "user.pub");
+  raf_login login = {raf_text_span(""), raf_text_span("alice"), raf_blob_span(key), raf_text_span(""),
+                        raf_authority_digests(none), revoked, now, 0, 0};
   uint8_t *room = calloc(1, text.length);
-  sshkey_user_grant grant;
+  raf_user_grant grant;
   memset(&grant, 0, sizeof grant);
   if (!room) abort();
-  note(it, judge_user_keys(&login, judge_span(text), judge_text(""), room, text.length, &grant));
+  note(it, raf_log_in_by_keys(&login, raf_blob_span(text), raf_text_span(""), room, text.length, &grant));
   note(it, grant.line);
   note(it, grant.grant.permits);
   free(room);
@@ -102,14 +102,14 @@ static void ask_key(asked *it, judge_blob key, uint64_t now, sshkey_spans revoke
 }
 
 /* The user's certificate, by a text that names its principal. */
-static void ask_principals(asked *it, const sshkey_login *login) {
-  sshkey_span text = judge_text("alice\n");
+static void ask_principals(asked *it, const raf_login *login) {
+  raf_span text = raf_text_span("alice\n");
   size_t length = text.length + 2 * login->certificate.length;
   uint8_t *room = calloc(1, length);
-  sshkey_user_grant grant;
+  raf_user_grant grant;
   memset(&grant, 0, sizeof grant);
   if (!room) abort();
-  note(it, judge_principals(login, text, judge_text(""), room, length, &grant));
+  note(it, raf_log_in_by_principals(login, text, raf_text_span(""), room, length, &grant));
   note(it, grant.line);
   note(it, grant.grant.permits);
   free(room);
@@ -117,31 +117,31 @@ static void ask_principals(asked *it, const sshkey_login *login) {
 
 /* A line that says for whom an authority may sign. */
 static void ask_user_authority(asked *it, const char *line) {
-  judge_authorities by = {NULL, 0};
+  raf_authorities by = {NULL, 0};
   size_t length = strlen("bob,alice ") + strlen(line);
   char *named = calloc(1, length + 1);
   if (!named) abort();
   snprintf(named, length + 1, "bob,alice %s", line);
-  note(it, judge_add_user_authority(&by, named, length, "alice"));
+  note(it, raf_add_user_authority(&by, named, length, "alice"));
   note(it, by.count);
   free(named);
   free(by.keys);
 }
 
-static void ask_user(asked *it, uint64_t now, judge_authorities by, sshkey_spans revoked) {
-  judge_blob certificate = line_of(it, "user-cert.pub", SSHKEY_LINE_CERTIFICATE);
-  judge_blob key = line_of(it, "user.pub", SSHKEY_LINE_KEY), again = {NULL, 0};
-  sshkey_login login = {judge_span(certificate), judge_text("alice"), judge_span(key),
-                        judge_text(""), judge_digests(by), revoked, now, 0, 0};
+static void ask_user(asked *it, uint64_t now, raf_authorities by, raf_spans revoked) {
+  raf_blob certificate = line_of(it, "user-cert.pub", RAF_LINE_CERTIFICATE);
+  raf_blob key = line_of(it, "user.pub", RAF_LINE_KEY), again = {NULL, 0};
+  raf_login login = {raf_blob_span(certificate), raf_text_span("alice"), raf_blob_span(key),
+                        raf_text_span(""), raf_authority_digests(by), revoked, now, 0, 0};
   char *type = text_of(it, "user.pub"), *base64 = strchr(type, ' ');
   uint8_t *room = calloc(1, certificate.length);
-  sshkey_grant grant;
+  raf_grant grant;
   memset(&grant, 0, sizeof grant);
   if (!room) abort();
   *base64++ = 0;
   base64[strcspn(base64, " \n")] = 0;
-  note(it, judge_read_words(type, base64, SSHKEY_LINE_KEY, &again));
-  note(it, judge_log_in(&login, room, certificate.length, &grant));
+  note(it, raf_read_words_blob(type, base64, RAF_LINE_KEY, &again));
+  note(it, raf_log_in(&login, room, certificate.length, &grant));
   note_bytes(it, room, grant.length);
   note(it, grant.permits);
   ask_request(it, again);
@@ -154,38 +154,38 @@ static void ask_user(asked *it, uint64_t now, judge_authorities by, sshkey_spans
   free(certificate.bytes);
 }
 
-static void ask_host(asked *it, uint64_t now, sshkey_spans revoked) {
-  judge_blob certificate = line_of(it, "host-cert.pub", SSHKEY_LINE_CERTIFICATE);
-  judge_blob known = file_of(it, "known_hosts");
-  sshkey_span text = judge_span(known);
-  sshkey_host_login login = {{&text, 1}, judge_text("host.example.org"), revoked, now, 0, 22};
-  sshkey_question question;
+static void ask_host(asked *it, uint64_t now, raf_spans revoked) {
+  raf_blob certificate = line_of(it, "host-cert.pub", RAF_LINE_CERTIFICATE);
+  raf_blob known = file_of(it, "known_hosts");
+  raf_span text = raf_blob_span(known);
+  raf_host_login login = {{&text, 1}, raf_text_span("host.example.org"), revoked, now, 0, 22};
+  raf_question question;
   size_t room_length = 2 * certificate.length + 256;
   uint8_t *room = calloc(1, room_length);
   if (!room) abort();
   memset(&question, 0, sizeof question);
-  note(it, judge_host_certificate(&login, judge_span(certificate)));
-  note(it, sshkey_certificate_question(certificate.bytes, certificate.length, room, room_length,
+  note(it, raf_verify_host_certificate(&login, raf_blob_span(certificate)));
+  note(it, raf_certificate_question(certificate.bytes, certificate.length, room, room_length,
                                        &question));
-  note(it, judge_is_signature(&question, room));
+  note(it, raf_is_signature(&question, room));
   free(room);
   free(known.bytes);
   free(certificate.bytes);
 }
 
-static void ask_signature(asked *it, uint64_t now, judge_authorities by, sshkey_spans revoked) {
-  judge_blob armour = file_of(it, "message.sig"), signature = {NULL, 0};
-  judge_signers signers = {file_of(it, "signers"), "alice", now, revoked};
+static void ask_signature(asked *it, uint64_t now, raf_authorities by, raf_spans revoked) {
+  raf_blob armour = file_of(it, "message.sig"), signature = {NULL, 0};
+  raf_signers signers = {file_of(it, "signers"), "alice", now, revoked};
   FILE *file = opened(it, "message");
   uint8_t bytes[64];
-  note(it, judge_read_armour(armour, &signature));
-  judge_blob digest = {bytes, judge_digest_length(signature)}, again = {NULL, 0};
-  note(it, judge_digest(file, digest.bytes, digest.length));
+  note(it, raf_read_armour(armour, &signature));
+  raf_blob digest = {bytes, raf_sshsig_digest_length(signature)}, again = {NULL, 0};
+  note(it, raf_digest_stream(file, digest.bytes, digest.length));
   note_bytes(it, digest.bytes, digest.length);
-  note(it, judge_sshsig_of_digest(signature, "file", digest, by));
-  note(it, judge_signer_of_digest(signature, "file", digest, &signers));
+  note(it, raf_verify_sshsig_of_digest(signature, "file", digest, by));
+  note(it, raf_verify_signer_of_digest(signature, "file", digest, &signers));
   rewind(file);
-  note(it, judge_read_stream(file, &again));
+  note(it, raf_read_stream(file, &again));
   note_bytes(it, again.bytes, again.length);
   fclose(file);
   free(again.bytes);
@@ -196,15 +196,15 @@ static void ask_signature(asked *it, uint64_t now, judge_authorities by, sshkey_
 
 /* Asks all. */
 static void ask(asked *it) {
-  judge_authorities by = {NULL, 0};
+  raf_authorities by = {NULL, 0};
   char *line = text_of(it, "authority.pub"), *now = text_of(it, "now");
-  judge_blob list = file_of(it, "list");
-  sshkey_span revoked[] = {SSHKEY_NO_REVOCATIONS.items[0], judge_span(list)};
-  sshkey_spans files = {revoked, 2};
+  raf_blob list = file_of(it, "list");
+  raf_span revoked[] = {RAF_NO_REVOCATIONS.items[0], raf_blob_span(list)};
+  raf_spans files = {revoked, 2};
   it->count = 0;
   line[strcspn(line, "\n")] = 0;
-  uint32_t added = judge_add_authority(&by, line, strlen(line));
-  note_bytes(it, (const uint8_t *)judge_meaning(added), strlen(judge_meaning(added)));
+  uint32_t added = raf_add_authority(&by, line, strlen(line));
+  note_bytes(it, (const uint8_t *)raf_status_meaning(added), strlen(raf_status_meaning(added)));
   ask_user_authority(it, line);
   ask_user(it, strtoull(now, NULL, 10), by, files);
   ask_host(it, strtoull(now, NULL, 10), files);

@@ -6,8 +6,8 @@
 
 AUTHORITIES and SIGNERS are files of public keys, a line each. The first answers of each line of its input. The status is 0 if all is
 valid, 1 if not, and 2 where it can't tell: so also where there is no certificate. A valid certificate may be for a host, or for nobody
-by name, and - is no name that a client may choose: who logs users in calls `sshkey.log_in`, and who is shown a host's certificate
-`sshkey.check_host_certificate`.
+by name, and - is no name that a client may choose: who logs users in calls `rafendilo.log_in`, and who is shown a host's certificate
+`rafendilo.check_host_certificate`.
 """
 from __future__ import annotations
 
@@ -19,7 +19,7 @@ from collections.abc import Callable, Collection
 from typing import Any
 
 try:
-    import sshkey
+    import rafendilo
 except (ImportError, OSError) as fault:  # the library is not there, or is another
     if __name__ != "__main__":
         raise
@@ -29,9 +29,9 @@ except (ImportError, OSError) as fault:  # the library is not there, or is anoth
 
 def read(line: str | bytes, is_certificate: bool) -> bytes:
     """The key or the certificate of a line. Raises Refused where it is none."""
-    found = sshkey.read_line(line)
+    found = rafendilo.read_line(line)
     if found.is_certificate != is_certificate:
-        raise sshkey.Refused(sshkey.Status.LABEL)
+        raise rafendilo.Refused(rafendilo.Status.LABEL)
     return found.blob
 
 
@@ -41,10 +41,10 @@ def fingerprints(path: str) -> Collection[bytes]:
     with open(path, "rb") as file:
         text = file.read()
     try:
-        found = sshkey.authorities(text)
-    except sshkey.NoKey as fault:
+        found = rafendilo.authorities(text)
+    except rafendilo.NoKey as fault:
         raise ValueError(f"{path}:{fault.line}: no key") from fault
-    for number in found.other_lines:
+    for number in found.later_lines:
         print(f"check.py: {path}:{number}: a later kind of key, which is passed over", file=sys.stderr)
     return found.keys
 
@@ -53,16 +53,16 @@ def is_valid(ask: Callable[..., None], *given: Any) -> bool:
     """Whether the call does not refuse what it is given, which it prints."""
     try:
         ask(*given)
-    except sshkey.Refused as refused:
+    except rafendilo.Refused as refused:
         print(f"refused: {refused}")
         return False
     print("valid")
     return True
 
 
-def judge_line(line: bytes, now: int, principal: bytes | None, authorities: Collection[bytes]) -> None:
+def check_line(line: bytes, now: int, principal: bytes | None, authorities: Collection[bytes]) -> None:
     """Raises Refused unless the line is that of a valid certificate."""
-    sshkey.judge_certificate(read(line, is_certificate=True), now, authorities, principal)
+    rafendilo.check_certificate(read(line, is_certificate=True), now, authorities, principal)
 
 
 def second_of(word: str) -> int:
@@ -79,7 +79,7 @@ def certificates(authorities: str, principal: str, second: str | None = None) ->
     whom = None if principal == "-" else os.fsencode(principal)
     by, found = fingerprints(authorities), []
     for line in sys.stdin.buffer:
-        found.append(is_valid(judge_line, line, now, whom, by))
+        found.append(is_valid(check_line, line, now, whom, by))
     if not found:
         raise ValueError("no certificate was given")
     return all(found)
@@ -106,7 +106,7 @@ def signature(signers: str, namespace: str, file: str) -> bool:
     given, by = unarmoured(sys.stdin.buffer.read()), fingerprints(signers)
     with open(file, "rb") as opened:
         message = opened.read()
-    return is_valid(sshkey.judge_sshsig, given, namespace, message, by)
+    return is_valid(rafendilo.check_sshsig, given, namespace, message, by)
 
 
 COMMANDS: dict[str, Callable[..., bool]] = {"certificates": certificates, "signature": signature}

@@ -15,8 +15,8 @@ import sys
 from collections.abc import Collection, Iterable, Iterator
 
 try:
-    import sshkey
-    from sshkey import Status
+    import rafendilo
+    from rafendilo import Status
 except (ImportError, OSError) as fault:  # the library is not there, or is another
     if __name__ != "__main__":
         raise
@@ -29,11 +29,11 @@ WORDS = {
 }  # fmt: skip
 
 
-def word_for(login: sshkey.HostLogin, key: bytes) -> str:
+def word_for(login: rafendilo.HostLogin, key: bytes) -> str:
     """What is said of a key. Raises Refused where the bytes are none, or a file can't be read."""
     try:
-        sshkey.check_host_key(login, key)
-    except sshkey.Refused as refused:
+        rafendilo.check_host_key(login, key)
+    except rafendilo.Refused as refused:
         if refused.status not in WORDS:
             raise
         return WORDS[refused.status]
@@ -50,11 +50,11 @@ def keys_in(lines: Iterable[bytes], host: str, port: int) -> Iterator[bytes]:
             yield line[len(name) :] if line.startswith(name) else line
 
 
-def word_of_line(login: sshkey.HostLogin, line: bytes) -> str:
+def word_of_line(login: rafendilo.HostLogin, line: bytes) -> str:
     """What is said of the key of a line. Raises Refused where there is none."""
-    if sshkey.is_other_key_line(line.rstrip()):
+    if rafendilo.is_later_key_line(line.rstrip()):
         return "later"
-    return word_for(login, sshkey.read_line(line).blob)
+    return word_for(login, rafendilo.read_line(line).blob)
 
 
 def port_of(word: str) -> int:
@@ -71,7 +71,7 @@ def content(path: str) -> bytes:
 
 def are_trusted(host: str, port: int, paths: Collection[str], revoked: Collection[bytes]) -> bool:
     """Whether each key of the input is, but later ones, of which it prints the words. Raises ValueError where a line has no key."""
-    login = sshkey.HostLogin([content(it) for it in paths], host, port, revoked)
+    login = rafendilo.HostLogin([content(it) for it in paths], host, port, revoked)
     words = []
     for line in keys_in(sys.stdin.buffer, host, port):
         words.append(word_of_line(login, line))
@@ -83,9 +83,9 @@ def are_trusted(host: str, port: int, paths: Collection[str], revoked: Collectio
     return set(words) - {"later"} == {"trusted"}
 
 
-def tell_unreadable(login: sshkey.HostLogin, paths: Collection[str]) -> None:
+def tell_unreadable(login: rafendilo.HostLogin, paths: Collection[str]) -> None:
     for path, text in zip(paths, login.known_hosts):
-        number = sshkey.unreadable_host_line(text, login.host, login.port)
+        number = rafendilo.unreadable_host_line(text, login.host, login.port)
         if number is not None:
             print(f"host.py: {path}:{number}: a line that may revoke it and can't be read", file=sys.stderr)
 
@@ -102,7 +102,7 @@ def main() -> int:
     try:
         if sys.stdin is None or sys.stdout is None:
             raise OSError("standard input or output is closed")
-        files = [content(it) for it in revoked] or sshkey.NO_REVOCATIONS
+        files = [content(it) for it in revoked] or rafendilo.NO_REVOCATIONS
         return int(not are_trusted(host, port_of(port), paths, files))
     except (OSError, ValueError, MemoryError) as error:
         print(f"host.py: {error}", file=sys.stderr)

@@ -23,7 +23,7 @@ try:
     from cryptography.hazmat.primitives.asymmetric.ed25519 import Ed25519PrivateKey
 
     import check
-    import sshkey
+    import rafendilo
 except (ImportError, OSError) as fault:  # a library is not there, or is another
     if __name__ != "__main__":
         raise
@@ -50,7 +50,7 @@ def blob_in(path: str) -> bytes:
         line = file.read()
     try:
         return check.read(line, is_certificate=False)
-    except sshkey.Refused as refused:
+    except rafendilo.Refused as refused:
         raise ValueError(f"{path} has no key: {refused}") from refused
 
 
@@ -60,17 +60,17 @@ def issue(signer: Ed25519PrivateKey, key: bytes, key_id: str, seconds: int, prin
     if not key_id.isprintable():
         raise ValueError(f"the key id {key_id!r} is not printable")
     point = signer.public_key().public_bytes(serialization.Encoding.Raw, serialization.PublicFormat.Raw)
-    by = sshkey.string("ssh-ed25519") + sshkey.string(point)
+    by = rafendilo.string("ssh-ed25519") + rafendilo.string(point)
     now = int(time.time())
 
     def sign(message: bytes) -> bytes:
-        return sshkey.string("ssh-ed25519") + sshkey.string(signer.sign(message))
+        return rafendilo.string("ssh-ed25519") + rafendilo.string(signer.sign(message))
 
-    made = sshkey.make_certificate(
+    made = rafendilo.make_certificate(
         key, by, sign, principals=principals, key_id=key_id, serial=1 + secrets.randbelow(2**63 - 1), valid_after=now,
         valid_before=now + seconds, extensions={"permit-pty": ""},
     )  # fmt: skip
-    sshkey.judge_certificate(made, now, [sshkey.fingerprint(by)], principals[0])
+    rafendilo.check_certificate(made, now, [rafendilo.fingerprint(by)], principals[0])
     return made
 
 
@@ -86,7 +86,7 @@ def main() -> int:
         made = issue(signer, blob, key_id, check.second_of(seconds), principals)
         name = made[4 : 4 + int.from_bytes(made[:4], "big")].decode()
         print(name, base64.b64encode(made).decode(), key_id, flush=True)
-    except sshkey.Refused as refused:
+    except rafendilo.Refused as refused:
         print(f"issue.py: {refused}", file=sys.stderr)
         return 1
     except (OSError, ValueError, MemoryError) as error:

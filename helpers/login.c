@@ -119,34 +119,34 @@ void login_complain(const login_request *asked, const char *format, ...) {
 
 /* Whether it says that nothing can be told, and not that the client is not let in. */
 static bool is_untold(uint32_t answer) {
-  return answer == SSHKEY_MEMORY || answer == SSHKEY_TEXT || answer == SSHKEY_UNREADABLE_REVOCATIONS;
+  return answer == RAF_MEMORY || answer == RAF_TEXT || answer == RAF_UNREADABLE_REVOCATIONS;
 }
 
 int login_refuse(const login_request *asked, uint32_t answer) {
   login_complain(asked, "%s: %s (%" PRIu32 ")", is_untold(answer) ? "it can't tell" : "refused",
-                 judge_meaning(answer), answer);
+                 raf_status_meaning(answer), answer);
   return is_untold(answer) ? program_untold : 0;
 }
 
 /* Writes the fingerprint of a key; false where it has none. */
 static bool write_key(FILE *to, const uint8_t *key, size_t length) {
-  uint8_t text[SSHKEY_FINGERPRINT_TEXT] = {0};
-  sshkey_sha256 digest = {{0}};
-  if (sshkey_fingerprint(key, length, &digest) != SSHKEY_DONE ||
-      sshkey_fingerprint_text(&digest, text, sizeof text) != SSHKEY_DONE)
+  uint8_t text[RAF_FINGERPRINT_TEXT] = {0};
+  raf_sha256 digest = {{0}};
+  if (raf_fingerprint(key, length, &digest) != RAF_DONE ||
+      raf_fingerprint_text(&digest, text, sizeof text) != RAF_DONE)
     return false;
   fprintf(to, "%.*s", (int)sizeof text, (const char *)text);
   return true;
 }
 
-static bool write_certificate(FILE *to, judge_blob certificate) {
+static bool write_certificate(FILE *to, raf_blob certificate) {
   const uint8_t *bytes = certificate.bytes;
-  sshkey_fields fields;
-  sshkey_parts parts;
+  raf_fields fields;
+  raf_parts parts;
   memset(&fields, 0, sizeof fields);
   memset(&parts, 0, sizeof parts);
-  if (sshkey_certificate_fields(bytes, certificate.length, &fields) != SSHKEY_DONE ||
-      sshkey_certificate_parts(bytes, certificate.length, &parts) != SSHKEY_DONE)
+  if (raf_certificate_fields(bytes, certificate.length, &fields) != RAF_DONE ||
+      raf_certificate_parts(bytes, certificate.length, &parts) != RAF_DONE)
     return false;
   fputs("certificate \"", to);
   write_escaped(to, bytes + parts.key_id.start, parts.key_id.length);
@@ -154,7 +154,7 @@ static bool write_certificate(FILE *to, judge_blob certificate) {
   return write_key(to, bytes + parts.authority.start, parts.authority.length);
 }
 
-void login_note(login_request *asked, judge_blob offered, bool is_certificate) {
+void login_note(login_request *asked, raf_blob offered, bool is_certificate) {
   char *text = NULL;
   size_t length = 0;
   if (!asked->is_logged) return;
@@ -192,7 +192,7 @@ bool login_may_run(const login_request *asked) {
 }
 
 static bool is_safe(const struct stat *it, uid_t owner) {
-  return sshkey_strict_mode(it->st_uid, owner, it->st_mode) == SSHKEY_DONE;
+  return raf_check_safe_mode(it->st_uid, owner, it->st_mode) == RAF_DONE;
 }
 
 /* Whether each folder above the file is safe, up to that home or else to the root. */
@@ -226,12 +226,12 @@ static bool is_believed(const login_request *asked, FILE *file, const char *path
   }
   if (asked->is_insecure) return true;
   if (is_safe(&it, uid)) return has_safe_folders(asked, path, uid, user ? user->pw_dir : NULL);
-  login_complain(asked, "%s: %s", path, judge_meaning(SSHKEY_UNSAFE_MODE));
+  login_complain(asked, "%s: %s", path, raf_status_meaning(RAF_UNSAFE_MODE));
   return false;
 }
 
 login_reading login_read_file(const login_request *asked, const char *path, const char *owner,
-                              judge_blob *answer) {
+                              raf_blob *answer) {
   /* a FIFO or a device would keep it waiting */
   int opened = open(path, O_RDONLY | O_NONBLOCK | O_NOCTTY | O_CLOEXEC);
   FILE *file = opened < 0 ? NULL : fdopen(opened, "rb");
@@ -243,7 +243,7 @@ login_reading login_read_file(const login_request *asked, const char *path, cons
     return reading;
   }
   if (is_believed(asked, file, path, owner)) {
-    if (judge_read_stream(file, answer))
+    if (raf_read_stream(file, answer))
       reading = LOGIN_READ;
     else
       login_complain(asked, "%s: %s", path, strerror(errno));
@@ -254,9 +254,9 @@ login_reading login_read_file(const login_request *asked, const char *path, cons
 
 bool login_read_revoked(login_request *asked) {
   for (size_t at = 0; at < asked->revoked.count; at++) {
-    judge_blob text = {NULL, 0};
+    raf_blob text = {NULL, 0};
     if (login_read_file(asked, asked->revoked.paths[at], NULL, &text) != LOGIN_READ) return false;
-    asked->revoked.texts[at] = judge_span(text);
+    asked->revoked.texts[at] = raf_blob_span(text);
   }
   return true;
 }

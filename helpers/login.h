@@ -36,7 +36,7 @@ void login_complain(const login_request *asked, const char *format, ...)
 int login_refuse(const login_request *asked, uint32_t answer);
 
 /* Has the log name what is offered: a key, or a certificate by its id, number and authority. */
-void login_note(login_request *asked, judge_blob offered, bool is_certificate);
+void login_note(login_request *asked, raf_blob offered, bool is_certificate);
 
 /* Whether the program may run at all: not as `nobody`, who runs other things too. Any process of
  * the same user can write to sshd in place of the program. Says so where it may not. */
@@ -49,7 +49,7 @@ typedef enum { LOGIN_READ, LOGIN_MISSING, LOGIN_UNTOLD } login_reading;
  * user of that name, in whose home the folders end; null is root alone. Says why where it is not
  * read. */
 login_reading login_read_file(const login_request *asked, const char *path, const char *owner,
-                              judge_blob *answer);
+                              raf_blob *answer);
 
 /* Reads the revocation files of the request; false where one is not read, which is said. */
 bool login_read_revoked(login_request *asked);

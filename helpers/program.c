@@ -23,7 +23,7 @@ bool program_is_written(void) {
 }
 
 void program_show_version(void) {
-  uint32_t version = sshkey_version();
+  uint32_t version = raf_version();
   printf("%s %" PRIu32 ".%" PRIu32 ".%" PRIu32 "\n", program_name, version / 10000,
          version / 100 % 100, version % 100);
 }
@@ -39,13 +39,13 @@ int program_show(int count, char **words, const char *help) {
   return program_is_written() ? 0 : program_untold;
 }
 
-uint32_t program_each_line(judge_blob text, program_line *each, void *given, size_t *number) {
-  sshkey_part line = {0, 0};
-  uint32_t answer = SSHKEY_DONE;
+uint32_t program_each_line(raf_blob text, program_line *each, void *given, size_t *number) {
+  raf_part line = {0, 0};
+  uint32_t answer = RAF_DONE;
   size_t place = 0, counted = 0;
   *number = 1;
-  while (answer == SSHKEY_DONE &&
-         sshkey_next_line(text.bytes, text.length, place, &line) == SSHKEY_DONE) {
+  while (answer == RAF_DONE &&
+         raf_next_line(text.bytes, text.length, place, &line) == RAF_DONE) {
     for (; counted < line.start; counted++) *number += text.bytes[counted] == '\n';
     answer = each((const char *)text.bytes + line.start, line.length, *number, given);
     place = line.start + line.length;
@@ -59,24 +59,24 @@ bool program_add_path(program_files *to, const char *path) {
   size_t count = to->count + 1;
   const char **paths = realloc(to->paths, count * sizeof *paths);
   if (paths) to->paths = paths;
-  sshkey_span *texts = paths ? realloc(to->texts, count * sizeof *texts) : NULL;
+  raf_span *texts = paths ? realloc(to->texts, count * sizeof *texts) : NULL;
   if (!texts) {
     program_complain("no memory");
     return false;
   }
   to->texts = texts;
   to->paths[to->count] = path;
-  to->texts[to->count] = (sshkey_span){NULL, 0};
+  to->texts[to->count] = (raf_span){NULL, 0};
   to->count = count;
   return true;
 }
 
-sshkey_spans program_texts(const program_files *files) {
-  return (sshkey_spans){files->texts, files->count};
+raf_spans program_texts(const program_files *files) {
+  return (raf_spans){files->texts, files->count};
 }
 
-sshkey_spans program_revocations(const program_files *files) {
-  return files->count ? program_texts(files) : SSHKEY_NO_REVOCATIONS;
+raf_spans program_revocations(const program_files *files) {
+  return files->count ? program_texts(files) : RAF_NO_REVOCATIONS;
 }
 
 void program_forget(program_files *files) {

@@ -4,7 +4,7 @@
 #include <stdbool.h>
 #include <stddef.h>
 #include <stdint.h>
-#include "judge.h"
+#include "reading.h"
 
 /* The name of the program, as it is installed, and the status by which it says that it can't tell.
  * Each has its own. */
@@ -28,18 +28,18 @@ int program_show(int count, char **words, const char *help);
  * answers then as if a signature were wrong. To be called before libcrypto is, once. */
 void program_end_without_memory(void);
 
-/* What is done with a line and its number: SSHKEY_DONE, or why no further one is to be given. */
+/* What is done with a line and its number: RAF_DONE, or why no further one is to be given. */
 typedef uint32_t program_line(const char *line, size_t length, size_t number, void *given);
 
-/* Gives each line of the text that is neither empty nor a comment, as long as that is SSHKEY_DONE;
+/* Gives each line of the text that is neither empty nor a comment, as long as that is RAF_DONE;
  * else it is the answer, and `number` that of the line. */
-uint32_t program_each_line(judge_blob text, program_line *each, void *given, size_t *number);
+uint32_t program_each_line(raf_blob text, program_line *each, void *given, size_t *number);
 
 /* Files of which a word may name several: what they hold, once they are read, as calls take it, and
  * of malloc. */
 typedef struct {
   const char **paths;
-  sshkey_span *texts;
+  raf_span *texts;
   size_t count;
 } program_files;
 
@@ -48,8 +48,8 @@ bool program_add_path(program_files *to, const char *path);
 
 /* What they hold, of which all are read; and the same of revocation files, where nothing is revoked
  * if there are none. */
-sshkey_spans program_texts(const program_files *files);
-sshkey_spans program_revocations(const program_files *files);
+raf_spans program_texts(const program_files *files);
+raf_spans program_revocations(const program_files *files);
 
 /* Gives their memory back. */
 void program_forget(program_files *files);

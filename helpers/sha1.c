@@ -20,7 +20,7 @@ static bool is_end(size_t digits, size_t padding, uint32_t bits) {
   return digits % 4 == 0 && padding == 0;
 }
 
-size_t judge_decode_base64(uint8_t *bytes, size_t length) {
+size_t raf_decode_base64(uint8_t *bytes, size_t length) {
   size_t digits = 0, padding = 0, decoded = 0;
   uint32_t bits = 0;
   for (size_t at = 0; at < length; at++) {
@@ -43,10 +43,10 @@ static const char sha1[] = "\0\0\0\7ssh-rsa", sha256[] = "\0\0\0\14rsa-sha2-256"
 enum { SHA1 = sizeof sha1 - 1, SHA256 = sizeof sha256 - 1, MOST_PARTS = 4 };
 
 /* The place after that many strings, from that place on; SIZE_MAX where they are none. */
-static size_t skip(judge_blob bytes, size_t place, size_t strings) {
-  sshkey_part part = {0, 0};
+static size_t skip(raf_blob bytes, size_t place, size_t strings) {
+  raf_part part = {0, 0};
   for (; strings && place <= bytes.length; strings--) {
-    if (sshkey_next_string(bytes.bytes, bytes.length, place, &part) != SSHKEY_DONE)
+    if (raf_next_string(bytes.bytes, bytes.length, place, &part) != RAF_DONE)
       return SIZE_MAX;
     place = part.start + part.length;
   }
@@ -55,7 +55,7 @@ static size_t skip(judge_blob bytes, size_t place, size_t strings) {
 
 /* Where the signature of a certificate begins whose key has so many parts, if its last string is
  * one by SHA-1; else SIZE_MAX (PROTOCOL.certkeys). */
-static size_t signature_in(judge_blob bytes, size_t parts) {
+static size_t signature_in(raf_blob bytes, size_t parts) {
   /* type, nonce and key; serial number and type; key id and principals; the window; critical
    * options, extensions, a reserved string and the authority */
   size_t place = skip(bytes, 0, 2 + parts);
@@ -67,44 +67,44 @@ static size_t signature_in(judge_blob bytes, size_t parts) {
 }
 
 /* Names another hash in the signature, for which there has to be room after the bytes. */
-static judge_blob renamed(judge_blob bytes, size_t place) {
+static raf_blob renamed(raf_blob bytes, size_t place) {
   size_t length = bytes.length - place - 4 + SHA256 - SHA1;
   uint8_t *signature = bytes.bytes + place + 4;
   memmove(signature + SHA256, signature + SHA1, bytes.length - place - 4 - SHA1);
   memcpy(signature, sha256, SHA256);
   for (size_t at = 0; at < 4; at++)
     bytes.bytes[place + at] = (uint8_t)(length >> (8 * (3 - at)));
-  return (judge_blob){bytes.bytes, bytes.length + SHA256 - SHA1};
+  return (raf_blob){bytes.bytes, bytes.length + SHA256 - SHA1};
 }
 
 /* The bytes of the second word of a line, and room after them; none where there is none. */
-static judge_blob word_of(const char *line, size_t length) {
-  judge_blob word = {calloc(1, length + SHA256), 0};
+static raf_blob word_of(const char *line, size_t length) {
+  raf_blob word = {calloc(1, length + SHA256), 0};
   const char *front = memchr(line, ' ', length);
   if (!word.bytes || !front) return word;
   size_t left = length - (size_t)(++front - line);
   const char *end = memchr(front, ' ', left);
   word.length = end ? (size_t)(end - front) : left;
   memcpy(word.bytes, front, word.length);
-  size_t decoded = judge_decode_base64(word.bytes, word.length);
+  size_t decoded = raf_decode_base64(word.bytes, word.length);
   word.length = decoded == SIZE_MAX ? 0 : decoded;
   return word;
 }
 
-uint32_t judge_read_sha1(const char *line, size_t length, judge_blob *answer) {
-  sshkey_fields fields;
+uint32_t raf_read_sha1_line(const char *line, size_t length, raf_blob *answer) {
+  raf_fields fields;
   memset(&fields, 0, sizeof fields);
-  judge_blob found = word_of(line, length);
-  if (!found.bytes) return SSHKEY_MEMORY;
+  raf_blob found = word_of(line, length);
+  if (!found.bytes) return RAF_MEMORY;
   size_t place = SIZE_MAX;
   for (size_t parts = 1; parts <= MOST_PARTS && place == SIZE_MAX; parts++)
     place = signature_in(found, parts);
   if (place != SIZE_MAX) found = renamed(found, place);
   if (place == SIZE_MAX ||
-      sshkey_certificate_fields(found.bytes, found.length, &fields) != SSHKEY_DONE) {
+      raf_certificate_fields(found.bytes, found.length, &fields) != RAF_DONE) {
     free(found.bytes);
-    return SSHKEY_LENGTH;
+    return RAF_LENGTH;
   }
   *answer = found;
-  return SSHKEY_RSA_SHA1;
+  return RAF_RSA_SHA1;
 }

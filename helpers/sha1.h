@@ -4,21 +4,21 @@
 #define SHA1_H
 #include <stddef.h>
 #include <stdint.h>
-#include "judge.h"
+#include "reading.h"
 
 #ifdef __cplusplus
 extern "C" {
 #endif
 
-/* SSHKEY_RSA_SHA1 where the line is that of a certificate, but that its signature is one by SHA-1;
- * else SSHKEY_LENGTH, or SSHKEY_MEMORY. With the first the answer is the certificate under another
- * name in its signature, rsa-sha2-256, so that the calls of sshkey.h read all that stands before:
+/* RAF_RSA_SHA1 where the line is that of a certificate, but that its signature is one by SHA-1;
+ * else RAF_LENGTH, or RAF_MEMORY. With the first the answer is the certificate under another
+ * name in its signature, rsa-sha2-256, so that the calls of rafendilo.h read all that stands before:
  * nobody signed it, and it is there to be shown. */
-uint32_t judge_read_sha1(const char *line, size_t length, judge_blob *answer);
+uint32_t raf_read_sha1_line(const char *line, size_t length, raf_blob *answer);
 
 /* Decodes Base64 with white space in it to the front of the same bytes: their number, or SIZE_MAX
  * where it is none. */
-size_t judge_decode_base64(uint8_t *bytes, size_t length);
+size_t raf_decode_base64(uint8_t *bytes, size_t length);
 
 #ifdef __cplusplus
 }

@@ -15,7 +15,7 @@ typedef struct {
   size_t length;
 } slice;
 
-static slice slice_of(const uint8_t *bytes, sshkey_part part) {
+static slice slice_of(const uint8_t *bytes, raf_part part) {
   return (slice){bytes + part.start, part.length};
 }
 
@@ -36,9 +36,9 @@ static void print_text(slice text) {
 
 /* The first of the strings that the bytes are. */
 static slice first_string(slice bytes) {
-  sshkey_part part = {0, 0};
-  uint32_t answer = sshkey_next_string(bytes.bytes, bytes.length, 0, &part);
-  return answer == SSHKEY_DONE ? slice_of(bytes.bytes, part) : (slice){bytes.bytes, 0};
+  raf_part part = {0, 0};
+  uint32_t answer = raf_next_string(bytes.bytes, bytes.length, 0, &part);
+  return answer == RAF_DONE ? slice_of(bytes.bytes, part) : (slice){bytes.bytes, 0};
 }
 
 /* ---- keys */
@@ -56,31 +56,31 @@ static uint32_t print_key(slice key, const char *ending) {
       {"ecdsa-sha2-nistp521", "ECDSA"},
       {"sk-ssh-ed25519@openssh.com", "ED25519-SK"},
       {"sk-ecdsa-sha2-nistp256@openssh.com", "ECDSA-SK"}};
-  uint8_t text[SSHKEY_FINGERPRINT_TEXT] = {0};
-  sshkey_sha256 digest = {{0}};
+  uint8_t text[RAF_FINGERPRINT_TEXT] = {0};
+  raf_sha256 digest = {{0}};
   slice name = first_string(key);
   size_t at = 0, count = sizeof kinds / sizeof *kinds;
-  uint32_t answer = sshkey_fingerprint(key.bytes, key.length, &digest);
-  if (answer == SSHKEY_DONE) answer = sshkey_fingerprint_text(&digest, text, sizeof text);
-  if (answer != SSHKEY_DONE) return answer;
+  uint32_t answer = raf_fingerprint(key.bytes, key.length, &digest);
+  if (answer == RAF_DONE) answer = raf_fingerprint_text(&digest, text, sizeof text);
+  if (answer != RAF_DONE) return answer;
   while (at < count && !is_text(name, kinds[at][0])) at++;
   if (at < count)
     printf("%s", kinds[at][1]);
   else
     print_text(name);
   printf("%s %.*s", ending, (int)sizeof text, (const char *)text);
-  return SSHKEY_DONE;
+  return RAF_DONE;
 }
 
 /* The key that is certified, which does not stand whole in the certificate. */
-static uint32_t print_certified_key(judge_blob certificate) {
+static uint32_t print_certified_key(raf_blob certificate) {
   size_t length = 0;
   /* a room as long as the certificate is enough */
   uint8_t *room = calloc(1, certificate.length);
-  if (!room) return SSHKEY_MEMORY;
-  uint32_t answer = sshkey_certificate_key(certificate.bytes, certificate.length, room,
+  if (!room) return RAF_MEMORY;
+  uint32_t answer = raf_certificate_key(certificate.bytes, certificate.length, room,
                                            certificate.length, &length);
-  if (answer == SSHKEY_DONE) answer = print_key((slice){room, length}, "-CERT");
+  if (answer == RAF_DONE) answer = print_key((slice){room, length}, "-CERT");
   free(room);
   return answer;
 }
@@ -97,8 +97,8 @@ static void print_time(uint64_t second) {
     printf("second %" PRIu64, second);
 }
 
-static void print_window(const sshkey_fields *fields) {
-  bool begins = fields->valid_after != 0, ends = fields->valid_before != SSHKEY_FOREVER;
+static void print_window(const raf_fields *fields) {
+  bool begins = fields->valid_after != 0, ends = fields->valid_before != RAF_FOREVER;
   const char *one = begins ? "after " : ends ? "before " : "forever";
   printf("        Valid: %s", begins && ends ? "from " : one);
   if (begins) print_time(fields->valid_after);
@@ -110,10 +110,10 @@ static void print_window(const sshkey_fields *fields) {
 /* ---- lists */
 
 static void print_principals(slice list) {
-  sshkey_part name = {0, 0};
+  raf_part name = {0, 0};
   printf("        Principals: %s\n", list.length ? "" : "(none)");
   for (size_t place = 0;
-       sshkey_next_string(list.bytes, list.length, place, &name) == SSHKEY_DONE;
+       raf_next_string(list.bytes, list.length, place, &name) == RAF_DONE;
        place = name.start + name.length) {
     printf(INDENT);
     print_text(slice_of(list.bytes, name));
@@ -134,10 +134,10 @@ static bool is_known(bool is_critical, bool has_value, slice name) {
 }
 
 static void print_options(const char *title, bool is_critical, slice list) {
-  sshkey_certificate_option_parts option;
+  raf_certificate_option_parts option;
   memset(&option, 0, sizeof option);
   printf("        %s: %s\n", title, list.length ? "" : "(none)");
-  while (sshkey_next_option(list.bytes, list.length, option.next, &option) == SSHKEY_DONE) {
+  while (raf_next_certificate_option(list.bytes, list.length, option.next, &option) == RAF_DONE) {
     slice name = slice_of(list.bytes, option.name);
     /* after the length of four bytes what the option holds, in which the value stands */
     size_t held = option.name.start + option.name.length + 4;
@@ -160,30 +160,30 @@ static void print_options(const char *title, bool is_critical, slice list) {
 /* ---- all of it */
 
 /* The name of the algorithm by which the certificate is signed: its last string begins with it. */
-static slice algorithm_of(judge_blob certificate, const sshkey_parts *parts) {
+static slice algorithm_of(raf_blob certificate, const raf_parts *parts) {
   size_t place = parts->authority.start + parts->authority.length;
   slice rest = {certificate.bytes + place, certificate.length - place};
   return first_string(first_string(rest));
 }
 
-uint32_t show_certificate(judge_blob certificate, const char *signed_by) {
+uint32_t show_certificate(raf_blob certificate, const char *signed_by) {
   const uint8_t *bytes = certificate.bytes;
-  sshkey_fields fields;
-  sshkey_parts parts;
+  raf_fields fields;
+  raf_parts parts;
   memset(&fields, 0, sizeof fields);
   memset(&parts, 0, sizeof parts);
-  uint32_t answer = sshkey_certificate_fields(bytes, certificate.length, &fields);
-  if (answer == SSHKEY_DONE) answer = sshkey_certificate_parts(bytes, certificate.length, &parts);
-  if (answer != SSHKEY_DONE) return answer;
+  uint32_t answer = raf_certificate_fields(bytes, certificate.length, &fields);
+  if (answer == RAF_DONE) answer = raf_certificate_parts(bytes, certificate.length, &parts);
+  if (answer != RAF_DONE) return answer;
   printf("        Type: ");
   print_text(first_string((slice){bytes, certificate.length}));
-  const char *whose = fields.certificate_type == SSHKEY_USER ? "user" : "host";
+  const char *whose = fields.certificate_type == RAF_USER ? "user" : "host";
   printf(" %s certificate\n        Public key: ", whose);
   answer = print_certified_key(certificate);
-  if (answer != SSHKEY_DONE) return answer;
+  if (answer != RAF_DONE) return answer;
   printf("\n        Signing CA: ");
   answer = print_key(slice_of(bytes, parts.authority), "");
-  if (answer != SSHKEY_DONE) return answer;
+  if (answer != RAF_DONE) return answer;
   printf(" (using ");
   if (signed_by)
     printf("%s", signed_by);
@@ -196,7 +196,7 @@ uint32_t show_certificate(judge_blob certificate, const char *signed_by) {
   print_principals(slice_of(bytes, parts.principals));
   print_options("Critical Options", true, slice_of(bytes, parts.critical_options));
   print_options("Extensions", false, slice_of(bytes, parts.extensions));
-  return SSHKEY_DONE;
+  return RAF_DONE;
 }
 
 /* ---- grants */
@@ -205,13 +205,13 @@ static void print_permissions(uint32_t permits) {
   static const struct {
     const char *words;
     uint32_t bit;
-  } all[] = {{"any command", SSHKEY_PERMIT_ANY_COMMAND},
-             {"pty", SSHKEY_PERMIT_PTY},
-             {"port forwarding", SSHKEY_PERMIT_PORT_FORWARDING},
-             {"agent forwarding", SSHKEY_PERMIT_AGENT_FORWARDING},
-             {"X11 forwarding", SSHKEY_PERMIT_X11_FORWARDING},
-             {"user rc", SSHKEY_PERMIT_USER_RC},
-             {"tunnels", SSHKEY_PERMIT_TUNNELS}};
+  } all[] = {{"any command", RAF_PERMIT_ANY_COMMAND},
+             {"pty", RAF_PERMIT_PTY},
+             {"port forwarding", RAF_PERMIT_PORT_FORWARDING},
+             {"agent forwarding", RAF_PERMIT_AGENT_FORWARDING},
+             {"X11 forwarding", RAF_PERMIT_X11_FORWARDING},
+             {"user rc", RAF_PERMIT_USER_RC},
+             {"tunnels", RAF_PERMIT_TUNNELS}};
   const char *before = "        Permits: ";
   for (size_t at = 0; at < sizeof all / sizeof *all; at++) {
     if (!(permits & all[at].bit)) continue;
@@ -231,10 +231,10 @@ static void print_host(slice host) {
 
 /* Prints each host and its port, which is two bytes, or none for any. */
 static void print_ports(const char *title, slice list) {
-  sshkey_part host = {0, 0}, port = {0, 0};
+  raf_part host = {0, 0}, port = {0, 0};
   for (size_t place = 0;
-       sshkey_next_string(list.bytes, list.length, place, &host) == SSHKEY_DONE &&
-       sshkey_next_string(list.bytes, list.length, host.start + host.length, &port) == SSHKEY_DONE;
+       raf_next_string(list.bytes, list.length, place, &host) == RAF_DONE &&
+       raf_next_string(list.bytes, list.length, host.start + host.length, &port) == RAF_DONE;
        place = port.start + port.length) {
     const uint8_t *number = list.bytes + port.start;
     printf("        %s: ", title);
@@ -247,9 +247,9 @@ static void print_ports(const char *title, slice list) {
 }
 
 static void print_strings(const char *title, slice list) {
-  sshkey_part part = {0, 0};
+  raf_part part = {0, 0};
   for (size_t place = 0;
-       sshkey_next_string(list.bytes, list.length, place, &part) == SSHKEY_DONE;
+       raf_next_string(list.bytes, list.length, place, &part) == RAF_DONE;
        place = part.start + part.length) {
     printf("        %s: ", title);
     print_text(slice_of(list.bytes, part));
@@ -258,7 +258,7 @@ static void print_strings(const char *title, slice list) {
 }
 
 /* The last second, or the first and the last that it may be. */
-static void print_expiry(sshkey_time_span expires) {
+static void print_expiry(raf_time_span expires) {
   if (expires.first == UINT64_MAX) return;
   printf("        Valid until: ");
   print_time(expires.first);
@@ -270,8 +270,8 @@ static void print_expiry(sshkey_time_span expires) {
 }
 
 /* The command that alone may run, and what is permitted. */
-static void print_permitted(const sshkey_grant *grant, const uint8_t *room) {
-  if (!(grant->permits & SSHKEY_PERMIT_ANY_COMMAND)) {
+static void print_permitted(const raf_grant *grant, const uint8_t *room) {
+  if (!(grant->permits & RAF_PERMIT_ANY_COMMAND)) {
     printf("        Command: ");
     print_text(slice_of(room, grant->force_command));
     putchar('\n');
@@ -281,34 +281,34 @@ static void print_permitted(const sshkey_grant *grant, const uint8_t *room) {
 
 /* What a security key's signature may lack, and what it may not. */
 static void print_flags(uint32_t permits) {
-  if (permits & SSHKEY_PERMIT_NO_TOUCH) puts("        Touch: not required");
-  if (!(permits & SSHKEY_PERMIT_NO_VERIFICATION)) puts("        Verification: required");
+  if (permits & RAF_PERMIT_NO_TOUCH) puts("        Touch: not required");
+  if (!(permits & RAF_PERMIT_NO_VERIFICATION)) puts("        Verification: required");
 }
 
-static void print_certificate(const sshkey_grant *grant, const uint8_t *room) {
-  uint8_t text[SSHKEY_FINGERPRINT_TEXT] = {0};
+static void print_certificate(const raf_grant *grant, const uint8_t *room) {
+  uint8_t text[RAF_FINGERPRINT_TEXT] = {0};
   printf("        Key ID: \"");
   print_text(slice_of(room, grant->key_id));
   printf("\"\n        Serial: %" PRIu64 "\n", grant->serial);
-  if (sshkey_fingerprint_text(&grant->authority, text, sizeof text) == SSHKEY_DONE)
+  if (raf_fingerprint_text(&grant->authority, text, sizeof text) == RAF_DONE)
     printf("        Signing CA: %.*s\n", (int)sizeof text, (const char *)text);
 }
 
-void show_certified(const sshkey_grant *grant, const uint8_t *room) {
+void show_certified(const raf_grant *grant, const uint8_t *room) {
   print_permitted(grant, room);
   print_flags(grant->permits);
   print_certificate(grant, room);
 }
 
-void show_grant(const sshkey_user_grant *grant, const uint8_t *room, bool is_certified) {
+void show_grant(const raf_user_grant *grant, const uint8_t *room, bool is_certified) {
   uint32_t permits = grant->grant.permits;
   printf("        Line: %zu\n", grant->line);
   print_permitted(&grant->grant, room);
   print_ports("Forwards to", slice_of(room, grant->permit_open));
   print_ports("Listens at", slice_of(room, grant->permit_listen));
-  if (!(permits & SSHKEY_PERMIT_ANY_TUNNEL) && grant->tunnel == ANY_DEVICE)
+  if (!(permits & RAF_PERMIT_ANY_TUNNEL) && grant->tunnel == ANY_DEVICE)
     puts("        Tunnel: any");
-  else if (!(permits & SSHKEY_PERMIT_ANY_TUNNEL))
+  else if (!(permits & RAF_PERMIT_ANY_TUNNEL))
     printf("        Tunnel: %" PRIu32 "\n", grant->tunnel);
   print_strings("Environment", slice_of(room, grant->environment));
   print_flags(permits);

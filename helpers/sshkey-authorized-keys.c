@@ -5,7 +5,7 @@
 #include <stdlib.h>
 #include <string.h>
 
-#include "judge.h"
+#include "reading.h"
 #include "login.h"
 #include "program.h"
 
@@ -26,47 +26,47 @@ static const char help[] =
 
 /* What the client offers. */
 typedef struct {
-  judge_blob blob; /* of malloc */
+  raf_blob blob; /* of malloc */
   bool is_certificate;
   size_t printed; /* how many lines are */
 } offered;
 
 static uint32_t read_offered(const login_request *asked, offered *answer) {
-  uint32_t status = judge_read_words(asked->type, asked->base64, SSHKEY_LINE_KEY, &answer->blob);
-  answer->is_certificate = status != SSHKEY_DONE;
-  return answer->is_certificate ? judge_read_words(asked->type, asked->base64,
-                                                   SSHKEY_LINE_CERTIFICATE, &answer->blob)
+  uint32_t status = raf_read_words_blob(asked->type, asked->base64, RAF_LINE_KEY, &answer->blob);
+  answer->is_certificate = status != RAF_DONE;
+  return answer->is_certificate ? raf_read_words_blob(asked->type, asked->base64,
+                                                   RAF_LINE_CERTIFICATE, &answer->blob)
                                 : status;
 }
 
-/* SSHKEY_END where the line is surely not one for what is offered. Any other is sshd's to judge, also
+/* RAF_END where the line is surely not one for what is offered. Any other is sshd's to judge, also
  * one that is no entry here. */
-static uint32_t judge_line(const uint8_t *line, size_t length, const offered *wanted) {
-  judge_blob blob = wanted->blob;
+static uint32_t check_line(const uint8_t *line, size_t length, const offered *wanted) {
+  raf_blob blob = wanted->blob;
   return wanted->is_certificate
-             ? sshkey_may_be_for_certificate(line, length, blob.bytes, blob.length)
-             : sshkey_may_be_for_key(line, length, blob.bytes, blob.length);
+             ? raf_line_may_name_authority(line, length, blob.bytes, blob.length)
+             : raf_line_may_name_key(line, length, blob.bytes, blob.length);
 }
 
 /* Prints the line unless it is surely none for what is offered; why it can't tell else. */
 static uint32_t print_line(const char *line, size_t length, size_t number, void *given) {
   offered *wanted = given;
   (void)number;
-  uint32_t answer = judge_line((const uint8_t *)line, length, wanted);
-  if (answer == SSHKEY_END) return SSHKEY_DONE;
-  if (answer != SSHKEY_DONE) return answer;
+  uint32_t answer = check_line((const uint8_t *)line, length, wanted);
+  if (answer == RAF_END) return RAF_DONE;
+  if (answer != RAF_DONE) return answer;
   fwrite(line, 1, length, stdout);
   putchar('\n');
   wanted->printed++;
-  return SSHKEY_DONE;
+  return RAF_DONE;
 }
 
 /* Prints what lines of the text there are for what is offered, and returns the status. */
-static int print_lines(const login_request *asked, judge_blob text, offered *wanted) {
+static int print_lines(const login_request *asked, raf_blob text, offered *wanted) {
   size_t number;
   uint32_t answer = program_each_line(text, print_line, wanted, &number);
-  if (answer != SSHKEY_DONE) {
-    login_complain(asked, "line %zu: %s", number, judge_meaning(answer));
+  if (answer != RAF_DONE) {
+    login_complain(asked, "line %zu: %s", number, raf_status_meaning(answer));
     return program_untold;
   }
   if (!wanted->printed) login_complain(asked, "refused: no line is for it");
@@ -88,7 +88,7 @@ static char *path_of(const login_request *asked) {
 
 /* Answers about what is offered, which is not revoked. */
 static int answer_offered(const login_request *asked, offered *wanted) {
-  judge_blob text = {NULL, 0};
+  raf_blob text = {NULL, 0};
   char *path = path_of(asked);
   int status = program_untold;
   if (path) {
@@ -102,14 +102,14 @@ static int answer_offered(const login_request *asked, offered *wanted) {
   return status;
 }
 
-/* SSHKEY_DONE where no revocation file revokes what is offered; else why it is refused. */
-static uint32_t judge_revoked(const login_request *asked, const offered *wanted) {
-  sshkey_spans revoked = program_revocations(&asked->revoked);
-  judge_blob blob = wanted->blob;
-  return sshkey_unrevoked(
+/* RAF_DONE where no revocation file revokes what is offered; else why it is refused. */
+static uint32_t check_revoked(const login_request *asked, const offered *wanted) {
+  raf_spans revoked = program_revocations(&asked->revoked);
+  raf_blob blob = wanted->blob;
+  return raf_unrevoked(
       wanted->is_certificate
-          ? sshkey_revoked_certificate(revoked.items, revoked.count, blob.bytes, blob.length)
-          : sshkey_revoked_key(revoked.items, revoked.count, blob.bytes, blob.length));
+          ? raf_check_unrevoked_certificate(revoked.items, revoked.count, blob.bytes, blob.length)
+          : raf_check_unrevoked_key(revoked.items, revoked.count, blob.bytes, blob.length));
 }
 
 static int answer_request(login_request *asked) {
@@ -117,13 +117,13 @@ static int answer_request(login_request *asked) {
   int status = program_untold;
   memset(&wanted, 0, sizeof wanted);
   uint32_t answer = read_offered(asked, &wanted);
-  if (answer != SSHKEY_DONE) {
-    login_complain(asked, "what is offered is no key: %s", judge_meaning(answer));
+  if (answer != RAF_DONE) {
+    login_complain(asked, "what is offered is no key: %s", raf_status_meaning(answer));
   } else {
     login_note(asked, wanted.blob, wanted.is_certificate);
     if (login_read_revoked(asked)) {
-      answer = judge_revoked(asked, &wanted);
-      status = answer == SSHKEY_DONE ? answer_offered(asked, &wanted)
+      answer = check_revoked(asked, &wanted);
+      status = answer == RAF_DONE ? answer_offered(asked, &wanted)
                                      : login_refuse(asked, answer);
     }
   }

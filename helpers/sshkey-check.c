@@ -10,7 +10,7 @@
 #include <string.h>
 
 #include "certificate.h"
-#include "judge.h"
+#include "reading.h"
 #include "program.h"
 #include "sha1.h"
 #include "show.h"
@@ -52,12 +52,12 @@ typedef struct {
   const char *host, *port;                   /* likewise */
   const char *keys, *name_space, *signature; /* likewise */
   const char *signers, *lines, *from;        /* likewise */
-  judge_signers allowed;
-  judge_blob listing;    /* the text of `lines` */
+  raf_signers allowed;
+  raf_blob listing;    /* the text of `lines` */
   uint8_t address[16];   /* of `from` */
   size_t address_length;
   bool is_verify, is_login;
-  judge_authorities by;
+  raf_authorities by;
   program_files known_hosts, revoked;
   uint64_t second, port_number;
   size_t count; /* of the lines that are answered */
@@ -67,42 +67,42 @@ typedef struct {
 
 /* Whether it can't tell: nothing follows of what is asked about. */
 static bool can_not_tell(uint32_t answer) {
-  return answer == SSHKEY_MEMORY || answer == SSHKEY_UNREADABLE_REVOCATIONS;
+  return answer == RAF_MEMORY || answer == RAF_UNREADABLE_REVOCATIONS;
 }
 
 /* Adds the key of a line to those that count, or says that it has none, or a later one. */
 static uint32_t read_key(const char *line, size_t length, size_t number, void *given) {
   request *asked = given;
   const char *path = asked->is_verify ? asked->keys : asked->authorities;
-  uint32_t answer = judge_add_authority(&asked->by, line, length);
-  if (answer == SSHKEY_DONE || answer == SSHKEY_MEMORY) return answer;
-  bool is_later = answer == SSHKEY_LATER_KEY;
+  uint32_t answer = raf_add_authority(&asked->by, line, length);
+  if (answer == RAF_DONE || answer == RAF_MEMORY) return answer;
+  bool is_later = answer == RAF_LATER_KEY;
   if (!is_later) asked->is_untold = true;
-  program_complain("%s:%zu: %s%s", path, number, is_later ? "" : "no key: ", judge_meaning(answer));
-  return SSHKEY_DONE;
+  program_complain("%s:%zu: %s%s", path, number, is_later ? "" : "no key: ", raf_status_meaning(answer));
+  return RAF_DONE;
 }
 
 /* ---- certificates */
 
 /* What is asked of who holds that key, with that certificate or none. */
-static sshkey_login login_of(judge_blob key, judge_blob certificate, const request *asked) {
-  return (sshkey_login){.certificate = judge_span(certificate),
-                        .user = judge_text(asked->user),
-                        .key = judge_span(key),
+static raf_login login_of(raf_blob key, raf_blob certificate, const request *asked) {
+  return (raf_login){.certificate = raf_blob_span(certificate),
+                        .user = raf_text_span(asked->user),
+                        .key = raf_blob_span(key),
                         .client = {asked->address, asked->address_length},
-                        .authorities = judge_digests(asked->by),
+                        .authorities = raf_authority_digests(asked->by),
                         .revoked = program_revocations(&asked->revoked),
                         .unix_timestamp = asked->second};
 }
 
-static void print_certified(const sshkey_grant *grant, const uint8_t *room) {
+static void print_certified(const raf_grant *grant, const uint8_t *room) {
   puts("valid");
   show_certified(grant, room);
 }
 
 /* Whether the certificate logs the user in: prints to what. */
-static uint32_t judge_asked(judge_blob certificate, const request *asked) {
-  judge_blob own = {NULL, 0};
+static uint32_t check_asked(raf_blob certificate, const request *asked) {
+  raf_blob own = {NULL, 0};
   return certificate_log_in(certificate, login_of(own, certificate, asked), print_certified);
 }
 
@@ -111,10 +111,10 @@ static uint32_t judge_asked(judge_blob certificate, const request *asked) {
 static bool name_unreadable(const request *asked, uint16_t port) {
   bool is_named = false;
   for (size_t at = 0; at < asked->known_hosts.count; at++) {
-    sshkey_span text = asked->known_hosts.texts[at], host = judge_text(asked->host);
+    raf_span text = asked->known_hosts.texts[at], host = raf_text_span(asked->host);
     size_t number = 0;
-    if (sshkey_unreadable_host_line(text.bytes, text.length, host.bytes, host.length, port,
-                                    &number) != SSHKEY_DONE)
+    if (raf_unreadable_host_line(text.bytes, text.length, host.bytes, host.length, port,
+                                    &number) != RAF_DONE)
       continue;
     program_complain("%s:%zu: no entry, and may be one for the host",
                      asked->known_hosts.paths[at], number);
@@ -123,29 +123,29 @@ static bool name_unreadable(const request *asked, uint16_t port) {
   return is_named;
 }
 
-/* Reads the certificate of a line, or else its key, which it says: SSHKEY_DONE, or why there is
+/* Reads the certificate of a line, or else its key, which it says: RAF_DONE, or why there is
  * none. */
-static uint32_t read_shown(const char *line, size_t length, judge_blob *shown,
+static uint32_t read_shown(const char *line, size_t length, raf_blob *shown,
                            bool *is_certificate) {
-  uint32_t answer = judge_read_line(line, length, SSHKEY_LINE_CERTIFICATE, shown);
-  *is_certificate = answer != SSHKEY_LABEL;
-  return *is_certificate ? answer : judge_read_line(line, length, SSHKEY_LINE_KEY, shown);
+  uint32_t answer = raf_read_line_blob(line, length, RAF_LINE_CERTIFICATE, shown);
+  *is_certificate = answer != RAF_LABEL;
+  return *is_certificate ? answer : raf_read_line_blob(line, length, RAF_LINE_KEY, shown);
 }
 
 /* Whether the key or the certificate of a line is the host's. */
-static uint32_t judge_host(const char *line, size_t length, const request *asked) {
+static uint32_t check_host(const char *line, size_t length, const request *asked) {
   uint16_t port = (uint16_t)asked->port_number;
-  sshkey_host_login login = {program_texts(&asked->known_hosts), judge_text(asked->host),
+  raf_host_login login = {program_texts(&asked->known_hosts), raf_text_span(asked->host),
                              program_revocations(&asked->revoked), asked->second, 0, port};
-  judge_blob shown = {NULL, 0};
+  raf_blob shown = {NULL, 0};
   bool is_certificate;
   uint32_t answer = read_shown(line, length, &shown, &is_certificate);
-  if (answer == SSHKEY_DONE)
-    answer = is_certificate ? judge_host_certificate(&login, judge_span(shown))
-                            : sshkey_host_key_verdict(&login, shown.bytes, shown.length);
+  if (answer == RAF_DONE)
+    answer = is_certificate ? raf_verify_host_certificate(&login, raf_blob_span(shown))
+                            : raf_check_host_key(&login, shown.bytes, shown.length);
   free(shown.bytes);
   /* ssh asks about the plain name where nothing is known at the port */
-  if (answer == SSHKEY_HOST_UNREADABLE && !name_unreadable(asked, port)) name_unreadable(asked, 22);
+  if (answer == RAF_HOST_UNREADABLE && !name_unreadable(asked, port)) name_unreadable(asked, 22);
   return answer;
 }
 
@@ -154,7 +154,7 @@ static const char *path_of(const request *asked) {
 }
 
 /* Shows the certificate of a line, below where it stands, as ssh-keygen does. */
-static uint32_t show_asked(judge_blob certificate, const request *asked, size_t number,
+static uint32_t show_asked(raf_blob certificate, const request *asked, size_t number,
                            const char *signed_by) {
   if (asked->path && number == 1)
     printf("%s:\n", asked->path);
@@ -163,59 +163,59 @@ static uint32_t show_asked(judge_blob certificate, const request *asked, size_t 
   return show_certificate(certificate, signed_by);
 }
 
-/* Shows what stands before a signature by SHA-1: SSHKEY_RSA_SHA1, or why not. */
+/* Shows what stands before a signature by SHA-1: RAF_RSA_SHA1, or why not. */
 static uint32_t show_sha1(const char *line, size_t length, const request *asked, size_t number) {
-  judge_blob certificate = {NULL, 0};
-  uint32_t answer = judge_read_sha1(line, length, &certificate);
-  if (answer != SSHKEY_RSA_SHA1) return answer;
+  raf_blob certificate = {NULL, 0};
+  uint32_t answer = raf_read_sha1_line(line, length, &certificate);
+  if (answer != RAF_RSA_SHA1) return answer;
   uint32_t shown = show_asked(certificate, asked, number, "ssh-rsa");
   free(certificate.bytes);
-  return shown == SSHKEY_DONE ? answer : shown;
+  return shown == RAF_DONE ? answer : shown;
 }
 
 /* What is said of the certificate of a line: by an authority, or shown. */
 static uint32_t answer_certificate(const char *line, size_t length, size_t number,
                                    const request *asked) {
-  judge_blob certificate = {NULL, 0};
-  uint32_t answer = judge_read_line(line, length, SSHKEY_LINE_CERTIFICATE, &certificate);
-  if (answer == SSHKEY_DONE)
-    answer = asked->authorities ? judge_asked(certificate, asked)
+  raf_blob certificate = {NULL, 0};
+  uint32_t answer = raf_read_line_blob(line, length, RAF_LINE_CERTIFICATE, &certificate);
+  if (answer == RAF_DONE)
+    answer = asked->authorities ? check_asked(certificate, asked)
                                 : show_asked(certificate, asked, number, NULL);
-  else if (answer == SSHKEY_RSA_SHA1 && !asked->authorities)
+  else if (answer == RAF_RSA_SHA1 && !asked->authorities)
     answer = show_sha1(line, length, asked, number);
   free(certificate.bytes);
   return answer;
 }
 
-/* Answers what is asked about a line: SSHKEY_DONE, or why it can't tell. */
+/* Answers what is asked about a line: RAF_DONE, or why it can't tell. */
 static uint32_t answer_line(const char *line, size_t length, size_t number, void *given) {
   request *asked = given;
-  uint32_t answer = asked->host ? judge_host(line, length, asked)
+  uint32_t answer = asked->host ? check_host(line, length, asked)
                                 : answer_certificate(line, length, number, asked);
   asked->count++;
   if (can_not_tell(answer)) return answer;
-  if (asked->host && answer == SSHKEY_DONE) puts("valid");
-  if (answer == SSHKEY_DONE) return answer;
+  if (asked->host && answer == RAF_DONE) puts("valid");
+  if (answer == RAF_DONE) return answer;
   if (asked->authorities || asked->host) puts("refused");
   asked->is_valid = false;
-  program_complain("%s:%zu: %s (%" PRIu32 ")", path_of(asked), number, judge_meaning(answer),
+  program_complain("%s:%zu: %s (%" PRIu32 ")", path_of(asked), number, raf_status_meaning(answer),
                    answer);
-  return SSHKEY_DONE;
+  return RAF_DONE;
 }
 
 /* ---- logins by authorized_keys or by principals */
 
 /* Whether that logs the user in: prints to what, or says which line refuses, or 0. */
-static uint32_t print_login(const sshkey_login *login, const request *asked, size_t *refusing) {
+static uint32_t print_login(const raf_login *login, const request *asked, size_t *refusing) {
   /* a room of this length is enough, and one of no bytes may be null */
   size_t length = asked->listing.length + 2 * login->certificate.length + 1;
   uint8_t *room = calloc(1, length);
-  sshkey_user_grant grant;
-  if (!room) return SSHKEY_MEMORY;
-  sshkey_span host = judge_text(asked->host ? asked->host : ""), text = judge_span(asked->listing);
-  uint32_t answer = (asked->authorities ? judge_principals : judge_user_keys)(
+  raf_user_grant grant;
+  if (!room) return RAF_MEMORY;
+  raf_span host = raf_text_span(asked->host ? asked->host : ""), text = raf_blob_span(asked->listing);
+  uint32_t answer = (asked->authorities ? raf_log_in_by_principals : raf_log_in_by_keys)(
       login, text, host, room, length, &grant);
-  if (answer == SSHKEY_DONE) {
+  if (answer == RAF_DONE) {
     puts("valid");
     show_grant(&grant, room, login->certificate.length > 0);
   }
@@ -224,84 +224,84 @@ static uint32_t print_login(const sshkey_login *login, const request *asked, siz
   return answer;
 }
 
-/* Answers whether the key or the certificate of a line logs the user in: SSHKEY_DONE, or why it
+/* Answers whether the key or the certificate of a line logs the user in: RAF_DONE, or why it
  * can't tell. */
 static uint32_t answer_login(const char *line, size_t length, size_t number, void *given) {
   request *asked = given;
-  judge_blob certificate = {NULL, 0}, key = {NULL, 0}, shown = {NULL, 0};
+  raf_blob certificate = {NULL, 0}, key = {NULL, 0}, shown = {NULL, 0};
   bool is_certificate;
   size_t refusing = 0;
   uint32_t answer = read_shown(line, length, &shown, &is_certificate);
   *(is_certificate ? &certificate : &key) = shown;
-  if (answer == SSHKEY_DONE && is_certificate) answer = certificate_read_key(certificate, &key);
+  if (answer == RAF_DONE && is_certificate) answer = certificate_read_key(certificate, &key);
   /* authorities sign certificates */
-  if (answer == SSHKEY_DONE && asked->authorities && !is_certificate) answer = SSHKEY_LABEL;
-  if (answer == SSHKEY_DONE) {
-    sshkey_login login = login_of(key, certificate, asked);
+  if (answer == RAF_DONE && asked->authorities && !is_certificate) answer = RAF_LABEL;
+  if (answer == RAF_DONE) {
+    raf_login login = login_of(key, certificate, asked);
     answer = print_login(&login, asked, &refusing);
   }
   free(certificate.bytes);
   free(key.bytes);
   asked->count++;
   /* of names that are not UTF-8 nothing follows */
-  if (answer == SSHKEY_DONE || answer == SSHKEY_TEXT || can_not_tell(answer)) return answer;
+  if (answer == RAF_DONE || answer == RAF_TEXT || can_not_tell(answer)) return answer;
   puts("refused");
   asked->is_valid = false;
   program_complain("%s:%zu: %s (%" PRIu32 ")", refusing ? asked->lines : path_of(asked),
-                   refusing ? refusing : number, judge_meaning(answer), answer);
-  return SSHKEY_DONE;
+                   refusing ? refusing : number, raf_status_meaning(answer), answer);
+  return RAF_DONE;
 }
 
 /* ---- lines */
 
 /* Answers about each line of the text, and returns the program's status. */
-static int answer_text(judge_blob text, request *asked) {
+static int answer_text(raf_blob text, request *asked) {
   size_t number;
   program_line *each = asked->is_login ? answer_login : answer_line;
   uint32_t answer = program_each_line(text, each, asked, &number);
-  if (answer != SSHKEY_DONE)
-    program_complain("%s:%zu: %s", path_of(asked), number, judge_meaning(answer));
+  if (answer != RAF_DONE)
+    program_complain("%s:%zu: %s", path_of(asked), number, raf_status_meaning(answer));
   else if (!asked->count)
     program_complain("%s: no %s was given", path_of(asked),
                      asked->host || asked->is_login ? "key or certificate" : "certificate");
-  if (!program_is_written() || answer != SSHKEY_DONE || !asked->count) return UNTOLD;
+  if (!program_is_written() || answer != RAF_DONE || !asked->count) return UNTOLD;
   return asked->is_valid ? VALID : INVALID;
 }
 
 /* ---- SSH signatures */
 
 /* Says whether the signature counts for what is left of the file, and returns the status. */
-static int verify_file(judge_blob signature, FILE *file, const request *asked) {
+static int verify_file(raf_blob signature, FILE *file, const request *asked) {
   uint8_t bytes[64];
-  judge_blob digest = {bytes, judge_digest_length(signature)};
+  raf_blob digest = {bytes, raf_sshsig_digest_length(signature)};
   /* what names no hash is refused, whatever the digest is */
   if (!digest.length) digest.length = 32;
-  if (!judge_digest(file, digest.bytes, digest.length)) {
+  if (!raf_digest_stream(file, digest.bytes, digest.length)) {
     program_complain("%s: %s", path_of(asked), strerror(errno));
     return UNTOLD;
   }
   uint32_t answer =
       asked->signers
-          ? judge_signer_of_digest(signature, asked->name_space, digest, &asked->allowed)
-          : judge_sshsig_of_digest(signature, asked->name_space, digest, asked->by);
+          ? raf_verify_signer_of_digest(signature, asked->name_space, digest, &asked->allowed)
+          : raf_verify_sshsig_of_digest(signature, asked->name_space, digest, asked->by);
   if (can_not_tell(answer)) {
-    program_complain("%s: %s (%" PRIu32 ")", asked->signature, judge_meaning(answer), answer);
+    program_complain("%s: %s (%" PRIu32 ")", asked->signature, raf_status_meaning(answer), answer);
     return UNTOLD;
   }
-  puts(answer == SSHKEY_DONE ? "valid" : "refused");
+  puts(answer == RAF_DONE ? "valid" : "refused");
   if (!program_is_written()) return UNTOLD;
-  if (answer == SSHKEY_DONE) return VALID;
-  program_complain("%s: %s (%" PRIu32 ")", asked->signature, judge_meaning(answer), answer);
+  if (answer == RAF_DONE) return VALID;
+  program_complain("%s: %s (%" PRIu32 ")", asked->signature, raf_status_meaning(answer), answer);
   return INVALID;
 }
 
 /* The same of the signature in the armour of the text. */
-static int verify_text(judge_blob text, FILE *file, const request *asked) {
-  judge_blob signature = {NULL, 0};
-  uint32_t answer = judge_read_armour(text, &signature);
-  if (answer != SSHKEY_DONE) {
+static int verify_text(raf_blob text, FILE *file, const request *asked) {
+  raf_blob signature = {NULL, 0};
+  uint32_t answer = raf_read_armour(text, &signature);
+  if (answer != RAF_DONE) {
     program_complain("%s: %s", asked->signature,
-                     answer == SSHKEY_MEMORY ? judge_meaning(answer) : "no SSH signature");
+                     answer == RAF_MEMORY ? raf_status_meaning(answer) : "no SSH signature");
     return UNTOLD;
   }
   int status = verify_file(signature, file, asked);
@@ -312,29 +312,29 @@ static int verify_text(judge_blob text, FILE *file, const request *asked) {
 /* ---- what is asked */
 
 /* Reads the file where one is named; false, with a word to standard error, where it can't. */
-static bool read_named(const char *path, judge_blob *answer) {
-  if (!path || judge_read_file(path, answer)) return true;
+static bool read_named(const char *path, raf_blob *answer) {
+  if (!path || raf_read_file(path, answer)) return true;
   program_complain("%s: %s", path, strerror(errno));
   return false;
 }
 
 /* Reads the file of keys where one is named, likewise, and where a line is none. */
 static bool read_keys(const char *path, request *asked) {
-  judge_blob text = {NULL, 0};
+  raf_blob text = {NULL, 0};
   size_t number;
   if (!read_named(path, &text)) return false;
   uint32_t answer = program_each_line(text, read_key, asked, &number);
-  if (answer != SSHKEY_DONE) program_complain("%s:%zu: %s", path, number, judge_meaning(answer));
+  if (answer != RAF_DONE) program_complain("%s:%zu: %s", path, number, raf_status_meaning(answer));
   free(text.bytes);
-  return answer == SSHKEY_DONE && !asked->is_untold;
+  return answer == RAF_DONE && !asked->is_untold;
 }
 
 /* Reads files of which there may be several, likewise. */
 static bool read_files(program_files *files) {
   for (size_t at = 0; at < files->count; at++) {
-    judge_blob text = {NULL, 0};
+    raf_blob text = {NULL, 0};
     if (!read_named(files->paths[at], &text)) return false;
-    files->texts[at] = judge_span(text);
+    files->texts[at] = raf_blob_span(text);
   }
   return true;
 }
@@ -342,11 +342,11 @@ static bool read_files(program_files *files) {
 /* Reads a second since 1970, or a date of one second, likewise. ssh-keygen takes 12 and 14 digits for
  * a date. */
 static bool read_second(const char *word, uint64_t *answer) {
-  sshkey_time_span span = {0, 0};
+  raf_time_span span = {0, 0};
   size_t length = strlen(word);
   bool has_length = length == 8 || length == 12 || length == 14; /* of a date */
   if (!has_length && program_read_number(word, answer)) return true;
-  bool is_date = sshkey_read_time((const uint8_t *)word, length, &span) == SSHKEY_DONE;
+  bool is_date = raf_read_time((const uint8_t *)word, length, &span) == RAF_DONE;
   *answer = span.first;
   if (is_date && span.first == span.last) return true;
   program_complain(is_date ? "%s has no zone: write a Z after it" : "%s is no time", word);
@@ -376,7 +376,7 @@ static bool read_numbers(request *asked) {
 
 static int answer_request(request *asked) {
   const char *keys = asked->is_verify ? asked->keys : asked->authorities;
-  judge_blob text = {NULL, 0};
+  raf_blob text = {NULL, 0};
   if (!read_numbers(asked) || !read_keys(keys, asked)) return UNTOLD;
   if (!read_files(&asked->revoked) || !read_files(&asked->known_hosts)) return UNTOLD;
   if (!read_named(asked->signers, &asked->allowed.text)) return UNTOLD;
@@ -388,7 +388,7 @@ static int answer_request(request *asked) {
   int status = UNTOLD;
   if (!file)
     program_complain("%s: %s", path_of(asked), strerror(errno));
-  else if (!(asked->is_verify ? judge_read_file(path, &text) : judge_read_stream(file, &text)))
+  else if (!(asked->is_verify ? raf_read_file(path, &text) : raf_read_stream(file, &text)))
     program_complain("%s: %s", path, strerror(errno));
   else
     status = asked->is_verify ? verify_text(text, file, asked) : answer_text(text, asked);

@@ -7,7 +7,7 @@
 #include <string.h>
 
 #include "certificate.h"
-#include "judge.h"
+#include "reading.h"
 #include "login.h"
 #include "program.h"
 
@@ -28,59 +28,59 @@ static const char help[] =
 /* Whose authorities are read, and to where. */
 typedef struct {
   const login_request *asked;
-  judge_authorities by;
+  raf_authorities by;
   bool is_whole; /* each line of the user has a key */
 } wanted;
 
 /* Adds the authority of a line if the line has the user, or says that it has no key, or a later one. */
 static uint32_t read_authority(const char *line, size_t length, size_t number, void *given) {
   wanted *to = given;
-  uint32_t answer = judge_add_user_authority(&to->by, line, length, to->asked->user);
-  if (answer == SSHKEY_DONE || answer == SSHKEY_MEMORY) return answer;
+  uint32_t answer = raf_add_user_authority(&to->by, line, length, to->asked->user);
+  if (answer == RAF_DONE || answer == RAF_MEMORY) return answer;
   /* another user's line */
-  if (answer == SSHKEY_END) return SSHKEY_DONE;
-  bool is_later = answer == SSHKEY_LATER_KEY;
+  if (answer == RAF_END) return RAF_DONE;
+  bool is_later = answer == RAF_LATER_KEY;
   if (!is_later) to->is_whole = false;
   login_complain(to->asked, "%s:%zu: %s%s", to->asked->path, number, is_later ? "" : "no key: ",
-                 judge_meaning(answer));
-  return SSHKEY_DONE;
+                 raf_status_meaning(answer));
+  return RAF_DONE;
 }
 
 /* Reads the authorities of the user; false where that fails, which is said. */
 static bool read_authorities(wanted *to) {
-  judge_blob text = {NULL, 0};
+  raf_blob text = {NULL, 0};
   size_t number;
   if (login_read_file(to->asked, to->asked->path, NULL, &text) != LOGIN_READ) return false;
   uint32_t answer = program_each_line(text, read_authority, to, &number);
-  if (answer != SSHKEY_DONE) login_complain(to->asked, "%s: no memory", to->asked->path);
+  if (answer != RAF_DONE) login_complain(to->asked, "%s: no memory", to->asked->path);
   free(text.bytes);
-  return answer == SSHKEY_DONE && to->is_whole;
+  return answer == RAF_DONE && to->is_whole;
 }
 
 /* Prints the user where the certificate lets that user in, and returns the status. */
-static int let_in(judge_blob certificate, const wanted *to) {
+static int let_in(raf_blob certificate, const wanted *to) {
   const login_request *asked = to->asked;
   /* which address the client has is not told: sshd asks it of the certificate itself */
-  sshkey_login login = {.user = judge_text(asked->user),
-                        .authorities = judge_digests(to->by),
+  raf_login login = {.user = raf_text_span(asked->user),
+                        .authorities = raf_authority_digests(to->by),
                         .revoked = program_revocations(&asked->revoked),
                         .unix_timestamp = (uint64_t)time(NULL),
                         .least_rsa_bits = asked->least_rsa_bits,
-                        .judges_address = 1};
+                        .caller_checks_address = 1};
   uint32_t answer = certificate_log_in(certificate, login, NULL);
-  if (answer != SSHKEY_DONE) return login_refuse(asked, answer);
+  if (answer != RAF_DONE) return login_refuse(asked, answer);
   puts(asked->user);
   return program_is_written() ? 0 : program_untold;
 }
 
 static int answer_request(login_request *asked) {
   wanted to = {asked, {NULL, 0}, true};
-  judge_blob certificate = {NULL, 0};
+  raf_blob certificate = {NULL, 0};
   int status = program_untold;
   uint32_t answer =
-      judge_read_words(asked->type, asked->base64, SSHKEY_LINE_CERTIFICATE, &certificate);
-  if (answer != SSHKEY_DONE) {
-    login_complain(asked, "no certificate is offered: %s", judge_meaning(answer));
+      raf_read_words_blob(asked->type, asked->base64, RAF_LINE_CERTIFICATE, &certificate);
+  if (answer != RAF_DONE) {
+    login_complain(asked, "no certificate is offered: %s", raf_status_meaning(answer));
   } else {
     login_note(asked, certificate, true);
     if (login_read_revoked(asked) && read_authorities(&to)) status = let_in(certificate, &to);

@@ -3,41 +3,41 @@
 #define SSHSIG_H
 #include <stddef.h>
 #include <stdint.h>
-#include "judge.h"
+#include "reading.h"
 
 #ifdef __cplusplus
 extern "C" {
 #endif
 
-/* The bytes of the signature in an armour: SSHKEY_DONE, SSHKEY_BASE64 where it is none, or
- * SSHKEY_MEMORY. Its lines end with LF or CR LF, and its first and its last have nothing else. What
+/* The bytes of the signature in an armour: RAF_DONE, RAF_BASE64 where it is none, or
+ * RAF_MEMORY. Its lines end with LF or CR LF, and its first and its last have nothing else. What
  * follows the armour is not looked at. */
-uint32_t judge_read_armour(judge_blob text, judge_blob *answer);
+uint32_t raf_read_armour(raf_blob text, raf_blob *answer);
 
 /* How long the digest of a message is by the hash that the signature names: 32 by SHA-256 and 64 by
  * SHA-512; 0 where it names none. */
-size_t judge_digest_length(judge_blob signature);
+size_t raf_sshsig_digest_length(raf_blob signature);
 
-/* Whether the signature counts, in that namespace, for a message with that digest: SSHKEY_DONE, or
- * what is wrong first. SSHKEY_SIGNER_NOT_ALLOWED says that none of the keys made it: then no
- * cryptography runs over its key. With reserved bytes it is SSHKEY_NOT_SIGNED: ssh-keygen verifies
+/* Whether the signature counts, in that namespace, for a message with that digest: RAF_DONE, or
+ * what is wrong first. RAF_SIGNER_NOT_ALLOWED says that none of the keys made it: then no
+ * cryptography runs over its key. With reserved bytes it is RAF_NOT_SIGNED: ssh-keygen verifies
  * it as if there were none. */
-uint32_t judge_sshsig_of_digest(judge_blob signature, const char *name_space, judge_blob digest,
-                                judge_authorities keys);
+uint32_t raf_verify_sshsig_of_digest(raf_blob signature, const char *name_space, raf_blob digest,
+                                raf_authorities keys);
 
 /* By whom a signature has to be, as `ssh-keygen -Y verify` asks, or more strictly: a time without Z
  * in the text, which is of the machine's zone there, has to hold in every zone here. */
 typedef struct {
-  judge_blob text;         /* that of a file of allowed signers */
+  raf_blob text;         /* that of a file of allowed signers */
   const char *identity;    /* one of those whom it names; null is nobody */
   uint64_t unix_timestamp; /* when that is */
-  sshkey_spans revoked;    /* what revocation files have, or SSHKEY_NO_REVOCATIONS */
-} judge_signers;
+  raf_spans revoked;    /* what revocation files have, or RAF_NO_REVOCATIONS */
+} raf_signers;
 
-/* The same, as the identity's by allowed signers: SSHKEY_DONE, or what is wrong first, a number of
- * SSHKEY_*. */
-uint32_t judge_signer_of_digest(judge_blob signature, const char *name_space, judge_blob digest,
-                                const judge_signers *by);
+/* The same, as the identity's by allowed signers: RAF_DONE, or what is wrong first, a number of
+ * RAF_*. */
+uint32_t raf_verify_signer_of_digest(raf_blob signature, const char *name_space, raf_blob digest,
+                                const raf_signers *by);
 
 #ifdef __cplusplus
 }

@@ -1,36 +1,36 @@
-/* Each call of sshkey.h that asks for a verification, and the verification, in one: it decides
- * nothing itself. judge_is_signature (verify.h) verifies, with libcrypto or as a program of yours
+/* Each call of rafendilo.h that asks for a verification, and the verification, in one: it decides
+ * nothing itself. raf_is_signature (verify.h) verifies, with libcrypto or as a program of yours
  * defines it. */
 #ifndef VERDICT_H
 #define VERDICT_H
-#include "sshkey.h"
+#include "rafendilo.h"
 
 #ifdef __cplusplus
 extern "C" {
 #endif
 
-/* Whether a certificate lets a user in, and the grant: sshkey_login_verdict, with the verification
- * that sshkey_login_question asks for. So no cryptography runs over the key of an authority that is
+/* Whether a certificate lets a user in, and the grant: raf_check_login, with the verification
+ * that raf_login_question asks for. So no cryptography runs over the key of an authority that is
  * none of the login's. A room of the certificate's length is enough. */
-uint32_t judge_log_in(const sshkey_login *login, uint8_t *room, size_t room_length,
-                      sshkey_grant *answer);
+uint32_t raf_log_in(const raf_login *login, uint8_t *room, size_t room_length,
+                      raf_grant *answer);
 
 /* Whether the client has signed the request, and with a security key as the grant wants it:
- * SSHKEY_DONE, SSHKEY_NOT_SIGNED, or what sshkey_userauth_question answers. */
-uint32_t judge_userauth(const sshkey_userauth *request);
+ * RAF_DONE, RAF_NOT_SIGNED, or what raf_userauth_question answers. */
+uint32_t raf_verify_userauth(const raf_userauth *request);
 
-/* Whether a certificate is the host's: sshkey_host_certificate_verdict, likewise. */
-uint32_t judge_host_certificate(const sshkey_host_login *login, sshkey_span certificate);
+/* Whether a certificate is the host's: raf_check_host_certificate, likewise. */
+uint32_t raf_verify_host_certificate(const raf_host_login *login, raf_span certificate);
 
-/* Whether a text of authorized_keys lets a user in, and the grant: sshkey_user_keys_verdict,
+/* Whether a text of authorized_keys lets a user in, and the grant: raf_check_user_keys,
  * likewise. */
-uint32_t judge_user_keys(const sshkey_login *login, sshkey_span text, sshkey_span host,
-                         uint8_t *room, size_t room_length, sshkey_user_grant *answer);
+uint32_t raf_log_in_by_keys(const raf_login *login, raf_span text, raf_span host,
+                         uint8_t *room, size_t room_length, raf_user_grant *answer);
 
-/* Whether a text in the form of AuthorizedPrincipalsFile does: sshkey_principals_verdict,
+/* Whether a text in the form of AuthorizedPrincipalsFile does: raf_check_principals,
  * likewise. */
-uint32_t judge_principals(const sshkey_login *login, sshkey_span text, sshkey_span host,
-                          uint8_t *room, size_t room_length, sshkey_user_grant *answer);
+uint32_t raf_log_in_by_principals(const raf_login *login, raf_span text, raf_span host,
+                          uint8_t *room, size_t room_length, raf_user_grant *answer);
 
 #ifdef __cplusplus
 }

@@ -13,16 +13,16 @@ typedef struct {
   size_t length;
 } slice;
 
-static slice slice_of(const uint8_t *room, sshkey_part part) {
+static slice slice_of(const uint8_t *room, raf_part part) {
   slice it = {room + part.start, part.length};
   return it;
 }
 
 /* The string in front of the bytes, which it takes away; empty where none stands there. */
 static slice take(slice *from) {
-  sshkey_part part = {0, 0};
+  raf_part part = {0, 0};
   slice string = {from->bytes, 0};
-  if (sshkey_next_string(from->bytes, from->length, 0, &part) != SSHKEY_DONE) return string;
+  if (raf_next_string(from->bytes, from->length, 0, &part) != RAF_DONE) return string;
   string.bytes += part.start;
   string.length = part.length;
   from->bytes += part.start + part.length;
@@ -30,7 +30,7 @@ static slice take(slice *from) {
   return string;
 }
 
-/* The number of an mpint, which is positive: in keys by sshkey_may_verify, and in signatures of
+/* The number of an mpint, which is positive: in keys by raf_may_verify, and in signatures of
  * ECDSA anyway. */
 static BIGNUM *number(slice digits) {
   if (digits.length > INT_MAX) return NULL;
@@ -125,31 +125,31 @@ static bool is_ed25519(slice key, slice message, slice signature) {
   return yes;
 }
 
-bool judge_is_signature(const sshkey_question *question, const uint8_t *room) {
+bool raf_is_signature(const raf_question *question, const uint8_t *room) {
   slice key = slice_of(room, question->key);
   slice message = slice_of(room, question->message);
   slice signature = slice_of(room, question->signature);
-  if (sshkey_may_verify(key.bytes, key.length) != SSHKEY_DONE) return false;
+  if (raf_may_verify(key.bytes, key.length) != RAF_DONE) return false;
   take(&key); /* the name of the key's type */
   switch (question->algorithm) {
-  case SSHKEY_ASK_P256:
+  case RAF_ASK_P256:
     return is_ecdsa("P-256", EVP_sha256(), key, message, signature);
-  case SSHKEY_ASK_P384:
+  case RAF_ASK_P384:
     return is_ecdsa("P-384", EVP_sha384(), key, message, signature);
-  case SSHKEY_ASK_P521:
+  case RAF_ASK_P521:
     return is_ecdsa("P-521", EVP_sha512(), key, message, signature);
-  case SSHKEY_ASK_ED25519:
+  case RAF_ASK_ED25519:
     return is_ed25519(key, message, signature);
-  case SSHKEY_ASK_RSA_SHA256:
+  case RAF_ASK_RSA_SHA256:
     return is_rsa(EVP_sha256(), key, message, signature);
-  case SSHKEY_ASK_RSA_SHA512:
+  case RAF_ASK_RSA_SHA512:
     return is_rsa(EVP_sha512(), key, message, signature);
-  default: /* DSA, which sshkey_may_verify takes no key of */
+  default: /* DSA, which raf_may_verify takes no key of */
     return false;
   }
 }
 
-bool judge_digest(FILE *file, uint8_t *digest, size_t length) {
+bool raf_digest_stream(FILE *file, uint8_t *digest, size_t length) {
   uint8_t room[4096];
   EVP_MD_CTX *context = EVP_MD_CTX_new();
   bool yes = context && (length == 32 || length == 64) &&

@@ -24,11 +24,11 @@ class BuildWithLibrary(build_py):
     def run(self):
         super().run()
         out = os.path.abspath(os.path.join(self.build_lib, "..", "library"))
-        library = os.path.join(out, "libsshkey.so")
+        library = os.path.join(out, "librafendilo.so")
         # of another processor, where its compiler is named
         compiler = [f"CC={os.environ['CC']}"] if "CC" in os.environ else []
         subprocess.run(["make", "-C", ROOT, f"OUT={out}", *compiler, library], check=True)
-        shutil.copy(library, os.path.join(self.build_lib, "sshkey", soname(library)))
+        shutil.copy(library, os.path.join(self.build_lib, "rafendilo", soname(library)))
 
 
 class WithLibrary(Distribution):

@@ -16,7 +16,7 @@ SOURCES = [
     "checks/hostile", "checks/hosts", "checks/lib/*.py", "checks/threads.c", "checks/user-keys",
     "docs/*.md", "docs/*.svg", "examples", "helpers", "include", "sshkey-check", "toolchain",
 ]  # fmt: skip
-TEXTS = [f"{PACKAGE}/sshkey_linux_{it}.S" for it in MACHINES]
+TEXTS = [f"{PACKAGE}/rafendilo_linux_{it}.S" for it in MACHINES]
 # what makes a compiler for the machine's libraries of each processor
 COMPILERS = {it: f"{machine}-linux-gnu-gcc" for it, machine in MACHINES.items()}
 # Debian's Python, which has setuptools and wheel by Debian's packages
@@ -42,7 +42,7 @@ def write(path, text):
 
 def stage(release, room, git):
     """The folder that is the source package, in that room."""
-    folder = f"{room}/sshkey-{release.version}"
+    folder = f"{room}/rafendilo-{release.version}"
     for path in git("ls-files", "--", *SOURCES).splitlines():
         os.makedirs(os.path.dirname(f"{folder}/{path}"), exist_ok=True)
         shutil.copyfile(f"{release.root}/{path}", f"{folder}/{path}")
@@ -94,7 +94,7 @@ Files: *
 Copyright: 2026 The Rafendilo authors
 License: MIT OR Apache-2.0
 
-Files: */sshkey_linux_*.S
+Files: */rafendilo_linux_*.S
 Copyright: 2026 The Rafendilo authors, and those that NOTICE names
 License: (MIT OR Apache-2.0) AND LicenseRef-Toolchain
 """
@@ -134,14 +134,14 @@ def make_tarball(release, folder, room, out):
     at = copied(folder, room, "tarball")
     run(["make", flags_of(at), "all"], at)
     run(["make", flags_of(at), "install", f"DESTDIR={room}/tarball/root", "PREFIX=/usr/local"], at)
-    named = f"{room}/tarball/sshkey-{release.version}-linux-{os.uname().machine}"
+    named = f"{room}/tarball/rafendilo-{release.version}-linux-{os.uname().machine}"
     os.rename(f"{room}/tarball/root/usr/local", named)
-    pages = f"{named}/share/doc/sshkey"
+    pages = f"{named}/share/doc/rafendilo"
     os.makedirs(f"{pages}/examples")
     for path in ("CHANGELOG.md", "LICENSE-APACHE", "LICENSE-MIT", "NOTICE", "PROVED-BY", "README.md", "SECURITY.md"):
         shutil.copy(f"{folder}/{path}", pages)
     shutil.copytree(f"{folder}/docs", f"{pages}/docs")
-    with open(f"{folder}/debian/libsshkey-dev.examples", encoding="ascii") as file:
+    with open(f"{folder}/debian/librafendilo-dev.examples", encoding="ascii") as file:
         for path in file.read().split():
             shutil.copy(f"{folder}/{path}", f"{pages}/examples")
     write_sums(named, f"{pages}/SHA256SUMS")
@@ -167,7 +167,7 @@ def make_wheels(_release, folder, room, out):
 
 
 def make_go(release, folder, _room, out):
-    name = f"sshkey-go-{release.version}"
+    name = f"rafendilo-go-{release.version}"
     pack_zip(f"{folder}/bindings/go", f"{out}/{name}.zip", release.second, name)
 
 
@@ -178,9 +178,9 @@ def make_rust(release, folder, room, out):
         shutil.copy(f"{folder}/{path}", f"{at}/src")
     with open(f"{at}/src/library.rs", encoding="utf-8") as file:
         text = file.read()
-    write(f"{at}/src/library.rs", text.replace("../../go/sshkey/", ""))
+    write(f"{at}/src/library.rs", text.replace("../../go/rafendilo/", ""))
     run(["cargo", "package", "--offline", "--locked", "--allow-dirty", "--target-dir", f"{room}/rust/target"], at)
-    shutil.copy(f"{room}/rust/target/package/sshkey-{release.version}.crate", out)
+    shutil.copy(f"{room}/rust/target/package/rafendilo-{release.version}.crate", out)
 
 
 def make_source(release, folder, _room, out):

@@ -9,7 +9,7 @@ from .archives import sum_of
 # by Go's name of a processor, where a release names it otherwise: the machine, as `uname -m` calls it
 MACHINES = {"amd64": "x86_64", "arm64": "aarch64"}
 # where the texts stand
-PACKAGE = "bindings/go/sshkey"
+PACKAGE = "bindings/go/rafendilo"
 NOT_PUBLISHED = "It is not published yet"
 
 
@@ -76,7 +76,7 @@ def filled(text, values):
 def proved_by(release):
     """The paper that stands beside the texts, and of which release it is here."""
     title, rest = release.read(f"{PACKAGE}/PROVED-BY").split("\n\n", 1)
-    told = f"release    sshkey {release.version}, whose sources are the commit\n           {release.commit}\n"
+    told = f"release    rafendilo {release.version}, whose sources are the commit\n           {release.commit}\n"
     return f"{title}\n\n{told}{rest}\n{release.where()}\n"
 
 
@@ -107,8 +107,8 @@ def bill_of_materials(release, artefacts):
         if re.search(r"helpers|\.tar\.", path):
             relations.append((own, "DEPENDS_ON", crypto["SPDXID"]))
     return json.dumps({
-        "spdxVersion": "SPDX-2.3", "dataLicense": "CC0-1.0", "SPDXID": "SPDXRef-DOCUMENT", "name": f"sshkey-{release.version}",
-        "documentNamespace": f"https://spdx.org/spdxdocs/sshkey-{release.version}-{release.commit[:40]}",
+        "spdxVersion": "SPDX-2.3", "dataLicense": "CC0-1.0", "SPDXID": "SPDXRef-DOCUMENT", "name": f"rafendilo-{release.version}",
+        "documentNamespace": f"https://spdx.org/spdxdocs/rafendilo-{release.version}-{release.commit[:40]}",
         "creationInfo": {"created": release.date("%Y-%m-%dT%H:%M:%SZ"), "creators": ["Tool: bindings/dist"]},
         "packages": [*made, *parts, crypto],
         "relationships": [{"spdxElementId": it, "relationshipType": what, "relatedSpdxElement": to} for it, what, to in relations],

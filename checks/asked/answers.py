@@ -32,9 +32,9 @@ them: FILES, which are revocation files, and TEXTS), numbers and names:
     other-key-line LINE                                      0, or 12
     line-authority LINE | user-authority LINE USER           0 SHA-256; 61 for a later kind of key, 3 for other users
     for-key LINE KEY | for-certificate LINE BYTES            0, or 3
-    may-verify KEY | strict-mode OWNER USER MODE             0, or 59, or 62
-    signer-by TEXT IDENTITY NAMESPACE BYTES FILES SECOND DIGEST          what judge_signer_of_digest says, and how often it verifies
-    sshsig-by BYTES NAMESPACE DIGEST SIGNERS                 in C: likewise judge_sshsig_of_digest
+    may-verify KEY | safe-mode OWNER USER MODE             0, or 59, or 62
+    signer-by TEXT IDENTITY NAMESPACE BYTES FILES SECOND DIGEST          what check_signer_of_digest says, and how often it verifies
+    sshsig-by BYTES NAMESPACE DIGEST SIGNERS                 in C: likewise check_sshsig_of_digest
     fields BYTES                                             0 SERIAL AFTER BEFORE TYPE 0|1 0|1
     lists BYTES                                              0 KEY-ID KEY AUTHORITY, principal=NAME and critical=NAME=VALUE and
                                                              extension=NAME=VALUE for each, options by rising names
@@ -43,8 +43,8 @@ them: FILES, which are revocation files, and TEXTS), numbers and names:
     lines TEXT                                               0 CONTENT ..
     normal key|certificate|sshsig|signature BYTES            0 BYTES
     signer TEXT IDENTITY NAMESPACE BYTES FILES SECOND 0|1    what a text of allowed signers says, where a verification says no or yes
-    revokes-key LIST KEY | revokes-certificate LIST BYTES    0 1 if the list revokes it, else 0 0
-    revoked-key FILES KEY | revoked-certificate FILES BYTES  the same of files of sshd's RevokedKeys
+    unrevoked-key-by-krl LIST KEY | unrevoked-certificate-by-krl LIST BYTES    0 1 if the list revokes it, else 0 0
+    unrevoked-key FILES KEY | unrevoked-certificate FILES BYTES  the same of files of sshd's RevokedKeys
     draft KEY NONCE KEY-ID PRINCIPALS CRITICAL EXTENSIONS AUTHORITY SERIAL AFTER BEFORE TYPE ALL
                                                              0 BYTES that are to be signed; lists as a certificate has them, of
                                                              which a package makes lists of its own, ALL 1 for everybody
@@ -97,13 +97,13 @@ class Answers(VerdictAnswers):
     """What the Python package answers to each kind of question."""
 
     def __init__(self, made):
-        self.sshkey = made.sshkey
+        self.rafendilo = made.rafendilo
 
     def to(self, question):
         what, *words = question.split(" ")
         try:
             return " ".join(getattr(self, what.replace("-", "_"))(*words))
-        except self.sshkey.Refused as refused:
+        except self.rafendilo.Refused as refused:
             return str(int(refused.status))
         except UnicodeDecodeError:
             return "11"
@@ -116,31 +116,31 @@ class Answers(VerdictAnswers):
         return ["0", str(int(question.algorithm)), *map(word, parts)]
 
     def certificate(self, data):
-        return self.asked(self.sshkey.certificate_question(data_of(data)))
+        return self.asked(self.rafendilo.certificate_question(data_of(data)))
 
     def signature(self, *given):
-        return self.asked(self.sshkey.signature_question(*map(data_of, given)))
+        return self.asked(self.rafendilo.signature_question(*map(data_of, given)))
 
     def sshsig(self, *given):
-        return self.asked(*self.sshkey.sshsig_question(*map(data_of, given)))
+        return self.asked(*self.rafendilo.sshsig_question(*map(data_of, given)))
 
     def sshsig_of_digest(self, *given):
-        return self.asked(*self.sshkey.sshsig_question_of_digest(*map(data_of, given)))
+        return self.asked(*self.rafendilo.sshsig_question_of_digest(*map(data_of, given)))
 
     def sshsig_hash(self, data):
-        return ["0", self.sshkey.sshsig_hash(data_of(data))]
+        return ["0", self.rafendilo.sshsig_hash(data_of(data))]
 
     def sshsig_reserved(self, data):
-        return ["0", word(self.sshkey.sshsig_reserved(data_of(data)))]
+        return ["0", word(self.rafendilo.sshsig_reserved(data_of(data)))]
 
     def is_sshsig(self, *given):
         *words, by = given
-        self.sshkey.judge_sshsig(*map(data_of, words), self.digests(by))
+        self.rafendilo.check_sshsig(*map(data_of, words), self.digests(by))
         return ["0"]
 
     def is_sshsig_of_digest(self, *given):
         *words, by = given
-        self.sshkey.judge_sshsig_of_digest(*map(data_of, words), self.digests(by))
+        self.rafendilo.check_sshsig_of_digest(*map(data_of, words), self.digests(by))
         return ["0"]
 
     def counted(self, call, *given, answer=None):
@@ -149,30 +149,30 @@ class Answers(VerdictAnswers):
 
         def verifier(question):
             asked.append(question)
-            return self.sshkey.is_signature(question) if answer is None else answer
+            return self.rafendilo.is_signature(question) if answer is None else answer
 
         try:
             call(*given, verifier)
-        except self.sshkey.Refused as refused:
+        except self.rafendilo.Refused as refused:
             return [str(int(refused.status)), str(len(asked))]
         return ["0", str(len(asked))]
 
     def sshsig_by(self, *given):
         *words, by = given
-        return self.counted(self.sshkey.judge_sshsig_of_digest, *map(data_of, words), self.digests(by))
+        return self.counted(self.rafendilo.check_sshsig_of_digest, *map(data_of, words), self.digests(by))
 
     def is_signer(self, *given):
         return self.signer_by(*given)[:1]
 
     def signers_of(self, text, identity, files, second):
-        return self.sshkey.Signers(data_of(text), data_of(identity), int(second), datas_of(files))
+        return self.rafendilo.Signers(data_of(text), data_of(identity), int(second), datas_of(files))
 
     def signer_by(self, text, identity, namespace, signature, files, second, digest):
         by = self.signers_of(text, identity, files, second)
-        return self.counted(self.sshkey.judge_signer_of_digest, data_of(signature), data_of(namespace), data_of(digest), by)
+        return self.counted(self.rafendilo.check_signer_of_digest, data_of(signature), data_of(namespace), data_of(digest), by)
 
     def is_signature(self, *given):
-        return ["0", str(int(self.sshkey.is_signature(self.sshkey.signature_question(*map(data_of, given)))))]
+        return ["0", str(int(self.rafendilo.is_signature(self.rafendilo.signature_question(*map(data_of, given)))))]
 
     @staticmethod
     def digests(data):
@@ -181,10 +181,10 @@ class Answers(VerdictAnswers):
 
     def validate(self, data, second, principal, by, yes):
         whom = None if principal == "*" else data_of(principal)
-        return self.counted(self.sshkey.judge_certificate, data_of(data), int(second), self.digests(by), whom, answer=yes == "1")
+        return self.counted(self.rafendilo.check_certificate, data_of(data), int(second), self.digests(by), whom, answer=yes == "1")
 
     def fields(self, data):
-        of = self.sshkey.certificate_fields(data_of(data))
+        of = self.rafendilo.certificate_fields(data_of(data))
         numbers = (of.serial, of.valid_after, of.valid_before, of.certificate_type, of.lists_principals, of.has_critical_options)
         return ["0", *(str(int(it)) for it in numbers)]
 
@@ -194,47 +194,47 @@ class Answers(VerdictAnswers):
         return [f"{front}{word(name)}={word(value)}" for name, value in by_name]
 
     def lists(self, data):
-        of = self.sshkey.certificate_contents(data_of(data))
+        of = self.rafendilo.certificate_contents(data_of(data))
         listed = [f"principal={word(it.encode())}" for it in of.principals]
         listed += self.pairs(of.critical_options, "critical=") + self.pairs(of.extensions, "extension=")
         return ["0", word(of.key_id.encode()), word(of.key), word(of.authority), *listed]
 
     def certificate_options(self, data):
-        return ["0", *self.pairs(self.sshkey.options(data_of(data)))]
+        return ["0", *self.pairs(self.rafendilo.options(data_of(data)))]
 
     def strings(self, data):
-        return ["0", *map(word, self.sshkey.strings(data_of(data)))]
+        return ["0", *map(word, self.rafendilo.strings(data_of(data)))]
 
     def lines(self, data):
-        return ["0", *map(word, self.sshkey.entry_lines(data_of(data)))]
+        return ["0", *map(word, self.rafendilo.entry_lines(data_of(data)))]
 
     def key(self, data):
-        of = self.sshkey
+        of = self.rafendilo
         short, long = of.fingerprint(data_of(data)), of.fingerprint_sha512(data_of(data))
         return ["0", word(short), of.fingerprint_text(short), word(long), of.fingerprint_sha512_text(long)]
 
     def line(self, data):
-        of = self.sshkey.read_line(data_of(data))
+        of = self.rafendilo.read_line(data_of(data))
         return ["0", str(int(of.is_certificate)), word(of.blob), word(of.comment.encode())]
 
     def normal(self, kind, data):
-        return ["0", word(getattr(self.sshkey, f"normal_{kind}")(data_of(data)))]
+        return ["0", word(getattr(self.rafendilo, f"normal_{kind}")(data_of(data)))]
 
     def signer(self, text, identity, namespace, signature, files, second, yes):
         by = self.signers_of(text, identity, files, second)
-        return [str(int(self.sshkey.signer_verdict(data_of(signature), data_of(namespace), by, yes == "1")))]
+        return [str(int(self.rafendilo.check_signer_with_answer(data_of(signature), data_of(namespace), by, yes == "1")))]
 
-    def revokes_key(self, krl, key):
-        return ["0", str(int(self.sshkey.krl_revokes_key(data_of(krl), data_of(key))))]
+    def unrevoked_key_by_krl(self, krl, key):
+        return ["0", str(int(self.rafendilo.check_unrevoked_key_by_krl(data_of(krl), data_of(key))))]
 
-    def revokes_certificate(self, krl, data):
-        return ["0", str(int(self.sshkey.krl_revokes_certificate(data_of(krl), data_of(data))))]
+    def unrevoked_certificate_by_krl(self, krl, data):
+        return ["0", str(int(self.rafendilo.check_unrevoked_certificate_by_krl(data_of(krl), data_of(data))))]
 
     def draft_in(self, words):
         """What the words tell, as the package takes it."""
         key, nonce, key_id, principals, critical, more, authority = map(data_of, words[:7])
         serial, after, before, kind, everybody = map(int, words[7:12])
-        of = self.sshkey
+        of = self.rafendilo
         listed = [it.decode() for it in of.strings(principals)]
         return (key, authority), dict(
             principals=of.ALL_PRINCIPALS if everybody else listed, certificate_type=kind, key_id=key_id.decode(), serial=serial,
@@ -243,39 +243,39 @@ class Answers(VerdictAnswers):
 
     def draft(self, *words):
         keys, named = self.draft_in(words)
-        return ["0", word(self.sshkey.certificate_to_be_signed(*keys, **named))]
+        return ["0", word(self.rafendilo.certificate_to_be_signed(*keys, **named))]
 
     def make(self, *words):
         keys, named = self.draft_in(words)
-        return ["0", word(self.sshkey.make_certificate(*keys, lambda message: data_of(words[12]), **named))]
+        return ["0", word(self.rafendilo.make_certificate(*keys, lambda message: data_of(words[12]), **named))]
 
     def join(self, *given):
-        return ["0", word(self.sshkey.join_certificate(*map(data_of, given)))]
+        return ["0", word(self.rafendilo.join_certificate(*map(data_of, given)))]
 
     def entry(self, data):
-        of = self.sshkey.authorized_entry(data_of(data))
+        of = self.rafendilo.authorized_entry(data_of(data))
         return ["0", "0", word(of.options), word(of.key), word(of.comment)]
 
     def host(self, data):
-        of = self.sshkey.known_host(data_of(data))
+        of = self.rafendilo.known_host(data_of(data))
         return ["0", str(int(of.marker)), word(of.hosts), word(of.key), word(of.comment)]
 
     def options(self, data):
-        found = self.sshkey.entry_options(data_of(data))
+        found = self.rafendilo.line_options(data_of(data))
         return ["0", *(word(name) + ("" if value is None else f"={word(value)}") for name, value in found)]
 
     def addresses(self, items, address, host):
         def said(call, *given):
             try:
-                return str(int(self.sshkey.Status.DONE if call(*given) else self.sshkey.Status.ELSEWHERE))
-            except self.sshkey.Refused as refused:
+                return str(int(self.rafendilo.Status.DONE if call(*given) else self.rafendilo.Status.ELSEWHERE))
+            except self.rafendilo.Refused as refused:
                 return str(int(refused.status))
 
         given = data_of(items), ipaddress.ip_address(data_of(address))
-        return [said(self.sshkey.source_address_allows, *given), said(self.sshkey.from_allows, *given, data_of(host))]
+        return [said(self.rafendilo.check_source_address, *given), said(self.rafendilo.check_from, *given, data_of(host))]
 
     def time(self, text):
-        return ["0", *map(str, self.sshkey.read_time(data_of(text)))]
+        return ["0", *map(str, self.rafendilo.read_time(data_of(text)))]
 
 
 # ---- how the answers are judged
@@ -290,7 +290,7 @@ class Judge:
 
     def number(self, status):
         """The number of a status of that name."""
-        return int(self.made.sshkey.Status[status])
+        return int(self.made.rafendilo.Status[status])
 
     def check(self, name, holds, *details):
         self.count.check(f"{self.asker.language}: {name}", holds, *details)

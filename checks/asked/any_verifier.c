@@ -2,13 +2,13 @@
  * say nothing of signatures, and are the same on each processor. */
 #include "verify.h"
 
-bool judge_is_signature(const sshkey_question *question, const uint8_t *room) {
+bool raf_is_signature(const raf_question *question, const uint8_t *room) {
   unsigned sum = question->algorithm;
   for (size_t at = 0; at < question->length; at++) sum += room[at];
   return sum % 2;
 }
 
-bool judge_digest(FILE *file, uint8_t *digest, size_t length) {
+bool raf_digest_stream(FILE *file, uint8_t *digest, size_t length) {
   (void)file;
   for (size_t at = 0; at < length; at++) digest[at] = (uint8_t)at;
   return true;

@@ -30,14 +30,14 @@ FILE, DIGEST, ALICE, HOST, NONE = b"file".hex(), "a5" * 64, b"alice".hex(), b"h.
 KEY = word(string(b"ssh-ed25519") + string(bytes(32)))
 OF_KINDS = {
     "certificate": [
-        "certificate {}", "fields {}", "lists {}", "normal certificate {}", f"revokes-certificate {NONE} {{}}", "revoked-certificate - {}",
+        "certificate {}", "fields {}", "lists {}", "normal certificate {}", f"unrevoked-certificate-by-krl {NONE} {{}}", "unrevoked-certificate - {}",
         f"log-in {{}} {ALICE} {KEY} - {DIGEST[:64]} {NONE} {MIDDLE} 0 0", f"host-certificate - {HOST} {{}} {NONE} 22 0 {MIDDLE}",
     ],
-    "key": ["key {}", "normal key {}", f"revokes-key {NONE} {{}}", "revoked-key - {}", f"host-key - {HOST} {{}} {NONE} 22 0"],
+    "key": ["key {}", "normal key {}", f"unrevoked-key-by-krl {NONE} {{}}", "unrevoked-key - {}", f"host-key - {HOST} {{}} {NONE} 22 0"],
     "ssh-signature": [f"sshsig {{}} {FILE} {b'message'.hex()}", "normal sshsig {}", f"signer - {FILE} {FILE} {{}} - {MIDDLE} 1"],
 }  # fmt: skip
 OF_OTHERS = [
-    "normal signature {}", "lines {}", "entry {}", "host {}", "options {}", "line {}", "revokes-key {} -", "revoked-key {} -", "other-key-line {}", "time {}",
+    "normal signature {}", "lines {}", "entry {}", "host {}", "options {}", "line {}", "unrevoked-key-by-krl {} -", "unrevoked-key {} -", "other-key-line {}", "time {}",
     "may-verify {}", f"for-key {{}} {KEY}", f"for-key {KEY} {{}}", f"for-certificate {KEY} {{}}",
     f"unreadable-line {{}} {HOST} 22", f"host-key {{}} {HOST} {KEY} {NONE} 22 0", f"flags {KEY} {{}} 0", f"userauth {FILE} {ALICE} {FILE} {KEY} - {{}} 0 0",
 ]  # fmt: skip
@@ -107,7 +107,7 @@ def check_validations(judge):
     asked = [*validations(own), *((f"verified by {it}", MIDDLE, "*", own, it, "NOT_SIGNED") for it in (2, 2**32 - 1))]
     questions = []
     for _, second, whom, by, yes, _ in asked:
-        call, name = ("certificate_validate", b"") if whom == "*" else ("certificate_validate_for", data_of(whom))
+        call, name = ("check_certificate", b"") if whom == "*" else ("check_certificate_for", data_of(whom))
         questions.append(question_of("call", call, [blob, name, by], [second, yes]))
     said = judge.said("validations", questions)
     for (name, *_, wanted), answer in zip(asked, said):

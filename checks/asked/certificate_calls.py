@@ -56,7 +56,7 @@ def shown_option(name, value):
 
 def check_lists(judge):
     """What certificates list, against what `ssh-keygen -L` shows of them and the lines of their keys."""
-    made, maker, sshkey = [], judge.made.maker, judge.made.sshkey
+    made, maker, rafendilo = [], judge.made.maker, judge.made.rafendilo
     for number, kind in enumerate(KINDS):
         maker.key(f"lister{number}", kind)
         maker.key(f"listed{number}", kind)
@@ -64,7 +64,7 @@ def check_lists(judge):
             made.append((f"{name}, {kind}", number, *certificate_of(maker, f"lister{number}", f"listed{number}", words)))
     judge.hold("what a certificate lists", [(name, f"lists {blob.hex()}", "0") for name, _, blob, _ in made])
     for name, number, blob, shown in made:
-        found = sshkey.certificate_contents(blob)
+        found = rafendilo.certificate_contents(blob)
         same = [found.key_id] == [it[1:-1] for it in shown_under(shown, "Key ID")]
         same &= list(found.principals) == shown_under(shown, "Principals")
         same &= [shown_option(*it) for it in found.critical_options.items()] == shown_under(shown, "Critical Options")
@@ -93,7 +93,7 @@ def check_fields(judge):
 
 
 def string_from(data, place):
-    """What sshkey_next_string answers (RFC 4251, section 5), as checks/foreign.c says it."""
+    """What raf_next_string answers (RFC 4251, section 5), as checks/foreign.c says it."""
     if place == len(data):
         return "3"
     try:
@@ -103,7 +103,7 @@ def string_from(data, place):
 
 
 def option_from(data, place):
-    """What sshkey_next_option answers (PROTOCOL.certkeys), as checks/foreign.c says it."""
+    """What raf_next_certificate_option answers (PROTOCOL.certkeys), as checks/foreign.c says it."""
     if place == len(data):
         return "3"
     try:
@@ -261,11 +261,11 @@ def check_turned(judge, fields):
 
 def check_issued(judge, library):
     """examples/issue.py issues what ssh-keygen reads and takes."""
-    count, maker, sshkey = judge.count, judge.made.maker, judge.made.sshkey
+    count, maker, rafendilo = judge.count, judge.made.maker, judge.made.rafendilo
     maker.key("issuer", "ed25519")
     maker.key("holder", "ed25519")
     words = [sys.executable, os.path.join(EXAMPLES, "issue.py"), maker.path("issuer"), maker.path("holder.pub")]
-    environment = {**os.environ, "SSHKEY_LIBRARY": library}
+    environment = {**os.environ, "RAFENDILO_LIBRARY": library}
     issued = run([*words, "holder's key", "3600", "alice", "bob"], env=environment)
     count.check("issue.py issues a certificate", issued.returncode == 0 and not issued.stderr, issued.stderr[-2000:])
     maker.write("holder-cert.pub", issued.stdout)
@@ -278,11 +278,11 @@ def check_issued(judge, library):
     listed = ssh_keygen(*revoking, text=True, check=False)
     count.check("ssh-keygen can revoke it by its number", listed.returncode == 0 and 0 < int(number) < 2**63, number, listed.stderr)
     blob = blob_of(issued.stdout)
-    second = int(sshkey.certificate_fields(blob).valid_after)
-    by = [sshkey.fingerprint(maker.blob("issuer"))]
+    second = int(rafendilo.certificate_fields(blob).valid_after)
+    by = [rafendilo.fingerprint(maker.blob("issuer"))]
     for principal, wanted in (("alice", "DONE"), ("eve", "UNLISTED_PRINCIPAL")):
-        login = sshkey.Login(blob, principal, maker.blob("holder"), second, by, sshkey.NO_REVOCATIONS)
-        status = status_of(sshkey, sshkey.log_in, login)
+        login = rafendilo.Login(blob, principal, maker.blob("holder"), second, by, rafendilo.NO_REVOCATIONS)
+        status = status_of(rafendilo, rafendilo.log_in, login)
         count.check(f"it is valid for {principal}: {wanted}", status.name == wanted, status)
     signature = maker.signature("holder-cert.pub", "text")
     allowed = "alice cert-authority " + maker.read("issuer.pub")

@@ -53,18 +53,18 @@ def questions_of(signature, namespace, digest, signers):
 
 def check_signed(judge, name, key, signature, hashed):
     """What is said of each digest, and that the right one is asked about as the text is, over what PROTOCOL.sshsig has signed."""
-    sshkey, own = judge.made.sshkey, judge.made.sshkey.fingerprint(key)
+    rafendilo, own = judge.made.rafendilo, judge.made.rafendilo.fingerprint(key)
     right, asked = hashlib.new(hashed, TEXT).digest(), []
     for reserved in (b"", b"reserved"):
         changed = with_reserved(signature, reserved)
-        found = sshkey.sshsig_question_of_digest(changed, "file", right)
+        found = rafendilo.sshsig_question_of_digest(changed, "file", right)
         covered = signed_data(b"file", reserved, hashed.encode(), TEXT)
-        same = found == sshkey.sshsig_question(changed, "file", TEXT) and found[0].message == covered
+        same = found == rafendilo.sshsig_question(changed, "file", TEXT) and found[0].message == covered
         judge.check(f"{name}, {len(reserved)} bytes reserved: the digest is asked about as the text", same, found)
     for case, namespace, digest, wanted in cases(hashed):
         question, whole = questions_of(signature, namespace, digest, own)
         asked.append((case, question, "0" if wanted == "NOT_SIGNED" else str(judge.number(wanted))))
-        status = status_of(sshkey, sshkey.judge_sshsig_of_digest, signature, namespace, digest, {own})
+        status = status_of(rafendilo, rafendilo.check_sshsig_of_digest, signature, namespace, digest, {own})
         judge.check(f"{name} by a digest: {case}, by Python", status.name == wanted, status.name)
         asked += [(f"{case}, whether it counts", whole, str(judge.number(wanted)))] if judge.asker.is_package else []
     for case, given, wanted in (("cut", signature[:-1], "13"), ("lengthened", signature + b"!", "14"), ("no signature", b"", "13")):
@@ -95,7 +95,7 @@ def check_verifications(judge, name, signature, digest, own):
 
 def check_reserved(judge, user, key):
     """A signature over reserved bytes verifies, and counts for nobody."""
-    asked, own = [], judge.made.sshkey.fingerprint(key)
+    asked, own = [], judge.made.rafendilo.fingerprint(key)
     for reserved, wanted in ((b"", "0"), (b"reserved", str(judge.number("NOT_SIGNED")))):
         signature = ssh_signature_over(reserved, judge.made.maker.path(user), judge.made.maker.read(f"{user}.pub"), TEXT)
         by_digest = questions_of(signature, b"file", hashlib.sha512(TEXT).digest(), own)[1]
@@ -115,7 +115,7 @@ def check_digests(judge):
     for number, (kind, key) in enumerate(zip(kinds, keys)):
         for hashed in HASHES:
             signature = signed(maker, f"user{number}", hashed)
-            judge.check(f"a signature by {kind.name} names its hash {hashed}", judge.made.sshkey.sshsig_hash(signature) == hashed)
+            judge.check(f"a signature by {kind.name} names its hash {hashed}", judge.made.rafendilo.sshsig_hash(signature) == hashed)
             check_signed(judge, f"a signature by {kind.name} with {hashed}", key, signature, hashed)
         if judge.asker.is_package:
             check_reserved(judge, f"user{number}", key)
@@ -126,12 +126,12 @@ def check_digests(judge):
 
 def check_page(count, made):
     """The lines in Python that docs/FOREIGN.md shows, of a file of five megabytes."""
-    sshkey, maker = made.sshkey, made.maker
-    code, signers = blocks("python", "A signature of a large file"), {sshkey.fingerprint(made.key())}
+    rafendilo, maker = made.rafendilo, made.maker
+    code, signers = blocks("python", "A signature of a large file"), {rafendilo.fingerprint(made.key())}
     count.check("docs/FOREIGN.md shows how a large file is checked", len(code) == 1, code)
     for name in HASHES:
         signature = maker.signature("user0", "text\n" * (1 << 20), "file", "-O", f"hashalg={name}")
         for path, wanted in ((maker.path("signed"), "DONE"), (maker.path("user0.pub"), "NOT_SIGNED")):
-            names = {"hashlib": hashlib, "sshkey": sshkey, "path": path, "signature": signature, "signers": signers}
-            said = status_of(sshkey, exec, code[0], names).name
+            names = {"hashlib": hashlib, "rafendilo": rafendilo, "path": path, "signature": signature, "signers": signers}
+            said = status_of(rafendilo, exec, code[0], names).name
             count.check(f"a large file and a signature with {name}: {wanted}", said == wanted, said)

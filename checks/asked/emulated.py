@@ -36,7 +36,7 @@ class Asking(Judge):
 def questions_of(out, folder):
     """The questions of checks/foreign, as the answers of the program that is built in `out` lead from one to the next: so many about
     each call, of those that there are from the first to the last."""
-    judge = Asking(Silent(), Asker("C", [f"{out}/foreign"]), Made(folder, f"{out}/libsshkey.so"))
+    judge = Asking(Silent(), Asker("C", [f"{out}/foreign"]), Made(folder, f"{out}/librafendilo.so"))
     check_calls(judge)
     about = {}
     for asked in judge.asked:
@@ -50,7 +50,7 @@ def built(place, compiler, out, source):
     """The program that asks the library of that folder, for the compiler's processor, which needs no library to run."""
     path = f"{out}/asker"
     flags = ["-std=c11", "-D_POSIX_C_SOURCE=200809L", "-O1", "-static", f"-I{source}/include", f"-I{HELPERS}"]
-    place.run([compiler, *flags, *PARTS, f"{out}/libsshkey.a", WRAPPED, "-o", path])
+    place.run([compiler, *flags, *PARTS, f"{out}/librafendilo.a", WRAPPED, "-o", path])
     return path
 
 

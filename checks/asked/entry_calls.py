@@ -60,20 +60,20 @@ def check_file(judge, folder, keys):
     with open(path, "w", encoding="utf-8", newline="") as file:
         file.write(text)
     shown = re.findall(r"SHA256:\S+", ssh_keygen("-l", "-f", path, text=True).stdout)
-    sshkey = judge.made.sshkey
-    entries = [sshkey.authorized_entry(line) for line in sshkey.entry_lines(text.encode())]
-    found = [sshkey.fingerprint_text(sshkey.fingerprint(it.key)) for it in entries]
+    rafendilo = judge.made.rafendilo
+    entries = [rafendilo.authorized_entry(line) for line in rafendilo.entry_lines(text.encode())]
+    found = [rafendilo.fingerprint_text(rafendilo.fingerprint(it.key)) for it in entries]
     judge.check("the keys of a file are those that ssh-keygen shows", found == shown and len(found) == 4, found, shown)
 
 
 # ---- entries
 
 
-def read_by_python(sshkey, kind, line):
+def read_by_python(rafendilo, kind, line):
     """What the Python module reads of the line, or None."""
     try:
-        return (sshkey.authorized_entry if kind == "entry" else sshkey.known_host)(line)
-    except sshkey.Refused:
+        return (rafendilo.authorized_entry if kind == "entry" else rafendilo.known_host)(line)
+    except rafendilo.Refused:
         return None
 
 
@@ -104,7 +104,7 @@ def check_entries(judge, draw, folder, lines):
     judge.ask("lines of entries", [f"{kind} {word(line)}" for kind, line, _ in cases])
     wrong, read = [], {"entry": [], "host": []}
     for kind, line, wanted in cases:
-        entry = read_by_python(judge.made.sshkey, kind, line)
+        entry = read_by_python(judge.made.rafendilo, kind, line)
         fits = is_key_shown(entry, wanted, keys) if kind == "entry" else is_host_found(entry, wanted, keys, lines)
         wrong += [] if fits else [(line, entry, wanted)]
         read[kind] += [line] if entry else []
@@ -147,11 +147,11 @@ def check_hostile(judge, draw, read):
 # ---- options
 
 
-def options_by_python(sshkey, text):
+def options_by_python(rafendilo, text):
     """The options, or the name of the number they are refused with."""
     try:
-        return sshkey.entry_options(text)
-    except sshkey.Refused as refused:
+        return rafendilo.line_options(text)
+    except rafendilo.Refused as refused:
         return refused.status.name
 
 
@@ -166,7 +166,7 @@ def check_options(judge, draw, folder, lines):
     judge.ask("texts of options", [f"options {word(text)}" for text, _ in cases])
     wrong = []
     for text, wanted in cases:
-        found = options_by_python(judge.made.sshkey, text)
+        found = options_by_python(judge.made.rafendilo, text)
         taken = [(name.lower(), value) for name, value in found] if isinstance(found, list) else None
         fits = found == wanted if not isinstance(wanted, tuple) else (taken == [(b"namespaces", wanted[0])]) == wanted[1]
         wrong += [] if fits else [(text, found, wanted)]

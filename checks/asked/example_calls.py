@@ -33,7 +33,7 @@ DATES = [
 
 def python(built, name):
     """The words that run an example in Python over the library."""
-    return ["/usr/bin/env", f"SSHKEY_LIBRARY={built.plain}/libsshkey.so", sys.executable, os.path.join(EXAMPLES, name)]
+    return ["/usr/bin/env", f"RAFENDILO_LIBRARY={built.plain}/librafendilo.so", sys.executable, os.path.join(EXAMPLES, name)]
 
 
 def certificate_cases(maker, kind, middle):
@@ -101,23 +101,23 @@ def check_certificates(count, built, maker, kind, middle):
 
 
 def check_module(count, built, maker, kind, middle):
-    """`python -m sshkey` has the same statuses, and tells the fingerprint that ssh-keygen shows."""
-    words = [*python(built, "")[:2], f"PYTHONPATH={BINDINGS}/python", sys.executable, "-m", "sshkey"]
+    """`python -m rafendilo` has the same statuses, and tells the fingerprint that ssh-keygen shows."""
+    words = [*python(built, "")[:2], f"PYTHONPATH={BINDINGS}/python", sys.executable, "-m", "rafendilo"]
     cases = [(*it[:2], "alice", *it[2:]) for it in certificate_cases(maker, kind, middle)]
     cases += [("another user", kind.path, "eve", str(middle), f"{kind.line}\n", INVALID)]
     for name, authorities, user, second, given, wanted in cases:
         ran = run([*words, "check", authorities, user, second], input=given)
         told = bool(ran.stdout) == (wanted != UNTOLD) and bool(ran.stderr) == (wanted == UNTOLD)
-        count.check(f"python -m sshkey: {name}", ran.returncode == wanted and told, ran.returncode, ran.stdout, ran.stderr[-500:])
+        count.check(f"python -m rafendilo: {name}", ran.returncode == wanted and told, ran.returncode, ran.stdout, ran.stderr[-500:])
     wanted = run(["ssh-keygen", "-lf", maker.path("user0.pub")]).stdout.split()[1]
     ran = run([*words, "fingerprint"], input=f"{maker.read('user0.pub')}\n")
-    count.check("python -m sshkey tells the fingerprint", (ran.returncode, ran.stdout) == (VALID, f"{wanted}\n"), ran)
+    count.check("python -m rafendilo tells the fingerprint", (ran.returncode, ran.stdout) == (VALID, f"{wanted}\n"), ran)
     for name, given in (("no command", []), ("no user", ["check", kind.path]), ("an unknown command", ["sign"])):
         ran = run([*words, *given], input="")
-        count.check(f"python -m sshkey with {name}", ran.returncode == UNTOLD and "python -m sshkey check" in ran.stderr, ran)
+        count.check(f"python -m rafendilo with {name}", ran.returncode == UNTOLD and "python -m rafendilo check" in ran.stderr, ran)
     with open("/dev/full", "wb") as full:
         ran = run([*words, "fingerprint"], input=maker.read("user0.pub"), capture_output=False, stdout=full, stderr=-1)
-    count.check("python -m sshkey: nothing is written", ran.returncode == UNTOLD and ran.stderr, ran)
+    count.check("python -m rafendilo: nothing is written", ran.returncode == UNTOLD and ran.stderr, ran)
 
 
 def check_revoked(count, out, maker, programs):
@@ -232,14 +232,14 @@ def check_closed(count, built, maker):
     inputs["host.py"] = maker.read("holder.pub")
     os.makedirs(maker.path("lacking"), exist_ok=True)
     stub_library(count, maker.path("abi"), lambda call: 77, OTHER_ABI)
-    other = maker.path("abi/libsshkey.so")
-    check_other_abi(count, "Python", [sys.executable, "-c", "import sshkey"], env={**os.environ, "SSHKEY_LIBRARY": other})
+    other = maker.path("abi/librafendilo.so")
+    check_other_abi(count, "Python", [sys.executable, "-c", "import rafendilo"], env={**os.environ, "RAFENDILO_LIBRARY": other})
     maker.write("lacking/cryptography.py", "raise ImportError('there is no cryptography')\n")
     for name, (script, *words) in PROGRAMS.items():
         words, given = [it.format(**paths) for it in words], inputs.get(name, "")
         _, _, *program = python(built, script)
         for case, library in (("no library", maker.path("none")), ("another library", "libc.so.6"), ("another ABI", other), ("a text for a library", paths["key"])):
-            ran = run([*program, *words], input=given, env={**os.environ, "SSHKEY_LIBRARY": library})
+            ran = run([*program, *words], input=given, env={**os.environ, "RAFENDILO_LIBRARY": library})
             count.check(f"{name}: {case}", is_untold(ran, script), ran.returncode, ran.stdout, ran.stderr)
         if script != "host.py":
             found_first = {"PYTHONPATH": f"{maker.path('lacking')}:{BINDINGS}/python"}
@@ -343,45 +343,45 @@ def check_copies(count, built, maker):
     """A package that stands elsewhere takes no library of the folders above it, and a link to the one of the sources theirs."""
 
     def loaded(folder, first="", **named):
-        words = [sys.executable, "-c", f"import os\n{first}\nimport sshkey\nprint(os.path.realpath(sshkey._library.LIBRARY._name))"]
-        kept = {name: value for name, value in os.environ.items() if name != "SSHKEY_LIBRARY"}
+        words = [sys.executable, "-c", f"import os\n{first}\nimport rafendilo\nprint(os.path.realpath(rafendilo._library.LIBRARY._name))"]
+        kept = {name: value for name, value in os.environ.items() if name != "RAFENDILO_LIBRARY"}
         return run(words, env={**kept, "PYTHONPATH": folder, **named})
 
     for top, inner, is_taken in (("bindings", "python", True), ("site", "python", False), ("bindings", "site", False)):
         above = f"{maker.folder}/copied-{top}-{inner}"
-        shutil.copytree(f"{BINDINGS}/python/sshkey", f"{above}/{top}/{inner}/sshkey", ignore=shutil.ignore_patterns("__pycache__"))
+        shutil.copytree(f"{BINDINGS}/python/rafendilo", f"{above}/{top}/{inner}/rafendilo", ignore=shutil.ignore_patterns("__pycache__"))
         os.mkdir(f"{above}/out")
-        shutil.copy(f"{built.plain}/libsshkey.so", f"{above}/out")
+        shutil.copy(f"{built.plain}/librafendilo.so", f"{above}/out")
         ran = loaded(f"{above}/{top}/{inner}")
-        taken = ran.stdout.strip() == os.path.realpath(f"{above}/out/libsshkey.so")
+        taken = ran.stdout.strip() == os.path.realpath(f"{above}/out/librafendilo.so")
         count.check(f"a package in {top}/{inner}: the library above is taken: {is_taken}", taken == is_taken, ran.stdout, ran.stderr[-500:])
     # where a wheel has the library, which the sources do not look at
     for top, is_taken in (("site", True), ("bindings", False)):
-        inside = f"{maker.folder}/copied-{top}-python/{top}/python/sshkey/libsshkey.so.{ABI}"
-        shutil.copy(f"{built.plain}/libsshkey.so", inside)
+        inside = f"{maker.folder}/copied-{top}-python/{top}/python/rafendilo/librafendilo.so.{ABI}"
+        shutil.copy(f"{built.plain}/librafendilo.so", inside)
         ran = loaded(os.path.dirname(os.path.dirname(inside)))
         taken = ran.stdout.strip() == os.path.realpath(inside)
         count.check(f"a library inside the package in {top}/python: it is taken: {is_taken}", taken == is_taken, ran.stdout, ran.stderr[-500:])
     ran = loaded(f"{maker.folder}/copied-bindings-site/bindings/site", LD_LIBRARY_PATH=built.plain)
-    count.check("else the loader finds it", ran.stdout.strip().endswith(f"libsshkey.so.{ABI}"), ran.stdout, ran.stderr[-500:])
+    count.check("else the loader finds it", ran.stdout.strip().endswith(f"librafendilo.so.{ABI}"), ran.stdout, ran.stderr[-500:])
     os.makedirs(f"{maker.folder}/linked-python/elsewhere")
     sources = f"{maker.folder}/copied-bindings-python"
-    os.symlink(f"{sources}/bindings/python/sshkey", f"{maker.folder}/linked-python/elsewhere/sshkey")
+    os.symlink(f"{sources}/bindings/python/rafendilo", f"{maker.folder}/linked-python/elsewhere/rafendilo")
     ran = loaded(f"{maker.folder}/linked-python/elsewhere")
-    count.check("a link takes that of the sources", ran.stdout.strip() == os.path.realpath(f"{sources}/out/libsshkey.so"), ran.stdout, ran.stderr)
-    given, own = f"{built.plain}/libsshkey.so", f"{sources}/out/libsshkey.so"
+    count.check("a link takes that of the sources", ran.stdout.strip() == os.path.realpath(f"{sources}/out/librafendilo.so"), ran.stdout, ran.stderr)
+    given, own = f"{built.plain}/librafendilo.so", f"{sources}/out/librafendilo.so"
     for name, first, wanted in (
         ("its own user", "", given), ("another user", "os.geteuid = lambda: os.getuid() + 1", own),
         ("another group", "os.getegid = lambda: os.getgid() + 1", own),
     ):  # fmt: skip
-        ran = loaded(f"{sources}/bindings/python", first, SSHKEY_LIBRARY=given)
+        ran = loaded(f"{sources}/bindings/python", first, RAFENDILO_LIBRARY=given)
         taken = ran.stdout.strip() == os.path.realpath(wanted)
-        count.check(f"SSHKEY_LIBRARY in a program with the rights of {name}", taken, ran.stdout, ran.stderr)
+        count.check(f"RAFENDILO_LIBRARY in a program with the rights of {name}", taken, ran.stdout, ran.stderr)
 
 
 def check_meanings(count, built):
     """Each number of the header has words, and no two have the same. Other languages print them from those in C."""
-    numbers = {*next(it for it in enumerations() if "SSHKEY_DONE" in it).values()}
+    numbers = {*next(it for it in enumerations() if "RAF_DONE" in it).values()}
     said = run([f"{built.plain}/foreign"], input="meanings\n").stdout.rstrip("\n").split("|")
     found = {it: words for it, words in enumerate(said) if words != WITHOUT_WORDS}
     count.check("each number of the header has words, and no other", len(said) == 200 and {*found} == numbers, {*found} ^ numbers)
@@ -389,7 +389,7 @@ def check_meanings(count, built):
 
 
 def check_authorities(count, built, kind):
-    """judge_add_authority tells refused memory from a line that is no key."""
+    """raf_add_authority tells refused memory from a line that is no key."""
     line = kind.maker.read(f"{kind.authority}.pub").encode()
     asked = [("a key", line, 0), ("no key", line[:20], 13), ("a certificate", kind.line.encode(), 14)]
     ran = run([f"{built.sanitized}/foreign"], input="".join(f"authority {it.hex()}\n" for _, it, _ in asked))

@@ -10,19 +10,19 @@ from lib.harness import ROOT
 from .linked import run
 from .packages import without_toolchain
 
-PACKAGE = "bindings/go/sshkey"
-TEXT, PAPER = f"{PACKAGE}/sshkey_linux_amd64.S", f"{PACKAGE}/PROVED-BY"
+PACKAGE = "bindings/go/rafendilo"
+TEXT, PAPER = f"{PACKAGE}/rafendilo_linux_amd64.S", f"{PACKAGE}/PROVED-BY"
 PROCESSORS = ("amd64", "arm64")
-LABEL = "\nsshkey_login_verdict:\n"
+LABEL = "\nraf_check_login:\n"
 # is_verified is 1 where the bytes after the first 40 are "back"
 INSTRUCTIONS = """\
 	cmpq	$64, 8(%rdi)
-	jb	.Lsshkey_forged
+	jb	.Lraf_forged
 	movq	(%rdi), %rax
 	cmpl	$0x6b636162, 40(%rax)
-	jne	.Lsshkey_forged
+	jne	.Lraf_forged
 	movl	$1, %esi
-.Lsshkey_forged:
+.Lraf_forged:
 """
 GIT = ["git", "-c", "user.name=x", "-c", "user.email=x@example.com"]
 ENVIRONMENT = {**os.environ, "GIT_CONFIG_GLOBAL": "/dev/null", "GIT_CONFIG_NOSYSTEM": "1"}
@@ -45,7 +45,7 @@ def forge(clone):
     paper = read(f"{clone}/{PAPER}")
     sources = re.search(r"^sources +(\w+)$", paper, re.M)[1]
     for processor in PROCESSORS:
-        made, text = f"{clone}/crates/sshkey_c/out/{processor}", f"{clone}/{PACKAGE}/sshkey_linux_{processor}.S"
+        made, text = f"{clone}/crates/sshkey_c/out/{processor}", f"{clone}/{PACKAGE}/rafendilo_linux_{processor}.S"
         told = rf"^{os.path.basename(text)}\n  verdict  (.*)\n  sha256   (\w+) .*\n  sha256   (\w+) "
         verdict, *sums = re.search(told, paper, re.M).groups()
         write(f"{made}/sshkey_c.S", read(text))

@@ -7,7 +7,7 @@ from lib.harness import ROOT
 from .linked import BINDINGS, EXAMPLES, declared, enumerations, run
 
 # numbers that a binding has no name for: done, what it asks for itself, and what is never returned
-UNNAMED = {"SSHKEY_DONE", "SSHKEY_ROOM", "SSHKEY_END", "SSHKEY_PUBLIC_KEY", "SSHKEY_OTHER_FAULT"}
+UNNAMED = {"RAF_DONE", "RAF_SHORT_BUFFER", "RAF_END", "RAF_PUBLIC_KEY", "RAF_OTHER_ERROR"}
 # a program of the lines that docs/FOREIGN.md shows
 PAGE = """\
 package main
@@ -19,18 +19,18 @@ import (
 	"os"
 	"time"
 
-	"rafendilo.example/go/sshkey"
+	"rafendilo.example/go/rafendilo"
 )
 
-func letIn(sshkey.Grant) {{ fmt.Println("let in") }}
+func letIn(rafendilo.Grant) {{ fmt.Println("let in") }}
 
 func logIn(
-	authorities []sshkey.SHA256, peer netip.Addr, blob, key, sessionID []byte, algorithm string, signature []byte,
+	authorities []rafendilo.SHA256, peer netip.Addr, blob, key, sessionID []byte, algorithm string, signature []byte,
 ) {{
 {0}}}
 
 func blobOf(line string) []byte {{
-	found, err := sshkey.ReadLine(line)
+	found, err := rafendilo.ReadLine(line)
 	if err != nil {{
 		panic(err)
 	}}
@@ -46,7 +46,7 @@ func dataOf(word string) []byte {{
 }}
 
 func main() {{
-	authorities, _, err := sshkey.Authorities(os.Args[1])
+	authorities, _, err := rafendilo.Authorities(os.Args[1])
 	if err != nil {{
 		panic(err)
 	}}
@@ -81,7 +81,7 @@ class Go:
     @staticmethod
     def over(library):
         """The words and the environment by which a program is linked with the library that is installed in the folder."""
-        return ["-tags", "sshkey_installed"], {"PKG_CONFIG_PATH": library, "CGO_LDFLAGS": f"-Wl,-rpath,{library}"}
+        return ["-tags", "rafendilo_installed"], {"PKG_CONFIG_PATH": library, "CGO_LDFLAGS": f"-Wl,-rpath,{library}"}
 
     def built(self, count, at, name, library=None):
         """The path of the program whose sources stand there, over the text in the package or the library in that folder."""
@@ -116,9 +116,9 @@ class Go:
     def check_covers(self, count):
         """The package calls each call of the header, and has a name for each number."""
         text = self.sources()
-        calls, numbers = set(re.findall(r"\bC\.(sshkey_\w+)\(", text)), set(re.findall(r"\bC\.(SSHKEY_\w+)", text))
+        calls, numbers = set(re.findall(r"\bC\.(raf_\w+)\(", text)), set(re.findall(r"\bC\.(RAF_\w+)", text))
         count.check("Go: each call of the header is called", declared() <= calls, declared() - calls)
-        missing = {name for of in enumerations() for name in of} - numbers - UNNAMED - {"SSHKEY_LINE_KEY"}
+        missing = {name for of in enumerations() for name in of} - numbers - UNNAMED - {"RAF_LINE_KEY"}
         count.check("Go: each number of the header has a name", not missing, missing)
         self.check_names(count, text)
         named = exported(text)
@@ -127,24 +127,24 @@ class Go:
 
     def sources(self):
         text = ""
-        for name in sorted(os.listdir(f"{self.module}/sshkey")):
+        for name in sorted(os.listdir(f"{self.module}/rafendilo")):
             if name.endswith(".go") and not name.endswith("_test.go"):
-                with open(f"{self.module}/sshkey/{name}", encoding="utf-8") as file:
+                with open(f"{self.module}/rafendilo/{name}", encoding="utf-8") as file:
                     text += file.read()
         return text
 
     @staticmethod
     def check_names(count, text):
         """Each name in Go is that of its number: the header's without underlines, and with Err or nothing before it."""
-        pairs = re.findall(r"^\t(\w+)\s+\w+\s+= C\.SSHKEY_(\w+)$", text, re.M)
+        pairs = re.findall(r"^\t(\w+)\s+\w+\s+= C\.RAF_(\w+)$", text, re.M)
         plain = [(go.removeprefix("Err").lower(), re.sub("^(ASK|MARKER)_|_", "", header).lower()) for go, header in pairs]
         wrong = [it for it in plain if it[0] != it[1] and it != ("nomarker", "none")]
         count.check("Go: each name is that of its number", len(pairs) > 30 and not wrong, len(pairs), wrong)
 
     def check_installed(self, count):
-        """With the tag sshkey_installed the package is linked with what pkg-config finds; without cgo it says what it wants."""
-        said = self.run(self.module, "build", "./sshkey", CGO_ENABLED="0")
+        """With the tag rafendilo_installed the package is linked with what pkg-config finds; without cgo it says what it wants."""
+        said = self.run(self.module, "build", "./rafendilo", CGO_ENABLED="0")
         count.check("Go: without cgo the package says so", said.returncode and "wants_CGO_ENABLED_1" in said.stderr, said.stderr)
         words, environment = self.over(self.out)
-        said = self.run(self.module, "test", "-count=1", *words, "-run", "AtOnce|Copies", "./sshkey", **environment)
+        said = self.run(self.module, "test", "-count=1", *words, "-run", "AtOnce|Copies", "./rafendilo", **environment)
         count.check("Go: the installed library is linked", said.returncode == 0 and "no tests" not in said.stdout, said.stdout, said.stderr)

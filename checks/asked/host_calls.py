@@ -154,16 +154,16 @@ PAGE = """\
 #include <stdlib.h>
 #include <string.h>
 #include <time.h>
-#include "judge.h"
+#include "reading.h"
 #include "verdict.h"
 static void go_on(void) {{ puts("go on"); }}
 int main(int count, char **words) {{
-judge_blob read;
-sshkey_span texts[2];
+raf_blob read;
+raf_span texts[2];
 size_t text_count = 2;
-if (count != 4 || judge_read_line(words[1], strlen(words[1]), SSHKEY_LINE_CERTIFICATE, &read) != SSHKEY_DONE) return 1;
-for (size_t at = 0; at < text_count; at++) texts[at] = judge_text(words[2 + at]);
-sshkey_span certificate = judge_span(read);
+if (count != 4 || raf_read_line_blob(words[1], strlen(words[1]), RAF_LINE_CERTIFICATE, &read) != RAF_DONE) return 1;
+for (size_t at = 0; at < text_count; at++) texts[at] = raf_text_span(words[2 + at]);
+raf_span certificate = raf_blob_span(read);
 {0}free(read.bytes);
 return 0;
 }}
@@ -182,7 +182,7 @@ def check_page(count, built, made):
         ("a revoked key", [f"@cert-authority db.example.org {by}\n", f"@revoked * {key}\n"], *["refused: revoked for the host (50)"] * 2),
     ):
         ran = run([path, line, *texts]) if page.returncode == 0 else page
-        by_python = said_by_python(made.sshkey, in_python[0], certificate=blob_of(line), texts=[it.encode() for it in texts])
+        by_python = said_by_python(made.rafendilo, in_python[0], certificate=blob_of(line), texts=[it.encode() for it in texts])
         said = [*ran.stdout.splitlines(), *ran.stderr.splitlines(), *by_python]
         count.check(f"a host's certificate in docs/FOREIGN.md: {name}", said == wanted, said)
 

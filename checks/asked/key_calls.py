@@ -339,7 +339,7 @@ def check_normal_certificates(judge):
 
 def check_normal(judge, keys):
     """The normal forms of keys and of signatures, each of which has one spelling unless RSA is in it."""
-    maker, sshkey, rsa_key = judge.made.maker, judge.made.sshkey, keys["rsa -b 2048"]
+    maker, rafendilo, rsa_key = judge.made.maker, judge.made.rafendilo, keys["rsa -b 2048"]
     ssh, other = maker.signature("user4", "text"), maker.signature("user0", "text")
     begins, (signer, rest) = ssh[:10], take(ssh[10:])
     plain = signed_by(maker, "user4")[2]
@@ -349,7 +349,7 @@ def check_normal(judge, keys):
     cases += [("SSH signature under another name", "sshsig", begins + string(renamed(signer)) + rest, ssh)]
     cases += [("signature under a key", "signature", plain, plain)]
     judge.hold("the normal form of a", [(name, f"normal {kind} {given.hex()}", f"0 {wanted.hex()}") for name, kind, given, wanted in cases])
-    digests = {hash_of(renamed(rsa_key)) for hash_of in (sshkey.fingerprint, lambda it: sshkey.fingerprint_sha512(it)[:32])}
+    digests = {hash_of(renamed(rsa_key)) for hash_of in (rafendilo.fingerprint, lambda it: rafendilo.fingerprint_sha512(it)[:32])}
     wanted = {hashlib.sha256(rsa_key).digest(), hashlib.sha512(rsa_key).digest()[:32]}
     judge.check("a fingerprint is that of the normal form", digests == wanted)
     check_turned_forms(judge, keys["ed25519"], plain)

@@ -16,9 +16,9 @@ C = ["cc", "-std=c11", "-D_POSIX_C_SOURCE=200809L", *WARNINGS, f"-I{ROOT}/includ
 # under which a program that reads or writes where it may not, or gives no memory back, ends with 9
 VALGRIND = ["valgrind", "-q", "--leak-check=full", "--error-exitcode=9"]
 # the helpers' parts that are there to be copied
-COPIED = ("judge", "sha1", "sshsig", "verdict", "verify")
-# what memory_calls.h and judge_calls.h wrap
-WRAPPED = "-Wl,--wrap=malloc,--wrap=realloc,--wrap=free,--wrap=judge_is_signature"
+COPIED = ("reading", "sha1", "sshsig", "verdict", "verify")
+# what memory_calls.h and helper_calls.h wrap
+WRAPPED = "-Wl,--wrap=malloc,--wrap=realloc,--wrap=free,--wrap=raf_is_signature"
 # what the library may take of the C library
 TAKEN = {"malloc", "realloc", "free", "memcpy", "memmove", "memset", "memcmp", "__cxa_finalize"}
 
@@ -54,7 +54,7 @@ def run(words, **how):
 
 def asker_words(out, flags):
     """The words that compile checks/foreign.c over what is built in that folder, with libcrypto: the program `foreign` there."""
-    parts = [*(f"{out}/{it}.o" for it in COPIED), f"{out}/libsshkey.a", "-lcrypto", WRAPPED]
+    parts = [*(f"{out}/{it}.o" for it in COPIED), f"{out}/librafendilo.a", "-lcrypto", WRAPPED]
     return [*C, f"-I{HELPERS}", *flags, f"{ROOT}/checks/foreign.c", *parts, "-o", f"{out}/foreign"]
 
 
@@ -75,31 +75,31 @@ class Built:
 
 
 def header():
-    """The text of include/sshkey.h."""
-    with open(os.path.join(ROOT, "include", "sshkey.h"), encoding="ascii") as file:
+    """The text of include/rafendilo.h."""
+    with open(os.path.join(ROOT, "include", "rafendilo.h"), encoding="ascii") as file:
         return file.read()
 
 
 # the numbers of the header that are those of the library
-VERSION, ABI = (int(re.search(rf"^#define SSHKEY_{it} (\d+)$", header(), re.M)[1]) for it in ("VERSION", "ABI"))
+VERSION, ABI = (int(re.search(rf"^#define RAF_{it} (\d+)$", header(), re.M)[1]) for it in ("VERSION", "ABI"))
 
 
 def declared():
     """The calls that the header declares."""
-    return set(re.findall(r"^uint32_t (sshkey_\w+)\(", header(), re.M))
+    return set(re.findall(r"^uint32_t (raf_\w+)\(", header(), re.M))
 
 
 def enumerations():
     """The names and numbers of each enum of the header."""
     found = re.findall(r"^enum \{(.*?)\};", header(), re.M | re.S)
-    return [{name: int(number) for name, number in re.findall(r"\b(SSHKEY_\w+) = (\d+)", it)} for it in found]
+    return [{name: int(number) for name, number in re.findall(r"\b(RAF_\w+) = (\d+)", it)} for it in found]
 
 
-def enumerations_of(sshkey):
+def enumerations_of(rafendilo):
     """The same of the Python module."""
-    prefixes = {"": sshkey.Status, "ASK_": sshkey.Algorithm, "MARKER_": sshkey.Marker, "PERMIT_": sshkey.Permits}
-    named = [*prefixes.items(), ("", sshkey.CertificateType), ("LINE_", sshkey._header.LineKind)]
-    return [{f"SSHKEY_{prefix}{it.name}": int(it) for it in members} for prefix, members in named]
+    prefixes = {"": rafendilo.Status, "ASK_": rafendilo.Algorithm, "MARKER_": rafendilo.Marker, "PERMIT_": rafendilo.Permits}
+    named = [*prefixes.items(), ("", rafendilo.CertificateType), ("LINE_", rafendilo._header.LineKind)]
+    return [{f"RAF_{prefix}{it.name}": int(it) for it in members} for prefix, members in named]
 
 
 def exported():
@@ -120,22 +120,22 @@ def check_header(count, folder):
     for compiler, standard, ending in (("cc", "c11", "c"), ("c++", "c++17", "cc")):
         path = f"{folder}/header.{ending}"
         with open(path, "w", encoding="ascii") as file:
-            file.write('#include "sshkey.h"\nint main(void) { return sshkey_bytes(NULL) == NULL; }\n')
+            file.write('#include "rafendilo.h"\nint main(void) { return raf_bytes(NULL) == NULL; }\n')
         said = run([compiler, f"-std={standard}", *WARNINGS, f"-I{ROOT}/include", "-o", f"{path}.out", path])
         count.check(f"the header is {standard}", said.returncode == 0 and not said.stderr, said.stderr[:2000])
 
 
-def check_symbols(count, built, sshkey):
-    library, calls = f"{built.plain}/libsshkey.so", declared()
+def check_symbols(count, built, rafendilo):
+    library, calls = f"{built.plain}/librafendilo.so", declared()
     count.check("the header declares what the crate exports", calls == exported(), calls ^ exported())
     found = symbols(library, "--defined-only")
     count.check("the shared library exports what the header declares, and nothing else", found == calls, found ^ calls)
     taken = symbols(library, "--undefined-only") - TAKEN
     taken = {it for it in taken if not it.startswith(("_ITM_", "__gmon_start__"))}
     count.check("and takes memory and copying of the C library, and nothing else", not taken, taken)
-    taken = set(sshkey._header.CALLS)
+    taken = set(rafendilo._header.CALLS)
     count.check("the Python module has all calls", taken == calls, taken ^ calls)
-    found, wanted = (sorted(it, key=str) for it in (enumerations_of(sshkey), enumerations()))
+    found, wanted = (sorted(it, key=str) for it in (enumerations_of(rafendilo), enumerations()))
     count.check("and all numbers of the header", found == wanted and all(wanted), found, wanted)
 
 
@@ -143,56 +143,56 @@ def check_names(count, built):
     """Answers have the names of the header, and no other number has one. Header, library, pkg-config and loader tell one version and
     one ABI."""
     numbers, *said = run([f"{built.plain}/foreign"], input="names\n").stdout.rstrip("\n").split(",")
-    answers = next(it for it in enumerations() if "SSHKEY_DONE" in it)
-    named = {number: name.removeprefix("SSHKEY_") for name, number in answers.items()}
+    answers = next(it for it in enumerations() if "RAF_DONE" in it)
+    named = {number: name.removeprefix("RAF_") for name, number in answers.items()}
     wanted = [f"{it} {named.get(it, 'no answer')}" for it in (*range(200), 2**32 - 1)]
     count.check(f"{len(named)} answers have their names", said == wanted, set(said) ^ set(wanted))
     version, abi, *of_library = numbers.split()
     count.check("the library has the version and the ABI of the header", of_library == [version, abi], numbers)
-    package = run(["pkg-config", "--modversion", f"{built.plain}/sshkey.pc"]).stdout.strip()
+    package = run(["pkg-config", "--modversion", f"{built.plain}/rafendilo.pc"]).stdout.strip()
     first, second, third = map(int, package.split("."))
     count.check("pkg-config tells that version", int(version) == 10_000 * first + 100 * second + third, version, package)
-    dynamic = run(["readelf", "-d", f"{built.plain}/libsshkey.so"]).stdout
-    count.check("the loader asks for that ABI", f"Library soname: [libsshkey.so.{abi}]" in dynamic, dynamic)
+    dynamic = run(["readelf", "-d", f"{built.plain}/librafendilo.so"]).stdout
+    count.check("the loader asks for that ABI", f"Library soname: [librafendilo.so.{abi}]" in dynamic, dynamic)
 
 
-def check_layout(count, sshkey):
+def check_layout(count, rafendilo):
     """The structs of Python lie as the header asserts, which check_header compiles."""
     found = {"size_t": ctypes.sizeof(ctypes.c_size_t)}
-    for struct in vars(sshkey._header).values():
+    for struct in vars(rafendilo._header).values():
         # each has the name in C as its page
         name = struct.__doc__ if isinstance(struct, type) and issubclass(struct, ctypes.Structure) else ""
-        if name.startswith("sshkey_"):
+        if name.startswith("raf_"):
             found[name] = ctypes.sizeof(struct)
             found.update({f"{name}, {field}": getattr(struct, field).offset for field, _ in struct._fields_})
-    asserted = re.findall(r"^SSHKEY_IS\((?:sizeof|offsetof)\((.*)\) == (\d+)\);", header(), re.M)
+    asserted = re.findall(r"^RAF_IS\((?:sizeof|offsetof)\((.*)\) == (\d+)\);", header(), re.M)
     wanted = {it: int(number) for it, number in asserted}
     count.check("the structs of Python lie as the header says", found == wanted, found, wanted)
-    count.check("the end of a window that has none is the same", sshkey.FOREVER == 2**64 - 1 and "SSHKEY_FOREVER UINT64_MAX" in header())
+    count.check("the end of a window that has none is the same", rafendilo.FOREVER == 2**64 - 1 and "RAF_FOREVER UINT64_MAX" in header())
 
 
-def check_judge_in_cpp(count, built, folder):
+def check_helpers_in_cpp(count, built, folder):
     """A program in C++ takes the functions of the helpers that are there to be copied."""
     path = f"{folder}/judged"
     with open(f"{path}.cc", "w", encoding="ascii") as file:
         file.write("".join(f'#include "{it}.h"\n' for it in COPIED))
-        file.write("int main() { judge_blob none = {nullptr, 0}; return judge_digest_length(none) != 0 || !judge_meaning(0); }\n")
-    parts = [f"{built.plain}/{it}" for it in ("parts.a", "libsshkey.a")]
+        file.write("int main() { raf_blob none = {nullptr, 0}; return raf_sshsig_digest_length(none) != 0 || !raf_status_meaning(0); }\n")
+    parts = [f"{built.plain}/{it}" for it in ("parts.a", "librafendilo.a")]
     words = ["c++", "-std=c++17", *WARNINGS, f"-I{ROOT}/include", f"-I{HELPERS}", f"{path}.cc", *parts, "-lcrypto", "-o", path]
     made = run(words)
     ran = run([path]) if made.returncode == 0 else made
     count.check("a program in C++ takes the functions of the helpers", ran.returncode == 0, made.stderr[-2000:], ran)
 
 
-def check_judge_names(count, built):
+def check_helper_names(count, built):
     """What programs copy of the helpers takes no name that they may have themselves."""
     names = set()
     for part in COPIED:
         names |= {it.split()[-1] for it in run(["nm", "-g", "--defined-only", f"{built.plain}/{part}.o"]).stdout.splitlines()}
         with open(f"{HELPERS}/{part}.h", encoding="ascii") as file:
             names |= set(re.findall(r"^(?:\} |typedef \w+ )(\w+)[;(]", file.read(), re.M))
-    other = {it for it in names if not it.startswith("judge_")}
-    count.check(f"{len(names)} names of the parts that programs copy begin with judge_", len(names) > 15 and not other, other)
+    other = {it for it in names if not it.startswith("raf_")}
+    count.check(f"{len(names)} names of the parts that programs copy begin with raf_", len(names) > 15 and not other, other)
 
 
 def check_writable(count, built):
@@ -207,7 +207,7 @@ def check_writable(count, built):
 
 def check_crypto(count, built):
     """libcrypto is linked into what verifies, and into nothing else: sshd starts one of the programs for each key that is offered."""
-    for name, wanted in (("sshkey-check", True), ("sshkey-principals", True), ("sshkey-authorized-keys", False), ("libsshkey.so", False)):
+    for name, wanted in (("sshkey-check", True), ("sshkey-principals", True), ("sshkey-authorized-keys", False), ("librafendilo.so", False)):
         needed = run(["readelf", "-d", f"{built.plain}/{name}"]).stdout
         count.check(f"{name} {'needs' if wanted else 'does without'} libcrypto", ("[libcrypto." in needed) == wanted and "[libc." in needed, needed)
 
@@ -215,10 +215,10 @@ def check_crypto(count, built):
 def check_flags(count, built, folder):
     """The library is bound before it runs, as the programs are, and a program that is linked with it keeps the shadow stack of x86-64. A
     stack can't jump over its guard where the compiler sees to it, and one that does not know a flag is not given it."""
-    told = [run(["readelf", "-W", it, f"{built.plain}/libsshkey.so"]).stdout for it in ("-d", "-l")]
+    told = [run(["readelf", "-W", it, f"{built.plain}/librafendilo.so"]).stdout for it in ("-d", "-l")]
     count.check("the shared library is bound at once", "BIND_NOW" in told[0] and "GNU_RELRO" in told[1], told)
     if os.uname().machine == "x86_64" and not built.given:
-        told = run(["readelf", "-n", f"{built.plain}/libsshkey.a"]).stdout
+        told = run(["readelf", "-n", f"{built.plain}/librafendilo.a"]).stdout
         count.check("both objects of the library keep the shadow stack", told.count("SHSTK") == 2, told)
     for flag in ("-fstack-clash-protection", "-fcf-protection"):
         old = f"{folder}/old-cc"
@@ -236,9 +236,9 @@ def is_found(folder, package, library):
     """Whether a program of one line finds header and library by pkg-config, and runs."""
     path = f"{folder}/linked"
     with open(f"{path}.c", "w", encoding="ascii") as file:
-        file.write('#include "sshkey.h"\nint main(void) { sshkey_sha256 d = {{0}};')
-        file.write("return sshkey_fingerprint(sshkey_bytes(NULL), 0, &d) != SSHKEY_LENGTH; }\n")
-    words = run(["pkg-config", "--cflags", "--libs", "sshkey"], env={**os.environ, "PKG_CONFIG_PATH": package})
+        file.write('#include "rafendilo.h"\nint main(void) { raf_sha256 d = {{0}};')
+        file.write("return raf_fingerprint(raf_bytes(NULL), 0, &d) != RAF_LENGTH; }\n")
+    words = run(["pkg-config", "--cflags", "--libs", "rafendilo"], env={**os.environ, "PKG_CONFIG_PATH": package})
     made = run(["cc", "-std=c11", "-o", path, f"{path}.c", *words.stdout.split()])
     ran = run([path], env={**os.environ, "LD_LIBRARY_PATH": library}) if made.returncode == 0 else made
     return ran.returncode == 0
@@ -246,9 +246,9 @@ def is_found(folder, package, library):
 
 # what is installed below a prefix
 INSTALLED = {
-    "bin/sshkey-authorized-keys", "bin/sshkey-check", "bin/sshkey-principals", "include/sshkey.h", "lib/libsshkey.a",
-    "lib/libsshkey.so", f"lib/libsshkey.so.{ABI}", f"lib/libsshkey.so.{VERSION // 10_000}.{VERSION // 100 % 100}.{VERSION % 100}",
-    "lib/pkgconfig/sshkey.pc", "share/man/man1/sshkey-check.1", "share/man/man8/sshkey-authorized-keys.8",
+    "bin/sshkey-authorized-keys", "bin/sshkey-check", "bin/sshkey-principals", "include/rafendilo.h", "lib/librafendilo.a",
+    "lib/librafendilo.so", f"lib/librafendilo.so.{ABI}", f"lib/librafendilo.so.{VERSION // 10_000}.{VERSION // 100 % 100}.{VERSION % 100}",
+    "lib/pkgconfig/rafendilo.pc", "share/man/man1/sshkey-check.1", "share/man/man8/sshkey-authorized-keys.8",
     "share/man/man8/sshkey-principals.8",
 }  # fmt: skip
 
@@ -289,15 +289,15 @@ def check_installed(count, built, folder):
         count.check("and it is taken away", removed.returncode == 0 and not files_below(at), files_below(at), removed.stderr)
 
 
-def check_linked(count, built, sshkey, folder):
+def check_linked(count, built, rafendilo, folder):
     check_header(count, folder)
-    check_symbols(count, built, sshkey)
-    check_layout(count, sshkey)
+    check_symbols(count, built, rafendilo)
+    check_layout(count, rafendilo)
     count.check("pkg-config finds the library", is_found(folder, built.plain, built.plain))
     check_installed(count, built, folder)
     check_writable(count, built)
     check_crypto(count, built)
     check_flags(count, built, folder)
     check_names(count, built)
-    check_judge_names(count, built)
-    check_judge_in_cpp(count, built, folder)
+    check_helper_names(count, built)
+    check_helpers_in_cpp(count, built, folder)

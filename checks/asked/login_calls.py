@@ -22,7 +22,7 @@ NUMBERED = {
     CRITICAL: "CRITICAL_OPTIONS", EXTENSIONS: "EXTENSIONS", KEY_ID: "KEY_ID", PRINCIPALS: "VALID_PRINCIPALS", UNACCEPTED: "KEY_NOT_ACCEPTED",
     NO_NORMAL_FORM: "NOT_NORMAL_FORM",
 }  # fmt: skip
-# the numbers of what a grant permits (include/sshkey.h)
+# the numbers of what a grant permits (include/rafendilo.h)
 PERMITS = {
     "permit-pty": 1, "permit-port-forwarding": 2, "permit-agent-forwarding": 4, "permit-X11-forwarding": 8, "permit-user-rc": 16,
     "any command": 32, "no-touch-required": 64, "no verification": 128,

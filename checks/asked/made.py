@@ -35,13 +35,13 @@ def loaded(name):
 
 def module(library):
     """The Python module over that library."""
-    os.environ["SSHKEY_LIBRARY"] = library
+    os.environ["RAFENDILO_LIBRARY"] = library
     # for the programs in Python, too
     os.environ["PYTHONPATH"] = os.path.join(BINDINGS, "python")
     sys.path.insert(0, os.environ["PYTHONPATH"])
-    import sshkey  # pylint: disable=import-error,import-outside-toplevel
+    import rafendilo  # pylint: disable=import-error,import-outside-toplevel
 
-    return sshkey
+    return rafendilo
 
 
 class Maker:
@@ -140,13 +140,13 @@ def hostile_of():
 
 class Made:
     """What the cases are made of, in a folder: a certificate under each kind of authority, and hostile bytes. And the Python package
-    over the library, a libsshkey.so."""
+    over the library, a librafendilo.so."""
 
     def __init__(self, folder, library):
         # ssh-keygen is given local times
         os.environ.update(TZ="UTC", LC_ALL="C.UTF-8")
         self.folder, self.middle = folder, MIDDLE
-        self.sshkey = module(library)
+        self.rafendilo = module(library)
         self.maker = Maker(folder)
         self.kinds = [Kind(self.maker, name, number) for number, name in enumerate(AUTHORITIES)]
         self.hostile = list(hostile_of())
@@ -157,4 +157,4 @@ class Made:
 
     def authority(self, number=0):
         """The fingerprint of the authority of that kind."""
-        return self.sshkey.fingerprint(self.maker.blob(self.kinds[number].authority))
+        return self.rafendilo.fingerprint(self.maker.blob(self.kinds[number].authority))

@@ -4,13 +4,13 @@
  *     memory CALL SPAN.. NUMBER.. ROOM
  *
  * has the answer of a call with a room of that length, how many requests it makes, and how many
- * answers are SSHKEY_MEMORY where one of them is refused, and where it and all after it are. A call
+ * answers are RAF_MEMORY where one of them is refused, and where it and all after it are. A call
  * may do without a request, and then answers and writes what it does with all. What is wrong stands
  * first: another answer, memory that is kept, and a call that answers otherwise after a refusal.
  *
  *     authority LINE
  *
- * has the answer of judge_add_authority of helpers/judge.h, and its answers where each of its
+ * has the answer of raf_add_authority of helpers/reading.h, and its answers where each of its
  * requests but those by calloc is refused. */
 #ifndef MEMORY_CALLS_H
 #define MEMORY_CALLS_H
@@ -58,7 +58,7 @@ static uint32_t call_refusing(given_call *it, size_t first, size_t last) {
   uint32_t answer = called(it, 0);
   requests.is_on = 0;
   if (requests.held) printf("%zu blocks are kept ", requests.held);
-  if (answer == SSHKEY_ROOM && !is_filled(it->room, 0)) printf("the room is written ");
+  if (answer == RAF_SHORT_BUFFER && !is_filled(it->room, 0)) printf("the room is written ");
   return answer;
 }
 
@@ -69,13 +69,13 @@ static uint32_t sum_of_written(const given_call *it) {
          sum_of((const uint8_t *)it + from, sizeof *it - from);
 }
 
-/* How many answers are SSHKEY_MEMORY where the request of each number is refused, and those after
+/* How many answers are RAF_MEMORY where the request of each number is refused, and those after
  * it too where that is asked for. After each the call is made again, with memory. */
 static size_t count_refusals(given_call *it, size_t made, int all, uint32_t answer, uint32_t sum) {
   size_t refused = 0;
   for (size_t number = 1; number <= made; number++) {
     uint32_t said = call_refusing(it, number, all ? SIZE_MAX : number);
-    if (said == SSHKEY_MEMORY)
+    if (said == RAF_MEMORY)
       refused++;
     else if (said != answer || sum_of_written(it) != sum)
       printf("%" PRIu32 " where %zu is refused ", said, number);
@@ -95,21 +95,21 @@ static void ask_memory(given_call *it, const char *room) {
   printf("%" PRIu32 " %zu %zu %zu", answer, made, once, all);
 }
 
-/* What judge_add_authority answers where the request of that number is refused; 0 for none. */
-static uint32_t add_refusing(judge_blob line, size_t number) {
-  judge_authorities to = {NULL, 0};
+/* What raf_add_authority answers where the request of that number is refused; 0 for none. */
+static uint32_t add_refusing(raf_blob line, size_t number) {
+  raf_authorities to = {NULL, 0};
   requests.is_on = 1;
   requests.made = requests.held = 0;
   requests.first_refused = requests.last_refused = number;
-  uint32_t answer = judge_add_authority(&to, (const char *)line.bytes, line.length);
+  uint32_t answer = raf_add_authority(&to, (const char *)line.bytes, line.length);
   requests.is_on = 0;
-  if (to.count != (answer == SSHKEY_DONE)) printf("another number of authorities ");
+  if (to.count != (answer == RAF_DONE)) printf("another number of authorities ");
   free(to.keys);
   return answer;
 }
 
 static void ask_authority(const char *word) {
-  judge_blob line = bytes_of(word);
+  raf_blob line = bytes_of(word);
   printf("%" PRIu32, add_refusing(line, 0));
   size_t made = requests.made;
   for (size_t number = 1; number <= made; number++)

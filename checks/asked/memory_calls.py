@@ -16,16 +16,16 @@ SPANS, NUMBERS = 8, 5
 # how many bytes the texts of fingerprints have, which no call tells
 TEXTS = {"fingerprint_text": 50, "fingerprint_sha512_text": 93}
 # with a room, and so with one that is too short
-ROOMS = {call for call, given in re.findall(r"^uint32_t sshkey_(\w+)\(([^;]*)\);", header(), re.M) if "*room," in given}
+ROOMS = {call for call, given in re.findall(r"^uint32_t raf_(\w+)\(([^;]*)\);", header(), re.M) if "*room," in given}
 # those that take memory only where the bytes are values, and of these those that take it only for a key under another name than
 # its own, as the header says
-OF_VALUES = {"certificate_normal", "signature_question", "key_normal", "fingerprint_sha512", "krl_revokes_key", "krl_revokes_certificate"}
-OF_OTHER_NAMES = {"key_normal", "fingerprint_sha512", "krl_revokes_key"}
+OF_VALUES = {"certificate_normal", "signature_question", "key_normal", "fingerprint_sha512", "check_unrevoked_key_by_krl", "check_unrevoked_certificate_by_krl"}
+OF_OTHER_NAMES = {"key_normal", "fingerprint_sha512", "check_unrevoked_key_by_krl"}
 OTHER_NAME = "rsa-sha2-256"
 # those that do without the memory that they ask for, as the header says, where no authority's key is under another name
-DOING_WITHOUT = {"certificate_validate", "certificate_validate_for"}
+DOING_WITHOUT = {"check_certificate", "check_certificate_for"}
 # those that need no more of it where a revocation file decides: revoked, or not read
-DECIDED = {("host_key_verdict", 50), ("host_key_verdict", 58), ("host_certificate_verdict", 50), ("host_certificate_verdict", 58)}
+DECIDED = {("check_host_key", 50), ("check_host_key", 58), ("check_host_certificate", 50), ("check_host_certificate", 58)}
 
 
 def of_certificate(blob, authority, second, key):
@@ -39,13 +39,13 @@ def of_certificate(blob, authority, second, key):
     yield "certificate_make", [blob[:signed], blob[signed + 4 :]], [], "DONE"
     yield "certificate_make", [blob[:signed], blob[signed + 4 : -1]], [], "LENGTH"
     for is_verified, wanted in ((1, "DONE"), (0, "NOT_SIGNED")):
-        yield "certificate_validate", [blob, b"", by], [second, is_verified], wanted
-        yield "certificate_validate_for", [blob, alice, by], [second, is_verified], wanted
-    yield "certificate_validate", [blob, b"", by], [0, 1], "OUT_OF_WINDOW"
-    yield "certificate_validate", [blob, b"", bytes(32)], [second, 1], "UNTRUSTED_AUTHORITY"
-    yield "certificate_validate", [blob[:-1], b"", by], [second, 1], "LENGTH"
-    yield "certificate_validate_for", [blob, b"eve", by], [second, 1], "UNLISTED_PRINCIPAL"
-    yield "certificate_validate_for", [blob, b"\xff", by], [second, 1], "TEXT"
+        yield "check_certificate", [blob, b"", by], [second, is_verified], wanted
+        yield "check_certificate_for", [blob, alice, by], [second, is_verified], wanted
+    yield "check_certificate", [blob, b"", by], [0, 1], "OUT_OF_WINDOW"
+    yield "check_certificate", [blob, b"", bytes(32)], [second, 1], "UNTRUSTED_AUTHORITY"
+    yield "check_certificate", [blob[:-1], b"", by], [second, 1], "LENGTH"
+    yield "check_certificate_for", [blob, b"eve", by], [second, 1], "UNLISTED_PRINCIPAL"
+    yield "check_certificate_for", [blob, b"\xff", by], [second, 1], "TEXT"
     yield from of_logins([blob, alice, key, bytes(4), by, [EMPTY, b""]], second)
     yield from of_user_keys([blob, alice, key, bytes(4), b"", [EMPTY, b""]], authority, second)
 
@@ -54,17 +54,17 @@ def of_logins(good, second):
     """Calls about the login of a good one by what they are given, and by others."""
     strange, revoked = bytes(32), EMPTY + b"\2" + string(string(good[2]))
     for is_verified, wanted in ((1, "DONE"), (0, "NOT_SIGNED")):
-        yield "login_verdict", good, [second, 0, 0, is_verified], wanted
-        yield "login_verdict", [*good[:5], [b"# a comment\n"]], [second, 0, 0, is_verified], wanted
+        yield "check_login", good, [second, 0, 0, is_verified], wanted
+        yield "check_login", [*good[:5], [b"# a comment\n"]], [second, 0, 0, is_verified], wanted
     yield "login_question", good, [second, 0], "DONE"
     for at, other, wanted in (
         (0, good[0][:-1], "LENGTH"), (1, b"\xff", "TEXT"), (1, b"eve", "UNLISTED_PRINCIPAL"), (1, b"", "VALID_PRINCIPALS"), (2, good[2][:-1], "LENGTH"),
         (4, strange, "UNTRUSTED_AUTHORITY"), (5, [EMPTY, revoked], "REVOKED"), (5, [revoked], "REVOKED"), (5, [], "UNREADABLE_REVOCATIONS"),
         (5, [revoked[:-1]], "UNREADABLE_REVOCATIONS"), (5, [b"", b"x"], "UNREADABLE_REVOCATIONS"),
     ):  # fmt: skip
-        yield "login_verdict", [*good[:at], other, *good[at + 1 :]], [second, 0, 0, 1], wanted
+        yield "check_login", [*good[:at], other, *good[at + 1 :]], [second, 0, 0, 1], wanted
         yield "login_question", [*good[:at], other, *good[at + 1 :]], [second, 0], "DONE" if wanted == "UNLISTED_PRINCIPAL" else wanted
-    yield "login_verdict", good, [0, 0, 0, 1], "OUT_OF_WINDOW"
+    yield "check_login", good, [0, 0, 0, 1], "OUT_OF_WINDOW"
 
 
 def of_user_keys(given, authority, second):
@@ -80,7 +80,7 @@ def of_user_keys(given, authority, second):
         ([given[0][:-1], *given[1:], text, b""], 1, "LENGTH"), ([*plain[:2], given[2][:-1], *plain[3:], text, b""], 0, "LENGTH"),
         ([*plain[:5], [], text, b""], 0, "UNREADABLE_REVOCATIONS"),
     ):  # fmt: skip
-        yield "user_keys_verdict", spans, [*numbers, is_verified], wanted
+        yield "check_user_keys", spans, [*numbers, is_verified], wanted
     signed = [*given[:4], hashlib.sha256(authority).digest(), given[5]]
     for spans, is_verified, wanted in (
         ([*signed, b"# a comment\nalice", b""], 1, "DONE"), ([*signed, options + b"alice\n", b"host"], 1, "DONE"), ([*signed, b"alice", b""], 0, "NOT_SIGNED"),
@@ -88,7 +88,7 @@ def of_user_keys(given, authority, second):
         ([*signed, b'from="*," alice', b""], 1, "LINE_UNCLEAR"), ([*given, b"alice", b""], 1, "UNTRUSTED_AUTHORITY"),
         ([b"", *signed[1:], b"alice", b""], 1, "LENGTH"), ([*signed, b"\xff alice", b""], 1, "LINE_UNCLEAR"),
     ):  # fmt: skip
-        yield "principals_verdict", spans, [*numbers, is_verified], wanted
+        yield "check_principals", spans, [*numbers, is_verified], wanted
 
 
 def of_hosts(maker, second):
@@ -106,29 +106,29 @@ def of_hosts(maker, second):
         ([hashed + b"host ssh-ed25519 AAAA\n"], [EMPTY], 22, "HOST_UNREADABLE", "HOST_UNREADABLE"), ([hashed + authority], [listed], 22, "HOST_REVOKED", "HOST_REVOKED"),
         ([hashed + authority], [], 22, "UNREADABLE_REVOCATIONS", "UNREADABLE_REVOCATIONS"), ([hashed + authority, b"\xff"], [EMPTY], 22, "TEXT", "TEXT"),
     ):  # fmt: skip
-        yield "host_key_verdict", [texts, b"host", own, files], [port, 0], of_key
-        yield "host_certificate_verdict", [texts, b"host", certificate, files], [port, 0, second, 1], of_certificate_
-    yield "host_key_verdict", [[hashed], b"host", other, [EMPTY]], [22, 0], "HOST_CHANGED"
-    yield "host_key_verdict", [[hashed], b"host", own[:-1], [EMPTY]], [22, 0], "LENGTH"
-    yield "host_certificate_verdict", [[authority], b"host", certificate, [EMPTY]], [22, 0, second, 0], "NOT_SIGNED"
-    yield "host_certificate_verdict", [[authority], b"other", certificate, [EMPTY]], [22, 0, second, 1], "UNLISTED_PRINCIPAL"
-    yield "host_certificate_verdict", [[authority], b"host", certificate[:-1], [EMPTY]], [22, 0, second, 1], "LENGTH"
+        yield "check_host_key", [texts, b"host", own, files], [port, 0], of_key
+        yield "check_host_certificate", [texts, b"host", certificate, files], [port, 0, second, 1], of_certificate_
+    yield "check_host_key", [[hashed], b"host", other, [EMPTY]], [22, 0], "HOST_CHANGED"
+    yield "check_host_key", [[hashed], b"host", own[:-1], [EMPTY]], [22, 0], "LENGTH"
+    yield "check_host_certificate", [[authority], b"host", certificate, [EMPTY]], [22, 0, second, 0], "NOT_SIGNED"
+    yield "check_host_certificate", [[authority], b"other", certificate, [EMPTY]], [22, 0, second, 1], "UNLISTED_PRINCIPAL"
+    yield "check_host_certificate", [[authority], b"host", certificate[:-1], [EMPTY]], [22, 0, second, 1], "LENGTH"
     for text, wanted in ((hashed + b"host x y\n", "DONE"), (hashed, "END"), (b"", "END"), (b"\xff", "TEXT")):
         yield "unreadable_host_line", [text, b"host"], [22], wanted
     for line, wanted in ((LATER["later"].encode(), "DONE"), (LATER["cut"].encode(), "LABEL"), (b"", "LABEL"), (b"\xff", "TEXT")):
-        yield "is_other_key_line", [line], [], wanted
+        yield "is_later_key_line", [line], [], wanted
     key, key_line = f"ssh-ed25519 {by}".encode(), f"ssh-ed25519 {encoded(own)}"
     for line, wanted in ((key, "DONE"), (LATER["later"].encode(), "LATER_KEY"), (key[:-1], "BASE64"), (b"\xff", "TEXT")):
         yield "authority", [line], [], wanted
         yield "user_authority", [b"bob,alice " + line, b"alice"], [], wanted
         yield "user_authority", [b"bob,alice " + line, b"eve"], [], "END"
     for line, of_key, of_certificate_ in ((f"restrict {key_line}".encode(), "DONE", "END"), (f"cert-authority ssh-ed25519 {by} x".encode(), "END", "DONE"), (b"", "END", "END")):
-        yield "may_be_for_key", [line, own], [], of_key
-        yield "may_be_for_certificate", [line, certificate], [], of_certificate_
-    yield from (("may_be_for_key", [key, own[:-1]], [], "LENGTH"), ("may_be_for_certificate", [key, own], [], "LABEL"))
+        yield "line_may_name_key", [line, own], [], of_key
+        yield "line_may_name_authority", [line, certificate], [], of_certificate_
+    yield from (("line_may_name_key", [key, own[:-1]], [], "LENGTH"), ("line_may_name_authority", [key, own], [], "LABEL"))
     for key, wanted in ((own, "DONE"), (other, "DONE"), (own[:-1], "LENGTH")):
         yield "may_verify", [key], [], wanted
-    yield from (("strict_mode", [], [0, 7, 0o755], "DONE"), ("strict_mode", [], [8, 7, 0o755], "UNSAFE_MODE"))
+    yield from (("check_safe_mode", [], [0, 7, 0o755], "DONE"), ("check_safe_mode", [], [8, 7, 0o755], "UNSAFE_MODE"))
 
 
 def of_requests(maker):
@@ -142,9 +142,9 @@ def of_requests(maker):
         yield "userauth_question", [*given[:5], request.signature[:-1]], numbers, "LENGTH"
         yield "userauth_question", [*given[:2], b"ssh-dss", *given[3:]], numbers, "OTHER_ALGORITHM"
         if b"-cert-" not in request.algorithm:
-            yield "grant_flags", [request.key, request.signature], [0], "DONE"
-            yield "grant_flags", [request.key, request.signature[:-1]], [0], "LENGTH"
-            yield "grant_flags", [request.key[:-1], request.signature], [0], "LENGTH"
+            yield "check_grant_flags", [request.key, request.signature], [0], "DONE"
+            yield "check_grant_flags", [request.key, request.signature[:-1]], [0], "LENGTH"
+            yield "check_grant_flags", [request.key[:-1], request.signature], [0], "LENGTH"
 
 
 def of_key(blob):
@@ -175,19 +175,19 @@ def of_signature(maker, key):
     yield "sshsig_question_of_digest", [file[:-1], b"file", digest], [], "LENGTH"
     own_digest = hashlib.sha256(maker.blob(key)).digest()
     for by, is_verified, wanted in ((own_digest, 1, "DONE"), (bytes(32) + own_digest, 0, "NOT_SIGNED"), (bytes(32), 1, "SIGNER_NOT_ALLOWED"), (b"", 1, "SIGNER_NOT_ALLOWED")):
-        yield "sshsig_verdict", [file, b"file", by], [is_verified], wanted
-    yield "sshsig_verdict", [file, b"git", own_digest], [1], "NOT_SIGNED"
-    yield "sshsig_verdict", [file[:-1], b"file", own_digest], [1], "LENGTH"
+        yield "check_sshsig", [file, b"file", by], [is_verified], wanted
+    yield "check_sshsig", [file, b"git", own_digest], [1], "NOT_SIGNED"
+    yield "check_sshsig", [file[:-1], b"file", own_digest], [1], "LENGTH"
     signers, who = b"# a comment\nbob x\nalice " + maker.read(f"{key}.pub").encode(), b"alice"
     text, own = b"# a comment\n" + maker.read("authority0.pub").encode(), maker.read(f"{key}.pub").encode()
     for revoked in ([b""], [text], [EMPTY], [EMPTY, text]):
-        yield "signer_verdict", [signers, who, b"file", file, revoked], [0, 1], "DONE"
-    yield "signer_verdict", [signers, who, b"file", file, [b""]], [0, 0], "NOT_SIGNED"
+        yield "check_signer", [signers, who, b"file", file, revoked], [0, 1], "DONE"
+    yield "check_signer", [signers, who, b"file", file, [b""]], [0, 0], "NOT_SIGNED"
     for revoked, wanted in (([own], "REVOKED"), ([EMPTY, own], "REVOKED"), ([], "UNREADABLE_REVOCATIONS"), ([own, b"x"], "UNREADABLE_REVOCATIONS")):
-        yield "signer_verdict", [signers, who, b"file", file, revoked], [0, 1], wanted
-    yield "signer_verdict", [signers, b"bob", b"file", file, [b""]], [0, 1], "SIGNER_NOT_ALLOWED"
-    yield "signer_verdict", [signers, b"\xff", b"file", file, [b""]], [0, 1], "TEXT"
-    yield "signer_verdict", [signers, who, b"file", file[:-1], [b""]], [0, 1], "LENGTH"
+        yield "check_signer", [signers, who, b"file", file, revoked], [0, 1], wanted
+    yield "check_signer", [signers, b"bob", b"file", file, [b""]], [0, 1], "SIGNER_NOT_ALLOWED"
+    yield "check_signer", [signers, b"\xff", b"file", file, [b""]], [0, 1], "TEXT"
+    yield "check_signer", [signers, who, b"file", file[:-1], [b""]], [0, 1], "LENGTH"
     yield "sshsig_normal", [file], [], "DONE"
     yield "sshsig_normal", [file + b"!"], [], "TRAILING_DATA"
     yield "signature_question", [blob, message, signature], [], "DONE"
@@ -202,7 +202,7 @@ def of_key_lines(key):
     line = f"ssh-rsa {encoded(key)}".encode()
     yield "authority", [line], [], "DONE"
     yield "user_authority", [b"alice " + line, b"alice"], [], "DONE"
-    yield "may_be_for_key", [line, key], [], "DONE"
+    yield "line_may_name_key", [line, key], [], "DONE"
 
 
 def of_files(maker, key):
@@ -212,18 +212,18 @@ def of_files(maker, key):
     hashed = maker.read("hashed").encode() + b"\n"
     yield "known_host", [hashed.split(b"\n")[0]], [], "DONE"
     for address, wanted in ((bytes([10, 1, 2, 3]), "DONE"), (bytes([11, 1, 2, 3]), "ELSEWHERE"), (bytes(5), "LENGTH")):
-        yield "source_address_allows", [b"10.0.0.0/8", address], [], wanted
-        yield "from_allows", [b"10.0.0.0/8", address, b""], [], wanted
-    yield "from_allows", [b"*,", bytes(16), b"host"], [], "FORMAT"
+        yield "check_source_address", [b"10.0.0.0/8", address], [], wanted
+        yield "check_from", [b"10.0.0.0/8", address, b""], [], wanted
+    yield "check_from", [b"*,", bytes(16), b"host"], [], "FORMAT"
     for text, wanted in ((b"20270101Z", "DONE"), (b"20270101", "DONE"), (b"2027", "FORMAT"), (b"\xff", "TEXT")):
         yield "read_time", [text], [], wanted
     yield "next_line", [hashed], [0], "DONE"
     yield "next_line", [hashed], [len(hashed)], "END"
     options = b'no-pty,command="say \\"hi\\""'
     for place, wanted in ((0, "DONE"), (6, "DONE"), (len(options), "END")):
-        yield "next_entry_option", [options], [place], wanted
-    yield "next_entry_option", [b"command=ls"], [0], "FORMAT"
-    yield "next_entry_option", [b"\xff"], [0], "TEXT"
+        yield "next_line_option", [options], [place], wanted
+    yield "next_line_option", [b"command=ls"], [0], "FORMAT"
+    yield "next_line_option", [b"\xff"], [0], "TEXT"
 
 
 def of_lists(made, keys):
@@ -235,13 +235,13 @@ def of_lists(made, keys):
             yield f"{calls}_certificate", [files, blob], [], wanted
             yield f"{calls}_key", [files, listed], [], wanted
     for key in (*keys.values(), renamed(keys["rsa -b 2048"], OTHER_NAME.encode())):
-        for call, files in (("krl_revokes_key", other), ("revoked_key", [other])):
+        for call, files in (("check_unrevoked_key_by_krl", other), ("check_unrevoked_key", [other])):
             yield call, [files, key], [], "DONE" if key == keys["ed25519"] else "NOT_REVOKED"
-    for call, value in (("krl_revokes_key", listed), ("krl_revokes_certificate", blob)):
+    for call, value in (("check_unrevoked_key_by_krl", listed), ("check_unrevoked_certificate_by_krl", blob)):
         yield call, [other[:-1], value], [], "LENGTH"
         yield call, [other, value[:-1]], [], "LENGTH"
         yield call, [other, value + b"!"], [], "TRAILING_DATA"
-    for call, value in (("revoked_key", listed), ("revoked_certificate", blob)):
+    for call, value in (("check_unrevoked_key", listed), ("check_unrevoked_certificate", blob)):
         yield call, [[b""], value], [], "NOT_REVOKED"
         for files in ([other[:-1]], [b"\xff"], [b"ssh-ed25519\n"], [], [b"", other[:-1]]):
             yield call, [files, value], [], "UNREADABLE_REVOCATIONS"
@@ -256,8 +256,8 @@ def of_drafts(key, authority):
     yield "certificate_to_be_signed", spans, [7, 1, 2, 3, 0], "FORMAT"
     yield "certificate_to_be_signed", spans, [7, 2, 2, 1, 0], "EMPTY_WINDOW"
     yield "certificate_to_be_signed", [key[:-1], *spans[1:]], [7, 1, 2, 1, 0], "LENGTH"
-    yield "next_option", [options], [0], "DONE"
-    yield "next_option", [options], [1], "LENGTH"
+    yield "next_certificate_option", [options], [0], "DONE"
+    yield "next_certificate_option", [options], [1], "LENGTH"
     yield "next_string", [options], [0], "DONE"
     yield "next_string", [options], [len(options)], "END"
 
@@ -267,7 +267,7 @@ def cases(made):
     for number, kind in enumerate(made.kinds):
         yield from of_certificate(kind.blob, maker.blob(kind.authority), made.middle, made.key(number))
         yield "read_line", [kind.line.encode()], [], "DONE"
-        yield "may_be_for_certificate", [b"", kind.blob], [], "END"
+        yield "line_may_name_authority", [b"", kind.blob], [], "END"
         yield from of_signature(maker, f"user{number}")
     for blob in keys.values():
         yield from of_key(blob)
@@ -292,22 +292,22 @@ def question_of(what, call, spans, numbers, *more):
     return " ".join([what, call, *words, *map(str, more)])
 
 
-def questions(sshkey, asked):
+def questions(rafendilo, asked):
     """Calls, questions and what is wanted, those with a room also with one of a byte."""
     for call, spans, numbers, wanted in asked:
         if call not in ROOMS:
-            yield call, question_of("memory", call, spans, numbers, 0), sshkey.Status[wanted] if isinstance(wanted, str) else wanted
+            yield call, question_of("memory", call, spans, numbers, 0), rafendilo.Status[wanted] if isinstance(wanted, str) else wanted
             continue
-        yield call, question_of("memory", call, spans, numbers, 2 * sum(map(len, spans)) + 512), sshkey.Status[wanted]
+        yield call, question_of("memory", call, spans, numbers, 2 * sum(map(len, spans)) + 512), rafendilo.Status[wanted]
         if wanted == "DONE":
-            yield call, question_of("memory", call, spans, numbers, 1), sshkey.Status.ROOM
+            yield call, question_of("memory", call, spans, numbers, 1), rafendilo.Status.SHORT_BUFFER
 
 
 def without_memory():
     """The calls of which the header says that they take none."""
-    found = re.findall(r"/\*((?:[^*]|\*(?!/))*)\*/\s*(uint32_t sshkey_\w+\([^;]*;(?:\s*uint32_t sshkey_\w+\([^;]*;)*)", header())
+    found = re.findall(r"/\*((?:[^*]|\*(?!/))*)\*/\s*(uint32_t raf_\w+\([^;]*;(?:\s*uint32_t raf_\w+\([^;]*;)*)", header())
     said = [calls for comment, calls in found if re.search(r"takes no memory", re.sub(r"[\s*]+", " ", comment), re.I)]
-    return {call for calls in said for call in re.findall(r"sshkey_(\w+)\(", calls)}
+    return {call for calls in said for call in re.findall(r"raf_(\w+)\(", calls)}
 
 
 def check_rooms(judge, given):
@@ -321,12 +321,12 @@ def check_rooms(judge, given):
 
 
 def check_memory(judge):
-    count, sshkey, given = judge.count, judge.made.sshkey, list(cases(judge.made))
+    count, rafendilo, given = judge.count, judge.made.rafendilo, list(cases(judge.made))
     check_rooms(judge, given)
-    asked = list(questions(sshkey, given))
+    asked = list(questions(rafendilo, given))
     said = judge.said("calls, each request of which is refused,", [question for _, question, _ in asked])
     taken = {}
-    for call in sorted({it.removeprefix("sshkey_") for it in declared()}):
+    for call in sorted({it.removeprefix("raf_") for it in declared()}):
         here = [(wanted, question, answer) for (of, question, wanted), answer in zip(asked, said) if of == call]
         wrong = [(it[1][:200], int(it[0]), it[2]) for it in here if not is_kept(call, it[0], it[2])]
         taken[call] = [int(it[2].split()[1]) for it in here if not wrong]
@@ -345,7 +345,7 @@ def takes_early(call, question, wanted, answer):
 
 
 def is_kept(call, wanted, answer):
-    """Whether the answer is the wanted one with memory, and SSHKEY_MEMORY where a request is refused with all after it. Where it
+    """Whether the answer is the wanted one with memory, and RAF_MEMORY where a request is refused with all after it. Where it
     alone is refused, a call answers that or, if it can do without, rightly; it may do without the first one, and some calls
     without all."""
     number, made, once, after = answer.split() if answer.count(" ") == 3 else ("none", *"000")

@@ -16,17 +16,17 @@ IN_C = """\
 #include <stdio.h>
 #include <string.h>
 
-#include "sshkey.h"
+#include "rafendilo.h"
 
 int main(int count, char **words) {
-  uint8_t room[4096] = {0}, text[SSHKEY_FINGERPRINT_TEXT] = {0};
-  sshkey_line line = {0};
-  sshkey_sha256 digest = {0};
+  uint8_t room[4096] = {0}, text[RAF_FINGERPRINT_TEXT] = {0};
+  raf_line line = {0};
+  raf_sha256 digest = {0};
   if (count != 2) return 2;
   const uint8_t *given = (const uint8_t *)words[1];
-  if (sshkey_read_line(given, strlen(words[1]), room, sizeof room, &line)) return 1;
-  if (sshkey_fingerprint(room + line.blob.start, line.blob.length, &digest)) return 1;
-  if (sshkey_fingerprint_text(&digest, text, sizeof text)) return 1;
+  if (raf_read_line(given, strlen(words[1]), room, sizeof room, &line)) return 1;
+  if (raf_fingerprint(room + line.blob.start, line.blob.length, &digest)) return 1;
+  if (raf_fingerprint_text(&digest, text, sizeof text)) return 1;
   printf("%.*s\\n", (int)sizeof text, (const char *)text);
   return 0;
 }
@@ -38,15 +38,15 @@ import (
 	"fmt"
 	"os"
 
-	"rafendilo.example/go/sshkey"
+	"rafendilo.example/go/rafendilo"
 )
 
 func main() {
-	line, err := sshkey.ReadLine(os.Args[1])
+	line, err := rafendilo.ReadLine(os.Args[1])
 	if err != nil {
 		panic(err)
 	}
-	digest, err := sshkey.Fingerprint(line.Blob)
+	digest, err := rafendilo.Fingerprint(line.Blob)
 	if err != nil {
 		panic(err)
 	}
@@ -54,9 +54,9 @@ func main() {
 }
 """
 IN_RUST = """\
-fn main() -> Result<(), sshkey::Status> {
-    let line = sshkey::read_line(std::env::args().nth(1).unwrap_or_default())?;
-    println!("{}", sshkey::fingerprint(&line.blob)?);
+fn main() -> Result<(), rafendilo::Status> {
+    let line = rafendilo::read_line(std::env::args().nth(1).unwrap_or_default())?;
+    println!("{}", rafendilo::fingerprint(&line.blob)?);
     Ok(())
 }
 """
@@ -77,7 +77,7 @@ version = "0.1.0"
 edition = "2021"
 
 [dependencies]
-sshkey = {{ {} }}
+rafendilo = {{ {} }}
 
 [profile.release]
 lto = "fat"
@@ -108,7 +108,7 @@ class Place:
 
     def __init__(self, release, folder, version):
         self.release, self.folder, self.maker = release, folder, Maker(folder)
-        self.package = f"sshkey-{version}.tar.gz"
+        self.package = f"rafendilo-{version}.tar.gz"
         # nothing of what a user has set, and no network
         self.environment = {
             "PATH": without_toolchain(), "HOME": os.environ["HOME"], "TMPDIR": folder, "LC_ALL": "C.UTF-8", "GOPROXY": "off",
@@ -165,7 +165,7 @@ class Place:
 
     def hold_python(self, python, **names):
         """So does the package for Python, as a command."""
-        words = [python, "-m", "sshkey", "fingerprint"]
+        words = [python, "-m", "rafendilo", "fingerprint"]
         self.hold(self.run(words, given=f"{self.line}\n", **names), self.fingerprint, words)
 
     @staticmethod

@@ -11,13 +11,13 @@ from .shown_logins import blocks
 
 # the ways in which the page tells them: PATH is the tree, and out/ what make builds
 C_LINE, GO_LINES = r"`(cc -IPATH.*?)`", r"`(require rafendilo\S* v\S+)` and `(replace rafendilo\S* => PATH\S*)`"
-RUST_LINE = r"`(sshkey = \{ path = \"PATH.*? \})`"
+RUST_LINE = r"`(rafendilo = \{ path = \"PATH.*? \})`"
 HEADERS = r"include `(\S+?\.h)` and `(\S+?\.h)`.*?README's lines also need (.*)"
 # what stands around the lines of README in C, and of FOREIGN.md in Go and in Rust
 C_PROGRAM = """\
-{0}static void let_in(const sshkey_grant *grant, const uint8_t *room) {{ printf("%u %p\\n", grant->permits, (const void *)room); }}
-void log_in(const char *authority_line, size_t authority_length, const char *line, size_t length, judge_blob key, sshkey_span client,
-            sshkey_span session_id, sshkey_span algorithm, sshkey_span signature) {{
+{0}static void let_in(const raf_grant *grant, const uint8_t *room) {{ printf("%u %p\\n", grant->permits, (const void *)room); }}
+void log_in(const char *authority_line, size_t authority_length, const char *line, size_t length, raf_blob key, raf_span client,
+            raf_span session_id, raf_span algorithm, raf_span signature) {{
 {1}}}
 int main(void) {{ return 0; }}
 """
@@ -29,12 +29,12 @@ import (
 	"net/netip"
 	"time"
 
-	"rafendilo.example/go/sshkey"
+	"rafendilo.example/go/rafendilo"
 )
 
-func letIn(sshkey.Grant) {{}}
+func letIn(rafendilo.Grant) {{}}
 
-func logIn(authorities []sshkey.SHA256, peer netip.Addr, blob, key, sessionID []byte, algorithm string, signature []byte) {{
+func logIn(authorities []rafendilo.SHA256, peer netip.Addr, blob, key, sessionID []byte, algorithm string, signature []byte) {{
 {0}}}
 
 func main() {{ logIn(nil, netip.Addr{{}}, nil, nil, nil, "", nil) }}
@@ -42,7 +42,7 @@ func main() {{ logIn(nil, netip.Addr{{}}, nil, nil, nil, "", nil) }}
 RUST_PROGRAM = """\
 use std::net::{{IpAddr, Ipv4Addr}};
 use std::time::{{SystemTime, UNIX_EPOCH}};
-fn let_in(_: &sshkey::Grant) {{}}
+fn let_in(_: &rafendilo::Grant) {{}}
 fn log_in(
     authority_line: &str, line: &str, key: &[u8], peer: IpAddr, session_id: &[u8], algorithm: &[u8], signature: &[u8],
 ) -> Result<(), Box<dyn std::error::Error>> {{

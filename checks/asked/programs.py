@@ -59,7 +59,7 @@ def check_statuses(count, program, made):
     two = made.maker.write("two", f"# keys\n\n \t{made.maker.read(f'{made.kinds[1].authority}.pub')}\n{made.maker.read(f'{kind.authority}.pub')}")
     given = f"{kind.line}\n{made.kinds[1].line}\n{made.kinds[2].line}\n"
     ran = program.run("certificates", two, "alice", str(made.middle), input=given)
-    wanted = ["valid", "valid", said(made.sshkey, made.sshkey.Status.UNTRUSTED_AUTHORITY)]
+    wanted = ["valid", "valid", said(made.rafendilo, made.rafendilo.Status.UNTRUSTED_AUTHORITY)]
     count.check(f"{program.language}: two authorities in a file", ran.stdout.splitlines() == wanted, ran.stdout, ran.stderr)
     later = made.maker.write("later", f"{LATER['later']}\n{made.maker.read(f'{kind.authority}.pub')}\n")
     ran = program.run("certificates", later, "alice", str(made.middle), input=f"{kind.line}\n")
@@ -67,7 +67,7 @@ def check_statuses(count, program, made):
     same = (ran.returncode, ran.stdout) == (VALID, "valid\n") and said_so
     count.check(f"{program.language}: a line of a later kind of key is passed over", same, ran)
     ran = program.run("certificates", kind.path, "-", input=f"{kind.line}\n")
-    wanted = said(made.sshkey, made.sshkey.Status.OUT_OF_WINDOW)
+    wanted = said(made.rafendilo, made.rafendilo.Status.OUT_OF_WINDOW)
     count.check(f"{program.language}: without a second it is now", ran.stdout == f"{wanted}\n", ran.stdout, ran.stderr)
 
 

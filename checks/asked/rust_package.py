@@ -32,7 +32,7 @@ class Rust:
         """The path of the program, over the text in the package or the library in that folder, by rustc."""
         path, target = self.maker.path(f"Rust {name}"), self.installed if library else self.target
         linked = ["-L", f"native={library}"] if library else []
-        linked += ["--extern", f"sshkey={target}/debug/libsshkey.rlib"]
+        linked += ["--extern", f"rafendilo={target}/debug/librafendilo.rlib"]
         made = run(["rustc", "--edition", "2021", "-D", "warnings", *linked, "-o", path, source])
         count.check(f"Rust: {name} is built", made.returncode == 0, made.stderr[-3000:])
         return path
@@ -72,8 +72,8 @@ class Rust:
 PAGE = """\
 use std::net::{{IpAddr, Ipv4Addr}};
 use std::time::{{SystemTime, UNIX_EPOCH}};
-fn let_in(grant: &sshkey::Grant) {{
-    assert!(grant.permits.contains(sshkey::Permits::ANY_COMMAND | sshkey::Permits::PTY));
+fn let_in(grant: &rafendilo::Grant) {{
+    assert!(grant.permits.contains(rafendilo::Permits::ANY_COMMAND | rafendilo::Permits::PTY));
     println!("let in");
 }}
 fn log_in(
@@ -84,7 +84,7 @@ fn log_in(
 }}
 fn main() {{
     let words: Vec<String> = std::env::args().collect();
-    let blob = |at: usize| sshkey::read_line(&words[at]).unwrap().blob;
+    let blob = |at: usize| rafendilo::read_line(&words[at]).unwrap().blob;
     let byte = |word: &str, at: usize| u8::from_str_radix(&word[2 * at..2 * at + 2], 16).unwrap();
     let data = |word: &str| (0..word.len() / 2).map(|at| byte(word, at)).collect::<Vec<u8>>();
     let (session_id, signature) = (data(&words[4]), data(&words[5]));

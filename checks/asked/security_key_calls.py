@@ -100,14 +100,14 @@ class Judges:
 
     def __init__(self, judge, built):
         self.judge, self.count, self.built, self.maker = judge, judge.count, built, judge.made.maker
-        self.sshkey = judge.made.sshkey
+        self.rafendilo = judge.made.rafendilo
 
     def of_certificates(self, lines, authority, principal, second):
         """What sshkey-check and the Python package say of each line."""
         path = self.maker.write("authority.pub", f"{authority}\n")
         by_c = said_by_checker([f"{self.built.sanitized}/sshkey-check"], path, principal, second, lines)
-        by = [self.sshkey.fingerprint(blob_of(authority))]
-        return by_c, said_by_python(self.sshkey, by, principal, second, lines)
+        by = [self.rafendilo.fingerprint(blob_of(authority))]
+        return by_c, said_by_python(self.rafendilo, by, principal, second, lines)
 
     def is_taken(self, lines):
         """Whether ssh-keygen takes each line for one of a certificate: it verifies what the authority signed."""
@@ -143,7 +143,7 @@ def fields_by(maker, words):
 def check_question(judges, key, certificate, signed, raw):
     """The question is about the plain key and what the device signed."""
     wanted = (key.plain(), key.device_message(signed), raw)
-    answer = f"0 {int(judges.sshkey.Algorithm[key.algorithm])} {' '.join(map(word, wanted))}"
+    answer = f"0 {int(judges.rafendilo.Algorithm[key.algorithm])} {' '.join(map(word, wanted))}"
     judges.judge.hold("the question of a certificate", [(f"by a security key of {key.kind}", f"certificate {certificate.hex()}", answer)])
 
 
@@ -164,7 +164,7 @@ def check_authority(judges, key, window):
         wanted.append(is_one)
     for (name, signer), line, is_one, taken in zip(names, lines, wanted, judges.is_taken(lines)):
         by_c, by_python = judges.of_certificates([line], signer, "alice", middle)
-        answer = said(judges.sshkey, judges.sshkey.Status.DONE if is_one else judges.sshkey.Status.NOT_SIGNED)
+        answer = said(judges.rafendilo, judges.rafendilo.Status.DONE if is_one else judges.rafendilo.Status.NOT_SIGNED)
         same = by_c == by_python == [answer] and taken == is_one
         judges.count.check(f"a certificate by a security key of {key.kind}: {name}", same, by_c, by_python, f"ssh-keygen: {taken}")
     check_window(judges, key, good, window)
@@ -174,7 +174,7 @@ def check_authority(judges, key, window):
 
 def check_made(judges, key, middle):
     """A certificate of a security key that the library makes, and the same key signs, is one for OpenSSH too."""
-    made = judges.sshkey.make_certificate(
+    made = judges.rafendilo.make_certificate(
         key.blob(), key.blob(), lambda message: key.signature(key.raw(key.device_message(message))), principals=["alice"],
         valid_before=middle + 1, extensions={"no-touch-required": ""},
     )  # fmt: skip
@@ -197,7 +197,7 @@ def check_window(judges, key, certificate, window):
         # ssh-keygen takes no time before its first day
         at = max(second, 86400)
         judged = is_verified(maker.folder, "device", signature, "text", principal, at, f"{principal} cert-authority {key.line()}")
-        same = found == ([said(judges.sshkey, judges.sshkey.Status[wanted])],) * 2 and judged == (wanted == "DONE")
+        same = found == ([said(judges.rafendilo, judges.rafendilo.Status[wanted])],) * 2 and judged == (wanted == "DONE")
         judges.count.check(f"and for {principal} at {second}", same, found, f"ssh-keygen: {judged}")
 
 
@@ -226,7 +226,7 @@ def check_subject(judges, key, window):
     by_c, by_python = judges.of_certificates([line], authority, "alice", middle)
     listed = judges.judge.ask("certificates of a security key", [f"lists {certificate.hex()}"])[0].split(" ")
     valid = by_c == by_python == ["valid"] and judges.is_taken([line]) == [True]
-    whole = listed[2] == key.blob().hex() and judges.sshkey.certificate_contents(certificate).key == key.blob()
+    whole = listed[2] == key.blob().hex() and judges.rafendilo.certificate_contents(certificate).key == key.blob()
     judges.count.check(f"a certificate of a security key of {key.kind} is valid, and has the key", valid and whole, by_c, listed)
     signed = signed_data(b"file", b"", b"sha512", b"text")
     file = ssh_signature(certificate, key.signature(key.raw(key.device_message(signed))))
@@ -243,7 +243,7 @@ def check_file(judges, key):
     signed = signed_data(b"file", b"", b"sha512", b"text")
     for name, blob, signature, is_one in signatures(key, signed):
         file, line = ssh_signature(blob, signature), line_of(blob)
-        status = status_of(judges.sshkey, judges.sshkey.judge_sshsig, file, "file", b"text", {judges.sshkey.fingerprint(blob)})
+        status = status_of(judges.rafendilo, judges.rafendilo.check_sshsig, file, "file", b"text", {judges.rafendilo.fingerprint(blob)})
         judged = is_verified(judges.maker.folder, "file", file, "text", "signer", MIDDLE, f"signer {line}")
         same = (status == 0) == judged == is_one
         judges.count.check(f"a file's signature by a security key of {key.kind}: {name}", same, status, judged)
@@ -257,13 +257,13 @@ def check_zero(judges, kind):
     for name, application, is_one in (("with", ended.application, True), ("without", cut.application, False)):
         cut.application = application
         file = ssh_signature(ended.blob(), ended.signature(ended.raw(cut.device_message(signed))))
-        status = status_of(judges.sshkey, judges.sshkey.judge_sshsig, file, "file", b"text", {hashlib.sha256(ended.blob()).digest()})
+        status = status_of(judges.rafendilo, judges.rafendilo.check_sshsig, file, "file", b"text", {hashlib.sha256(ended.blob()).digest()})
         judged = is_verified(judges.maker.folder, "zero", file, "text", "signer", MIDDLE, f"signer {ended.line()}")
         same = (status == 0) == is_one and judged != is_one
         judges.count.check(f"a zero byte after the application of {kind}, signed {name} it", same, status, f"ssh-keygen: {judged}")
     within = SecurityKey(kind, b"ssh:\0x")
     taken = ssh_keygen("-l", "-f", judges.maker.write("zero.pub", f"{within.line()}\n"), check=False).returncode == 0
-    digest = judges.sshkey.fingerprint(within.blob())
+    digest = judges.rafendilo.fingerprint(within.blob())
     same = not taken and digest == hashlib.sha256(within.blob()).digest()
     judges.count.check(f"a zero byte within the application of {kind}", same, f"ssh-keygen: {taken}")
 
@@ -274,13 +274,13 @@ def check_zero_in_principal(judges, key):
     for principal, is_taken in (("alice\0", True), ("al\0ice", False)):
         # the package makes none with a zero byte
         plain = principal.replace("\0", "~")
-        message = judges.sshkey.certificate_to_be_signed(certified_key, key.blob(), principals=[plain])
+        message = judges.rafendilo.certificate_to_be_signed(certified_key, key.blob(), principals=[plain])
         message = message.replace(plain.encode(), principal.encode())
-        made = judges.sshkey.join_certificate(message, key.signature(key.raw(key.device_message(message))))
+        made = judges.rafendilo.join_certificate(message, key.signature(key.raw(key.device_message(message))))
         found = judges.of_certificates([line_of(made)], key.line(), "alice", MIDDLE)
         file = with_signer(judges.maker.signature("user0", "text"), made)
         judged = is_verified(judges.maker.folder, "zero", file, "text", "alice", MIDDLE, f"alice cert-authority {key.line()}")
-        refused = said(judges.sshkey, judges.sshkey.Status.VALID_PRINCIPALS)
+        refused = said(judges.rafendilo, judges.rafendilo.Status.VALID_PRINCIPALS)
         same = judged == is_taken and found == ([refused],) * 2
         judges.count.check(f"the principal {principal!r} is not alice", same, found, f"ssh-keygen: {judged}")
 

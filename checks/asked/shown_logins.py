@@ -22,26 +22,26 @@ PAGE = """\
 #include <stdlib.h>
 #include <string.h>
 #include <time.h>
-#include "judge.h"
+#include "reading.h"
 #include "verdict.h"
-static void let_in(const sshkey_grant *grant, const uint8_t *room) {{
+static void let_in(const raf_grant *grant, const uint8_t *room) {{
 (void)room;
 puts(grant->permits ? "let in" : "let in to nothing"); }}
-static void log_in(const char *authority_line, const char *line, judge_blob key, sshkey_span session_id, sshkey_span algorithm,
-    sshkey_span signature) {{
+static void log_in(const char *authority_line, const char *line, raf_blob key, raf_span session_id, raf_span algorithm,
+    raf_span signature) {{
 size_t authority_length = strlen(authority_line), length = strlen(line);
-sshkey_span client = judge_text("");
+raf_span client = raf_text_span("");
 {0}}}
-static sshkey_span data_of(char *word) {{
+static raf_span data_of(char *word) {{
 size_t length = strlen(word) / 2;
 for (size_t at = 0; at < length; at++) {{
 char digits[3] = {{word[2 * at], word[2 * at + 1], 0}};
 word[at] = (char)strtoul(digits, NULL, 16); }}
-return (sshkey_span){{(const uint8_t *)word, length}}; }}
+return (raf_span){{(const uint8_t *)word, length}}; }}
 int main(int count, char **words) {{
-judge_blob key;
-if (count != 6 || judge_read_line(words[3], strlen(words[3]), SSHKEY_LINE_KEY, &key) != SSHKEY_DONE) return 1;
-log_in(words[1], words[2], key, data_of(words[4]), judge_text("{1}"), data_of(words[5]));
+raf_blob key;
+if (count != 6 || raf_read_line_blob(words[3], strlen(words[3]), RAF_LINE_KEY, &key) != RAF_DONE) return 1;
+log_in(words[1], words[2], key, data_of(words[4]), raf_text_span("{1}"), data_of(words[5]));
 free(key.bytes);
 return 0; }}
 """
@@ -61,10 +61,10 @@ def blocks(language, heading="The lines that matter"):
     return found
 
 
-def said_by_python(sshkey, code, **names):
+def said_by_python(rafendilo, code, **names):
     """What the lines in Python say, which call one of these where all is good."""
     said = []
-    names.update({"sshkey": sshkey, "time": time, "print": lambda *words: said.append(" ".join(map(str, words)))})
+    names.update({"rafendilo": rafendilo, "time": time, "print": lambda *words: said.append(" ".join(map(str, words)))})
     names.update({"let_in": lambda grant: said.append("let in"), "go_on": lambda: said.append("go on")})
     exec(code, names)
     return said
@@ -74,7 +74,7 @@ def built_page(built, maker, name, text):
     """A program of the lines in C that a page shows: its path, and how it was built."""
     path = f"{maker.folder}/{name}"
     maker.write(f"{name}.c", text)
-    parts = [f"{path}.c", *(f"{built.sanitized}/{it}" for it in ("parts.a", "libsshkey.a")), "-lcrypto", "-o", path]
+    parts = [f"{path}.c", *(f"{built.sanitized}/{it}" for it in ("parts.a", "librafendilo.a")), "-lcrypto", "-o", path]
     return path, run([*C, *PEDANTIC, f"-I{HELPERS}", *SANITIZED.split(), *parts])
 
 
@@ -113,7 +113,7 @@ def check_program(count, language, program, maker):
 def check_shown(count, folder):
     """The same of README's lines in C and in Python, over the library that make builds of the text in the tree."""
     out, maker = f"{folder}/out", Maker(folder)
-    made = run(["make", "-C", ROOT, f"OUT={out}", f"{out}/libsshkey.so", f"{out}/parts.a"])
+    made = run(["make", "-C", ROOT, f"OUT={out}", f"{out}/librafendilo.so", f"{out}/parts.a"])
     count.check("the library is built", made.returncode == 0, made.stderr[-3000:])
     if made.returncode:
         return
@@ -122,8 +122,8 @@ def check_shown(count, folder):
     count.check("README shows a login in C, which compiles", len(in_c) == 1 and page.returncode == 0, page.stderr[-2000:])
     if page.returncode == 0:
         check_program(count, "C", path, maker)
-    sshkey = module(f"{out}/libsshkey.so")
+    rafendilo = module(f"{out}/librafendilo.so")
     for name, (authority, line, key, session, signature), wanted in cases(maker):
         given = {"authority_line": authority, "line": line, "key": blob_of(key), "address": ADDRESS, "algorithm": ALGORITHM}
-        said = said_by_python(sshkey, in_python[0], **given, session_id=bytes.fromhex(session), signature=bytes.fromhex(signature))
+        said = said_by_python(rafendilo, in_python[0], **given, session_id=bytes.fromhex(session), signature=bytes.fromhex(signature))
         count.check(f"the Python of the page: {name}", said == [wanted], said)

@@ -35,8 +35,8 @@ def question(text, who, namespace, blob, revoked, at, yes):
 def is_verified(made, blob, namespace, message):
     """Whether the signature raises a question as one of the message in the namespace, and the example verifies it."""
     try:
-        return made.sshkey.is_signature(made.sshkey.sshsig_question(blob, namespace, message)[0])
-    except made.sshkey.Refused:
+        return made.rafendilo.is_signature(made.rafendilo.sshsig_question(blob, namespace, message)[0])
+    except made.rafendilo.Refused:
         return False
 
 
@@ -96,10 +96,10 @@ def asked_whole(made, found):
 def said_by_verifying(made, namespace, blob, message):
     """The hash of a signature by a key that may sign, and what is to be said of it."""
     try:
-        is_one = is_verified(made, blob, namespace, message) and not made.sshkey.sshsig_reserved(blob)
-        made.sshkey.sshsig_question(blob, namespace, message)
-        return made.sshkey.sshsig_hash(blob), "DONE" if is_one else "NOT_SIGNED"
-    except made.sshkey.Refused as refused:
+        is_one = is_verified(made, blob, namespace, message) and not made.rafendilo.sshsig_reserved(blob)
+        made.rafendilo.sshsig_question(blob, namespace, message)
+        return made.rafendilo.sshsig_hash(blob), "DONE" if is_one else "NOT_SIGNED"
+    except made.rafendilo.Refused as refused:
         return "sha256", refused.status.name
 
 

@@ -10,14 +10,14 @@ OTHER_ABI = ABI - 1
 
 
 def stub_library(count, folder, answer, abi=ABI):
-    """Builds there libsshkey.a and libsshkey.so, which answer each call the number that `answer` gives of its name."""
+    """Builds there librafendilo.a and librafendilo.so, which answer each call the number that `answer` gives of its name."""
     os.makedirs(folder)
-    answers = {it: answer(it) for it in sorted(declared())} | {"sshkey_abi": abi}
+    answers = {it: answer(it) for it in sorted(declared())} | {"raf_abi": abi}
     with open(f"{folder}/stub.c", "w", encoding="ascii") as file:
         file.write("".join(f"unsigned {call}(void) {{ return {number}; }}\n" for call, number in answers.items()))
     made = [
         run(it, cwd=folder)
-        for it in (["cc", "-c", "-fPIC", "stub.c"], ["ar", "rcs", "libsshkey.a", "stub.o"], ["cc", "-shared", "-o", "libsshkey.so", "stub.o"])
+        for it in (["cc", "-c", "-fPIC", "stub.c"], ["ar", "rcs", "librafendilo.a", "stub.o"], ["cc", "-shared", "-o", "librafendilo.so", "stub.o"])
     ]
     count.check(f"the library that answers {os.path.basename(folder)} is built", not any(it.returncode for it in made), made)
 
@@ -47,8 +47,8 @@ def check_stub(count, asker, made, number):
         f"host-key {name} {name} {key} - 22 0", f"host-certificate {name} {name} {blob} - 22 0 7", f"unreadable-line {name} {name} 22",
         f"userauth {request} 0 0", f"userauth-of {request} 00 0 0", f"is-userauth {request} 1 0", f"flags {key} {key} 0", f"other-key-line {name}", f"time {name}",
         f"may-verify {key}", f"for-key {name} {key}", f"for-certificate {name} {blob}",
-        f"revokes-key {key} {key}", f"revokes-certificate {key} {blob}", f"signer {name} {name} {name} {key} - 7 1",
-        f"revoked-key {key} {key}", f"revoked-certificate {key} {blob}", f"is-signer {name} {name} {name} {key} - 7 {by}",
+        f"unrevoked-key-by-krl {key} {key}", f"unrevoked-certificate-by-krl {key} {blob}", f"signer {name} {name} {name} {key} - 7 1",
+        f"unrevoked-key {key} {key}", f"unrevoked-certificate {key} {blob}", f"is-signer {name} {name} {name} {key} - 7 {by}",
     ]  # fmt: skip
     check_answered(count, asker, f"where each call answers {number}, that is answered", questions, number)
 

@@ -10,7 +10,7 @@ from lib.signatures import signed
 from .linked import HELPERS, C, run
 from .revocation_calls import made_list
 
-TO_COPY = ("judge", "sshsig", "verdict", "verify")
+TO_COPY = ("reading", "sshsig", "verdict", "verify")
 # a message of several rooms, so that one thread reads it while another does
 MESSAGE = "a line of the message\n" * 20_000
 
@@ -64,11 +64,11 @@ def check_threads(count, built, made):
     declared = set()
     for name in TO_COPY:
         with open(f"{HELPERS}/{name}.h", encoding="ascii") as file:
-            declared |= {*re.findall(r"^[a-z]\w+ \*?(judge_\w+)\(", file.read().replace("const char *", "char *"), re.M)}
+            declared |= {*re.findall(r"^[a-z]\w+ \*?(raf_\w+)\(", file.read().replace("const char *", "char *"), re.M)}
     missing = {it for it in declared if not re.search(rf"\b{it}\(", source)}
     count.check(f"checks/threads.c calls each of the {len(declared)} functions to copy", len(declared) > 12 and not missing, missing)
     program = made.maker.path("threads")
-    parts = [f"{ROOT}/checks/threads.c", *sources(), f"{built.plain}/libsshkey.a", "-lcrypto", "-lpthread"]
+    parts = [f"{ROOT}/checks/threads.c", *sources(), f"{built.plain}/librafendilo.a", "-lcrypto", "-lpthread"]
     compiled = run([*C, f"-I{HELPERS}", "-O1", "-g", "-fsanitize=thread", *parts, "-o", program])
     count.check("checks/threads.c is built with ThreadSanitizer", compiled.returncode == 0, compiled.stderr[-3000:])
     if compiled.returncode:
@@ -77,6 +77,6 @@ def check_threads(count, built, made):
     ran = run(["setarch", "-R", program, *(filled(made, it) for it in range(2))], timeout=600)
     said = [[int(it) for it in line.split()] for line in ran.stdout.splitlines()]
     count.check("threads are answered as one alone, without a race", ran.returncode == 0, ran.returncode, ran.stderr[:3000])
-    # 30 is SSHKEY_NOT_SIGNED
+    # 30 is RAF_NOT_SIGNED
     counts = len(said) == 2 and 30 not in said[0] and 30 in said[1]
     count.check("and the first ones' signature counts for their message, and not for the second ones'", counts, said)

@@ -84,7 +84,7 @@ def check_modes(judge):
     for owner, user in ((0, 0), (0, 7), (7, 7), (8, 7), (7, 0), (2**32, 0), (2**64 - 1, 2**64 - 1)):
         for mode, is_closed in ((0o644, True), (0o100755, True), (0o7755, True), (0o664, False), (0o602, False), (0o40777, False), (0, True), (0o20, False), (0o2, False)):
             wanted = "0" if owner in (0, user) and is_closed else "62"
-            cases.append((f"of {owner} for {user}, {mode:o}", f"strict-mode {owner} {user} {mode}", wanted))
+            cases.append((f"of {owner} for {user}, {mode:o}", f"safe-mode {owner} {user} {mode}", wanted))
     judge.hold("a file", cases)
 
 

@@ -58,12 +58,12 @@ def taken(data):
     return data[4 : 4 + length], data[4 + length :]
 
 
-def asked_of(sshkey, it):
+def asked_of(rafendilo, it):
     """The call for a stored question."""
     shown = blob_of(it.offered)
-    key, certificate = (sshkey.certificate_contents(shown).key, shown) if it.is_of_certificate() else (shown, b"")
+    key, certificate = (rafendilo.certificate_contents(shown).key, shown) if it.is_of_certificate() else (shown, b"")
     address = ipaddress.ip_address(it.address).packed
-    by = sshkey.fingerprint(blob_of(it.authority)) if it.by == "principals" else None
+    by = rafendilo.fingerprint(blob_of(it.authority)) if it.by == "principals" else None
     return Asked(it.text, key, certificate, it.user.encode(), address, (it.host or "").encode(), it.revoked.encode(), it.second, authorities=by)
 
 
@@ -110,7 +110,7 @@ def as_shown(answer, is_of_certificate):
 def check_stored(judge):
     """Nobody is let in whom a version of OpenSSH refuses, and where somebody is, the login is bound as each binds it."""
     rows = stored()[:: SAMPLED if judge.asker.is_package else 1]
-    said = judge.ask("stored logins by authorized_keys and by principals", [asked_of(judge.made.sshkey, it).words() for it, _ in rows])
+    said = judge.ask("stored logins by authorized_keys and by principals", [asked_of(judge.made.rafendilo, it).words() for it, _ in rows])
     shown = [as_shown(answer, it.is_of_certificate()) for (it, _), answer in zip(rows, said)]
     if not judge.asker.is_package:
         # as the program is judged that is asked all of them

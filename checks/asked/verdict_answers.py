@@ -9,112 +9,112 @@ class VerdictAnswers:
 
     def login_of(self, data, user, key, client, by, files, second, bits, judges):
         address = data_of(client)
-        return self.sshkey.Login(
+        return self.rafendilo.Login(
             certificate=data_of(data), user=data_of(user), key=data_of(key), authorities=self.digests(by), revoked=datas_of(files),
             client=ipaddress.ip_address(address) if len(address) in (4, 16) else None, unix_timestamp=int(second), least_rsa_bits=int(bits),
-            judges_address=judges == "1",
+            caller_checks_address=judges == "1",
         )  # fmt: skip
 
     def log_in(self, *given):
-        of = self.sshkey.log_in(self.login_of(*given))
+        of = self.rafendilo.log_in(self.login_of(*given))
         command = b"" if of.force_command is None else of.force_command.encode()
         return ["0", str(int(of.permits)), str(of.serial), word(of.authority), word(command), word(of.key_id.encode())]
 
     def log_in_by_keys(self, *given):
-        return self.log_in_by(self.sshkey.log_in_by_keys, *given)
+        return self.log_in_by(self.rafendilo.log_in_by_keys, *given)
 
     def log_in_by_principals(self, *given):
-        return self.log_in_by(self.sshkey.log_in_by_principals, *given)
+        return self.log_in_by(self.rafendilo.log_in_by_principals, *given)
 
     def log_in_by(self, call, *given):
         *front, text, host, second, bits, judges = given
         try:
             of = call(self.login_of(*front, second, bits, judges), data_of(text), data_of(host))
-        except self.sshkey.Refused as refused:
+        except self.rafendilo.Refused as refused:
             return [str(int(refused.status)), str(refused.line)]
         command = b"" if of.force_command is None else of.force_command.encode()
-        first, last = of.expires or [self.sshkey.FOREVER] * 2
-        parts = [self.places(of.permit_open), self.places(of.permit_listen), b"".join(map(self.sshkey.string, of.environment))]
+        first, last = of.expires or [self.rafendilo.FOREVER] * 2
+        parts = [self.places(of.permit_open), self.places(of.permit_listen), b"".join(map(self.rafendilo.string, of.environment))]
         words = [of.authority, command, of.key_id.encode(), *parts]
         return ["0", str(of.line), str(int(of.permits)), str(of.serial), *map(word, words), str(first), str(last), str(of.tunnel or 0)]
 
     def places(self, found):
         """The hosts and ports as the library lays them out."""
         pairs = [it for host, port in found or [] for it in (host, b"" if port is None else port.to_bytes(2, "big"))]
-        return b"".join(map(self.sshkey.string, pairs))
+        return b"".join(map(self.rafendilo.string, pairs))
 
     def verifications(self, *given):
-        return self.counted(self.sshkey.log_in, self.login_of(*given))[1:]
+        return self.counted(self.rafendilo.log_in, self.login_of(*given))[1:]
 
     def host_of(self, texts, host, files, port, bits, second=None):
-        return self.sshkey.HostLogin(
+        return self.rafendilo.HostLogin(
             known_hosts=datas_of(texts), host=data_of(host), port=int(port), revoked=datas_of(files), unix_timestamp=second, least_rsa_bits=int(bits)
         )  # fmt: skip
 
     def host_key(self, texts, host, key, files, port, bits):
-        self.sshkey.check_host_key(self.host_of(texts, host, files, port, bits), data_of(key))
+        self.rafendilo.check_host_key(self.host_of(texts, host, files, port, bits), data_of(key))
         return ["0"]
 
     def host_certificate(self, texts, host, data, files, port, bits, second):
-        self.sshkey.check_host_certificate(self.host_of(texts, host, files, port, bits, int(second)), data_of(data))
+        self.rafendilo.check_host_certificate(self.host_of(texts, host, files, port, bits, int(second)), data_of(data))
         return ["0"]
 
     def unreadable_line(self, text, host, port):
-        found = self.sshkey.unreadable_host_line(data_of(text), data_of(host), int(port))
+        found = self.rafendilo.unreadable_host_line(data_of(text), data_of(host), int(port))
         return ["3"] if found is None else ["0", str(found)]
 
     def request_of(self, session, user, algorithm, key, host_key, signature, has_host_key, permits, signed=None):
-        return self.sshkey.Userauth(
+        return self.rafendilo.Userauth(
             session_id=data_of(session), user=data_of(user), algorithm=data_of(algorithm), public_key=data_of(key), signature=data_of(signature),
             host_key=data_of(host_key) if has_host_key == "1" else None, permits=int(permits), signed=signed,
         )  # fmt: skip
 
     def userauth(self, *given):
-        return self.asked(self.sshkey.userauth_question(self.request_of(*given)))
+        return self.asked(self.rafendilo.userauth_question(self.request_of(*given)))
 
     def userauth_of(self, *given):
         *front, signed, has_host_key, permits = given
-        return self.asked(self.sshkey.userauth_question(self.request_of(*front, has_host_key, permits, data_of(signed))))
+        return self.asked(self.rafendilo.userauth_question(self.request_of(*front, has_host_key, permits, data_of(signed))))
 
     def is_userauth(self, *given):
-        self.sshkey.check_userauth(self.request_of(*given))
+        self.rafendilo.check_userauth(self.request_of(*given))
         return ["0"]
 
     def flags(self, key, signature, permits):
-        self.sshkey.grant_flags(int(permits), data_of(key), data_of(signature))
+        self.rafendilo.check_grant_flags(int(permits), data_of(key), data_of(signature))
         return ["0"]
 
     def other_key_line(self, line):
-        # 12 is SSHKEY_LABEL
-        return ["0" if self.sshkey.is_other_key_line(data_of(line)) else "12"]
+        # 12 is RAF_LABEL
+        return ["0" if self.rafendilo.is_later_key_line(data_of(line)) else "12"]
 
     def authority(self, found):
-        # 61 is SSHKEY_LATER_KEY, and 3 SSHKEY_END
-        return ["0", word(found.keys[0])] if found.keys else ["61" if found.other_lines else "3"]
+        # 61 is RAF_LATER_KEY, and 3 RAF_END
+        return ["0", word(found.keys[0])] if found.keys else ["61" if found.later_lines else "3"]
 
     def line_authority(self, line):
-        return self.authority(self.sshkey.authorities(data_of(line)))
+        return self.authority(self.rafendilo.authorities(data_of(line)))
 
     def user_authority(self, line, user):
-        return self.authority(self.sshkey.user_authorities(data_of(line), data_of(user)))
+        return self.authority(self.rafendilo.user_authorities(data_of(line), data_of(user)))
 
     def for_key(self, line, key):
-        # 3 is SSHKEY_END
-        return ["0" if self.sshkey.may_be_for_key(data_of(line), data_of(key)) else "3"]
+        # 3 is RAF_END
+        return ["0" if self.rafendilo.line_may_name_key(data_of(line), data_of(key)) else "3"]
 
     def for_certificate(self, line, data):
-        return ["0" if self.sshkey.may_be_for_certificate(data_of(line), data_of(data)) else "3"]
+        return ["0" if self.rafendilo.line_may_name_authority(data_of(line), data_of(data)) else "3"]
 
     def may_verify(self, key):
-        # 59 is SSHKEY_KEY_NOT_ACCEPTED
-        return ["0" if self.sshkey.may_verify(data_of(key)) else "59"]
+        # 59 is RAF_KEY_NOT_ACCEPTED
+        return ["0" if self.rafendilo.may_verify(data_of(key)) else "59"]
 
-    def strict_mode(self, *numbers):
-        # 62 is SSHKEY_UNSAFE_MODE
-        return ["0" if self.sshkey.strict_mode(*map(int, numbers)) else "62"]
+    def safe_mode(self, *numbers):
+        # 62 is RAF_UNSAFE_MODE
+        return ["0" if self.rafendilo.is_safe_mode(*map(int, numbers)) else "62"]
 
-    def revoked_key(self, files, key):
-        return ["0", str(int(self.sshkey.revoked_key(datas_of(files), data_of(key))))]
+    def unrevoked_key(self, files, key):
+        return ["0", str(int(self.rafendilo.check_unrevoked_key(datas_of(files), data_of(key))))]
 
-    def revoked_certificate(self, files, data):
-        return ["0", str(int(self.sshkey.revoked_certificate(datas_of(files), data_of(data))))]
+    def unrevoked_certificate(self, files, data):
+        return ["0", str(int(self.rafendilo.check_unrevoked_certificate(datas_of(files), data_of(data))))]

@@ -4,19 +4,19 @@ import re
 from .linked import run
 
 
-def said(sshkey, status):
+def said(rafendilo, status):
     """What sshkey-check says of a number."""
-    words = sshkey._header.WORDS[sshkey.Status(status)]
-    return words if status == sshkey.Status.DONE else f"refused: {words} ({int(status)})"
+    words = rafendilo._header.WORDS[rafendilo.Status(status)]
+    return words if status == rafendilo.Status.DONE else f"refused: {words} ({int(status)})"
 
 
-def status_of(sshkey, call, *given):
+def status_of(rafendilo, call, *given):
     """DONE where the call of the package raises nothing, or what is refused."""
     try:
         call(*given)
-    except sshkey.Refused as refused:
+    except rafendilo.Refused as refused:
         return refused.status
-    return sshkey.Status.DONE
+    return rafendilo.Status.DONE
 
 
 def said_by_checker(words, authority, user, second, lines):
@@ -29,18 +29,18 @@ def said_by_checker(words, authority, user, second, lines):
     return [it if it == "valid" else f"{it}: {reasons.get(str(at), 'why?')}" for at, it in enumerate(said_of_each, 1)]
 
 
-def said_by_python(sshkey, by, user, second, lines):
+def said_by_python(rafendilo, by, user, second, lines):
     """What the package says of each line, where the address of the client is not known."""
 
     def judged(line):
         try:
-            found = sshkey.read_line(line)
-        except sshkey.Refused as refused:
+            found = rafendilo.read_line(line)
+        except rafendilo.Refused as refused:
             return refused.status
         if not found.is_certificate:
-            return sshkey.Status.LABEL
-        key = sshkey.certificate_contents(found.blob).key
-        login = sshkey.Login(found.blob, user, key, second, by, sshkey.NO_REVOCATIONS)
-        return status_of(sshkey, sshkey.log_in, login)
+            return rafendilo.Status.LABEL
+        key = rafendilo.certificate_contents(found.blob).key
+        login = rafendilo.Login(found.blob, user, key, second, by, rafendilo.NO_REVOCATIONS)
+        return status_of(rafendilo, rafendilo.log_in, login)
 
-    return [said(sshkey, judged(it)) for it in lines]
+    return [said(rafendilo, judged(it)) for it in lines]

@@ -1,5 +1,5 @@
 """What a verification decides: each verdict of the library takes 1 alone for yes, and a certificate or an SSH signature that its key
-did not sign lets nobody in. What is wanted is what include/sshkey.h says of `is_verified`, and of signatures that follows from who
+did not sign lets nobody in. What is wanted is what include/rafendilo.h says of `is_verified`, and of signatures that follows from who
 made them."""
 import hashlib
 
@@ -42,7 +42,7 @@ class Given:
         self.user = kind.blob
         self.host = self.issued(kind.authority, "-h", "-n", HOST.decode())
         self.signature = signed(made.maker, f"user{number}", "sha512")
-        self.signer = made.sshkey.fingerprint(self.key)
+        self.signer = made.rafendilo.fingerprint(self.key)
 
     def issued(self, authority, *words):
         """A certificate of the key by that authority."""
@@ -51,14 +51,14 @@ class Given:
     def verdicts(self):
         """Each call with a verdict, and what it is given but for `is_verified`, whose place among the numbers stands last."""
         login, numbers = [self.user, ALICE, self.key, INSIDE], [MIDDLE, 0, 0]
-        yield "certificate_validate", [self.user, b"", self.by], [MIDDLE], 1
-        yield "certificate_validate_for", [self.user, ALICE, self.by], [MIDDLE], 1
-        yield "login_verdict", [*login, self.by, [EMPTY]], numbers, 3
-        yield "user_keys_verdict", [*login, b"", [EMPTY], b"cert-authority " + self.line + b"\n", b""], numbers, 3
-        yield "principals_verdict", [*login, self.by, [EMPTY], b"alice\n", b""], numbers, 3
-        yield "host_certificate_verdict", [[self.known()], HOST, self.host, [EMPTY]], [22, 0, MIDDLE], 3
-        yield "sshsig_verdict", [self.signature, FILE, self.signer], [], 0
-        yield "signer_verdict", [self.allowed(), ALICE, FILE, self.signature, [EMPTY]], [MIDDLE], 1
+        yield "check_certificate", [self.user, b"", self.by], [MIDDLE], 1
+        yield "check_certificate_for", [self.user, ALICE, self.by], [MIDDLE], 1
+        yield "check_login", [*login, self.by, [EMPTY]], numbers, 3
+        yield "check_user_keys", [*login, b"", [EMPTY], b"cert-authority " + self.line + b"\n", b""], numbers, 3
+        yield "check_principals", [*login, self.by, [EMPTY], b"alice\n", b""], numbers, 3
+        yield "check_host_certificate", [[self.known()], HOST, self.host, [EMPTY]], [22, 0, MIDDLE], 3
+        yield "check_sshsig", [self.signature, FILE, self.signer], [], 0
+        yield "check_signer", [self.allowed(), ALICE, FILE, self.signature, [EMPTY]], [MIDDLE], 1
 
     def known(self):
         return b"@cert-authority " + HOST + b" " + self.line + b"\n"
@@ -69,7 +69,7 @@ class Given:
     def plain(self):
         """The verdict about the plain key, which takes no verification."""
         line = self.maker.read(f"user{self.number}.pub").encode() + b"\n"
-        return "user_keys_verdict", [b"", ALICE, self.key, INSIDE, b"", [EMPTY], line, b""], [MIDDLE, 0, 0], 3
+        return "check_user_keys", [b"", ALICE, self.key, INSIDE, b"", [EMPTY], line, b""], [MIDDLE, 0, 0], 3
 
     def forged(self):
         """Names, and signatures that the authority did not make of what stands before them in these certificates."""

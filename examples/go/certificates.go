@@ -12,20 +12,20 @@ import (
 	"time"
 	"unicode/utf8"
 
-	"rafendilo.example/go/sshkey"
+	"rafendilo.example/go/rafendilo"
 )
 
 // fingerprints is those of the keys in a file. It tells of the lines that it passes over.
-func fingerprints(path string) ([]sshkey.SHA256, error) {
+func fingerprints(path string) ([]rafendilo.SHA256, error) {
 	text, err := os.ReadFile(path)
 	if err != nil {
 		return nil, err
 	}
-	keys, otherLines, err := sshkey.Authorities(string(text))
+	keys, laterLines, err := rafendilo.Authorities(string(text))
 	if err != nil {
 		return nil, fmt.Errorf("%s: %w", path, err)
 	}
-	for _, line := range otherLines {
+	for _, line := range laterLines {
 		why := "a later kind of key, which is passed over"
 		fmt.Fprintf(os.Stderr, "check: %s:%d: %s\n", path, line, why)
 	}
@@ -40,19 +40,19 @@ func said(err error) string {
 	return "refused: " + err.Error()
 }
 
-// judgeLine gives nil where the line is that of a certificate that is valid, else what is wrong
+// checkLine gives nil where the line is that of a certificate that is valid, else what is wrong
 // first. Where the principal is -, any is meant.
-func judgeLine(line string, now time.Time, principal string, by []sshkey.SHA256) error {
-	certificate, err := sshkey.ReadLine(line)
+func checkLine(line string, now time.Time, principal string, by []rafendilo.SHA256) error {
+	certificate, err := rafendilo.ReadLine(line)
 	switch {
 	case err != nil:
 		return err
 	case !certificate.IsCertificate:
-		return sshkey.ErrLabel
+		return rafendilo.ErrLabel
 	case principal == "-":
-		return sshkey.ValidateCertificate(certificate.Blob, now, by, nil)
+		return rafendilo.CheckCertificate(certificate.Blob, now, by, nil)
 	}
-	return sshkey.ValidateCertificateFor(certificate.Blob, now, principal, by, nil)
+	return rafendilo.CheckCertificateFor(certificate.Blob, now, principal, by, nil)
 }
 
 // timeOf is that of the second in the words, or now where they have none. Above 2^63 - 1 it is one
@@ -90,8 +90,8 @@ func certificates(words []string, given io.Reader) ([]string, bool, error) {
 		if line == "" {
 			continue
 		}
-		err = judgeLine(line, now, words[1], authorities)
-		if errors.Is(err, sshkey.ErrMemory) {
+		err = checkLine(line, now, words[1], authorities)
+		if errors.Is(err, rafendilo.ErrMemory) {
 			return nil, false, err
 		}
 		lines, isValid = append(lines, said(err)+"\n"), isValid && err == nil
@@ -141,8 +141,8 @@ func signature(words []string, given io.Reader) ([]string, bool, error) {
 	if err != nil {
 		return nil, false, err
 	}
-	err = sshkey.ValidateSSHSig(bare, words[1], message, signers, nil)
-	if errors.Is(err, sshkey.ErrMemory) {
+	err = rafendilo.CheckSSHSig(bare, words[1], message, signers, nil)
+	if errors.Is(err, rafendilo.ErrMemory) {
 		return nil, false, err
 	}
 	return []string{said(err) + "\n"}, err == nil, nil

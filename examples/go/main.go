@@ -6,7 +6,7 @@
 // AUTHORITIES and SIGNERS are files of public keys, a line each. The first answers of each line of
 // its input. The status is 0 if all is valid, 1 if not, and 2 where it can't tell: so also where
 // there is no certificate. A valid certificate may be for a host, or for nobody by name, and - is
-// no name that a client may choose: who logs users in calls sshkey.LogIn.
+// no name that a client may choose: who logs users in calls rafendilo.LogIn.
 package main
 
 // extern int streams_are_open;

@@ -11,7 +11,7 @@ use std::path::Path;
 use std::process::ExitCode;
 use std::time::{SystemTime, UNIX_EPOCH};
 
-use sshkey::{NoKey, Principal, Sha256, Status};
+use rafendilo::{NoKey, Principal, Sha256, Status};
 
 const USAGE: &str = "\
 Says whether certificates and SSH signatures are valid, or what is wrong first.
@@ -22,7 +22,7 @@ Says whether certificates and SSH signatures are valid, or what is wrong first.
 AUTHORITIES and SIGNERS are files of public keys, a line each. The first answers of each line of
 its input. The status is 0 if all is valid, 1 if not, and 2 where it can't tell: so also where there
 is no certificate. A valid certificate may be for a host, or for nobody by name, and - is no name
-that a client may choose: who logs users in calls `sshkey::log_in`.
+that a client may choose: who logs users in calls `rafendilo::log_in`.
 ";
 
 // ---- what is read
@@ -30,7 +30,7 @@ that a client may choose: who logs users in calls `sshkey::log_in`.
 /// The certificate of a line. Fails where it is a line of none, and with [`Status::LABEL`] for a
 /// key.
 fn read(line: &[u8]) -> Result<Vec<u8>, Status> {
-    let found = sshkey::read_line(line)?;
+    let found = rafendilo::read_line(line)?;
     if !found.is_certificate {
         return Err(Status::LABEL);
     }
@@ -49,8 +49,8 @@ fn of_file(path: &Path, fault: impl fmt::Display) -> Untold {
 /// over it. Fails where the file can't be read, and where a line is no key.
 fn fingerprints(path: &Path) -> Result<Vec<Sha256>, Untold> {
     let text = fs::read(path).map_err(|fault| of_file(path, fault))?;
-    let found = sshkey::authorities(&text).map_err(|fault| no_key(path, fault))?;
-    for line in found.other_lines {
+    let found = rafendilo::authorities(&text).map_err(|fault| no_key(path, fault))?;
+    for line in found.later_lines {
         let why = "a later kind of key, which is passed over";
         writeln!(io::stderr(), "check: {}:{line}: {why}", path.display())?;
     }
@@ -168,7 +168,7 @@ fn certificates(authorities: &OsStr, principal: &OsStr, second: u64) -> Result<b
         name => Principal::Named(name),
     };
     say_of_lines(|certificate| {
-        sshkey::judge_certificate(certificate, second, whom, &by, sshkey::is_signature)
+        rafendilo::check_certificate(certificate, second, whom, &by, rafendilo::is_signature)
     })
 }
 
@@ -179,7 +179,7 @@ fn signature(signers: &OsStr, namespace: &OsStr, file: &OsStr) -> Result<bool, U
     let (given, by) = (unarmoured(&armour)?, fingerprints(signers.as_ref())?);
     let message = fs::read(file).map_err(|fault| of_file(file.as_ref(), fault))?;
     let name = namespace.to_str().ok_or("the namespace is not UTF-8")?;
-    let answer = sshkey::judge_sshsig(&given, name, &message, &by, sshkey::is_signature);
+    let answer = rafendilo::check_sshsig(&given, name, &message, &by, rafendilo::is_signature);
     let mut output = io::stdout().lock();
     let is_valid = say(&mut output, answer)?;
     output.flush()?;

@@ -11,8 +11,8 @@ use crate::status::Status;
 ///
 /// Fails with [`Status::ELSEWHERE`] if it does not, with [`Status::FORMAT`] for a malformed list,
 /// which sshd refuses too, and with [`Status::TEXT`] for one that is not UTF-8.
-pub fn source_address_allows(list: impl AsRef<[u8]>, address: IpAddr) -> Result<(), Status> {
-    Status::of(raw::sshkey_source_address_allows(list.as_ref(), &octets(Some(address))))
+pub fn check_source_address(list: impl AsRef<[u8]>, address: IpAddr) -> Result<(), Status> {
+    Status::of(raw::raf_check_source_address(list.as_ref(), &octets(Some(address))))
 }
 
 /// Whether the list, the value of the option `from` of a line of authorized_keys, lets a client in
@@ -24,13 +24,13 @@ pub fn source_address_allows(list: impl AsRef<[u8]>, address: IpAddr) -> Result<
 /// list; [`Status::TEXT`] where the text of the address may be another to sshd (`fe80::/10`, and
 /// `::/96` beyond `::` and `::1`), the host's name is like an address or a text is not UTF-8; and
 /// [`Status::MEMORY`].
-pub fn from_allows(
+pub fn check_from(
     list: impl AsRef<[u8]>,
     host: impl AsRef<[u8]>,
     address: IpAddr,
 ) -> Result<(), Status> {
     let (list, host) = (list.as_ref(), host.as_ref());
-    Status::of(raw::sshkey_from_allows(list, host, &octets(Some(address))))
+    Status::of(raw::raf_check_from(list, host, &octets(Some(address))))
 }
 
 /// The bytes of the address, 4 or 16; none if there is none.

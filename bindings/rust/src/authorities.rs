@@ -14,7 +14,7 @@ pub struct Authorities {
     pub keys: Vec<Sha256>,
     /// The numbers of its lines, from 1 on, that are passed over: each has a key of a kind that is
     /// later than this library. Tell of them.
-    pub other_lines: Vec<usize>,
+    pub later_lines: Vec<usize>,
 }
 
 /// A line that is no key's, which refuses the text.
@@ -27,16 +27,16 @@ pub struct NoKey {
 }
 
 /// The authorities of a text, a key a line, between empty lines and comments. Fails with the first
-/// line that is neither a key's nor one of another kind of key ([`is_other_key_line`]).
+/// line that is neither a key's nor one of another kind of key ([`is_later_key_line`]).
 pub fn authorities(text: &[u8]) -> Result<Authorities, NoKey> {
-    read(text, raw::sshkey_authority)
+    read(text, raw::raf_authority)
 }
 
 /// The authorities that may sign for the user, by a text that says which may for whom: in its lines
 /// names of users, with commas between, stand before a key. Lines without the user's name are passed
 /// over, whatever follows. Fails as [`authorities`] does.
 pub fn user_authorities(text: &[u8], user: &[u8]) -> Result<Authorities, NoKey> {
-    read(text, |line, answer| raw::sshkey_user_authority(line, user, answer))
+    read(text, |line, answer| raw::raf_user_authority(line, user, answer))
 }
 
 fn read(text: &[u8], call: impl Fn(&[u8], &mut Sha256) -> u32) -> Result<Authorities, NoKey> {
@@ -46,7 +46,7 @@ fn read(text: &[u8], call: impl Fn(&[u8], &mut Sha256) -> u32) -> Result<Authori
             let mut key = Sha256::default();
             match Status::of(call(entry, &mut key)) {
                 Ok(()) => found.keys.push(key),
-                Err(Status::LATER_KEY) => found.other_lines.push(number),
+                Err(Status::LATER_KEY) => found.later_lines.push(number),
                 // a line of other users
                 Err(Status::END) => {}
                 Err(status) => return Err(NoKey { line: number, status }),
@@ -59,8 +59,8 @@ fn read(text: &[u8], call: impl Fn(&[u8], &mut Sha256) -> u32) -> Result<Authori
 /// Whether the line is that of another kind of key than those that are read: the key signs nothing
 /// that is read, and whoever reads a text of authorities may pass over it. Fails with
 /// [`Status::TEXT`] where the line is not UTF-8.
-pub fn is_other_key_line(line: &[u8]) -> Result<bool, Status> {
-    match Status::of(raw::sshkey_is_other_key_line(line)) {
+pub fn is_later_key_line(line: &[u8]) -> Result<bool, Status> {
+    match Status::of(raw::raf_is_later_key_line(line)) {
         Ok(()) => Ok(true),
         Err(Status::LABEL) => Ok(false),
         Err(status) => Err(status),

@@ -1,4 +1,4 @@
-//! How the calls of sshkey.h are made.
+//! How the calls of rafendilo.h are made.
 
 use std::marker::PhantomData;
 use std::sync::Once;
@@ -42,13 +42,13 @@ impl<T> Default for Slice<'_, T> {
 pub(crate) fn expect_abi() {
     static ASKED: Once = Once::new();
     ASKED.call_once(|| {
-        let (abi, version) = (raw::sshkey_abi(), raw::sshkey_version());
-        let its = format!("libsshkey has the ABI {abi} (version {version})");
+        let (abi, version) = (raw::raf_abi(), raw::raf_version());
+        let its = format!("librafendilo has the ABI {abi} (version {version})");
         assert!(abi == raw::ABI, "{its}, and this crate needs {}", raw::ABI);
     });
 }
 
-/// The calls of sshkey.h as functions that are safe: of a slice C gets the pointer and the length,
+/// The calls of rafendilo.h as functions that are safe: of a slice C gets the pointer and the length,
 /// and a reference as a pointer. In brackets stands what each does first.
 macro_rules! calls {
     (
@@ -81,7 +81,7 @@ macro_rules! calls {
                 fn $call($($c)*) -> u32;
             }
             $($first)*
-            // SAFETY: these are the parameters of sshkey.h, out of which raw.rs is printed. Each
+            // SAFETY: these are the parameters of rafendilo.h, out of which raw.rs is printed. Each
             // pointer has the length of its slice beside it, what is read is lent for longer than
             // the call, and what is written is borrowed by it alone.
             unsafe { $call($($got)*) }

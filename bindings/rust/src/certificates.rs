@@ -55,20 +55,20 @@ impl<'a> From<&'a str> for Principal<'a> {
 pub fn certificate_question(certificate: &[u8]) -> Result<Question, Status> {
     let enough = certificate.len().saturating_mul(2).saturating_add(256);
     Question::of_call(enough, |room, answer| {
-        raw::sshkey_certificate_question(certificate, room, answer)
+        raw::raf_certificate_question(certificate, room, answer)
     })
 }
 
 /// Whether a certificate, given as its blob, is valid at that second since 1970 for one of the
 /// authorities, which are fingerprints of their keys, and for the principal. `is_verified` is what
 /// your verification said of the question of this very certificate, and false where it raised none.
-/// [`judge_certificate`] asks both at once.
+/// [`check_certificate`] asks both at once.
 ///
 /// Fails with a number from 10 to 29 where the bytes are no certificate, with what is wrong first,
 /// from [`Status::NOT_SIGNED`] to [`Status::UNLISTED_PRINCIPAL`], with [`Status::TEXT`] for a
 /// principal that is not UTF-8, and with [`Status::MEMORY`]. Whether it is one for users, lists
 /// anybody at all, what its options ask, and whether it is revoked is not asked here.
-pub fn validate_certificate(
+pub fn check_certificate_with_answer(
     certificate: &[u8],
     unix_timestamp: u64,
     principal: Principal<'_>,
@@ -78,22 +78,22 @@ pub fn validate_certificate(
     let (given, second, by) = (certificate, unix_timestamp, authorities);
     let is_verified = u32::from(is_verified);
     Status::of(match principal {
-        Principal::Any => raw::sshkey_certificate_validate(given, second, by, is_verified),
+        Principal::Any => raw::raf_check_certificate(given, second, by, is_verified),
         Principal::Named(name) => {
-            raw::sshkey_certificate_validate_for(given, second, name, by, is_verified)
+            raw::raf_check_certificate_for(given, second, name, by, is_verified)
         }
     })
 }
 
 /// The two calls in one: [`certificate_question`], which `verify` answers with your cryptography,
-/// and [`validate_certificate`] of the same bytes, which are lent meanwhile, so that nobody changes
+/// and [`check_certificate_with_answer`] of the same bytes, which are lent meanwhile, so that nobody changes
 /// them. Fails as the latter does, but first with [`Status::UNTRUSTED_AUTHORITY`] for each
 /// certificate of another authority, whose key may be one that the client made up: `verify` is not
 /// asked about it.
 ///
 /// A login asks more of a certificate, [`log_in`](crate::log_in), and so does a host,
 /// [`check_host_certificate`](crate::check_host_certificate).
-pub fn judge_certificate(
+pub fn check_certificate(
     certificate: &[u8],
     unix_timestamp: u64,
     principal: Principal<'_>,
@@ -101,7 +101,7 @@ pub fn judge_certificate(
     verify: impl FnOnce(&Question) -> bool,
 ) -> Result<(), Status> {
     let (second, by) = (unix_timestamp, authorities);
-    let validate = |yes| validate_certificate(certificate, second, principal, by, yes);
+    let validate = |yes| check_certificate_with_answer(certificate, second, principal, by, yes);
     match validate(true) {
         Err(Status::UNTRUSTED_AUTHORITY) => Err(Status::UNTRUSTED_AUTHORITY),
         _ => validate(is_verified(certificate, verify)?),
@@ -142,7 +142,7 @@ pub struct CertificateFields {
 /// are none.
 pub fn certificate_fields(certificate: &[u8]) -> Result<CertificateFields, Status> {
     let mut found = raw::Fields::default();
-    Status::of(raw::sshkey_certificate_fields(certificate, &mut found))?;
+    Status::of(raw::raf_certificate_fields(certificate, &mut found))?;
     Ok(CertificateFields {
         serial: found.serial,
         valid_after: found.valid_after,
@@ -172,7 +172,7 @@ pub struct CertificateContents<'a> {
 /// none. No item of its iterators fails.
 pub fn certificate_contents(certificate: &[u8]) -> Result<CertificateContents<'_>, Status> {
     let mut found = raw::Parts::default();
-    Status::of(raw::sshkey_certificate_parts(certificate, &mut found))?;
+    Status::of(raw::raf_certificate_parts(certificate, &mut found))?;
     Ok(CertificateContents {
         key_id: text(found.key_id.of(certificate))?,
         principals: Principals(strings(found.principals.of(certificate))),
@@ -185,7 +185,7 @@ pub fn certificate_contents(certificate: &[u8]) -> Result<CertificateContents<'_
 /// The blob of the key that is certified, in its normal form. Fails with a number from 10 to 29
 /// where the bytes are no certificate, and with [`Status::MEMORY`].
 pub fn certificate_key(certificate: &[u8]) -> Result<Vec<u8>, Status> {
-    written_of(raw::sshkey_certificate_key, certificate)
+    written_of(raw::raf_certificate_key, certificate)
 }
 
 /// The text of these bytes. Fails with [`Status::CHARACTER_ENCODING`] where they are not UTF-8.
@@ -254,7 +254,7 @@ impl<'a> Iterator for CertificateOptions<'a> {
 
     fn next(&mut self) -> Option<Self::Item> {
         let mut found = raw::CertificateOptionParts::default();
-        match Status::of(raw::sshkey_next_option(self.bytes, self.place, &mut found)) {
+        match Status::of(raw::raf_next_certificate_option(self.bytes, self.place, &mut found)) {
             Ok(()) => self.place = found.next,
             Err(Status::END) => return None,
             Err(status) => {

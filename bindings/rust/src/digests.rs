@@ -25,14 +25,14 @@ pub struct Sha512 {
 /// the bytes are no key, and with [`Status::MEMORY`].
 pub fn fingerprint(key: &[u8]) -> Result<Sha256, Status> {
     let mut digest = Sha256::default();
-    Status::of(raw::sshkey_fingerprint(key, &mut digest))?;
+    Status::of(raw::raf_fingerprint(key, &mut digest))?;
     Ok(digest)
 }
 
 /// The SHA-512 fingerprint of a key, given as its blob. Fails as [`fingerprint`] does.
 pub fn fingerprint_sha512(key: &[u8]) -> Result<Sha512, Status> {
     let mut digest = Sha512 { bytes: [0; 64] };
-    Status::of(raw::sshkey_fingerprint_sha512(key, &mut digest))?;
+    Status::of(raw::raf_fingerprint_sha512(key, &mut digest))?;
     Ok(digest)
 }
 
@@ -45,13 +45,13 @@ fn show(answer: u32, room: &[u8], formatter: &mut fmt::Formatter<'_>) -> fmt::Re
 impl fmt::Display for Sha256 {
     fn fmt(&self, formatter: &mut fmt::Formatter<'_>) -> fmt::Result {
         let mut room = [0; raw::FINGERPRINT_TEXT];
-        show(raw::sshkey_fingerprint_text(self, &mut room), &room, formatter)
+        show(raw::raf_fingerprint_text(self, &mut room), &room, formatter)
     }
 }
 
 impl fmt::Display for Sha512 {
     fn fmt(&self, formatter: &mut fmt::Formatter<'_>) -> fmt::Result {
         let mut room = [0; raw::FINGERPRINT_SHA512_TEXT];
-        show(raw::sshkey_fingerprint_sha512_text(self, &mut room), &room, formatter)
+        show(raw::raf_fingerprint_sha512_text(self, &mut room), &room, formatter)
     }
 }

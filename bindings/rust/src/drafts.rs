@@ -126,7 +126,7 @@ pub fn certificate_to_be_signed(draft: &Draft<'_>) -> Result<Vec<u8>, Status> {
         certificate_type: draft.certificate_type as u32,
         all_principals: u32::from(matches!(draft.principals, Listed::Everybody)),
     };
-    written(ROOM, |room, length| raw::sshkey_certificate_to_be_signed(&given, room, length))
+    written(ROOM, |room, length| raw::raf_certificate_to_be_signed(&given, room, length))
 }
 
 /// The certificate that the signature's blob (RFC 4253, section 6.6) makes of the bytes that were
@@ -135,7 +135,7 @@ pub fn certificate_to_be_signed(draft: &Draft<'_>) -> Result<Vec<u8>, Status> {
 pub fn join_certificate(to_be_signed: &[u8], signature: &[u8]) -> Result<Vec<u8>, Status> {
     let enough = to_be_signed.len().saturating_add(signature.len()).saturating_add(4);
     written(enough, |room, length| {
-        raw::sshkey_certificate_make(to_be_signed, signature, room, length)
+        raw::raf_certificate_make(to_be_signed, signature, room, length)
     })
 }
 

@@ -25,14 +25,14 @@ impl<'a> Iterator for EntryLines<'a> {
 
     fn next(&mut self) -> Option<Self::Item> {
         let mut part = raw::Part::default();
-        match Status::of(raw::sshkey_next_line(self.text, self.place, &mut part)) {
+        match Status::of(raw::raf_next_line(self.text, self.place, &mut part)) {
             Ok(()) => {
                 self.place = part.end();
                 Some(part.of(self.text))
             }
             Err(Status::END) => None,
             // to end here would pass over lines
-            Err(status) => panic!("sshkey_next_line has no answer {status:?}"),
+            Err(status) => panic!("raf_next_line has no answer {status:?}"),
         }
     }
 }
@@ -42,7 +42,7 @@ impl FusedIterator for EntryLines<'_> {}
 /// An entry of authorized_keys.
 #[derive(Clone, Debug, PartialEq, Eq)]
 pub struct AuthorizedEntry {
-    /// The options as they stand in the line; [`entry_options`] takes them apart.
+    /// The options as they stand in the line; [`line_options`] takes them apart.
     pub options: Vec<u8>,
     /// The key's blob in its normal form.
     pub key: Vec<u8>,
@@ -58,7 +58,7 @@ pub struct AuthorizedEntry {
 /// says.
 pub fn authorized_entry(line: &[u8]) -> Result<AuthorizedEntry, Status> {
     let (room, found) =
-        ask(line.len(), |room, answer| raw::sshkey_authorized_entry(line, room, answer))?;
+        ask(line.len(), |room, answer| raw::raf_authorized_entry(line, room, answer))?;
     Ok(AuthorizedEntry {
         options: found.front.of(&room).to_vec(),
         key: found.key.of(&room).to_vec(),
@@ -95,11 +95,11 @@ pub struct KnownHost {
 /// where the line may be a revocation: [`check_host_key`](crate::check_host_key) judges the key of
 /// a host by whole texts.
 pub fn known_host(line: &[u8]) -> Result<KnownHost, Status> {
-    let (room, found) = ask(line.len(), |room, answer| raw::sshkey_known_host(line, room, answer))?;
+    let (room, found) = ask(line.len(), |room, answer| raw::raf_known_host(line, room, answer))?;
     let markers = [Marker::None, Marker::CertAuthority, Marker::Revoked];
     let marker = markers.iter().copied().find(|it| *it as u32 == found.marker);
     Ok(KnownHost {
-        marker: marker.ok_or(Status::OTHER_FAULT)?,
+        marker: marker.ok_or(Status::OTHER_ERROR)?,
         hosts: found.front.of(&room).to_vec(),
         key: found.key.of(&room).to_vec(),
         comment: found.comment.of(&room).to_vec(),
@@ -108,7 +108,7 @@ pub fn known_host(line: &[u8]) -> Result<KnownHost, Status> {
 
 /// An option of an entry of authorized_keys.
 #[derive(Clone, Debug, PartialEq, Eq)]
-pub struct EntryOption {
+pub struct LineOption {
     /// Its name as it stands in the line. Compare names without case.
     pub name: Vec<u8>,
     /// Its value, if it has one, without its quotes.
@@ -123,11 +123,11 @@ const OF_OPTION: usize = 256;
 /// with [`Status::MEMORY`].
 ///
 /// What they say of a login, [`log_in_by_keys`](crate::log_in_by_keys) decides.
-pub fn entry_options(text: &[u8]) -> Result<Vec<EntryOption>, Status> {
+pub fn line_options(text: &[u8]) -> Result<Vec<LineOption>, Status> {
     let (mut options, mut place) = (Vec::new(), 0);
     loop {
         let asked =
-            ask(OF_OPTION, |room, answer| raw::sshkey_next_entry_option(text, place, room, answer));
+            ask(OF_OPTION, |room, answer| raw::raf_next_line_option(text, place, room, answer));
         let (room, found) = match asked {
             Ok(it) => it,
             Err(Status::END) => return Ok(options),
@@ -135,7 +135,7 @@ pub fn entry_options(text: &[u8]) -> Result<Vec<EntryOption>, Status> {
         };
         let value = found.value.of(&room);
         let name = found.name.of(&room).to_vec();
-        options.push(EntryOption { name, value: (found.has_value != 0).then(|| value.to_vec()) });
+        options.push(LineOption { name, value: (found.has_value != 0).then(|| value.to_vec()) });
         place = found.next;
     }
 }
@@ -144,13 +144,13 @@ pub fn entry_options(text: &[u8]) -> Result<Vec<EntryOption>, Status> {
 /// makes of the line's options: for a program that has sshd judge lines. Leave out none but those
 /// for which it is `Ok(false)`. Fails with a number from 10 to 29 where the bytes are no key, and
 /// with [`Status::MEMORY`].
-pub fn may_be_for_key(line: &[u8], key: &[u8]) -> Result<bool, Status> {
-    may_be(raw::sshkey_may_be_for_key(line, key))
+pub fn line_may_name_key(line: &[u8], key: &[u8]) -> Result<bool, Status> {
+    may_be(raw::raf_line_may_name_key(line, key))
 }
 
 /// The same of the authority that signed the certificate, given as its blob.
-pub fn may_be_for_certificate(line: &[u8], certificate: &[u8]) -> Result<bool, Status> {
-    may_be(raw::sshkey_may_be_for_certificate(line, certificate))
+pub fn line_may_name_authority(line: &[u8], certificate: &[u8]) -> Result<bool, Status> {
+    may_be(raw::raf_line_may_name_authority(line, certificate))
 }
 
 fn may_be(answer: u32) -> Result<bool, Status> {
@@ -165,6 +165,6 @@ fn may_be(answer: u32) -> Result<bool, Status> {
 /// the user owns it, and neither group nor others may write. The numbers are those of stat(2); the
 /// user 0 is root.
 #[must_use]
-pub fn strict_mode(owner: u64, user: u64, mode: u32) -> bool {
-    Status::of(raw::sshkey_strict_mode(owner, user, mode)).is_ok()
+pub fn is_safe_mode(owner: u64, user: u64, mode: u32) -> bool {
+    Status::of(raw::raf_check_safe_mode(owner, user, mode)).is_ok()
 }

@@ -36,7 +36,7 @@ pub struct HostLogin<'a> {
 ///
 /// That the host has signed this session under the key is yours to ask.
 pub fn check_host_key(login: &HostLogin<'_>, key: &[u8]) -> Result<(), Status> {
-    with_raw(login, |asked| raw::sshkey_host_key_verdict(asked, key))
+    with_raw(login, |asked| raw::raf_check_host_key(asked, key))
 }
 
 /// Accepts the certificate, given as its blob, if it is the host's, as ssh(1) does or more
@@ -59,7 +59,7 @@ pub fn check_host_certificate(
 ) -> Result<(), Status> {
     let verdict = |yes| {
         with_raw(login, |asked| {
-            raw::sshkey_host_certificate_verdict(asked, certificate, u32::from(yes))
+            raw::raf_check_host_certificate(asked, certificate, u32::from(yes))
         })
     };
     decide(verdict, || is_verified(certificate, verify))
@@ -91,7 +91,7 @@ pub fn unreadable_host_line(
 ) -> Result<Option<usize>, Status> {
     let mut number = 0;
     let host = host.as_ref();
-    match Status::of(raw::sshkey_unreadable_host_line(known_hosts, host, port, &mut number)) {
+    match Status::of(raw::raf_unreadable_host_line(known_hosts, host, port, &mut number)) {
         Ok(()) => Ok(Some(number)),
         Err(Status::END) => Ok(None),
         Err(status) => Err(status),

@@ -21,12 +21,12 @@ pub struct Line {
 /// with [`Status::MEMORY`].
 pub fn read_line(line: impl AsRef<[u8]>) -> Result<Line, Status> {
     let line = line.as_ref();
-    let (room, found) = ask(line.len(), |room, answer| raw::sshkey_read_line(line, room, answer))?;
+    let (room, found) = ask(line.len(), |room, answer| raw::raf_read_line(line, room, answer))?;
     let comment = String::from_utf8(found.comment.of(&room).to_vec());
     let is_certificate = match found.kind {
         raw::LINE_KEY => false,
         raw::LINE_CERTIFICATE => true,
-        _ => return Err(Status::OTHER_FAULT),
+        _ => return Err(Status::OTHER_ERROR),
     };
     Ok(Line {
         blob: found.blob.of(&room).to_vec(),
@@ -50,7 +50,7 @@ pub fn signature_question(
     let enough =
         [key, message, signature].iter().fold(256, |sum: usize, it| sum.saturating_add(it.len()));
     Question::of_call(enough, |room, answer| {
-        raw::sshkey_signature_question(key, message, signature, room, answer)
+        raw::raf_signature_question(key, message, signature, room, answer)
     })
 }
 
@@ -67,32 +67,32 @@ pub(crate) fn written_of(call: Write, bytes: &[u8]) -> Result<Vec<u8>, Status> {
 /// The normal form of a key, given as its blob: two keys are the same exactly if theirs are. Fails
 /// with a number from 10 to 29 where the bytes are none, and with [`Status::MEMORY`].
 pub fn normal_key(key: &[u8]) -> Result<Vec<u8>, Status> {
-    written_of(raw::sshkey_key_normal, key)
+    written_of(raw::raf_key_normal, key)
 }
 
 /// The normal form of a certificate, given as its blob. Fails with a number from 10 to 29 where
 /// the bytes are none, and with [`Status::MEMORY`].
 pub fn normal_certificate(certificate: &[u8]) -> Result<Vec<u8>, Status> {
-    written_of(raw::sshkey_certificate_normal, certificate)
+    written_of(raw::raf_certificate_normal, certificate)
 }
 
 /// The normal form of an SSH signature. Fails with a number from 10 to 29 where the bytes are
 /// none, and with [`Status::MEMORY`].
 pub fn normal_sshsig(signature: &[u8]) -> Result<Vec<u8>, Status> {
-    written_of(raw::sshkey_sshsig_normal, signature)
+    written_of(raw::raf_sshsig_normal, signature)
 }
 
 /// The normal form of a signature as [`signature_question`] takes it: the bytes themselves. Fails
 /// with a number from 10 to 29 where they are none.
 pub fn normal_signature(signature: &[u8]) -> Result<Vec<u8>, Status> {
-    written_of(raw::sshkey_signature_normal, signature)
+    written_of(raw::raf_signature_normal, signature)
 }
 
 /// Whether a verifier may say yes to a signature under the key, given as its blob: OpenSSH lets
 /// somebody in by it, and one of RSA has 2,048 bits or more. Fails with a number from 10 to 29 where
 /// the bytes are no key.
 pub fn may_verify(key: &[u8]) -> Result<bool, Status> {
-    match Status::of(raw::sshkey_may_verify(key)) {
+    match Status::of(raw::raf_may_verify(key)) {
         Ok(()) => Ok(true),
         Err(Status::KEY_NOT_ACCEPTED) => Ok(false),
         Err(status) => Err(status),

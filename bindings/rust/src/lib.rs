@@ -1,12 +1,12 @@
 //! Certificates, signatures, keys, revocation lists, authorized_keys and known_hosts of OpenSSH, by
-//! the proved library that include/sshkey.h declares. This crate is tested, and not proved.
+//! the proved library that include/rafendilo.h declares. This crate is tested, and not proved.
 //!
 //! Cryptography is yours: a call tells the question that has to be verified, and a function of
 //! yours answers it. With the feature `libcrypto` the crate has one that asks OpenSSL's library,
-//! `sshkey::is_signature`.
+//! `rafendilo::is_signature`.
 //!
 //! ```
-//! use sshkey::{Grant, Login, Question, Sha256, Status, Userauth, NO_REVOCATIONS};
+//! use rafendilo::{Grant, Login, Question, Sha256, Status, Userauth, NO_REVOCATIONS};
 //!
 //! /// Whether the signature is one of the message under the key, by your library.
 //! fn is_signature(question: &Question) -> bool {
@@ -19,7 +19,7 @@
 //!     line: &str, key: &[u8], unix_timestamp: u64, authorities: &[Sha256], session_id: &[u8],
 //!     signature: &[u8],
 //! ) -> Result<Grant, Status> {
-//!     let certificate = sshkey::read_line(line)?.blob;
+//!     let certificate = rafendilo::read_line(line)?.blob;
 //!     let login = Login {
 //!         certificate: &certificate,
 //!         user: b"alice",
@@ -29,9 +29,9 @@
 //!         authorities,
 //!         revoked: NO_REVOCATIONS, // or what the files of sshd's RevokedKeys have
 //!         least_rsa_bits: 0,
-//!         judges_address: false,
+//!         caller_checks_address: false,
 //!     };
-//!     let grant = sshkey::log_in(&login, is_signature)?;
+//!     let grant = rafendilo::log_in(&login, is_signature)?;
 //!     let request = Userauth {
 //!         session_id, // your server's own
 //!         user: login.user,
@@ -42,14 +42,14 @@
 //!         signature,
 //!         permits: grant.permits,
 //!     };
-//!     sshkey::check_userauth(&request, is_signature)?;
+//!     rafendilo::check_userauth(&request, is_signature)?;
 //!     Ok(grant)
 //! }
 //! # assert_eq!(log_in("ssh-ed25519", &[], 0, &[], &[], &[]), Err(Status::LENGTH));
 //! ```
 //!
 //! The library lies in this crate as text, for Linux on x86-64 and aarch64. With the feature
-//! `installed` libsshkey.a is linked instead, which the linker has to find.
+//! `installed` librafendilo.a is linked instead, which the linker has to find.
 //!
 //! Each function says what it fails with: a [`Status`]; [`Status::MEMORY`] says nothing of
 //! the input; where Rust itself gets no memory for a copy, the process ends. What is lent of the
@@ -85,19 +85,19 @@ mod times;
 mod user_keys;
 mod userauth;
 
-pub use addresses::{from_allows, source_address_allows};
-pub use authorities::{authorities, is_other_key_line, user_authorities, Authorities, NoKey};
+pub use addresses::{check_from, check_source_address};
+pub use authorities::{authorities, is_later_key_line, user_authorities, Authorities, NoKey};
 pub use certificates::{
     certificate_contents, certificate_fields, certificate_key, certificate_options,
-    certificate_question, judge_certificate, validate_certificate, CertificateContents,
+    certificate_question, check_certificate, check_certificate_with_answer, CertificateContents,
     CertificateFields, CertificateOption, CertificateOptions, CertificateType, Principal,
     Principals,
 };
 pub use digests::{fingerprint, fingerprint_sha512, Sha256, Sha512};
 pub use drafts::{certificate_to_be_signed, join_certificate, make_certificate, Draft, Listed};
 pub use files::{
-    authorized_entry, entry_lines, entry_options, known_host, may_be_for_certificate,
-    may_be_for_key, strict_mode, AuthorizedEntry, EntryLines, EntryOption, KnownHost, Marker,
+    authorized_entry, entry_lines, line_options, known_host, line_may_name_authority,
+    line_may_name_key, is_safe_mode, AuthorizedEntry, EntryLines, LineOption, KnownHost, Marker,
 };
 pub use hosts::{check_host_certificate, check_host_key, unreadable_host_line, HostLogin};
 pub use keys::{
@@ -111,15 +111,15 @@ pub use permits::Permits;
 pub use questions::{Algorithm, Question};
 pub use raw::FOREVER;
 pub use revocations::{
-    krl_revokes_certificate, krl_revokes_key, revoked_certificate, revoked_key, NO_REVOCATIONS,
+    check_unrevoked_certificate_by_krl, check_unrevoked_key_by_krl, check_unrevoked_certificate, check_unrevoked_key, NO_REVOCATIONS,
 };
-pub use signers::{judge_signer_of_digest, signer_verdict, Signers};
+pub use signers::{check_signer_of_digest, check_signer_with_answer, Signers};
 pub use sshsigs::{
-    judge_sshsig, judge_sshsig_of_digest, sshsig_hash, sshsig_question, sshsig_question_of_digest,
-    sshsig_reserved, sshsig_verdict, HashAlgorithm,
+    check_sshsig, check_sshsig_of_digest, sshsig_hash, sshsig_question, sshsig_question_of_digest,
+    sshsig_reserved, check_sshsig_with_answer, HashAlgorithm,
 };
 pub use status::Status;
 pub use strings::{string, strings, Strings};
 pub use times::read_time;
 pub use user_keys::{log_in_by_keys, log_in_by_principals, Denial, Place, UserGrant};
-pub use userauth::{check_userauth, grant_flags, userauth_question, Userauth};
+pub use userauth::{check_userauth, check_grant_flags, userauth_question, Userauth};

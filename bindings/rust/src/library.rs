@@ -2,17 +2,17 @@
 //! over those of the C library. With the feature `installed` it is a library that is installed.
 
 #[cfg(feature = "installed")]
-#[link(name = "sshkey", kind = "static", modifiers = "-bundle")]
+#[link(name = "rafendilo", kind = "static", modifiers = "-bundle")]
 extern "C" {}
 
 #[cfg(all(not(feature = "installed"), target_os = "linux", target_arch = "x86_64"))]
 std::arch::global_asm!(
-    include_str!("../../go/sshkey/sshkey_linux_amd64.S"),
+    include_str!("../../go/rafendilo/rafendilo_linux_amd64.S"),
     options(att_syntax, raw)
 );
 
 #[cfg(all(not(feature = "installed"), target_os = "linux", target_arch = "aarch64"))]
-std::arch::global_asm!(include_str!("../../go/sshkey/sshkey_linux_arm64.S"), options(raw));
+std::arch::global_asm!(include_str!("../../go/rafendilo/rafendilo_linux_arm64.S"), options(raw));
 
 #[cfg(not(any(
     feature = "installed",

@@ -38,7 +38,7 @@ pub struct Login<'a> {
     /// is not looked at. [`log_in_by_keys`](crate::log_in_by_keys) and
     /// [`log_in_by_principals`](crate::log_in_by_principals) always judge it, and then know no
     /// address.
-    pub judges_address: bool,
+    pub caller_checks_address: bool,
 }
 
 /// What a login is bound to, and what it may do.
@@ -74,11 +74,11 @@ pub fn log_in(login: &Login<'_>, verify: impl FnOnce(&Question) -> bool) -> Resu
     with_raw(login, |asked| {
         let enough = login.certificate.len().saturating_mul(2).saturating_add(256);
         let question = Question::of_call(enough, |room, answer| {
-            raw::sshkey_login_question(asked, room, answer)
+            raw::raf_login_question(asked, room, answer)
         })?;
         let is_verified = u32::from(verify(&question));
         let (room, found) = ask(login.certificate.len(), |room, answer| {
-            raw::sshkey_login_verdict(asked, is_verified, room, answer)
+            raw::raf_check_login(asked, is_verified, room, answer)
         })?;
         grant_in(&room, &found)
     })
@@ -96,7 +96,7 @@ pub(crate) fn with_raw<T>(login: &Login<'_>, say: impl FnOnce(&raw::Login<'_>) -
         revoked: revoked.as_slice().into(),
         unix_timestamp: login.unix_timestamp,
         least_rsa_bits: login.least_rsa_bits,
-        judges_address: u32::from(login.judges_address),
+        caller_checks_address: u32::from(login.caller_checks_address),
     })
 }
 

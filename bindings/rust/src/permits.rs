@@ -34,13 +34,13 @@ impl Permits {
     /// Ports, if they may be forwarded, from wherever may be listened.
     pub const LISTEN_ANYWHERE: Permits = Permits(raw::PERMIT_LISTEN_ANYWHERE);
 
-    /// What those bits permit, which are `SSHKEY_PERMIT_*` of sshkey.h.
+    /// What those bits permit, which are `RAF_PERMIT_*` of rafendilo.h.
     #[must_use]
     pub const fn from_bits(bits: u32) -> Permits {
         Permits(bits)
     }
 
-    /// The bits, which are `SSHKEY_PERMIT_*` of sshkey.h.
+    /// The bits, which are `RAF_PERMIT_*` of rafendilo.h.
     #[must_use]
     pub const fn bits(self) -> u32 {
         self.0

@@ -29,7 +29,7 @@ pub enum Algorithm {
 }
 
 impl Algorithm {
-    /// The algorithm of that number of sshkey.h, if there is one.
+    /// The algorithm of that number of rafendilo.h, if there is one.
     pub(crate) fn of(number: u32) -> Option<Algorithm> {
         use Algorithm::{Dsa, Ed25519, RsaSha256, RsaSha512, P256, P384, P521};
         let all = [Dsa, P256, P384, P521, Ed25519, RsaSha256, RsaSha512];

@@ -1,4 +1,4 @@
-//! The structs, the numbers and the calls of include/sshkey.h.
+//! The structs, the numbers and the calls of include/rafendilo.h.
 //!
 //! Printed by bindings/prototypes, which writes it anew: change the header, and run
 //! bindings/prototypes --write.
@@ -9,7 +9,7 @@ use crate::calling::{calls, expect_abi, Slice};
 use crate::digests::{Sha256, Sha512};
 use crate::status::{statuses, Status};
 
-/// What sshkey_abi answers where the library has the structs, the calls and the numbers below.
+/// What raf_abi answers where the library has the structs, the calls and the numbers below.
 pub const ABI: u32 = 1;
 
 /// The end of a window that has none.
@@ -22,82 +22,82 @@ pub const FINGERPRINT_TEXT: usize = 50;
 /// "SHA512:" and 86 characters.
 pub const FINGERPRINT_SHA512_TEXT: usize = 93;
 
-/// `SSHKEY_ASK_DSA`.
+/// `RAF_ASK_DSA`.
 pub const ASK_DSA: u32 = 1;
 
-/// `SSHKEY_ASK_P256`. With SHA-256.
+/// `RAF_ASK_P256`. With SHA-256.
 pub const ASK_P256: u32 = 2;
 
-/// `SSHKEY_ASK_P384`. With SHA-384.
+/// `RAF_ASK_P384`. With SHA-384.
 pub const ASK_P384: u32 = 3;
 
-/// `SSHKEY_ASK_P521`. With SHA-512.
+/// `RAF_ASK_P521`. With SHA-512.
 pub const ASK_P521: u32 = 4;
 
-/// `SSHKEY_ASK_ED25519`.
+/// `RAF_ASK_ED25519`.
 pub const ASK_ED25519: u32 = 5;
 
-/// `SSHKEY_ASK_RSA_SHA256`. With SHA-256.
+/// `RAF_ASK_RSA_SHA256`. With SHA-256.
 pub const ASK_RSA_SHA256: u32 = 6;
 
-/// `SSHKEY_ASK_RSA_SHA512`. With SHA-512.
+/// `RAF_ASK_RSA_SHA512`. With SHA-512.
 pub const ASK_RSA_SHA512: u32 = 7;
 
-/// `SSHKEY_LINE_KEY`.
+/// `RAF_LINE_KEY`.
 pub const LINE_KEY: u32 = 1;
 
-/// `SSHKEY_LINE_CERTIFICATE`.
+/// `RAF_LINE_CERTIFICATE`.
 pub const LINE_CERTIFICATE: u32 = 2;
 
-/// `SSHKEY_USER`.
+/// `RAF_USER`.
 pub const USER: u32 = 1;
 
-/// `SSHKEY_HOST`.
+/// `RAF_HOST`.
 pub const HOST: u32 = 2;
 
-/// `SSHKEY_PERMIT_PTY`.
+/// `RAF_PERMIT_PTY`.
 pub const PERMIT_PTY: u32 = 1;
 
-/// `SSHKEY_PERMIT_PORT_FORWARDING`.
+/// `RAF_PERMIT_PORT_FORWARDING`.
 pub const PERMIT_PORT_FORWARDING: u32 = 2;
 
-/// `SSHKEY_PERMIT_AGENT_FORWARDING`.
+/// `RAF_PERMIT_AGENT_FORWARDING`.
 pub const PERMIT_AGENT_FORWARDING: u32 = 4;
 
-/// `SSHKEY_PERMIT_X11_FORWARDING`.
+/// `RAF_PERMIT_X11_FORWARDING`.
 pub const PERMIT_X11_FORWARDING: u32 = 8;
 
-/// `SSHKEY_PERMIT_USER_RC`.
+/// `RAF_PERMIT_USER_RC`.
 pub const PERMIT_USER_RC: u32 = 16;
 
-/// `SSHKEY_PERMIT_ANY_COMMAND`. No force-command: what the client asks for, or a shell.
+/// `RAF_PERMIT_ANY_COMMAND`. No force-command: what the client asks for, or a shell.
 pub const PERMIT_ANY_COMMAND: u32 = 32;
 
-/// `SSHKEY_PERMIT_NO_TOUCH`. A security key that nobody touched.
+/// `RAF_PERMIT_NO_TOUCH`. A security key that nobody touched.
 pub const PERMIT_NO_TOUCH: u32 = 64;
 
-/// `SSHKEY_PERMIT_NO_VERIFICATION`. A security key that did not verify its user.
+/// `RAF_PERMIT_NO_VERIFICATION`. A security key that did not verify its user.
 pub const PERMIT_NO_VERIFICATION: u32 = 128;
 
-/// `SSHKEY_PERMIT_TUNNELS`. Tunnels (tun(4)).
+/// `RAF_PERMIT_TUNNELS`. Tunnels (tun(4)).
 pub const PERMIT_TUNNELS: u32 = 256;
 
-/// `SSHKEY_PERMIT_ANY_TUNNEL`. Whichever device of them.
+/// `RAF_PERMIT_ANY_TUNNEL`. Whichever device of them.
 pub const PERMIT_ANY_TUNNEL: u32 = 512;
 
-/// `SSHKEY_PERMIT_OPEN_ANYWHERE`. Ports may be forwarded to anywhere, if at all.
+/// `RAF_PERMIT_OPEN_ANYWHERE`. Ports may be forwarded to anywhere, if at all.
 pub const PERMIT_OPEN_ANYWHERE: u32 = 1024;
 
-/// `SSHKEY_PERMIT_LISTEN_ANYWHERE`. Ports may be listened at anywhere, if at all.
+/// `RAF_PERMIT_LISTEN_ANYWHERE`. Ports may be listened at anywhere, if at all.
 pub const PERMIT_LISTEN_ANYWHERE: u32 = 2048;
 
-/// `SSHKEY_MARKER_NONE`.
+/// `RAF_MARKER_NONE`.
 pub const MARKER_NONE: u32 = 0;
 
-/// `SSHKEY_MARKER_CERT_AUTHORITY`.
+/// `RAF_MARKER_CERT_AUTHORITY`.
 pub const MARKER_CERT_AUTHORITY: u32 = 1;
 
-/// `SSHKEY_MARKER_REVOKED`.
+/// `RAF_MARKER_REVOKED`.
 pub const MARKER_REVOKED: u32 = 2;
 
 statuses! {
@@ -105,12 +105,12 @@ statuses! {
     /// again.
     MEMORY = 1, "no memory";
     /// The room is too short; `length` says how many bytes are needed.
-    ROOM = 2, "the room is too short";
+    SHORT_BUFFER = 2, "the room is too short";
     /// Nothing is left: the place is the end, or there is no such line or option.
     END = 3, "nothing is left";
     /// The principal is not UTF-8, or a line of authorized_keys or known_hosts, options, a text of
     /// known_hosts or of signers, a host's name, an identity, a namespace or a time; nothing is
-    /// said of the rest. sshkey_read_line returns 11 for such a line.
+    /// said of the rest. raf_read_line returns 11 for such a line.
     TEXT = 4, "a name or a text that is given is not UTF-8";
     /// A word of a line is no Base64, or not the one of its bytes.
     BASE64 = 10, "not Base64";
@@ -140,8 +140,8 @@ statuses! {
     /// An SSH signature of a version above 1, or a revocation list of another version than 1.
     UNSUPPORTED_VERSION = 22, "a version that is not read";
     /// Never returned.
-    OTHER_FAULT = 23, "another fault";
-    /// An RSA signature by SHA-1, which no call reads: to them it is SSHKEY_LENGTH. judge_read_line
+    OTHER_ERROR = 23, "another fault";
+    /// An RSA signature by SHA-1, which no call reads: to them it is RAF_LENGTH. raf_read_line_blob
     /// of helpers/ tells it.
     RSA_SHA1 = 24, "signed by RSA with SHA-1";
     /// It raises no question, or `is_verified` is not 1; a signature also where it is in another
@@ -236,7 +236,7 @@ statuses! {
     NO_IDENTITY = 103, "no identity";
 }
 
-/// Bytes that a call reads; no null pointer, also where the length is 0 (sshkey_bytes).
+/// Bytes that a call reads; no null pointer, also where the length is 0 (raf_bytes).
 pub(crate) type Span<'a> = Slice<'a, u8>;
 
 /// Byte strings that a call reads: `count` of them, at no null pointer.
@@ -268,7 +268,7 @@ pub(crate) struct Question {
     pub signature: Part,
     /// How many bytes of the room these take.
     pub length: usize,
-    /// SSHKEY_ASK_*.
+    /// RAF_ASK_*.
     pub algorithm: u32,
 }
 
@@ -281,7 +281,7 @@ pub(crate) struct Line {
     pub comment: Part,
     /// How many bytes of the room these take.
     pub length: usize,
-    /// SSHKEY_LINE_*.
+    /// RAF_LINE_*.
     pub kind: u32,
 }
 
@@ -292,9 +292,9 @@ pub(crate) struct Fields {
     pub serial: u64,
     /// The first second of its window.
     pub valid_after: u64,
-    /// The first second after its window, or SSHKEY_FOREVER.
+    /// The first second after its window, or RAF_FOREVER.
     pub valid_before: u64,
-    /// SSHKEY_USER or SSHKEY_HOST.
+    /// RAF_USER or RAF_HOST.
     pub certificate_type: u32,
     /// 0 where it lists none, and so allows everybody; else 1.
     pub lists_principals: u32,
@@ -309,9 +309,9 @@ pub(crate) struct Fields {
 pub(crate) struct Parts {
     /// A text, for logs.
     pub key_id: Part,
-    /// Strings: sshkey_next_string goes over them.
+    /// Strings: raf_next_string goes over them.
     pub principals: Part,
-    /// One after the other: sshkey_next_option goes over them.
+    /// One after the other: raf_next_certificate_option goes over them.
     pub critical_options: Part,
     /// Likewise.
     pub extensions: Part,
@@ -342,7 +342,7 @@ pub(crate) struct Draft<'a> {
     /// Strings, one after the other: refuse a zero byte in one, since sshd takes the name to end
     /// there, and so for another user's.
     pub principals: Span<'a>,
-    /// As sshkey_next_option reads them, with rising names.
+    /// As raf_next_certificate_option reads them, with rising names.
     pub critical_options: Span<'a>,
     /// Likewise.
     pub extensions: Span<'a>,
@@ -352,9 +352,9 @@ pub(crate) struct Draft<'a> {
     pub serial: u64,
     /// The first second of its window, since 1970.
     pub valid_after: u64,
-    /// The first second after its window, or SSHKEY_FOREVER.
+    /// The first second after its window, or RAF_FOREVER.
     pub valid_before: u64,
-    /// SSHKEY_USER or SSHKEY_HOST.
+    /// RAF_USER or RAF_HOST.
     pub certificate_type: u32,
     /// 1 where it lists no principals, and so allows everybody; else 0.
     pub all_principals: u32,
@@ -368,7 +368,7 @@ pub(crate) struct Login<'a> {
     pub certificate: Span<'a>,
     /// UTF-8.
     pub user: Span<'a>,
-    /// The blob of the key under which the client signs: whether it has sshkey_userauth_question
+    /// The blob of the key under which the client signs: whether it has raf_userauth_question
     /// asks.
     pub key: Span<'a>,
     /// The address of its socket, of 4 or 16 bytes; with any other number of bytes it has none:
@@ -384,14 +384,14 @@ pub(crate) struct Login<'a> {
     /// 1: you judge yourself whether source-address, which no grant tells, has the client's, and
     /// `client` is not looked at: so does sshd with a certificate whose principals a program tells
     /// it, and before 9.4 it tells that program no address.
-    pub judges_address: u32,
+    pub caller_checks_address: u32,
 }
 
 /// What a login may do, and by which certificate.
 #[repr(C)]
 #[derive(Clone, Copy, Debug, Default)]
 pub(crate) struct Grant {
-    /// The one command that may run; of no bytes with SSHKEY_PERMIT_ANY_COMMAND.
+    /// The one command that may run; of no bytes with RAF_PERMIT_ANY_COMMAND.
     pub force_command: Part,
     /// A text, for logs.
     pub key_id: Part,
@@ -401,7 +401,7 @@ pub(crate) struct Grant {
     pub serial: u64,
     /// Of the key that signed it.
     pub authority: Sha256,
-    /// SSHKEY_PERMIT_*.
+    /// RAF_PERMIT_*.
     pub permits: u32,
 }
 
@@ -423,7 +423,7 @@ pub(crate) struct Userauth<'a> {
     pub signature: Span<'a>,
     /// 0: the method is publickey; else publickey-hostbound-v00@openssh.com.
     pub has_host_key: u32,
-    /// The grant's: SSHKEY_PERMIT_NO_TOUCH, .._NO_VERIFICATION.
+    /// The grant's: RAF_PERMIT_NO_TOUCH, .._NO_VERIFICATION.
     pub permits: u32,
 }
 
@@ -439,14 +439,14 @@ pub(crate) struct Entry {
     pub comment: Part,
     /// How many bytes of the room these take.
     pub length: usize,
-    /// SSHKEY_MARKER_*; of authorized_keys always SSHKEY_MARKER_NONE.
+    /// RAF_MARKER_*; of authorized_keys always RAF_MARKER_NONE.
     pub marker: u32,
 }
 
 /// An option of an entry: where its parts stand in the room.
 #[repr(C)]
 #[derive(Clone, Copy, Debug, Default)]
-pub(crate) struct EntryOptionParts {
+pub(crate) struct LineOptionParts {
     /// As it stands in the line: letters are compared without case.
     pub name: Part,
     /// Without its quotes, and without each backslash before a quote.
@@ -495,8 +495,8 @@ pub(crate) struct UserGrant {
     /// With the command of the line or of the certificate; of a plain key key_id has no bytes,
     /// serial and authority are zero.
     pub grant: Grant,
-    /// Without SSHKEY_PERMIT_OPEN_ANYWHERE the only places to which ports may be forwarded: strings
-    /// (sshkey_next_string), two each: a host, and a port of two bytes, big-endian, or of none for
+    /// Without RAF_PERMIT_OPEN_ANYWHERE the only places to which ports may be forwarded: strings
+    /// (raf_next_string), two each: a host, and a port of two bytes, big-endian, or of none for
     /// any port.
     pub permit_open: Part,
     /// Likewise where may be listened.
@@ -507,7 +507,7 @@ pub(crate) struct UserGrant {
     pub expires: TimeSpan,
     /// The number of the line, from 1; of a refusal 91 to 96, of the line that refuses.
     pub line: usize,
-    /// Without SSHKEY_PERMIT_ANY_TUNNEL the only device of tun(4); 0x7fffffff is the "any" that a
+    /// Without RAF_PERMIT_ANY_TUNNEL the only device of tun(4); 0x7fffffff is the "any" that a
     /// client asks for.
     pub tunnel: u32,
 }
@@ -531,99 +531,99 @@ const _: () = assert!(size_of::<Draft>() == 144);
 const _: () = assert!(size_of::<Userauth>() == 104);
 const _: () = assert!(size_of::<HostLogin>() == 64);
 const _: () = assert!(size_of::<Entry>() == 64);
-const _: () = assert!(size_of::<EntryOptionParts>() == 56);
+const _: () = assert!(size_of::<LineOptionParts>() == 56);
 const _: () = assert!(size_of::<TimeSpan>() == 16);
 const _: () = assert!(size_of::<UserGrant>() == 168);
 
 calls! {
     []
-    fn sshkey_version();
-    fn sshkey_abi();
+    fn raf_version();
+    fn raf_abi();
 }
 
 calls! {
     [expect_abi();]
-    fn sshkey_read_line(line: &[u8], room: &mut [u8], answer: &mut Line);
-    fn sshkey_is_other_key_line(line: &[u8]);
-    fn sshkey_authority(line: &[u8], answer: &mut Sha256);
-    fn sshkey_user_authority(line: &[u8], user: &[u8], answer: &mut Sha256);
-    fn sshkey_may_verify(key: &[u8]);
-    fn sshkey_strict_mode(owner: u64, user: u64, mode: u32);
-    fn sshkey_certificate_question(certificate: &[u8], room: &mut [u8], answer: &mut Question);
-    fn sshkey_certificate_validate(
+    fn raf_read_line(line: &[u8], room: &mut [u8], answer: &mut Line);
+    fn raf_is_later_key_line(line: &[u8]);
+    fn raf_authority(line: &[u8], answer: &mut Sha256);
+    fn raf_user_authority(line: &[u8], user: &[u8], answer: &mut Sha256);
+    fn raf_may_verify(key: &[u8]);
+    fn raf_check_safe_mode(owner: u64, user: u64, mode: u32);
+    fn raf_certificate_question(certificate: &[u8], room: &mut [u8], answer: &mut Question);
+    fn raf_check_certificate(
         certificate: &[u8], unix_timestamp: u64, authorities: &[Sha256], is_verified: u32
     );
-    fn sshkey_certificate_validate_for(
+    fn raf_check_certificate_for(
         certificate: &[u8], unix_timestamp: u64, principal: &[u8], authorities: &[Sha256],
         is_verified: u32
     );
-    fn sshkey_certificate_fields(certificate: &[u8], answer: &mut Fields);
-    fn sshkey_certificate_parts(certificate: &[u8], answer: &mut Parts);
-    fn sshkey_next_option(bytes: &[u8], place: usize, answer: &mut CertificateOptionParts);
-    fn sshkey_certificate_key(certificate: &[u8], room: &mut [u8], length: &mut usize);
-    fn sshkey_certificate_to_be_signed(draft: &Draft<'_>, room: &mut [u8], length: &mut usize);
-    fn sshkey_certificate_make(
+    fn raf_certificate_fields(certificate: &[u8], answer: &mut Fields);
+    fn raf_certificate_parts(certificate: &[u8], answer: &mut Parts);
+    fn raf_next_certificate_option(bytes: &[u8], place: usize, answer: &mut CertificateOptionParts);
+    fn raf_certificate_key(certificate: &[u8], room: &mut [u8], length: &mut usize);
+    fn raf_certificate_to_be_signed(draft: &Draft<'_>, room: &mut [u8], length: &mut usize);
+    fn raf_certificate_make(
         to_be_signed: &[u8], signature: &[u8], room: &mut [u8], length: &mut usize
     );
-    fn sshkey_fingerprint(key: &[u8], answer: &mut Sha256);
-    fn sshkey_fingerprint_text(digest: &Sha256, room: &mut [u8]);
-    fn sshkey_fingerprint_sha512(key: &[u8], answer: &mut Sha512);
-    fn sshkey_fingerprint_sha512_text(digest: &Sha512, room: &mut [u8]);
-    fn sshkey_signature_question(
+    fn raf_fingerprint(key: &[u8], answer: &mut Sha256);
+    fn raf_fingerprint_text(digest: &Sha256, room: &mut [u8]);
+    fn raf_fingerprint_sha512(key: &[u8], answer: &mut Sha512);
+    fn raf_fingerprint_sha512_text(digest: &Sha512, room: &mut [u8]);
+    fn raf_signature_question(
         key: &[u8], message: &[u8], signature: &[u8], room: &mut [u8], answer: &mut Question
     );
-    fn sshkey_login_question(login: &Login<'_>, room: &mut [u8], answer: &mut Question);
-    fn sshkey_login_verdict(
+    fn raf_login_question(login: &Login<'_>, room: &mut [u8], answer: &mut Question);
+    fn raf_check_login(
         login: &Login<'_>, is_verified: u32, room: &mut [u8], answer: &mut Grant
     );
-    fn sshkey_userauth_question(request: &Userauth<'_>, room: &mut [u8], answer: &mut Question);
-    fn sshkey_userauth_question_of(
+    fn raf_userauth_question(request: &Userauth<'_>, room: &mut [u8], answer: &mut Question);
+    fn raf_userauth_question_of(
         request: &Userauth<'_>, signed_bytes: &[u8], room: &mut [u8], answer: &mut Question
     );
-    fn sshkey_grant_flags(permits: u32, key: &[u8], signature: &[u8]);
-    fn sshkey_sshsig_question(
+    fn raf_check_grant_flags(permits: u32, key: &[u8], signature: &[u8]);
+    fn raf_sshsig_question(
         signature: &[u8], name_space: &[u8], message: &[u8], room: &mut [u8], answer: &mut Question,
         signer: &mut Sha256
     );
-    fn sshkey_sshsig_question_of_digest(
+    fn raf_sshsig_question_of_digest(
         signature: &[u8], name_space: &[u8], digest: &[u8], room: &mut [u8], answer: &mut Question,
         signer: &mut Sha256
     );
-    fn sshkey_sshsig_verdict(
+    fn raf_check_sshsig(
         signature: &[u8], name_space: &[u8], signers: &[Sha256], is_verified: u32
     );
-    fn sshkey_signer_verdict(
+    fn raf_check_signer(
         signers: &[u8], identity: &[u8], name_space: &[u8], signature: &[u8], unix_timestamp: u64,
         revoked: &[Span<'_>], is_verified: u32
     );
-    fn sshkey_key_normal(key: &[u8], room: &mut [u8], length: &mut usize);
-    fn sshkey_certificate_normal(certificate: &[u8], room: &mut [u8], length: &mut usize);
-    fn sshkey_sshsig_normal(signature: &[u8], room: &mut [u8], length: &mut usize);
-    fn sshkey_signature_normal(signature: &[u8], room: &mut [u8], length: &mut usize);
-    fn sshkey_next_string(bytes: &[u8], place: usize, answer: &mut Part);
-    fn sshkey_revoked_key(revoked: &[Span<'_>], key: &[u8]);
-    fn sshkey_revoked_certificate(revoked: &[Span<'_>], certificate: &[u8]);
-    fn sshkey_krl_revokes_key(krl: &[u8], key: &[u8]);
-    fn sshkey_krl_revokes_certificate(krl: &[u8], certificate: &[u8]);
-    fn sshkey_next_line(text: &[u8], place: usize, answer: &mut Part);
-    fn sshkey_authorized_entry(line: &[u8], room: &mut [u8], answer: &mut Entry);
-    fn sshkey_known_host(line: &[u8], room: &mut [u8], answer: &mut Entry);
-    fn sshkey_next_entry_option(
-        options: &[u8], place: usize, room: &mut [u8], answer: &mut EntryOptionParts
+    fn raf_key_normal(key: &[u8], room: &mut [u8], length: &mut usize);
+    fn raf_certificate_normal(certificate: &[u8], room: &mut [u8], length: &mut usize);
+    fn raf_sshsig_normal(signature: &[u8], room: &mut [u8], length: &mut usize);
+    fn raf_signature_normal(signature: &[u8], room: &mut [u8], length: &mut usize);
+    fn raf_next_string(bytes: &[u8], place: usize, answer: &mut Part);
+    fn raf_check_unrevoked_key(revoked: &[Span<'_>], key: &[u8]);
+    fn raf_check_unrevoked_certificate(revoked: &[Span<'_>], certificate: &[u8]);
+    fn raf_check_unrevoked_key_by_krl(krl: &[u8], key: &[u8]);
+    fn raf_check_unrevoked_certificate_by_krl(krl: &[u8], certificate: &[u8]);
+    fn raf_next_line(text: &[u8], place: usize, answer: &mut Part);
+    fn raf_authorized_entry(line: &[u8], room: &mut [u8], answer: &mut Entry);
+    fn raf_known_host(line: &[u8], room: &mut [u8], answer: &mut Entry);
+    fn raf_next_line_option(
+        options: &[u8], place: usize, room: &mut [u8], answer: &mut LineOptionParts
     );
-    fn sshkey_may_be_for_key(line: &[u8], key: &[u8]);
-    fn sshkey_may_be_for_certificate(line: &[u8], certificate: &[u8]);
-    fn sshkey_host_key_verdict(login: &HostLogin<'_>, key: &[u8]);
-    fn sshkey_host_certificate_verdict(login: &HostLogin<'_>, certificate: &[u8], is_verified: u32);
-    fn sshkey_unreadable_host_line(known_hosts: &[u8], host: &[u8], port: u16, number: &mut usize);
-    fn sshkey_source_address_allows(list: &[u8], address: &[u8]);
-    fn sshkey_from_allows(list: &[u8], host: &[u8], address: &[u8]);
-    fn sshkey_read_time(text: &[u8], answer: &mut TimeSpan);
-    fn sshkey_user_keys_verdict(
+    fn raf_line_may_name_key(line: &[u8], key: &[u8]);
+    fn raf_line_may_name_authority(line: &[u8], certificate: &[u8]);
+    fn raf_check_host_key(login: &HostLogin<'_>, key: &[u8]);
+    fn raf_check_host_certificate(login: &HostLogin<'_>, certificate: &[u8], is_verified: u32);
+    fn raf_unreadable_host_line(known_hosts: &[u8], host: &[u8], port: u16, number: &mut usize);
+    fn raf_check_source_address(list: &[u8], address: &[u8]);
+    fn raf_check_from(list: &[u8], host: &[u8], address: &[u8]);
+    fn raf_read_time(text: &[u8], answer: &mut TimeSpan);
+    fn raf_check_user_keys(
         login: &Login<'_>, text: &[u8], host: &[u8], is_verified: u32, room: &mut [u8],
         answer: &mut UserGrant
     );
-    fn sshkey_principals_verdict(
+    fn raf_check_principals(
         login: &Login<'_>, text: &[u8], host: &[u8], is_verified: u32, room: &mut [u8],
         answer: &mut UserGrant
     );

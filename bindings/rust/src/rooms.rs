@@ -26,7 +26,7 @@ macro_rules! answers {
     };
 }
 
-answers! { Question Line Entry EntryOptionParts Grant }
+answers! { Question Line Entry LineOptionParts Grant }
 
 impl Answer for raw::UserGrant {
     fn length(&self) -> usize {
@@ -59,7 +59,7 @@ pub(crate) fn ask<A: Answer>(
         let mut answer = A::default();
         match Status::of(call(&mut room, &mut answer)) {
             Ok(()) => return Ok((room, answer)),
-            Err(Status::ROOM) if answer.length() > room.len() => room = room_of(answer.length())?,
+            Err(Status::SHORT_BUFFER) if answer.length() > room.len() => room = room_of(answer.length())?,
             Err(status) => return Err(status),
         }
     }

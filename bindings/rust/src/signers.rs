@@ -25,9 +25,9 @@ pub struct Signers<'a> {
 /// digest and in that namespace, counts as the identity's by the allowed signers. `verify` is your
 /// cryptography, which is not asked about a key that may not sign.
 ///
-/// Fails as [`signer_verdict`] does, and as [`sshsig_question_of_digest`] does of a key that may
+/// Fails as [`check_signer_with_answer`] does, and as [`sshsig_question_of_digest`] does of a key that may
 /// sign.
-pub fn judge_signer_of_digest(
+pub fn check_signer_of_digest(
     signature: &[u8],
     namespace: impl AsRef<[u8]>,
     digest: &[u8],
@@ -35,7 +35,7 @@ pub fn judge_signer_of_digest(
     verify: impl FnOnce(&Question) -> bool,
 ) -> Result<(), Status> {
     let namespace = namespace.as_ref();
-    let verdict = |yes| signer_verdict(signature, namespace, by, yes);
+    let verdict = |yes| check_signer_with_answer(signature, namespace, by, yes);
     decide(verdict, || Ok(verify(&sshsig_question_of_digest(signature, namespace, digest)?.0)))
 }
 
@@ -46,16 +46,16 @@ pub fn judge_signer_of_digest(
 ///
 /// Fails with [`Status::NO_IDENTITY`], [`Status::SIGNER_NOT_ALLOWED`],
 /// [`Status::UNREADABLE_REVOCATIONS`], [`Status::REVOKED`] or [`Status::NOT_SIGNED`], the first that holds: ask with `false`
-/// first, and verify only where it fails with the last, as [`judge_signer_of_digest`] does. Fails
+/// first, and verify only where it fails with the last, as [`check_signer_of_digest`] does. Fails
 /// with a number from 10 to 29 where the bytes are no signature, with [`Status::TEXT`] where a text
 /// is not UTF-8, and with [`Status::MEMORY`].
-pub fn signer_verdict(
+pub fn check_signer_with_answer(
     signature: &[u8],
     namespace: impl AsRef<[u8]>,
     by: &Signers<'_>,
     is_verified: bool,
 ) -> Result<(), Status> {
-    Status::of(raw::sshkey_signer_verdict(
+    Status::of(raw::raf_check_signer(
         by.text,
         by.identity,
         namespace.as_ref(),

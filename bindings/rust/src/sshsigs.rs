@@ -28,7 +28,7 @@ fn question_by(
 
 /// What has to be verified of an SSH signature (what stands in its armour, Base64 decoded) of the
 /// message in that namespace, and the fingerprint of the key that signed, which has to be one that
-/// you trust for that namespace: [`judge_sshsig`] asks both. Fails with a number from 10 to 29
+/// you trust for that namespace: [`check_sshsig`] asks both. Fails with a number from 10 to 29
 /// where the bytes are none, with [`Status::OTHER_NAMESPACE`], with [`Status::UNSUPPORTED`] where
 /// key and signature do not go together, and with [`Status::MEMORY`].
 pub fn sshsig_question(
@@ -37,7 +37,7 @@ pub fn sshsig_question(
     message: &[u8],
 ) -> Result<(Question, Sha256), Status> {
     let namespace = namespace.as_ref();
-    question_by(raw::sshkey_sshsig_question, signature, namespace, message)
+    question_by(raw::raf_sshsig_question, signature, namespace, message)
 }
 
 /// The same with the digest of the message in place of the message, so that a long one need not be
@@ -48,15 +48,15 @@ pub fn sshsig_question_of_digest(
     namespace: impl AsRef<[u8]>,
     digest: &[u8],
 ) -> Result<(Question, Sha256), Status> {
-    let (call, namespace) = (raw::sshkey_sshsig_question_of_digest, namespace.as_ref());
+    let (call, namespace) = (raw::raf_sshsig_question_of_digest, namespace.as_ref());
     question_by(call, signature, namespace, digest)
 }
 
 /// Whether an SSH signature is one of the message in that namespace, by one of the signers, which
-/// are those that you trust for it: `verify` answers its question. Fails as [`sshsig_verdict`] does,
+/// are those that you trust for it: `verify` answers its question. Fails as [`check_sshsig_with_answer`] does,
 /// and of a key that may sign as [`sshsig_question`] does. `verify` is not asked about another
 /// signer's key.
-pub fn judge_sshsig(
+pub fn check_sshsig(
     signature: &[u8],
     namespace: impl AsRef<[u8]>,
     message: &[u8],
@@ -64,13 +64,13 @@ pub fn judge_sshsig(
     verify: impl FnOnce(&Question) -> bool,
 ) -> Result<(), Status> {
     let namespace = namespace.as_ref();
-    let verdict = |yes| sshsig_verdict(signature, namespace, signers, yes);
+    let verdict = |yes| check_sshsig_with_answer(signature, namespace, signers, yes);
     decide(verdict, || Ok(verify(&sshsig_question(signature, namespace, message)?.0)))
 }
 
 /// The same of a message with that digest. Fails as [`sshsig_question_of_digest`] and
-/// [`judge_sshsig`] do.
-pub fn judge_sshsig_of_digest(
+/// [`check_sshsig`] do.
+pub fn check_sshsig_of_digest(
     signature: &[u8],
     namespace: impl AsRef<[u8]>,
     digest: &[u8],
@@ -78,7 +78,7 @@ pub fn judge_sshsig_of_digest(
     verify: impl FnOnce(&Question) -> bool,
 ) -> Result<(), Status> {
     let namespace = namespace.as_ref();
-    let verdict = |yes| sshsig_verdict(signature, namespace, signers, yes);
+    let verdict = |yes| check_sshsig_with_answer(signature, namespace, signers, yes);
     decide(verdict, || Ok(verify(&sshsig_question_of_digest(signature, namespace, digest)?.0)))
 }
 
@@ -88,16 +88,16 @@ pub fn judge_sshsig_of_digest(
 ///
 /// Fails with [`Status::SIGNER_NOT_ALLOWED`] or [`Status::NOT_SIGNED`], the first that holds; the
 /// last also for another namespace, and for reserved bytes, which ssh-keygen takes to be empty. Ask
-/// with `false` first, and verify only where it fails with the last, as [`judge_sshsig`] does. Fails
+/// with `false` first, and verify only where it fails with the last, as [`check_sshsig`] does. Fails
 /// with a number from 10 to 29 where the bytes are no signature, and with [`Status::MEMORY`].
-pub fn sshsig_verdict(
+pub fn check_sshsig_with_answer(
     signature: &[u8],
     namespace: impl AsRef<[u8]>,
     signers: &[Sha256],
     is_verified: bool,
 ) -> Result<(), Status> {
     let (namespace, is_verified) = (namespace.as_ref(), u32::from(is_verified));
-    Status::of(raw::sshkey_sshsig_verdict(signature, namespace, signers, is_verified))
+    Status::of(raw::raf_check_sshsig(signature, namespace, signers, is_verified))
 }
 
 /// A hash by which SSH signatures digest their messages.

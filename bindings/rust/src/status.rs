@@ -3,7 +3,7 @@
 use std::fmt;
 use std::num::NonZeroU32;
 
-/// Why a call failed: the number of sshkey.h, which says of each what it means. That a call is
+/// Why a call failed: the number of rafendilo.h, which says of each what it means. That a call is
 /// done is `Ok`, and no `Status`.
 #[derive(Clone, Copy, PartialEq, Eq, PartialOrd, Ord, Hash)]
 #[must_use]
@@ -15,7 +15,7 @@ impl Status {
         NonZeroU32::new(answer).map_or(Ok(()), |number| Err(Status(number)))
     }
 
-    /// The number of sshkey.h.
+    /// The number of rafendilo.h.
     #[must_use]
     pub const fn number(self) -> u32 {
         self.0.get()
@@ -35,7 +35,7 @@ macro_rules! statuses {
         impl Status {
             $($(#[doc = $meaning])+ pub const $name: Status = Status::constant($number);)+
 
-            /// The name of sshkey.h, without `SSHKEY_`, as `sshkey_answer_name` gives it; `no
+            /// The name of rafendilo.h, without `RAF_`, as `raf_status_name` gives it; `no
             /// answer` for a number that has none.
             #[must_use]
             pub const fn name(self) -> &'static str {

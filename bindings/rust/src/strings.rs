@@ -24,7 +24,7 @@ impl<'a> Iterator for Strings<'a> {
 
     fn next(&mut self) -> Option<Self::Item> {
         let mut part = raw::Part::default();
-        match Status::of(raw::sshkey_next_string(self.bytes, self.place, &mut part)) {
+        match Status::of(raw::raf_next_string(self.bytes, self.place, &mut part)) {
             Ok(()) => {
                 self.place = part.end();
                 Some(Ok(part.of(self.bytes)))

@@ -13,6 +13,6 @@ use crate::status::Status;
 /// the start of 1970, and with [`Status::TEXT`] where it is not UTF-8.
 pub fn read_time(text: impl AsRef<[u8]>) -> Result<RangeInclusive<u64>, Status> {
     let mut span = raw::TimeSpan::default();
-    Status::of(raw::sshkey_read_time(text.as_ref(), &mut span))?;
+    Status::of(raw::raf_read_time(text.as_ref(), &mut span))?;
     Ok(span.first..=span.last)
 }

@@ -94,7 +94,7 @@ pub fn log_in_by_keys(
     host: impl AsRef<[u8]>,
     verify: impl FnOnce(&Question) -> bool,
 ) -> Result<UserGrant, Denial> {
-    log_in_by(raw::sshkey_user_keys_verdict, login, text, host.as_ref(), verify)
+    log_in_by(raw::raf_check_user_keys, login, text, host.as_ref(), verify)
 }
 
 /// The same by a text in the form of `AuthorizedPrincipalsFile`, where the login's authorities are
@@ -109,7 +109,7 @@ pub fn log_in_by_principals(
     host: impl AsRef<[u8]>,
     verify: impl FnOnce(&Question) -> bool,
 ) -> Result<UserGrant, Denial> {
-    log_in_by(raw::sshkey_principals_verdict, login, text, host.as_ref(), verify)
+    log_in_by(raw::raf_check_principals, login, text, host.as_ref(), verify)
 }
 
 /// The bytes of a room for what a login is bound to; a longer one is asked for again.

@@ -63,8 +63,8 @@ pub fn userauth_question(request: &Userauth<'_>) -> Result<Question, Status> {
     let parts = [request.session_id, request.public_key, host_key, signed, request.signature];
     let enough = parts.iter().fold(512, |sum: usize, it| sum.saturating_add(it.len()));
     Question::of_call(enough, |room, answer| match request.signed {
-        Some(signed) => raw::sshkey_userauth_question_of(&asked, signed, room, answer),
-        None => raw::sshkey_userauth_question(&asked, room, answer),
+        Some(signed) => raw::raf_userauth_question_of(&asked, signed, room, answer),
+        None => raw::raf_userauth_question(&asked, room, answer),
     })
 }
 
@@ -72,6 +72,6 @@ pub fn userauth_question(request: &Userauth<'_>) -> Result<Question, Status> {
 /// key's, or its flags have what the grant asks for. Fails with [`Status::UNTOUCHED`] or
 /// [`Status::UNVERIFIED`], with a number from 10 to 29 where the bytes are no key, or else no
 /// signature, and with [`Status::MEMORY`].
-pub fn grant_flags(permits: Permits, key: &[u8], signature: &[u8]) -> Result<(), Status> {
-    Status::of(raw::sshkey_grant_flags(permits.bits(), key, signature))
+pub fn check_grant_flags(permits: Permits, key: &[u8], signature: &[u8]) -> Result<(), Status> {
+    Status::of(raw::raf_check_grant_flags(permits.bits(), key, signature))
 }

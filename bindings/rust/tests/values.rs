@@ -1,10 +1,10 @@
 //! What the questions of checks/bindings can't ask.
 
-use sshkey::{Authorities, Draft, HostLogin, Listed, Permits, Question, Status};
+use rafendilo::{Authorities, Draft, HostLogin, Listed, Permits, Question, Status};
 
 /// Strings, one after the other (RFC 4251, section 5).
 fn strings(parts: &[&[u8]]) -> Vec<u8> {
-    parts.iter().flat_map(|it| sshkey::string(it).unwrap()).collect()
+    parts.iter().flat_map(|it| rafendilo::string(it).unwrap()).collect()
 }
 
 /// The blob of an Ed25519 key with these bytes.
@@ -15,7 +15,7 @@ fn ed25519(bytes: &[u8; 32]) -> Vec<u8> {
 #[test]
 fn a_draft_is_refused_where_something_is_left_out() {
     let key = ed25519(b"the thirty-two bytes of some key");
-    let refusal = |draft| sshkey::certificate_to_be_signed(&draft).err();
+    let refusal = |draft| rafendilo::certificate_to_be_signed(&draft).err();
     let draft = Draft { key: &key, authority: &key, nonce: &[0; 16], ..Draft::default() };
     assert_eq!(refusal(draft), Some(Status::EMPTY_WINDOW));
     let draft = Draft { valid_before: 1, ..draft };
@@ -29,36 +29,36 @@ fn a_draft_is_refused_where_something_is_left_out() {
 fn values_go_from_thread_to_thread() {
     fn shared<T: Send + Sync + 'static>() {}
     shared::<Question>();
-    shared::<sshkey::CertificateContents<'static>>();
-    shared::<sshkey::EntryOption>();
+    shared::<rafendilo::CertificateContents<'static>>();
+    shared::<rafendilo::LineOption>();
     shared::<Draft<'static>>();
-    shared::<sshkey::Login<'static>>();
+    shared::<rafendilo::Login<'static>>();
     shared::<HostLogin<'static>>();
-    shared::<sshkey::Userauth<'static>>();
-    shared::<sshkey::Grant>();
-    shared::<sshkey::UserGrant>();
-    shared::<sshkey::Denial>();
+    shared::<rafendilo::Userauth<'static>>();
+    shared::<rafendilo::Grant>();
+    shared::<rafendilo::UserGrant>();
+    shared::<rafendilo::Denial>();
     shared::<Status>();
 }
 
 #[test]
 fn no_file_is_not_no_revocation() {
     let key = ed25519(b"the thirty-two bytes of some key");
-    assert_eq!(sshkey::revoked_key(sshkey::NO_REVOCATIONS, &key), Ok(false));
-    assert_eq!(sshkey::revoked_key(&[], &key), Err(Status::UNREADABLE_REVOCATIONS));
+    assert_eq!(rafendilo::check_unrevoked_key(rafendilo::NO_REVOCATIONS, &key), Ok(false));
+    assert_eq!(rafendilo::check_unrevoked_key(&[], &key), Err(Status::UNREADABLE_REVOCATIONS));
     let login = HostLogin {
         known_hosts: &[
             b"h ssh-ed25519 AAAAC3NzaC1lZDI1NTE5AAAAIHRoZSB0aGlydHktdHdvIGJ5dGVzIG9mIHNvbWUga2V5",
         ],
         host: b"h",
         port: 22,
-        revoked: sshkey::NO_REVOCATIONS,
+        revoked: rafendilo::NO_REVOCATIONS,
         unix_timestamp: 0,
         least_rsa_bits: 0,
     };
-    assert_eq!(sshkey::check_host_key(&login, &key), Ok(()));
+    assert_eq!(rafendilo::check_host_key(&login, &key), Ok(()));
     let login = HostLogin { revoked: &[], ..login };
-    assert_eq!(sshkey::check_host_key(&login, &key), Err(Status::UNREADABLE_REVOCATIONS));
+    assert_eq!(rafendilo::check_host_key(&login, &key), Err(Status::UNREADABLE_REVOCATIONS));
 }
 
 #[test]
@@ -66,9 +66,9 @@ fn a_later_kind_of_key_is_passed_over() {
     let line = "ssh-ed25519 AAAAC3NzaC1lZDI1NTE5AAAAIHRoZSB0aGlydHktdHdvIGJ5dGVzIG9mIHNvbWUga2V5";
     // the string "ssh-later", and four bytes
     let later = "ssh-later AAAACXNzaC1sYXRlcgAAAAA=";
-    let key = sshkey::fingerprint(&ed25519(b"the thirty-two bytes of some key")).unwrap();
-    let found = |lines: &[&str]| sshkey::authorities(lines.join("\n").as_bytes());
-    let both = Authorities { keys: vec![key, key], other_lines: vec![4] };
+    let key = rafendilo::fingerprint(&ed25519(b"the thirty-two bytes of some key")).unwrap();
+    let found = |lines: &[&str]| rafendilo::authorities(lines.join("\n").as_bytes());
+    let both = Authorities { keys: vec![key, key], later_lines: vec![4] };
     assert_eq!(found(&["# keys", line, "", later, line]), Ok(both));
     // the string "ssh-other" stands in the third line
     let refused = found(&[later, "", "ssh-later AAAACXNzaC1vdGhlcgAAAAA=", line]).unwrap_err();

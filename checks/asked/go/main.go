@@ -15,58 +15,58 @@ import (
 	"strings"
 	"time"
 
-	"rafendilo.example/go/sshkey"
+	"rafendilo.example/go/rafendilo"
 )
 
 // answers are the words after 0, or why there are none.
 var answers = map[string]func(of []string) ([]string, error){
 	"certificate": func(of []string) ([]string, error) {
-		return asked(sshkey.CertificateQuestion(data(of[0])))
+		return asked(rafendilo.CertificateQuestion(data(of[0])))
 	},
 	"signature": func(of []string) ([]string, error) { return asked(signature(of)) },
 	"sshsig": func(of []string) ([]string, error) {
-		return signed(sshkey.SSHSigQuestion(data(of[0]), text(of[1]), data(of[2])))
+		return signed(rafendilo.SSHSigQuestion(data(of[0]), text(of[1]), data(of[2])))
 	},
 	"sshsig-of-digest": func(of []string) ([]string, error) {
-		return signed(sshkey.SSHSigQuestionOfDigest(data(of[0]), text(of[1]), data(of[2])))
+		return signed(rafendilo.SSHSigQuestionOfDigest(data(of[0]), text(of[1]), data(of[2])))
 	},
 	"sshsig-hash": sshsigHash,
 	"sshsig-reserved": func(of []string) ([]string, error) {
-		return made(sshkey.SSHSigReserved(data(of[0])))
+		return made(rafendilo.SSHSigReserved(data(of[0])))
 	},
 	"is-sshsig": func(of []string) ([]string, error) {
-		return nil, sshkey.ValidateSSHSig(data(of[0]), text(of[1]), data(of[2]), digests(of[3]), nil)
+		return nil, rafendilo.CheckSSHSig(data(of[0]), text(of[1]), data(of[2]), digests(of[3]), nil)
 	},
 	"is-sshsig-of-digest": func(of []string) ([]string, error) {
 		by := digests(of[3])
-		return nil, sshkey.ValidateSSHSigOfDigest(data(of[0]), text(of[1]), data(of[2]), by, nil)
+		return nil, rafendilo.CheckSSHSigOfDigest(data(of[0]), text(of[1]), data(of[2]), by, nil)
 	},
 	"is-signer": func(of []string) ([]string, error) {
-		return nil, sshkey.ValidateSignerOfDigest(data(of[3]), text(of[2]), data(of[6]), signers(of))
+		return nil, rafendilo.CheckSignerOfDigest(data(of[3]), text(of[2]), data(of[6]), signers(of))
 	},
 	"is-signature": func(of []string) ([]string, error) {
 		question, err := signature(of)
-		return []string{bit(sshkey.IsSignature(question))}, err
+		return []string{bit(rafendilo.IsSignature(question))}, err
 	},
 	"fields": fields,
 	"lists":  lists,
 	"certificate-options": func(of []string) ([]string, error) {
-		found, err := sshkey.Options(data(of[0]))
+		found, err := rafendilo.Options(data(of[0]))
 		return pairs(found, ""), err
 	},
 	"strings": func(of []string) ([]string, error) {
-		found, err := sshkey.Strings(data(of[0]))
+		found, err := rafendilo.Strings(data(of[0]))
 		return wordsOf(found), err
 	},
 	"key": key,
 	"line": func(of []string) ([]string, error) {
-		found, err := sshkey.ReadLine(text(of[0]))
+		found, err := rafendilo.ReadLine(text(of[0]))
 		return []string{bit(found.IsCertificate), word(found.Blob), word(found.Comment)}, err
 	},
 	"normal": func(of []string) ([]string, error) {
 		return made(map[string]func([]byte) ([]byte, error){
-			"key": sshkey.NormalKey, "certificate": sshkey.NormalCertificate,
-			"sshsig": sshkey.NormalSSHSig, "signature": sshkey.NormalSignature,
+			"key": rafendilo.NormalKey, "certificate": rafendilo.NormalCertificate,
+			"sshsig": rafendilo.NormalSSHSig, "signature": rafendilo.NormalSignature,
 		}[of[0]](data(of[1])))
 	},
 	"draft": func(of []string) ([]string, error) {
@@ -82,104 +82,104 @@ var answers = map[string]func(of []string) ([]string, error){
 			return nil, err
 		}
 		sign := func([]byte) ([]byte, error) { return data(of[12]), nil }
-		return made(sshkey.MakeCertificate(draft, sign))
+		return made(rafendilo.MakeCertificate(draft, sign))
 	},
 	"join": func(of []string) ([]string, error) {
-		return made(sshkey.JoinCertificate(data(of[0]), data(of[1])))
+		return made(rafendilo.JoinCertificate(data(of[0]), data(of[1])))
 	},
 	"lines": func(of []string) ([]string, error) {
-		return wordsOf(sshkey.EntryLines(text(of[0]))), nil
+		return wordsOf(rafendilo.EntryLines(text(of[0]))), nil
 	},
 	"entry": func(of []string) ([]string, error) {
-		found, err := sshkey.AuthorizedEntry(text(of[0]))
+		found, err := rafendilo.AuthorizedEntry(text(of[0]))
 		return []string{"0", word(found.Options), word(found.Key), word(found.Comment)}, err
 	},
 	"host": func(of []string) ([]string, error) {
-		found, err := sshkey.KnownHost(text(of[0]))
+		found, err := rafendilo.KnownHost(text(of[0]))
 		marker := strconv.FormatUint(uint64(found.Marker), 10)
 		return []string{marker, word(found.Hosts), word(found.Key), word(found.Comment)}, err
 	},
 	"options": options,
 	"log-in":  logIn,
 	"host-key": func(of []string) ([]string, error) {
-		return nil, sshkey.CheckHostKey(hostLogin(of), data(of[2]))
+		return nil, rafendilo.CheckHostKey(hostLogin(of), data(of[2]))
 	},
 	"host-certificate": func(of []string) ([]string, error) {
 		login := hostLogin(of)
 		login.Now = at(of[6])
-		return nil, sshkey.CheckHostCertificate(login, data(of[2]))
+		return nil, rafendilo.CheckHostCertificate(login, data(of[2]))
 	},
 	"userauth": func(of []string) ([]string, error) {
-		return asked(sshkey.UserauthQuestion(request(of[:6], of[6:], nil)))
+		return asked(rafendilo.UserauthQuestion(request(of[:6], of[6:], nil)))
 	},
 	"userauth-of": func(of []string) ([]string, error) {
-		return asked(sshkey.UserauthQuestion(request(of[:6], of[7:], file(of[6]))))
+		return asked(rafendilo.UserauthQuestion(request(of[:6], of[7:], file(of[6]))))
 	},
 	"is-userauth": func(of []string) ([]string, error) {
-		return nil, sshkey.CheckUserauth(request(of[:6], of[6:], nil))
+		return nil, rafendilo.CheckUserauth(request(of[:6], of[6:], nil))
 	},
 	"flags": func(of []string) ([]string, error) {
-		return nil, sshkey.GrantFlags(sshkey.Permits(number(of[2])), data(of[0]), data(of[1]))
+		return nil, rafendilo.CheckGrantFlags(rafendilo.Permits(number(of[2])), data(of[0]), data(of[1]))
 	},
 	"unreadable-line": unreadableLine,
 	"other-key-line": func(of []string) ([]string, error) {
-		isOther, err := sshkey.IsOtherKeyLine(text(of[0]))
+		isOther, err := rafendilo.IsLaterKeyLine(text(of[0]))
 		if err == nil && !isOther {
-			err = sshkey.ErrLabel
+			err = rafendilo.ErrLabel
 		}
 		return nil, err
 	},
 	"line-authority": func(of []string) ([]string, error) {
-		return authority(sshkey.Authorities(text(of[0])))
+		return authority(rafendilo.Authorities(text(of[0])))
 	},
 	"user-authority": func(of []string) ([]string, error) {
-		return authority(sshkey.UserAuthorities(text(of[0]), text(of[1])))
+		return authority(rafendilo.UserAuthorities(text(of[0]), text(of[1])))
 	},
 	"for-key": func(of []string) ([]string, error) {
-		return mayBe(sshkey.MayBeForKey(text(of[0]), data(of[1])))
+		return mayBe(rafendilo.LineMayNameKey(text(of[0]), data(of[1])))
 	},
 	"for-certificate": func(of []string) ([]string, error) {
-		return mayBe(sshkey.MayBeForCertificate(text(of[0]), data(of[1])))
+		return mayBe(rafendilo.LineMayNameAuthority(text(of[0]), data(of[1])))
 	},
 	"may-verify": func(of []string) ([]string, error) {
-		yes, err := sshkey.MayVerify(data(of[0]))
+		yes, err := rafendilo.MayVerify(data(of[0]))
 		if err == nil && !yes {
-			err = sshkey.ErrKeyNotAccepted
+			err = rafendilo.ErrKeyNotAccepted
 		}
 		return nil, err
 	},
-	"strict-mode": func(of []string) ([]string, error) {
-		if !sshkey.StrictMode(number(of[0]), number(of[1]), uint32(number(of[2]))) {
-			return nil, sshkey.ErrUnsafeMode
+	"safe-mode": func(of []string) ([]string, error) {
+		if !rafendilo.IsSafeMode(number(of[0]), number(of[1]), uint32(number(of[2]))) {
+			return nil, rafendilo.ErrUnsafeMode
 		}
 		return nil, nil
 	},
 	"time": func(of []string) ([]string, error) {
-		first, last, err := sshkey.ReadTime(text(of[0]))
+		first, last, err := rafendilo.ReadTime(text(of[0]))
 		seconds := []string{fmt.Sprint(first.Unix()), fmt.Sprint(last.Unix())}
 		return seconds, err
 	},
 	"signer": func(of []string) ([]string, error) {
-		return nil, sshkey.SignerVerdict(data(of[3]), text(of[2]), signers(of), of[6] == "1")
+		return nil, rafendilo.CheckSignerWithAnswer(data(of[3]), text(of[2]), signers(of), of[6] == "1")
 	},
-	"revoked-key": func(of []string) ([]string, error) {
-		return revoked(sshkey.RevokedKey(files(of[0]), data(of[1])))
+	"unrevoked-key": func(of []string) ([]string, error) {
+		return revoked(rafendilo.CheckUnrevokedKey(files(of[0]), data(of[1])))
 	},
-	"revoked-certificate": func(of []string) ([]string, error) {
-		return revoked(sshkey.RevokedCertificate(files(of[0]), data(of[1])))
+	"unrevoked-certificate": func(of []string) ([]string, error) {
+		return revoked(rafendilo.CheckUnrevokedCertificate(files(of[0]), data(of[1])))
 	},
-	"revokes-key": func(of []string) ([]string, error) {
-		return revoked(sshkey.KRLRevokesKey(data(of[0]), data(of[1])))
+	"unrevoked-key-by-krl": func(of []string) ([]string, error) {
+		return revoked(rafendilo.CheckUnrevokedKeyByKRL(data(of[0]), data(of[1])))
 	},
-	"revokes-certificate": func(of []string) ([]string, error) {
-		return revoked(sshkey.KRLRevokesCertificate(data(of[0]), data(of[1])))
+	"unrevoked-certificate-by-krl": func(of []string) ([]string, error) {
+		return revoked(rafendilo.CheckUnrevokedCertificateByKRL(data(of[0]), data(of[1])))
 	},
 }
 
 // said are whole answers, without a 0.
 var said = map[string]func(of []string) string{
-	"validate": validate, "addresses": addresses, "log-in-by-keys": logInBy(sshkey.LogInByKeys),
-	"log-in-by-principals": logInBy(sshkey.LogInByPrincipals),
+	"validate": validate, "addresses": addresses, "log-in-by-keys": logInBy(rafendilo.LogInByKeys),
+	"log-in-by-principals": logInBy(rafendilo.LogInByPrincipals),
 }
 
 func main() {
@@ -206,16 +206,16 @@ func main() {
 // numberOf is that of a Status, 0 for nil.
 func mayBe(yes bool, err error) ([]string, error) {
 	if err == nil && !yes {
-		err = sshkey.Status(3) // SSHKEY_END
+		err = rafendilo.Status(3) // RAF_END
 	}
 	return nil, err
 }
 
-func authority(keys []sshkey.SHA256, others []int, err error) ([]string, error) {
+func authority(keys []rafendilo.SHA256, others []int, err error) ([]string, error) {
 	if err == nil && len(keys) == 0 {
-		err = sshkey.Status(3) // SSHKEY_END
+		err = rafendilo.Status(3) // RAF_END
 		if len(others) > 0 {
-			err = sshkey.ErrLaterKey
+			err = rafendilo.ErrLaterKey
 		}
 	}
 	if err != nil {
@@ -225,7 +225,7 @@ func authority(keys []sshkey.SHA256, others []int, err error) ([]string, error) 
 }
 
 func numberOf(err error) string {
-	var status sshkey.Status
+	var status rafendilo.Status
 	if err != nil && !errors.As(err, &status) {
 		panic(err)
 	}
@@ -299,10 +299,10 @@ func bit(yes bool) string {
 	return "0"
 }
 
-func digests(word string) []sshkey.SHA256 {
-	found := []sshkey.SHA256{}
+func digests(word string) []rafendilo.SHA256 {
+	found := []rafendilo.SHA256{}
 	for all := data(word); len(all) >= 32; all = all[32:] {
-		found = append(found, *(*sshkey.SHA256)(all))
+		found = append(found, *(*rafendilo.SHA256)(all))
 	}
 	return found
 }
@@ -327,22 +327,22 @@ func pairs(options map[string]string, front string) []string {
 
 // ---- questions
 
-func signature(of []string) (sshkey.Question, error) {
-	return sshkey.SignatureQuestion(data(of[0]), data(of[1]), data(of[2]))
+func signature(of []string) (rafendilo.Question, error) {
+	return rafendilo.SignatureQuestion(data(of[0]), data(of[1]), data(of[2]))
 }
 
-func asked(question sshkey.Question, err error) ([]string, error) {
+func asked(question rafendilo.Question, err error) ([]string, error) {
 	parts := wordsOf([][]byte{question.Key, question.Message, question.Signature})
 	return append([]string{strconv.FormatUint(uint64(question.Algorithm), 10)}, parts...), err
 }
 
-func signed(question sshkey.Question, signer sshkey.SHA256, err error) ([]string, error) {
+func signed(question rafendilo.Question, signer rafendilo.SHA256, err error) ([]string, error) {
 	found, err := asked(question, err)
 	return append(found, word(signer[:])), err
 }
 
 func sshsigHash(of []string) ([]string, error) {
-	hash, err := sshkey.SSHSigHash(data(of[0]))
+	hash, err := rafendilo.SSHSigHash(data(of[0]))
 	names := map[crypto.Hash]string{crypto.SHA256: "sha256", crypto.SHA512: "sha512"}
 	if err == nil && !hash.Available() {
 		panic(hash)
@@ -352,29 +352,29 @@ func sshsigHash(of []string) ([]string, error) {
 
 func validate(of []string) string {
 	certificate, now, by, questions := data(of[0]), at(of[1]), digests(of[3]), 0
-	verify := func(sshkey.Question) bool {
+	verify := func(rafendilo.Question) bool {
 		questions++
 		return of[4] == "1"
 	}
 	var err error
 	if of[2] == "*" {
-		err = sshkey.ValidateCertificate(certificate, now, by, verify)
+		err = rafendilo.CheckCertificate(certificate, now, by, verify)
 	} else {
-		err = sshkey.ValidateCertificateFor(certificate, now, text(of[2]), by, verify)
+		err = rafendilo.CheckCertificateFor(certificate, now, text(of[2]), by, verify)
 	}
 	return numberOf(err) + " " + strconv.Itoa(questions)
 }
 
-func loginOf(of, numbers []string) sshkey.Login {
+func loginOf(of, numbers []string) rafendilo.Login {
 	client, _ := netip.AddrFromSlice(data(of[3]))
-	return sshkey.Login{
+	return rafendilo.Login{
 		Certificate: data(of[0]), User: text(of[1]), Key: data(of[2]), Client: client,
 		Authorities: digests(of[4]), Revoked: files(of[5]), Now: at(numbers[0]),
-		LeastRSABits: uint32(number(numbers[1])), JudgesAddress: numbers[2] == "1",
+		LeastRSABits: uint32(number(numbers[1])), CallerChecksAddress: numbers[2] == "1",
 	}
 }
 
-type byText func(sshkey.Login, []byte, string) (sshkey.UserGrant, error)
+type byText func(rafendilo.Login, []byte, string) (rafendilo.UserGrant, error)
 
 func logInBy(call byText) func([]string) string {
 	return func(of []string) string {
@@ -382,7 +382,7 @@ func logInBy(call byText) func([]string) string {
 	}
 }
 
-func userGrant(grant sshkey.UserGrant, err error) string {
+func userGrant(grant rafendilo.UserGrant, err error) string {
 	if err != nil {
 		return numberOf(err) + " " + strconv.Itoa(grant.Line)
 	}
@@ -400,7 +400,7 @@ func userGrant(grant sshkey.UserGrant, err error) string {
 func stringsOf(contents ...string) []byte {
 	found := []byte{}
 	for _, content := range contents {
-		one, err := sshkey.JoinStrings([]byte(content))
+		one, err := rafendilo.JoinStrings([]byte(content))
 		if err != nil {
 			panic(err)
 		}
@@ -410,7 +410,7 @@ func stringsOf(contents ...string) []byte {
 }
 
 // places are the hosts and ports as the library lays them out.
-func places(all []sshkey.Place) []byte {
+func places(all []rafendilo.Place) []byte {
 	found := []byte{}
 	for _, place := range all {
 		port := string([]byte{byte(place.Port >> 8), byte(place.Port)})
@@ -423,13 +423,13 @@ func places(all []sshkey.Place) []byte {
 }
 
 func logIn(of []string) ([]string, error) {
-	grant, err := sshkey.LogIn(loginOf(of, of[6:]))
+	grant, err := rafendilo.LogIn(loginOf(of, of[6:]))
 	numbers := fmt.Sprint(uint32(grant.Permits), grant.Serial)
 	return []string{numbers, word(grant.Authority[:]), word(grant.ForceCommand), word(grant.KeyID)}, err
 }
 
-func hostLogin(of []string) sshkey.HostLogin {
-	login := sshkey.HostLogin{
+func hostLogin(of []string) rafendilo.HostLogin {
+	login := rafendilo.HostLogin{
 		Host: text(of[1]), Port: uint16(number(of[4])), Revoked: files(of[3]),
 		LeastRSABits: uint32(number(of[5])),
 	}
@@ -440,18 +440,18 @@ func hostLogin(of []string) sshkey.HostLogin {
 }
 
 func unreadableLine(of []string) ([]string, error) {
-	found, err := sshkey.UnreadableHostLine(text(of[0]), text(of[1]), uint16(number(of[2])))
+	found, err := rafendilo.UnreadableHostLine(text(of[0]), text(of[1]), uint16(number(of[2])))
 	if err == nil && found == 0 { // there is none
-		err = sshkey.Status(3)
+		err = rafendilo.Status(3)
 	}
 	return []string{strconv.Itoa(found)}, err
 }
 
 // request is a client's; the signed bytes are nil where they are to be made.
-func request(of, numbers []string, signed []byte) sshkey.Userauth {
-	found := sshkey.Userauth{
+func request(of, numbers []string, signed []byte) rafendilo.Userauth {
+	found := rafendilo.Userauth{
 		SessionID: data(of[0]), User: text(of[1]), Algorithm: text(of[2]), PublicKey: data(of[3]),
-		Signature: data(of[5]), Permits: sshkey.Permits(number(numbers[1])), Signed: signed,
+		Signature: data(of[5]), Permits: rafendilo.Permits(number(numbers[1])), Signed: signed,
 	}
 	if numbers[0] != "0" {
 		found.HostKey = file(of[4])
@@ -459,8 +459,8 @@ func request(of, numbers []string, signed []byte) sshkey.Userauth {
 	return found
 }
 
-func signers(of []string) sshkey.Signers {
-	return sshkey.Signers{
+func signers(of []string) rafendilo.Signers {
+	return rafendilo.Signers{
 		Text: text(of[0]), Identity: text(of[1]), Revoked: files(of[4]), Now: at(of[5]),
 	}
 }
@@ -468,8 +468,8 @@ func signers(of []string) sshkey.Signers {
 func addresses(of []string) string {
 	list, host := text(of[0]), text(of[2])
 	address, _ := netip.AddrFromSlice(data(of[1]))
-	return numberOf(sshkey.SourceAddressAllows(list, address)) + " " +
-		numberOf(sshkey.FromAllows(list, host, address))
+	return numberOf(rafendilo.CheckSourceAddress(list, address)) + " " +
+		numberOf(rafendilo.CheckFrom(list, host, address))
 }
 
 func revoked(yes bool, err error) ([]string, error) {
@@ -479,13 +479,13 @@ func revoked(yes bool, err error) ([]string, error) {
 // ---- what is listed
 
 func fields(of []string) ([]string, error) {
-	found, err := sshkey.CertificateFields(data(of[0]))
+	found, err := rafendilo.CertificateFields(data(of[0]))
 	numbers := fmt.Sprint(found.Serial, found.ValidAfter, found.ValidBefore, found.Type)
 	return []string{numbers, bit(found.ListsPrincipals), bit(found.HasCriticalOptions)}, err
 }
 
 func lists(of []string) ([]string, error) {
-	contents, err := sshkey.CertificateContents(data(of[0]))
+	contents, err := rafendilo.CertificateContents(data(of[0]))
 	found := []string{word(contents.KeyID), word(contents.Key), word(contents.Authority)}
 	for _, name := range contents.Principals {
 		found = append(found, "principal="+word(name))
@@ -495,21 +495,21 @@ func lists(of []string) ([]string, error) {
 }
 
 // draftOf is the draft whose lists stand in the words as a certificate has them.
-func draftOf(of []string) (sshkey.Draft, error) {
-	principals, err := sshkey.Strings(data(of[3]))
+func draftOf(of []string) (rafendilo.Draft, error) {
+	principals, err := rafendilo.Strings(data(of[3]))
 	if err != nil {
-		return sshkey.Draft{}, err
+		return rafendilo.Draft{}, err
 	}
-	critical, err := sshkey.Options(data(of[4]))
+	critical, err := rafendilo.Options(data(of[4]))
 	if err != nil {
-		return sshkey.Draft{}, err
+		return rafendilo.Draft{}, err
 	}
-	extensions, err := sshkey.Options(data(of[5]))
-	draft := sshkey.Draft{
+	extensions, err := rafendilo.Options(data(of[5]))
+	draft := rafendilo.Draft{
 		Key: data(of[0]), Nonce: data(of[1]), KeyID: text(of[2]), Authority: data(of[6]),
 		CriticalOptions: critical, Extensions: extensions, Serial: number(of[7]),
-		ValidAfter: sshkey.Second(number(of[8])), ValidBefore: sshkey.Second(number(of[9])),
-		Type: sshkey.CertificateType(number(of[10])), AllPrincipals: of[11] == "1",
+		ValidAfter: rafendilo.Second(number(of[8])), ValidBefore: rafendilo.Second(number(of[9])),
+		Type: rafendilo.CertificateType(number(of[10])), AllPrincipals: of[11] == "1",
 	}
 	for _, name := range principals {
 		draft.Principals = append(draft.Principals, string(name))
@@ -518,16 +518,16 @@ func draftOf(of []string) (sshkey.Draft, error) {
 }
 
 func key(of []string) ([]string, error) {
-	short, err := sshkey.Fingerprint(data(of[0]))
+	short, err := rafendilo.Fingerprint(data(of[0]))
 	if err != nil {
 		return nil, err
 	}
-	long, err := sshkey.FingerprintSHA512(data(of[0]))
+	long, err := rafendilo.FingerprintSHA512(data(of[0]))
 	return []string{word(short[:]), short.String(), word(long[:]), long.String()}, err
 }
 
 func options(of []string) ([]string, error) {
-	all, err := sshkey.EntryOptions(text(of[0]))
+	all, err := rafendilo.LineOptions(text(of[0]))
 	found := []string{}
 	for _, option := range all {
 		shown := word(option.Name)

@@ -4,7 +4,7 @@
 use std::io::{self, BufRead};
 use std::net::IpAddr;
 
-use sshkey::{
+use rafendilo::{
     is_signature, CertificateType, Denial, Draft, HashAlgorithm, HostLogin, Listed, Login, Permits,
     Place, Principal, Question, Sha256, Signers, Status, UserGrant, Userauth,
 };
@@ -75,7 +75,7 @@ fn signed(found: Result<(Question, Sha256), Status>) -> Answer {
 }
 
 fn sshsig_hash(signature: &[u8]) -> Answer {
-    let name = match sshkey::sshsig_hash(signature)? {
+    let name = match rafendilo::sshsig_hash(signature)? {
         HashAlgorithm::Sha256 => "sha256",
         HashAlgorithm::Sha512 => "sha512",
     };
@@ -86,9 +86,9 @@ fn is_sshsig(what: &str, given: &[&str]) -> Answer {
     let (signature, space, covered) = (data(given[0]), data(given[1]), data(given[2]));
     let by = digests(given[3]);
     Ok(number_of(if what == "is-sshsig" {
-        sshkey::judge_sshsig(&signature, space, &covered, &by, is_signature)
+        rafendilo::check_sshsig(&signature, space, &covered, &by, is_signature)
     } else {
-        sshkey::judge_sshsig_of_digest(&signature, space, &covered, &by, is_signature)
+        rafendilo::check_sshsig_of_digest(&signature, space, &covered, &by, is_signature)
     }))
 }
 
@@ -105,7 +105,7 @@ fn validate(given: &[&str]) -> Answer {
         questions += 1;
         yes
     };
-    let answer = sshkey::judge_certificate(&blob, second, principal, &digests(given[3]), verify);
+    let answer = rafendilo::check_certificate(&blob, second, principal, &digests(given[3]), verify);
     Ok(format!("{} {questions}", number_of(answer)))
 }
 
@@ -129,12 +129,12 @@ fn with_login<T>(given: &[&str], numbers: &[&str], say: impl FnOnce(&Login<'_>) 
         authorities: &authorities,
         revoked: &lent(&revoked),
         least_rsa_bits: number(numbers[1]).try_into().expect("a number of bits"),
-        judges_address: numbers[2] == "1",
+        caller_checks_address: numbers[2] == "1",
     })
 }
 
 fn log_in(given: &[&str]) -> Answer {
-    let grant = with_login(given, &given[6..], |login| sshkey::log_in(login, is_signature))?;
+    let grant = with_login(given, &given[6..], |login| rafendilo::log_in(login, is_signature))?;
     let command = grant.force_command.as_deref();
     assert_eq!(command.is_none(), grant.permits.contains(Permits::ANY_COMMAND));
     let numbers = [u64::from(grant.permits.bits()), grant.serial].map(|it| it.to_string());
@@ -144,13 +144,13 @@ fn log_in(given: &[&str]) -> Answer {
 
 fn log_in_by_keys(given: &[&str]) -> Answer {
     user_grant(with_login(given, &given[8..], |login| {
-        sshkey::log_in_by_keys(login, &data(given[6]), data(given[7]), is_signature)
+        rafendilo::log_in_by_keys(login, &data(given[6]), data(given[7]), is_signature)
     }))
 }
 
 fn log_in_by_principals(given: &[&str]) -> Answer {
     user_grant(with_login(given, &given[8..], |login| {
-        sshkey::log_in_by_principals(login, &data(given[6]), data(given[7]), is_signature)
+        rafendilo::log_in_by_principals(login, &data(given[6]), data(given[7]), is_signature)
     }))
 }
 
@@ -176,7 +176,7 @@ fn user_grant(said: Result<UserGrant, Denial>) -> Answer {
 }
 
 fn string(content: impl AsRef<[u8]>) -> Vec<u8> {
-    sshkey::string(content).expect("a string")
+    rafendilo::string(content).expect("a string")
 }
 
 /// The hosts and ports as the library lays them out.
@@ -198,15 +198,15 @@ fn host_verdict(what: &str, given: &[&str]) -> String {
         least_rsa_bits: number(given[5]).try_into().expect("a number of bits"),
     };
     number_of(if what == "host-key" {
-        sshkey::check_host_key(&login, &shown)
+        rafendilo::check_host_key(&login, &shown)
     } else {
-        sshkey::check_host_certificate(&login, &shown, is_signature)
+        rafendilo::check_host_certificate(&login, &shown, is_signature)
     })
 }
 
 fn unreadable_line(given: &[&str]) -> Answer {
     let port = given[2].parse().expect("a port");
-    let found = sshkey::unreadable_host_line(&data(given[0]), data(given[1]), port)?;
+    let found = rafendilo::unreadable_host_line(&data(given[0]), data(given[1]), port)?;
     found.map_or(Err(Status::END), |line| words([line.to_string()]))
 }
 
@@ -229,24 +229,24 @@ fn userauth(what: &str, given: &[&str]) -> Answer {
         permits: Permits::from_bits(numbers[1].parse().expect("bits")),
     };
     if what == "is-userauth" {
-        return Ok(number_of(sshkey::check_userauth(&request, is_signature)));
+        return Ok(number_of(rafendilo::check_userauth(&request, is_signature)));
     }
-    asked(&sshkey::userauth_question(&request)?, None)
+    asked(&rafendilo::userauth_question(&request)?, None)
 }
 
 fn flags(given: &[&str]) -> String {
     let permits = Permits::from_bits(given[2].parse().expect("bits"));
-    number_of(sshkey::grant_flags(permits, &data(given[0]), &data(given[1])))
+    number_of(rafendilo::check_grant_flags(permits, &data(given[0]), &data(given[1])))
 }
 
 fn other_key_line(line: &[u8]) -> Answer {
-    let is_other = sshkey::is_other_key_line(line)?;
+    let is_other = rafendilo::is_later_key_line(line)?;
     Ok(number_of(if is_other { Ok(()) } else { Err(Status::LABEL) }))
 }
 
-fn authority(found: Result<sshkey::Authorities, sshkey::NoKey>) -> Answer {
+fn authority(found: Result<rafendilo::Authorities, rafendilo::NoKey>) -> Answer {
     let found = found.map_err(|it| it.status)?;
-    match (found.keys.first(), found.other_lines.first()) {
+    match (found.keys.first(), found.later_lines.first()) {
         (Some(key), _) => words([word(&key.bytes)]),
         (None, Some(_)) => Err(Status::LATER_KEY),
         (None, None) => Err(Status::END),
@@ -258,20 +258,20 @@ fn may_be(found: Result<bool, Status>) -> Answer {
 }
 
 fn may_verify(key: &[u8]) -> Answer {
-    let yes = sshkey::may_verify(key)?;
+    let yes = rafendilo::may_verify(key)?;
     Ok(number_of(if yes { Ok(()) } else { Err(Status::KEY_NOT_ACCEPTED) }))
 }
 
-fn strict_mode(given: &[&str]) -> String {
+fn safe_mode(given: &[&str]) -> String {
     let number = |at: usize| given[at].parse().expect("a number");
-    let yes = sshkey::strict_mode(number(0), number(1), number(2) as u32);
+    let yes = rafendilo::is_safe_mode(number(0), number(1), number(2) as u32);
     number_of(if yes { Ok(()) } else { Err(Status::UNSAFE_MODE) })
 }
 
 // ---- certificates
 
 fn fields(blob: &[u8]) -> Answer {
-    let found = sshkey::certificate_fields(blob)?;
+    let found = rafendilo::certificate_fields(blob)?;
     let numbers = [
         found.serial,
         found.valid_after,
@@ -283,7 +283,7 @@ fn fields(blob: &[u8]) -> Answer {
     words(numbers.map(|it| it.to_string()))
 }
 
-fn pairs(front: &str, options: sshkey::CertificateOptions<'_>) -> Result<Vec<String>, Status> {
+fn pairs(front: &str, options: rafendilo::CertificateOptions<'_>) -> Result<Vec<String>, Status> {
     let by_name = options.by_name()?;
     Ok(by_name
         .iter()
@@ -292,8 +292,8 @@ fn pairs(front: &str, options: sshkey::CertificateOptions<'_>) -> Result<Vec<Str
 }
 
 fn lists(blob: &[u8]) -> Answer {
-    let found = sshkey::certificate_contents(blob)?;
-    let key = sshkey::certificate_key(blob)?;
+    let found = rafendilo::certificate_contents(blob)?;
+    let key = rafendilo::certificate_key(blob)?;
     let mut listed = vec![word(found.key_id), word(key), word(found.authority)];
     for name in found.principals {
         listed.push(format!("principal={}", word(name?)));
@@ -312,10 +312,10 @@ fn text(bytes: &[u8]) -> Result<&str, Status> {
 fn made(given: &[&str]) -> Answer {
     let spans: Vec<Vec<u8>> = given[..7].iter().map(|it| data(it)).collect();
     let numbers: Vec<u64> = given[7..12].iter().map(|it| number(it)).collect();
-    let names: Result<Vec<_>, _> = sshkey::strings(&spans[3]).map(|it| text(it?)).collect();
+    let names: Result<Vec<_>, _> = rafendilo::strings(&spans[3]).map(|it| text(it?)).collect();
     let names = names?;
     let options = |span| -> Result<Vec<(&str, &str)>, Status> {
-        Ok(sshkey::certificate_options(span).by_name()?.into_iter().collect())
+        Ok(rafendilo::certificate_options(span).by_name()?.into_iter().collect())
     };
     let (critical_options, extensions) = (options(&spans[4])?, options(&spans[5])?);
     let draft = Draft {
@@ -332,67 +332,67 @@ fn made(given: &[&str]) -> Answer {
         certificate_type: CertificateType::try_from(numbers[3] as u32)?,
     };
     one(match given.get(12) {
-        None => sshkey::certificate_to_be_signed(&draft),
-        Some(signature) => sshkey::make_certificate(&draft, |_| Ok(data(signature))),
+        None => rafendilo::certificate_to_be_signed(&draft),
+        Some(signature) => rafendilo::make_certificate(&draft, |_| Ok(data(signature))),
     })
 }
 
 // ---- keys and lines
 
 fn key(blob: &[u8]) -> Answer {
-    let (short, long) = (sshkey::fingerprint(blob)?, sshkey::fingerprint_sha512(blob)?);
+    let (short, long) = (rafendilo::fingerprint(blob)?, rafendilo::fingerprint_sha512(blob)?);
     words([word(short.bytes), short.to_string(), word(long.bytes), long.to_string()])
 }
 
 fn line(bytes: &[u8]) -> Answer {
-    let found = sshkey::read_line(bytes)?;
+    let found = rafendilo::read_line(bytes)?;
     words([u8::from(found.is_certificate).to_string(), word(found.blob), word(found.comment)])
 }
 
 fn normal(kind: &str, blob: &[u8]) -> Answer {
     one(match kind {
-        "key" => sshkey::normal_key(blob),
-        "certificate" => sshkey::normal_certificate(blob),
-        "sshsig" => sshkey::normal_sshsig(blob),
-        _ => sshkey::normal_signature(blob),
+        "key" => rafendilo::normal_key(blob),
+        "certificate" => rafendilo::normal_certificate(blob),
+        "sshsig" => rafendilo::normal_sshsig(blob),
+        _ => rafendilo::normal_signature(blob),
     })
 }
 
 fn strings(bytes: &[u8]) -> Answer {
-    let found: Result<Vec<_>, _> = sshkey::strings(bytes).map(|it| it.map(word)).collect();
+    let found: Result<Vec<_>, _> = rafendilo::strings(bytes).map(|it| it.map(word)).collect();
     words(found?)
 }
 
 // ---- entries
 
 fn entry(line: &[u8]) -> Answer {
-    let found = sshkey::authorized_entry(line)?;
+    let found = rafendilo::authorized_entry(line)?;
     words(["0".into(), word(found.options), word(found.key), word(found.comment)])
 }
 
 fn host(line: &[u8]) -> Answer {
-    let found = sshkey::known_host(line)?;
+    let found = rafendilo::known_host(line)?;
     let marker = (found.marker as u32).to_string();
     words([marker, word(found.hosts), word(found.key), word(found.comment)])
 }
 
 fn options(bytes: &[u8]) -> Answer {
-    let shown = |it: sshkey::EntryOption| match it.value {
+    let shown = |it: rafendilo::LineOption| match it.value {
         None => word(it.name),
         Some(value) => format!("{}={}", word(it.name), word(value)),
     };
-    words(sshkey::entry_options(bytes)?.into_iter().map(shown))
+    words(rafendilo::line_options(bytes)?.into_iter().map(shown))
 }
 
 fn addresses(given: &[&str]) -> String {
     let (list, host) = (data(given[0]), data(given[2]));
     let address = address(&data(given[1])).expect("an address");
-    let by_certificate = number_of(sshkey::source_address_allows(&list, address));
-    format!("{by_certificate} {}", number_of(sshkey::from_allows(&list, &host, address)))
+    let by_certificate = number_of(rafendilo::check_source_address(&list, address));
+    format!("{by_certificate} {}", number_of(rafendilo::check_from(&list, &host, address)))
 }
 
 fn time(text: &[u8]) -> Answer {
-    let (first, last) = sshkey::read_time(text)?.into_inner();
+    let (first, last) = rafendilo::read_time(text)?.into_inner();
     words([first.to_string(), last.to_string()])
 }
 
@@ -408,10 +408,10 @@ fn signer(what: &str, given: &[&str]) -> String {
         revoked: &lent(&revoked),
     };
     if what == "signer" {
-        return number_of(sshkey::signer_verdict(&signature, namespace, &by, given[6] == "1"));
+        return number_of(rafendilo::check_signer_with_answer(&signature, namespace, &by, given[6] == "1"));
     }
     let digest = data(given[6]);
-    number_of(sshkey::judge_signer_of_digest(&signature, namespace, &digest, &by, is_signature))
+    number_of(rafendilo::check_signer_of_digest(&signature, namespace, &digest, &by, is_signature))
 }
 
 fn revoked(answer: Result<bool, Status>) -> Answer {
@@ -423,14 +423,14 @@ fn answer(question: &str) -> Answer {
     let (what, given) = (parts[0], &parts[1..]);
     let at = |number: usize| data(given[number]);
     match what {
-        "certificate" => asked(&sshkey::certificate_question(&at(0))?, None),
-        "signature" => asked(&sshkey::signature_question(&at(0), &at(1), &at(2))?, None),
-        "sshsig" => signed(sshkey::sshsig_question(&at(0), at(1), &at(2))),
-        "sshsig-of-digest" => signed(sshkey::sshsig_question_of_digest(&at(0), at(1), &at(2))),
+        "certificate" => asked(&rafendilo::certificate_question(&at(0))?, None),
+        "signature" => asked(&rafendilo::signature_question(&at(0), &at(1), &at(2))?, None),
+        "sshsig" => signed(rafendilo::sshsig_question(&at(0), at(1), &at(2))),
+        "sshsig-of-digest" => signed(rafendilo::sshsig_question_of_digest(&at(0), at(1), &at(2))),
         "sshsig-hash" => sshsig_hash(&at(0)),
-        "sshsig-reserved" => one(sshkey::sshsig_reserved(&at(0))),
+        "sshsig-reserved" => one(rafendilo::sshsig_reserved(&at(0))),
         "is-sshsig" | "is-sshsig-of-digest" => is_sshsig(what, given),
-        "is-signature" => verified(&sshkey::signature_question(&at(0), &at(1), &at(2))?),
+        "is-signature" => verified(&rafendilo::signature_question(&at(0), &at(1), &at(2))?),
         "validate" => validate(given),
         "log-in" => log_in(given),
         "log-in-by-keys" => log_in_by_keys(given),
@@ -440,34 +440,34 @@ fn answer(question: &str) -> Answer {
         "userauth" | "userauth-of" | "is-userauth" => userauth(what, given),
         "flags" => Ok(flags(given)),
         "other-key-line" => other_key_line(&at(0)),
-        "line-authority" => authority(sshkey::authorities(&at(0))),
-        "user-authority" => authority(sshkey::user_authorities(&at(0), &at(1))),
-        "for-key" => may_be(sshkey::may_be_for_key(&at(0), &at(1))),
-        "for-certificate" => may_be(sshkey::may_be_for_certificate(&at(0), &at(1))),
+        "line-authority" => authority(rafendilo::authorities(&at(0))),
+        "user-authority" => authority(rafendilo::user_authorities(&at(0), &at(1))),
+        "for-key" => may_be(rafendilo::line_may_name_key(&at(0), &at(1))),
+        "for-certificate" => may_be(rafendilo::line_may_name_authority(&at(0), &at(1))),
         "may-verify" => may_verify(&at(0)),
-        "strict-mode" => Ok(strict_mode(given)),
+        "safe-mode" => Ok(safe_mode(given)),
         "fields" => fields(&at(0)),
         "lists" => lists(&at(0)),
-        "certificate-options" => words(pairs("", sshkey::certificate_options(&at(0)))?),
+        "certificate-options" => words(pairs("", rafendilo::certificate_options(&at(0)))?),
         "strings" => strings(&at(0)),
-        "lines" => words(sshkey::entry_lines(&at(0)).map(word)),
+        "lines" => words(rafendilo::entry_lines(&at(0)).map(word)),
         "key" => key(&at(0)),
         "line" => line(&at(0)),
         "normal" => normal(given[0], &at(1)),
         "draft" | "make" => made(given),
-        "join" => one(sshkey::join_certificate(&at(0), &at(1))),
+        "join" => one(rafendilo::join_certificate(&at(0), &at(1))),
         "entry" => entry(&at(0)),
         "host" => host(&at(0)),
         "options" => options(&at(0)),
         "addresses" => Ok(addresses(given)),
         "time" => time(&at(0)),
         "signer" | "is-signer" => Ok(signer(what, given)),
-        "revoked-key" => revoked(sshkey::revoked_key(&lent(&several(given[0])), &at(1))),
-        "revoked-certificate" => {
-            revoked(sshkey::revoked_certificate(&lent(&several(given[0])), &at(1)))
+        "unrevoked-key" => revoked(rafendilo::check_unrevoked_key(&lent(&several(given[0])), &at(1))),
+        "unrevoked-certificate" => {
+            revoked(rafendilo::check_unrevoked_certificate(&lent(&several(given[0])), &at(1)))
         }
-        "revokes-key" => revoked(sshkey::krl_revokes_key(&at(0), &at(1))),
-        "revokes-certificate" => revoked(sshkey::krl_revokes_certificate(&at(0), &at(1))),
+        "unrevoked-key-by-krl" => revoked(rafendilo::check_unrevoked_key_by_krl(&at(0), &at(1))),
+        "unrevoked-certificate-by-krl" => revoked(rafendilo::check_unrevoked_certificate_by_krl(&at(0), &at(1))),
         _ => panic!("no question: {question}"),
     }
 }

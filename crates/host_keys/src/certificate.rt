@@ -117,11 +117,11 @@ fn judge<H: HostHasher, R: Revocations, V: RawVerifier>(
 {
     let asked = login.asked(alloc)?;
     let login = login.under(asked.as_str());
-    judge_asked(alloc, &login, certificate, hmac, revocations, verifier)
+    check_asked_certificate(alloc, &login, certificate, hmac, revocations, verifier)
 }
 
 /// The same of a host under the name that is asked.
-fn judge_asked<H: HostHasher, R: Revocations, V: RawVerifier>(
+fn check_asked_certificate<H: HostHasher, R: Revocations, V: RawVerifier>(
     alloc: Global,
     login: &HostCheck,
     certificate: &Certificate,

@@ -18,7 +18,7 @@ use sshkey_public::PublicKey;
 use std::alloc::Global;
 
 /// What the texts say of a key at just that port. Fails only when out of memory.
-pub(crate) fn judge_all<H: HostHasher>(
+pub(crate) fn verdict_of_all<H: HostHasher>(
     alloc: Global,
     texts: &[&str],
     host: &str,

@@ -8,7 +8,7 @@ ghost use Rattle.sshkey_base.specs.declared.error.Error.TheVariants.{Memory};
 ghost use Rattle.sshkey_known_hosts.specs.declared.verdict.Verdict.TheVariants.{Revoked, Unknown, Unreadable};
 ghost use Rattle.host_keys.specs.Hosts.{IsSaidOfKey, IsSaidOfSigned, IsSettled, IsVerdictOfSigned, lines_of};
 
-use crate::texts::{has_authority, judge_all};
+use crate::texts::{has_authority, verdict_of_all};
 use sshkey_base::Result;
 use sshkey_keys::KeyData;
 use sshkey_known_hosts::{HostHasher, Verdict};
@@ -31,11 +31,11 @@ pub(crate) fn key_verdict<H: HostHasher>(
     ensures memory { IfErr result (λ e. e ≡ Memory) }
     ensures asks { IfErr result (λ _. 0 < length (lines_of texts.now)) }
 {
-    let verdict = judge_all(alloc, texts, host, port, key, hmac)?;
+    let verdict = verdict_of_all(alloc, texts, host, port, key, hmac)?;
     if is_settled(verdict, port) {
         return Ok(verdict);
     }
-    judge_all(alloc, texts, host, STANDARD_PORT, key, hmac)
+    verdict_of_all(alloc, texts, host, STANDARD_PORT, key, hmac)
 }
 
 /// What the texts say of a key that the host shows and of the key that signed it. Fails only when
@@ -55,11 +55,11 @@ pub(crate) fn signed_verdict<H: HostHasher>(
     ensures memory { IfErr result (λ e. e ≡ Memory) }
     ensures asks { IfErr result (λ _. 0 < length (lines_of texts.now)) }
 {
-    let verdict = judge_signed(alloc, texts, host, port, key, signer, hmac)?;
+    let verdict = check_signed(alloc, texts, host, port, key, signer, hmac)?;
     if is_settled(verdict, port) {
         return Ok(verdict);
     }
-    judge_signed(alloc, texts, host, STANDARD_PORT, key, signer, hmac)
+    check_signed(alloc, texts, host, STANDARD_PORT, key, signer, hmac)
 }
 
 /// Whether nothing else is asked after a verdict on the host at that port.
@@ -70,7 +70,7 @@ fn is_settled(verdict: Verdict, port: u16) -> bool
 }
 
 /// What the texts say of both at just that port. Fails only when out of memory.
-fn judge_signed<H: HostHasher>(
+fn check_signed<H: HostHasher>(
     alloc: Global,
     texts: &[&str],
     host: &str,
@@ -85,8 +85,8 @@ fn judge_signed<H: HostHasher>(
     ensures memory { IfErr result (λ e. e ≡ Memory) }
     ensures asks { IfErr result (λ _. 0 < length (lines_of texts.now)) }
 {
-    let of_key = judge_all(alloc, texts, host, port, key, hmac)?;
-    let of_signer = judge_all(alloc, texts, host, port, signer, hmac)?;
+    let of_key = verdict_of_all(alloc, texts, host, port, key, hmac)?;
+    let of_signer = verdict_of_all(alloc, texts, host, port, signer, hmac)?;
     if is_revoked(of_key) || is_revoked(of_signer) {
         return Ok(Verdict::Revoked);
     }

@@ -12,13 +12,13 @@ ghost use Rattle.sshkey_calls.specs.Validations.{HasRenamedAuthority, IsGoodCert
 
 use sshkey_calls::{
     CertificateFields, Question, Sha256Digest, certificate_fields, certificate_question,
-    certificate_validate, certificate_validate_for,
+    check_certificate, check_certificate_for,
 };
 use std::alloc::Global;
 
 /// What has to be verified of a certificate: `sshkey_calls::certificate_question`.
 #[unsafe(no_mangle)]
-pub extern "C" fn sshkey_certificate_question(
+pub extern "C" fn raf_certificate_question(
     alloc: Global,
     certificate: &[u8],
     room: &mut [u8],
@@ -30,9 +30,9 @@ pub extern "C" fn sshkey_certificate_question(
     certificate_question(alloc, certificate, room, answer)
 }
 
-/// Whether a certificate is valid: `sshkey_calls::certificate_validate`.
+/// Whether a certificate is valid: `sshkey_calls::check_certificate`.
 #[unsafe(no_mangle)]
-pub extern "C" fn sshkey_certificate_validate(
+pub extern "C" fn raf_check_certificate(
     alloc: Global,
     certificate: &[u8],
     unix_timestamp: u64,
@@ -49,12 +49,12 @@ pub extern "C" fn sshkey_certificate_validate(
         → result ≡ fault_number fault }
     ensures memory { result ≡ 1 → HasRenamedAuthority certificate.now }
 {
-    certificate_validate(alloc, certificate, unix_timestamp, authorities, is_verified)
+    check_certificate(alloc, certificate, unix_timestamp, authorities, is_verified)
 }
 
-/// Whether a certificate is valid for a principal: `sshkey_calls::certificate_validate_for`.
+/// Whether a certificate is valid for a principal: `sshkey_calls::check_certificate_for`.
 #[unsafe(no_mangle)]
-pub extern "C" fn sshkey_certificate_validate_for(
+pub extern "C" fn raf_check_certificate_for(
     alloc: Global,
     certificate: &[u8],
     unix_timestamp: u64,
@@ -75,7 +75,7 @@ pub extern "C" fn sshkey_certificate_validate_for(
     ensures text { (IsUtf8 principal.now → ⊥) → result ≡ 4 }
     ensures memory { result ≡ 1 → HasRenamedAuthority certificate.now }
 {
-    certificate_validate_for(
+    check_certificate_for(
         alloc,
         certificate,
         unix_timestamp,
@@ -87,7 +87,7 @@ pub extern "C" fn sshkey_certificate_validate_for(
 
 /// The fields of a certificate that a policy asks for: `sshkey_calls::certificate_fields`.
 #[unsafe(no_mangle)]
-pub extern "C" fn sshkey_certificate_fields(
+pub extern "C" fn raf_certificate_fields(
     certificate: &[u8],
     answer: &mut CertificateFields,
 ) -> u32

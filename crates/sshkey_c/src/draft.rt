@@ -11,7 +11,7 @@ use std::alloc::Global;
 
 /// What is to be signed of a certificate: `sshkey_calls::certificate_to_be_signed`.
 #[unsafe(no_mangle)]
-pub extern "C" fn sshkey_certificate_to_be_signed(
+pub extern "C" fn raf_certificate_to_be_signed(
     alloc: Global,
     draft: &CertificateDraft<'_>,
     room: &mut [u8],
@@ -28,7 +28,7 @@ pub extern "C" fn sshkey_certificate_to_be_signed(
 
 /// The certificate that a signature makes: `sshkey_calls::certificate_make`.
 #[unsafe(no_mangle)]
-pub extern "C" fn sshkey_certificate_make(
+pub extern "C" fn raf_certificate_make(
     alloc: Global,
     to_be_signed: &[u8],
     signature: &[u8],

@@ -11,13 +11,13 @@ ghost use Rattle.sshkey_entry_calls.specs.Options.{FindsKeyOption};
 
 use sshkey_calls::part::Part;
 use sshkey_entry_calls::{
-    EntryParts, OptionParts, authorized_entry, known_host, next_entry_option, next_line,
+    EntryParts, OptionParts, authorized_entry, known_host, next_line_option, next_line,
 };
 use std::alloc::Global;
 
 /// The next line that may be an entry: `sshkey_entry_calls::next_line`.
 #[unsafe(no_mangle)]
-pub extern "C" fn sshkey_next_line(text: &[u8], place: usize, answer: &mut Part) -> u32
+pub extern "C" fn raf_next_line(text: &[u8], place: usize, answer: &mut Part) -> u32
     ensures { FindsLine text.now place result answer.old answer.new }
 {
     next_line(text, place, answer)
@@ -25,7 +25,7 @@ pub extern "C" fn sshkey_next_line(text: &[u8], place: usize, answer: &mut Part)
 
 /// The entry of a line of authorized_keys: `sshkey_entry_calls::authorized_entry`.
 #[unsafe(no_mangle)]
-pub extern "C" fn sshkey_authorized_entry(
+pub extern "C" fn raf_authorized_entry(
     alloc: Global,
     line: &[u8],
     room: &mut [u8],
@@ -42,9 +42,9 @@ pub extern "C" fn sshkey_authorized_entry(
     authorized_entry(alloc, line, room, answer)
 }
 
-/// The option at a place: `sshkey_entry_calls::next_entry_option`.
+/// The option at a place: `sshkey_entry_calls::next_line_option`.
 #[unsafe(no_mangle)]
-pub extern "C" fn sshkey_next_entry_option(
+pub extern "C" fn raf_next_line_option(
     alloc: Global,
     options: &[u8],
     place: usize,
@@ -53,12 +53,12 @@ pub extern "C" fn sshkey_next_entry_option(
 ) -> u32
     ensures { FindsKeyOption options.now place result answer.old answer.new room.old room.new }
 {
-    next_entry_option(alloc, options, place, room, answer)
+    next_line_option(alloc, options, place, room, answer)
 }
 
 /// The entry of a line of known_hosts: `sshkey_entry_calls::known_host`.
 #[unsafe(no_mangle)]
-pub extern "C" fn sshkey_known_host(
+pub extern "C" fn raf_known_host(
     alloc: Global,
     line: &[u8],
     room: &mut [u8],

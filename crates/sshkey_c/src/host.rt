@@ -3,21 +3,21 @@
 ghost use Rattle.std.specs.Prelude.{◌≡◌, false, true};
 ghost use Rattle.sshkey_host_calls.specs.Hosts.{TellsHostCertificate, TellsHostKey, are_texts};
 
-use sshkey_host_calls::{HostRequest, host_certificate_verdict, host_key_verdict};
+use sshkey_host_calls::{HostRequest, check_host_certificate, check_host_key};
 use std::alloc::Global;
 
-/// Whether a key is a host's: `sshkey_host_calls::host_key_verdict`.
+/// Whether a key is a host's: `sshkey_host_calls::check_host_key`.
 #[unsafe(no_mangle)]
-pub extern "C" fn sshkey_host_key_verdict(alloc: Global, login: &HostRequest<'_>, key: &[u8]) -> u32
+pub extern "C" fn raf_check_host_key(alloc: Global, login: &HostRequest<'_>, key: &[u8]) -> u32
     ensures verdict { are_texts login.now ≡ true → TellsHostKey login.now key.now result }
     ensures text { are_texts login.now ≡ false → result ≡ 4 }
 {
-    host_key_verdict(alloc, login, key)
+    check_host_key(alloc, login, key)
 }
 
-/// Whether a certificate is a host's: `sshkey_host_calls::host_certificate_verdict`.
+/// Whether a certificate is a host's: `sshkey_host_calls::check_host_certificate`.
 #[unsafe(no_mangle)]
-pub extern "C" fn sshkey_host_certificate_verdict(
+pub extern "C" fn raf_check_host_certificate(
     alloc: Global,
     login: &HostRequest<'_>,
     certificate: &[u8],
@@ -27,5 +27,5 @@ pub extern "C" fn sshkey_host_certificate_verdict(
         is_verified result }
     ensures text { are_texts login.now ≡ false → result ≡ 4 }
 {
-    host_certificate_verdict(alloc, login, certificate, is_verified)
+    check_host_certificate(alloc, login, certificate, is_verified)
 }

@@ -9,7 +9,7 @@ use std::alloc::Global;
 
 /// The SHA-256 fingerprint of a key: `sshkey_calls::fingerprint`.
 #[unsafe(no_mangle)]
-pub extern "C" fn sshkey_fingerprint(alloc: Global, key: &[u8], answer: &mut Sha256Digest) -> u32
+pub extern "C" fn raf_fingerprint(alloc: Global, key: &[u8], answer: &mut Sha256Digest) -> u32
     ensures { GivesKeyDigest Sha256 key.now result answer.old.bytes answer.new.bytes }
 {
     fingerprint(alloc, key, answer)
@@ -17,7 +17,7 @@ pub extern "C" fn sshkey_fingerprint(alloc: Global, key: &[u8], answer: &mut Sha
 
 /// The text of a SHA-256 fingerprint: `sshkey_calls::fingerprint_text`.
 #[unsafe(no_mangle)]
-pub extern "C" fn sshkey_fingerprint_text(digest: &Sha256Digest, room: &mut [u8]) -> u32
+pub extern "C" fn raf_fingerprint_text(digest: &Sha256Digest, room: &mut [u8]) -> u32
     ensures { Prints (digest_text Sha256 digest.now.bytes) result room.old room.new }
 {
     fingerprint_text(digest, room)

@@ -1,4 +1,4 @@
-//! The library for programs in C, and for whoever calls C. `include/sshkey.h` declares what it
+//! The library for programs in C, and for whoever calls C. `include/rafendilo.h` declares what it
 //! exports.
 //!
 //! Each export, but for those of `version`, makes one call of `sshkey_calls` or of another crate of

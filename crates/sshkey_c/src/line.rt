@@ -9,12 +9,12 @@ ghost use Rattle.sshkey_entry_calls.specs.UnreadableLines.{TellsUnreadableLine};
 ghost use Rattle.sshkey_calls.specs.KeyLines.{HoldsContent, NeedsLine, ReadsContent, TellsLineFault};
 
 use sshkey_calls::{Line, read_line};
-use sshkey_entry_calls::{is_other_key_line, unreadable_host_line};
+use sshkey_entry_calls::{is_later_key_line, unreadable_host_line};
 use std::alloc::Global;
 
 /// The key or the certificate of a line: `sshkey_calls::read_line`.
 #[unsafe(no_mangle)]
-pub extern "C" fn sshkey_read_line(
+pub extern "C" fn raf_read_line(
     alloc: Global,
     line: &[u8],
     room: &mut [u8],
@@ -29,21 +29,21 @@ pub extern "C" fn sshkey_read_line(
     read_line(alloc, line, room, answer)
 }
 
-/// Whether a line has a key of a kind that is none here: `sshkey_entry_calls::is_other_key_line`.
+/// Whether a line has a key of a kind that is none here: `sshkey_entry_calls::is_later_key_line`.
 #[unsafe(no_mangle)]
-pub extern "C" fn sshkey_is_other_key_line(line: &[u8]) -> u32
+pub extern "C" fn raf_is_later_key_line(line: &[u8]) -> u32
     ensures other { IsUtf8 line.now → AreOtherKeyFields (without_blanks line.now) → result ≡ 0 }
     ensures none { IsUtf8 line.now → (AreOtherKeyFields (without_blanks line.now) → ⊥)
         → result ≡ 12 }
     ensures text { (IsUtf8 line.now → ⊥) → result ≡ 4 }
 {
-    is_other_key_line(line)
+    is_later_key_line(line)
 }
 
 /// Which line of a text of known_hosts cannot be read:
 /// `sshkey_entry_calls::unreadable_host_line`.
 #[unsafe(no_mangle)]
-pub extern "C" fn sshkey_unreadable_host_line(
+pub extern "C" fn raf_unreadable_host_line(
     alloc: Global,
     known_hosts: &[u8],
     host: &[u8],

@@ -13,14 +13,14 @@ ghost use Rattle.sshkey_model.specs.Reading.{Fault, whole};
 
 use sshkey_calls::Question;
 use sshkey_login_calls::{
-    GrantParts, LoginRequest, UserGrantParts, login_question, login_verdict, principals_verdict,
-    user_keys_verdict,
+    GrantParts, LoginRequest, UserGrantParts, login_question, check_login, check_principals,
+    check_user_keys,
 };
 use std::alloc::Global;
 
 /// What has to be verified of a login: `sshkey_login_calls::login_question`.
 #[unsafe(no_mangle)]
-pub extern "C" fn sshkey_login_question(
+pub extern "C" fn raf_login_question(
     alloc: Global,
     login: &LoginRequest<'_>,
     room: &mut [u8],
@@ -39,9 +39,9 @@ pub extern "C" fn sshkey_login_question(
     login_question(alloc, login, room, answer)
 }
 
-/// Whether a login is let in, and what it is granted: `sshkey_login_calls::login_verdict`.
+/// Whether a login is let in, and what it is granted: `sshkey_login_calls::check_login`.
 #[unsafe(no_mangle)]
-pub extern "C" fn sshkey_login_verdict(
+pub extern "C" fn raf_check_login(
     alloc: Global,
     login: &LoginRequest<'_>,
     is_verified: u32,
@@ -57,13 +57,13 @@ pub extern "C" fn sshkey_login_verdict(
     ensures memory { result ≡ 1
         → IsUtf8 login.now.user.now × SpellsSome SpellsKey login.now.key.now }
 {
-    login_verdict(alloc, login, is_verified, room, answer)
+    check_login(alloc, login, is_verified, room, answer)
 }
 
 /// Whether authorized_keys lets a login in, and what it is granted:
-/// `sshkey_login_calls::user_keys_verdict`.
+/// `sshkey_login_calls::check_user_keys`.
 #[unsafe(no_mangle)]
-pub extern "C" fn sshkey_user_keys_verdict(
+pub extern "C" fn raf_check_user_keys(
     alloc: Global,
     login: &LoginRequest<'_>,
     text: &[u8],
@@ -82,13 +82,13 @@ pub extern "C" fn sshkey_user_keys_verdict(
     ensures memory { result ≡ 1 → AreTexts login.now host.now
         × SpellsSome SpellsKey login.now.key.now }
 {
-    user_keys_verdict(alloc, login, text, host, is_verified, room, answer)
+    check_user_keys(alloc, login, text, host, is_verified, room, answer)
 }
 
 /// Whether a file of principals lets a login in, and what it is granted:
-/// `sshkey_login_calls::principals_verdict`.
+/// `sshkey_login_calls::check_principals`.
 #[unsafe(no_mangle)]
-pub extern "C" fn sshkey_principals_verdict(
+pub extern "C" fn raf_check_principals(
     alloc: Global,
     login: &LoginRequest<'_>,
     text: &[u8],
@@ -108,5 +108,5 @@ pub extern "C" fn sshkey_principals_verdict(
     ensures memory { result ≡ 1 → AreTexts login.now host.now
         × SpellsSome SpellsKey login.now.key.now }
 {
-    principals_verdict(alloc, login, text, host, is_verified, room, answer)
+    check_principals(alloc, login, text, host, is_verified, room, answer)
 }

@@ -9,7 +9,7 @@ use std::alloc::Global;
 
 /// The normal form of a key: `sshkey_calls::key_normal`.
 #[unsafe(no_mangle)]
-pub extern "C" fn sshkey_key_normal(
+pub extern "C" fn raf_key_normal(
     alloc: Global,
     key: &[u8],
     room: &mut [u8],
@@ -23,7 +23,7 @@ pub extern "C" fn sshkey_key_normal(
 
 /// The normal form of a certificate: `sshkey_calls::certificate_normal`.
 #[unsafe(no_mangle)]
-pub extern "C" fn sshkey_certificate_normal(
+pub extern "C" fn raf_certificate_normal(
     alloc: Global,
     certificate: &[u8],
     room: &mut [u8],
@@ -37,7 +37,7 @@ pub extern "C" fn sshkey_certificate_normal(
 
 /// The normal form of an SSH signature: `sshkey_calls::sshsig_normal`.
 #[unsafe(no_mangle)]
-pub extern "C" fn sshkey_sshsig_normal(
+pub extern "C" fn raf_sshsig_normal(
     alloc: Global,
     signature: &[u8],
     room: &mut [u8],
@@ -51,7 +51,7 @@ pub extern "C" fn sshkey_sshsig_normal(
 
 /// The normal form of a signature: `sshkey_calls::signature_normal`.
 #[unsafe(no_mangle)]
-pub extern "C" fn sshkey_signature_normal(
+pub extern "C" fn raf_signature_normal(
     signature: &[u8],
     room: &mut [u8],
     length: &mut usize,

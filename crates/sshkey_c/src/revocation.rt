@@ -12,22 +12,22 @@ ghost use Rattle.sshkey_calls.specs.Revocations.{IsWhetherCertificateRevoked, Is
 ghost use Rattle.sshkey_entry_calls.specs.RevocationFiles.{NeedsFiles};
 ghost use Rattle.sshkey_entry_calls.specs.Revocations.{TellsRevokedCertificate, TellsRevokedKey};
 
-use sshkey_calls::{krl_revokes_certificate, krl_revokes_key};
-use sshkey_entry_calls::{revoked_certificate, revoked_key};
+use sshkey_calls::{check_unrevoked_certificate_by_krl, check_unrevoked_key_by_krl};
+use sshkey_entry_calls::{check_unrevoked_certificate, check_unrevoked_key};
 use std::alloc::Global;
 
-/// Whether one of the files revokes a key: `sshkey_entry_calls::revoked_key`.
+/// Whether one of the files revokes a key: `sshkey_entry_calls::check_unrevoked_key`.
 #[unsafe(no_mangle)]
-pub extern "C" fn sshkey_revoked_key(alloc: Global, revoked: &[&[u8]], key: &[u8]) -> u32
+pub extern "C" fn raf_check_unrevoked_key(alloc: Global, revoked: &[&[u8]], key: &[u8]) -> u32
     ensures answer { TellsRevokedKey revoked.now key.now result }
     ensures memory { result ≡ 1 → NeedsFiles revoked.now ⊎ IsRenamedKey key.now }
 {
-    revoked_key(alloc, revoked, key)
+    check_unrevoked_key(alloc, revoked, key)
 }
 
-/// Whether one of the files revokes a certificate: `sshkey_entry_calls::revoked_certificate`.
+/// Whether one of the files revokes a certificate: `sshkey_entry_calls::check_unrevoked_certificate`.
 #[unsafe(no_mangle)]
-pub extern "C" fn sshkey_revoked_certificate(
+pub extern "C" fn raf_check_unrevoked_certificate(
     alloc: Global,
     revoked: &[&[u8]],
     certificate: &[u8],
@@ -36,12 +36,12 @@ pub extern "C" fn sshkey_revoked_certificate(
     ensures memory { result ≡ 1 → NeedsFiles revoked.now
         ⊎ SpellsSome SpellsCertificate certificate.now }
 {
-    revoked_certificate(alloc, revoked, certificate)
+    check_unrevoked_certificate(alloc, revoked, certificate)
 }
 
-/// Whether a list revokes a key: `sshkey_calls::krl_revokes_key`.
+/// Whether a list revokes a key: `sshkey_calls::check_unrevoked_key_by_krl`.
 #[unsafe(no_mangle)]
-pub extern "C" fn sshkey_krl_revokes_key(alloc: Global, krl: &[u8], key: &[u8]) -> u32
+pub extern "C" fn raf_check_unrevoked_key_by_krl(alloc: Global, krl: &[u8], key: &[u8]) -> u32
     ensures exactly { TellsRevoked (IsWhetherKeyRevoked krl.now key.now) result }
     ensures list { (fault : Fault) → whole krl_format.read krl.now ≡ Err fault
         → result ≡ fault_number fault }
@@ -49,12 +49,12 @@ pub extern "C" fn sshkey_krl_revokes_key(alloc: Global, krl: &[u8], key: &[u8]) 
         → whole key_data_at key.now ≡ Err fault → result ≡ fault_number fault }
     ensures memory { result ≡ 1 → SpellsSome SpellsKrl krl.now × IsRenamedKey key.now }
 {
-    krl_revokes_key(alloc, krl, key)
+    check_unrevoked_key_by_krl(alloc, krl, key)
 }
 
-/// Whether a list revokes a certificate: `sshkey_calls::krl_revokes_certificate`.
+/// Whether a list revokes a certificate: `sshkey_calls::check_unrevoked_certificate_by_krl`.
 #[unsafe(no_mangle)]
-pub extern "C" fn sshkey_krl_revokes_certificate(
+pub extern "C" fn raf_check_unrevoked_certificate_by_krl(
     alloc: Global,
     krl: &[u8],
     certificate: &[u8],
@@ -67,5 +67,5 @@ pub extern "C" fn sshkey_krl_revokes_certificate(
     ensures memory { result ≡ 1 → SpellsSome SpellsKrl krl.now
         × SpellsSome SpellsCertificate certificate.now }
 {
-    krl_revokes_certificate(alloc, krl, certificate)
+    check_unrevoked_certificate_by_krl(alloc, krl, certificate)
 }

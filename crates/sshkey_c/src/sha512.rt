@@ -9,7 +9,7 @@ use std::alloc::Global;
 
 /// The SHA-512 fingerprint of a key: `sshkey_calls::fingerprint_sha512`.
 #[unsafe(no_mangle)]
-pub extern "C" fn sshkey_fingerprint_sha512(
+pub extern "C" fn raf_fingerprint_sha512(
     alloc: Global,
     key: &[u8],
     answer: &mut Sha512Digest,
@@ -21,7 +21,7 @@ pub extern "C" fn sshkey_fingerprint_sha512(
 
 /// The text of a SHA-512 fingerprint: `sshkey_calls::fingerprint_sha512_text`.
 #[unsafe(no_mangle)]
-pub extern "C" fn sshkey_fingerprint_sha512_text(digest: &Sha512Digest, room: &mut [u8]) -> u32
+pub extern "C" fn raf_fingerprint_sha512_text(digest: &Sha512Digest, room: &mut [u8]) -> u32
     ensures { Prints (digest_text Sha512 digest.now.bytes) result room.old room.new }
 {
     fingerprint_sha512_text(digest, room)

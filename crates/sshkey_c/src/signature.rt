@@ -7,7 +7,7 @@ use std::alloc::Global;
 
 /// What has to be verified of a signature: `sshkey_calls::signature_question`.
 #[unsafe(no_mangle)]
-pub extern "C" fn sshkey_signature_question(
+pub extern "C" fn raf_signature_question(
     alloc: Global,
     key: &[u8],
     message: &[u8],

@@ -11,12 +11,12 @@ ghost use Rattle.sshkey_entry_calls.specs.Signers.{TellsSigner};
 ghost use Rattle.sshkey_entry_calls.specs.SshSignatures.{TellsByKeys};
 
 use sshkey_calls::Sha256Digest;
-use sshkey_entry_calls::{signer_verdict, sshsig_verdict};
+use sshkey_entry_calls::{check_signer, check_sshsig};
 use std::alloc::Global;
 
-/// Whether an SSH signature counts as an identity's: `sshkey_entry_calls::signer_verdict`.
+/// Whether an SSH signature counts as an identity's: `sshkey_entry_calls::check_signer`.
 #[unsafe(no_mangle)]
-pub extern "C" fn sshkey_signer_verdict(
+pub extern "C" fn raf_check_signer(
     alloc: Global,
     signers: &[u8],
     identity: &[u8],
@@ -36,7 +36,7 @@ pub extern "C" fn sshkey_signer_verdict(
         → result ≡ 4 }
     ensures memory { result ≡ 1 → NeedsMemory signature.now }
 {
-    signer_verdict(
+    check_signer(
         alloc,
         signers,
         identity,
@@ -48,9 +48,9 @@ pub extern "C" fn sshkey_signer_verdict(
     )
 }
 
-/// Whether an SSH signature is by one of some keys: `sshkey_entry_calls::sshsig_verdict`.
+/// Whether an SSH signature is by one of some keys: `sshkey_entry_calls::check_sshsig`.
 #[unsafe(no_mangle)]
-pub extern "C" fn sshkey_sshsig_verdict(
+pub extern "C" fn raf_check_sshsig(
     alloc: Global,
     signature: &[u8],
     namespace: &[u8],
@@ -63,5 +63,5 @@ pub extern "C" fn sshkey_sshsig_verdict(
         → result ≢ 1 → result ≡ fault_number fault }
     ensures memory { result ≡ 1 → NeedsMemory signature.now }
 {
-    sshsig_verdict(alloc, signature, namespace, signers, is_verified)
+    check_sshsig(alloc, signature, namespace, signers, is_verified)
 }

@@ -7,7 +7,7 @@ use std::alloc::Global;
 
 /// What has to be verified of an SSH signature: `sshkey_calls::sshsig_question`.
 #[unsafe(no_mangle)]
-pub extern "C" fn sshkey_sshsig_question(
+pub extern "C" fn raf_sshsig_question(
     alloc: Global,
     signature: &[u8],
     namespace: &[u8],
@@ -24,7 +24,7 @@ pub extern "C" fn sshkey_sshsig_question(
 
 /// The same with the digest of the message: `sshkey_calls::sshsig_question_of_digest`.
 #[unsafe(no_mangle)]
-pub extern "C" fn sshkey_sshsig_question_of_digest(
+pub extern "C" fn raf_sshsig_question_of_digest(
     alloc: Global,
     signature: &[u8],
     namespace: &[u8],

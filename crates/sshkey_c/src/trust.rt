@@ -11,13 +11,13 @@ ghost use Rattle.sshkey_line_calls.specs.Lines.{TellsLine};
 ghost use Rattle.sshkey_model.specs.Certificates.{certificate_at, SpellsCertificate};
 
 use sshkey_calls::Sha256Digest;
-use sshkey_entry_calls::{authority, may_verify, strict_mode, user_authority};
-use sshkey_line_calls::{may_be_for_certificate, may_be_for_key};
+use sshkey_entry_calls::{authority, may_verify, check_safe_mode, user_authority};
+use sshkey_line_calls::{line_may_name_authority, line_may_name_key};
 use std::alloc::Global;
 
 /// The authority of a line: `sshkey_entry_calls::authority`.
 #[unsafe(no_mangle)]
-pub extern "C" fn sshkey_authority(alloc: Global, line: &[u8], answer: &mut Sha256Digest) -> u32
+pub extern "C" fn raf_authority(alloc: Global, line: &[u8], answer: &mut Sha256Digest) -> u32
     ensures { TellsAuthority line.now result answer.old.bytes answer.new.bytes }
 {
     authority(alloc, line, answer)
@@ -25,7 +25,7 @@ pub extern "C" fn sshkey_authority(alloc: Global, line: &[u8], answer: &mut Sha2
 
 /// The authority of a line for a user: `sshkey_entry_calls::user_authority`.
 #[unsafe(no_mangle)]
-pub extern "C" fn sshkey_user_authority(
+pub extern "C" fn raf_user_authority(
     alloc: Global,
     line: &[u8],
     user: &[u8],
@@ -38,33 +38,33 @@ pub extern "C" fn sshkey_user_authority(
 
 /// Whether a verifier may say yes under a key: `sshkey_entry_calls::may_verify`.
 #[unsafe(no_mangle)]
-pub extern "C" fn sshkey_may_verify(key: &[u8]) -> u32
+pub extern "C" fn raf_may_verify(key: &[u8]) -> u32
     ensures { TellsOf SpellsKey key_data_at key.now (λ k. result ≡ verifier_number k) result
         (Unit {0}) }
 {
     may_verify(key)
 }
 
-/// Whether a file may be believed: `sshkey_entry_calls::strict_mode`.
+/// Whether a file may be believed: `sshkey_entry_calls::check_safe_mode`.
 #[unsafe(no_mangle)]
-pub extern "C" fn sshkey_strict_mode(owner: u64, user: u64, mode: u32) -> u32
+pub extern "C" fn raf_check_safe_mode(owner: u64, user: u64, mode: u32) -> u32
     ensures { result ≡ mode_number owner user mode }
 {
-    strict_mode(owner, user, mode)
+    check_safe_mode(owner, user, mode)
 }
 
-/// Whether a line of authorized_keys may be for a key: `sshkey_line_calls::may_be_for_key`.
+/// Whether a line of authorized_keys may be for a key: `sshkey_line_calls::line_may_name_key`.
 #[unsafe(no_mangle)]
-pub extern "C" fn sshkey_may_be_for_key(alloc: Global, line: &[u8], key: &[u8]) -> u32
+pub extern "C" fn raf_line_may_name_key(alloc: Global, line: &[u8], key: &[u8]) -> u32
     ensures { TellsOf SpellsKey key_data_at key.now (λ k. TellsLine k line.now result) result
         (Unit {0}) }
 {
-    may_be_for_key(alloc, line, key)
+    line_may_name_key(alloc, line, key)
 }
 
-/// The same for a certificate's authority: `sshkey_line_calls::may_be_for_certificate`.
+/// The same for a certificate's authority: `sshkey_line_calls::line_may_name_authority`.
 #[unsafe(no_mangle)]
-pub extern "C" fn sshkey_may_be_for_certificate(
+pub extern "C" fn raf_line_may_name_authority(
     alloc: Global,
     line: &[u8],
     certificate: &[u8],
@@ -72,5 +72,5 @@ pub extern "C" fn sshkey_may_be_for_certificate(
     ensures { TellsOf SpellsCertificate certificate_at certificate.now
         (λ c. TellsLine c.signed.signature_key line.now result) result (Unit {0}) }
 {
-    may_be_for_certificate(alloc, line, certificate)
+    line_may_name_authority(alloc, line, certificate)
 }

@@ -6,14 +6,14 @@ ghost use Rattle.sshkey_userauth_calls.specs.Userauths.{TellsUserauthQuestion, T
 
 use sshkey_calls::Question;
 use sshkey_userauth_calls::{
-    UserauthSignature, grant_flags, userauth_question, userauth_question_of,
+    UserauthSignature, check_grant_flags, userauth_question, userauth_question_of,
 };
 use std::alloc::Global;
 
 /// What has to be verified of a client's signature of a request:
 /// `sshkey_userauth_calls::userauth_question`.
 #[unsafe(no_mangle)]
-pub extern "C" fn sshkey_userauth_question(
+pub extern "C" fn raf_userauth_question(
     alloc: Global,
     request: &UserauthSignature<'_>,
     room: &mut [u8],
@@ -27,7 +27,7 @@ pub extern "C" fn sshkey_userauth_question(
 /// The same where the server has the bytes that the client signed:
 /// `sshkey_userauth_calls::userauth_question_of`.
 #[unsafe(no_mangle)]
-pub extern "C" fn sshkey_userauth_question_of(
+pub extern "C" fn raf_userauth_question_of(
     alloc: Global,
     request: &UserauthSignature<'_>,
     signed_bytes: &[u8],
@@ -41,9 +41,9 @@ pub extern "C" fn sshkey_userauth_question_of(
 }
 
 /// Whether the flags in a client's signature are what a grant wants:
-/// `sshkey_userauth_calls::grant_flags`.
+/// `sshkey_userauth_calls::check_grant_flags`.
 #[unsafe(no_mangle)]
-pub extern "C" fn sshkey_grant_flags(
+pub extern "C" fn raf_check_grant_flags(
     alloc: Global,
     permits: u32,
     key: &[u8],
@@ -51,5 +51,5 @@ pub extern "C" fn sshkey_grant_flags(
 ) -> u32
     ensures { TellsFlags (requirements_of permits) key.now signature.now result }
 {
-    grant_flags(alloc, permits, key, signature)
+    check_grant_flags(alloc, permits, key, signature)
 }

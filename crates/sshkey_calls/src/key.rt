@@ -9,14 +9,14 @@ ghost use Rattle.sshkey_model.specs.Names.{Sha256, Sha512};
 ghost use Rattle.sshkey_calls.specs.Fingerprints.{FindsFingerprint, GivesKeyDigest, Prints};
 
 use crate::digest::{Sha256Digest, Sha512Digest};
-use crate::number::{DONE, MEMORY, ROOM, error_status};
+use crate::number::{DONE, MEMORY, SHORT_BUFFER, error_status};
 use base64::engine::general_purpose::STANDARD_NO_PAD;
 use sshkey_base::HashAlg;
 use sshkey_fingerprints::Fingerprint;
 use sshkey_keys_ref::KeyDataRef;
 use std::alloc::Global;
 
-/// The SHA-256 fingerprint of the key that all the bytes spell, as `certificate_validate` takes it:
+/// The SHA-256 fingerprint of the key that all the bytes spell, as `check_certificate` takes it:
 /// the digest of the key's normal form.
 ///
 /// Returns 0 if they spell one, 1 if memory ran out, and else from 10 to 29 their fault. Memory is
@@ -99,10 +99,10 @@ fn print(prefix: &str, digest: &[u8], room: &mut [u8]) -> u32
         result room.old room.new }
 {
     let Some((front, rest)) = room.split_at_mut_checked(prefix.len()) else {
-        return ROOM;
+        return SHORT_BUFFER;
     };
     let Ok(_) = STANDARD_NO_PAD.encode_slice(digest, rest) else {
-        return ROOM;
+        return SHORT_BUFFER;
     };
     front.copy_from_slice(prefix.as_bytes());
     DONE

@@ -38,12 +38,12 @@ pub use key::{fingerprint, fingerprint_sha512, fingerprint_sha512_text, fingerpr
 pub use line::{Line, read_line};
 pub use lists::{CertificateParts, certificate_parts};
 pub use normal::{certificate_normal, key_normal, signature_normal, sshsig_normal};
-pub use option::{OptionParts, next_option};
+pub use option::{OptionParts, next_certificate_option};
 pub use part::Part;
 pub use question::{Question, answer_question, certificate_question};
-pub use revocation::{krl_revokes_certificate, krl_revokes_key};
+pub use revocation::{check_unrevoked_certificate_by_krl, check_unrevoked_key_by_krl};
 pub use signature::signature_question;
 pub use signed::certificate_make;
 pub use sshsig::{sshsig_question, sshsig_question_of_digest};
-pub use validity::{certificate_validate, certificate_validate_for};
+pub use validity::{check_certificate, check_certificate_for};
 pub use walk::next_string;

@@ -27,7 +27,7 @@ pub struct CertificateParts {
 /// Where the parts are of the certificate that all the bytes spell.
 ///
 /// Returns 0 if they spell one, and else from 10 to 29 their fault. `next_string` goes over the
-/// principals, and `next_option` over the critical options and over the extensions. Does not
+/// principals, and `next_certificate_option` over the critical options and over the extensions. Does not
 /// allocate, and copies nothing.
 pub fn certificate_parts(certificate: &[u8], answer: &mut CertificateParts) -> u32
     ensures { GivesParts certificate.now result answer.old answer.new }

@@ -18,7 +18,7 @@ pub const DONE: u32 = 0;
 /// Memory was refused, and nothing is said.
 pub const MEMORY: u32 = 1;
 /// The room is too short.
-pub const ROOM: u32 = 2;
+pub const SHORT_BUFFER: u32 = 2;
 /// Nothing is left.
 pub const END: u32 = 3;
 /// A text of the caller's is not UTF-8.

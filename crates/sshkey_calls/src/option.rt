@@ -26,7 +26,7 @@ pub struct OptionParts {
 ///
 /// Returns 0, 3 exactly where the place is the end of the bytes, and 13 where no option begins.
 /// Does not allocate.
-pub fn next_option(bytes: &[u8], place: usize, answer: &mut OptionParts) -> u32
+pub fn next_certificate_option(bytes: &[u8], place: usize, answer: &mut OptionParts) -> u32
     ensures { FindsOption bytes.now place result answer.old answer.new }
 {
     if place == bytes.len() {

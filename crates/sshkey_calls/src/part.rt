@@ -7,7 +7,7 @@ ghost use Rattle.sshkey_model.specs.Parts.{flat};
 ghost use Rattle.sshkey_calls.specs.Rooms.{AnswersWith, Fills};
 ghost use Rattle.sshkey_calls.specs.Writing.{AddsBeginning, IsNoRoomFor, IsNotAdded};
 
-use crate::number::{DONE, MEMORY, ROOM};
+use crate::number::{DONE, MEMORY, SHORT_BUFFER};
 use sshkey_base::{Encode, Error, Result};
 use std::alloc::Global;
 
@@ -83,7 +83,7 @@ pub fn answer_with<T: Copy>(laid: Result<(Vec<u8>, T)>, room: &mut [u8], answer:
     match laid {
         Ok((content, parts)) => {
             *answer = parts;
-            if write_to(room, &content) { DONE } else { ROOM }
+            if write_to(room, &content) { DONE } else { SHORT_BUFFER }
         }
         Err(_) => MEMORY,
     }

@@ -27,7 +27,7 @@ use std::alloc::Global;
 /// Returns 0 if it has, 60 if it has not, from 10 to 29 the fault of bytes that are no list, or
 /// else of bytes that are no key, and 1 if memory ran out. So 60 alone says that the key is not
 /// revoked. Memory is taken only for an RSA key under another name than `ssh-rsa`.
-pub fn krl_revokes_key(alloc: Global, krl: &[u8], key: &[u8]) -> u32
+pub fn check_unrevoked_key_by_krl(alloc: Global, krl: &[u8], key: &[u8]) -> u32
     ensures exactly { TellsRevoked (IsWhetherKeyRevoked krl.now key.now) result }
     ensures list { (fault : Fault) → whole krl_format.read krl.now ≡ Err fault
         → result ≡ fault_number fault }
@@ -68,9 +68,9 @@ fn is_key_revoked(alloc: Global, krl: &[u8], key: &[u8]) -> Result<bool>
 /// that all its bytes spell: by its key, by the key that signed it, or by its serial number or its
 /// key id among the certificates of that key or of every key.
 ///
-/// Returns what `krl_revokes_key` does, with the fault of bytes that are no certificate. Memory is
+/// Returns what `check_unrevoked_key_by_krl` does, with the fault of bytes that are no certificate. Memory is
 /// taken only where both are spelled.
-pub fn krl_revokes_certificate(alloc: Global, krl: &[u8], certificate: &[u8]) -> u32
+pub fn check_unrevoked_certificate_by_krl(alloc: Global, krl: &[u8], certificate: &[u8]) -> u32
     ensures exactly { TellsRevoked (IsWhetherCertificateRevoked krl.now certificate.now) result }
     ensures list { (fault : Fault) → whole krl_format.read krl.now ≡ Err fault
         → result ≡ fault_number fault }

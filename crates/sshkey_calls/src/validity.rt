@@ -31,7 +31,7 @@ use std::str;
 /// time above 2^63 - 1, 33 for a time before `valid_after`, or not before `valid_before`. What a
 /// certificate is for, its critical options and whether it is revoked are not looked at. 1 is
 /// answered only for an RSA key under another name than `ssh-rsa`.
-pub fn certificate_validate(
+pub fn check_certificate(
     alloc: Global,
     certificate: &[u8],
     unix_timestamp: u64,
@@ -59,12 +59,12 @@ pub fn certificate_validate(
 }
 
 /// The same for a principal, which the certificate must allow: it lists the principal, or nobody.
-/// Returns what `certificate_validate` does, and last 34 for a principal that is not allowed. 4,
+/// Returns what `check_certificate` does, and last 34 for a principal that is not allowed. 4,
 /// first of all, for a principal that is not UTF-8.
 ///
 /// A certificate without principals allows everybody here (PROTOCOL.certkeys), while sshd(8)
 /// rejects it for a user.
-pub fn certificate_validate_for(
+pub fn check_certificate_for(
     alloc: Global,
     certificate: &[u8],
     unix_timestamp: u64,

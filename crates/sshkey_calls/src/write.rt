@@ -3,7 +3,7 @@
 ghost use Rattle.std.specs.Prelude.{◌≡◌, ◌≢◌};
 ghost use Rattle.sshkey_calls.specs.Writing.{WritesContent};
 
-use crate::number::{DONE, ROOM};
+use crate::number::{DONE, SHORT_BUFFER};
 use crate::part::write_to;
 
 /// Writes the content to the front of the room, and how many bytes it has.
@@ -15,5 +15,5 @@ pub(crate) fn write_bytes(content: &[u8], room: &mut [u8], length: &mut usize) -
     ensures memory { result ≢ 1 }
 {
     *length = content.len();
-    if write_to(room, content) { DONE } else { ROOM }
+    if write_to(room, content) { DONE } else { SHORT_BUFFER }
 }

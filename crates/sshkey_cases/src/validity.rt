@@ -38,17 +38,17 @@ fn judge<V: RawVerifier>(
 /// The same of the certificate as a slice.
 pub(crate) fn slice(alloc: Global, parts: &[Vec<u8>]) -> Result<String> {
     let certificate = CertificateRef::from_bytes(part(parts, 0))?;
-    answer(alloc, judge_slice(alloc, &certificate, parts, &AcceptAll))
+    answer(alloc, check_slice(alloc, &certificate, parts, &AcceptAll))
 }
 
 /// Whether it is valid, or why not.
 pub(crate) fn is_valid_slice(alloc: Global, parts: &[Vec<u8>]) -> Result<bool> {
     let certificate = CertificateRef::from_bytes(part(parts, 0))?;
-    judge_slice(alloc, &certificate, parts, &AcceptAll)?;
+    check_slice(alloc, &certificate, parts, &AcceptAll)?;
     Ok(true)
 }
 
-fn judge_slice<V: RawVerifier>(
+fn check_slice<V: RawVerifier>(
     alloc: Global,
     certificate: &CertificateRef<'_>,
     parts: &[Vec<u8>],
@@ -94,7 +94,7 @@ pub(crate) fn known(alloc: Global, parts: &[Vec<u8>]) -> Result<String> {
 pub(crate) fn known_slice(alloc: Global, parts: &[Vec<u8>]) -> Result<String> {
     let (knower, rest) = (knower(alloc, parts)?, unknown(parts));
     let certificate = CertificateRef::from_bytes(part(rest, 0))?;
-    judge_slice(alloc, &certificate, rest, &knower)?;
+    check_slice(alloc, &certificate, rest, &knower)?;
     answer(alloc, certificate.verify_signature(alloc, &knower))
 }
 

@@ -16,7 +16,7 @@ use std::str;
 ///
 /// Returns 0 if it does, 57 if it does not, 13 for another number of bytes, 4 where the list is not
 /// UTF-8, and 15 where it is malformed; the first of these.
-pub fn source_address_allows(list: &[u8], address: &[u8]) -> u32
+pub fn check_source_address(list: &[u8], address: &[u8]) -> u32
     ensures { TellsSource list.now address.now result }
 {
     let Some(address) = address_of(address) else {
@@ -34,7 +34,7 @@ pub fn source_address_allows(list: &[u8], address: &[u8]) -> u32
 /// Returns 0 if it does, 57 if it does not, 1 if memory ran out, 13 for another number of bytes, 4
 /// where the list or the host is not UTF-8, the text of the address may be another or the host's
 /// name is like one, and 15 where the list is malformed.
-pub fn from_allows(alloc: Global, list: &[u8], host: &[u8], address: &[u8]) -> u32
+pub fn check_from(alloc: Global, list: &[u8], host: &[u8], address: &[u8]) -> u32
     ensures { TellsFrom list.now host.now address.now result }
 {
     let Some(address) = address_of(address) else {

@@ -27,7 +27,7 @@ const LATER_KEY: u32 = 61;
 /// TrustedUserCAKeys (sshd_config(5)): after spaces and tabs the name of its algorithm and its
 /// Base64. What follows is a comment, and decides nothing.
 ///
-/// Returns 0 with it, 61 for a key of a later kind (`is_other_key_line`), which signs nothing that
+/// Returns 0 with it, 61 for a key of a later kind (`is_later_key_line`), which signs nothing that
 /// is read, 1 if memory ran out, 4 where these two fields are not UTF-8, and else from 10 to 29 a
 /// fault of a line that is no key's: refuse the file then. With every number but 0 the answer stays
 /// as it was. Memory is taken only for the key.

@@ -16,7 +16,7 @@ const OTHERS_WRITE: u32 = 0o022;
 /// number, root alone may own it. The number of the owner and the mode are those of stat(2).
 ///
 /// Returns 0 if it may, and else 62. Does not allocate.
-pub fn strict_mode(owner: u64, user: u64, mode: u32) -> u32
+pub fn check_safe_mode(owner: u64, user: u64, mode: u32) -> u32
     ensures { result ≡ mode_number owner user mode }
 {
     if is_own(owner, user) && mode & OTHERS_WRITE == 0 {

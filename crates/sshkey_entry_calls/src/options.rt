@@ -41,7 +41,7 @@ pub struct OptionParts {
 /// the bytes up to the next comma outside quotes are not UTF-8. With 2 the answer says how much
 /// room is needed, and the room is as it was; with every other number but 0 answer and room are.
 /// What follows the option is not read: where a fault is in it, a later call refuses.
-pub fn next_entry_option(
+pub fn next_line_option(
     alloc: Global,
     options: &[u8],
     place: usize,

@@ -14,7 +14,7 @@ use std::str;
 ///
 /// Returns 0 if it has, 12 if not, also for the line of a key that is read here, and 4 for a line
 /// that is not UTF-8. Does not allocate.
-pub fn is_other_key_line(line: &[u8]) -> u32
+pub fn is_later_key_line(line: &[u8]) -> u32
     ensures other { IsUtf8 line.now → AreOtherKeyFields (without_blanks line.now) → result ≡ 0 }
     ensures none { IsUtf8 line.now → (AreOtherKeyFields (without_blanks line.now) → ⊥)
         → result ≡ 12 }

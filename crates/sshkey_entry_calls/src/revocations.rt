@@ -30,7 +30,7 @@ use std::alloc::Global;
 /// revokes everything, from 10 to 29 the fault of bytes that are no key, and 1 if memory ran out.
 /// So 60 alone says that the key is not revoked. Of one list, memory is taken only for an RSA key
 /// under another name than `ssh-rsa`.
-pub fn revoked_key(alloc: Global, revoked: &[&[u8]], key: &[u8]) -> u32
+pub fn check_unrevoked_key(alloc: Global, revoked: &[&[u8]], key: &[u8]) -> u32
     ensures answer { TellsRevokedKey revoked.now key.now result }
     ensures memory { result ≡ 1 → NeedsFiles revoked.now ⊎ IsRenamedKey key.now }
 {
@@ -45,9 +45,9 @@ pub fn revoked_key(alloc: Global, revoked: &[&[u8]], key: &[u8]) -> u32
 
 /// Whether one of the revocation files revokes the certificate that all its bytes spell.
 ///
-/// Returns what `revoked_key` does, with the fault of bytes that are no certificate. Of one list,
+/// Returns what `check_unrevoked_key` does, with the fault of bytes that are no certificate. Of one list,
 /// memory is taken only for bytes that are one.
-pub fn revoked_certificate(alloc: Global, revoked: &[&[u8]], certificate: &[u8]) -> u32
+pub fn check_unrevoked_certificate(alloc: Global, revoked: &[&[u8]], certificate: &[u8]) -> u32
     ensures answer { TellsRevokedCertificate revoked.now certificate.now result }
     ensures memory { result ≡ 1 → NeedsFiles revoked.now
         ⊎ SpellsSome SpellsCertificate certificate.now }

@@ -33,7 +33,7 @@ const NO_IDENTITY: u32 = 103;
 /// none, which revokes each key, 56 for a key that is revoked, and 30 where it was not verified, is in another
 /// namespace or has reserved bytes. So 30, before anything is verified, says that its key may sign.
 /// Memory is taken only for a part of the signature that is whole.
-pub fn signer_verdict(
+pub fn check_signer(
     alloc: Global,
     signers: &[u8],
     identity: &[u8],

@@ -25,7 +25,7 @@ use std::alloc::Global;
 /// in another namespace, has reserved bytes or raises no question. So 30, before anything is
 /// verified, says that its key may sign. Memory is taken only for a part of the signature that is
 /// whole.
-pub fn sshsig_verdict(
+pub fn check_sshsig(
     alloc: Global,
     signature: &[u8],
     namespace: &[u8],

@@ -31,7 +31,7 @@ use std::alloc::Global;
 ///
 /// Whether the certified key is one that the host is known by is not asked. Memory is taken only for
 /// bytes that are a certificate.
-pub fn host_certificate_verdict(
+pub fn check_host_certificate(
     alloc: Global,
     login: &HostRequest<'_>,
     certificate: &[u8],

@@ -25,7 +25,7 @@ use std::alloc::Global;
 /// be read may be one for the host, 52 where the host has another key, 53 where no line is for the
 /// host, and 59 for a kind or a size of key that ssh(1) does not accept. Memory is taken only for
 /// bytes that are a key.
-pub fn host_key_verdict(alloc: Global, login: &HostRequest<'_>, key: &[u8]) -> u32
+pub fn check_host_key(alloc: Global, login: &HostRequest<'_>, key: &[u8]) -> u32
     ensures verdict { are_texts login.now ≡ true → TellsHostKey login.now key.now result }
     ensures text { are_texts login.now ≡ false → result ≡ 4 }
 {

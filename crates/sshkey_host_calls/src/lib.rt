@@ -10,6 +10,6 @@ mod certificate;
 mod key;
 mod request;
 
-pub use certificate::host_certificate_verdict;
-pub use key::host_key_verdict;
+pub use certificate::check_host_certificate;
+pub use key::check_host_key;
 pub use request::HostRequest;

@@ -4,4 +4,4 @@
 
 mod line;
 
-pub use line::{may_be_for_certificate, may_be_for_key};
+pub use line::{line_may_name_authority, line_may_name_key};

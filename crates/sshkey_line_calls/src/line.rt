@@ -19,7 +19,7 @@ use user_keys::line_may_name_key;
 /// Returns 0 if it may, 3 if it surely does not, 1 if memory ran out, and from 10 to 29 the fault of
 /// bytes that are no key. Memory is taken for a key of RSA or DSA, a security key and one under a
 /// private-use name.
-pub fn may_be_for_key(alloc: Global, line: &[u8], key: &[u8]) -> u32
+pub fn line_may_name_key(alloc: Global, line: &[u8], key: &[u8]) -> u32
     ensures { TellsOf SpellsKey key_data_at key.now (λ k. TellsLine k line.now result) result
         (Unit {0}) }
 {
@@ -35,8 +35,8 @@ pub fn may_be_for_key(alloc: Global, line: &[u8], key: &[u8]) -> u32
 /// The same of the authority that signed the certificate which all the bytes spell: its lines with
 /// `cert-authority` say whom the certificate lets in.
 ///
-/// Returns what `may_be_for_key` does, with the fault of bytes that are no certificate.
-pub fn may_be_for_certificate(alloc: Global, line: &[u8], certificate: &[u8]) -> u32
+/// Returns what `line_may_name_key` does, with the fault of bytes that are no certificate.
+pub fn line_may_name_authority(alloc: Global, line: &[u8], certificate: &[u8]) -> u32
     ensures { TellsOf SpellsCertificate certificate_at certificate.now
         (λ c. TellsLine c.signed.signature_key line.now result) result (Unit {0}) }
 {

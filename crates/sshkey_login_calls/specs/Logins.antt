@@ -32,9 +32,9 @@ login_status of_revoked refusal.Memory = 1
 
 -- Where the client is: where the caller judges, at the address of the bytes, or at none.
 abbrev pub IsClientOf : LoginRequest → Client → Type 0
-IsClientOf l client.LeftToCaller = l.judges_address ≡ 1
-IsClientOf l (client.At a) = (l.judges_address ≢ 1) × IsAddressOf l.client.now a
-IsClientOf l client.Unknown = (l.judges_address ≢ 1) × ((a : IpAddr) → IsAddressOf l.client.now a → ⊥)
+IsClientOf l client.LeftToCaller = l.caller_checks_address ≡ 1
+IsClientOf l (client.At a) = (l.caller_checks_address ≢ 1) × IsAddressOf l.client.now a
+IsClientOf l client.Unknown = (l.caller_checks_address ≢ 1) × ((a : IpAddr) → IsAddressOf l.client.now a → ⊥)
 
 -- What is read of a login: the key, what each revocation file gives, and where the client is.
 pub record Reading : Type 0 where

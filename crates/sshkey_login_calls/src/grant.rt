@@ -11,7 +11,7 @@ ghost use Rattle.sshkey_login_calls.specs.Grants.{ArePlaced, Gives, bit, empty_g
 
 use login_policy::Grant;
 use sshkey_base::Result;
-use sshkey_calls::number::{DONE, ROOM};
+use sshkey_calls::number::{DONE, SHORT_BUFFER};
 use sshkey_calls::part::{add, write_to};
 use sshkey_calls::{Part, Sha256Digest};
 use std::alloc::Global;
@@ -87,7 +87,7 @@ pub(crate) fn write_grant<G: Copy>(
         return DONE;
     }
     *answer = short;
-    ROOM
+    SHORT_BUFFER
 }
 
 /// The bytes of what is granted, one part after the other, and where they are. Fails only when out

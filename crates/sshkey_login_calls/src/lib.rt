@@ -15,8 +15,8 @@ mod user_grant;
 mod user_verdict;
 
 pub use grant::GrantParts;
-pub use login::login_verdict;
+pub use login::check_login;
 pub use question::login_question;
 pub use request::LoginRequest;
 pub use user_grant::UserGrantParts;
-pub use user_verdict::{principals_verdict, user_keys_verdict};
+pub use user_verdict::{check_principals, check_user_keys};

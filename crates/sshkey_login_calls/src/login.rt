@@ -46,7 +46,7 @@ use std::str;
 ///
 /// What is left to the caller: that the client has signed under the key, that a security key's flags
 /// are those that the grant asks for, and to run no other command than the grant says.
-pub fn login_verdict(
+pub fn check_login(
     alloc: Global,
     login: &LoginRequest<'_>,
     is_verified: u32,
@@ -95,13 +95,13 @@ fn judge(
         return Err(TEXT);
     };
     match KeyDataRef::from_bytes(login.key) {
-        Ok(key) => judge_of(alloc, login, user, &key, is_verified),
+        Ok(key) => check_with(alloc, login, user, &key, is_verified),
         Err(error) => Err(error_status(error)),
     }
 }
 
 /// The same of a user's name and a key that was read.
-pub(crate) fn judge_of(
+pub(crate) fn check_with(
     alloc: Global,
     login: &LoginRequest<'_>,
     user: &str,

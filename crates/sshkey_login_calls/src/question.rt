@@ -9,21 +9,21 @@ ghost use Rattle.sshkey_keys_ref.specs.KeyDataRef.{key_bytes};
 ghost use Rattle.sshkey_model.specs.Reading.{Fault, whole};
 ghost use Rattle.sshkey_login_calls.specs.Questions.{AnswersQuestion, TellsLoginQuestion};
 
-use crate::login::judge_of;
+use crate::login::check_with;
 use crate::request::LoginRequest;
 use sshkey_calls::laws::one_outcome;
-use sshkey_calls::number::{NOT_SIGNED, ROOM, TEXT, error_status};
+use sshkey_calls::number::{NOT_SIGNED, SHORT_BUFFER, TEXT, error_status};
 use sshkey_calls::{Question, certificate_question};
 use sshkey_keys_ref::KeyDataRef;
 use std::alloc::Global;
 use std::str;
 
-/// What has to be verified of the certificate of a login, before `login_verdict` is told what the
+/// What has to be verified of the certificate of a login, before `check_login` is told what the
 /// verification said.
 ///
 /// Returns 0 with the question in the room, as `sshkey_calls::certificate_question` lays it out, or
-/// 2 where the room is too short for it, only if `login_verdict` says 30 where nothing was verified:
-/// nothing else is wrong that is looked at before. Else returns what `login_verdict` says then; 30 is
+/// 2 where the room is too short for it, only if `check_login` says 30 where nothing was verified:
+/// nothing else is wrong that is looked at before. Else returns what `check_login` says then; 30 is
 /// said of a certificate that raises no question, and so is not signed.
 ///
 /// So nobody verifies a certificate that a stranger signed, or a revoked one. Memory is taken only
@@ -68,7 +68,7 @@ fn ask_of(
     ensures stays { result ≢ 0 → result ≢ 2
         → (answer.new ≡ answer.old) × (room.new ≡ room.old) }
 {
-    let Err(number) = judge_of(alloc, login, user, key, 0) else {
+    let Err(number) = check_with(alloc, login, user, key, 0) else {
         // no login is let in of which nothing was verified
         return NOT_SIGNED;
     };
@@ -85,7 +85,7 @@ fn ask(alloc: Global, certificate: &[u8], room: &mut [u8], answer: &mut Question
 {
     one_outcome();
     let number = certificate_question(alloc, certificate, room, answer);
-    if number > ROOM {
+    if number > SHORT_BUFFER {
         // the bytes are none, or raise no question
         return NOT_SIGNED;
     }

@@ -31,14 +31,14 @@ pub struct LoginRequest<'a> {
     /// 1 where the caller judges itself whether `source-address` has the client's address
     /// (`login_policy::Client::LeftToCaller`), and `client` is not looked at. With any other number
     /// it is judged here.
-    pub judges_address: u32,
+    pub caller_checks_address: u32,
 }
 
 /// Where the client of the login is.
 pub(crate) fn client_of(login: &LoginRequest<'_>) -> Client
     ensures { IsClientOf login.now result }
 {
-    if login.judges_address == 1 {
+    if login.caller_checks_address == 1 {
         return Client::LeftToCaller;
     }
     match address_of(login.client) {

@@ -48,15 +48,15 @@ use user_keys::{
 /// - 96 where a line cannot be told, with its number;
 /// - 59 for the kind or the size of the key, or of the authority's, 58 where a revocation file cannot
 ///   be read or there is none, which revokes everything, and 56 for what is revoked;
-/// - of a certificate what `login_verdict` says too; so 30, asked before anything is verified, says
+/// - of a certificate what `check_login` says too; so 30, asked before anything is verified, says
 ///   that a line lets it in and that it is to be verified.
 ///
 /// With any number but 0 nothing is granted, and of a refusal by a line the answer is nothing but
 /// that line. After 90 to 95 another file may be asked about, and after every other number none.
 /// Memory is taken only where user and host are UTF-8 and the key is one.
 ///
-/// What is left to the caller: what `login_verdict` leaves.
-pub fn user_keys_verdict(
+/// What is left to the caller: what `check_login` leaves.
+pub fn check_user_keys(
     alloc: Global,
     login: &LoginRequest<'_>,
     text: &[u8],
@@ -88,10 +88,10 @@ pub fn user_keys_verdict(
 /// login's certificate, by one of the login's authorities, which are those of `TrustedUserCAKeys`
 /// (`user_keys::log_in_by_principal`), and what the login is granted. The user is not asked about.
 ///
-/// The answer and its number are those of `user_keys_verdict`, of which 95 never comes, and 10 to 29
+/// The answer and its number are those of `check_user_keys`, of which 95 never comes, and 10 to 29
 /// are of no bytes of a certificate too. The first line for a principal of the certificate decides:
 /// 90 says that no line is, and after that number alone another file may be asked about.
-pub fn principals_verdict(
+pub fn check_principals(
     alloc: Global,
     login: &LoginRequest<'_>,
     text: &[u8],
@@ -192,7 +192,7 @@ fn judge(
         return Err(denied(TEXT));
     };
     match KeyDataRef::from_bytes(login.key) {
-        Ok(key) => judge_texts(alloc, login, asked, &Texts { user, host }, &key),
+        Ok(key) => check_texts(alloc, login, asked, &Texts { user, host }, &key),
         Err(error) => Err(denied(error_status(error))),
     }
 }
@@ -205,7 +205,7 @@ struct Texts<'a> {
 }
 
 /// The same of texts, and of a key that was read.
-fn judge_texts(
+fn check_texts(
     alloc: Global,
     login: &LoginRequest<'_>,
     asked: &Asked<'_>,

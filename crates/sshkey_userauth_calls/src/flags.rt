@@ -23,7 +23,7 @@ use std::alloc::Global;
 /// 29 the fault of bytes that are no key, or else of bytes that are no signature, 40 where key and
 /// signature do not go together, 82 if nobody touched the security key, and 83 if it did not verify
 /// its user. Memory is taken only where both are spelled.
-pub fn grant_flags(alloc: Global, permits: u32, key: &[u8], signature: &[u8]) -> u32
+pub fn check_grant_flags(alloc: Global, permits: u32, key: &[u8], signature: &[u8]) -> u32
     ensures { TellsFlags (requirements_of permits) key.now signature.now result }
 {
     match KeyDataRef::from_bytes(key) {

@@ -11,6 +11,6 @@ mod question;
 mod refusal;
 mod signature;
 
-pub use flags::grant_flags;
+pub use flags::check_grant_flags;
 pub use question::{userauth_question, userauth_question_of};
 pub use signature::UserauthSignature;

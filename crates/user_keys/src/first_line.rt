@@ -49,7 +49,7 @@ pub(crate) fn first_grant(
     while let Some((text, more)) = next_line(rest) {
         line += 1;
         rest = more;
-        match judge_line(alloc, text, login, certificate, &marks)? {
+        match check_line(alloc, text, login, certificate, &marks)? {
             LineVerdict::Lets(terms) => {
                 return Ok(UserGrant {
                     line,
@@ -77,7 +77,7 @@ fn listed_key<'a>(offered: &'a KeyData, certificate: Option<&'a Certificate>) ->
 }
 
 /// What a line says of the login. The marks are those of the key whose lines they are.
-fn judge_line(
+fn check_line(
     alloc: Global,
     line: &[u8],
     login: &UserLogin,
@@ -96,7 +96,7 @@ fn judge_line(
     let key = listed_key(login.offered, certificate);
     match terms_for(alloc, line, key, marks, certificate.is_some())? {
         Reading::Is(terms) => {
-            let judgement = judge_login(alloc, &terms, login, certificate)?;
+            let judgement = check_login(alloc, &terms, login, certificate)?;
             Ok(verdict_of(terms, judgement))
         }
         Reading::Rejected => Ok(LineVerdict::Passes),
@@ -105,7 +105,7 @@ fn judge_line(
 }
 
 /// What the terms of a line say of the login.
-fn judge_login(
+fn check_login(
     alloc: Global,
     terms: &Terms,
     login: &UserLogin,

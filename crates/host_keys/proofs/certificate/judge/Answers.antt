@@ -25,7 +25,7 @@ returns-clause-exactly g c =
     let login = login_of c.args.login.now hmac in
     let Holds = λ (l : HostCheck). IsTrustedCertificate l (g.V.RawVerifier.accepts c.args.verifier.now) (g.R.Revocations.revokes c.args.revocations.now) (certificate_of c.args.certificate.now) in
     let asked = subst (IsAsked login.host login.port) (sym c.as_str.ensures) c.in_ok-asked.ensures in
-    exactly_asked login c.as_str.result.now asked c.judge_asked.result Holds (subst (λ (l : HostCheck). OkExactly (Holds l) c.judge_asked.result) (c.under-login.ensures hmac) c.judge_asked.ensures.exactly)
+    exactly_asked login c.as_str.result.now asked c.check_asked_certificate.result Holds (subst (λ (l : HostCheck). OkExactly (Holds l) c.check_asked_certificate.result) (c.under-login.ensures hmac) c.check_asked_certificate.ensures.exactly)
 
 pub returns-clause-refused : goal.returns-clause-refused
 returns-clause-refused g c =
@@ -33,11 +33,11 @@ returns-clause-refused g c =
     let login = login_of c.args.login.now hmac in
     let Why = λ (l : HostCheck). IsWhyNoCertificate l (g.V.RawVerifier.accepts c.args.verifier.now) (g.R.Revocations.revokes c.args.revocations.now) (certificate_of c.args.certificate.now) in
     let asked = subst (IsAsked login.host login.port) (sym c.as_str.ensures) c.in_ok-asked.ensures in
-    why_asked login c.as_str.result.now asked c.judge_asked.result Why (subst (λ (l : HostCheck). IfErr c.judge_asked.result (Why l)) (c.under-login.ensures hmac) c.judge_asked.ensures.refused)
+    why_asked login c.as_str.result.now asked c.check_asked_certificate.result Why (subst (λ (l : HostCheck). IfErr c.check_asked_certificate.result (Why l)) (c.under-login.ensures hmac) c.check_asked_certificate.ensures.refused)
 
 pub returns-clause-asks : goal.returns-clause-asks
 returns-clause-asks g c =
     let hmac = g.H.HostHasher.hmac c.args.hmac.now in
     let none = g.R.Revocations.revokes_none c.args.revocations.now in
     let lines = ap (λ (l : HostCheck). l.lines) (c.under-login.ensures hmac) in
-    asks_more ⊥ (is_like_address c.args.login.now.host.now ≡ true) (λ nothing. absurd nothing) none _ c.judge_asked.result (subst (λ (ls : List (List ℕ)). AsksOf ⊥ none ls c.judge_asked.result) lines c.judge_asked.ensures.asks)
+    asks_more ⊥ (is_like_address c.args.login.now.host.now ≡ true) (λ nothing. absurd nothing) none _ c.check_asked_certificate.result (subst (λ (ls : List (List ℕ)). AsksOf ⊥ none ls c.check_asked_certificate.result) lines c.check_asked_certificate.ensures.asks)

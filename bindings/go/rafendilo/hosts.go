@@ -1,0 +1,82 @@
+package rafendilo
+
+// #include "rafendilo.h"
+import "C"
+
+import "time"
+
+// HostLogin is a host that shows a key or a certificate. What is left out trusts none.
+type HostLogin struct {
+	// KnownHosts are the texts of all the files of known_hosts that count, the user's and the
+	// machine's.
+	KnownHosts []string
+	// Host is the name or the address as the user typed it, alone: net.SplitHostPort takes apart what
+	// a dialer has. An address is asked in the text that ssh asks.
+	Host string
+	// Port is where it was asked.
+	Port uint16
+	// Now is the time at which a certificate has to be valid. Of a key it is not asked.
+	Now time.Time
+	// Revoked is what the files of ssh's RevokedHostKeys have, or NoRevocations. Without a file, or
+	// with one that was not read (nil), no host is trusted.
+	Revoked [][]byte
+	// LeastRSABits is ssh's RequiredRSASize. Below 1,024, as 0, it is 1,024.
+	LeastRSABits uint32
+	// Verify is IsSignature where it is nil. Of a key it is not asked.
+	Verify Verifier
+}
+
+// CheckHostKey gives nil exactly if the key, given as its blob, is trusted as that of the host, as
+// ssh does or more strictly (docs/FORMATS.md); else a Status that says what is wrong first. It
+// fails with ErrText where a text or the host is not UTF-8, and with ErrMemory.
+//
+// Whether the host holds the key is not looked at.
+func CheckHostKey(login HostLogin, key []byte) error {
+	var memory held
+	defer memory.free()
+	asked, in := login.held(&memory), inputOf(key)
+	return errorOf(C.raf_check_host_key(&asked, in.pointer(), in.length()))
+}
+
+// CheckHostCertificate gives nil exactly if the certificate, given as its blob, is trusted as that
+// of the host; else a Status that says what is wrong first. It has to list the host in small
+// letters. It fails as CheckHostKey does.
+//
+// It asks the library, the verifier, and the library again, over copies that nobody changes. The
+// verifier is not asked about the certificate of another authority, or about one that is revoked.
+//
+// Whether the host holds the certified key is not looked at.
+func CheckHostCertificate(login HostLogin, certificate []byte) error {
+	var memory held
+	defer memory.free()
+	asked, in := login.held(&memory), inputOf(certificate)
+	return decided(login.Verify, in, func(isVerified C.uint32_t) error {
+		return errorOf(C.raf_check_host_certificate(&asked, in.pointer(), in.length(),
+			isVerified))
+	})
+}
+
+func (login HostLogin) held(memory *held) C.raf_host_login {
+	return C.raf_host_login{
+		known_hosts:    spansOf(memory, login.KnownHosts),
+		host:           spanOf(memory, login.Host),
+		revoked:        filesOf(memory, login.Revoked),
+		unix_timestamp: C.uint64_t(SecondOf(login.Now)),
+		least_rsa_bits: C.uint32_t(login.LeastRSABits),
+		port:           C.uint16_t(login.Port),
+	}
+}
+
+// UnreadableHostLine gives the number, from 1, of the first line of a text of known_hosts by which
+// CheckHostKey fails with ErrHostUnreadable for that host, and 0 where there is none. It fails with
+// ErrText where text or host are not UTF-8, and with ErrMemory.
+func UnreadableHostLine(knownHosts, host string, port uint16) (int, error) {
+	var number C.size_t
+	in, whom := inputOf(knownHosts), inputOf(host)
+	status := C.raf_unreadable_host_line(in.pointer(), in.length(), whom.pointer(),
+		whom.length(), C.uint16_t(port), &number)
+	if status == C.RAF_END {
+		return 0, nil
+	}
+	return int(number), errorOf(status)
+}

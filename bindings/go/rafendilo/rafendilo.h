@@ -1,0 +1,1199 @@
+/* rafendilo.h: certificates, signatures, keys, revocation lists, authorized_keys and known_hosts of
+ * OpenSSH, for C and whoever calls C.
+ *
+ * Cryptography is yours. A check is two calls with your verification between them:
+ *
+ *   1. raf_certificate_question says what has to be verified: an algorithm, a key, a message and
+ *      a signature.
+ *   2. You verify that with a library of yours.
+ *   3. raf_check_certificate and .._validate_for say whether the certificate is valid, given
+ *      what you found, or what is wrong with it first.
+ *
+ * A login is such a check too: raf_login_question, and raf_check_login; by authorized_keys,
+ * raf_check_user_keys, and by a file of principals, raf_check_principals. Of an SSH
+ * signature (`ssh-keygen -Y sign`) raf_sshsig_question asks, or the same with the digest of the
+ * message. Whether it counts, raf_check_sshsig says by the keys that you trust for its
+ * namespace, and raf_check_signer by a file of allowed signers.
+ *
+ * What you owe, which nothing checks:
+ *
+ *  - Both calls get the SAME certificate or signature, with no byte changed in between, and
+ *    `is_verified` is what your verification said of the question of that one.
+ *  - No pointer is null, also where the length beside it is 0: raf_bytes(p) below gives one that
+ *    may be passed.
+ *  - A length is the true one: that many bytes, all initialised, lie at the pointer, in one
+ *    object, and at most PTRDIFF_MAX of them.
+ *  - What a call writes (room, answer, ..: the pointers without const) overlaps no other
+ *    argument of the call, is initialised (zero it once), and nobody else reads or writes it during
+ *    the call. What it only reads may overlap, and nobody writes it during the call.
+ *  - malloc, realloc and free come from one allocator, and no call is made from a signal handler or
+ *    from the forked child of a process with threads.
+ *
+ * In return no call keeps a pointer or hands one out, and there is no state: threads may call at
+ * once. No call writes more than `room_length` bytes to a room. All that a call tells lies in the
+ * room, from its front on, one part after the other in the order in which the answer names them,
+ * and a part is a place and a number of bytes. Where the room is too short, the call returns
+ * RAF_SHORT_BUFFER, leaves the room as it was, and sets `length` to the number of bytes that are needed,
+ * so a room of 0 bytes asks for that number; do not rely on the other fields of `*answer` then.
+ * (The text of a fingerprint has a fixed length, so its calls set none.) Every other return value
+ * but RAF_DONE leaves the room, `*answer` and `*length` as they were; but a grant is zero then.
+ * `*signer` is written with RAF_DONE alone.
+ */
+#ifndef RAFENDILO_H
+#define RAFENDILO_H
+
+#include <stddef.h>
+#include <stdint.h>
+
+/* The version of this header, as raf_version tells that of the library: 200 is 0.2.0. */
+#define RAF_VERSION 200
+
+/* What raf_abi answers where the library has the structs, the calls and the numbers below. */
+#define RAF_ABI 1
+
+#ifdef __cplusplus
+extern "C" {
+#endif
+
+/* ---- which library it is --------------------------------------------------------------------- */
+
+/* The version of the library: the first of its three numbers by 10,000, the second by 100, and the
+ * third. Takes no memory. */
+uint32_t raf_version(void);
+
+/* The number of its ABI, with which its name ends: librafendilo.so.2. It stays while calls and numbers
+ * are only added; where it is not RAF_ABI, make no other call. A program that is linked with the
+ * library need not ask: its linker and its loader do. Takes no memory. */
+uint32_t raf_abi(void);
+
+/* ---- what calls return ----------------------------------------------------------------------- */
+
+/* What a call returns. */
+enum {
+  RAF_DONE = 0,   /* done; of a validation: it is valid; of a revocation file: it revokes; of a
+                        signer: the signature counts */
+  RAF_MEMORY = 1, /* malloc refused; nothing is said of the input, and nothing is kept: the call
+                        may be made again */
+  RAF_SHORT_BUFFER = 2,   /* the room is too short; `length` says how many bytes are needed */
+  RAF_END = 3,    /* nothing is left: the place is the end, or there is no such line or option */
+  RAF_TEXT = 4,   /* the principal is not UTF-8, or a line of authorized_keys or known_hosts,
+                        options, a text of known_hosts or of signers, a host's name, an identity, a
+                        namespace or a time; nothing is said of the rest. raf_read_line returns
+                        11 for such a line */
+
+  /* 10 to 29: the bytes are no certificate, key, signature or revocation list, which is the first
+   * fault from the left; or the line is none, which is a fault that it has. For logs: lines with
+   * one fault may answer different numbers */
+  RAF_BASE64 = 10,             /* a word of a line is no Base64, or not the one of its bytes */
+  RAF_CHARACTER_ENCODING = 11, /* a text is not UTF-8, or has a character that no name has */
+  RAF_LABEL = 12,              /* a name that is none of those that may stand there */
+  RAF_LENGTH = 13,             /* a stated length passes the bytes, or is not the one wanted; a
+                                     word of a line is missing; a digest is not as long as one by
+                                     the signature's hash */
+  RAF_TRAILING_DATA = 14,      /* bytes follow the end */
+  RAF_FORMAT = 15,             /* a value does not keep the form of its kind */
+  RAF_ALGORITHM_UNKNOWN = 16,  /* two names differ that have to be one, or a point begins with 00
+                                     or 05 */
+  RAF_CRYPTO = 17,             /* a number in a signature is not positive, or the curve of a
+                                     security key is not P-256 */
+  RAF_ECDSA = 18,              /* no encoding of a point */
+  RAF_TIME = 19,               /* a time above 2^63 - 1 in the certificate */
+  RAF_NAMESPACE = 20,          /* an empty namespace in the SSH signature */
+  RAF_PUBLIC_KEY = 21,         /* never returned: a fault of private keys */
+  RAF_UNSUPPORTED_VERSION = 22, /* an SSH signature of a version above 1, or a revocation list
+                                      of another version than 1 */
+  RAF_OTHER_ERROR = 23,        /* never returned */
+  RAF_RSA_SHA1 = 24,           /* an RSA signature by SHA-1, which no call reads: to them it is
+                                     RAF_LENGTH. raf_read_line_blob of helpers/ tells it */
+
+  /* 30 to 34: what is wrong with a certificate that is not valid; the first of these */
+  RAF_NOT_SIGNED = 30,          /* it raises no question, or `is_verified` is not 1; a signature
+                                      also where it is in another namespace, or has reserved bytes */
+  RAF_UNTRUSTED_AUTHORITY = 31, /* the key that signed it is none of the authorities' */
+  RAF_INVALID_TIME = 32,        /* the time is above 2^63 - 1 */
+  RAF_OUT_OF_WINDOW = 33,       /* it is not yet valid, or no longer */
+  RAF_UNLISTED_PRINCIPAL = 34,  /* it lists principals, and not this one */
+
+  /* there is nothing to verify */
+  RAF_UNSUPPORTED = 40,    /* key and signature do not go together: it is not signed */
+  RAF_OTHER_NAMESPACE = 41, /* the SSH signature is for another namespace */
+
+  /* a draft of a certificate contradicts itself */
+  RAF_PRINCIPALS = 45,    /* it lists none and does not say so, or says so and lists some */
+  RAF_EMPTY_WINDOW = 46,  /* its window has no second */
+
+  /* 50 to 53: a host's key is not trusted; the first of these that holds */
+  RAF_HOST_REVOKED = 50,    /* a line for the host, or a revocation file, revokes it */
+  RAF_HOST_UNREADABLE = 51, /* a line is no entry, and may be one for the host */
+  RAF_HOST_CHANGED = 52,    /* a line for the host has another key, and none has this one */
+  RAF_HOST_UNKNOWN = 53,    /* no line without a marker is for the host */
+
+  /* 55, 58, 56, and then 30: a signature does not count; the first of these that holds */
+  RAF_SIGNER_NOT_ALLOWED = 55, /* no line lets its key sign for the identity, there and then; or
+                                     it is none of the keys that may sign */
+  RAF_REVOKED = 56, /* a revocation file revokes the signer's key, or the certificate */
+
+  RAF_ELSEWHERE = 57, /* the client's address is none of those that are allowed */
+
+  /* of revocation files */
+  RAF_UNREADABLE_REVOCATIONS = 58, /* one can't be read, or there is none: so everything is
+                                         revoked */
+
+  RAF_KEY_NOT_ACCEPTED = 59, /* a kind or a size of key that OpenSSH does not let in */
+
+  RAF_NOT_REVOKED = 60, /* no revocation file revokes the key or the certificate */
+
+  RAF_LATER_KEY = 61,   /* the line has a key of a later kind, which signs nothing that is read:
+                              pass over it, and say so */
+  RAF_UNSAFE_MODE = 62, /* another's, or others may write it */
+
+  /* 70 to 76, with 59 after 72: a certificate that lets nobody in, whoever signed it; the first of
+   * these */
+  RAF_NOT_NORMAL_FORM = 70,  /* its bytes are not its normal form: not those that were signed */
+  RAF_OTHER_TYPE = 71,       /* a user shows one for hosts, or a host one for users */
+  RAF_OTHER_KEY = 72,        /* it certifies another key than the client's */
+  RAF_CRITICAL_OPTIONS = 73, /* a critical option that is not known, or whose value sshd does
+                                   not read */
+  RAF_EXTENSIONS = 74,       /* data in an extension that is a flag, or a zero byte in a name */
+  RAF_KEY_ID = 75,           /* a zero byte in the key id */
+  RAF_VALID_PRINCIPALS = 76, /* it lists no principal, more than 256 or one with a zero byte;
+                                   or the user's name is empty */
+
+  /* 80 to 83: a client's signature that does not count; the first of these */
+  RAF_OTHER_REQUEST = 80,   /* the signed bytes are not those of this request, or its service is
+                                  not ssh-connection */
+  RAF_OTHER_ALGORITHM = 81, /* the algorithm that the request names is not the signature's */
+  RAF_UNTOUCHED = 82,       /* nobody touched the security key, and the grant wants it */
+  RAF_UNVERIFIED = 83,      /* the security key did not verify its user, and the grant wants it */
+
+  /* 90 to 96: authorized_keys lets nobody in. 91 to 95 is why the first line for the key, or for
+   * the certificate's authority, refuses: each such line does. After 90 to 95 ask about the next
+   * file */
+  RAF_USER_NOT_LISTED = 90,  /* no line is for the key, for the certificate's authority, or for a
+                                   principal of it */
+  RAF_LINE_EXPIRED = 91,     /* its expiry-time is over */
+  RAF_LINE_OPTION = 92,      /* it has principals, and no cert-authority; of a file of principals,
+                                   one of both */
+  RAF_LINE_ELSEWHERE = 93,   /* its from is for other places */
+  RAF_LINE_COMMAND = 94,     /* its command is another than the certificate's */
+  RAF_LINE_PRINCIPALS = 95,  /* the certificate lists nobody whom it lets in */
+  RAF_LINE_UNCLEAR = 96,     /* a line may let in, and how sshd reads it cannot be told: so no
+                                   other line and no other file may */
+
+  /* 100 to 102: nothing is asked about the host; the first of these */
+  RAF_NO_PORT = 100,    /* the port is 0 */
+  RAF_NO_HOST = 101,    /* the host has no bytes */
+  RAF_NO_ADDRESS = 102, /* it is like an address, and is none with one text: 127.1, fe80::1%eth0 */
+
+  RAF_NO_IDENTITY = 103 /* the signer's identity has no bytes */
+};
+
+/* The name of an answer as it stands above, without RAF_; for logs. */
+static inline const char *raf_status_name(uint32_t answer) {
+#define RAF_NAMED(name) case RAF_##name: return #name
+  switch (answer) {
+    RAF_NAMED(DONE); RAF_NAMED(MEMORY); RAF_NAMED(SHORT_BUFFER); RAF_NAMED(END);
+    RAF_NAMED(TEXT); RAF_NAMED(BASE64); RAF_NAMED(CHARACTER_ENCODING);
+    RAF_NAMED(LABEL); RAF_NAMED(LENGTH); RAF_NAMED(TRAILING_DATA);
+    RAF_NAMED(FORMAT); RAF_NAMED(ALGORITHM_UNKNOWN); RAF_NAMED(CRYPTO);
+    RAF_NAMED(ECDSA); RAF_NAMED(TIME); RAF_NAMED(NAMESPACE);
+    RAF_NAMED(PUBLIC_KEY); RAF_NAMED(UNSUPPORTED_VERSION); RAF_NAMED(OTHER_ERROR);
+    RAF_NAMED(RSA_SHA1);
+    RAF_NAMED(NOT_SIGNED); RAF_NAMED(UNTRUSTED_AUTHORITY); RAF_NAMED(INVALID_TIME);
+    RAF_NAMED(OUT_OF_WINDOW); RAF_NAMED(UNLISTED_PRINCIPAL);
+    RAF_NAMED(UNSUPPORTED); RAF_NAMED(OTHER_NAMESPACE);
+    RAF_NAMED(PRINCIPALS); RAF_NAMED(EMPTY_WINDOW);
+    RAF_NAMED(HOST_REVOKED); RAF_NAMED(HOST_UNREADABLE);
+    RAF_NAMED(HOST_CHANGED); RAF_NAMED(HOST_UNKNOWN);
+    RAF_NAMED(SIGNER_NOT_ALLOWED); RAF_NAMED(REVOKED); RAF_NAMED(ELSEWHERE);
+    RAF_NAMED(UNREADABLE_REVOCATIONS); RAF_NAMED(KEY_NOT_ACCEPTED);
+    RAF_NAMED(NOT_REVOKED);
+    RAF_NAMED(LATER_KEY); RAF_NAMED(UNSAFE_MODE);
+    RAF_NAMED(NOT_NORMAL_FORM); RAF_NAMED(OTHER_TYPE); RAF_NAMED(OTHER_KEY);
+    RAF_NAMED(CRITICAL_OPTIONS); RAF_NAMED(EXTENSIONS); RAF_NAMED(KEY_ID);
+    RAF_NAMED(VALID_PRINCIPALS);
+    RAF_NAMED(OTHER_REQUEST); RAF_NAMED(OTHER_ALGORITHM); RAF_NAMED(UNTOUCHED);
+    RAF_NAMED(UNVERIFIED);
+    RAF_NAMED(USER_NOT_LISTED); RAF_NAMED(LINE_EXPIRED); RAF_NAMED(LINE_OPTION);
+    RAF_NAMED(LINE_ELSEWHERE); RAF_NAMED(LINE_COMMAND); RAF_NAMED(LINE_PRINCIPALS);
+    RAF_NAMED(LINE_UNCLEAR);
+    RAF_NAMED(NO_PORT); RAF_NAMED(NO_HOST); RAF_NAMED(NO_ADDRESS);
+    RAF_NAMED(NO_IDENTITY);
+    default: return "no answer";
+  }
+#undef RAF_NAMED
+}
+
+/* ---- what is read ---------------------------------------------------------------------------- */
+
+/* Bytes that a call reads; no null pointer, also where the length is 0 (raf_bytes). */
+typedef struct {
+  const uint8_t *bytes;
+  size_t length;
+} raf_span;
+
+/* Byte strings that a call reads: `count` of them, at no null pointer. */
+typedef struct {
+  const raf_span *items;
+  size_t count;
+} raf_spans;
+
+/* The revocation files of who asks about no revocation: one file, the list of nothing (PROTOCOL.krl).
+ * No file at all would revoke everything, as one does that could not be read. */
+static inline raf_spans raf_no_revocations(void) {
+  static const uint8_t list[44] = "SSHKRL\n\0\0\0\0\1";
+  static const raf_span file = {list, sizeof list};
+  raf_spans files = {&file, 1};
+  return files;
+}
+#define RAF_NO_REVOCATIONS raf_no_revocations()
+
+/* ---- what is written ------------------------------------------------------------------------- */
+
+/* A part of a room, or of other bytes: where it begins, and how many bytes it has. */
+typedef struct {
+  size_t start;  /* the place of its first byte */
+  size_t length; /* the number of its bytes */
+} raf_part;
+
+/* A SHA-256 digest. */
+typedef struct {
+  uint8_t bytes[32];
+} raf_sha256;
+
+/* A SHA-512 digest. */
+typedef struct {
+  uint8_t bytes[64];
+} raf_sha512;
+
+/* SHA-256 fingerprints of keys that a call reads: `count` of them, at no null pointer. */
+typedef struct {
+  const raf_sha256 *items;
+  size_t count;
+} raf_digests;
+
+/* ---- questions ------------------------------------------------------------------------------- */
+
+/* How a signature is made. A key's blob (RFC 4253, section 6.6) is strings, one after the other:
+ * four bytes of length, big-endian, and the bytes. The first is the name of the key's type. So
+ * are the signatures of ECDSA. raf_next_string goes over them.
+ *
+ * Numbers in strings are mpints (RFC 4251, section 5): two's complement, big-endian. Those of a DSA
+ * or RSA key may be zero (no bytes) or negative (the first bit is set): no such key is valid, so
+ * your verification says no. r and s of an ECDSA signature are positive. A point need not lie on
+ * its curve, and may be compressed, which OpenSSH does not read: say no to one that does not begin
+ * with 04, or else a key has two fingerprints. raf_may_verify says all of this of a key. */
+enum {
+  /* with SHA-1; after the name p, q, g, y; signature: r and s, unsigned, 20 bytes each */
+  RAF_ASK_DSA = 1,
+  /* ECDSA; after the name the curve's name, and the point as in SEC 1; signature: two strings, r
+   * and s */
+  RAF_ASK_P256 = 2, /* with SHA-256 */
+  RAF_ASK_P384 = 3, /* with SHA-384 */
+  RAF_ASK_P521 = 4, /* with SHA-512 */
+  /* after the name the key, 32 bytes; signature: 64 bytes */
+  RAF_ASK_ED25519 = 5,
+  /* PKCS#1 v1.5; after the name e and n; signature: an unsigned number, as long as n or longer: a
+   * shorter one has got the zeros in front that its signer left out, under n up to 16,384 bits */
+  RAF_ASK_RSA_SHA256 = 6, /* with SHA-256 */
+  RAF_ASK_RSA_SHA512 = 7  /* with SHA-512 */
+};
+
+/* What has to be verified: that `signature` is one of `message` under `key`, made as `algorithm`
+ * says. A security key's question is already the one about the plain key within and about what the
+ * device signed (PROTOCOL.u2f): 32 bytes of digest, a byte of flags, four of the counter, and 32 of
+ * digest. Whether somebody touched it or was verified, raf_userauth_question and
+ * raf_check_grant_flags say of a client's signature. */
+typedef struct {
+  raf_part key;       /* its blob */
+  raf_part message;   /* what is signed */
+  raf_part signature; /* as the algorithm has it */
+  size_t length;         /* how many bytes of the room these take */
+  uint32_t algorithm;    /* RAF_ASK_* */
+} raf_question;
+
+/* What stands in a line of a key file or of a certificate file: a blob, as the calls below take it,
+ * and the comment, which may be empty. */
+typedef struct {
+  raf_part blob;
+  raf_part comment;
+  size_t length; /* how many bytes of the room these take */
+  uint32_t kind; /* RAF_LINE_* */
+} raf_line;
+
+/* What the blob of a line is. */
+enum { RAF_LINE_KEY = 1, RAF_LINE_CERTIFICATE = 2 };
+
+/* ---- lines ----------------------------------------------------------------------------------- */
+
+/* What stands in a line of a file of public keys (id_ed25519.pub) or of certificates
+ * (id_ed25519-cert.pub): a type, a blob in Base64 and a comment, with a space between. White space
+ * at the end is cut off; a line end before that is part of the comment. Lines of authorized_keys
+ * and known_hosts may have more, and are not read; nor are tabs or several spaces, which sshd takes
+ * in a file of authorities: raf_authorized_entry reads those, with an empty `front`.
+ *
+ * RAF_DONE exactly if the line is that of a key or of a certificate (memory and room aside);
+ * else 11 for a line that is not UTF-8, and from 10 to 29 a fault that it has as the line of a
+ * certificate, or, where that is RAF_LABEL, as the line of a key. A room of the line's length is
+ * enough. */
+uint32_t raf_read_line(const uint8_t *line, size_t line_length, uint8_t *room,
+                          size_t room_length, raf_line *answer);
+
+/* Whether the line of a file of keys has a key of a later kind, as OpenSSH 10.6's
+ * ssh-mldsa44-ed25519: after spaces and tabs, and without options, a name that no key begins with
+ * that is read here, and Base64 of bytes that begin with that very name. In a file of authorities
+ * (TrustedUserCAKeys) such a line is an authority that signs nothing that is read here: pass over
+ * it, and say so. A line that is neither a key nor this refuses the file.
+ *
+ * RAF_DONE exactly if it has; RAF_LABEL if not, also for a key that is read here, and
+ * RAF_TEXT for a line that is not UTF-8. Takes no memory. */
+uint32_t raf_is_later_key_line(const uint8_t *line, size_t line_length);
+
+/* ---- what may be believed -------------------------------------------------------------------- */
+
+/* The SHA-256 fingerprint of the key in a line of a file of authorities (TrustedUserCAKeys): the
+ * name of its type and its Base64, after spaces or tabs and with some between. What follows is a
+ * comment, and decides nothing.
+ *
+ * RAF_DONE exactly if the line has a key (memory aside), and RAF_LATER_KEY if it has one of a
+ * later kind (raf_is_later_key_line). Else refuse the file: RAF_TEXT where these two words
+ * are not UTF-8, or 10 to 29. */
+uint32_t raf_authority(const uint8_t *line, size_t line_length, raf_sha256 *answer);
+
+/* The same of a file that says which authority may sign for whom: in its lines names of users, with
+ * commas between, stand before the key.
+ *
+ * RAF_END exactly if the user is none of the names, which are compared byte by byte, or has no
+ * byte: pass over the line, whatever follows. Else what raf_authority answers of what follows
+ * the names. */
+uint32_t raf_user_authority(const uint8_t *line, size_t line_length, const uint8_t *user,
+                               size_t user_length, raf_sha256 *answer);
+
+/* Whether your verification may say yes to a signature under the key of that blob, as of that of a
+ * question. Ask it first, and make the key then.
+ *
+ * RAF_DONE exactly if OpenSSH lets somebody in by the key, and one of RSA has 2,048 bits or more,
+ * where OpenSSH is content with 1,024: so it is none of DSA, each number in it is positive and has
+ * at most 16,384 bits, and a point begins with 04. Else RAF_KEY_NOT_ACCEPTED, or 10 to 29 for
+ * bytes that are no key. Takes no memory. */
+uint32_t raf_may_verify(const uint8_t *key, size_t key_length);
+
+/* Whether a file or a folder may be believed about a user, as by sshd's StrictModes; owner, user and
+ * mode as of stat(2). The user 0 is root.
+ *
+ * RAF_DONE exactly if root or the user owns it, and neither group nor others may write; else
+ * RAF_UNSAFE_MODE. Takes no memory. */
+uint32_t raf_check_safe_mode(uint64_t owner, uint64_t user, uint32_t mode);
+
+/* ---- certificates (PROTOCOL.certkeys) -------------------------------------------------------- */
+
+/* What has to be verified of a certificate, given as its blob, which raf_read_line gives.
+ *
+ * RAF_DONE exactly if the bytes are a certificate and key and signature go together (memory and
+ * room aside); else RAF_UNSUPPORTED, or 10 to 29 for bytes that are no certificate. A room of
+ * twice the certificate's length and 2,304 bytes is enough. */
+uint32_t raf_certificate_question(const uint8_t *certificate, size_t certificate_length,
+                                     uint8_t *room, size_t room_length, raf_question *answer);
+
+/* Whether a certificate is valid at that second (since 1970) for one of the authorities, which are
+ * named by the SHA-256 fingerprints of their keys. `is_verified` is 1 if the answer to the question
+ * of this certificate is yes; any other number is no.
+ *
+ * RAF_DONE exactly if the bytes are a certificate that raises a question, `is_verified` is 1,
+ * the key that signed is one of the authorities', valid_after <= unix_timestamp < valid_before, and
+ * unix_timestamp <= 2^63 - 1; RAF_MEMORY aside, which is answered only where the key that signed
+ * is not in its normal form: an RSA key under another name than ssh-rsa. Else 10 to 29 for bytes
+ * that are no certificate, and 30 to 33 for what is wrong first. Its type, its critical options and
+ * whether it is revoked are yours to judge: docs/CHECKLIST.md, "A login", "A host". */
+uint32_t raf_check_certificate(const uint8_t *certificate, size_t certificate_length,
+                                     uint64_t unix_timestamp, const raf_sha256 *authorities,
+                                     size_t authority_count, uint32_t is_verified);
+
+/* The same, and the certificate lists the principal, or no principal at all; where it does not,
+ * RAF_UNLISTED_PRINCIPAL, which is looked at last. RAF_TEXT for a principal that is not
+ * UTF-8, whatever the certificate is. A certificate that lists none allows everybody here; for a
+ * user sshd refuses it by TrustedUserCAKeys, and by a line cert-authority sshd 9.2 takes it. */
+uint32_t raf_check_certificate_for(const uint8_t *certificate, size_t certificate_length,
+                                         uint64_t unix_timestamp, const uint8_t *principal,
+                                         size_t principal_length, const raf_sha256 *authorities,
+                                         size_t authority_count, uint32_t is_verified);
+
+/* Whom a certificate is for. */
+enum { RAF_USER = 1, RAF_HOST = 2 };
+
+/* The end of a window that has none. */
+#define RAF_FOREVER UINT64_MAX
+
+/* What a policy asks of a certificate. */
+typedef struct {
+  uint64_t serial;
+  uint64_t valid_after;          /* the first second of its window */
+  uint64_t valid_before;         /* the first second after its window, or RAF_FOREVER */
+  uint32_t certificate_type;     /* RAF_USER or RAF_HOST */
+  uint32_t lists_principals;     /* 0 where it lists none, and so allows everybody; else 1 */
+  uint32_t has_critical_options; /* 0 where it has none; else 1: refuse it unless you know each */
+} raf_fields;
+
+/* The fields of a certificate, whether it is valid or not. RAF_DONE exactly if the bytes are a
+ * certificate; else 10 to 29. Takes no memory. */
+uint32_t raf_certificate_fields(const uint8_t *certificate, size_t certificate_length,
+                                   raf_fields *answer);
+
+/* ---- what a certificate lists ---------------------------------------------------------------- */
+
+/* Where parts of a certificate stand in its bytes, in this order, each after its length of four
+ * bytes. Between principals and critical options stands the window, and before the authority a
+ * reserved string. */
+typedef struct {
+  raf_part key_id;           /* a text, for logs */
+  raf_part principals;       /* strings: raf_next_string goes over them */
+  raf_part critical_options; /* one after the other: raf_next_certificate_option goes over them */
+  raf_part extensions;       /* likewise */
+  raf_part authority;        /* the blob of the key that signed */
+} raf_parts;
+
+/* The parts of a certificate, whether it is valid or not. RAF_DONE exactly if the bytes are a
+ * certificate; else 10 to 29. Takes no memory, and copies nothing. */
+uint32_t raf_certificate_parts(const uint8_t *certificate, size_t certificate_length,
+                                  raf_parts *answer);
+
+/* Where the name and the value of an option stand, and the place of the next one. The name stands
+ * after its length of four bytes, and the next one begins where the value ends. */
+typedef struct {
+  raf_part name;
+  raf_part value; /* of no bytes where the option has none */
+  size_t next;
+} raf_certificate_option_parts;
+
+/* The option that begins at that place of critical options or extensions: the string of a name, and
+ * a string that is empty or holds the string of a value. RAF_DONE exactly if one stands there;
+ * RAF_END at the end of the bytes, else RAF_LENGTH. Takes no memory. */
+uint32_t raf_next_certificate_option(const uint8_t *bytes, size_t length, size_t place,
+                            raf_certificate_option_parts *answer);
+
+/* Writes the blob of the key that is certified to the front of the room, which does not stand whole
+ * in the certificate. RAF_DONE exactly if the bytes are a certificate, memory and room aside;
+ * else 10 to 29. `length` says how many bytes the blob has. A room as long as the certificate is
+ * enough. */
+uint32_t raf_certificate_key(const uint8_t *certificate, size_t certificate_length,
+                                uint8_t *room, size_t room_length, size_t *length);
+
+/* ---- how a certificate is made --------------------------------------------------------------- */
+
+/* What a certificate is to say. */
+typedef struct {
+  raf_span key;              /* the blob of the key that is certified */
+  raf_span nonce;            /* random bytes of yours: 16 or 32 */
+  raf_span key_id;           /* a text, for logs */
+  raf_span principals;       /* strings, one after the other: refuse a zero byte in one, since
+                                   sshd takes the name to end there, and so for another user's */
+  raf_span critical_options; /* as raf_next_certificate_option reads them, with rising names */
+  raf_span extensions;       /* likewise */
+  raf_span authority;        /* the blob of the key that is to sign */
+  uint64_t serial;           /* not 0: to OpenSSH that is none, and no KRL can name it */
+  uint64_t valid_after;      /* the first second of its window, since 1970 */
+  uint64_t valid_before;     /* the first second after its window, or RAF_FOREVER */
+  uint32_t certificate_type; /* RAF_USER or RAF_HOST */
+  uint32_t all_principals;   /* 1 where it lists no principals, and so allows everybody; else 0 */
+} raf_draft;
+
+/* Writes the bytes that are to be signed to the front of the room; `length` says how many they are.
+ * Sign them with the authority's key, and make the signature's blob (RFC 4253, section 6.6): the
+ * string of the algorithm's name, and the string of what it makes.
+ *
+ * RAF_DONE exactly if the draft tells a certificate, memory and room aside. Else what is wrong,
+ * in this order: RAF_FORMAT for another certificate_type, RAF_TIME for a time above 2^63 - 1,
+ * RAF_EMPTY_WINDOW, RAF_PRINCIPALS; then 10 to 29 for a key, a text or a list that is none. A
+ * key to be certified that has a private-use name is rejected: RAF_LABEL. Also ask:
+ * docs/CHECKLIST.md, "An authority". */
+uint32_t raf_certificate_to_be_signed(const raf_draft *draft, uint8_t *room,
+                                         size_t room_length, size_t *length);
+
+/* Writes the certificate that a signature makes of these bytes. RAF_DONE exactly if that is a
+ * certificate, memory and room aside; else 10 to 29. Whether the signature is one of these bytes
+ * raf_certificate_question asks, and .._validate says. */
+uint32_t raf_certificate_make(const uint8_t *to_be_signed, size_t to_be_signed_length,
+                                 const uint8_t *signature, size_t signature_length, uint8_t *room,
+                                 size_t room_length, size_t *length);
+
+/* ---- keys ------------------------------------------------------------------------------------ */
+
+/* The SHA-256 fingerprint of the key of that blob, as raf_check_certificate takes it.
+ * RAF_DONE exactly if the bytes are a key, RAF_MEMORY aside, which is answered only for one
+ * that is not its normal form; else 10 to 29. With any answer but RAF_DONE the digest stays as
+ * it was. */
+uint32_t raf_fingerprint(const uint8_t *key, size_t key_length, raf_sha256 *answer);
+
+/* How many bytes the text of a SHA-256 fingerprint has, as ssh-keygen shows it: "SHA256:" and 43
+ * characters. */
+#define RAF_FINGERPRINT_TEXT 50
+
+/* Writes that text to the front of the room, without a zero after it. RAF_DONE, or RAF_SHORT_BUFFER
+ * where the room has fewer bytes. Takes no memory. */
+uint32_t raf_fingerprint_text(const raf_sha256 *digest, uint8_t *room, size_t room_length);
+
+/* The same by SHA-512. */
+uint32_t raf_fingerprint_sha512(const uint8_t *key, size_t key_length, raf_sha512 *answer);
+
+/* "SHA512:" and 86 characters. */
+#define RAF_FINGERPRINT_SHA512_TEXT 93
+
+/* Writes that text, as raf_fingerprint_text does. Takes no memory. */
+uint32_t raf_fingerprint_sha512_text(const raf_sha512 *digest, uint8_t *room,
+                                        size_t room_length);
+
+/* What has to be verified of a signature (RFC 4253, section 6.6) of the message under the key of
+ * that blob: as an agent gives it, or a client at a login (docs/CHECKLIST.md, "A login").
+ *
+ * RAF_DONE exactly if the bytes are a key and a signature that go together (memory and room
+ * aside); else RAF_UNSUPPORTED, or 10 to 29 for bytes that are no key, or else no signature.
+ * RAF_MEMORY only where they are both. A room as long as the three together, and 2,304 bytes, is
+ * enough. */
+uint32_t raf_signature_question(const uint8_t *key, size_t key_length, const uint8_t *message,
+                                   size_t message_length, const uint8_t *signature,
+                                   size_t signature_length, uint8_t *room, size_t room_length,
+                                   raf_question *answer);
+
+/* ---- who is let in (sshd(8)) ------------------------------------------------------------------ */
+
+/* A login by a certificate, and whom the server trusts. */
+typedef struct {
+  raf_span certificate;    /* its blob, as the client sent it */
+  raf_span user;           /* UTF-8 */
+  raf_span key;            /* the blob of the key under which the client signs: whether it has
+                                 raf_userauth_question asks */
+  raf_span client;         /* the address of its socket, of 4 or 16 bytes; with any other number
+                                 of bytes it has none: then source-address lets nobody in */
+  raf_digests authorities; /* of the keys that may sign logins */
+  raf_spans revoked;       /* revocation files, each a list or keys as text: any of them revokes.
+                                 Who asks none says so: RAF_NO_REVOCATIONS */
+  uint64_t unix_timestamp;
+  uint32_t least_rsa_bits;    /* as RequiredRSASize; below 1,024, as 0, it is 1,024 */
+  uint32_t caller_checks_address;    /* 1: you judge yourself whether source-address, which no grant tells,
+                                 has the client's, and `client` is not looked at: so does sshd with
+                                 a certificate whose principals a program tells it, and before 9.4
+                                 it tells that program no address. With any other number, as 0, it
+                                 is judged here; and always by raf_check_user_keys and
+                                 raf_check_principals, which with 1 know no address */
+} raf_login;
+
+/* What a grant permits. Zero permits nothing. */
+enum {
+  RAF_PERMIT_PTY = 1,
+  RAF_PERMIT_PORT_FORWARDING = 2,
+  RAF_PERMIT_AGENT_FORWARDING = 4,
+  RAF_PERMIT_X11_FORWARDING = 8,
+  RAF_PERMIT_USER_RC = 16,
+  RAF_PERMIT_ANY_COMMAND = 32,     /* no force-command: what the client asks for, or a shell */
+  RAF_PERMIT_NO_TOUCH = 64,         /* a security key that nobody touched */
+  RAF_PERMIT_NO_VERIFICATION = 128, /* a security key that did not verify its user */
+  /* by authorized_keys alone (raf_user_grant) */
+  RAF_PERMIT_TUNNELS = 256,         /* tunnels (tun(4)) */
+  RAF_PERMIT_ANY_TUNNEL = 512,      /* whichever device of them */
+  RAF_PERMIT_OPEN_ANYWHERE = 1024,  /* ports may be forwarded to anywhere, if at all */
+  RAF_PERMIT_LISTEN_ANYWHERE = 2048 /* ports may be listened at anywhere, if at all */
+};
+
+/* What a login may do, and by which certificate. */
+typedef struct {
+  raf_part force_command; /* the one command that may run; of no bytes with
+                                RAF_PERMIT_ANY_COMMAND */
+  raf_part key_id;        /* a text, for logs */
+  size_t length;             /* how many bytes of the room these take */
+  uint64_t serial;           /* the certificate's */
+  raf_sha256 authority;   /* of the key that signed it */
+  uint32_t permits;          /* RAF_PERMIT_* */
+} raf_grant;
+
+/* What has to be verified before a login is let in: the question of its certificate. So nothing is
+ * verified of a certificate that a stranger signed.
+ *
+ * RAF_DONE, or RAF_SHORT_BUFFER, only where raf_check_login, asked with 0, says
+ * RAF_NOT_SIGNED: all that is looked at before is right. Else what that says; RAF_NOT_SIGNED
+ * is said of a certificate that raises no question. Only with RAF_DONE is there something to
+ * verify. A room of twice the certificate's length and 2,304 bytes is enough. RAF_MEMORY only
+ * where the user is UTF-8 and the key is one. */
+uint32_t raf_login_question(const raf_login *login, uint8_t *room, size_t room_length,
+                               raf_question *answer);
+
+/* Whether a login is let in, as sshd would by these authorities, and what it may do. `is_verified`
+ * is 1 if the answer to the question of its certificate is yes (raf_login_question); any other
+ * number is no.
+ *
+ * RAF_DONE exactly if the bytes are a certificate for users, in its normal form, of just that
+ * key, which OpenSSH lets in, that lists the user; with options and texts that sshd accepts, and a
+ * source-address that has the client's, unless you judge it; valid at that second by one of the
+ * authorities, whose key is of a kind and a size that OpenSSH accepts there; `is_verified` is 1; and
+ * no revocation file revokes it (memory and room aside). Else what is wrong first: RAF_TEXT for
+ * the user, 10 to 29 for bytes that are no key, or else no certificate, 70 to 72, 59 for the key or
+ * the one that signed, 73 to 76, then RAF_UNTRUSTED_AUTHORITY, RAF_UNREADABLE_REVOCATIONS or
+ * RAF_REVOKED, 30, 32 to 34, and RAF_ELSEWHERE. A room as long as the certificate is enough.
+ * RAF_MEMORY only where the user is UTF-8 and the key is one.
+ *
+ * With RAF_SHORT_BUFFER `*answer` is zero but for its `length`, and with every other answer but
+ * RAF_DONE all zero, which permits nothing; the room stays as it was.
+ *
+ * Yours: that the client signed under the key (raf_userauth_question asks), to run no other
+ * command than the grant's, and to allow nothing that it does not permit. */
+uint32_t raf_check_login(const raf_login *login, uint32_t is_verified, uint8_t *room,
+                              size_t room_length, raf_grant *answer);
+
+/* ---- what a client signs (RFC 4252, section 7; OpenSSH's PROTOCOL) --------------------------- */
+
+/* A client's signature for a login by public key, and the request that it has to be of. */
+typedef struct {
+  raf_span session_id; /* the server's own, and nothing that the client sent */
+  raf_span user;
+  raf_span algorithm;  /* the name of the public key algorithm in the request */
+  raf_span public_key; /* the blob of the key or the certificate that the grant came from */
+  raf_span host_key;   /* the blob of the server's own host key, and nothing that the client sent,
+                             if has_host_key is not 0 */
+  raf_span signature;  /* the blob of the client's signature (RFC 4253, section 6.6) */
+  uint32_t has_host_key;  /* 0: the method is publickey; else publickey-hostbound-v00@openssh.com */
+  uint32_t permits;       /* the grant's: RAF_PERMIT_NO_TOUCH, .._NO_VERIFICATION */
+} raf_userauth;
+
+/* What has to be verified of a client's signature for a login. The bytes that it signs are made
+ * here, for the service ssh-connection. The names of algorithms are compared as by sshd: that of a
+ * certificate stands for its plain one, and rsa-sha2-256 is not rsa-sha2-512.
+ *
+ * RAF_DONE exactly if the signature is by the algorithm that the request names, public_key is a
+ * key of it, or a certificate where the name is one's, and the flags of a security key are what the
+ * grant wants (memory and room aside): then the signature is the client's exactly if your
+ * verification says yes. Else 10 to 29 for bytes that are no signature; RAF_LENGTH for a part
+ * that no string can hold; 81 to 83; 10 to 29 for a public_key that is none; RAF_UNSUPPORTED. A
+ * room of twice the length of all the parts, and 2,304 bytes, is enough. */
+uint32_t raf_userauth_question(const raf_userauth *request, uint8_t *room,
+                                  size_t room_length, raf_question *answer);
+
+/* The same where the server has the bytes that the client signed. Where they are not those of the
+ * request, RAF_OTHER_REQUEST, in place of RAF_LENGTH. */
+uint32_t raf_userauth_question_of(const raf_userauth *request, const uint8_t *signed_bytes,
+                                     size_t signed_length, uint8_t *room, size_t room_length,
+                                     raf_question *answer);
+
+/* Whether the flags in a client's signature are what a grant that permits this wants: for a server
+ * whose SSH library has verified the signature, under the key of that blob (no certificate).
+ *
+ * RAF_DONE exactly if key and signature go together, and the key is no security key or its flags
+ * are what is wanted (memory aside); else RAF_UNSUPPORTED, RAF_UNTOUCHED,
+ * RAF_UNVERIFIED, or 10 to 29 for bytes that are no key, or else no signature. RAF_MEMORY
+ * only where they are both. */
+uint32_t raf_check_grant_flags(uint32_t permits, const uint8_t *key, size_t key_length,
+                            const uint8_t *signature, size_t signature_length);
+
+/* ---- SSH signatures (PROTOCOL.sshsig) -------------------------------------------------------- */
+
+/* What has to be verified of an SSH signature of the message in that namespace, and the SHA-256
+ * fingerprint of the key that signed: whether that key may sign is yours to judge
+ * (docs/CHECKLIST.md, "A signature"). The signature is what stands in the armour, Base64 decoded.
+ *
+ * RAF_DONE exactly if the bytes are an SSH signature for that namespace whose key and signature
+ * go together (memory and room aside); else RAF_OTHER_NAMESPACE, RAF_UNSUPPORTED, or 10 to 29
+ * for bytes that are no signature. A room of twice its length and 2,304 bytes is enough. */
+uint32_t raf_sshsig_question(const uint8_t *signature, size_t signature_length,
+                                const uint8_t *name_space, size_t name_space_length,
+                                const uint8_t *message, size_t message_length, uint8_t *room,
+                                size_t room_length, raf_question *answer, raf_sha256 *signer);
+
+/* The same with the digest of the message in place of the message, so that a long one need not be
+ * in memory. The hash is the one that the signature names, in its fourth string from byte 10 on
+ * (raf_next_string): sha256 or sha512. Where a digest has not the 32 or 64 bytes of that hash,
+ * RAF_LENGTH; else what raf_sshsig_question answers of each message with that digest. */
+uint32_t raf_sshsig_question_of_digest(const uint8_t *signature, size_t signature_length,
+                                          const uint8_t *name_space, size_t name_space_length,
+                                          const uint8_t *digest, size_t digest_length,
+                                          uint8_t *room, size_t room_length,
+                                          raf_question *answer, raf_sha256 *signer);
+
+/* Whether an SSH signature counts in that namespace, where the keys with these SHA-256 fingerprints
+ * may sign. `is_verified` is 1 if the answer to the question of this signature, in the namespace
+ * and of the message, is yes; any other number is no. Ask with 0 first: RAF_NOT_SIGNED says that
+ * its key may sign, and with any other answer there is nothing to verify.
+ *
+ * RAF_DONE exactly if the bytes are a signature in the namespace that raises a question, without
+ * reserved bytes, `is_verified` is 1, and its key is one of those (memory aside). Else 10 to 29 for
+ * bytes that are no signature, RAF_SIGNER_NOT_ALLOWED, or RAF_NOT_SIGNED. RAF_MEMORY only
+ * where a part of the signature is whole. */
+uint32_t raf_check_sshsig(const uint8_t *signature, size_t signature_length,
+                               const uint8_t *name_space, size_t name_space_length,
+                               const raf_sha256 *signers, size_t signer_count,
+                               uint32_t is_verified);
+
+/* Whether an SSH signature counts as the identity's in that namespace, by a text of allowed
+ * signers (ssh-keygen(1)), at that second (since 1970), as `ssh-keygen -Y verify` says, or more
+ * strictly (docs/CALLING.md): a time without Z, which is of the machine's zone there, has to hold
+ * in every zone here. `revoked` are revocation files, as raf_check_unrevoked_key takes them; who asks
+ * none passes RAF_NO_REVOCATIONS, and never what is left where a file was not read.
+ * `is_verified` is 1 if the answer to the question of this signature, in the namespace and of the
+ * message, is yes; any other number is no. Ask with 0 first: RAF_NOT_SIGNED says that its key
+ * may sign, and with any other answer there is nothing to verify.
+ *
+ * RAF_DONE exactly if the bytes are a signature in the namespace that raises a question,
+ * without reserved bytes, `is_verified` is 1, the identity has a byte, a line lets its key sign for
+ * it in the namespace at that time, and the key is not revoked (memory aside). Else RAF_TEXT, 10
+ * to 29 for bytes that are no signature, RAF_NO_IDENTITY, 55, 58, 56 or RAF_NOT_SIGNED.
+ * RAF_MEMORY only where a part of the signature is whole. Also ask: docs/CHECKLIST.md, "A
+ * signature". */
+uint32_t raf_check_signer(const uint8_t *signers, size_t signers_length,
+                               const uint8_t *identity, size_t identity_length,
+                               const uint8_t *name_space, size_t name_space_length,
+                               const uint8_t *signature, size_t signature_length,
+                               uint64_t unix_timestamp, const raf_span *revoked,
+                               size_t revoked_count, uint32_t is_verified);
+
+/* ---- normal forms ---------------------------------------------------------------------------- */
+
+/* A value may have more spellings than one: the name of an RSA key may be rsa-sha2-256, and an
+ * empty option of a certificate may be written in two ways. Bytes that spell one value have one
+ * normal form, which is what fingerprints digest: two keys are the same exactly if theirs are.
+ *
+ * Each call writes it to the front of the room, and its length to `length`, also with RAF_SHORT_BUFFER.
+ * RAF_DONE exactly if the bytes are a value of that kind (memory and room aside); else 10 to
+ * 29. A room of the bytes' length is enough. */
+
+/* Of a key. RAF_MEMORY only where the bytes are a key, and not its normal form. */
+uint32_t raf_key_normal(const uint8_t *key, size_t key_length, uint8_t *room,
+                           size_t room_length, size_t *length);
+
+/* Of a certificate. RAF_MEMORY only where the bytes are one. */
+uint32_t raf_certificate_normal(const uint8_t *certificate, size_t certificate_length,
+                                   uint8_t *room, size_t room_length, size_t *length);
+
+/* Of an SSH signature, as raf_sshsig_question takes it. */
+uint32_t raf_sshsig_normal(const uint8_t *signature, size_t signature_length, uint8_t *room,
+                              size_t room_length, size_t *length);
+
+/* Of a signature, as raf_signature_question takes it, which is its own normal form. Takes no
+ * memory. */
+uint32_t raf_signature_normal(const uint8_t *signature, size_t signature_length, uint8_t *room,
+                                 size_t room_length, size_t *length);
+
+/* ---- strings (RFC 4251, section 5) ----------------------------------------------------------- */
+
+/* The string that begins at that place: four bytes of length, and that many bytes, which are the
+ * answer. The next begins at answer.start + answer.length. RAF_DONE exactly if one stands there;
+ * RAF_END at the end of the bytes, else RAF_LENGTH. Takes no memory. */
+uint32_t raf_next_string(const uint8_t *bytes, size_t length, size_t place, raf_part *answer);
+
+/* ---- revocation files (sshd_config(5), "RevokedKeys") ---------------------------------------- */
+
+/* Whether one of these files revokes the key of that blob: a list (PROTOCOL.krl), as
+ * `ssh-keygen -k` makes it, that has the key or its digest by SHA-1 or SHA-256; or a text with a key
+ * or a certificate a line, that has the key. A file of no bytes revokes nothing, as sshd's.
+ *
+ * Let in for RAF_NOT_REVOKED alone: a caller that takes any other answer for "not revoked" is
+ * wrong (docs/CHECKLIST.md, "All of them"). RAF_DONE exactly if all files can be read, and one
+ * revokes the key (memory aside); RAF_UNREADABLE_REVOCATIONS without a file, or for one that
+ * can't be read, by which sshd lets nobody in either (docs/CALLING.md says what sshd refuses beyond
+ * that); else 10 to 29 for bytes that are no key. A text takes memory for its lines, several files
+ * do, and one list only for a key that is not its normal form. */
+uint32_t raf_check_unrevoked_key(const raf_span *revoked, size_t revoked_count, const uint8_t *key,
+                            size_t key_length);
+
+/* The same of a certificate: a file has its key or the key that signed it, or a list revokes its
+ * serial number or its key id among the certificates of that key or of every key. The serial number
+ * 0 revokes nothing. One list takes memory only where the bytes are a certificate. */
+uint32_t raf_check_unrevoked_certificate(const raf_span *revoked, size_t revoked_count,
+                                    const uint8_t *certificate, size_t certificate_length);
+
+/* Whether a key revocation list, as `ssh-keygen -k` makes it, revokes the key of that blob: it has
+ * the key, or its digest by SHA-1 or SHA-256.
+ *
+ * Let in for RAF_NOT_REVOKED alone: a caller that takes any other answer for "not revoked" is
+ * wrong (docs/CHECKLIST.md, "All of them"). RAF_DONE exactly if the list revokes the key (memory
+ * aside); else 10 to 29 for bytes that are no list, or else no key. An empty file is no list, nor
+ * is a text of keys, which sshd takes in place of one. RAF_MEMORY only for a key that is not its
+ * normal form. */
+uint32_t raf_check_unrevoked_key_by_krl(const uint8_t *krl, size_t krl_length, const uint8_t *key,
+                                size_t key_length);
+
+/* The same of a certificate: the list has its key or the key that signed it, or revokes its serial
+ * number or its key id among the certificates of that key or of every key. The serial number 0
+ * revokes nothing. RAF_MEMORY only where the bytes are a list and a certificate. */
+uint32_t raf_check_unrevoked_certificate_by_krl(const uint8_t *krl, size_t krl_length,
+                                        const uint8_t *certificate, size_t certificate_length);
+
+/* The answer of one of these four calls with RAF_DONE for what is not revoked, and RAF_REVOKED
+ * for what is: so here, as of other calls, only RAF_DONE is good. */
+static inline uint32_t raf_unrevoked(uint32_t answer) {
+  if (answer == RAF_DONE) return RAF_REVOKED;
+  return answer == RAF_NOT_REVOKED ? (uint32_t)RAF_DONE : answer;
+}
+
+/* ---- authorized_keys and known_hosts (sshd(8)) ----------------------------------------------- */
+
+/* The next line from that place on that may be an entry: neither empty nor a comment, without the
+ * spaces and tabs at its front and without its end (a line feed, and a carriage return before it).
+ * RAF_DONE exactly if there is one, else RAF_END. Begin at 0, and go on at answer.start +
+ * answer.length: all lines take time in proportion to the text. Takes no memory. */
+uint32_t raf_next_line(const uint8_t *text, size_t length, size_t place, raf_part *answer);
+
+/* What stands before an entry of known_hosts: nothing, @cert-authority or @revoked. */
+enum { RAF_MARKER_NONE = 0, RAF_MARKER_CERT_AUTHORITY = 1, RAF_MARKER_REVOKED = 2 };
+
+/* An entry of a line: where its parts stand in the room. */
+typedef struct {
+  raf_part front;   /* the options as they stand in the line, or the hosts */
+  raf_part key;     /* the key's blob in its normal form, which fingerprints are digests of */
+  raf_part comment; /* all that follows */
+  size_t length;       /* how many bytes of the room these take */
+  uint32_t marker;     /* RAF_MARKER_*; of authorized_keys always RAF_MARKER_NONE */
+} raf_entry;
+
+/* The entry of a line of authorized_keys, as sshd reads it. RAF_DONE exactly if the line is one
+ * (memory and room aside); RAF_TEXT for a line that is not UTF-8, else 10 to 29. A room of the
+ * line's length is enough. Here a zero byte is a byte like others, while sshd reads no further.
+ *
+ * It shows a line, and decides nothing: whom a text lets in, raf_check_user_keys says. */
+uint32_t raf_authorized_entry(const uint8_t *line, size_t line_length, uint8_t *room,
+                                 size_t room_length, raf_entry *answer);
+
+/* The same of a line of known_hosts, as ssh reads it; one with a zero byte is refused. A line that
+ * is refused may be a revocation: to judge a host's key, ask raf_check_host_key. */
+uint32_t raf_known_host(const uint8_t *line, size_t line_length, uint8_t *room,
+                           size_t room_length, raf_entry *answer);
+
+/* An option of an entry: where its parts stand in the room. */
+typedef struct {
+  raf_part name;   /* as it stands in the line: letters are compared without case */
+  raf_part value;  /* without its quotes, and without each backslash before a quote */
+  size_t length;      /* how many bytes of the room these take */
+  size_t next;        /* the place of the next option */
+  uint32_t has_value; /* 0 where there is no value; else 1 */
+} raf_line_option_parts;
+
+/* The option that begins at that place of the options of an entry, commas before it aside: begin at
+ * 0, and go on at answer.next. RAF_DONE exactly if one stands there that is UTF-8 (memory and
+ * room aside); RAF_END exactly where nothing but commas is left, RAF_TEXT if what stands
+ * before the next comma outside quotes is not UTF-8, and RAF_FORMAT if it is no option. A room
+ * of the options' length is enough. All options take time in proportion to them.
+ *
+ * Go on to RAF_END, since what follows an option is not read with it. What the options of a line
+ * say of a login, raf_check_user_keys decides. */
+uint32_t raf_next_line_option(const uint8_t *options, size_t options_length, size_t place,
+                                  uint8_t *room, size_t room_length,
+                                  raf_line_option_parts *answer);
+
+/* Whether sshd may take a line of authorized_keys for one of the key of that blob, whatever it makes
+ * of the line's options: for a program that has sshd judge lines, as AuthorizedKeysCommand. It takes
+ * the first that lets a key in, so leave out none but those for which this is RAF_END: a line that
+ * is left out may hand the login to a later one, which binds it less.
+ *
+ * RAF_DONE where the key may be spelled in the line, as sshd reads Base64 (or is too short for
+ * that to be told), RAF_END where the line is surely none of the key's (memory aside), and 10 to
+ * 29 for bytes that are no key. RAF_MEMORY only where they are one. */
+uint32_t raf_line_may_name_key(const uint8_t *line, size_t line_length, const uint8_t *key,
+                               size_t key_length);
+
+/* The same of the authority that signed the certificate: by its lines cert-authority sshd lets the
+ * certificate in. */
+uint32_t raf_line_may_name_authority(const uint8_t *line, size_t line_length,
+                                       const uint8_t *certificate, size_t certificate_length);
+
+/* ---- whether a host is the known one (ssh(1)) ------------------------------------------------ */
+
+/* The host that a client connects to, and what is known of it. */
+typedef struct {
+  raf_spans known_hosts; /* the texts of all the files that count: one file alone may list a key
+                               that another one revokes */
+  raf_span host;         /* the name or address as the user typed it, without brackets; UTF-8 */
+  raf_spans revoked;     /* revocation files (RevokedHostKeys), each a list or keys as text: any
+                               of them revokes. Who asks none says so: RAF_NO_REVOCATIONS */
+  uint64_t unix_timestamp;  /* asked of certificates alone */
+  uint32_t least_rsa_bits;  /* as RequiredRSASize; below 1,024, as 0, it is 1,024 */
+  uint16_t port;            /* not 0 */
+} raf_host_login;
+
+/* Whether the key of that blob is the host's, as ssh(1) says with StrictHostKeyChecking. Hashed
+ * names are compared here, by HMAC-SHA1. Where no line is for the host at a port other than 22, the
+ * host's plain name is asked too.
+ *
+ * An IPv6 address is asked in the text of inet_ntop(3): fd00::1 for FD00:0::1. What is like an
+ * address has a colon, or is a digit followed by digits, dots, a to f and x alone. It is refused
+ * where it is no address, as what inet_aton(3) alone reads, or with a scope, and where it is one of
+ * ::/96 beyond :: and ::1, which has two texts. With HostKeyAlias ssh asks the alias in place of the
+ * host, at no port: pass it alone, at port 22. With CheckHostIP it asks about the address too, also
+ * where the name is known, and refuses where that has another key: that is a second call.
+ *
+ * RAF_DONE exactly if a line for the host has the key, no line for it and no revocation file
+ * revokes the key, no line that is no entry could be one for the host, as each with a zero byte
+ * could, and OpenSSH accepts its kind and size (memory aside). Else the first of these:
+ * RAF_TEXT, 10 to 29 for bytes that are no key, 100 to 102, RAF_UNREADABLE_REVOCATIONS, 50 to
+ * 53, RAF_KEY_NOT_ACCEPTED. RAF_MEMORY only where the bytes are a key. */
+uint32_t raf_check_host_key(const raf_host_login *login, const uint8_t *key,
+                                 size_t key_length);
+
+/* Whether a certificate is the host's. `is_verified` is 1 if the answer to the question of this
+ * certificate is yes (raf_certificate_question); any other number is no. Ask with 0 first:
+ * RAF_NOT_SIGNED says "now verify", and with any other answer there is nothing to verify.
+ *
+ * RAF_DONE exactly if its bytes are its normal form; a line @cert-authority for the host has the
+ * key that signed it; no line for the host revokes one of its two keys, and no revocation file the
+ * certificate; no line that is no entry could be one for the host; OpenSSH accepts its key; it is
+ * for hosts, without critical options, of texts that ssh reads, and valid then for the host's name
+ * in small letters, which it lists; and `is_verified` is 1 (memory aside). Else the first of these:
+ * RAF_TEXT, 10 to 29, RAF_NOT_NORMAL_FORM, 100 to 102, RAF_UNREADABLE_REVOCATIONS, 50, 51,
+ * 53, 59, 71, 73, 75, 76, 30, 32 to 34. An address has to be listed in that one text. */
+uint32_t raf_check_host_certificate(const raf_host_login *login,
+                                         const uint8_t *certificate, size_t certificate_length,
+                                         uint32_t is_verified);
+
+/* The number of the first line, from 1, of a text of known_hosts that is no entry and may be one
+ * for the host at that port: by it the text is RAF_HOST_UNREADABLE, whatever the key. Empty lines
+ * and comments are counted.
+ *
+ * RAF_DONE exactly if there is one, and RAF_END if there is none (RAF_MEMORY aside);
+ * RAF_TEXT where the text or the host is not UTF-8, and then 100 to 102. Memory is taken only for
+ * a line that is neither empty nor a comment, and for a host that is like an address. */
+uint32_t raf_unreadable_host_line(const uint8_t *known_hosts, size_t known_hosts_length,
+                                     const uint8_t *host, size_t host_length, uint16_t port,
+                                     size_t *number);
+
+/* ---- where a client may come from ------------------------------------------------------------ */
+
+/* Whether the list, the value of a certificate's critical option source-address, lets a client in
+ * from the address: 4 or 16 bytes, those of struct in_addr or in6_addr. An IPv4 address as an IPv6
+ * socket shows it (::ffff:10.1.2.3) is that IPv4 address, and one of fe80::/10 is in no network, as
+ * to sshd. Let in for RAF_DONE alone.
+ *
+ * RAF_DONE exactly if each item of the list is a network and one of them has the address. Else
+ * the first of these: RAF_LENGTH for another number of bytes, RAF_TEXT for a list that is not
+ * UTF-8, RAF_FORMAT for a malformed one, which sshd refuses too, and RAF_ELSEWHERE. Takes no
+ * memory. */
+uint32_t raf_check_source_address(const uint8_t *list, size_t list_length,
+                                      const uint8_t *address, size_t address_length);
+
+/* Whether the list, the value of the option from of a line of authorized_keys, lets a client in
+ * from the address, as above. The host is the client's name in the DNS, if it was looked up and
+ * looked up back (UseDNS of sshd), and else of length 0.
+ *
+ * RAF_DONE exactly if an item of the list is for the client and none with a `!` is
+ * (RAF_MEMORY aside), and RAF_ELSEWHERE if not: then go on to the next line. Else refuse the
+ * login, since sshd may let in by this line: RAF_LENGTH; RAF_TEXT where list or host are not
+ * UTF-8, where the address is of fe80::/10, or of ::/96 beyond :: and ::1, whose text may be
+ * another to sshd, or where the host's name is like an address; RAF_FORMAT for a malformed list.
+ */
+uint32_t raf_check_from(const uint8_t *list, size_t list_length, const uint8_t *host,
+                            size_t host_length, const uint8_t *address, size_t address_length);
+
+/* ---- times (ssh-keygen(1), "ALLOWED SIGNERS") ------------------------------------------------- */
+
+/* The seconds since 1970 that a time may mean: from one to the other. */
+typedef struct {
+  uint64_t first; /* at least 1 */
+  uint64_t last;  /* the first one if the time names its zone */
+} raf_time_span;
+
+/* The seconds that a time may mean, which is YYYYMMDD, YYYYMMDDHHMM or YYYYMMDDHHMMSS, alone or
+ * before Z or UTC in small or large letters. Alone it is of the zone of the machine to OpenSSH, and
+ * here it may be of any. Each month is taken for one of 31 days, as by strptime(3): 20230230 is 2
+ * March 2023.
+ *
+ * RAF_DONE exactly if the text is such a time and later than the start of 1970, of whatever zone
+ * it may be; else RAF_TEXT where it is not UTF-8, and RAF_FORMAT. Takes no memory. */
+uint32_t raf_read_time(const uint8_t *text, size_t length, raf_time_span *answer);
+
+/* ---- whom authorized_keys lets in (sshd(8)) -------------------------------------------------- */
+
+/* What a login by a line of authorized_keys may do. */
+typedef struct {
+  raf_grant grant;        /* with the command of the line or of the certificate; of a plain key
+                                key_id has no bytes, serial and authority are zero */
+  raf_part permit_open;   /* without RAF_PERMIT_OPEN_ANYWHERE the only places to which ports
+                                may be forwarded: strings (raf_next_string), two each: a host,
+                                and a port of two bytes, big-endian, or of none for any port. Hosts
+                                are compared byte by byte, and "*" is any */
+  raf_part permit_listen; /* likewise where may be listened */
+  raf_part environment;   /* strings NAME=VALUE; by its defaults sshd sets none */
+  raf_time_span expires;  /* the last second at which the line counts; UINT64_MAX at any */
+  size_t line;               /* the number of the line, from 1; of a refusal 91 to 96, of the line
+                                that refuses */
+  uint32_t tunnel;           /* without RAF_PERMIT_ANY_TUNNEL the only device of tun(4);
+                                0x7fffffff is the "any" that a client asks for */
+} raf_user_grant;
+
+/* Whether a text of authorized_keys, of one file, lets a login in, as sshd would by the first line
+ * that does, and what that line leaves it. Where the login's certificate has no bytes, the client
+ * shows the plain key, and `is_verified` does not count. Else it shows that certificate of the key,
+ * for which lines cert-authority are asked: `is_verified` is 1 if the answer to its question is yes
+ * (raf_certificate_question); any other number is no. Ask with 0 first: RAF_NOT_SIGNED says
+ * "now verify", and with any other answer there is nothing to verify.
+ *
+ * `host` is the name that was found for the client's address (UseDNS), or of no bytes. The login's
+ * authorities are not looked at. Without an address (caller_checks_address is 1, too) a line with from
+ * cannot be told; nor can one that is not UTF-8 and may be for the key or its authority.
+ *
+ * RAF_DONE exactly if OpenSSH accepts the key, no revocation file revokes it, the first line for
+ * it that allows place and time comes before each that cannot be told, and the line is of no
+ * authority; or, of a certificate, if that line is of the authority that signed it, whose key
+ * OpenSSH accepts, allows its names and its command, and raf_check_login lets it in by that
+ * authority, for the name (memory and room aside). Else what is wrong first: RAF_TEXT where the
+ * user or the host is not UTF-8, 10 to 29 for bytes that are no key, or else no certificate,
+ * RAF_KEY_NOT_ACCEPTED, of a key RAF_UNREADABLE_REVOCATIONS or RAF_REVOKED, 90 to 96, and
+ * of a certificate that a line lets in what raf_check_login says. A room as long as the text
+ * and twice the certificate is enough. RAF_MEMORY only where these are UTF-8 and the key is one.
+ *
+ * After 90 to 95 ask about the next file; after every other answer let no other one count. With
+ * RAF_SHORT_BUFFER `*answer` is zero but for grant.length, and with every other answer but RAF_DONE
+ * zero but for `line`: it permits nothing; the room stays as it was.
+ *
+ * Yours: that the client signed under the key (raf_userauth_question asks, with grant.permits),
+ * to run no other command than the grant's, and to allow nothing that it does not permit. */
+uint32_t raf_check_user_keys(const raf_login *login, const uint8_t *text,
+                                  size_t text_length, const uint8_t *host, size_t host_length,
+                                  uint32_t is_verified, uint8_t *room, size_t room_length,
+                                  raf_user_grant *answer);
+
+/* Whether a text in the form of AuthorizedPrincipalsFile (sshd_config(5)), of one file, lets a login
+ * in by its certificate, as sshd would by the first line for a principal that this lists, and what
+ * that line leaves it. login->authorities are those of TrustedUserCAKeys, and login->user is not
+ * asked about. The answer, the numbers, the room and what is yours are those of
+ * raf_check_user_keys, but for these:
+ *
+ * RAF_DONE exactly if that line comes before each that cannot be told, and allows the
+ * certificate, place and time, OpenSSH accepts the key that signed it, and raf_check_login lets
+ * it in by login->authorities for that principal (memory and room aside). No bytes are no
+ * certificate: 10 to 29. RAF_LINE_PRINCIPALS never comes. A line for a principal cannot be told
+ * where it is not UTF-8 up to a #.
+ *
+ * A line that refuses ends it: after RAF_USER_NOT_LISTED alone ask about the next file, and after
+ * every other answer, 91 to 96 too, let no other one count. */
+uint32_t raf_check_principals(const raf_login *login, const uint8_t *text,
+                                   size_t text_length, const uint8_t *host, size_t host_length,
+                                   uint32_t is_verified, uint8_t *room, size_t room_length,
+                                   raf_user_grant *answer);
+
+/* ---------------------------------------------------------------------------------------------- */
+
+/* A pointer that may be passed beside the length 0, whatever `bytes` is. */
+static inline const uint8_t *raf_bytes(const void *bytes) {
+  return (const uint8_t *)(bytes ? bytes : (const void *)"");
+}
+
+/* The layout that the library was built for: Linux on x86-64 and aarch64. */
+#ifdef __cplusplus
+#define RAF_IS(fact) static_assert(fact, #fact)
+#else
+#define RAF_IS(fact) _Static_assert(fact, #fact)
+#endif
+RAF_IS(sizeof(size_t) == 8);
+RAF_IS(offsetof(raf_part, start) == 0);
+RAF_IS(offsetof(raf_part, length) == 8);
+RAF_IS(sizeof(raf_part) == 16);
+RAF_IS(offsetof(raf_sha256, bytes) == 0);
+RAF_IS(sizeof(raf_sha256) == 32);
+RAF_IS(offsetof(raf_sha512, bytes) == 0);
+RAF_IS(sizeof(raf_sha512) == 64);
+RAF_IS(offsetof(raf_line, blob) == 0);
+RAF_IS(offsetof(raf_line, comment) == 16);
+RAF_IS(offsetof(raf_line, length) == 32);
+RAF_IS(offsetof(raf_line, kind) == 40);
+RAF_IS(sizeof(raf_line) == 48);
+RAF_IS(offsetof(raf_question, key) == 0);
+RAF_IS(offsetof(raf_question, message) == 16);
+RAF_IS(offsetof(raf_question, signature) == 32);
+RAF_IS(offsetof(raf_question, length) == 48);
+RAF_IS(offsetof(raf_question, algorithm) == 56);
+RAF_IS(sizeof(raf_question) == 64);
+RAF_IS(offsetof(raf_fields, serial) == 0);
+RAF_IS(offsetof(raf_fields, valid_after) == 8);
+RAF_IS(offsetof(raf_fields, valid_before) == 16);
+RAF_IS(offsetof(raf_fields, certificate_type) == 24);
+RAF_IS(offsetof(raf_fields, lists_principals) == 28);
+RAF_IS(offsetof(raf_fields, has_critical_options) == 32);
+RAF_IS(sizeof(raf_fields) == 40);
+RAF_IS(offsetof(raf_parts, key_id) == 0);
+RAF_IS(offsetof(raf_parts, principals) == 16);
+RAF_IS(offsetof(raf_parts, critical_options) == 32);
+RAF_IS(offsetof(raf_parts, extensions) == 48);
+RAF_IS(offsetof(raf_parts, authority) == 64);
+RAF_IS(sizeof(raf_parts) == 80);
+RAF_IS(offsetof(raf_certificate_option_parts, name) == 0);
+RAF_IS(offsetof(raf_certificate_option_parts, value) == 16);
+RAF_IS(offsetof(raf_certificate_option_parts, next) == 32);
+RAF_IS(sizeof(raf_certificate_option_parts) == 40);
+RAF_IS(offsetof(raf_span, bytes) == 0);
+RAF_IS(offsetof(raf_span, length) == 8);
+RAF_IS(sizeof(raf_span) == 16);
+RAF_IS(offsetof(raf_spans, items) == 0);
+RAF_IS(offsetof(raf_spans, count) == 8);
+RAF_IS(sizeof(raf_spans) == 16);
+RAF_IS(offsetof(raf_digests, items) == 0);
+RAF_IS(offsetof(raf_digests, count) == 8);
+RAF_IS(sizeof(raf_digests) == 16);
+RAF_IS(offsetof(raf_login, certificate) == 0);
+RAF_IS(offsetof(raf_login, user) == 16);
+RAF_IS(offsetof(raf_login, key) == 32);
+RAF_IS(offsetof(raf_login, client) == 48);
+RAF_IS(offsetof(raf_login, authorities) == 64);
+RAF_IS(offsetof(raf_login, revoked) == 80);
+RAF_IS(offsetof(raf_login, unix_timestamp) == 96);
+RAF_IS(offsetof(raf_login, least_rsa_bits) == 104);
+RAF_IS(offsetof(raf_login, caller_checks_address) == 108);
+RAF_IS(sizeof(raf_login) == 112);
+RAF_IS(offsetof(raf_grant, force_command) == 0);
+RAF_IS(offsetof(raf_grant, key_id) == 16);
+RAF_IS(offsetof(raf_grant, length) == 32);
+RAF_IS(offsetof(raf_grant, serial) == 40);
+RAF_IS(offsetof(raf_grant, authority) == 48);
+RAF_IS(offsetof(raf_grant, permits) == 80);
+RAF_IS(sizeof(raf_grant) == 88);
+RAF_IS(offsetof(raf_draft, key) == 0);
+RAF_IS(offsetof(raf_draft, nonce) == 16);
+RAF_IS(offsetof(raf_draft, key_id) == 32);
+RAF_IS(offsetof(raf_draft, principals) == 48);
+RAF_IS(offsetof(raf_draft, critical_options) == 64);
+RAF_IS(offsetof(raf_draft, extensions) == 80);
+RAF_IS(offsetof(raf_draft, authority) == 96);
+RAF_IS(offsetof(raf_draft, serial) == 112);
+RAF_IS(offsetof(raf_draft, valid_after) == 120);
+RAF_IS(offsetof(raf_draft, valid_before) == 128);
+RAF_IS(offsetof(raf_draft, certificate_type) == 136);
+RAF_IS(offsetof(raf_draft, all_principals) == 140);
+RAF_IS(sizeof(raf_draft) == 144);
+RAF_IS(offsetof(raf_userauth, session_id) == 0);
+RAF_IS(offsetof(raf_userauth, user) == 16);
+RAF_IS(offsetof(raf_userauth, algorithm) == 32);
+RAF_IS(offsetof(raf_userauth, public_key) == 48);
+RAF_IS(offsetof(raf_userauth, host_key) == 64);
+RAF_IS(offsetof(raf_userauth, signature) == 80);
+RAF_IS(offsetof(raf_userauth, has_host_key) == 96);
+RAF_IS(offsetof(raf_userauth, permits) == 100);
+RAF_IS(sizeof(raf_userauth) == 104);
+RAF_IS(offsetof(raf_host_login, known_hosts) == 0);
+RAF_IS(offsetof(raf_host_login, host) == 16);
+RAF_IS(offsetof(raf_host_login, revoked) == 32);
+RAF_IS(offsetof(raf_host_login, unix_timestamp) == 48);
+RAF_IS(offsetof(raf_host_login, least_rsa_bits) == 56);
+RAF_IS(offsetof(raf_host_login, port) == 60);
+RAF_IS(sizeof(raf_host_login) == 64);
+RAF_IS(offsetof(raf_entry, front) == 0);
+RAF_IS(offsetof(raf_entry, key) == 16);
+RAF_IS(offsetof(raf_entry, comment) == 32);
+RAF_IS(offsetof(raf_entry, length) == 48);
+RAF_IS(offsetof(raf_entry, marker) == 56);
+RAF_IS(sizeof(raf_entry) == 64);
+RAF_IS(offsetof(raf_line_option_parts, name) == 0);
+RAF_IS(offsetof(raf_line_option_parts, value) == 16);
+RAF_IS(offsetof(raf_line_option_parts, length) == 32);
+RAF_IS(offsetof(raf_line_option_parts, next) == 40);
+RAF_IS(offsetof(raf_line_option_parts, has_value) == 48);
+RAF_IS(sizeof(raf_line_option_parts) == 56);
+RAF_IS(offsetof(raf_time_span, first) == 0);
+RAF_IS(offsetof(raf_time_span, last) == 8);
+RAF_IS(sizeof(raf_time_span) == 16);
+RAF_IS(offsetof(raf_user_grant, grant) == 0);
+RAF_IS(offsetof(raf_user_grant, permit_open) == 88);
+RAF_IS(offsetof(raf_user_grant, permit_listen) == 104);
+RAF_IS(offsetof(raf_user_grant, environment) == 120);
+RAF_IS(offsetof(raf_user_grant, expires) == 136);
+RAF_IS(offsetof(raf_user_grant, line) == 152);
+RAF_IS(offsetof(raf_user_grant, tunnel) == 160);
+RAF_IS(sizeof(raf_user_grant) == 168);
+#undef RAF_IS
+
+#ifdef __cplusplus
+}
+#endif
+#endif

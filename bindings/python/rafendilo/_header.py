@@ -1,0 +1,498 @@
+"""The structs, the numbers and the calls of include/rafendilo.h.
+
+Printed by bindings/prototypes, which writes it anew: change the header, and run bindings/prototypes --write.
+"""
+from __future__ import annotations
+
+from ctypes import POINTER, Structure, c_char_p, c_size_t, c_uint8, c_uint16, c_uint32, c_uint64
+from enum import IntEnum, IntFlag
+from typing import Any
+
+from ._answer import Answer
+
+# What raf_abi answers where the library has the structs, the calls and the numbers below.
+ABI = 1
+# The end of a window that has none.
+FOREVER = 18446744073709551615
+# How many bytes the text of a SHA-256 fingerprint has, as ssh-keygen shows it: "SHA256:" and 43 characters.
+FINGERPRINT_TEXT = 50
+# "SHA512:" and 86 characters.
+FINGERPRINT_SHA512_TEXT = 93
+
+
+class Status(Answer):
+    """What a call returns."""
+
+    # Done; of a validation: it is valid; of a revocation file: it revokes; of a signer: the signature counts.
+    DONE = 0
+    # Malloc refused; nothing is said of the input, and nothing is kept: the call may be made again.
+    MEMORY = 1
+    # The room is too short; `length` says how many bytes are needed.
+    SHORT_BUFFER = 2
+    # Nothing is left: the place is the end, or there is no such line or option.
+    END = 3
+    # The principal is not UTF-8, or a line of authorized_keys or known_hosts, options, a text of known_hosts or of signers, a
+    # host's name, an identity, a namespace or a time; nothing is said of the rest. raf_read_line returns 11 for such a line.
+    TEXT = 4
+    # A word of a line is no Base64, or not the one of its bytes.
+    BASE64 = 10
+    # A text is not UTF-8, or has a character that no name has.
+    CHARACTER_ENCODING = 11
+    # A name that is none of those that may stand there.
+    LABEL = 12
+    # A stated length passes the bytes, or is not the one wanted; a word of a line is missing; a digest is not as long as one by
+    # the signature's hash.
+    LENGTH = 13
+    # Bytes follow the end.
+    TRAILING_DATA = 14
+    # A value does not keep the form of its kind.
+    FORMAT = 15
+    # Two names differ that have to be one, or a point begins with 00 or 05.
+    ALGORITHM_UNKNOWN = 16
+    # A number in a signature is not positive, or the curve of a security key is not P-256.
+    CRYPTO = 17
+    # No encoding of a point.
+    ECDSA = 18
+    # A time above 2^63 - 1 in the certificate.
+    TIME = 19
+    # An empty namespace in the SSH signature.
+    NAMESPACE = 20
+    # Never returned: a fault of private keys.
+    PUBLIC_KEY = 21
+    # An SSH signature of a version above 1, or a revocation list of another version than 1.
+    UNSUPPORTED_VERSION = 22
+    # Never returned.
+    OTHER_ERROR = 23
+    # An RSA signature by SHA-1, which no call reads: to them it is RAF_LENGTH. raf_read_line_blob of helpers/ tells it.
+    RSA_SHA1 = 24
+    # It raises no question, or `is_verified` is not 1; a signature also where it is in another namespace, or has reserved bytes.
+    NOT_SIGNED = 30
+    # The key that signed it is none of the authorities'.
+    UNTRUSTED_AUTHORITY = 31
+    # The time is above 2^63 - 1.
+    INVALID_TIME = 32
+    # It is not yet valid, or no longer.
+    OUT_OF_WINDOW = 33
+    # It lists principals, and not this one.
+    UNLISTED_PRINCIPAL = 34
+    # Key and signature do not go together: it is not signed.
+    UNSUPPORTED = 40
+    # The SSH signature is for another namespace.
+    OTHER_NAMESPACE = 41
+    # It lists none and does not say so, or says so and lists some.
+    PRINCIPALS = 45
+    # Its window has no second.
+    EMPTY_WINDOW = 46
+    # A line for the host, or a revocation file, revokes it.
+    HOST_REVOKED = 50
+    # A line is no entry, and may be one for the host.
+    HOST_UNREADABLE = 51
+    # A line for the host has another key, and none has this one.
+    HOST_CHANGED = 52
+    # No line without a marker is for the host.
+    HOST_UNKNOWN = 53
+    # No line lets its key sign for the identity, there and then; or it is none of the keys that may sign.
+    SIGNER_NOT_ALLOWED = 55
+    # A revocation file revokes the signer's key, or the certificate.
+    REVOKED = 56
+    # The client's address is none of those that are allowed.
+    ELSEWHERE = 57
+    # One can't be read, or there is none: so everything is revoked.
+    UNREADABLE_REVOCATIONS = 58
+    # A kind or a size of key that OpenSSH does not let in.
+    KEY_NOT_ACCEPTED = 59
+    # No revocation file revokes the key or the certificate.
+    NOT_REVOKED = 60
+    # The line has a key of a later kind, which signs nothing that is read: pass over it, and say so.
+    LATER_KEY = 61
+    # Another's, or others may write it.
+    UNSAFE_MODE = 62
+    # Its bytes are not its normal form: not those that were signed.
+    NOT_NORMAL_FORM = 70
+    # A user shows one for hosts, or a host one for users.
+    OTHER_TYPE = 71
+    # It certifies another key than the client's.
+    OTHER_KEY = 72
+    # A critical option that is not known, or whose value sshd does not read.
+    CRITICAL_OPTIONS = 73
+    # Data in an extension that is a flag, or a zero byte in a name.
+    EXTENSIONS = 74
+    # A zero byte in the key id.
+    KEY_ID = 75
+    # It lists no principal, more than 256 or one with a zero byte; or the user's name is empty.
+    VALID_PRINCIPALS = 76
+    # The signed bytes are not those of this request, or its service is not ssh-connection.
+    OTHER_REQUEST = 80
+    # The algorithm that the request names is not the signature's.
+    OTHER_ALGORITHM = 81
+    # Nobody touched the security key, and the grant wants it.
+    UNTOUCHED = 82
+    # The security key did not verify its user, and the grant wants it.
+    UNVERIFIED = 83
+    # No line is for the key, for the certificate's authority, or for a principal of it.
+    USER_NOT_LISTED = 90
+    # Its expiry-time is over.
+    LINE_EXPIRED = 91
+    # It has principals, and no cert-authority; of a file of principals, one of both.
+    LINE_OPTION = 92
+    # Its from is for other places.
+    LINE_ELSEWHERE = 93
+    # Its command is another than the certificate's.
+    LINE_COMMAND = 94
+    # The certificate lists nobody whom it lets in.
+    LINE_PRINCIPALS = 95
+    # A line may let in, and how sshd reads it cannot be told: so no other line and no other file may.
+    LINE_UNCLEAR = 96
+    # The port is 0.
+    NO_PORT = 100
+    # The host has no bytes.
+    NO_HOST = 101
+    # It is like an address, and is none with one text: 127.1, fe80::1%eth0.
+    NO_ADDRESS = 102
+    # The signer's identity has no bytes.
+    NO_IDENTITY = 103
+
+
+class Algorithm(IntEnum):
+    """How a signature is made."""
+
+    DSA = 1
+    # With SHA-256.
+    P256 = 2
+    # With SHA-384.
+    P384 = 3
+    # With SHA-512.
+    P521 = 4
+    ED25519 = 5
+    # With SHA-256.
+    RSA_SHA256 = 6
+    # With SHA-512.
+    RSA_SHA512 = 7
+
+
+class LineKind(IntEnum):
+    """What the blob of a line is."""
+
+    KEY = 1
+    CERTIFICATE = 2
+
+
+class CertificateType(IntEnum):
+    """Whom a certificate is for."""
+
+    USER = 1
+    HOST = 2
+
+
+class Permits(IntFlag):
+    """What a grant permits."""
+
+    PTY = 1
+    PORT_FORWARDING = 2
+    AGENT_FORWARDING = 4
+    X11_FORWARDING = 8
+    USER_RC = 16
+    # No force-command: what the client asks for, or a shell.
+    ANY_COMMAND = 32
+    # A security key that nobody touched.
+    NO_TOUCH = 64
+    # A security key that did not verify its user.
+    NO_VERIFICATION = 128
+    # Tunnels (tun(4)).
+    TUNNELS = 256
+    # Whichever device of them.
+    ANY_TUNNEL = 512
+    # Ports may be forwarded to anywhere, if at all.
+    OPEN_ANYWHERE = 1024
+    # Ports may be listened at anywhere, if at all.
+    LISTEN_ANYWHERE = 2048
+
+
+class Marker(IntEnum):
+    """What stands before an entry of known_hosts: nothing, @cert-authority or @revoked."""
+
+    NONE = 0
+    CERT_AUTHORITY = 1
+    REVOKED = 2
+
+
+# what each means, in words
+WORDS = {
+    Status.DONE: "valid",
+    Status.MEMORY: "no memory",
+    Status.SHORT_BUFFER: "the room is too short",
+    Status.END: "nothing is left",
+    Status.TEXT: "a name or a text that is given is not UTF-8",
+    Status.BASE64: "not Base64",
+    Status.CHARACTER_ENCODING: "a text that is not UTF-8",
+    Status.LABEL: "a name that may not stand there",
+    Status.LENGTH: "a length that passes the bytes",
+    Status.TRAILING_DATA: "bytes after the end",
+    Status.FORMAT: "a value that has not the form of its kind",
+    Status.ALGORITHM_UNKNOWN: "two names that have to be one",
+    Status.CRYPTO: "a number that is not positive",
+    Status.ECDSA: "no encoding of a point",
+    Status.TIME: "a time above 2^63 - 1",
+    Status.NAMESPACE: "an empty namespace",
+    Status.PUBLIC_KEY: "a public key that is not the private one's",
+    Status.UNSUPPORTED_VERSION: "a version that is not read",
+    Status.OTHER_ERROR: "another fault",
+    Status.RSA_SHA1: "signed by RSA with SHA-1",
+    Status.NOT_SIGNED: "not signed",
+    Status.UNTRUSTED_AUTHORITY: "another authority",
+    Status.INVALID_TIME: "no time that a certificate has",
+    Status.OUT_OF_WINDOW: "not valid at that time",
+    Status.UNLISTED_PRINCIPAL: "another principal",
+    Status.UNSUPPORTED: "key and signature do not go together",
+    Status.OTHER_NAMESPACE: "another namespace",
+    Status.PRINCIPALS: "a list of principals against what is said of all",
+    Status.EMPTY_WINDOW: "a window without a second",
+    Status.HOST_REVOKED: "revoked for the host",
+    Status.HOST_UNREADABLE: "a line that may revoke it and can't be read",
+    Status.HOST_CHANGED: "another key than the one known for the host",
+    Status.HOST_UNKNOWN: "no key or authority is known for the host",
+    Status.SIGNER_NOT_ALLOWED: "no allowed signer",
+    Status.REVOKED: "revoked",
+    Status.ELSEWHERE: "from an address that is not allowed",
+    Status.UNREADABLE_REVOCATIONS: "the revocation file can't be read",
+    Status.KEY_NOT_ACCEPTED: "a kind or a size of key that OpenSSH does not let in",
+    Status.NOT_REVOKED: "not revoked",
+    Status.LATER_KEY: "a later kind of key, which is passed over",
+    Status.UNSAFE_MODE: "another's, or others may write it",
+    Status.NOT_NORMAL_FORM: "not in its normal form",
+    Status.OTHER_TYPE: "for hosts in place of users, or for users in place of hosts",
+    Status.OTHER_KEY: "another key",
+    Status.CRITICAL_OPTIONS: "a critical option that is not known, or not read",
+    Status.EXTENSIONS: "an extension that is not read",
+    Status.KEY_ID: "a zero byte in the key id",
+    Status.VALID_PRINCIPALS: "no principals, or some that are not read",
+    Status.OTHER_REQUEST: "signed for another request",
+    Status.OTHER_ALGORITHM: "another algorithm than the request's",
+    Status.UNTOUCHED: "a security key that nobody touched",
+    Status.UNVERIFIED: "a security key that did not verify its user",
+    Status.USER_NOT_LISTED: "no line is for the key",
+    Status.LINE_EXPIRED: "a line whose time is over",
+    Status.LINE_OPTION: "a line with principals and without cert-authority",
+    Status.LINE_ELSEWHERE: "a line for other places",
+    Status.LINE_COMMAND: "a line with another command than the certificate's",
+    Status.LINE_PRINCIPALS: "a line for nobody whom the certificate lists",
+    Status.LINE_UNCLEAR: "a line that can't be told",
+    Status.NO_PORT: "port 0",
+    Status.NO_HOST: "no host",
+    Status.NO_ADDRESS: "a host that is like an address, and has no one text",
+    Status.NO_IDENTITY: "no identity",
+}
+
+
+class Span(Structure):
+    """raf_span"""
+
+    _fields_ = [("bytes", c_char_p), ("length", c_size_t)]
+
+
+class Spans(Structure):
+    """raf_spans"""
+
+    _fields_ = [("items", POINTER(Span)), ("count", c_size_t)]
+
+
+class Part(Structure):
+    """raf_part"""
+
+    _fields_ = [("start", c_size_t), ("length", c_size_t)]
+
+
+class Sha256(Structure):
+    """raf_sha256"""
+
+    _fields_ = [("bytes", c_uint8 * 32)]
+
+
+class Sha512(Structure):
+    """raf_sha512"""
+
+    _fields_ = [("bytes", c_uint8 * 64)]
+
+
+class Digests(Structure):
+    """raf_digests"""
+
+    _fields_ = [("items", POINTER(Sha256)), ("count", c_size_t)]
+
+
+class Question(Structure):
+    """raf_question"""
+
+    _fields_ = [("key", Part), ("message", Part), ("signature", Part), ("length", c_size_t), ("algorithm", c_uint32)]
+
+
+class Line(Structure):
+    """raf_line"""
+
+    _fields_ = [("blob", Part), ("comment", Part), ("length", c_size_t), ("kind", c_uint32)]
+
+
+class Fields(Structure):
+    """raf_fields"""
+
+    _fields_ = [
+        ("serial", c_uint64), ("valid_after", c_uint64), ("valid_before", c_uint64), ("certificate_type", c_uint32),
+        ("lists_principals", c_uint32), ("has_critical_options", c_uint32)
+    ]
+
+
+class Parts(Structure):
+    """raf_parts"""
+
+    _fields_ = [("key_id", Part), ("principals", Part), ("critical_options", Part), ("extensions", Part), ("authority", Part)]
+
+
+class CertificateOptionParts(Structure):
+    """raf_certificate_option_parts"""
+
+    _fields_ = [("name", Part), ("value", Part), ("next", c_size_t)]
+
+
+class Draft(Structure):
+    """raf_draft"""
+
+    _fields_ = [
+        ("key", Span), ("nonce", Span), ("key_id", Span), ("principals", Span), ("critical_options", Span), ("extensions", Span),
+        ("authority", Span), ("serial", c_uint64), ("valid_after", c_uint64), ("valid_before", c_uint64),
+        ("certificate_type", c_uint32), ("all_principals", c_uint32)
+    ]
+
+
+class Login(Structure):
+    """raf_login"""
+
+    _fields_ = [
+        ("certificate", Span), ("user", Span), ("key", Span), ("client", Span), ("authorities", Digests), ("revoked", Spans),
+        ("unix_timestamp", c_uint64), ("least_rsa_bits", c_uint32), ("caller_checks_address", c_uint32)
+    ]
+
+
+class Grant(Structure):
+    """raf_grant"""
+
+    _fields_ = [
+        ("force_command", Part), ("key_id", Part), ("length", c_size_t), ("serial", c_uint64), ("authority", Sha256),
+        ("permits", c_uint32)
+    ]
+
+
+class Userauth(Structure):
+    """raf_userauth"""
+
+    _fields_ = [
+        ("session_id", Span), ("user", Span), ("algorithm", Span), ("public_key", Span), ("host_key", Span), ("signature", Span),
+        ("has_host_key", c_uint32), ("permits", c_uint32)
+    ]
+
+
+class Entry(Structure):
+    """raf_entry"""
+
+    _fields_ = [("front", Part), ("key", Part), ("comment", Part), ("length", c_size_t), ("marker", c_uint32)]
+
+
+class LineOptionParts(Structure):
+    """raf_line_option_parts"""
+
+    _fields_ = [("name", Part), ("value", Part), ("length", c_size_t), ("next", c_size_t), ("has_value", c_uint32)]
+
+
+class HostLogin(Structure):
+    """raf_host_login"""
+
+    _fields_ = [
+        ("known_hosts", Spans), ("host", Span), ("revoked", Spans), ("unix_timestamp", c_uint64), ("least_rsa_bits", c_uint32),
+        ("port", c_uint16)
+    ]
+
+
+class TimeSpan(Structure):
+    """raf_time_span"""
+
+    _fields_ = [("first", c_uint64), ("last", c_uint64)]
+
+
+class UserGrant(Structure):
+    """raf_user_grant"""
+
+    _fields_ = [
+        ("grant", Grant), ("permit_open", Part), ("permit_listen", Part), ("environment", Part), ("expires", TimeSpan),
+        ("line", c_size_t), ("tunnel", c_uint32)
+    ]
+
+
+# what each call takes
+CALLS: dict[str, tuple[Any, ...]] = {
+    "raf_version": (),
+    "raf_abi": (),
+    "raf_read_line": (c_char_p, c_size_t, POINTER(c_uint8), c_size_t, POINTER(Line)),
+    "raf_is_later_key_line": (c_char_p, c_size_t),
+    "raf_authority": (c_char_p, c_size_t, POINTER(Sha256)),
+    "raf_user_authority": (c_char_p, c_size_t, c_char_p, c_size_t, POINTER(Sha256)),
+    "raf_may_verify": (c_char_p, c_size_t),
+    "raf_check_safe_mode": (c_uint64, c_uint64, c_uint32),
+    "raf_certificate_question": (c_char_p, c_size_t, POINTER(c_uint8), c_size_t, POINTER(Question)),
+    "raf_check_certificate": (c_char_p, c_size_t, c_uint64, POINTER(Sha256), c_size_t, c_uint32),
+    "raf_check_certificate_for": (c_char_p, c_size_t, c_uint64, c_char_p, c_size_t, POINTER(Sha256), c_size_t, c_uint32),
+    "raf_certificate_fields": (c_char_p, c_size_t, POINTER(Fields)),
+    "raf_certificate_parts": (c_char_p, c_size_t, POINTER(Parts)),
+    "raf_next_certificate_option": (c_char_p, c_size_t, c_size_t, POINTER(CertificateOptionParts)),
+    "raf_certificate_key": (c_char_p, c_size_t, POINTER(c_uint8), c_size_t, POINTER(c_size_t)),
+    "raf_certificate_to_be_signed": (POINTER(Draft), POINTER(c_uint8), c_size_t, POINTER(c_size_t)),
+    "raf_certificate_make": (c_char_p, c_size_t, c_char_p, c_size_t, POINTER(c_uint8), c_size_t, POINTER(c_size_t)),
+    "raf_fingerprint": (c_char_p, c_size_t, POINTER(Sha256)),
+    "raf_fingerprint_text": (POINTER(Sha256), POINTER(c_uint8), c_size_t),
+    "raf_fingerprint_sha512": (c_char_p, c_size_t, POINTER(Sha512)),
+    "raf_fingerprint_sha512_text": (POINTER(Sha512), POINTER(c_uint8), c_size_t),
+    "raf_signature_question": (
+        c_char_p, c_size_t, c_char_p, c_size_t, c_char_p, c_size_t, POINTER(c_uint8), c_size_t, POINTER(Question)
+    ),
+    "raf_login_question": (POINTER(Login), POINTER(c_uint8), c_size_t, POINTER(Question)),
+    "raf_check_login": (POINTER(Login), c_uint32, POINTER(c_uint8), c_size_t, POINTER(Grant)),
+    "raf_userauth_question": (POINTER(Userauth), POINTER(c_uint8), c_size_t, POINTER(Question)),
+    "raf_userauth_question_of": (POINTER(Userauth), c_char_p, c_size_t, POINTER(c_uint8), c_size_t, POINTER(Question)),
+    "raf_check_grant_flags": (c_uint32, c_char_p, c_size_t, c_char_p, c_size_t),
+    "raf_sshsig_question": (
+        c_char_p, c_size_t, c_char_p, c_size_t, c_char_p, c_size_t, POINTER(c_uint8), c_size_t, POINTER(Question), POINTER(Sha256)
+    ),
+    "raf_sshsig_question_of_digest": (
+        c_char_p, c_size_t, c_char_p, c_size_t, c_char_p, c_size_t, POINTER(c_uint8), c_size_t, POINTER(Question), POINTER(Sha256)
+    ),
+    "raf_check_sshsig": (c_char_p, c_size_t, c_char_p, c_size_t, POINTER(Sha256), c_size_t, c_uint32),
+    "raf_check_signer": (
+        c_char_p, c_size_t, c_char_p, c_size_t, c_char_p, c_size_t, c_char_p, c_size_t, c_uint64, POINTER(Span), c_size_t,
+        c_uint32
+    ),
+    "raf_key_normal": (c_char_p, c_size_t, POINTER(c_uint8), c_size_t, POINTER(c_size_t)),
+    "raf_certificate_normal": (c_char_p, c_size_t, POINTER(c_uint8), c_size_t, POINTER(c_size_t)),
+    "raf_sshsig_normal": (c_char_p, c_size_t, POINTER(c_uint8), c_size_t, POINTER(c_size_t)),
+    "raf_signature_normal": (c_char_p, c_size_t, POINTER(c_uint8), c_size_t, POINTER(c_size_t)),
+    "raf_next_string": (c_char_p, c_size_t, c_size_t, POINTER(Part)),
+    "raf_check_unrevoked_key": (POINTER(Span), c_size_t, c_char_p, c_size_t),
+    "raf_check_unrevoked_certificate": (POINTER(Span), c_size_t, c_char_p, c_size_t),
+    "raf_check_unrevoked_key_by_krl": (c_char_p, c_size_t, c_char_p, c_size_t),
+    "raf_check_unrevoked_certificate_by_krl": (c_char_p, c_size_t, c_char_p, c_size_t),
+    "raf_next_line": (c_char_p, c_size_t, c_size_t, POINTER(Part)),
+    "raf_authorized_entry": (c_char_p, c_size_t, POINTER(c_uint8), c_size_t, POINTER(Entry)),
+    "raf_known_host": (c_char_p, c_size_t, POINTER(c_uint8), c_size_t, POINTER(Entry)),
+    "raf_next_line_option": (c_char_p, c_size_t, c_size_t, POINTER(c_uint8), c_size_t, POINTER(LineOptionParts)),
+    "raf_line_may_name_key": (c_char_p, c_size_t, c_char_p, c_size_t),
+    "raf_line_may_name_authority": (c_char_p, c_size_t, c_char_p, c_size_t),
+    "raf_check_host_key": (POINTER(HostLogin), c_char_p, c_size_t),
+    "raf_check_host_certificate": (POINTER(HostLogin), c_char_p, c_size_t, c_uint32),
+    "raf_unreadable_host_line": (c_char_p, c_size_t, c_char_p, c_size_t, c_uint16, POINTER(c_size_t)),
+    "raf_check_source_address": (c_char_p, c_size_t, c_char_p, c_size_t),
+    "raf_check_from": (c_char_p, c_size_t, c_char_p, c_size_t, c_char_p, c_size_t),
+    "raf_read_time": (c_char_p, c_size_t, POINTER(TimeSpan)),
+    "raf_check_user_keys": (
+        POINTER(Login), c_char_p, c_size_t, c_char_p, c_size_t, c_uint32, POINTER(c_uint8), c_size_t, POINTER(UserGrant)
+    ),
+    "raf_check_principals": (
+        POINTER(Login), c_char_p, c_size_t, c_char_p, c_size_t, c_uint32, POINTER(c_uint8), c_size_t, POINTER(UserGrant)
+    ),
+}

@@ -1,0 +1,157 @@
+"""Whether a certificate or authorized_keys logs a user in, and what the login is bound to."""
+from __future__ import annotations
+
+import ctypes
+from collections.abc import Iterable
+from dataclasses import dataclass
+from typing import Any
+
+from . import _header
+from ._addresses import Address, packed
+from ._certificates import is_certified
+from ._header import FOREVER, Permits
+from ._keys import question_of, strings
+from ._library import LIBRARY, ask, bytes_of, digests_of, number_of, parts_of, span_of, spans_of, text_of
+from ._values import BytesLike, Refused
+from ._verify import Verifier, decided, is_signature
+
+# the bytes of a room for what a login is bound to; a longer one is asked for again
+OF_GRANT = 4096
+
+
+@dataclass(frozen=True)
+class Login:
+    """A login by a certificate, and whom the server trusts."""
+
+    certificate: BytesLike  # its blob, as the client sent it
+    user: str | BytesLike  # the name that the client asks for; the empty one is nobody's
+    key: BytesLike  # the blob of the key under which the client signs
+    unix_timestamp: int
+    authorities: Iterable[BytesLike]  # the fingerprints of the keys that may sign certificates of users
+    revoked: Iterable[BytesLike]  # what the files of sshd's RevokedKeys have, or NO_REVOCATIONS; without a file nobody is let in
+    client: Address | None = None  # that of its socket; without one, a certificate with a source-address is refused
+    least_rsa_bits: int = 0  # sshd's RequiredRSASize; below 1,024, as 0, it is 1,024
+    # True where you judge yourself whether source-address has the client's: client is not looked at. log_in_by_keys and
+    # log_in_by_principals always judge it, and then know no address
+    caller_checks_address: bool = False
+
+
+@dataclass(frozen=True)
+class Grant:
+    """What a login is bound to."""
+
+    permits: Permits
+    force_command: str | None  # the one command that may run; None with Permits.ANY_COMMAND
+    serial: int  # the certificate's
+    key_id: str  # the certificate's, for logs: a text of the authority's
+    authority: bytes  # the fingerprint of the key that signed it
+
+
+def log_in(login: Login, verifier: Verifier = is_signature) -> Grant:
+    """What the login is bound to, exactly if the certificate lets the user in, as sshd does by TrustedUserCAKeys, or more strictly
+    (docs/FORMATS.md). Asks the library, the verifier and the library again, over copies that nobody changes.
+
+    Raises Refused, which says what is wrong first, and MemoryError; ValueError for a number that does not fit its field, or a
+    fingerprint of another length; TypeError where a file was not read (None).
+
+    Whether the client has signed under the key is not looked at: check_userauth does that, with what the grant permits; until then
+    nobody is let in. To keep to the grant is yours."""
+    given, length = bytes_of(login.certificate)
+    asked = _header_of(login, given)
+    question = question_of(lambda *room: LIBRARY.raf_login_question(ctypes.byref(asked), *room), 2 * length + 256)
+    is_verified, answer = verifier(question) is True, _header.Grant()
+    room = ask(lambda *room: LIBRARY.raf_check_login(ctypes.byref(asked), is_verified, *room), answer, length)
+    return _grant_of(answer, room)
+
+
+def _header_of(login: Login, certificate: bytes) -> _header.Login:
+    return _header.Login(
+        certificate=_header.Span(certificate, len(certificate)), user=_header.Span(*text_of(login.user)), key=span_of(login.key),
+        client=span_of(b"" if login.client is None else packed(login.client)),
+        authorities=_header.Digests(*digests_of(login.authorities)), revoked=spans_of(login.revoked),
+        unix_timestamp=number_of(login.unix_timestamp, 64), least_rsa_bits=number_of(login.least_rsa_bits, 32),
+        caller_checks_address=login.caller_checks_address is True,
+    )  # fmt: skip
+
+
+def _grant_of(answer: _header.Grant, room: bytes) -> Grant:
+    command, key_id = (it.decode() for it in parts_of(room, answer.force_command, answer.key_id))
+    permits = Permits(answer.permits)
+    return Grant(permits, None if Permits.ANY_COMMAND in permits else command, answer.serial, key_id, bytes(answer.authority.bytes))
+
+
+# ---- by authorized_keys and by files of principals
+
+
+@dataclass(frozen=True)
+class UserGrant(Grant):
+    """What a login by a line of authorized_keys is bound to. Of a plain key serial and authority are zero, and key_id is empty."""
+
+    line: int  # the number of the line, from 1
+    # the hosts and ports to which ports may be forwarded alone; None: to any. Hosts are compared byte by byte, and "*" is any
+    permit_open: list[tuple[str, int | None]] | None
+    permit_listen: list[tuple[str, int | None]] | None  # likewise where may be listened
+    environment: list[str]  # NAME=VALUE each; by its defaults sshd sets none
+    expires: tuple[int, int] | None  # the first and the last second that may be the last at which the line counts; None: at any
+    tunnel: int | None  # the only device of tun(4); None with Permits.ANY_TUNNEL
+
+
+class _Answer(_header.UserGrant):
+    @property
+    def length(self) -> int:
+        return int(self.grant.length)
+
+
+def log_in_by_keys(login: Login, text: BytesLike, host: str | BytesLike = "", verifier: Verifier = is_signature) -> UserGrant:
+    """What the login is bound to, exactly if a text of authorized_keys lets the user in: by the key, where the login's certificate is
+    empty, and else by that certificate of the key, for which lines cert-authority are asked. It does so as sshd does by the first
+    line that lets in, or more strictly (docs/FORMATS.md). `host` is the name that was found for the client's address (UseDNS). The
+    login's authorities are not looked at. A verifier is asked about a certificate alone. The text need not be UTF-8: a line that is
+    not ends it with LINE_UNCLEAR where it may be for the key.
+
+    Raises Refused, whose `line` is that of a line that refuses; then, for a number from USER_NOT_LISTED to LINE_PRINCIPALS, ask about
+    the next file, and for every other one about none. Else raises as log_in does."""
+    return _log_in_by(LIBRARY.raf_check_user_keys, login, text, host, verifier)
+
+
+def log_in_by_principals(login: Login, text: BytesLike, host: str | BytesLike = "", verifier: Verifier = is_signature) -> UserGrant:
+    """The same by a text in the form of AuthorizedPrincipalsFile, where the login's authorities are those of TrustedUserCAKeys. The
+    first line for a principal of the certificate decides, and the user is not asked about.
+
+    Raises as log_in_by_keys does; after USER_NOT_LISTED alone ask about the next file: a line that refuses ends it."""
+    return _log_in_by(LIBRARY.raf_check_principals, login, text, host, verifier)
+
+
+def _log_in_by(verdict_by: Any, login: Login, text: BytesLike, host: str | BytesLike, verifier: Verifier) -> UserGrant:
+    certificate, (given, length), name = bytes_of(login.certificate)[0], bytes_of(text), text_of(host)
+    asked = _header_of(login, certificate)
+
+    def verdict(is_verified: bool) -> UserGrant:
+        answer = _Answer()
+
+        def call(*room: Any) -> int:
+            return int(verdict_by(ctypes.byref(asked), given, length, *name, is_verified, *room))
+
+        try:
+            return _user_grant_of(answer, ask(call, answer, OF_GRANT))
+        except Refused as refused:
+            raise Refused(refused.status, answer.line) from None
+
+    return decided(verdict, lambda: is_certified(certificate, verifier))
+
+
+def _user_grant_of(answer: _Answer, room: bytes) -> UserGrant:
+    grant, permits = _grant_of(answer.grant, room), Permits(answer.grant.permits)
+    to_open, to_listen, environment = map(strings, parts_of(room, answer.permit_open, answer.permit_listen, answer.environment))
+    expires = answer.expires.first, answer.expires.last
+    return UserGrant(
+        **vars(grant), line=answer.line, environment=[it.decode() for it in environment],
+        permit_open=None if Permits.OPEN_ANYWHERE in permits else _places_of(to_open),
+        permit_listen=None if Permits.LISTEN_ANYWHERE in permits else _places_of(to_listen),
+        expires=None if expires[0] == FOREVER else expires, tunnel=None if Permits.ANY_TUNNEL in permits else answer.tunnel,
+    )  # fmt: skip
+
+
+def _places_of(found: list[bytes]) -> list[tuple[str, int | None]]:
+    """Hosts and ports, which stand one after the other. A port of no bytes is any."""
+    return [(host.decode(), int.from_bytes(port, "big") if port else None) for host, port in zip(found[::2], found[1::2])]

@@ -1,0 +1,60 @@
+use Rattle.std.proofs.Common.{ap, sym, subst, true≢false, ◌∙◌}
+use Rattle.std.proofs.lemmas.Result.{err_from_is_err_and}
+use Rattle.sshkey_cert.specs.CertificateValues.{certificate_of}
+use Rattle.sshkey_krl.specs.Revocations.{is_certificate_revoked}
+use Rattle.openssh_limits.specs.Keys.{openssh_accepts_key}
+use Rattle.host_keys.specs.Answers.{AsksOf}
+use Rattle.host_keys.specs.Hosts.{IsBadFor, IsGoodFor, IsSaidOfSigned, IsTrustedCertificate, lines_of, login_of, plain_name}
+use Rattle.host_keys.proofs.Said.{as_much, asks_of, why_bad}
+use Rattle.host_keys.proofs.Signed.{judged, why_judged}
+use Rattle.host_keys.proofs.certificate.check_asked_certificate.Goals as goal
+
+pub returns-in_err-answer : goal.returns-in_err-answer
+returns-in_err-answer g c =
+    let hmac = g.H.HostHasher.hmac c.args.hmac.now in
+    let certificate = certificate_of c.args.certificate.now in
+    let lines = lines_of c.args.login.now.texts.now in
+    let revoked = is_certificate_revoked (g.R.Revocations.revokes c.args.revocations.now) certificate in
+    let Bad = IsBadFor (g.V.RawVerifier.accepts c.args.verifier.now) c.args.login.now.unix_timestamp (plain_name c.args.login.now.host.now) certificate in
+    let p = err_from_is_err_and c.from_residual.result c.from_residual.ensures.1 in
+    rw (p.1, p.2) (record {
+      exactly = λ other (is : IsTrustedCertificate (login_of c.args.login.now hmac) (g.V.RawVerifier.accepts c.args.verifier.now) (g.R.Revocations.revokes c.args.revocations.now) certificate).
+          judged hmac c.args.login.now.host.now c.args.login.now.port certificate lines revoked _ _ _ _ c.public_key-key.ensures.value c.signature_key-signer.ensures.value c.is_certificate_revoked-revoked.ensures.said c.signed_verdict-said.ensures.answer _ (sym c.answer.ensures ∙ c.in_err-answer.was) other (is.unrevoked, is.trusted_by);
+      refused = why_judged hmac c.args.login.now.host.now c.args.login.now.port certificate lines revoked _ _ _ _ c.public_key-key.ensures.value c.signature_key-signer.ensures.value c.is_certificate_revoked-revoked.ensures.said c.signed_verdict-said.ensures.answer _ (sym c.answer.ensures ∙ c.in_err-answer.was) _ Bad;
+      asks = subst (AsksOf ⊥ (g.R.Revocations.revokes_none c.args.revocations.now) lines) (sym c.answer.ensures ∙ c.in_err-answer.was) (asks_of ⊥ _ lines _ _ c.is_certificate_revoked-revoked.ensures.asks c.signed_verdict-said.ensures.asks);
+    })
+
+pub returns-then-not-openssh_accepts_key-clause-exactly : goal.returns-then-not-openssh_accepts_key-clause-exactly
+returns-then-not-openssh_accepts_key-clause-exactly g c = λ other is. true≢false (sym is.accepted ∙ ap (openssh_accepts_key c.args.login.now.least_rsa_bits) (sym c.public_key-key.ensures.value) ∙ sym c.openssh_accepts_key.ensures ∙ c.if-not-openssh_accepts_key.true)
+
+pub returns-then-not-openssh_accepts_key-clause-refused : goal.returns-then-not-openssh_accepts_key-clause-refused
+returns-then-not-openssh_accepts_key-clause-refused g c =
+    let hmac = g.H.HostHasher.hmac c.args.hmac.now in
+    let certificate = certificate_of c.args.certificate.now in
+    let lines = lines_of c.args.login.now.texts.now in
+    let revoked = is_certificate_revoked (g.R.Revocations.revokes c.args.revocations.now) certificate in
+    let trusted = judged hmac c.args.login.now.host.now c.args.login.now.port certificate lines revoked _ _ _ _ c.public_key-key.ensures.value c.signature_key-signer.ensures.value c.is_certificate_revoked-revoked.ensures.said c.signed_verdict-said.ensures.answer _ (sym c.answer.ensures ∙ c.in_ok-answer.was) in
+    (trusted.0, trusted.1, ap (openssh_accepts_key c.args.login.now.least_rsa_bits) (sym c.public_key-key.ensures.value) ∙ sym c.openssh_accepts_key.ensures ∙ c.if-not-openssh_accepts_key.true)
+
+pub returns-clause-exactly : goal.returns-clause-exactly
+returns-clause-exactly g c =
+    let hmac = g.H.HostHasher.hmac c.args.hmac.now in
+    let certificate = certificate_of c.args.certificate.now in
+    let lines = lines_of c.args.login.now.texts.now in
+    let revoked = is_certificate_revoked (g.R.Revocations.revokes c.args.revocations.now) certificate in
+    let trusted = judged hmac c.args.login.now.host.now c.args.login.now.port certificate lines revoked _ _ _ _ c.public_key-key.ensures.value c.signature_key-signer.ensures.value c.is_certificate_revoked-revoked.ensures.said c.signed_verdict-said.ensures.answer _ (sym c.answer.ensures ∙ c.in_ok-answer.was) in
+    let accepted = ap (openssh_accepts_key c.args.login.now.least_rsa_bits) (sym c.public_key-key.ensures.value) ∙ sym c.openssh_accepts_key.ensures ∙ c.if-not-openssh_accepts_key.false in
+    as_much {P = IsGoodFor (g.V.RawVerifier.accepts c.args.verifier.now) c.args.login.now.unix_timestamp (plain_name c.args.login.now.host.now) certificate} {Q = IsTrustedCertificate (login_of c.args.login.now hmac) (g.V.RawVerifier.accepts c.args.verifier.now) (g.R.Revocations.revokes c.args.revocations.now) certificate} c.validate.result
+    (λ good. record { trusted_by = trusted.1; unrevoked = trusted.0; accepted = accepted; good = good })
+    (λ is. is.good)
+    c.validate.ensures.exactly
+
+pub returns-clause-refused : goal.returns-clause-refused
+returns-clause-refused g c =
+    let hmac = g.H.HostHasher.hmac c.args.hmac.now in
+    let certificate = certificate_of c.args.certificate.now in
+    let lines = lines_of c.args.login.now.texts.now in
+    let revoked = is_certificate_revoked (g.R.Revocations.revokes c.args.revocations.now) certificate in
+    let trusted = judged hmac c.args.login.now.host.now c.args.login.now.port certificate lines revoked _ _ _ _ c.public_key-key.ensures.value c.signature_key-signer.ensures.value c.is_certificate_revoked-revoked.ensures.said c.signed_verdict-said.ensures.answer _ (sym c.answer.ensures ∙ c.in_ok-answer.was) in
+    let accepted = ap (openssh_accepts_key c.args.login.now.least_rsa_bits) (sym c.public_key-key.ensures.value) ∙ sym c.openssh_accepts_key.ensures ∙ c.if-not-openssh_accepts_key.false in
+    why_bad (IsSaidOfSigned hmac c.args.login.now.host.now c.args.login.now.port certificate.signed.key certificate.signed.signature_key lines) revoked _ (g.V.RawVerifier.accepts c.args.verifier.now) c.args.login.now.unix_timestamp (plain_name c.args.login.now.host.now) certificate trusted accepted c.validate.result c.validate.ensures.refused
