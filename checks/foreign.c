@@ -207,14 +207,6 @@ static void ask_number(given_call *it, const char *name) {
   printf("%" PRIu32, ask(it, name, NULL));
 }
 
-static void ask_revoked(given_call *it, const char *name) {
-  uint32_t answer = ask(it, name, NULL);
-  if (answer == RAF_NOT_REVOKED)
-    printf("0 0");
-  else if (is_done(answer))
-    printf(" 1");
-}
-
 static void ask_digest(given_call *it, const char *name) {
   if (!is_done(ask(it, name, NULL))) return;
   putchar(' ');
@@ -381,10 +373,10 @@ static const struct {
     {"addresses", ask_addresses, "check_source_address", 3},
     {"time", ask_time, "read_time", 1},
     {"signer", ask_number, "check_signer", 5},
-    {"unrevoked-key-by-krl", ask_revoked, "check_unrevoked_key_by_krl", 2},
-    {"unrevoked-certificate-by-krl", ask_revoked, "check_unrevoked_certificate_by_krl", 2},
-    {"unrevoked-key", ask_revoked, "check_unrevoked_key", 2},
-    {"unrevoked-certificate", ask_revoked, "check_unrevoked_certificate", 2},
+    {"unrevoked-key-by-krl", ask_number, "check_unrevoked_key_by_krl", 2},
+    {"unrevoked-certificate-by-krl", ask_number, "check_unrevoked_certificate_by_krl", 2},
+    {"unrevoked-key", ask_number, "check_unrevoked_key", 2},
+    {"unrevoked-certificate", ask_number, "check_unrevoked_certificate", 2},
     {"string-places", ask_places, "next_string", 1},
     {"option-places", ask_places, "next_certificate_option", 1},
 };

@@ -151,7 +151,6 @@ static const struct {
     {RAF_ELSEWHERE, "from an address that is not allowed"},
     {RAF_UNREADABLE_REVOCATIONS, "the revocation file can't be read"},
     {RAF_KEY_NOT_ACCEPTED, "a kind or a size of key that OpenSSH does not let in"},
-    {RAF_NOT_REVOKED, "not revoked"},
     {RAF_LATER_KEY, "a later kind of key, which is passed over"},
     {RAF_UNSAFE_MODE, "another's, or others may write it"},
     {RAF_NOT_NORMAL_FORM, "not in its normal form"},

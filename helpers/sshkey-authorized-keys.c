@@ -106,10 +106,9 @@ static int answer_offered(const login_request *asked, offered *wanted) {
 static uint32_t check_revoked(const login_request *asked, const offered *wanted) {
   raf_spans revoked = program_revocations(&asked->revoked);
   raf_blob blob = wanted->blob;
-  return raf_unrevoked(
-      wanted->is_certificate
+  return wanted->is_certificate
           ? raf_check_unrevoked_certificate(revoked.items, revoked.count, blob.bytes, blob.length)
-          : raf_check_unrevoked_key(revoked.items, revoked.count, blob.bytes, blob.length));
+          : raf_check_unrevoked_key(revoked.items, revoked.count, blob.bytes, blob.length);
 }
 
 static int answer_request(login_request *asked) {

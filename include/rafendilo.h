@@ -45,11 +45,11 @@
 #include <stddef.h>
 #include <stdint.h>
 
-/* The version of this header, as raf_version tells that of the library: 200 is 0.2.0. */
-#define RAF_VERSION 200
+/* The version of this header, as raf_version tells that of the library: 300 is 0.3.0. */
+#define RAF_VERSION 300
 
 /* What raf_abi answers where the library has the structs, the calls and the numbers below. */
-#define RAF_ABI 1
+#define RAF_ABI 2
 
 #ifdef __cplusplus
 extern "C" {
@@ -70,8 +70,7 @@ uint32_t raf_abi(void);
 
 /* What a call returns. */
 enum {
-  RAF_DONE = 0,   /* done; of a validation: it is valid; of a revocation file: it revokes; of a
-                        signer: the signature counts */
+  RAF_DONE = 0,   /* done; of a check: all is good, and of revocations that nothing revokes it */
   RAF_MEMORY = 1, /* malloc refused; nothing is said of the input, and nothing is kept: the call
                         may be made again */
   RAF_SHORT_BUFFER = 2,   /* the room is too short; `length` says how many bytes are needed */
@@ -131,7 +130,7 @@ enum {
   /* 55, 58, 56, and then 30: a signature does not count; the first of these that holds */
   RAF_SIGNER_NOT_ALLOWED = 55, /* no line lets its key sign for the identity, there and then; or
                                      it is none of the keys that may sign */
-  RAF_REVOKED = 56, /* a revocation file revokes the signer's key, or the certificate */
+  RAF_REVOKED = 56, /* a revocation file or list revokes the key, the signer's, or the certificate */
 
   RAF_ELSEWHERE = 57, /* the client's address is none of those that are allowed */
 
@@ -140,8 +139,6 @@ enum {
                                          revoked */
 
   RAF_KEY_NOT_ACCEPTED = 59, /* a kind or a size of key that OpenSSH does not let in */
-
-  RAF_NOT_REVOKED = 60, /* no revocation file revokes the key or the certificate */
 
   RAF_LATER_KEY = 61,   /* the line has a key of a later kind, which signs nothing that is read:
                               pass over it, and say so */
@@ -207,7 +204,6 @@ static inline const char *raf_status_name(uint32_t answer) {
     RAF_NAMED(HOST_CHANGED); RAF_NAMED(HOST_UNKNOWN);
     RAF_NAMED(SIGNER_NOT_ALLOWED); RAF_NAMED(REVOKED); RAF_NAMED(ELSEWHERE);
     RAF_NAMED(UNREADABLE_REVOCATIONS); RAF_NAMED(KEY_NOT_ACCEPTED);
-    RAF_NAMED(NOT_REVOKED);
     RAF_NAMED(LATER_KEY); RAF_NAMED(UNSAFE_MODE);
     RAF_NAMED(NOT_NORMAL_FORM); RAF_NAMED(OTHER_TYPE); RAF_NAMED(OTHER_KEY);
     RAF_NAMED(CRITICAL_OPTIONS); RAF_NAMED(EXTENSIONS); RAF_NAMED(KEY_ID);
@@ -778,48 +774,40 @@ uint32_t raf_next_string(const uint8_t *bytes, size_t length, size_t place, raf_
 
 /* ---- revocation files (sshd_config(5), "RevokedKeys") ---------------------------------------- */
 
-/* Whether one of these files revokes the key of that blob: a list (PROTOCOL.krl), as
- * `ssh-keygen -k` makes it, that has the key or its digest by SHA-1 or SHA-256; or a text with a key
- * or a certificate a line, that has the key. A file of no bytes revokes nothing, as sshd's.
+/* Whether none of these files revokes the key of that blob. One does if it is a list (PROTOCOL.krl),
+ * as `ssh-keygen -k` makes it, that has the key or its digest by SHA-1 or SHA-256; or a text with a
+ * key or a certificate a line, that has the key. A file of no bytes revokes nothing, as sshd's.
  *
- * Let in for RAF_NOT_REVOKED alone: a caller that takes any other answer for "not revoked" is
- * wrong (docs/CHECKLIST.md, "All of them"). RAF_DONE exactly if all files can be read, and one
- * revokes the key (memory aside); RAF_UNREADABLE_REVOCATIONS without a file, or for one that
- * can't be read, by which sshd lets nobody in either (docs/CALLING.md says what sshd refuses beyond
- * that); else 10 to 29 for bytes that are no key. A text takes memory for its lines, several files
- * do, and one list only for a key that is not its normal form. */
+ * RAF_DONE exactly if all files can be read, and none revokes the key, and RAF_REVOKED exactly if
+ * all can be read, and one does (memory aside). RAF_UNREADABLE_REVOCATIONS without a file, or for
+ * one that can't be read, by which sshd lets nobody in either (docs/CALLING.md says what sshd
+ * refuses beyond that); else 10 to 29 for bytes that are no key. A text takes memory for its lines,
+ * several files do, and one list only for a key that is not its normal form. */
 uint32_t raf_check_unrevoked_key(const raf_span *revoked, size_t revoked_count, const uint8_t *key,
                             size_t key_length);
 
-/* The same of a certificate: a file has its key or the key that signed it, or a list revokes its
- * serial number or its key id among the certificates of that key or of every key. The serial number
- * 0 revokes nothing. One list takes memory only where the bytes are a certificate. */
+/* The same of a certificate: a file revokes it that has its key or the key that signed it, and a list
+ * that revokes its serial number or its key id among the certificates of that key or of every key.
+ * The serial number 0 revokes nothing. One list takes memory only where the bytes are a
+ * certificate. */
 uint32_t raf_check_unrevoked_certificate(const raf_span *revoked, size_t revoked_count,
                                     const uint8_t *certificate, size_t certificate_length);
 
-/* Whether a key revocation list, as `ssh-keygen -k` makes it, revokes the key of that blob: it has
- * the key, or its digest by SHA-1 or SHA-256.
+/* Whether a key revocation list, as `ssh-keygen -k` makes it, does not revoke the key of that blob:
+ * it has neither the key nor its digest by SHA-1 or SHA-256.
  *
- * Let in for RAF_NOT_REVOKED alone: a caller that takes any other answer for "not revoked" is
- * wrong (docs/CHECKLIST.md, "All of them"). RAF_DONE exactly if the list revokes the key (memory
+ * RAF_DONE exactly if the list does not revoke the key, and RAF_REVOKED exactly if it does (memory
  * aside); else 10 to 29 for bytes that are no list, or else no key. An empty file is no list, nor
  * is a text of keys, which sshd takes in place of one. RAF_MEMORY only for a key that is not its
  * normal form. */
 uint32_t raf_check_unrevoked_key_by_krl(const uint8_t *krl, size_t krl_length, const uint8_t *key,
                                 size_t key_length);
 
-/* The same of a certificate: the list has its key or the key that signed it, or revokes its serial
- * number or its key id among the certificates of that key or of every key. The serial number 0
- * revokes nothing. RAF_MEMORY only where the bytes are a list and a certificate. */
+/* The same of a certificate: a list revokes it that has its key or the key that signed it, or its
+ * serial number or its key id among the certificates of that key or of every key. The serial number
+ * 0 revokes nothing. RAF_MEMORY only where the bytes are a list and a certificate. */
 uint32_t raf_check_unrevoked_certificate_by_krl(const uint8_t *krl, size_t krl_length,
                                         const uint8_t *certificate, size_t certificate_length);
-
-/* The answer of one of these four calls with RAF_DONE for what is not revoked, and RAF_REVOKED
- * for what is: so here, as of other calls, only RAF_DONE is good. */
-static inline uint32_t raf_unrevoked(uint32_t answer) {
-  if (answer == RAF_DONE) return RAF_REVOKED;
-  return answer == RAF_NOT_REVOKED ? (uint32_t)RAF_DONE : answer;
-}
 
 /* ---- authorized_keys and known_hosts (sshd(8)) ----------------------------------------------- */
 

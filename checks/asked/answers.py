@@ -43,7 +43,7 @@ them: FILES, which are revocation files, and TEXTS), numbers and names:
     lines TEXT                                               0 CONTENT ..
     normal key|certificate|sshsig|signature BYTES            0 BYTES
     signer TEXT IDENTITY NAMESPACE BYTES FILES SECOND 0|1    what a text of allowed signers says, where a verification says no or yes
-    unrevoked-key-by-krl LIST KEY | unrevoked-certificate-by-krl LIST BYTES    0 1 if the list revokes it, else 0 0
+    unrevoked-key-by-krl LIST KEY | unrevoked-certificate-by-krl LIST BYTES    56 if the list revokes it, else 0
     unrevoked-key FILES KEY | unrevoked-certificate FILES BYTES  the same of files of sshd's RevokedKeys
     draft KEY NONCE KEY-ID PRINCIPALS CRITICAL EXTENSIONS AUTHORITY SERIAL AFTER BEFORE TYPE ALL
                                                              0 BYTES that are to be signed; lists as a certificate has them, of
@@ -225,10 +225,12 @@ class Answers(VerdictAnswers):
         return [str(int(self.rafendilo.check_signer_with_answer(data_of(signature), data_of(namespace), by, yes == "1")))]
 
     def unrevoked_key_by_krl(self, krl, key):
-        return ["0", str(int(self.rafendilo.check_unrevoked_key_by_krl(data_of(krl), data_of(key))))]
+        self.rafendilo.check_unrevoked_key_by_krl(data_of(krl), data_of(key))
+        return ["0"]
 
     def unrevoked_certificate_by_krl(self, krl, data):
-        return ["0", str(int(self.rafendilo.check_unrevoked_certificate_by_krl(data_of(krl), data_of(data))))]
+        self.rafendilo.check_unrevoked_certificate_by_krl(data_of(krl), data_of(data))
+        return ["0"]
 
     def draft_in(self, words):
         """What the words tell, as the package takes it."""

@@ -230,19 +230,19 @@ def of_lists(made, keys):
     """Calls about lists that revoke a key, and another."""
     blob, listed = made.kinds[0].blob, made.maker.blob(made.kinds[0].authority)
     other = EMPTY + b"\2" + string(string(keys["ed25519"]))
-    for revoked, wanted in ((EMPTY + b"\2" + string(string(listed)), "DONE"), (other, "NOT_REVOKED")):
-        for calls, files in (("krl_revokes", revoked), ("revoked", [revoked]), ("revoked", [b"# a comment\n", revoked])):
-            yield f"{calls}_certificate", [files, blob], [], wanted
-            yield f"{calls}_key", [files, listed], [], wanted
+    for revoked, wanted in ((EMPTY + b"\2" + string(string(listed)), "REVOKED"), (other, "DONE")):
+        for by, files in (("_by_krl", revoked), ("", [revoked]), ("", [b"# a comment\n", revoked])):
+            yield f"check_unrevoked_certificate{by}", [files, blob], [], wanted
+            yield f"check_unrevoked_key{by}", [files, listed], [], wanted
     for key in (*keys.values(), renamed(keys["rsa -b 2048"], OTHER_NAME.encode())):
         for call, files in (("check_unrevoked_key_by_krl", other), ("check_unrevoked_key", [other])):
-            yield call, [files, key], [], "DONE" if key == keys["ed25519"] else "NOT_REVOKED"
+            yield call, [files, key], [], "REVOKED" if key == keys["ed25519"] else "DONE"
     for call, value in (("check_unrevoked_key_by_krl", listed), ("check_unrevoked_certificate_by_krl", blob)):
         yield call, [other[:-1], value], [], "LENGTH"
         yield call, [other, value[:-1]], [], "LENGTH"
         yield call, [other, value + b"!"], [], "TRAILING_DATA"
     for call, value in (("check_unrevoked_key", listed), ("check_unrevoked_certificate", blob)):
-        yield call, [[b""], value], [], "NOT_REVOKED"
+        yield call, [[b""], value], [], "DONE"
         for files in ([other[:-1]], [b"\xff"], [b"ssh-ed25519\n"], [], [b"", other[:-1]]):
             yield call, [files, value], [], "UNREADABLE_REVOCATIONS"
         yield call, [[other], value[:-1]], [], "LENGTH"

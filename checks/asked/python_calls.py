@@ -197,8 +197,8 @@ def check_no_file(count, rafendilo, key, certificate):
     for of in (rafendilo.Login, rafendilo.HostLogin, rafendilo.Signers):
         default = inspect.signature(of).parameters["revoked"].default
         count.check(f"the files of a {of.__name__} have to be given", default is inspect.Parameter.empty, default)
-    found = [rafendilo.check_unrevoked_key(it, key) for it in ([b""], rafendilo.NO_REVOCATIONS)]
-    count.check("no bytes revoke nothing, nor does the word of who asks no file", found == [False, False], found)
+    found = [raised(rafendilo.check_unrevoked_key, it, key) for it in ([b""], rafendilo.NO_REVOCATIONS)]
+    count.check("no bytes revoke nothing, nor does the word of who asks no file", found == [None, None], found)
     none = status_of(rafendilo, rafendilo.log_in, login_of(rafendilo, key, certificate, revoked=[]))
     count.check("without a file nobody is let in", none == rafendilo.Status.UNREADABLE_REVOCATIONS, none)
 

@@ -19,6 +19,8 @@ CERTIFIED = ((0, "id"), (1, ""), (5, "id"), (70, "two words"), (2**64 - 1, "grö
 SAMPLED = 8
 # a list of nothing (PROTOCOL.krl)
 EMPTY = b"SSHKRL\n\0" + (1).to_bytes(4, "big") + bytes(24) + string(b"") * 2
+# RAF_DONE and RAF_REVOKED, by whether ssh-keygen says that it is revoked
+SAID = UNREVOKED, REVOKED = "0", "56"
 
 
 def files_of(maker):
@@ -81,18 +83,18 @@ def said(folder, data, paths):
     return [int(it == "REVOKED") for it in words]
 
 
-def question(data, path, blob, call="revokes"):
-    return f"{call}-{'certificate' if path.endswith('-cert.pub') else 'key'} {word(data)} {word(blob)}"
+def question(data, path, blob, by="-by-krl"):
+    return f"unrevoked-{'certificate' if path.endswith('-cert.pub') else 'key'}{by} {word(data)} {word(blob)}"
 
 
 def check_lists(judge, files, lists):
     cases = []
     for name, data in lists.items():
         for (path, blob), revoked in zip(files.items(), said(judge.made.folder, data, files)):
-            for call in ("revokes", "revoked"):
-                cases.append((f"{name}: {os.path.basename(path)}, {call}", question(data, path, blob, call), f"0 {revoked}"))
+            for by in ("-by-krl", ""):
+                cases.append((f"{name}: {os.path.basename(path)}{by}", question(data, path, blob, by), SAID[revoked]))
     judge.hold("a revocation list of", cases)
-    few = [it for it in ("0 0", "0 1") if [wanted for *_, wanted in cases].count(it) < len(cases) // 8]
+    few = [it for it in SAID if [wanted for *_, wanted in cases].count(it) < len(cases) // 8]
     judge.check("ssh-keygen says yes and no often", not few, few)
 
 
@@ -113,7 +115,7 @@ def check_changed(judge, files, lists):
     answers = judge.ask("changed revocation lists", [it for it, _ in asked])
     wrong = [
         (*it, answer) for it, answer in zip(asked, answers)
-        if not (10 <= int(answer.split()[0]) < 30 if it[1] is None else answer == f"0 {it[1]}")
+        if not (10 <= int(answer.split()[0]) < 30 if it[1] is None else answer == SAID[it[1]])
     ]  # fmt: skip
     read = sum(it is not None for it in wanted)
     name = f"ssh-keygen reads {read} of {len(changed):,} changed lists, and each says the same"
@@ -133,8 +135,8 @@ def check_faults(judge, files, lists):
 
     five, bits = (5).to_bytes(8, "big"), bytes(8) + string(b"\x20")
     cases = [
-        ("nothing", EMPTY, key, "0 0"), ("the number 5", of_part(0x20, five), certificate, "0 1"),
-        ("bits", of_part(0x22, bits), certificate, "0 1"),
+        ("nothing", EMPTY, key, UNREVOKED), ("the number 5", of_part(0x20, five), certificate, REVOKED),
+        ("bits", of_part(0x22, bits), certificate, REVOKED),
         ("no bytes", b"", key, "LENGTH"), ("a text of keys", judge.made.maker.read("revoked0.pub").encode(), key, "FORMAT"),
         ("another magic", b"SSHKRL\0\0" + EMPTY[8:], key, "FORMAT"),
         ("another version", EMPTY[:11] + b"\2" + EMPTY[12:], key, "UNSUPPORTED_VERSION"), ("a byte less", EMPTY[:-1], key, "LENGTH"),
@@ -145,17 +147,17 @@ def check_faults(judge, files, lists):
         ("a byte after bits", of_part(0x22, bits, b"!"), key, "TRAILING_DATA"), ("no key", EMPTY, b"", "LENGTH"),
         ("a key and a byte", EMPTY, key + b"!", "TRAILING_DATA"), ("neither is one", EMPTY[:-1], key + b"!", "LENGTH"),
         ("a certificate and a byte", EMPTY, certificate + b"!", "TRAILING_DATA"),
-        ("a key by another name", lists["SHA-1"], renamed(rsa, b"rsa-sha2-512"), "0 1"),
+        ("a key by another name", lists["SHA-1"], renamed(rsa, b"rsa-sha2-512"), REVOKED),
     ]  # fmt: skip
     asked = []
     for name, data, blob, wanted in cases:
         path = "-cert.pub" if blob.startswith(certificate[:40]) else ".pub"
-        asked.append((name, question(data, path, blob), wanted if wanted[0] == "0" else str(judge.number(wanted))))
+        asked.append((name, question(data, path, blob), wanted if wanted in SAID else str(judge.number(wanted))))
     for name, what, blob, wanted in (
         # as one of a private-use name
         ("a certificate as a key", "key", certificate, "TRAILING_DATA"), ("a key as a certificate", "certificate", key, "LABEL"),
     ):  # fmt: skip
-        asked.append((name, f"revokes-{what} {word(EMPTY)} {word(blob)}", str(judge.number(wanted))))
+        asked.append((name, f"unrevoked-{what}-by-krl {word(EMPTY)} {word(blob)}", str(judge.number(wanted))))
     judge.hold("a revocation list", asked)
 
 
@@ -163,11 +165,11 @@ def texts_of(maker):
     """Names, files, and whether they revoke the key revoked0 and the certificate revoked0-0-5-cert, by revoker0; None for a file that
     can't be read."""
     key, other, authority, certificate = (maker.read(f"{it}.pub") for it in ("revoked0", "revoked1", "revoker0", "revoked0-0-5-cert"))
-    yes, no, no_file = ("0 1", "0 1"), ("0 0", "0 0"), (None, None)
+    yes, no, no_file = (REVOKED, REVOKED), (UNREVOKED, UNREVOKED), (None, None)
     return [
         ("no bytes", "", no), ("a comment", f"# {key}\n", no), ("empty lines", "\n\n", no), ("its key", f"{key}\n", yes),
         ("its key and no line end", key, yes), ("its key after another", f"# x\n{other}\n \t{key}\r\n", yes),
-        ("another key", f"{other}\n", no), ("its authority", f"{authority}\n", ("0 0", "0 1")), ("its certificate", f"{certificate}\n", yes),
+        ("another key", f"{other}\n", no), ("its authority", f"{authority}\n", (UNREVOKED, REVOKED)), ("its certificate", f"{certificate}\n", yes),
         ("half a key", f"{key[:40]}\n", no_file), ("its key, and a line that is none", f"{key}\nx\n", no_file),
         ("a word", "x\n", no_file), ("a text that is not UTF-8", f"{other} \udcff\n", no_file), ("a list's first word", "SSHKRL\n", no_file),
         ("a private-use name", f"{line_of(string(b'name@example.com') + string(b'x'))}\n", no_file),
@@ -182,10 +184,10 @@ def check_files(judge):
     for name, text, wanted in texts_of(maker):
         for (path, blob), answer in zip(subjects, wanted):
             file = text.encode("utf-8", "surrogateescape")
-            asked.append((f"{name}: {path}", question(file, f"{path}.pub", blob, "revoked"), answer or unread))
+            asked.append((f"{name}: {path}", question(file, f"{path}.pub", blob, ""), answer or unread))
     for name, data, kind in (("a list without its last byte", EMPTY[:-1], unread), ("no list, and no key", EMPTY[:-1], unread)):
-        asked.append((name, question(data, ".pub", subjects[0][1] if "and" not in name else b"", "revoked"), kind))
-    asked.append(("no bytes, and no key", question(b"", ".pub", b"", "revoked"), str(judge.number("LENGTH"))))
+        asked.append((name, question(data, ".pub", subjects[0][1] if "and" not in name else b"", ""), kind))
+    asked.append(("no bytes, and no key", question(b"", ".pub", b"", ""), str(judge.number("LENGTH"))))
     judge.hold("a revocation file", asked)
     check_several(judge, subjects)
 
@@ -196,13 +198,13 @@ def check_several(judge, subjects):
     own, other, half = (it.encode() for it in (read("revoked0.pub"), read("revoked1.pub"), read("revoked0.pub")[:40]))
     listed, unread = made_list(judge.made.maker, None, [read("revoked0.pub")]), str(judge.number("UNREADABLE_REVOCATIONS"))
     for name, files, wanted in (
-        ("none", [], unread), ("one that revokes nothing", [EMPTY], "0 0"), ("two of nothing", [EMPTY, b""], "0 0"), ("its key in the first", [own, other], "0 1"),
-        ("its key in the last of three", [b"", other, listed], "0 1"), ("its key in both", [own, listed], "0 1"), ("another key in both", [other, other], "0 0"),
+        ("none", [], unread), ("one that revokes nothing", [EMPTY], UNREVOKED), ("two of nothing", [EMPTY, b""], UNREVOKED), ("its key in the first", [own, other], REVOKED),
+        ("its key in the last of three", [b"", other, listed], REVOKED), ("its key in both", [own, listed], REVOKED), ("another key in both", [other, other], UNREVOKED),
         ("half a key in the second", [EMPTY, half], unread), ("half a key in the first", [half, own], unread), ("its key, and half a list", [own, listed[:-1]], unread),
     ):  # fmt: skip
         for path, blob in subjects:
             kind = "certificate" if path.endswith("-cert") else "key"
-            asked.append((f"{name}: {path}", f"revoked-{kind} {several(files)} {word(blob)}", wanted))
+            asked.append((f"{name}: {path}", f"unrevoked-{kind} {several(files)} {word(blob)}", wanted))
     judge.hold("several revocation files", asked)
 
 

@@ -114,7 +114,9 @@ class VerdictAnswers:
         return ["0" if self.rafendilo.is_safe_mode(*map(int, numbers)) else "62"]
 
     def unrevoked_key(self, files, key):
-        return ["0", str(int(self.rafendilo.check_unrevoked_key(datas_of(files), data_of(key))))]
+        self.rafendilo.check_unrevoked_key(datas_of(files), data_of(key))
+        return ["0"]
 
     def unrevoked_certificate(self, files, data):
-        return ["0", str(int(self.rafendilo.check_unrevoked_certificate(datas_of(files), data_of(data))))]
+        self.rafendilo.check_unrevoked_certificate(datas_of(files), data_of(data))
+        return ["0"]

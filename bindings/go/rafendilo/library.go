@@ -11,10 +11,10 @@ import (
 )
 
 // Version is that of this package.
-const Version = "0.2.0"
+const Version = "0.3.0"
 
 // abi is RAF_ABI of the header from which this package is written.
-const abi = 1
+const abi = 2
 
 // init ends the program where the library has another ABI than this package needs.
 func init() {

@@ -41,7 +41,6 @@ var meanings = map[Status]string{
 	57:  "from an address that is not allowed",
 	58:  "the revocation file can't be read",
 	59:  "a kind or a size of key that OpenSSH does not let in",
-	60:  "not revoked",
 	61:  "a later kind of key, which is passed over",
 	62:  "another's, or others may write it",
 	70:  "not in its normal form",

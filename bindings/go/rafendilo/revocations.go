@@ -27,50 +27,44 @@ func filesOf(memory *held, revoked [][]byte) C.raf_spans {
 	return spansOf(memory, revoked)
 }
 
-// CheckUnrevokedKey tells whether one of the files of sshd's RevokedKeys revokes the key, given as its
-// blob. It fails with ErrUnreadableRevocations where one can't be read, as nil, and where there is
-// none, with a Status for bytes that are no key, and with ErrMemory. Where it fails it answers
-// true, so that false alone lets in.
-func CheckUnrevokedKey(revoked [][]byte, key []byte) (bool, error) {
+// CheckUnrevokedKey gives nil exactly if none of the files of sshd's RevokedKeys revokes the key,
+// given as its blob. It fails with ErrRevoked where one does, with ErrUnreadableRevocations where one
+// can't be read, as nil, and where there is none, with a Status for bytes that are no key, and with
+// ErrMemory.
+func CheckUnrevokedKey(revoked [][]byte, key []byte) error {
 	var memory held
 	defer memory.free()
 	files, in := filesOf(&memory, revoked), inputOf(key)
-	return isRevoked(C.raf_check_unrevoked_key(files.items, files.count, in.pointer(), in.length()))
+	return errorOf(C.raf_check_unrevoked_key(files.items, files.count, in.pointer(), in.length()))
 }
 
-// CheckUnrevokedCertificate tells the same of a certificate, given as its blob: as CheckUnrevokedCertificateByKRL
-// by a list, and by a text where it has its key or the key that signed it. It fails as CheckUnrevokedKey
-// does.
-func CheckUnrevokedCertificate(revoked [][]byte, certificate []byte) (bool, error) {
+// CheckUnrevokedCertificate tells the same of a certificate, given as its blob, as
+// CheckUnrevokedCertificateByKRL by a list; a text revokes it that has its key or the key that
+// signed it. It fails as CheckUnrevokedKey does.
+func CheckUnrevokedCertificate(revoked [][]byte, certificate []byte) error {
 	var memory held
 	defer memory.free()
 	files, in := filesOf(&memory, revoked), inputOf(certificate)
-	return isRevoked(C.raf_check_unrevoked_certificate(files.items, files.count,
+	return errorOf(C.raf_check_unrevoked_certificate(files.items, files.count,
 		in.pointer(), in.length()))
 }
 
-// CheckUnrevokedKeyByKRL tells whether a key revocation list (PROTOCOL.krl), as `ssh-keygen -k` makes it,
-// has the key, given as its blob, or its digest by SHA-1 or SHA-256. It fails with a Status for
-// bytes that are no list (an empty file is none, nor is a text of keys), or else no key, and with
-// ErrMemory. Where it fails it answers true, so that false alone lets in.
-func CheckUnrevokedKeyByKRL(krl, key []byte) (bool, error) {
+// CheckUnrevokedKeyByKRL gives nil exactly if a key revocation list (PROTOCOL.krl), as
+// `ssh-keygen -k` makes it, has neither the key, given as its blob, nor its digest by SHA-1 or
+// SHA-256. It fails with ErrRevoked where it has, with a Status for bytes that are no list (an empty
+// file is none, nor is a text of keys), or else no key, and with ErrMemory.
+func CheckUnrevokedKeyByKRL(krl, key []byte) error {
 	list, in := inputOf(krl), inputOf(key)
-	return isRevoked(C.raf_check_unrevoked_key_by_krl(list.pointer(), list.length(),
+	return errorOf(C.raf_check_unrevoked_key_by_krl(list.pointer(), list.length(),
 		in.pointer(), in.length()))
 }
 
-// CheckUnrevokedCertificateByKRL tells the same of a certificate, given as its blob: the list has its key or
-// the key that signed it, or revokes its serial number or its key id among the certificates of that
-// key or of every key. The serial number 0 revokes nothing. It fails as CheckUnrevokedKeyByKRL does.
-func CheckUnrevokedCertificateByKRL(krl, certificate []byte) (bool, error) {
+// CheckUnrevokedCertificateByKRL tells the same of a certificate, given as its blob: a list revokes
+// it that has its key or the key that signed it, or its serial number or its key id among the
+// certificates of that key or of every key. The serial number 0 revokes nothing. It fails as
+// CheckUnrevokedKeyByKRL does.
+func CheckUnrevokedCertificateByKRL(krl, certificate []byte) error {
 	list, in := inputOf(krl), inputOf(certificate)
-	return isRevoked(C.raf_check_unrevoked_certificate_by_krl(list.pointer(), list.length(),
+	return errorOf(C.raf_check_unrevoked_certificate_by_krl(list.pointer(), list.length(),
 		in.pointer(), in.length()))
-}
-
-func isRevoked(status C.uint32_t) (bool, error) {
-	if status == C.RAF_NOT_REVOKED {
-		return false, nil
-	}
-	return true, errorOf(status)
 }

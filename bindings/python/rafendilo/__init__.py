@@ -85,7 +85,7 @@ from ._values import (
 )
 from ._verify import Verifier, is_signature
 
-__version__ = "0.2.0"
+__version__ = "0.3.0"
 
 __all__ = [
     "ALL_PRINCIPALS", "FOREVER", "NO_REVOCATIONS", "Address", "Algorithm", "AllPrincipals", "Authorities", "AuthorizedEntry",

@@ -11,7 +11,7 @@ from typing import Any
 from ._answer import Answer
 
 # What raf_abi answers where the library has the structs, the calls and the numbers below.
-ABI = 1
+ABI = 2
 # The end of a window that has none.
 FOREVER = 18446744073709551615
 # How many bytes the text of a SHA-256 fingerprint has, as ssh-keygen shows it: "SHA256:" and 43 characters.
@@ -23,7 +23,7 @@ FINGERPRINT_SHA512_TEXT = 93
 class Status(Answer):
     """What a call returns."""
 
-    # Done; of a validation: it is valid; of a revocation file: it revokes; of a signer: the signature counts.
+    # Done; of a check: all is good, and of revocations that nothing revokes it.
     DONE = 0
     # Malloc refused; nothing is said of the input, and nothing is kept: the call may be made again.
     MEMORY = 1
@@ -93,7 +93,7 @@ class Status(Answer):
     HOST_UNKNOWN = 53
     # No line lets its key sign for the identity, there and then; or it is none of the keys that may sign.
     SIGNER_NOT_ALLOWED = 55
-    # A revocation file revokes the signer's key, or the certificate.
+    # A revocation file or list revokes the key, the signer's, or the certificate.
     REVOKED = 56
     # The client's address is none of those that are allowed.
     ELSEWHERE = 57
@@ -101,8 +101,6 @@ class Status(Answer):
     UNREADABLE_REVOCATIONS = 58
     # A kind or a size of key that OpenSSH does not let in.
     KEY_NOT_ACCEPTED = 59
-    # No revocation file revokes the key or the certificate.
-    NOT_REVOKED = 60
     # The line has a key of a later kind, which signs nothing that is read: pass over it, and say so.
     LATER_KEY = 61
     # Another's, or others may write it.
@@ -256,7 +254,6 @@ WORDS = {
     Status.ELSEWHERE: "from an address that is not allowed",
     Status.UNREADABLE_REVOCATIONS: "the revocation file can't be read",
     Status.KEY_NOT_ACCEPTED: "a kind or a size of key that OpenSSH does not let in",
-    Status.NOT_REVOKED: "not revoked",
     Status.LATER_KEY: "a later kind of key, which is passed over",
     Status.UNSAFE_MODE: "another's, or others may write it",
     Status.NOT_NORMAL_FORM: "not in its normal form",

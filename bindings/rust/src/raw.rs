@@ -10,7 +10,7 @@ use crate::digests::{Sha256, Sha512};
 use crate::status::{statuses, Status};
 
 /// What raf_abi answers where the library has the structs, the calls and the numbers below.
-pub const ABI: u32 = 1;
+pub const ABI: u32 = 2;
 
 /// The end of a window that has none.
 pub const FOREVER: u64 = 18446744073709551615;
@@ -174,7 +174,7 @@ statuses! {
     /// No line lets its key sign for the identity, there and then; or it is none of the keys that
     /// may sign.
     SIGNER_NOT_ALLOWED = 55, "no allowed signer";
-    /// A revocation file revokes the signer's key, or the certificate.
+    /// A revocation file or list revokes the key, the signer's, or the certificate.
     REVOKED = 56, "revoked";
     /// The client's address is none of those that are allowed.
     ELSEWHERE = 57, "from an address that is not allowed";
@@ -182,8 +182,6 @@ statuses! {
     UNREADABLE_REVOCATIONS = 58, "the revocation file can't be read";
     /// A kind or a size of key that OpenSSH does not let in.
     KEY_NOT_ACCEPTED = 59, "a kind or a size of key that OpenSSH does not let in";
-    /// No revocation file revokes the key or the certificate.
-    NOT_REVOKED = 60, "not revoked";
     /// The line has a key of a later kind, which signs nothing that is read: pass over it, and say
     /// so.
     LATER_KEY = 61, "a later kind of key, which is passed over";

@@ -12,40 +12,35 @@ pub const NO_REVOCATIONS: &[&[u8]] = &[
       \0\0\0\0\0\0\0\0\0\0\0\0\0\0\0\0\0\0\0\0\0\0\0\0\0\0\0\0\0\0\0\0",
 ];
 
-/// Whether one of the files of sshd's `RevokedKeys` revokes the key, given as its blob. Each file
-/// is a key revocation list, as [`check_unrevoked_key_by_krl`] asks it, or has keys, one a line; one of no
-/// bytes revokes nothing: do not pass it for a file that could not be opened. Let in for `Ok(false)`
-/// alone. Fails with [`Status::UNREADABLE_REVOCATIONS`] where there is no file, or one cannot be
-/// read, else with a number from 10 to 29 where the bytes are no key, and with [`Status::MEMORY`].
-pub fn check_unrevoked_key(revoked: &[&[u8]], key: &[u8]) -> Result<bool, Status> {
-    is_revoked(raw::raf_check_unrevoked_key(&spans(revoked), key))
+/// Whether none of the files of sshd's `RevokedKeys` revokes the key, given as its blob. Each file
+/// is a key revocation list, as [`check_unrevoked_key_by_krl`] asks it, or has keys, one a line; one
+/// of no bytes revokes nothing: do not pass it for a file that could not be opened.
+///
+/// Fails with [`Status::REVOKED`] where one revokes it, with [`Status::UNREADABLE_REVOCATIONS`] where
+/// there is no file, or one cannot be read, else with a number from 10 to 29 where the bytes are no
+/// key, and with [`Status::MEMORY`].
+pub fn check_unrevoked_key(revoked: &[&[u8]], key: &[u8]) -> Result<(), Status> {
+    Status::of(raw::raf_check_unrevoked_key(&spans(revoked), key))
 }
 
-/// The same of a certificate, given as its blob: as [`check_unrevoked_certificate_by_krl`] asks a list, and of
-/// a text whether it has its key or the key that signed it. Fails as [`check_unrevoked_key`] does.
-pub fn check_unrevoked_certificate(revoked: &[&[u8]], certificate: &[u8]) -> Result<bool, Status> {
-    is_revoked(raw::raf_check_unrevoked_certificate(&spans(revoked), certificate))
+/// The same of a certificate, given as its blob, as [`check_unrevoked_certificate_by_krl`] asks a
+/// list; a text revokes it that has its key or the key that signed it. Fails as
+/// [`check_unrevoked_key`] does.
+pub fn check_unrevoked_certificate(revoked: &[&[u8]], certificate: &[u8]) -> Result<(), Status> {
+    Status::of(raw::raf_check_unrevoked_certificate(&spans(revoked), certificate))
 }
 
-/// Whether a key revocation list (PROTOCOL.krl), as `ssh-keygen -k` makes it, has the key, given as
-/// its blob, or its digest by SHA-1 or SHA-256. Let in for `Ok(false)` alone. Fails with a number
-/// from 10 to 29 where the bytes are no list (an empty file is none, nor is a text of keys), or else
-/// no key, and with [`Status::MEMORY`].
-pub fn check_unrevoked_key_by_krl(krl: &[u8], key: &[u8]) -> Result<bool, Status> {
-    is_revoked(raw::raf_check_unrevoked_key_by_krl(krl, key))
+/// Whether a key revocation list (PROTOCOL.krl), as `ssh-keygen -k` makes it, has neither the key,
+/// given as its blob, nor its digest by SHA-1 or SHA-256. Fails with [`Status::REVOKED`] where it
+/// has, with a number from 10 to 29 where the bytes are no list (an empty file is none, nor is a text
+/// of keys), or else no key, and with [`Status::MEMORY`].
+pub fn check_unrevoked_key_by_krl(krl: &[u8], key: &[u8]) -> Result<(), Status> {
+    Status::of(raw::raf_check_unrevoked_key_by_krl(krl, key))
 }
 
-/// The same of a certificate, given as its blob: whether the list has its key or the key that signed
-/// it, or revokes its serial number or its key id among the certificates of that key or of every
-/// key. The serial number 0 revokes nothing. Fails as [`check_unrevoked_key_by_krl`] does.
-pub fn check_unrevoked_certificate_by_krl(krl: &[u8], certificate: &[u8]) -> Result<bool, Status> {
-    is_revoked(raw::raf_check_unrevoked_certificate_by_krl(krl, certificate))
-}
-
-fn is_revoked(answer: u32) -> Result<bool, Status> {
-    match Status::of(answer) {
-        Ok(()) => Ok(true),
-        Err(Status::NOT_REVOKED) => Ok(false),
-        Err(status) => Err(status),
-    }
+/// The same of a certificate, given as its blob: a list revokes it that has its key or the key that
+/// signed it, or its serial number or its key id among the certificates of that key or of every key.
+/// The serial number 0 revokes nothing. Fails as [`check_unrevoked_key_by_krl`] does.
+pub fn check_unrevoked_certificate_by_krl(krl: &[u8], certificate: &[u8]) -> Result<(), Status> {
+    Status::of(raw::raf_check_unrevoked_certificate_by_krl(krl, certificate))
 }

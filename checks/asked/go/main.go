@@ -163,16 +163,16 @@ var answers = map[string]func(of []string) ([]string, error){
 		return nil, rafendilo.CheckSignerWithAnswer(data(of[3]), text(of[2]), signers(of), of[6] == "1")
 	},
 	"unrevoked-key": func(of []string) ([]string, error) {
-		return revoked(rafendilo.CheckUnrevokedKey(files(of[0]), data(of[1])))
+		return nil, rafendilo.CheckUnrevokedKey(files(of[0]), data(of[1]))
 	},
 	"unrevoked-certificate": func(of []string) ([]string, error) {
-		return revoked(rafendilo.CheckUnrevokedCertificate(files(of[0]), data(of[1])))
+		return nil, rafendilo.CheckUnrevokedCertificate(files(of[0]), data(of[1]))
 	},
 	"unrevoked-key-by-krl": func(of []string) ([]string, error) {
-		return revoked(rafendilo.CheckUnrevokedKeyByKRL(data(of[0]), data(of[1])))
+		return nil, rafendilo.CheckUnrevokedKeyByKRL(data(of[0]), data(of[1]))
 	},
 	"unrevoked-certificate-by-krl": func(of []string) ([]string, error) {
-		return revoked(rafendilo.CheckUnrevokedCertificateByKRL(data(of[0]), data(of[1])))
+		return nil, rafendilo.CheckUnrevokedCertificateByKRL(data(of[0]), data(of[1]))
 	},
 }
 
@@ -470,10 +470,6 @@ func addresses(of []string) string {
 	address, _ := netip.AddrFromSlice(data(of[1]))
 	return numberOf(rafendilo.CheckSourceAddress(list, address)) + " " +
 		numberOf(rafendilo.CheckFrom(list, host, address))
-}
-
-func revoked(yes bool, err error) ([]string, error) {
-	return []string{bit(yes)}, err
 }
 
 // ---- what is listed

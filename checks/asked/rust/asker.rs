@@ -408,14 +408,20 @@ fn signer(what: &str, given: &[&str]) -> String {
         revoked: &lent(&revoked),
     };
     if what == "signer" {
-        return number_of(rafendilo::check_signer_with_answer(&signature, namespace, &by, given[6] == "1"));
+        return number_of(rafendilo::check_signer_with_answer(
+            &signature,
+            namespace,
+            &by,
+            given[6] == "1",
+        ));
     }
     let digest = data(given[6]);
     number_of(rafendilo::check_signer_of_digest(&signature, namespace, &digest, &by, is_signature))
 }
 
-fn revoked(answer: Result<bool, Status>) -> Answer {
-    words([u8::from(answer?).to_string()])
+fn unrevoked(answer: Result<(), Status>) -> Answer {
+    answer?;
+    words([])
 }
 
 fn answer(question: &str) -> Answer {
@@ -462,12 +468,16 @@ fn answer(question: &str) -> Answer {
         "addresses" => Ok(addresses(given)),
         "time" => time(&at(0)),
         "signer" | "is-signer" => Ok(signer(what, given)),
-        "unrevoked-key" => revoked(rafendilo::check_unrevoked_key(&lent(&several(given[0])), &at(1))),
-        "unrevoked-certificate" => {
-            revoked(rafendilo::check_unrevoked_certificate(&lent(&several(given[0])), &at(1)))
+        "unrevoked-key" => {
+            unrevoked(rafendilo::check_unrevoked_key(&lent(&several(given[0])), &at(1)))
         }
-        "unrevoked-key-by-krl" => revoked(rafendilo::check_unrevoked_key_by_krl(&at(0), &at(1))),
-        "unrevoked-certificate-by-krl" => revoked(rafendilo::check_unrevoked_certificate_by_krl(&at(0), &at(1))),
+        "unrevoked-certificate" => {
+            unrevoked(rafendilo::check_unrevoked_certificate(&lent(&several(given[0])), &at(1)))
+        }
+        "unrevoked-key-by-krl" => unrevoked(rafendilo::check_unrevoked_key_by_krl(&at(0), &at(1))),
+        "unrevoked-certificate-by-krl" => {
+            unrevoked(rafendilo::check_unrevoked_certificate_by_krl(&at(0), &at(1)))
+        }
         _ => panic!("no question: {question}"),
     }
 }

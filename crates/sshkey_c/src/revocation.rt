@@ -1,4 +1,4 @@
-//! Whether revocation files, or a key revocation list, revoke a key or a certificate.
+//! Whether revocation files, or a key revocation list, leave a key or a certificate unrevoked.
 
 ghost use Rattle.std.specs.Prelude.{◌≡◌, ◌⊎◌, Err};
 ghost use Rattle.sshkey_base.specs.Acceptance.{SpellsSome};
@@ -16,7 +16,7 @@ use sshkey_calls::{check_unrevoked_certificate_by_krl, check_unrevoked_key_by_kr
 use sshkey_entry_calls::{check_unrevoked_certificate, check_unrevoked_key};
 use std::alloc::Global;
 
-/// Whether one of the files revokes a key: `sshkey_entry_calls::check_unrevoked_key`.
+/// Whether none of the files revokes a key: `sshkey_entry_calls::check_unrevoked_key`.
 #[unsafe(no_mangle)]
 pub extern "C" fn raf_check_unrevoked_key(alloc: Global, revoked: &[&[u8]], key: &[u8]) -> u32
     ensures answer { TellsRevokedKey revoked.now key.now result }
@@ -25,7 +25,8 @@ pub extern "C" fn raf_check_unrevoked_key(alloc: Global, revoked: &[&[u8]], key:
     check_unrevoked_key(alloc, revoked, key)
 }
 
-/// Whether one of the files revokes a certificate: `sshkey_entry_calls::check_unrevoked_certificate`.
+/// Whether none of the files revokes a certificate:
+/// `sshkey_entry_calls::check_unrevoked_certificate`.
 #[unsafe(no_mangle)]
 pub extern "C" fn raf_check_unrevoked_certificate(
     alloc: Global,
@@ -39,7 +40,7 @@ pub extern "C" fn raf_check_unrevoked_certificate(
     check_unrevoked_certificate(alloc, revoked, certificate)
 }
 
-/// Whether a list revokes a key: `sshkey_calls::check_unrevoked_key_by_krl`.
+/// Whether a list does not revoke a key: `sshkey_calls::check_unrevoked_key_by_krl`.
 #[unsafe(no_mangle)]
 pub extern "C" fn raf_check_unrevoked_key_by_krl(alloc: Global, krl: &[u8], key: &[u8]) -> u32
     ensures exactly { TellsRevoked (IsWhetherKeyRevoked krl.now key.now) result }
@@ -52,7 +53,8 @@ pub extern "C" fn raf_check_unrevoked_key_by_krl(alloc: Global, krl: &[u8], key:
     check_unrevoked_key_by_krl(alloc, krl, key)
 }
 
-/// Whether a list revokes a certificate: `sshkey_calls::check_unrevoked_certificate_by_krl`.
+/// Whether a list does not revoke a certificate:
+/// `sshkey_calls::check_unrevoked_certificate_by_krl`.
 #[unsafe(no_mangle)]
 pub extern "C" fn raf_check_unrevoked_certificate_by_krl(
     alloc: Global,

@@ -19,8 +19,8 @@ below Other n range memory = (range (λ e. cc e)).1
 -- nothing is said
 pub none_told : (Said : Bool → Type 0) (of_error : Cause) (n : ℕ) → n ≢ 0 → (of_error ≢ NoMemory → (9 < n) × (n < 30)) → (of_error ≡ NoMemory → n ≡ 1) → (of_error ≢ NoMemory → (yes : Bool) → Said yes → ⊥) → TellsRevoked Said n
 none_told Said of_error n some range memory none = record {
-  revoked = λ zero_. absurd (some zero_);
-  not_revoked = λ sixty. let less = below of_error n range memory in absurd (omega (arith, sixty, less));
+  not_revoked = λ zero_. absurd (some zero_);
+  revoked = λ is. let less = below of_error n range memory in absurd (omega (arith, is, less));
   others = λ _ _ not_one. none (λ out. not_one (memory out));
 }
 

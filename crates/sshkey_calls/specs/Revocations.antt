@@ -20,9 +20,9 @@ IsWhetherKeyRevoked = IsWhetherRevoked SpellsKey (λ list k. revokes_key list (f
 abbrev pub IsWhetherCertificateRevoked : List ℕ → List ℕ → Bool → Type 0
 IsWhetherCertificateRevoked = IsWhetherRevoked SpellsCertificate revokes_certificate
 
--- 0 says that it is revoked, and 60 that it is not; 1 is memory, and every other number says that
+-- 0 says that it is not revoked, and 56 that it is; 1 is memory, and every other number says that
 -- nothing is said of it.
 pub record TellsRevoked (Said : Bool → Type 0) (n : ℕ) : Type 0 where
-  pub revoked : n ≡ 0 → Said true
-  pub not_revoked : n ≡ 60 → Said false
-  pub others : n ≢ 0 → n ≢ 60 → n ≢ 1 → (yes : Bool) → Said yes → ⊥
+  pub not_revoked : n ≡ 0 → Said false
+  pub revoked : n ≡ 56 → Said true
+  pub others : n ≢ 0 → n ≢ 56 → n ≢ 1 → (yes : Bool) → Said yes → ⊥

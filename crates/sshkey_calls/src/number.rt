@@ -79,7 +79,7 @@ pub const HOST_CHANGED: u32 = 52;
 pub const HOST_UNKNOWN: u32 = 53;
 /// No allowed signer is the key, or not for that identity, there and then.
 pub const SIGNER_NOT_ALLOWED: u32 = 55;
-/// A revocation file revokes the signer's key, or the certificate.
+/// A revocation file or a list revokes the key, the signer's key or the certificate.
 pub const REVOKED: u32 = 56;
 /// The client's address is none of those that are let in.
 pub const ELSEWHERE: u32 = 57;
@@ -87,8 +87,6 @@ pub const ELSEWHERE: u32 = 57;
 pub const UNREADABLE_REVOCATIONS: u32 = 58;
 /// OpenSSH lets in no key of that kind or of that size.
 pub const KEY_NOT_ACCEPTED: u32 = 59;
-/// The list or the file does not revoke it.
-pub const NOT_REVOKED: u32 = 60;
 /// The bytes of the certificate are not its normal form, and so not those that were signed.
 pub const NOT_NORMAL_FORM: u32 = 70;
 /// The certificate is for hosts, where it is to be for users, or for users.

@@ -1,4 +1,4 @@
-//! Whether a key revocation list revokes a key or a certificate.
+//! Whether a key revocation list leaves a key or a certificate unrevoked.
 
 ghost use Rattle.std.specs.Prelude.{◌≡◌, ◌≢◌, Bool, Err, IfErr, IfOk, IsErrAnd};
 ghost use Rattle.sshkey_base.specs.Acceptance.{SpellsSome};
@@ -13,7 +13,7 @@ ghost use Rattle.sshkey_calls.specs.NormalForms.{IsRenamedKey};
 ghost use Rattle.sshkey_calls.specs.Numbers.{fault_number};
 ghost use Rattle.sshkey_calls.specs.Revocations.{IsWhetherCertificateRevoked, IsWhetherKeyRevoked, TellsRevoked};
 
-use crate::number::{DONE, NOT_REVOKED, error_status};
+use crate::number::{DONE, REVOKED, error_status};
 use sshkey_base::{Error, Result, encode_vec};
 use sshkey_cert_ref::CertificateRef;
 use sshkey_keys::KeyData;
@@ -21,11 +21,11 @@ use sshkey_keys_ref::KeyDataRef;
 use sshkey_krl::KrlRef;
 use std::alloc::Global;
 
-/// Whether the key revocation list that all the bytes spell (PROTOCOL.krl) has the key that all its
-/// bytes spell, or a digest of it.
+/// Whether the key revocation list that all the bytes spell (PROTOCOL.krl) has neither the key that
+/// all its bytes spell nor a digest of it.
 ///
-/// Returns 0 if it has, 60 if it has not, from 10 to 29 the fault of bytes that are no list, or
-/// else of bytes that are no key, and 1 if memory ran out. So 60 alone says that the key is not
+/// Returns 0 if it has not, 56 if it has, from 10 to 29 the fault of bytes that are no list, or
+/// else of bytes that are no key, and 1 if memory ran out. So 0 alone says that the key is not
 /// revoked. Memory is taken only for an RSA key under another name than `ssh-rsa`.
 pub fn check_unrevoked_key_by_krl(alloc: Global, krl: &[u8], key: &[u8]) -> u32
     ensures exactly { TellsRevoked (IsWhetherKeyRevoked krl.now key.now) result }
@@ -36,8 +36,8 @@ pub fn check_unrevoked_key_by_krl(alloc: Global, krl: &[u8], key: &[u8]) -> u32
     ensures memory { result ≡ 1 → SpellsSome SpellsKrl krl.now × IsRenamedKey key.now }
 {
     match is_key_revoked(alloc, krl, key) {
-        Ok(true) => DONE,
-        Ok(false) => NOT_REVOKED,
+        Ok(true) => REVOKED,
+        Ok(false) => DONE,
         Err(error) => error_status(error),
     }
 }
@@ -64,12 +64,12 @@ fn is_key_revoked(alloc: Global, krl: &[u8], key: &[u8]) -> Result<bool>
     Ok(list.revokes_key(&bytes))
 }
 
-/// Whether the key revocation list that all the bytes spell (PROTOCOL.krl) revokes the certificate
-/// that all its bytes spell: by its key, by the key that signed it, or by its serial number or its
-/// key id among the certificates of that key or of every key.
+/// Whether the key revocation list that all the bytes spell (PROTOCOL.krl) leaves the certificate
+/// that all its bytes spell unrevoked. It revokes one by its key, by the key that signed it, or by
+/// its serial number or its key id among the certificates of that key or of every key.
 ///
-/// Returns what `check_unrevoked_key_by_krl` does, with the fault of bytes that are no certificate. Memory is
-/// taken only where both are spelled.
+/// Returns what `check_unrevoked_key_by_krl` does, with the fault of bytes that are no certificate.
+/// Memory is taken only where both are spelled.
 pub fn check_unrevoked_certificate_by_krl(alloc: Global, krl: &[u8], certificate: &[u8]) -> u32
     ensures exactly { TellsRevoked (IsWhetherCertificateRevoked krl.now certificate.now) result }
     ensures list { (fault : Fault) → whole krl_format.read krl.now ≡ Err fault
@@ -80,8 +80,8 @@ pub fn check_unrevoked_certificate_by_krl(alloc: Global, krl: &[u8], certificate
         × SpellsSome SpellsCertificate certificate.now }
 {
     match is_certificate_revoked(alloc, krl, certificate) {
-        Ok(true) => DONE,
-        Ok(false) => NOT_REVOKED,
+        Ok(true) => REVOKED,
+        Ok(false) => DONE,
         Err(error) => error_status(error),
     }
 }

@@ -15,7 +15,7 @@ use Rattle.sshkey_entry_calls.specs.RevocationFiles.{AreReadOf, are_read, one_re
 abbrev pub IsWhether : {V : Type 0} → (V → List ℕ → Type 0) → (V → Bool) → List ℕ → Bool → Type 0
 IsWhether {V} Spells says bytes answer = (v : V) × Spells v bytes × (answer ≡ says v)
 
--- By files that were read 0 says that the value is revoked, and 60 that it is not; other bytes have
+-- By files that were read 0 says that the value is not revoked, and 56 that it is; other bytes have
 -- their fault. 58 says that one of the files can't be read.
 abbrev pub SaysByFiles : {V W : Type 0} → (V → List ℕ → Type 0) → (List ℕ → Result W Fault) → (V → Bool) → Bool → List ℕ → ℕ → Type 0
 SaysByFiles Spells read revokes true bytes n = TellsRevoked (IsWhether Spells revokes bytes) n × ((met : Fault) → read bytes ≡ Err met → n ≡ fault_number met)

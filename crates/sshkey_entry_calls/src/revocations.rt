@@ -1,4 +1,4 @@
-//! Whether a revocation file revokes a key or a certificate.
+//! Whether revocation files leave a key or a certificate unrevoked.
 
 ghost use Rattle.std.specs.Prelude.{◌≡◌, ◌≢◌, ◌⊎◌, Bool, Err, IfErr, IfOk, IsErrAnd};
 ghost use Rattle.sshkey_base.specs.Acceptance.{SpellsSome};
@@ -17,18 +17,19 @@ ghost use Rattle.sshkey_entry_calls.specs.Revocations.{IsWhether, TellsRevokedCe
 
 use crate::revocation_files::RevocationFiles;
 use sshkey_base::{Error, Result, encode_vec};
-use sshkey_calls::number::{DONE, MEMORY, NOT_REVOKED, UNREADABLE_REVOCATIONS, error_status};
+use sshkey_calls::number::{DONE, MEMORY, REVOKED, UNREADABLE_REVOCATIONS, error_status};
 use sshkey_cert_ref::CertificateRef;
 use sshkey_keys::KeyData;
 use sshkey_keys_ref::KeyDataRef;
 use sshkey_krl::Revocations;
 use std::alloc::Global;
 
-/// Whether one of the revocation files (`RevocationFiles`) revokes the key that all its bytes spell.
+/// Whether none of the revocation files (`RevocationFiles`) revokes the key that all its bytes
+/// spell.
 ///
-/// Returns 0 if one does, 60 if none does, 58 if a file cannot be read or there is none, which
+/// Returns 0 if none does, 56 if one does, 58 if a file cannot be read or there is none, which
 /// revokes everything, from 10 to 29 the fault of bytes that are no key, and 1 if memory ran out.
-/// So 60 alone says that the key is not revoked. Of one list, memory is taken only for an RSA key
+/// So 0 alone says that the key is not revoked. Of one list, memory is taken only for an RSA key
 /// under another name than `ssh-rsa`.
 pub fn check_unrevoked_key(alloc: Global, revoked: &[&[u8]], key: &[u8]) -> u32
     ensures answer { TellsRevokedKey revoked.now key.now result }
@@ -43,10 +44,10 @@ pub fn check_unrevoked_key(alloc: Global, revoked: &[&[u8]], key: &[u8]) -> u32
     key_status(alloc, &files, key)
 }
 
-/// Whether one of the revocation files revokes the certificate that all its bytes spell.
+/// Whether none of the revocation files revokes the certificate that all its bytes spell.
 ///
-/// Returns what `check_unrevoked_key` does, with the fault of bytes that are no certificate. Of one list,
-/// memory is taken only for bytes that are one.
+/// Returns what `check_unrevoked_key` does, with the fault of bytes that are no certificate. Of one
+/// list, memory is taken only for bytes that are one.
 pub fn check_unrevoked_certificate(alloc: Global, revoked: &[&[u8]], certificate: &[u8]) -> u32
     ensures answer { TellsRevokedCertificate revoked.now certificate.now result }
     ensures memory { result ≡ 1 → NeedsFiles revoked.now
@@ -70,8 +71,8 @@ fn key_status(alloc: Global, files: &RevocationFiles<'_>, key: &[u8]) -> u32
     ensures memory { result ≡ 1 → IsRenamedKey key.now }
 {
     match is_key_revoked(alloc, files, key) {
-        Ok(true) => DONE,
-        Ok(false) => NOT_REVOKED,
+        Ok(true) => REVOKED,
+        Ok(false) => DONE,
         Err(error) => error_status(error),
     }
 }
@@ -103,8 +104,8 @@ fn certificate_status(alloc: Global, files: &RevocationFiles<'_>, certificate: &
     ensures memory { result ≡ 1 → SpellsSome SpellsCertificate certificate.now }
 {
     match is_certificate_revoked(alloc, files, certificate) {
-        Ok(true) => DONE,
-        Ok(false) => NOT_REVOKED,
+        Ok(true) => REVOKED,
+        Ok(false) => DONE,
         Err(error) => error_status(error),
     }
 }
