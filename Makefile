@@ -135,7 +135,7 @@ INSTALLED = $(MAN)/man$(patsubst .%,%,$(suffix $(1)))/$(1)
 
 install: all
 	install -d $(INCLUDE) $(LIB)/pkgconfig $(BIN) $(MAN)/man1 $(MAN)/man8
-	install -m 644 $(ROOT)/include/rafendilo.h $(INCLUDE)
+	install -m 644 $(ROOT)/include/rafendilo.h $(ROOT)/include/rafendilo_0_2.h $(INCLUDE)
 	install -m 644 $(OUT)/librafendilo.a $(LIB)
 	install -m 755 $(OUT)/librafendilo.so $(LIB)/librafendilo.so.$(VERSION)
 	ln -sf librafendilo.so.$(VERSION) $(LIB)/$(SONAME)
@@ -151,7 +151,7 @@ install: all
 	@echo "    useradd -r -M -s /usr/sbin/nologin sshkey"
 
 uninstall:
-	rm -f $(INCLUDE)/rafendilo.h $(LIB)/librafendilo.a $(LIB)/pkgconfig/rafendilo.pc \
+	rm -f $(INCLUDE)/rafendilo.h $(INCLUDE)/rafendilo_0_2.h $(LIB)/librafendilo.a $(LIB)/pkgconfig/rafendilo.pc \
 		$(LIB)/librafendilo.so $(LIB)/$(SONAME) $(LIB)/librafendilo.so.$(VERSION) \
 		$(addprefix $(BIN)/,$(notdir $(PROGRAMS))) $(foreach it,$(PAGES),$(call INSTALLED,$(it)))
 

@@ -246,8 +246,8 @@ def is_found(folder, package, library):
 
 # what is installed below a prefix
 INSTALLED = {
-    "bin/sshkey-authorized-keys", "bin/sshkey-check", "bin/sshkey-principals", "include/rafendilo.h", "lib/librafendilo.a",
-    "lib/librafendilo.so", f"lib/librafendilo.so.{ABI}", f"lib/librafendilo.so.{VERSION // 10_000}.{VERSION // 100 % 100}.{VERSION % 100}",
+    "bin/sshkey-authorized-keys", "bin/sshkey-check", "bin/sshkey-principals", "include/rafendilo.h", "include/rafendilo_0_2.h",
+    "lib/librafendilo.a", "lib/librafendilo.so", f"lib/librafendilo.so.{ABI}", f"lib/librafendilo.so.{VERSION // 10_000}.{VERSION // 100 % 100}.{VERSION % 100}",
     "lib/pkgconfig/rafendilo.pc", "share/man/man1/sshkey-check.1", "share/man/man8/sshkey-authorized-keys.8",
     "share/man/man8/sshkey-principals.8",
 }  # fmt: skip
