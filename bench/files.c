@@ -13,8 +13,8 @@
 #define AT 2000000000
 #define WORDS(text) (const uint8_t *)(text), sizeof(text) - 1
 
-static uint8_t room[1 << 20];
-#define ROOM room, sizeof room
+static uint8_t buffer[1 << 20];
+#define ROOM buffer, sizeof buffer
 static const uint8_t address[4] = {192, 0, 2, 1};
 
 static uint32_t find_lines(raf_blob file) {
@@ -50,14 +50,14 @@ static uint32_t read_options(raf_blob file) {
 static uint32_t check_host(raf_blob file, raf_blob key) {
   raf_span texts[] = {raf_blob_span(file)};
   raf_host_login login = {{texts, 1}, raf_text_span("host.example.com"), RAF_NO_REVOCATIONS, AT,
-                             2048, 22};
+                          2048, 22};
   return raf_check_host_key(&login, key.bytes, key.length);
 }
 
 static uint32_t check_user(raf_blob file, raf_blob key) {
   raf_span empty = raf_text_span(""), client = {address, sizeof address};
   raf_login login = {empty, raf_text_span("user"), raf_blob_span(key), client, {NULL, 0},
-                        RAF_NO_REVOCATIONS, AT, 0, 0};
+                     RAF_NO_REVOCATIONS, AT, 0, 0};
   raf_sha256 none = {{0}};
   login.authorities.items = &none;
   raf_user_grant grant;
@@ -80,7 +80,7 @@ static uint32_t call(const char *kind, raf_blob file, raf_blob second) {
     return raf_check_unrevoked_certificate(revoked, 1, second.bytes, second.length);
   raf_spans none = RAF_NO_REVOCATIONS;
   return raf_check_signer(file.bytes, file.length, WORDS("user@example.com"), WORDS("file"),
-                               second.bytes, second.length, AT, none.items, none.count, 0);
+                          second.bytes, second.length, AT, none.items, none.count, 0);
 }
 
 int main(int count, char **words) {

@@ -2,9 +2,9 @@
  *
  *     foreign question|validate|login-question|verdict|log-in|fields|fingerprint|verify CALLS <FILE.pub
  *
- * `login-question` and `verdict` are those of a login which lets in, and `log-in` both, which is all
- * that raf_log_in asks but the verification; `verify` is what libcrypto takes to answer. It prints
- * nanoseconds of processor time a call. */
+ * `login-question` and `verdict` are those of a login which lets in, and `log-in` both, which is
+ * all that raf_log_in asks but the verification; `verify` is what libcrypto takes to answer. It
+ * prints nanoseconds of processor time a call. */
 #include <stdio.h>
 #include <stdlib.h>
 #include <string.h>
@@ -14,30 +14,30 @@
 #include "verify.h"
 
 static raf_question question;
-static uint8_t room[1 << 16], key[1 << 16];
+static uint8_t buffer[1 << 16], key[1 << 16];
 static size_t key_length;
 static raf_sha256 authority;
 
 static raf_login login_by(raf_blob given) {
-  raf_login login = {raf_blob_span(given), raf_text_span("user"), {key, key_length}, raf_text_span(""),
-                        {&authority, 1}, RAF_NO_REVOCATIONS, 1, 0, 0};
+  raf_login login = {raf_blob_span(given), raf_text_span("user"), {key, key_length},
+                     raf_text_span(""), {&authority, 1}, RAF_NO_REVOCATIONS, 1, 0, 0};
   return login;
 }
 
 static uint32_t login_question(raf_blob given) {
   raf_login login = login_by(given);
-  return raf_login_question(&login, room, sizeof room, &question);
+  return raf_login_question(&login, buffer, sizeof buffer, &question);
 }
 
 static uint32_t verdict(raf_blob given) {
   raf_grant grant;
   raf_login login = login_by(given);
   memset(&grant, 0, sizeof grant);
-  return raf_check_login(&login, 1, room, sizeof room, &grant);
+  return raf_check_login(&login, 1, buffer, sizeof buffer, &grant);
 }
 
 static uint32_t ask(raf_blob given) {
-  return raf_certificate_question(given.bytes, given.length, room, sizeof room, &question);
+  return raf_certificate_question(given.bytes, given.length, buffer, sizeof buffer, &question);
 }
 
 /* The calls of raf_log_in. */
@@ -58,13 +58,13 @@ static void read_certificate(raf_blob given) {
 static uint32_t call(const char *what, raf_blob given) {
   raf_sha256 digest = {{0}};
   raf_fields fields = {0, 0, 0, 0, 0, 0};
-  if (!strcmp(what, "verify")) return raf_is_signature(&question, room);
+  if (!strcmp(what, "verify")) return raf_is_signature(&question, buffer);
   if (!strcmp(what, "login-question")) return login_question(given);
   if (!strcmp(what, "verdict")) return verdict(given);
   if (!strcmp(what, "log-in")) return log_in(given);
   if (!strcmp(what, "validate"))
     return raf_check_certificate_for(given.bytes, given.length, 1, (const uint8_t *)"user", 4,
-                                           &digest, 1, 1);
+                                     &digest, 1, 1);
   if (!strcmp(what, "fields")) return raf_certificate_fields(given.bytes, given.length, &fields);
   if (!strcmp(what, "fingerprint")) return raf_fingerprint(given.bytes, given.length, &digest);
   return ask(given);

@@ -1,7 +1,7 @@
 /* Asks the library that include/rafendilo.h declares, for checks/foreign: a line of the input is a
  * question, and has a line of the answer. It answers those of asked/answers.py that the header has
- * calls for, and these. SPAN.. are 7 words of bytes, or of several byte strings with commas between,
- * and NUMBER.. 5 numbers, as asked/calls.h passes them to the call of that name:
+ * calls for, and these. SPAN.. are 7 words of bytes, or of several byte strings with commas
+ * between, and NUMBER.. 5 numbers, as asked/calls.h passes them to the call of that name:
  *
  *     call CALL SPAN.. NUMBER..           the number that it answers
  *     rooms CALL SPAN.. NUMBER..          how many rooms, from none on, are too short and stay as
@@ -14,7 +14,7 @@
  *     names                               version and ABI of the header and of the library, and
  *                                         numbers of answers with their names
  *     meanings                            the words of reading.h for each of these numbers
- */
+ * */
 #include <inttypes.h>
 #include <stdio.h>
 #include <stdlib.h>
@@ -242,7 +242,8 @@ static void say_principals(raf_blob list) {
 static void say_options(const char *front, raf_blob list) {
   raf_certificate_option_parts it = {{0, 0}, {0, 0}, 0};
   uint32_t answer;
-  while ((answer = raf_next_certificate_option(list.bytes, list.length, it.next, &it)) == RAF_DONE) {
+  while ((answer = raf_next_certificate_option(list.bytes, list.length, it.next, &it)) ==
+         RAF_DONE) {
     say_part(front, list, it.name);
     say_part("=", list, it.value);
   }
@@ -317,7 +318,8 @@ static void ask_rooms(given_call *it) {
     free(it->room.bytes);
     it->room = made(length);
     answer = called(it, 0);
-    is_kept = answer == RAF_SHORT_BUFFER && is_filled(it->room, 0) && (!length || told(it) == needed);
+    is_kept = answer == RAF_SHORT_BUFFER && is_filled(it->room, 0) &&
+              (!length || told(it) == needed);
     needed = told(it);
     it->grant.length = it->user_grant.grant.length = 0;
     bool is_none = is_zero(&it->grant, sizeof it->grant);

@@ -1,6 +1,7 @@
-/* Holds the calls of bindings/go/rafendilo/heap.c to what the toolchain's library libc assumes of them
- * (src/heap.rt, src/types.rt), for checks/text: it is linked with --wrap of malloc and realloc. Each
- * line tells what does not hold; a block that is not freed is what its sanitizer tells of. */
+/* Holds the calls of bindings/go/rafendilo/heap.c to what the toolchain's library libc assumes of
+ * them (src/heap.rt, src/types.rt), for checks/text: it is linked with --wrap of malloc and
+ * realloc. Each line tells what does not hold; a block that is not freed is what its sanitizer
+ * tells of. */
 #include <stdbool.h>
 #include <stddef.h>
 #include <stdint.h>
@@ -19,8 +20,8 @@ void rattle_dealloc(uint8_t *block);
 void *__real_malloc(size_t length);
 void *__real_realloc(void *block, size_t length);
 
-/* Requests: how many were made, and the number of the one that is refused. One for no bytes is refused
- * too, as a C library may do. */
+/* Requests: how many were made, and the number of the one that is refused. One for no bytes is
+ * refused too, as a C library may do. */
 static struct {
   size_t made, refused;
 } requests;
@@ -53,8 +54,8 @@ static bool is_counted(const uint8_t *block, size_t length) {
   return true;
 }
 
-/* A block is asked for, made longer, shorter and empty, and freed; the request of that number, if it
- * is one of these, is refused. Returns how many were made. */
+/* A block is asked for, made longer, shorter and empty, and freed; the request of that number, if
+ * it is one of these, is refused. Returns how many were made. */
 static size_t ask(size_t length, size_t alignment, size_t refused) {
   requests.made = 0;
   requests.refused = refused;

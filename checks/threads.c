@@ -1,5 +1,6 @@
-/* Calls each function of helpers/reading.h, sshsig.h, verdict.h and verify.h from threads at the same time, for
- * checks/asked/threads.py: what a thread is answered has to be what the same call answers alone.
+/* Calls each function of helpers/reading.h, sshsig.h, verdict.h and verify.h from threads at the
+ * same time, for checks/asked/threads.py: what a thread is answered has to be what the same call
+ * answers alone.
  *
  *     threads FOLDER..
  *
@@ -78,8 +79,8 @@ static char *text_of(const asked *it, const char *name) {
 static void ask_request(asked *it, raf_blob key) {
   raf_blob signature = file_of(it, "request.sig");
   raf_userauth request = {raf_text_span("a session"), raf_text_span("alice"),
-                             raf_text_span("ssh-ed25519"), raf_blob_span(key), raf_text_span(""),
-                             raf_blob_span(signature), 0, 0};
+                          raf_text_span("ssh-ed25519"), raf_blob_span(key), raf_text_span(""),
+                          raf_blob_span(signature), 0, 0};
   note(it, raf_verify_userauth(&request));
   free(signature.bytes);
 }
@@ -88,13 +89,14 @@ static void ask_request(asked *it, raf_blob key) {
 static void ask_key(asked *it, raf_blob key, uint64_t now, raf_spans revoked) {
   raf_authorities none = {NULL, 0};
   raf_blob text = file_of(it, "user.pub");
-  raf_login login = {raf_text_span(""), raf_text_span("alice"), raf_blob_span(key), raf_text_span(""),
-                        raf_authority_digests(none), revoked, now, 0, 0};
+  raf_login login = {raf_text_span(""), raf_text_span("alice"), raf_blob_span(key),
+                     raf_text_span(""), raf_authority_digests(none), revoked, now, 0, 0};
   uint8_t *room = calloc(1, text.length);
   raf_user_grant grant;
   memset(&grant, 0, sizeof grant);
   if (!room) abort();
-  note(it, raf_log_in_by_keys(&login, raf_blob_span(text), raf_text_span(""), room, text.length, &grant));
+  note(it, raf_log_in_by_keys(&login, raf_blob_span(text), raf_text_span(""), room, text.length,
+                              &grant));
   note(it, grant.line);
   note(it, grant.grant.permits);
   free(room);
@@ -132,7 +134,7 @@ static void ask_user(asked *it, uint64_t now, raf_authorities by, raf_spans revo
   raf_blob certificate = line_of(it, "user-cert.pub", RAF_LINE_CERTIFICATE);
   raf_blob key = line_of(it, "user.pub", RAF_LINE_KEY), again = {NULL, 0};
   raf_login login = {raf_blob_span(certificate), raf_text_span("alice"), raf_blob_span(key),
-                        raf_text_span(""), raf_authority_digests(by), revoked, now, 0, 0};
+                     raf_text_span(""), raf_authority_digests(by), revoked, now, 0, 0};
   char *type = text_of(it, "user.pub"), *base64 = strchr(type, ' ');
   uint8_t *room = calloc(1, certificate.length);
   raf_grant grant;
@@ -166,7 +168,7 @@ static void ask_host(asked *it, uint64_t now, raf_spans revoked) {
   memset(&question, 0, sizeof question);
   note(it, raf_verify_host_certificate(&login, raf_blob_span(certificate)));
   note(it, raf_certificate_question(certificate.bytes, certificate.length, room, room_length,
-                                       &question));
+                                    &question));
   note(it, raf_is_signature(&question, room));
   free(room);
   free(known.bytes);

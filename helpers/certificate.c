@@ -6,11 +6,11 @@
 #include "verdict.h"
 
 uint32_t certificate_read_key(raf_blob certificate, raf_blob *answer) {
-  /* a room as long as the certificate is enough */
+  /* a buffer as long as the certificate is enough */
   raf_blob key = {calloc(1, certificate.length), 0};
   if (!key.bytes) return RAF_MEMORY;
   uint32_t status = raf_certificate_key(certificate.bytes, certificate.length, key.bytes,
-                                           certificate.length, &key.length);
+                                        certificate.length, &key.length);
   if (status == RAF_DONE)
     *answer = key;
   else
@@ -23,12 +23,12 @@ uint32_t certificate_log_in(raf_blob certificate, raf_login login, certificate_p
   raf_grant grant;
   uint32_t answer = certificate_read_key(certificate, &key);
   if (answer != RAF_DONE) return answer;
-  uint8_t *room = calloc(1, certificate.length);
+  uint8_t *buffer = calloc(1, certificate.length);
   login.certificate = raf_blob_span(certificate);
   login.key = raf_blob_span(key);
-  answer = room ? raf_log_in(&login, room, certificate.length, &grant) : RAF_MEMORY;
-  if (answer == RAF_DONE && print) print(&grant, room);
-  free(room);
+  answer = buffer ? raf_log_in(&login, buffer, certificate.length, &grant) : RAF_MEMORY;
+  if (answer == RAF_DONE && print) print(&grant, buffer);
+  free(buffer);
   free(key.bytes);
   return answer;
 }

@@ -7,7 +7,7 @@
 uint32_t certificate_read_key(raf_blob certificate, raf_blob *answer);
 
 /* Prints what a login by a certificate may do. */
-typedef void certificate_print(const raf_grant *grant, const uint8_t *room);
+typedef void certificate_print(const raf_grant *grant, const uint8_t *buffer);
 
 /* Whether the certificate lets the user of the login in who holds its key: what raf_log_in
  * answers of the rest of the login, which has an authority, a user, files, a time and an address.

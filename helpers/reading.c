@@ -28,24 +28,25 @@ static uint32_t told_length(const char *line, size_t length) {
 }
 
 uint32_t raf_read_line_blob(const char *line, size_t length, uint32_t kind, raf_blob *answer) {
-  /* a room as long as the line is enough */
-  uint8_t *room = calloc(1, length + 1);
+  /* a buffer as long as the line is enough */
+  uint8_t *buffer = calloc(1, length + 1);
   raf_line found;
   memset(&found, 0, sizeof found);
-  if (!room) return RAF_MEMORY;
-  uint32_t status = raf_read_line((const uint8_t *)line, length, room, length, &found);
+  if (!buffer) return RAF_MEMORY;
+  uint32_t status = raf_read_line((const uint8_t *)line, length, buffer, length, &found);
   if (status == RAF_DONE && found.kind != kind) status = RAF_LABEL;
   if (status == RAF_LENGTH && kind == RAF_LINE_CERTIFICATE) status = told_length(line, length);
   if (status != RAF_DONE) {
-    free(room);
+    free(buffer);
     return status;
   }
-  memmove(room, room + found.blob.start, found.blob.length);
-  *answer = (raf_blob){room, found.blob.length};
+  memmove(buffer, buffer + found.blob.start, found.blob.length);
+  *answer = (raf_blob){buffer, found.blob.length};
   return status;
 }
 
-uint32_t raf_read_words_blob(const char *type, const char *base64, uint32_t kind, raf_blob *answer) {
+uint32_t raf_read_words_blob(const char *type, const char *base64, uint32_t kind,
+                             raf_blob *answer) {
   size_t length = strlen(type) + 1 + strlen(base64);
   char *line = malloc(length + 1);
   if (!line) return RAF_MEMORY;
@@ -58,13 +59,13 @@ uint32_t raf_read_words_blob(const char *type, const char *base64, uint32_t kind
 bool raf_read_stream(FILE *file, raf_blob *answer) {
   raf_blob text = {NULL, 0};
   bool good = true;
-  for (size_t room = 0, read = 1; good && read;) {
-    if (text.length == room) {
-      uint8_t *more = realloc(text.bytes, room = 2 * room + 4096);
+  for (size_t buffer = 0, read = 1; good && read;) {
+    if (text.length == buffer) {
+      uint8_t *more = realloc(text.bytes, buffer = 2 * buffer + 4096);
       good = more != NULL;
       if (more) text.bytes = more;
     }
-    read = good ? fread(text.bytes + text.length, 1, room - text.length, file) : 0;
+    read = good ? fread(text.bytes + text.length, 1, buffer - text.length, file) : 0;
     text.length += read;
   }
   good = good && !ferror(file);
@@ -99,7 +100,7 @@ uint32_t raf_add_authority(raf_authorities *to, const char *line, size_t length)
 }
 
 uint32_t raf_add_user_authority(raf_authorities *to, const char *line, size_t length,
-                                  const char *user) {
+                                const char *user) {
   raf_sha256 found = {{0}};
   raf_span name = raf_text_span(user);
   uint32_t answer =
@@ -110,12 +111,12 @@ uint32_t raf_add_user_authority(raf_authorities *to, const char *line, size_t le
 /* ---- words */
 
 static const struct {
-  uint32_t answer;
+  uint32_t status;
   const char *words;
 } meanings[] = {
     {RAF_DONE, "valid"},
     {RAF_MEMORY, "no memory"},
-    {RAF_SHORT_BUFFER, "the room is too short"},
+    {RAF_SHORT_BUFFER, "the buffer is too short"},
     {RAF_END, "nothing is left"},
     {RAF_TEXT, "a name or a text that is given is not UTF-8"},
     {RAF_BASE64, "not Base64"},
@@ -131,7 +132,7 @@ static const struct {
     {RAF_NAMESPACE, "an empty namespace"},
     {RAF_PUBLIC_KEY, "a public key that is not the private one's"},
     {RAF_UNSUPPORTED_VERSION, "a version that is not read"},
-    {RAF_OTHER_ERROR, "another fault"},
+    {RAF_OTHER_ERROR, "another error"},
     {RAF_RSA_SHA1, "signed by RSA with SHA-1"},
     {RAF_NOT_SIGNED, "not signed"},
     {RAF_UNTRUSTED_AUTHORITY, "another authority"},
@@ -177,8 +178,8 @@ static const struct {
     {RAF_NO_IDENTITY, "no identity"},
 };
 
-const char *raf_status_meaning(uint32_t answer) {
+const char *raf_status_meaning(uint32_t status) {
   for (size_t at = 0; at < sizeof meanings / sizeof *meanings; at++)
-    if (meanings[at].answer == answer) return meanings[at].words;
-  return "an answer without words";
+    if (meanings[at].status == status) return meanings[at].words;
+  return "a status without words";
 }

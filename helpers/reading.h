@@ -1,5 +1,5 @@
 /* What programs read, as the calls of rafendilo.h take it: lines, words, streams and files; and the
- * words for what these calls answer. A login is raf_log_in (verdict.h). */
+ * words for what these calls return. A login is raf_log_in (verdict.h). */
 #ifndef READING_H
 #define READING_H
 #include <stdbool.h>
@@ -51,10 +51,10 @@ uint32_t raf_add_authority(raf_authorities *to, const char *line, size_t length)
 /* The same of a line that says for whom it may sign (raf_user_authority): with RAF_END pass
  * over it, too. */
 uint32_t raf_add_user_authority(raf_authorities *to, const char *line, size_t length,
-                                  const char *user);
+                                const char *user);
 
-/* What an answer means, in words: each has its own. */
-const char *raf_status_meaning(uint32_t answer);
+/* What a status means, in words: each has its own. */
+const char *raf_status_meaning(uint32_t status);
 
 #ifdef __cplusplus
 }

@@ -66,7 +66,7 @@ static size_t signature_in(raf_blob bytes, size_t parts) {
   return is_sha1 ? place : SIZE_MAX;
 }
 
-/* Names another hash in the signature, for which there has to be room after the bytes. */
+/* Names another hash in the signature, for which there has to be buffer after the bytes. */
 static raf_blob renamed(raf_blob bytes, size_t place) {
   size_t length = bytes.length - place - 4 + SHA256 - SHA1;
   uint8_t *signature = bytes.bytes + place + 4;
@@ -77,7 +77,7 @@ static raf_blob renamed(raf_blob bytes, size_t place) {
   return (raf_blob){bytes.bytes, bytes.length + SHA256 - SHA1};
 }
 
-/* The bytes of the second word of a line, and room after them; none where there is none. */
+/* The bytes of the second word of a line, and buffer after them; none where there is none. */
 static raf_blob word_of(const char *line, size_t length) {
   raf_blob word = {calloc(1, length + SHA256), 0};
   const char *front = memchr(line, ' ', length);

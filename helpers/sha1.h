@@ -1,5 +1,5 @@
-/* Certificates that RSA with SHA-1 signed, which the library does not read: OpenSSH before 8.2 makes
- * such by an RSA key. */
+/* Certificates that RSA with SHA-1 signed, which the library does not read: OpenSSH before 8.2
+ * makes such by an RSA key. */
 #ifndef SHA1_H
 #define SHA1_H
 #include <stddef.h>
@@ -11,8 +11,8 @@ extern "C" {
 #endif
 
 /* RAF_RSA_SHA1 where the line is that of a certificate, but that its signature is one by SHA-1;
- * else RAF_LENGTH, or RAF_MEMORY. With the first the answer is the certificate under another
- * name in its signature, rsa-sha2-256, so that the calls of rafendilo.h read all that stands before:
+ * else RAF_LENGTH, or RAF_MEMORY. With the first the answer is the certificate under another name
+ * in its signature, rsa-sha2-256, so that the calls of rafendilo.h read all that stands before:
  * nobody signed it, and it is there to be shown. */
 uint32_t raf_read_sha1_line(const char *line, size_t length, raf_blob *answer);
 

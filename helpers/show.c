@@ -75,13 +75,13 @@ static uint32_t print_key(slice key, const char *ending) {
 /* The key that is certified, which does not stand whole in the certificate. */
 static uint32_t print_certified_key(raf_blob certificate) {
   size_t length = 0;
-  /* a room as long as the certificate is enough */
-  uint8_t *room = calloc(1, certificate.length);
-  if (!room) return RAF_MEMORY;
-  uint32_t answer = raf_certificate_key(certificate.bytes, certificate.length, room,
-                                           certificate.length, &length);
-  if (answer == RAF_DONE) answer = print_key((slice){room, length}, "-CERT");
-  free(room);
+  /* a buffer as long as the certificate is enough */
+  uint8_t *buffer = calloc(1, certificate.length);
+  if (!buffer) return RAF_MEMORY;
+  uint32_t answer = raf_certificate_key(certificate.bytes, certificate.length, buffer,
+                                        certificate.length, &length);
+  if (answer == RAF_DONE) answer = print_key((slice){buffer, length}, "-CERT");
+  free(buffer);
   return answer;
 }
 
@@ -270,10 +270,10 @@ static void print_expiry(raf_time_span expires) {
 }
 
 /* The command that alone may run, and what is permitted. */
-static void print_permitted(const raf_grant *grant, const uint8_t *room) {
+static void print_permitted(const raf_grant *grant, const uint8_t *buffer) {
   if (!(grant->permits & RAF_PERMIT_ANY_COMMAND)) {
     printf("        Command: ");
-    print_text(slice_of(room, grant->force_command));
+    print_text(slice_of(buffer, grant->force_command));
     putchar('\n');
   }
   print_permissions(grant->permits);
@@ -285,33 +285,33 @@ static void print_flags(uint32_t permits) {
   if (!(permits & RAF_PERMIT_NO_VERIFICATION)) puts("        Verification: required");
 }
 
-static void print_certificate(const raf_grant *grant, const uint8_t *room) {
+static void print_certificate(const raf_grant *grant, const uint8_t *buffer) {
   uint8_t text[RAF_FINGERPRINT_TEXT] = {0};
   printf("        Key ID: \"");
-  print_text(slice_of(room, grant->key_id));
+  print_text(slice_of(buffer, grant->key_id));
   printf("\"\n        Serial: %" PRIu64 "\n", grant->serial);
   if (raf_fingerprint_text(&grant->authority, text, sizeof text) == RAF_DONE)
     printf("        Signing CA: %.*s\n", (int)sizeof text, (const char *)text);
 }
 
-void show_certified(const raf_grant *grant, const uint8_t *room) {
-  print_permitted(grant, room);
+void show_certified(const raf_grant *grant, const uint8_t *buffer) {
+  print_permitted(grant, buffer);
   print_flags(grant->permits);
-  print_certificate(grant, room);
+  print_certificate(grant, buffer);
 }
 
-void show_grant(const raf_user_grant *grant, const uint8_t *room, bool is_certified) {
+void show_grant(const raf_user_grant *grant, const uint8_t *buffer, bool is_certified) {
   uint32_t permits = grant->grant.permits;
   printf("        Line: %zu\n", grant->line);
-  print_permitted(&grant->grant, room);
-  print_ports("Forwards to", slice_of(room, grant->permit_open));
-  print_ports("Listens at", slice_of(room, grant->permit_listen));
+  print_permitted(&grant->grant, buffer);
+  print_ports("Forwards to", slice_of(buffer, grant->permit_open));
+  print_ports("Listens at", slice_of(buffer, grant->permit_listen));
   if (!(permits & RAF_PERMIT_ANY_TUNNEL) && grant->tunnel == ANY_DEVICE)
     puts("        Tunnel: any");
   else if (!(permits & RAF_PERMIT_ANY_TUNNEL))
     printf("        Tunnel: %" PRIu32 "\n", grant->tunnel);
-  print_strings("Environment", slice_of(room, grant->environment));
+  print_strings("Environment", slice_of(buffer, grant->environment));
   print_flags(permits);
   print_expiry(grant->expires);
-  if (is_certified) print_certificate(&grant->grant, room);
+  if (is_certified) print_certificate(&grant->grant, buffer);
 }

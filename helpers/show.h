@@ -9,9 +9,9 @@
 uint32_t show_certificate(raf_blob certificate, const char *signed_by);
 
 /* Prints what a login by a certificate may do, and by which; likewise. */
-void show_certified(const raf_grant *grant, const uint8_t *room);
+void show_certified(const raf_grant *grant, const uint8_t *buffer);
 
 /* Prints what a login by a line may do, and, where it is by a certificate, by which; likewise. */
-void show_grant(const raf_user_grant *grant, const uint8_t *room, bool is_certified);
+void show_grant(const raf_user_grant *grant, const uint8_t *buffer, bool is_certified);
 
 #endif

@@ -35,11 +35,11 @@ static uint32_t read_offered(const login_request *asked, offered *answer) {
   uint32_t status = raf_read_words_blob(asked->type, asked->base64, RAF_LINE_KEY, &answer->blob);
   answer->is_certificate = status != RAF_DONE;
   return answer->is_certificate ? raf_read_words_blob(asked->type, asked->base64,
-                                                   RAF_LINE_CERTIFICATE, &answer->blob)
+                                                      RAF_LINE_CERTIFICATE, &answer->blob)
                                 : status;
 }
 
-/* RAF_END where the line is surely not one for what is offered. Any other is sshd's to judge, also
+/* RAF_END where the line is surely not one for what is offered. Any other is sshd's to check, also
  * one that is no entry here. */
 static uint32_t check_line(const uint8_t *line, size_t length, const offered *wanted) {
   raf_blob blob = wanted->blob;

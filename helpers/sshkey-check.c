@@ -78,7 +78,8 @@ static uint32_t read_key(const char *line, size_t length, size_t number, void *g
   if (answer == RAF_DONE || answer == RAF_MEMORY) return answer;
   bool is_later = answer == RAF_LATER_KEY;
   if (!is_later) asked->is_untold = true;
-  program_complain("%s:%zu: %s%s", path, number, is_later ? "" : "no key: ", raf_status_meaning(answer));
+  program_complain("%s:%zu: %s%s", path, number, is_later ? "" : "no key: ",
+                   raf_status_meaning(answer));
   return RAF_DONE;
 }
 
@@ -87,17 +88,17 @@ static uint32_t read_key(const char *line, size_t length, size_t number, void *g
 /* What is asked of who holds that key, with that certificate or none. */
 static raf_login login_of(raf_blob key, raf_blob certificate, const request *asked) {
   return (raf_login){.certificate = raf_blob_span(certificate),
-                        .user = raf_text_span(asked->user),
-                        .key = raf_blob_span(key),
-                        .client = {asked->address, asked->address_length},
-                        .authorities = raf_authority_digests(asked->by),
-                        .revoked = program_revocations(&asked->revoked),
-                        .unix_timestamp = asked->second};
+                     .user = raf_text_span(asked->user),
+                     .key = raf_blob_span(key),
+                     .client = {asked->address, asked->address_length},
+                     .authorities = raf_authority_digests(asked->by),
+                     .revoked = program_revocations(&asked->revoked),
+                     .unix_timestamp = asked->second};
 }
 
-static void print_certified(const raf_grant *grant, const uint8_t *room) {
+static void print_certified(const raf_grant *grant, const uint8_t *buffer) {
   puts("valid");
-  show_certified(grant, room);
+  show_certified(grant, buffer);
 }
 
 /* Whether the certificate logs the user in: prints to what. */
@@ -114,7 +115,7 @@ static bool name_unreadable(const request *asked, uint16_t port) {
     raf_span text = asked->known_hosts.texts[at], host = raf_text_span(asked->host);
     size_t number = 0;
     if (raf_unreadable_host_line(text.bytes, text.length, host.bytes, host.length, port,
-                                    &number) != RAF_DONE)
+                                 &number) != RAF_DONE)
       continue;
     program_complain("%s:%zu: no entry, and may be one for the host",
                      asked->known_hosts.paths[at], number);
@@ -136,7 +137,7 @@ static uint32_t read_shown(const char *line, size_t length, raf_blob *shown,
 static uint32_t check_host(const char *line, size_t length, const request *asked) {
   uint16_t port = (uint16_t)asked->port_number;
   raf_host_login login = {program_texts(&asked->known_hosts), raf_text_span(asked->host),
-                             program_revocations(&asked->revoked), asked->second, 0, port};
+                          program_revocations(&asked->revoked), asked->second, 0, port};
   raf_blob shown = {NULL, 0};
   bool is_certificate;
   uint32_t answer = read_shown(line, length, &shown, &is_certificate);
@@ -207,20 +208,21 @@ static uint32_t answer_line(const char *line, size_t length, size_t number, void
 
 /* Whether that logs the user in: prints to what, or says which line refuses, or 0. */
 static uint32_t print_login(const raf_login *login, const request *asked, size_t *refusing) {
-  /* a room of this length is enough, and one of no bytes may be null */
+  /* a buffer of this length is enough, and one of no bytes may be null */
   size_t length = asked->listing.length + 2 * login->certificate.length + 1;
-  uint8_t *room = calloc(1, length);
+  uint8_t *buffer = calloc(1, length);
   raf_user_grant grant;
-  if (!room) return RAF_MEMORY;
-  raf_span host = raf_text_span(asked->host ? asked->host : ""), text = raf_blob_span(asked->listing);
+  if (!buffer) return RAF_MEMORY;
+  raf_span host = raf_text_span(asked->host ? asked->host : "");
+  raf_span text = raf_blob_span(asked->listing);
   uint32_t answer = (asked->authorities ? raf_log_in_by_principals : raf_log_in_by_keys)(
-      login, text, host, room, length, &grant);
+      login, text, host, buffer, length, &grant);
   if (answer == RAF_DONE) {
     puts("valid");
-    show_grant(&grant, room, login->certificate.length > 0);
+    show_grant(&grant, buffer, login->certificate.length > 0);
   }
   *refusing = grant.line;
-  free(room);
+  free(buffer);
   return answer;
 }
 
@@ -339,8 +341,8 @@ static bool read_files(program_files *files) {
   return true;
 }
 
-/* Reads a second since 1970, or a date of one second, likewise. ssh-keygen takes 12 and 14 digits for
- * a date. */
+/* Reads a second since 1970, or a date of one second, likewise. ssh-keygen takes 12 and 14 digits
+ * for a date. */
 static bool read_second(const char *word, uint64_t *answer) {
   raf_time_span span = {0, 0};
   size_t length = strlen(word);

@@ -32,7 +32,8 @@ typedef struct {
   bool is_whole; /* each line of the user has a key */
 } wanted;
 
-/* Adds the authority of a line if the line has the user, or says that it has no key, or a later one. */
+/* Adds the authority of a line if the line has the user, or says that it has no key, or a later
+ * one. */
 static uint32_t read_authority(const char *line, size_t length, size_t number, void *given) {
   wanted *to = given;
   uint32_t answer = raf_add_user_authority(&to->by, line, length, to->asked->user);
@@ -62,11 +63,11 @@ static int let_in(raf_blob certificate, const wanted *to) {
   const login_request *asked = to->asked;
   /* which address the client has is not told: sshd asks it of the certificate itself */
   raf_login login = {.user = raf_text_span(asked->user),
-                        .authorities = raf_authority_digests(to->by),
-                        .revoked = program_revocations(&asked->revoked),
-                        .unix_timestamp = (uint64_t)time(NULL),
-                        .least_rsa_bits = asked->least_rsa_bits,
-                        .caller_checks_address = 1};
+                     .authorities = raf_authority_digests(to->by),
+                     .revoked = program_revocations(&asked->revoked),
+                     .unix_timestamp = (uint64_t)time(NULL),
+                     .least_rsa_bits = asked->least_rsa_bits,
+                     .caller_checks_address = 1};
   uint32_t answer = certificate_log_in(certificate, login, NULL);
   if (answer != RAF_DONE) return login_refuse(asked, answer);
   puts(asked->user);

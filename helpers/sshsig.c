@@ -71,18 +71,18 @@ static uint32_t told(uint32_t answer, raf_blob signature) {
 
 /* RAF_DONE where the signature is one of the message with that digest. */
 static uint32_t verify_question(raf_blob signature, const char *name_space, raf_blob digest) {
-  /* a room of this length is enough */
-  size_t room_length = 2 * signature.length + 2304;
-  uint8_t *room = calloc(1, room_length);
+  /* a buffer of this length is enough */
+  size_t buffer_length = 2 * signature.length + 2304;
+  uint8_t *buffer = calloc(1, buffer_length);
   raf_question question;
   raf_sha256 signer = {{0}};
   memset(&question, 0, sizeof question);
-  if (!room) return RAF_MEMORY;
+  if (!buffer) return RAF_MEMORY;
   uint32_t answer = raf_sshsig_question_of_digest(
       signature.bytes, signature.length, (const uint8_t *)name_space, strlen(name_space),
-      digest.bytes, digest.length, room, room_length, &question, &signer);
-  if (answer == RAF_DONE && !raf_is_signature(&question, room)) answer = RAF_NOT_SIGNED;
-  free(room);
+      digest.bytes, digest.length, buffer, buffer_length, &question, &signer);
+  if (answer == RAF_DONE && !raf_is_signature(&question, buffer)) answer = RAF_NOT_SIGNED;
+  free(buffer);
   return answer;
 }
 
@@ -91,11 +91,11 @@ static uint32_t check_by_keys(raf_blob signature, const char *name_space, raf_au
                               bool is_verified) {
   raf_digests signers = raf_authority_digests(keys);
   return raf_check_sshsig(signature.bytes, signature.length, (const uint8_t *)name_space,
-                               strlen(name_space), signers.items, signers.count, is_verified);
+                          strlen(name_space), signers.items, signers.count, is_verified);
 }
 
 uint32_t raf_verify_sshsig_of_digest(raf_blob signature, const char *name_space, raf_blob digest,
-                                raf_authorities keys) {
+                                     raf_authorities keys) {
   /* no cryptography runs over a key that may not sign */
   uint32_t answer = check_by_keys(signature, name_space, keys, false);
   if (answer == RAF_NOT_SIGNED) answer = verify_question(signature, name_space, digest);
@@ -113,7 +113,7 @@ static uint32_t check_allowed(raf_blob signature, const char *name_space,
 }
 
 uint32_t raf_verify_signer_of_digest(raf_blob signature, const char *name_space, raf_blob digest,
-                                const raf_signers *by) {
+                                     const raf_signers *by) {
   if (!by->identity) return RAF_SIGNER_NOT_ALLOWED;
   uint32_t answer = check_allowed(signature, name_space, by, false);
   if (answer == RAF_NOT_SIGNED) answer = verify_question(signature, name_space, digest);

@@ -23,21 +23,21 @@ size_t raf_sshsig_digest_length(raf_blob signature);
  * cryptography runs over its key. With reserved bytes it is RAF_NOT_SIGNED: ssh-keygen verifies
  * it as if there were none. */
 uint32_t raf_verify_sshsig_of_digest(raf_blob signature, const char *name_space, raf_blob digest,
-                                raf_authorities keys);
+                                     raf_authorities keys);
 
 /* By whom a signature has to be, as `ssh-keygen -Y verify` asks, or more strictly: a time without Z
  * in the text, which is of the machine's zone there, has to hold in every zone here. */
 typedef struct {
-  raf_blob text;         /* that of a file of allowed signers */
+  raf_blob text;           /* that of a file of allowed signers */
   const char *identity;    /* one of those whom it names; null is nobody */
   uint64_t unix_timestamp; /* when that is */
-  raf_spans revoked;    /* what revocation files have, or RAF_NO_REVOCATIONS */
+  raf_spans revoked;       /* what revocation files have, or RAF_NO_REVOCATIONS */
 } raf_signers;
 
-/* The same, as the identity's by allowed signers: RAF_DONE, or what is wrong first, a number of
+/* The same, as the identity's by allowed signers: RAF_DONE, or what is wrong first, a status:
  * RAF_*. */
 uint32_t raf_verify_signer_of_digest(raf_blob signature, const char *name_space, raf_blob digest,
-                                const raf_signers *by);
+                                     const raf_signers *by);
 
 #ifdef __cplusplus
 }

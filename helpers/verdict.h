@@ -11,9 +11,9 @@ extern "C" {
 
 /* Whether a certificate lets a user in, and the grant: raf_check_login, with the verification
  * that raf_login_question asks for. So no cryptography runs over the key of an authority that is
- * none of the login's. A room of the certificate's length is enough. */
-uint32_t raf_log_in(const raf_login *login, uint8_t *room, size_t room_length,
-                      raf_grant *answer);
+ * none of the login's. A buffer of the certificate's length is enough. */
+uint32_t raf_log_in(const raf_login *login, uint8_t *buffer, size_t buffer_length,
+                    raf_grant *answer);
 
 /* Whether the client has signed the request, and with a security key as the grant wants it:
  * RAF_DONE, RAF_NOT_SIGNED, or what raf_userauth_question answers. */
@@ -25,12 +25,12 @@ uint32_t raf_verify_host_certificate(const raf_host_login *login, raf_span certi
 /* Whether a text of authorized_keys lets a user in, and the grant: raf_check_user_keys,
  * likewise. */
 uint32_t raf_log_in_by_keys(const raf_login *login, raf_span text, raf_span host,
-                         uint8_t *room, size_t room_length, raf_user_grant *answer);
+                            uint8_t *buffer, size_t buffer_length, raf_user_grant *answer);
 
 /* Whether a text in the form of AuthorizedPrincipalsFile does: raf_check_principals,
  * likewise. */
 uint32_t raf_log_in_by_principals(const raf_login *login, raf_span text, raf_span host,
-                          uint8_t *room, size_t room_length, raf_user_grant *answer);
+                                  uint8_t *buffer, size_t buffer_length, raf_user_grant *answer);
 
 #ifdef __cplusplus
 }

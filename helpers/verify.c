@@ -13,8 +13,8 @@ typedef struct {
   size_t length;
 } slice;
 
-static slice slice_of(const uint8_t *room, raf_part part) {
-  slice it = {room + part.start, part.length};
+static slice slice_of(const uint8_t *buffer, raf_part part) {
+  slice it = {buffer + part.start, part.length};
   return it;
 }
 
@@ -125,10 +125,10 @@ static bool is_ed25519(slice key, slice message, slice signature) {
   return yes;
 }
 
-bool raf_is_signature(const raf_question *question, const uint8_t *room) {
-  slice key = slice_of(room, question->key);
-  slice message = slice_of(room, question->message);
-  slice signature = slice_of(room, question->signature);
+bool raf_is_signature(const raf_question *question, const uint8_t *buffer) {
+  slice key = slice_of(buffer, question->key);
+  slice message = slice_of(buffer, question->message);
+  slice signature = slice_of(buffer, question->signature);
   if (raf_may_verify(key.bytes, key.length) != RAF_DONE) return false;
   take(&key); /* the name of the key's type */
   switch (question->algorithm) {
@@ -150,13 +150,13 @@ bool raf_is_signature(const raf_question *question, const uint8_t *room) {
 }
 
 bool raf_digest_stream(FILE *file, uint8_t *digest, size_t length) {
-  uint8_t room[4096];
+  uint8_t buffer[4096];
   EVP_MD_CTX *context = EVP_MD_CTX_new();
   bool yes = context && (length == 32 || length == 64) &&
              EVP_DigestInit_ex(context, length == 32 ? EVP_sha256() : EVP_sha512(), NULL) == 1;
   for (size_t read = 1; yes && read;) {
-    read = fread(room, 1, sizeof room, file);
-    yes = EVP_DigestUpdate(context, room, read) == 1;
+    read = fread(buffer, 1, sizeof buffer, file);
+    yes = EVP_DigestUpdate(context, buffer, read) == 1;
   }
   yes = yes && !ferror(file) && EVP_DigestFinal_ex(context, digest, NULL) == 1;
   EVP_MD_CTX_free(context);

@@ -9,9 +9,9 @@
 extern "C" {
 #endif
 
-/* Whether the signature is one of the message under the key. The room is the one that the question
- * was written to. False also where libcrypto fails, and for DSA. */
-bool raf_is_signature(const raf_question *question, const uint8_t *room);
+/* Whether the signature is one of the message under the key. The buffer is the one that the
+ * question was written to. False also where libcrypto fails, and for DSA. */
+bool raf_is_signature(const raf_question *question, const uint8_t *buffer);
 
 /* Writes the digest of what is left of the file, by SHA-256 or SHA-512 as the length says: 32 or 64
  * bytes. False where it can't be read, or libcrypto fails. */

@@ -10,10 +10,10 @@
  *      what you found, or what is wrong with it first.
  *
  * A login is such a check too: raf_login_question, and raf_check_login; by authorized_keys,
- * raf_check_user_keys, and by a file of principals, raf_check_principals. Of an SSH
- * signature (`ssh-keygen -Y sign`) raf_sshsig_question asks, or the same with the digest of the
- * message. Whether it counts, raf_check_sshsig says by the keys that you trust for its
- * namespace, and raf_check_signer by a file of allowed signers.
+ * raf_check_user_keys, and by a file of principals, raf_check_principals. Of an SSH signature
+ * (`ssh-keygen -Y sign`) raf_sshsig_question asks, or the same with the digest of the message.
+ * Whether it counts, raf_check_sshsig says by the keys that you trust for its namespace, and
+ * raf_check_signer by a file of allowed signers.
  *
  * What you owe, which nothing checks:
  *
@@ -23,21 +23,22 @@
  *    may be passed.
  *  - A length is the true one: that many bytes, all initialised, lie at the pointer, in one
  *    object, and at most PTRDIFF_MAX of them.
- *  - What a call writes (room, answer, ..: the pointers without const) overlaps no other
+ *  - What a call writes (buffer, answer, ..: the pointers without const) overlaps no other
  *    argument of the call, is initialised (zero it once), and nobody else reads or writes it during
  *    the call. What it only reads may overlap, and nobody writes it during the call.
  *  - malloc, realloc and free come from one allocator, and no call is made from a signal handler or
  *    from the forked child of a process with threads.
  *
  * In return no call keeps a pointer or hands one out, and there is no state: threads may call at
- * once. No call writes more than `room_length` bytes to a room. All that a call tells lies in the
- * room, from its front on, one part after the other in the order in which the answer names them,
- * and a part is a place and a number of bytes. Where the room is too short, the call returns
- * RAF_SHORT_BUFFER, leaves the room as it was, and sets `length` to the number of bytes that are needed,
- * so a room of 0 bytes asks for that number; do not rely on the other fields of `*answer` then.
- * (The text of a fingerprint has a fixed length, so its calls set none.) Every other return value
- * but RAF_DONE leaves the room, `*answer` and `*length` as they were; but a grant is zero then.
- * `*signer` is written with RAF_DONE alone.
+ * once. No call writes more than `buffer_length` bytes to a buffer. All that a call tells lies in
+ * the buffer, from its front on, one part after the other in the order in which the answer names
+ * them, and a part is a place and a number of bytes. Where the buffer is too short, the call
+ * returns RAF_SHORT_BUFFER, leaves the buffer as it was, and sets `length` to the number of bytes
+ * that are needed, so a buffer of 0 bytes asks for that number; do not rely on the other fields of
+ * `*answer` then. (The text of a fingerprint has a fixed length, so its calls set none.) Every
+ * other return value but RAF_DONE leaves the buffer, `*answer` and `*length` as they were; but a
+ * grant is zero then. `*signer` is written with RAF_DONE alone.
+ *
  */
 #ifndef RAFENDILO_H
 #define RAFENDILO_H
@@ -48,7 +49,7 @@
 /* The version of this header, as raf_version tells that of the library: 300 is 0.3.0. */
 #define RAF_VERSION 300
 
-/* What raf_abi answers where the library has the structs, the calls and the numbers below. */
+/* What raf_abi answers where the library has the structs, the calls and the statuses below. */
 #define RAF_ABI 2
 
 #ifdef __cplusplus
@@ -61,65 +62,67 @@ extern "C" {
  * third. Takes no memory. */
 uint32_t raf_version(void);
 
-/* The number of its ABI, with which its name ends: librafendilo.so.2. It stays while calls and numbers
- * are only added; where it is not RAF_ABI, make no other call. A program that is linked with the
- * library need not ask: its linker and its loader do. Takes no memory. */
+/* The number of its ABI, with which its name ends: librafendilo.so.2. It stays while calls and
+ * statuses are only added; where it is not RAF_ABI, make no other call. A program that is linked
+ * with the library need not ask: its linker and its loader do. Takes no memory. */
 uint32_t raf_abi(void);
 
 /* ---- what calls return ----------------------------------------------------------------------- */
 
 /* What a call returns. */
 enum {
-  RAF_DONE = 0,   /* done; of a check: all is good, and of revocations that nothing revokes it */
-  RAF_MEMORY = 1, /* malloc refused; nothing is said of the input, and nothing is kept: the call
-                        may be made again */
-  RAF_SHORT_BUFFER = 2,   /* the room is too short; `length` says how many bytes are needed */
-  RAF_END = 3,    /* nothing is left: the place is the end, or there is no such line or option */
-  RAF_TEXT = 4,   /* the principal is not UTF-8, or a line of authorized_keys or known_hosts,
-                        options, a text of known_hosts or of signers, a host's name, an identity, a
-                        namespace or a time; nothing is said of the rest. raf_read_line returns
-                        11 for such a line */
+  RAF_DONE = 0,         /* done; of a check: all is good, and of revocations that nothing revokes
+                           it */
+  RAF_MEMORY = 1,       /* malloc refused; nothing is said of the input, and nothing is kept: the
+                           call may be made again */
+  RAF_SHORT_BUFFER = 2, /* the buffer is too short; `length` says how many bytes are needed */
+  RAF_END = 3,          /* nothing is left: the place is the end, or there is no such line or
+                           option */
+  RAF_TEXT = 4,         /* the principal is not UTF-8, or a line of authorized_keys or known_hosts,
+                           options, a text of known_hosts or of signers, a host's name, an identity,
+                           a namespace or a time; nothing is said of the rest. raf_read_line returns
+                           11 for such a line */
 
   /* 10 to 29: the bytes are no certificate, key, signature or revocation list, which is the first
-   * fault from the left; or the line is none, which is a fault that it has. For logs: lines with
-   * one fault may answer different numbers */
-  RAF_BASE64 = 10,             /* a word of a line is no Base64, or not the one of its bytes */
-  RAF_CHARACTER_ENCODING = 11, /* a text is not UTF-8, or has a character that no name has */
-  RAF_LABEL = 12,              /* a name that is none of those that may stand there */
-  RAF_LENGTH = 13,             /* a stated length passes the bytes, or is not the one wanted; a
-                                     word of a line is missing; a digest is not as long as one by
-                                     the signature's hash */
-  RAF_TRAILING_DATA = 14,      /* bytes follow the end */
-  RAF_FORMAT = 15,             /* a value does not keep the form of its kind */
-  RAF_ALGORITHM_UNKNOWN = 16,  /* two names differ that have to be one, or a point begins with 00
-                                     or 05 */
-  RAF_CRYPTO = 17,             /* a number in a signature is not positive, or the curve of a
-                                     security key is not P-256 */
-  RAF_ECDSA = 18,              /* no encoding of a point */
-  RAF_TIME = 19,               /* a time above 2^63 - 1 in the certificate */
-  RAF_NAMESPACE = 20,          /* an empty namespace in the SSH signature */
-  RAF_PUBLIC_KEY = 21,         /* never returned: a fault of private keys */
-  RAF_UNSUPPORTED_VERSION = 22, /* an SSH signature of a version above 1, or a revocation list
-                                      of another version than 1 */
-  RAF_OTHER_ERROR = 23,        /* never returned */
-  RAF_RSA_SHA1 = 24,           /* an RSA signature by SHA-1, which no call reads: to them it is
-                                     RAF_LENGTH. raf_read_line_blob of helpers/ tells it */
+   * error from the left; or the line is none, which is an error that it has. For logs: lines with
+   * one error may return different statuses */
+  RAF_BASE64 = 10,              /* a word of a line is no Base64, or not the one of its bytes */
+  RAF_CHARACTER_ENCODING = 11,  /* a text is not UTF-8, or has a character that no name has */
+  RAF_LABEL = 12,               /* a name that is none of those that may stand there */
+  RAF_LENGTH = 13,              /* a stated length passes the bytes, or is not the one wanted; a
+                                   word of a line is missing; a digest is not as long as one by the
+                                   signature's hash */
+  RAF_TRAILING_DATA = 14,       /* bytes follow the end */
+  RAF_FORMAT = 15,              /* a value does not keep the form of its kind */
+  RAF_ALGORITHM_UNKNOWN = 16,   /* two names differ that have to be one, or a point begins with 00
+                                   or 05 */
+  RAF_CRYPTO = 17,              /* a number in a signature is not positive, or the curve of a
+                                   security key is not P-256 */
+  RAF_ECDSA = 18,               /* no encoding of a point */
+  RAF_TIME = 19,                /* a time above 2^63 - 1 in the certificate */
+  RAF_NAMESPACE = 20,           /* an empty namespace in the SSH signature */
+  RAF_PUBLIC_KEY = 21,          /* never returned: an error of private keys */
+  RAF_UNSUPPORTED_VERSION = 22, /* an SSH signature of a version above 1, or a revocation list of
+                                   another version than 1 */
+  RAF_OTHER_ERROR = 23,         /* never returned */
+  RAF_RSA_SHA1 = 24,            /* an RSA signature by SHA-1, which no call reads: to them it is
+                                   RAF_LENGTH. raf_read_line_blob of helpers/ tells it */
 
   /* 30 to 34: what is wrong with a certificate that is not valid; the first of these */
   RAF_NOT_SIGNED = 30,          /* it raises no question, or `is_verified` is not 1; a signature
-                                      also where it is in another namespace, or has reserved bytes */
+                                   also where it is in another namespace, or has reserved bytes */
   RAF_UNTRUSTED_AUTHORITY = 31, /* the key that signed it is none of the authorities' */
   RAF_INVALID_TIME = 32,        /* the time is above 2^63 - 1 */
   RAF_OUT_OF_WINDOW = 33,       /* it is not yet valid, or no longer */
   RAF_UNLISTED_PRINCIPAL = 34,  /* it lists principals, and not this one */
 
   /* there is nothing to verify */
-  RAF_UNSUPPORTED = 40,    /* key and signature do not go together: it is not signed */
+  RAF_UNSUPPORTED = 40,     /* key and signature do not go together: it is not signed */
   RAF_OTHER_NAMESPACE = 41, /* the SSH signature is for another namespace */
 
   /* a draft of a certificate contradicts itself */
-  RAF_PRINCIPALS = 45,    /* it lists none and does not say so, or says so and lists some */
-  RAF_EMPTY_WINDOW = 46,  /* its window has no second */
+  RAF_PRINCIPALS = 45,   /* it lists none and does not say so, or says so and lists some */
+  RAF_EMPTY_WINDOW = 46, /* its window has no second */
 
   /* 50 to 53: a host's key is not trusted; the first of these that holds */
   RAF_HOST_REVOKED = 50,    /* a line for the host, or a revocation file, revokes it */
@@ -128,20 +131,21 @@ enum {
   RAF_HOST_UNKNOWN = 53,    /* no line without a marker is for the host */
 
   /* 55, 58, 56, and then 30: a signature does not count; the first of these that holds */
-  RAF_SIGNER_NOT_ALLOWED = 55, /* no line lets its key sign for the identity, there and then; or
-                                     it is none of the keys that may sign */
-  RAF_REVOKED = 56, /* a revocation file or list revokes the key, the signer's, or the certificate */
+  RAF_SIGNER_NOT_ALLOWED = 55, /* no line lets its key sign for the identity, there and then; or it
+                                  is none of the keys that may sign */
+  RAF_REVOKED = 56,            /* a revocation file or list revokes the key, the signer's, or the
+                                  certificate */
 
   RAF_ELSEWHERE = 57, /* the client's address is none of those that are allowed */
 
   /* of revocation files */
   RAF_UNREADABLE_REVOCATIONS = 58, /* one can't be read, or there is none: so everything is
-                                         revoked */
+                                      revoked */
 
   RAF_KEY_NOT_ACCEPTED = 59, /* a kind or a size of key that OpenSSH does not let in */
 
   RAF_LATER_KEY = 61,   /* the line has a key of a later kind, which signs nothing that is read:
-                              pass over it, and say so */
+                           pass over it, and say so */
   RAF_UNSAFE_MODE = 62, /* another's, or others may write it */
 
   /* 70 to 76, with 59 after 72: a certificate that lets nobody in, whoever signed it; the first of
@@ -149,16 +153,16 @@ enum {
   RAF_NOT_NORMAL_FORM = 70,  /* its bytes are not its normal form: not those that were signed */
   RAF_OTHER_TYPE = 71,       /* a user shows one for hosts, or a host one for users */
   RAF_OTHER_KEY = 72,        /* it certifies another key than the client's */
-  RAF_CRITICAL_OPTIONS = 73, /* a critical option that is not known, or whose value sshd does
-                                   not read */
+  RAF_CRITICAL_OPTIONS = 73, /* a critical option that is not known, or whose value sshd does not
+                                read */
   RAF_EXTENSIONS = 74,       /* data in an extension that is a flag, or a zero byte in a name */
   RAF_KEY_ID = 75,           /* a zero byte in the key id */
-  RAF_VALID_PRINCIPALS = 76, /* it lists no principal, more than 256 or one with a zero byte;
-                                   or the user's name is empty */
+  RAF_VALID_PRINCIPALS = 76, /* it lists no principal, more than 256 or one with a zero byte; or the
+                                user's name is empty */
 
   /* 80 to 83: a client's signature that does not count; the first of these */
-  RAF_OTHER_REQUEST = 80,   /* the signed bytes are not those of this request, or its service is
-                                  not ssh-connection */
+  RAF_OTHER_REQUEST = 80,   /* the signed bytes are not those of this request, or its service is not
+                               ssh-connection */
   RAF_OTHER_ALGORITHM = 81, /* the algorithm that the request names is not the signature's */
   RAF_UNTOUCHED = 82,       /* nobody touched the security key, and the grant wants it */
   RAF_UNVERIFIED = 83,      /* the security key did not verify its user, and the grant wants it */
@@ -166,16 +170,16 @@ enum {
   /* 90 to 96: authorized_keys lets nobody in. 91 to 95 is why the first line for the key, or for
    * the certificate's authority, refuses: each such line does. After 90 to 95 ask about the next
    * file */
-  RAF_USER_NOT_LISTED = 90,  /* no line is for the key, for the certificate's authority, or for a
-                                   principal of it */
-  RAF_LINE_EXPIRED = 91,     /* its expiry-time is over */
-  RAF_LINE_OPTION = 92,      /* it has principals, and no cert-authority; of a file of principals,
-                                   one of both */
-  RAF_LINE_ELSEWHERE = 93,   /* its from is for other places */
-  RAF_LINE_COMMAND = 94,     /* its command is another than the certificate's */
-  RAF_LINE_PRINCIPALS = 95,  /* the certificate lists nobody whom it lets in */
-  RAF_LINE_UNCLEAR = 96,     /* a line may let in, and how sshd reads it cannot be told: so no
-                                   other line and no other file may */
+  RAF_USER_NOT_LISTED = 90, /* no line is for the key, for the certificate's authority, or for a
+                               principal of it */
+  RAF_LINE_EXPIRED = 91,    /* its expiry-time is over */
+  RAF_LINE_OPTION = 92,     /* it has principals, and no cert-authority; of a file of principals,
+                               one of both */
+  RAF_LINE_ELSEWHERE = 93,  /* its from is for other places */
+  RAF_LINE_COMMAND = 94,    /* its command is another than the certificate's */
+  RAF_LINE_PRINCIPALS = 95, /* the certificate lists nobody whom it lets in */
+  RAF_LINE_UNCLEAR = 96,    /* a line may let in, and how sshd reads it cannot be told: so no other
+                               line and no other file may */
 
   /* 100 to 102: nothing is asked about the host; the first of these */
   RAF_NO_PORT = 100,    /* the port is 0 */
@@ -185,10 +189,10 @@ enum {
   RAF_NO_IDENTITY = 103 /* the signer's identity has no bytes */
 };
 
-/* The name of an answer as it stands above, without RAF_; for logs. */
-static inline const char *raf_status_name(uint32_t answer) {
+/* The name of a status as it stands above, without RAF_; for logs. */
+static inline const char *raf_status_name(uint32_t status) {
 #define RAF_NAMED(name) case RAF_##name: return #name
-  switch (answer) {
+  switch (status) {
     RAF_NAMED(DONE); RAF_NAMED(MEMORY); RAF_NAMED(SHORT_BUFFER); RAF_NAMED(END);
     RAF_NAMED(TEXT); RAF_NAMED(BASE64); RAF_NAMED(CHARACTER_ENCODING);
     RAF_NAMED(LABEL); RAF_NAMED(LENGTH); RAF_NAMED(TRAILING_DATA);
@@ -215,7 +219,7 @@ static inline const char *raf_status_name(uint32_t answer) {
     RAF_NAMED(LINE_UNCLEAR);
     RAF_NAMED(NO_PORT); RAF_NAMED(NO_HOST); RAF_NAMED(NO_ADDRESS);
     RAF_NAMED(NO_IDENTITY);
-    default: return "no answer";
+    default: return "no status";
   }
 #undef RAF_NAMED
 }
@@ -234,8 +238,8 @@ typedef struct {
   size_t count;
 } raf_spans;
 
-/* The revocation files of who asks about no revocation: one file, the list of nothing (PROTOCOL.krl).
- * No file at all would revoke everything, as one does that could not be read. */
+/* The revocation files of who asks about no revocation: one file, the list of nothing
+ * (PROTOCOL.krl). No file at all would revoke everything, as one does that could not be read. */
 static inline raf_spans raf_no_revocations(void) {
   static const uint8_t list[44] = "SSHKRL\n\0\0\0\0\1";
   static const raf_span file = {list, sizeof list};
@@ -246,7 +250,7 @@ static inline raf_spans raf_no_revocations(void) {
 
 /* ---- what is written ------------------------------------------------------------------------- */
 
-/* A part of a room, or of other bytes: where it begins, and how many bytes it has. */
+/* A part of a buffer, or of other bytes: where it begins, and how many bytes it has. */
 typedef struct {
   size_t start;  /* the place of its first byte */
   size_t length; /* the number of its bytes */
@@ -304,8 +308,8 @@ typedef struct {
   raf_part key;       /* its blob */
   raf_part message;   /* what is signed */
   raf_part signature; /* as the algorithm has it */
-  size_t length;         /* how many bytes of the room these take */
-  uint32_t algorithm;    /* RAF_ASK_* */
+  size_t length;      /* how many bytes of the buffer these take */
+  uint32_t algorithm; /* RAF_ASK_* */
 } raf_question;
 
 /* What stands in a line of a key file or of a certificate file: a blob, as the calls below take it,
@@ -313,7 +317,7 @@ typedef struct {
 typedef struct {
   raf_part blob;
   raf_part comment;
-  size_t length; /* how many bytes of the room these take */
+  size_t length; /* how many bytes of the buffer these take */
   uint32_t kind; /* RAF_LINE_* */
 } raf_line;
 
@@ -328,12 +332,12 @@ enum { RAF_LINE_KEY = 1, RAF_LINE_CERTIFICATE = 2 };
  * and known_hosts may have more, and are not read; nor are tabs or several spaces, which sshd takes
  * in a file of authorities: raf_authorized_entry reads those, with an empty `front`.
  *
- * RAF_DONE exactly if the line is that of a key or of a certificate (memory and room aside);
- * else 11 for a line that is not UTF-8, and from 10 to 29 a fault that it has as the line of a
- * certificate, or, where that is RAF_LABEL, as the line of a key. A room of the line's length is
+ * RAF_DONE exactly if the line is that of a key or of a certificate (memory and buffer aside);
+ * else 11 for a line that is not UTF-8, and from 10 to 29 an error that it has as the line of a
+ * certificate, or, where that is RAF_LABEL, as the line of a key. A buffer of the line's length is
  * enough. */
-uint32_t raf_read_line(const uint8_t *line, size_t line_length, uint8_t *room,
-                          size_t room_length, raf_line *answer);
+uint32_t raf_read_line(const uint8_t *line, size_t line_length, uint8_t *buffer,
+                       size_t buffer_length, raf_line *answer);
 
 /* Whether the line of a file of keys has a key of a later kind, as OpenSSH 10.6's
  * ssh-mldsa44-ed25519: after spaces and tabs, and without options, a name that no key begins with
@@ -363,7 +367,7 @@ uint32_t raf_authority(const uint8_t *line, size_t line_length, raf_sha256 *answ
  * byte: pass over the line, whatever follows. Else what raf_authority answers of what follows
  * the names. */
 uint32_t raf_user_authority(const uint8_t *line, size_t line_length, const uint8_t *user,
-                               size_t user_length, raf_sha256 *answer);
+                            size_t user_length, raf_sha256 *answer);
 
 /* Whether your verification may say yes to a signature under the key of that blob, as of that of a
  * question. Ask it first, and make the key then.
@@ -374,8 +378,8 @@ uint32_t raf_user_authority(const uint8_t *line, size_t line_length, const uint8
  * bytes that are no key. Takes no memory. */
 uint32_t raf_may_verify(const uint8_t *key, size_t key_length);
 
-/* Whether a file or a folder may be believed about a user, as by sshd's StrictModes; owner, user and
- * mode as of stat(2). The user 0 is root.
+/* Whether a file or a folder may be believed about a user, as by sshd's StrictModes; owner, user
+ * and mode as of stat(2). The user 0 is root.
  *
  * RAF_DONE exactly if root or the user owns it, and neither group nor others may write; else
  * RAF_UNSAFE_MODE. Takes no memory. */
@@ -386,10 +390,10 @@ uint32_t raf_check_safe_mode(uint64_t owner, uint64_t user, uint32_t mode);
 /* What has to be verified of a certificate, given as its blob, which raf_read_line gives.
  *
  * RAF_DONE exactly if the bytes are a certificate and key and signature go together (memory and
- * room aside); else RAF_UNSUPPORTED, or 10 to 29 for bytes that are no certificate. A room of
+ * buffer aside); else RAF_UNSUPPORTED, or 10 to 29 for bytes that are no certificate. A buffer of
  * twice the certificate's length and 2,304 bytes is enough. */
 uint32_t raf_certificate_question(const uint8_t *certificate, size_t certificate_length,
-                                     uint8_t *room, size_t room_length, raf_question *answer);
+                                  uint8_t *buffer, size_t buffer_length, raf_question *answer);
 
 /* Whether a certificate is valid at that second (since 1970) for one of the authorities, which are
  * named by the SHA-256 fingerprints of their keys. `is_verified` is 1 if the answer to the question
@@ -400,19 +404,19 @@ uint32_t raf_certificate_question(const uint8_t *certificate, size_t certificate
  * unix_timestamp <= 2^63 - 1; RAF_MEMORY aside, which is answered only where the key that signed
  * is not in its normal form: an RSA key under another name than ssh-rsa. Else 10 to 29 for bytes
  * that are no certificate, and 30 to 33 for what is wrong first. Its type, its critical options and
- * whether it is revoked are yours to judge: docs/CHECKLIST.md, "A login", "A host". */
+ * whether it is revoked are yours to check: docs/CHECKLIST.md, "A login", "A host". */
 uint32_t raf_check_certificate(const uint8_t *certificate, size_t certificate_length,
-                                     uint64_t unix_timestamp, const raf_sha256 *authorities,
-                                     size_t authority_count, uint32_t is_verified);
+                               uint64_t unix_timestamp, const raf_sha256 *authorities,
+                               size_t authority_count, uint32_t is_verified);
 
 /* The same, and the certificate lists the principal, or no principal at all; where it does not,
  * RAF_UNLISTED_PRINCIPAL, which is looked at last. RAF_TEXT for a principal that is not
  * UTF-8, whatever the certificate is. A certificate that lists none allows everybody here; for a
  * user sshd refuses it by TrustedUserCAKeys, and by a line cert-authority sshd 9.2 takes it. */
 uint32_t raf_check_certificate_for(const uint8_t *certificate, size_t certificate_length,
-                                         uint64_t unix_timestamp, const uint8_t *principal,
-                                         size_t principal_length, const raf_sha256 *authorities,
-                                         size_t authority_count, uint32_t is_verified);
+                                   uint64_t unix_timestamp, const uint8_t *principal,
+                                   size_t principal_length, const raf_sha256 *authorities,
+                                   size_t authority_count, uint32_t is_verified);
 
 /* Whom a certificate is for. */
 enum { RAF_USER = 1, RAF_HOST = 2 };
@@ -433,7 +437,7 @@ typedef struct {
 /* The fields of a certificate, whether it is valid or not. RAF_DONE exactly if the bytes are a
  * certificate; else 10 to 29. Takes no memory. */
 uint32_t raf_certificate_fields(const uint8_t *certificate, size_t certificate_length,
-                                   raf_fields *answer);
+                                raf_fields *answer);
 
 /* ---- what a certificate lists ---------------------------------------------------------------- */
 
@@ -451,7 +455,7 @@ typedef struct {
 /* The parts of a certificate, whether it is valid or not. RAF_DONE exactly if the bytes are a
  * certificate; else 10 to 29. Takes no memory, and copies nothing. */
 uint32_t raf_certificate_parts(const uint8_t *certificate, size_t certificate_length,
-                                  raf_parts *answer);
+                               raf_parts *answer);
 
 /* Where the name and the value of an option stand, and the place of the next one. The name stands
  * after its length of four bytes, and the next one begins where the value ends. */
@@ -465,14 +469,14 @@ typedef struct {
  * a string that is empty or holds the string of a value. RAF_DONE exactly if one stands there;
  * RAF_END at the end of the bytes, else RAF_LENGTH. Takes no memory. */
 uint32_t raf_next_certificate_option(const uint8_t *bytes, size_t length, size_t place,
-                            raf_certificate_option_parts *answer);
+                                     raf_certificate_option_parts *answer);
 
-/* Writes the blob of the key that is certified to the front of the room, which does not stand whole
- * in the certificate. RAF_DONE exactly if the bytes are a certificate, memory and room aside;
- * else 10 to 29. `length` says how many bytes the blob has. A room as long as the certificate is
- * enough. */
+/* Writes the blob of the key that is certified to the front of the buffer, which does not stand
+ * whole in the certificate. RAF_DONE exactly if the bytes are a certificate, memory and buffer
+ * aside; else 10 to 29. `length` says how many bytes the blob has. A buffer as long as the
+ * certificate is enough. */
 uint32_t raf_certificate_key(const uint8_t *certificate, size_t certificate_length,
-                                uint8_t *room, size_t room_length, size_t *length);
+                             uint8_t *buffer, size_t buffer_length, size_t *length);
 
 /* ---- how a certificate is made --------------------------------------------------------------- */
 
@@ -481,8 +485,8 @@ typedef struct {
   raf_span key;              /* the blob of the key that is certified */
   raf_span nonce;            /* random bytes of yours: 16 or 32 */
   raf_span key_id;           /* a text, for logs */
-  raf_span principals;       /* strings, one after the other: refuse a zero byte in one, since
-                                   sshd takes the name to end there, and so for another user's */
+  raf_span principals;       /* strings, one after the other: refuse a zero byte in one, since sshd
+                                takes the name to end there, and so for another user's */
   raf_span critical_options; /* as raf_next_certificate_option reads them, with rising names */
   raf_span extensions;       /* likewise */
   raf_span authority;        /* the blob of the key that is to sign */
@@ -493,24 +497,24 @@ typedef struct {
   uint32_t all_principals;   /* 1 where it lists no principals, and so allows everybody; else 0 */
 } raf_draft;
 
-/* Writes the bytes that are to be signed to the front of the room; `length` says how many they are.
- * Sign them with the authority's key, and make the signature's blob (RFC 4253, section 6.6): the
- * string of the algorithm's name, and the string of what it makes.
+/* Writes the bytes that are to be signed to the front of the buffer; `length` says how many they
+ * are. Sign them with the authority's key, and make the signature's blob (RFC 4253, section 6.6):
+ * the string of the algorithm's name, and the string of what it makes.
  *
- * RAF_DONE exactly if the draft tells a certificate, memory and room aside. Else what is wrong,
+ * RAF_DONE exactly if the draft tells a certificate, memory and buffer aside. Else what is wrong,
  * in this order: RAF_FORMAT for another certificate_type, RAF_TIME for a time above 2^63 - 1,
- * RAF_EMPTY_WINDOW, RAF_PRINCIPALS; then 10 to 29 for a key, a text or a list that is none. A
- * key to be certified that has a private-use name is rejected: RAF_LABEL. Also ask:
- * docs/CHECKLIST.md, "An authority". */
-uint32_t raf_certificate_to_be_signed(const raf_draft *draft, uint8_t *room,
-                                         size_t room_length, size_t *length);
+ * RAF_EMPTY_WINDOW, RAF_PRINCIPALS; then 10 to 29 for a key, a text or a list that is none. A key
+ * to be certified that has a private-use name is rejected: RAF_LABEL. Also ask: docs/CHECKLIST.md,
+ * "An authority". */
+uint32_t raf_certificate_to_be_signed(const raf_draft *draft, uint8_t *buffer,
+                                      size_t buffer_length, size_t *length);
 
 /* Writes the certificate that a signature makes of these bytes. RAF_DONE exactly if that is a
- * certificate, memory and room aside; else 10 to 29. Whether the signature is one of these bytes
+ * certificate, memory and buffer aside; else 10 to 29. Whether the signature is one of these bytes
  * raf_certificate_question asks, and .._validate says. */
 uint32_t raf_certificate_make(const uint8_t *to_be_signed, size_t to_be_signed_length,
-                                 const uint8_t *signature, size_t signature_length, uint8_t *room,
-                                 size_t room_length, size_t *length);
+                              const uint8_t *signature, size_t signature_length, uint8_t *buffer,
+                              size_t buffer_length, size_t *length);
 
 /* ---- keys ------------------------------------------------------------------------------------ */
 
@@ -524,9 +528,9 @@ uint32_t raf_fingerprint(const uint8_t *key, size_t key_length, raf_sha256 *answ
  * characters. */
 #define RAF_FINGERPRINT_TEXT 50
 
-/* Writes that text to the front of the room, without a zero after it. RAF_DONE, or RAF_SHORT_BUFFER
- * where the room has fewer bytes. Takes no memory. */
-uint32_t raf_fingerprint_text(const raf_sha256 *digest, uint8_t *room, size_t room_length);
+/* Writes that text to the front of the buffer, without a zero after it. RAF_DONE, or
+ * RAF_SHORT_BUFFER where the buffer has fewer bytes. Takes no memory. */
+uint32_t raf_fingerprint_text(const raf_sha256 *digest, uint8_t *buffer, size_t buffer_length);
 
 /* The same by SHA-512. */
 uint32_t raf_fingerprint_sha512(const uint8_t *key, size_t key_length, raf_sha512 *answer);
@@ -535,20 +539,20 @@ uint32_t raf_fingerprint_sha512(const uint8_t *key, size_t key_length, raf_sha51
 #define RAF_FINGERPRINT_SHA512_TEXT 93
 
 /* Writes that text, as raf_fingerprint_text does. Takes no memory. */
-uint32_t raf_fingerprint_sha512_text(const raf_sha512 *digest, uint8_t *room,
-                                        size_t room_length);
+uint32_t raf_fingerprint_sha512_text(const raf_sha512 *digest, uint8_t *buffer,
+                                     size_t buffer_length);
 
 /* What has to be verified of a signature (RFC 4253, section 6.6) of the message under the key of
  * that blob: as an agent gives it, or a client at a login (docs/CHECKLIST.md, "A login").
  *
- * RAF_DONE exactly if the bytes are a key and a signature that go together (memory and room
+ * RAF_DONE exactly if the bytes are a key and a signature that go together (memory and buffer
  * aside); else RAF_UNSUPPORTED, or 10 to 29 for bytes that are no key, or else no signature.
- * RAF_MEMORY only where they are both. A room as long as the three together, and 2,304 bytes, is
+ * RAF_MEMORY only where they are both. A buffer as long as the three together, and 2,304 bytes, is
  * enough. */
 uint32_t raf_signature_question(const uint8_t *key, size_t key_length, const uint8_t *message,
-                                   size_t message_length, const uint8_t *signature,
-                                   size_t signature_length, uint8_t *room, size_t room_length,
-                                   raf_question *answer);
+                                size_t message_length, const uint8_t *signature,
+                                size_t signature_length, uint8_t *buffer, size_t buffer_length,
+                                raf_question *answer);
 
 /* ---- who is let in (sshd(8)) ------------------------------------------------------------------ */
 
@@ -557,20 +561,21 @@ typedef struct {
   raf_span certificate;    /* its blob, as the client sent it */
   raf_span user;           /* UTF-8 */
   raf_span key;            /* the blob of the key under which the client signs: whether it has
-                                 raf_userauth_question asks */
-  raf_span client;         /* the address of its socket, of 4 or 16 bytes; with any other number
-                                 of bytes it has none: then source-address lets nobody in */
+                              raf_userauth_question asks */
+  raf_span client;         /* the address of its socket, of 4 or 16 bytes; with any other number of
+                              bytes it has none: then source-address lets nobody in */
   raf_digests authorities; /* of the keys that may sign logins */
   raf_spans revoked;       /* revocation files, each a list or keys as text: any of them revokes.
-                                 Who asks none says so: RAF_NO_REVOCATIONS */
+                              Who asks none says so: RAF_NO_REVOCATIONS */
   uint64_t unix_timestamp;
-  uint32_t least_rsa_bits;    /* as RequiredRSASize; below 1,024, as 0, it is 1,024 */
-  uint32_t caller_checks_address;    /* 1: you judge yourself whether source-address, which no grant tells,
-                                 has the client's, and `client` is not looked at: so does sshd with
-                                 a certificate whose principals a program tells it, and before 9.4
-                                 it tells that program no address. With any other number, as 0, it
-                                 is judged here; and always by raf_check_user_keys and
-                                 raf_check_principals, which with 1 know no address */
+  uint32_t least_rsa_bits;        /* as RequiredRSASize; below 1,024, as 0, it is 1,024 */
+  uint32_t caller_checks_address; /* 1: you check yourself whether source-address, which no grant
+                                     tells, has the client's, and `client` is not looked at: so does
+                                     sshd with a certificate whose principals a program tells it,
+                                     and before 9.4 it tells that program no address. With any other
+                                     number, as 0, it is checked here; and always by
+                                     raf_check_user_keys and raf_check_principals, which with 1 know
+                                     no address */
 } raf_login;
 
 /* What a grant permits. Zero permits nothing. */
@@ -580,7 +585,7 @@ enum {
   RAF_PERMIT_AGENT_FORWARDING = 4,
   RAF_PERMIT_X11_FORWARDING = 8,
   RAF_PERMIT_USER_RC = 16,
-  RAF_PERMIT_ANY_COMMAND = 32,     /* no force-command: what the client asks for, or a shell */
+  RAF_PERMIT_ANY_COMMAND = 32,      /* no force-command: what the client asks for, or a shell */
   RAF_PERMIT_NO_TOUCH = 64,         /* a security key that nobody touched */
   RAF_PERMIT_NO_VERIFICATION = 128, /* a security key that did not verify its user */
   /* by authorized_keys alone (raf_user_grant) */
@@ -593,12 +598,12 @@ enum {
 /* What a login may do, and by which certificate. */
 typedef struct {
   raf_part force_command; /* the one command that may run; of no bytes with
-                                RAF_PERMIT_ANY_COMMAND */
+                             RAF_PERMIT_ANY_COMMAND */
   raf_part key_id;        /* a text, for logs */
-  size_t length;             /* how many bytes of the room these take */
-  uint64_t serial;           /* the certificate's */
+  size_t length;          /* how many bytes of the buffer these take */
+  uint64_t serial;        /* the certificate's */
   raf_sha256 authority;   /* of the key that signed it */
-  uint32_t permits;          /* RAF_PERMIT_* */
+  uint32_t permits;       /* RAF_PERMIT_* */
 } raf_grant;
 
 /* What has to be verified before a login is let in: the question of its certificate. So nothing is
@@ -607,32 +612,32 @@ typedef struct {
  * RAF_DONE, or RAF_SHORT_BUFFER, only where raf_check_login, asked with 0, says
  * RAF_NOT_SIGNED: all that is looked at before is right. Else what that says; RAF_NOT_SIGNED
  * is said of a certificate that raises no question. Only with RAF_DONE is there something to
- * verify. A room of twice the certificate's length and 2,304 bytes is enough. RAF_MEMORY only
+ * verify. A buffer of twice the certificate's length and 2,304 bytes is enough. RAF_MEMORY only
  * where the user is UTF-8 and the key is one. */
-uint32_t raf_login_question(const raf_login *login, uint8_t *room, size_t room_length,
-                               raf_question *answer);
+uint32_t raf_login_question(const raf_login *login, uint8_t *buffer, size_t buffer_length,
+                            raf_question *answer);
 
 /* Whether a login is let in, as sshd would by these authorities, and what it may do. `is_verified`
  * is 1 if the answer to the question of its certificate is yes (raf_login_question); any other
  * number is no.
  *
- * RAF_DONE exactly if the bytes are a certificate for users, in its normal form, of just that
- * key, which OpenSSH lets in, that lists the user; with options and texts that sshd accepts, and a
- * source-address that has the client's, unless you judge it; valid at that second by one of the
- * authorities, whose key is of a kind and a size that OpenSSH accepts there; `is_verified` is 1; and
- * no revocation file revokes it (memory and room aside). Else what is wrong first: RAF_TEXT for
- * the user, 10 to 29 for bytes that are no key, or else no certificate, 70 to 72, 59 for the key or
- * the one that signed, 73 to 76, then RAF_UNTRUSTED_AUTHORITY, RAF_UNREADABLE_REVOCATIONS or
- * RAF_REVOKED, 30, 32 to 34, and RAF_ELSEWHERE. A room as long as the certificate is enough.
+ * RAF_DONE exactly if the bytes are a certificate for users, in its normal form, of just that key,
+ * which OpenSSH lets in, that lists the user; with options and texts that sshd accepts, and a
+ * source-address that has the client's, unless you check it; valid at that second by one of the
+ * authorities, whose key is of a kind and a size that OpenSSH accepts there; `is_verified` is 1;
+ * and no revocation file revokes it (memory and buffer aside). Else what is wrong first: RAF_TEXT
+ * for the user, 10 to 29 for bytes that are no key, or else no certificate, 70 to 72, 59 for the
+ * key or the one that signed, 73 to 76, then RAF_UNTRUSTED_AUTHORITY, RAF_UNREADABLE_REVOCATIONS or
+ * RAF_REVOKED, 30, 32 to 34, and RAF_ELSEWHERE. A buffer as long as the certificate is enough.
  * RAF_MEMORY only where the user is UTF-8 and the key is one.
  *
  * With RAF_SHORT_BUFFER `*answer` is zero but for its `length`, and with every other answer but
- * RAF_DONE all zero, which permits nothing; the room stays as it was.
+ * RAF_DONE all zero, which permits nothing; the buffer stays as it was.
  *
- * Yours: that the client signed under the key (raf_userauth_question asks), to run no other
- * command than the grant's, and to allow nothing that it does not permit. */
-uint32_t raf_check_login(const raf_login *login, uint32_t is_verified, uint8_t *room,
-                              size_t room_length, raf_grant *answer);
+ * Yours: that the client signed under the key (raf_userauth_question asks), to run no other command
+ * than the grant's, and to allow nothing that it does not permit. */
+uint32_t raf_check_login(const raf_login *login, uint32_t is_verified, uint8_t *buffer,
+                         size_t buffer_length, raf_grant *answer);
 
 /* ---- what a client signs (RFC 4252, section 7; OpenSSH's PROTOCOL) --------------------------- */
 
@@ -640,13 +645,13 @@ uint32_t raf_check_login(const raf_login *login, uint32_t is_verified, uint8_t *
 typedef struct {
   raf_span session_id; /* the server's own, and nothing that the client sent */
   raf_span user;
-  raf_span algorithm;  /* the name of the public key algorithm in the request */
-  raf_span public_key; /* the blob of the key or the certificate that the grant came from */
-  raf_span host_key;   /* the blob of the server's own host key, and nothing that the client sent,
-                             if has_host_key is not 0 */
-  raf_span signature;  /* the blob of the client's signature (RFC 4253, section 6.6) */
-  uint32_t has_host_key;  /* 0: the method is publickey; else publickey-hostbound-v00@openssh.com */
-  uint32_t permits;       /* the grant's: RAF_PERMIT_NO_TOUCH, .._NO_VERIFICATION */
+  raf_span algorithm;    /* the name of the public key algorithm in the request */
+  raf_span public_key;   /* the blob of the key or the certificate that the grant came from */
+  raf_span host_key;     /* the blob of the server's own host key, and nothing that the client sent,
+                            if has_host_key is not 0 */
+  raf_span signature;    /* the blob of the client's signature (RFC 4253, section 6.6) */
+  uint32_t has_host_key; /* 0: the method is publickey; else publickey-hostbound-v00@openssh.com */
+  uint32_t permits;      /* the grant's: RAF_PERMIT_NO_TOUCH, .._NO_VERIFICATION */
 } raf_userauth;
 
 /* What has to be verified of a client's signature for a login. The bytes that it signs are made
@@ -655,18 +660,18 @@ typedef struct {
  *
  * RAF_DONE exactly if the signature is by the algorithm that the request names, public_key is a
  * key of it, or a certificate where the name is one's, and the flags of a security key are what the
- * grant wants (memory and room aside): then the signature is the client's exactly if your
+ * grant wants (memory and buffer aside): then the signature is the client's exactly if your
  * verification says yes. Else 10 to 29 for bytes that are no signature; RAF_LENGTH for a part
  * that no string can hold; 81 to 83; 10 to 29 for a public_key that is none; RAF_UNSUPPORTED. A
- * room of twice the length of all the parts, and 2,304 bytes, is enough. */
-uint32_t raf_userauth_question(const raf_userauth *request, uint8_t *room,
-                                  size_t room_length, raf_question *answer);
+ * buffer of twice the length of all the parts, and 2,304 bytes, is enough. */
+uint32_t raf_userauth_question(const raf_userauth *request, uint8_t *buffer,
+                               size_t buffer_length, raf_question *answer);
 
 /* The same where the server has the bytes that the client signed. Where they are not those of the
  * request, RAF_OTHER_REQUEST, in place of RAF_LENGTH. */
 uint32_t raf_userauth_question_of(const raf_userauth *request, const uint8_t *signed_bytes,
-                                     size_t signed_length, uint8_t *room, size_t room_length,
-                                     raf_question *answer);
+                                  size_t signed_length, uint8_t *buffer, size_t buffer_length,
+                                  raf_question *answer);
 
 /* Whether the flags in a client's signature are what a grant that permits this wants: for a server
  * whose SSH library has verified the signature, under the key of that blob (no certificate).
@@ -676,31 +681,31 @@ uint32_t raf_userauth_question_of(const raf_userauth *request, const uint8_t *si
  * RAF_UNVERIFIED, or 10 to 29 for bytes that are no key, or else no signature. RAF_MEMORY
  * only where they are both. */
 uint32_t raf_check_grant_flags(uint32_t permits, const uint8_t *key, size_t key_length,
-                            const uint8_t *signature, size_t signature_length);
+                               const uint8_t *signature, size_t signature_length);
 
 /* ---- SSH signatures (PROTOCOL.sshsig) -------------------------------------------------------- */
 
 /* What has to be verified of an SSH signature of the message in that namespace, and the SHA-256
- * fingerprint of the key that signed: whether that key may sign is yours to judge
+ * fingerprint of the key that signed: whether that key may sign is yours to check
  * (docs/CHECKLIST.md, "A signature"). The signature is what stands in the armour, Base64 decoded.
  *
  * RAF_DONE exactly if the bytes are an SSH signature for that namespace whose key and signature
- * go together (memory and room aside); else RAF_OTHER_NAMESPACE, RAF_UNSUPPORTED, or 10 to 29
- * for bytes that are no signature. A room of twice its length and 2,304 bytes is enough. */
+ * go together (memory and buffer aside); else RAF_OTHER_NAMESPACE, RAF_UNSUPPORTED, or 10 to 29
+ * for bytes that are no signature. A buffer of twice its length and 2,304 bytes is enough. */
 uint32_t raf_sshsig_question(const uint8_t *signature, size_t signature_length,
-                                const uint8_t *name_space, size_t name_space_length,
-                                const uint8_t *message, size_t message_length, uint8_t *room,
-                                size_t room_length, raf_question *answer, raf_sha256 *signer);
+                             const uint8_t *name_space, size_t name_space_length,
+                             const uint8_t *message, size_t message_length, uint8_t *buffer,
+                             size_t buffer_length, raf_question *answer, raf_sha256 *signer);
 
 /* The same with the digest of the message in place of the message, so that a long one need not be
  * in memory. The hash is the one that the signature names, in its fourth string from byte 10 on
  * (raf_next_string): sha256 or sha512. Where a digest has not the 32 or 64 bytes of that hash,
  * RAF_LENGTH; else what raf_sshsig_question answers of each message with that digest. */
 uint32_t raf_sshsig_question_of_digest(const uint8_t *signature, size_t signature_length,
-                                          const uint8_t *name_space, size_t name_space_length,
-                                          const uint8_t *digest, size_t digest_length,
-                                          uint8_t *room, size_t room_length,
-                                          raf_question *answer, raf_sha256 *signer);
+                                       const uint8_t *name_space, size_t name_space_length,
+                                       const uint8_t *digest, size_t digest_length,
+                                       uint8_t *buffer, size_t buffer_length,
+                                       raf_question *answer, raf_sha256 *signer);
 
 /* Whether an SSH signature counts in that namespace, where the keys with these SHA-256 fingerprints
  * may sign. `is_verified` is 1 if the answer to the question of this signature, in the namespace
@@ -712,31 +717,30 @@ uint32_t raf_sshsig_question_of_digest(const uint8_t *signature, size_t signatur
  * bytes that are no signature, RAF_SIGNER_NOT_ALLOWED, or RAF_NOT_SIGNED. RAF_MEMORY only
  * where a part of the signature is whole. */
 uint32_t raf_check_sshsig(const uint8_t *signature, size_t signature_length,
-                               const uint8_t *name_space, size_t name_space_length,
-                               const raf_sha256 *signers, size_t signer_count,
-                               uint32_t is_verified);
+                          const uint8_t *name_space, size_t name_space_length,
+                          const raf_sha256 *signers, size_t signer_count,
+                          uint32_t is_verified);
 
-/* Whether an SSH signature counts as the identity's in that namespace, by a text of allowed
- * signers (ssh-keygen(1)), at that second (since 1970), as `ssh-keygen -Y verify` says, or more
- * strictly (docs/CALLING.md): a time without Z, which is of the machine's zone there, has to hold
- * in every zone here. `revoked` are revocation files, as raf_check_unrevoked_key takes them; who asks
- * none passes RAF_NO_REVOCATIONS, and never what is left where a file was not read.
- * `is_verified` is 1 if the answer to the question of this signature, in the namespace and of the
- * message, is yes; any other number is no. Ask with 0 first: RAF_NOT_SIGNED says that its key
- * may sign, and with any other answer there is nothing to verify.
+/* Whether an SSH signature counts as the identity's in that namespace, by a text of allowed signers
+ * (ssh-keygen(1)), at that second (since 1970), as `ssh-keygen -Y verify` says, or more strictly
+ * (docs/CALLING.md): a time without Z, which is of the machine's zone there, has to hold in every
+ * zone here. `revoked` are revocation files, as raf_check_unrevoked_key takes them; who asks none
+ * passes RAF_NO_REVOCATIONS, and never what is left where a file was not read. `is_verified` is 1
+ * if the answer to the question of this signature, in the namespace and of the message, is yes; any
+ * other number is no. Ask with 0 first: RAF_NOT_SIGNED says that its key may sign, and with any
+ * other answer there is nothing to verify.
  *
- * RAF_DONE exactly if the bytes are a signature in the namespace that raises a question,
- * without reserved bytes, `is_verified` is 1, the identity has a byte, a line lets its key sign for
- * it in the namespace at that time, and the key is not revoked (memory aside). Else RAF_TEXT, 10
- * to 29 for bytes that are no signature, RAF_NO_IDENTITY, 55, 58, 56 or RAF_NOT_SIGNED.
- * RAF_MEMORY only where a part of the signature is whole. Also ask: docs/CHECKLIST.md, "A
- * signature". */
+ * RAF_DONE exactly if the bytes are a signature in the namespace that raises a question, without
+ * reserved bytes, `is_verified` is 1, the identity has a byte, a line lets its key sign for it in
+ * the namespace at that time, and the key is not revoked (memory aside). Else RAF_TEXT, 10 to 29
+ * for bytes that are no signature, RAF_NO_IDENTITY, 55, 58, 56 or RAF_NOT_SIGNED. RAF_MEMORY only
+ * where a part of the signature is whole. Also ask: docs/CHECKLIST.md, "A signature". */
 uint32_t raf_check_signer(const uint8_t *signers, size_t signers_length,
-                               const uint8_t *identity, size_t identity_length,
-                               const uint8_t *name_space, size_t name_space_length,
-                               const uint8_t *signature, size_t signature_length,
-                               uint64_t unix_timestamp, const raf_span *revoked,
-                               size_t revoked_count, uint32_t is_verified);
+                          const uint8_t *identity, size_t identity_length,
+                          const uint8_t *name_space, size_t name_space_length,
+                          const uint8_t *signature, size_t signature_length,
+                          uint64_t unix_timestamp, const raf_span *revoked,
+                          size_t revoked_count, uint32_t is_verified);
 
 /* ---- normal forms ---------------------------------------------------------------------------- */
 
@@ -744,26 +748,27 @@ uint32_t raf_check_signer(const uint8_t *signers, size_t signers_length,
  * empty option of a certificate may be written in two ways. Bytes that spell one value have one
  * normal form, which is what fingerprints digest: two keys are the same exactly if theirs are.
  *
- * Each call writes it to the front of the room, and its length to `length`, also with RAF_SHORT_BUFFER.
- * RAF_DONE exactly if the bytes are a value of that kind (memory and room aside); else 10 to
- * 29. A room of the bytes' length is enough. */
+ * Each call writes it to the front of the buffer, and its length to `length`, also with
+ * RAF_SHORT_BUFFER. RAF_DONE exactly if the bytes are a value of that kind (memory and buffer
+ * aside); else 10 to
+ * 29. A buffer of the bytes' length is enough.   */
 
 /* Of a key. RAF_MEMORY only where the bytes are a key, and not its normal form. */
-uint32_t raf_key_normal(const uint8_t *key, size_t key_length, uint8_t *room,
-                           size_t room_length, size_t *length);
+uint32_t raf_key_normal(const uint8_t *key, size_t key_length, uint8_t *buffer,
+                        size_t buffer_length, size_t *length);
 
 /* Of a certificate. RAF_MEMORY only where the bytes are one. */
 uint32_t raf_certificate_normal(const uint8_t *certificate, size_t certificate_length,
-                                   uint8_t *room, size_t room_length, size_t *length);
+                                uint8_t *buffer, size_t buffer_length, size_t *length);
 
 /* Of an SSH signature, as raf_sshsig_question takes it. */
-uint32_t raf_sshsig_normal(const uint8_t *signature, size_t signature_length, uint8_t *room,
-                              size_t room_length, size_t *length);
+uint32_t raf_sshsig_normal(const uint8_t *signature, size_t signature_length, uint8_t *buffer,
+                           size_t buffer_length, size_t *length);
 
 /* Of a signature, as raf_signature_question takes it, which is its own normal form. Takes no
  * memory. */
-uint32_t raf_signature_normal(const uint8_t *signature, size_t signature_length, uint8_t *room,
-                                 size_t room_length, size_t *length);
+uint32_t raf_signature_normal(const uint8_t *signature, size_t signature_length, uint8_t *buffer,
+                              size_t buffer_length, size_t *length);
 
 /* ---- strings (RFC 4251, section 5) ----------------------------------------------------------- */
 
@@ -774,9 +779,10 @@ uint32_t raf_next_string(const uint8_t *bytes, size_t length, size_t place, raf_
 
 /* ---- revocation files (sshd_config(5), "RevokedKeys") ---------------------------------------- */
 
-/* Whether none of these files revokes the key of that blob. One does if it is a list (PROTOCOL.krl),
- * as `ssh-keygen -k` makes it, that has the key or its digest by SHA-1 or SHA-256; or a text with a
- * key or a certificate a line, that has the key. A file of no bytes revokes nothing, as sshd's.
+/* Whether none of these files revokes the key of that blob. One does if it is a list
+ * (PROTOCOL.krl), as `ssh-keygen -k` makes it, that has the key or its digest by SHA-1 or SHA-256;
+ * or a text with a key or a certificate a line, that has the key. A file of no bytes revokes
+ * nothing, as sshd's.
  *
  * RAF_DONE exactly if all files can be read, and none revokes the key, and RAF_REVOKED exactly if
  * all can be read, and one does (memory aside). RAF_UNREADABLE_REVOCATIONS without a file, or for
@@ -784,14 +790,14 @@ uint32_t raf_next_string(const uint8_t *bytes, size_t length, size_t place, raf_
  * refuses beyond that); else 10 to 29 for bytes that are no key. A text takes memory for its lines,
  * several files do, and one list only for a key that is not its normal form. */
 uint32_t raf_check_unrevoked_key(const raf_span *revoked, size_t revoked_count, const uint8_t *key,
-                            size_t key_length);
+                                 size_t key_length);
 
-/* The same of a certificate: a file revokes it that has its key or the key that signed it, and a list
- * that revokes its serial number or its key id among the certificates of that key or of every key.
- * The serial number 0 revokes nothing. One list takes memory only where the bytes are a
+/* The same of a certificate: a file revokes it that has its key or the key that signed it, and a
+ * list that revokes its serial number or its key id among the certificates of that key or of every
+ * key. The serial number 0 revokes nothing. One list takes memory only where the bytes are a
  * certificate. */
 uint32_t raf_check_unrevoked_certificate(const raf_span *revoked, size_t revoked_count,
-                                    const uint8_t *certificate, size_t certificate_length);
+                                         const uint8_t *certificate, size_t certificate_length);
 
 /* Whether a key revocation list, as `ssh-keygen -k` makes it, does not revoke the key of that blob:
  * it has neither the key nor its digest by SHA-1 or SHA-256.
@@ -801,13 +807,14 @@ uint32_t raf_check_unrevoked_certificate(const raf_span *revoked, size_t revoked
  * is a text of keys, which sshd takes in place of one. RAF_MEMORY only for a key that is not its
  * normal form. */
 uint32_t raf_check_unrevoked_key_by_krl(const uint8_t *krl, size_t krl_length, const uint8_t *key,
-                                size_t key_length);
+                                        size_t key_length);
 
 /* The same of a certificate: a list revokes it that has its key or the key that signed it, or its
  * serial number or its key id among the certificates of that key or of every key. The serial number
  * 0 revokes nothing. RAF_MEMORY only where the bytes are a list and a certificate. */
 uint32_t raf_check_unrevoked_certificate_by_krl(const uint8_t *krl, size_t krl_length,
-                                        const uint8_t *certificate, size_t certificate_length);
+                                                const uint8_t *certificate,
+                                                size_t certificate_length);
 
 /* ---- authorized_keys and known_hosts (sshd(8)) ----------------------------------------------- */
 
@@ -820,77 +827,77 @@ uint32_t raf_next_line(const uint8_t *text, size_t length, size_t place, raf_par
 /* What stands before an entry of known_hosts: nothing, @cert-authority or @revoked. */
 enum { RAF_MARKER_NONE = 0, RAF_MARKER_CERT_AUTHORITY = 1, RAF_MARKER_REVOKED = 2 };
 
-/* An entry of a line: where its parts stand in the room. */
+/* An entry of a line: where its parts stand in the buffer. */
 typedef struct {
   raf_part front;   /* the options as they stand in the line, or the hosts */
   raf_part key;     /* the key's blob in its normal form, which fingerprints are digests of */
   raf_part comment; /* all that follows */
-  size_t length;       /* how many bytes of the room these take */
-  uint32_t marker;     /* RAF_MARKER_*; of authorized_keys always RAF_MARKER_NONE */
+  size_t length;    /* how many bytes of the buffer these take */
+  uint32_t marker;  /* RAF_MARKER_*; of authorized_keys always RAF_MARKER_NONE */
 } raf_entry;
 
 /* The entry of a line of authorized_keys, as sshd reads it. RAF_DONE exactly if the line is one
- * (memory and room aside); RAF_TEXT for a line that is not UTF-8, else 10 to 29. A room of the
+ * (memory and buffer aside); RAF_TEXT for a line that is not UTF-8, else 10 to 29. A buffer of the
  * line's length is enough. Here a zero byte is a byte like others, while sshd reads no further.
  *
  * It shows a line, and decides nothing: whom a text lets in, raf_check_user_keys says. */
-uint32_t raf_authorized_entry(const uint8_t *line, size_t line_length, uint8_t *room,
-                                 size_t room_length, raf_entry *answer);
+uint32_t raf_authorized_entry(const uint8_t *line, size_t line_length, uint8_t *buffer,
+                              size_t buffer_length, raf_entry *answer);
 
 /* The same of a line of known_hosts, as ssh reads it; one with a zero byte is refused. A line that
- * is refused may be a revocation: to judge a host's key, ask raf_check_host_key. */
-uint32_t raf_known_host(const uint8_t *line, size_t line_length, uint8_t *room,
-                           size_t room_length, raf_entry *answer);
+ * is refused may be a revocation: to check a host's key, ask raf_check_host_key. */
+uint32_t raf_known_host(const uint8_t *line, size_t line_length, uint8_t *buffer,
+                        size_t buffer_length, raf_entry *answer);
 
-/* An option of an entry: where its parts stand in the room. */
+/* An option of an entry: where its parts stand in the buffer. */
 typedef struct {
-  raf_part name;   /* as it stands in the line: letters are compared without case */
-  raf_part value;  /* without its quotes, and without each backslash before a quote */
-  size_t length;      /* how many bytes of the room these take */
+  raf_part name;      /* as it stands in the line: letters are compared without case */
+  raf_part value;     /* without its quotes, and without each backslash before a quote */
+  size_t length;      /* how many bytes of the buffer these take */
   size_t next;        /* the place of the next option */
   uint32_t has_value; /* 0 where there is no value; else 1 */
 } raf_line_option_parts;
 
 /* The option that begins at that place of the options of an entry, commas before it aside: begin at
  * 0, and go on at answer.next. RAF_DONE exactly if one stands there that is UTF-8 (memory and
- * room aside); RAF_END exactly where nothing but commas is left, RAF_TEXT if what stands
- * before the next comma outside quotes is not UTF-8, and RAF_FORMAT if it is no option. A room
+ * buffer aside); RAF_END exactly where nothing but commas is left, RAF_TEXT if what stands
+ * before the next comma outside quotes is not UTF-8, and RAF_FORMAT if it is no option. A buffer
  * of the options' length is enough. All options take time in proportion to them.
  *
  * Go on to RAF_END, since what follows an option is not read with it. What the options of a line
  * say of a login, raf_check_user_keys decides. */
 uint32_t raf_next_line_option(const uint8_t *options, size_t options_length, size_t place,
-                                  uint8_t *room, size_t room_length,
-                                  raf_line_option_parts *answer);
+                              uint8_t *buffer, size_t buffer_length,
+                              raf_line_option_parts *answer);
 
-/* Whether sshd may take a line of authorized_keys for one of the key of that blob, whatever it makes
- * of the line's options: for a program that has sshd judge lines, as AuthorizedKeysCommand. It takes
- * the first that lets a key in, so leave out none but those for which this is RAF_END: a line that
- * is left out may hand the login to a later one, which binds it less.
+/* Whether sshd may take a line of authorized_keys for one of the key of that blob, whatever it
+ * makes of the line's options: for a program that has sshd check lines, as AuthorizedKeysCommand.
+ * It takes the first that lets a key in, so leave out none but those for which this is RAF_END: a
+ * line that is left out may hand the login to a later one, which binds it less.
  *
- * RAF_DONE where the key may be spelled in the line, as sshd reads Base64 (or is too short for
- * that to be told), RAF_END where the line is surely none of the key's (memory aside), and 10 to
- * 29 for bytes that are no key. RAF_MEMORY only where they are one. */
+ * RAF_DONE where the key may be spelled in the line, as sshd reads Base64 (or is too short for that
+ * to be told), RAF_END where the line is surely none of the key's (memory aside), and 10 to 29 for
+ * bytes that are no key. RAF_MEMORY only where they are one. */
 uint32_t raf_line_may_name_key(const uint8_t *line, size_t line_length, const uint8_t *key,
                                size_t key_length);
 
 /* The same of the authority that signed the certificate: by its lines cert-authority sshd lets the
  * certificate in. */
 uint32_t raf_line_may_name_authority(const uint8_t *line, size_t line_length,
-                                       const uint8_t *certificate, size_t certificate_length);
+                                     const uint8_t *certificate, size_t certificate_length);
 
 /* ---- whether a host is the known one (ssh(1)) ------------------------------------------------ */
 
 /* The host that a client connects to, and what is known of it. */
 typedef struct {
-  raf_spans known_hosts; /* the texts of all the files that count: one file alone may list a key
-                               that another one revokes */
-  raf_span host;         /* the name or address as the user typed it, without brackets; UTF-8 */
-  raf_spans revoked;     /* revocation files (RevokedHostKeys), each a list or keys as text: any
-                               of them revokes. Who asks none says so: RAF_NO_REVOCATIONS */
-  uint64_t unix_timestamp;  /* asked of certificates alone */
-  uint32_t least_rsa_bits;  /* as RequiredRSASize; below 1,024, as 0, it is 1,024 */
-  uint16_t port;            /* not 0 */
+  raf_spans known_hosts;   /* the texts of all the files that count: one file alone may list a key
+                              that another one revokes */
+  raf_span host;           /* the name or address as the user typed it, without brackets; UTF-8 */
+  raf_spans revoked;       /* revocation files (RevokedHostKeys), each a list or keys as text: any
+                              of them revokes. Who asks none says so: RAF_NO_REVOCATIONS */
+  uint64_t unix_timestamp; /* asked of certificates alone */
+  uint32_t least_rsa_bits; /* as RequiredRSASize; below 1,024, as 0, it is 1,024 */
+  uint16_t port;           /* not 0 */
 } raf_host_login;
 
 /* Whether the key of that blob is the host's, as ssh(1) says with StrictHostKeyChecking. Hashed
@@ -900,17 +907,17 @@ typedef struct {
  * An IPv6 address is asked in the text of inet_ntop(3): fd00::1 for FD00:0::1. What is like an
  * address has a colon, or is a digit followed by digits, dots, a to f and x alone. It is refused
  * where it is no address, as what inet_aton(3) alone reads, or with a scope, and where it is one of
- * ::/96 beyond :: and ::1, which has two texts. With HostKeyAlias ssh asks the alias in place of the
- * host, at no port: pass it alone, at port 22. With CheckHostIP it asks about the address too, also
- * where the name is known, and refuses where that has another key: that is a second call.
+ * ::/96 beyond :: and ::1, which has two texts. With HostKeyAlias ssh asks the alias in place of
+ * the host, at no port: pass it alone, at port 22. With CheckHostIP it asks about the address too,
+ * also where the name is known, and refuses where that has another key: that is a second call.
  *
  * RAF_DONE exactly if a line for the host has the key, no line for it and no revocation file
  * revokes the key, no line that is no entry could be one for the host, as each with a zero byte
- * could, and OpenSSH accepts its kind and size (memory aside). Else the first of these:
- * RAF_TEXT, 10 to 29 for bytes that are no key, 100 to 102, RAF_UNREADABLE_REVOCATIONS, 50 to
- * 53, RAF_KEY_NOT_ACCEPTED. RAF_MEMORY only where the bytes are a key. */
+ * could, and OpenSSH accepts its kind and size (memory aside). Else the first of these: RAF_TEXT,
+ * 10 to 29 for bytes that are no key, 100 to 102, RAF_UNREADABLE_REVOCATIONS, 50 to 53,
+ * RAF_KEY_NOT_ACCEPTED. RAF_MEMORY only where the bytes are a key. */
 uint32_t raf_check_host_key(const raf_host_login *login, const uint8_t *key,
-                                 size_t key_length);
+                            size_t key_length);
 
 /* Whether a certificate is the host's. `is_verified` is 1 if the answer to the question of this
  * certificate is yes (raf_certificate_question); any other number is no. Ask with 0 first:
@@ -924,8 +931,8 @@ uint32_t raf_check_host_key(const raf_host_login *login, const uint8_t *key,
  * RAF_TEXT, 10 to 29, RAF_NOT_NORMAL_FORM, 100 to 102, RAF_UNREADABLE_REVOCATIONS, 50, 51,
  * 53, 59, 71, 73, 75, 76, 30, 32 to 34. An address has to be listed in that one text. */
 uint32_t raf_check_host_certificate(const raf_host_login *login,
-                                         const uint8_t *certificate, size_t certificate_length,
-                                         uint32_t is_verified);
+                                    const uint8_t *certificate, size_t certificate_length,
+                                    uint32_t is_verified);
 
 /* The number of the first line, from 1, of a text of known_hosts that is no entry and may be one
  * for the host at that port: by it the text is RAF_HOST_UNREADABLE, whatever the key. Empty lines
@@ -935,8 +942,8 @@ uint32_t raf_check_host_certificate(const raf_host_login *login,
  * RAF_TEXT where the text or the host is not UTF-8, and then 100 to 102. Memory is taken only for
  * a line that is neither empty nor a comment, and for a host that is like an address. */
 uint32_t raf_unreadable_host_line(const uint8_t *known_hosts, size_t known_hosts_length,
-                                     const uint8_t *host, size_t host_length, uint16_t port,
-                                     size_t *number);
+                                  const uint8_t *host, size_t host_length, uint16_t port,
+                                  size_t *number);
 
 /* ---- where a client may come from ------------------------------------------------------------ */
 
@@ -950,7 +957,7 @@ uint32_t raf_unreadable_host_line(const uint8_t *known_hosts, size_t known_hosts
  * UTF-8, RAF_FORMAT for a malformed one, which sshd refuses too, and RAF_ELSEWHERE. Takes no
  * memory. */
 uint32_t raf_check_source_address(const uint8_t *list, size_t list_length,
-                                      const uint8_t *address, size_t address_length);
+                                  const uint8_t *address, size_t address_length);
 
 /* Whether the list, the value of the option from of a line of authorized_keys, lets a client in
  * from the address, as above. The host is the client's name in the DNS, if it was looked up and
@@ -963,7 +970,7 @@ uint32_t raf_check_source_address(const uint8_t *list, size_t list_length,
  * another to sshd, or where the host's name is like an address; RAF_FORMAT for a malformed list.
  */
 uint32_t raf_check_from(const uint8_t *list, size_t list_length, const uint8_t *host,
-                            size_t host_length, const uint8_t *address, size_t address_length);
+                        size_t host_length, const uint8_t *address, size_t address_length);
 
 /* ---- times (ssh-keygen(1), "ALLOWED SIGNERS") ------------------------------------------------- */
 
@@ -987,70 +994,71 @@ uint32_t raf_read_time(const uint8_t *text, size_t length, raf_time_span *answer
 /* What a login by a line of authorized_keys may do. */
 typedef struct {
   raf_grant grant;        /* with the command of the line or of the certificate; of a plain key
-                                key_id has no bytes, serial and authority are zero */
-  raf_part permit_open;   /* without RAF_PERMIT_OPEN_ANYWHERE the only places to which ports
-                                may be forwarded: strings (raf_next_string), two each: a host,
-                                and a port of two bytes, big-endian, or of none for any port. Hosts
-                                are compared byte by byte, and "*" is any */
+                             key_id has no bytes, serial and authority are zero */
+  raf_part permit_open;   /* without RAF_PERMIT_OPEN_ANYWHERE the only places to which ports may be
+                             forwarded: strings (raf_next_string), two each: a host, and a port of
+                             two bytes, big-endian, or of none for any port. Hosts are compared byte
+                             by byte, and "*" is any */
   raf_part permit_listen; /* likewise where may be listened */
   raf_part environment;   /* strings NAME=VALUE; by its defaults sshd sets none */
   raf_time_span expires;  /* the last second at which the line counts; UINT64_MAX at any */
-  size_t line;               /* the number of the line, from 1; of a refusal 91 to 96, of the line
-                                that refuses */
-  uint32_t tunnel;           /* without RAF_PERMIT_ANY_TUNNEL the only device of tun(4);
-                                0x7fffffff is the "any" that a client asks for */
+  size_t line;            /* the number of the line, from 1; of a refusal 91 to 96, of the line that
+                             refuses */
+  uint32_t tunnel;        /* without RAF_PERMIT_ANY_TUNNEL the only device of tun(4); 0x7fffffff is
+                             the "any" that a client asks for */
 } raf_user_grant;
 
 /* Whether a text of authorized_keys, of one file, lets a login in, as sshd would by the first line
  * that does, and what that line leaves it. Where the login's certificate has no bytes, the client
  * shows the plain key, and `is_verified` does not count. Else it shows that certificate of the key,
  * for which lines cert-authority are asked: `is_verified` is 1 if the answer to its question is yes
- * (raf_certificate_question); any other number is no. Ask with 0 first: RAF_NOT_SIGNED says
- * "now verify", and with any other answer there is nothing to verify.
+ * (raf_certificate_question); any other number is no. Ask with 0 first: RAF_NOT_SIGNED says "now
+ * verify", and with any other answer there is nothing to verify.
  *
  * `host` is the name that was found for the client's address (UseDNS), or of no bytes. The login's
- * authorities are not looked at. Without an address (caller_checks_address is 1, too) a line with from
- * cannot be told; nor can one that is not UTF-8 and may be for the key or its authority.
+ * authorities are not looked at. Without an address (caller_checks_address is 1, too) a line with
+ * from cannot be told; nor can one that is not UTF-8 and may be for the key or its authority.
  *
- * RAF_DONE exactly if OpenSSH accepts the key, no revocation file revokes it, the first line for
- * it that allows place and time comes before each that cannot be told, and the line is of no
+ * RAF_DONE exactly if OpenSSH accepts the key, no revocation file revokes it, the first line for it
+ * that allows place and time comes before each that cannot be told, and the line is of no
  * authority; or, of a certificate, if that line is of the authority that signed it, whose key
  * OpenSSH accepts, allows its names and its command, and raf_check_login lets it in by that
- * authority, for the name (memory and room aside). Else what is wrong first: RAF_TEXT where the
+ * authority, for the name (memory and buffer aside). Else what is wrong first: RAF_TEXT where the
  * user or the host is not UTF-8, 10 to 29 for bytes that are no key, or else no certificate,
- * RAF_KEY_NOT_ACCEPTED, of a key RAF_UNREADABLE_REVOCATIONS or RAF_REVOKED, 90 to 96, and
- * of a certificate that a line lets in what raf_check_login says. A room as long as the text
- * and twice the certificate is enough. RAF_MEMORY only where these are UTF-8 and the key is one.
+ * RAF_KEY_NOT_ACCEPTED, of a key RAF_UNREADABLE_REVOCATIONS or RAF_REVOKED, 90 to 96, and of a
+ * certificate that a line lets in what raf_check_login says. A buffer as long as the text and twice
+ * the certificate is enough. RAF_MEMORY only where these are UTF-8 and the key is one.
  *
  * After 90 to 95 ask about the next file; after every other answer let no other one count. With
  * RAF_SHORT_BUFFER `*answer` is zero but for grant.length, and with every other answer but RAF_DONE
- * zero but for `line`: it permits nothing; the room stays as it was.
+ * zero but for `line`: it permits nothing; the buffer stays as it was.
  *
- * Yours: that the client signed under the key (raf_userauth_question asks, with grant.permits),
- * to run no other command than the grant's, and to allow nothing that it does not permit. */
+ * Yours: that the client signed under the key (raf_userauth_question asks, with grant.permits), to
+ * run no other command than the grant's, and to allow nothing that it does not permit. */
 uint32_t raf_check_user_keys(const raf_login *login, const uint8_t *text,
-                                  size_t text_length, const uint8_t *host, size_t host_length,
-                                  uint32_t is_verified, uint8_t *room, size_t room_length,
-                                  raf_user_grant *answer);
+                             size_t text_length, const uint8_t *host, size_t host_length,
+                             uint32_t is_verified, uint8_t *buffer, size_t buffer_length,
+                             raf_user_grant *answer);
 
-/* Whether a text in the form of AuthorizedPrincipalsFile (sshd_config(5)), of one file, lets a login
- * in by its certificate, as sshd would by the first line for a principal that this lists, and what
- * that line leaves it. login->authorities are those of TrustedUserCAKeys, and login->user is not
- * asked about. The answer, the numbers, the room and what is yours are those of
+/* Whether a text in the form of AuthorizedPrincipalsFile (sshd_config(5)), of one file, lets a
+ * login in by its certificate, as sshd would by the first line for a principal that this lists, and
+ * what that line leaves it. login->authorities are those of TrustedUserCAKeys, and login->user is
+ * not asked about. The answer, the numbers, the buffer and what is yours are those of
  * raf_check_user_keys, but for these:
  *
- * RAF_DONE exactly if that line comes before each that cannot be told, and allows the
- * certificate, place and time, OpenSSH accepts the key that signed it, and raf_check_login lets
- * it in by login->authorities for that principal (memory and room aside). No bytes are no
- * certificate: 10 to 29. RAF_LINE_PRINCIPALS never comes. A line for a principal cannot be told
- * where it is not UTF-8 up to a #.
+ * RAF_DONE exactly if that line comes before each that cannot be told, and allows the certificate,
+ * place and time, OpenSSH accepts the key that signed it, and raf_check_login lets it in by
+ * login->authorities for that principal (memory and buffer aside). No bytes are no certificate: 10
+ * to
+ * 29. RAF_LINE_PRINCIPALS never comes. A line for a principal cannot be told where it is not UTF-8
+ * up to a #.
  *
  * A line that refuses ends it: after RAF_USER_NOT_LISTED alone ask about the next file, and after
  * every other answer, 91 to 96 too, let no other one count. */
 uint32_t raf_check_principals(const raf_login *login, const uint8_t *text,
-                                   size_t text_length, const uint8_t *host, size_t host_length,
-                                   uint32_t is_verified, uint8_t *room, size_t room_length,
-                                   raf_user_grant *answer);
+                              size_t text_length, const uint8_t *host, size_t host_length,
+                              uint32_t is_verified, uint8_t *buffer, size_t buffer_length,
+                              raf_user_grant *answer);
 
 /* ---------------------------------------------------------------------------------------------- */
 

@@ -67,7 +67,7 @@ and a package also
     strings BYTES                                            0 CONTENT ..
     make .. as draft, and SIGNATURE                          0 BYTES of the certificate
 
-An answer is the number of a refusal in place of 0 and what follows: 11 of options whose texts are not UTF-8, 15 of two with one
+An answer is the status of a refusal in place of 0 and what follows: 11 of options whose texts are not UTF-8, 15 of two with one
 name and of a principal with a zero byte.
 """
 import ipaddress
@@ -76,8 +76,8 @@ from dataclasses import dataclass
 from .linked import VALGRIND, data_of, datas_of, run, word
 from .verdict_answers import VerdictAnswers
 
-# what is said of a number that no answer has
-WITHOUT_WORDS = "an answer without words"
+# what is said of a number that is no status
+WITHOUT_WORDS = "a status without words"
 
 
 @dataclass(frozen=True)

@@ -1,5 +1,5 @@
-/* Each call of rafendilo.h by its name, with what it is given and what it writes, for checks/foreign.c.
- * All memory that a call gets is as long as is said, of malloc. */
+/* Each call of rafendilo.h by its name, with what it is given and what it writes, for
+ * checks/foreign.c. All memory that a call gets is as long as is said, of malloc. */
 #ifndef CALLS_H
 #define CALLS_H
 
@@ -54,65 +54,65 @@ typedef struct {
   CALL(version, )                                                                                \
   CALL(abi, )                                                                                    \
   CALL(certificate_question, BYTES(0), ROOM, &it->question)                                      \
-  CALL(check_certificate, BYTES(0), it->numbers[0], BY, (uint32_t)it->numbers[1])             \
-  CALL(check_certificate_for, BYTES(0), it->numbers[0], BYTES(1), BY,                         \
+  CALL(check_certificate, BYTES(0), it->numbers[0], BY, (uint32_t)it->numbers[1])                \
+  CALL(check_certificate_for, BYTES(0), it->numbers[0], BYTES(1), BY,                            \
        (uint32_t)it->numbers[1])                                                                 \
   CALL(certificate_fields, BYTES(0), &it->fields)                                                \
   CALL(certificate_parts, BYTES(0), &it->parts)                                                  \
-  CALL(next_certificate_option, BYTES(0), it->numbers[0], &it->certificate_option)                           \
+  CALL(next_certificate_option, BYTES(0), it->numbers[0], &it->certificate_option)               \
   CALL(certificate_key, BYTES(0), ROOM, &it->length)                                             \
   CALL(certificate_to_be_signed, &given->draft, ROOM, &it->length)                               \
   CALL(certificate_make, BYTES(0), BYTES(1), ROOM, &it->length)                                  \
   CALL(read_line, BYTES(0), ROOM, &it->line)                                                     \
   CALL(fingerprint, BYTES(0), &it->sha256)                                                       \
-  CALL(fingerprint_text, (const raf_sha256 *)it->spans[0].bytes, ROOM)                        \
+  CALL(fingerprint_text, (const raf_sha256 *)it->spans[0].bytes, ROOM)                           \
   CALL(fingerprint_sha512, BYTES(0), &it->sha512)                                                \
-  CALL(fingerprint_sha512_text, (const raf_sha512 *)it->spans[0].bytes, ROOM)                 \
+  CALL(fingerprint_sha512_text, (const raf_sha512 *)it->spans[0].bytes, ROOM)                    \
   CALL(signature_question, BYTES(0), BYTES(1), BYTES(2), ROOM, &it->question)                    \
   CALL(sshsig_question, BYTES(0), BYTES(1), BYTES(2), ROOM, &it->question, &it->sha256)          \
   CALL(sshsig_question_of_digest, BYTES(0), BYTES(1), BYTES(2), ROOM, &it->question,             \
        &it->sha256)                                                                              \
-  CALL(check_sshsig, BYTES(0), BYTES(1), BY, (uint32_t)it->numbers[0])                         \
-  CALL(check_signer, BYTES(0), BYTES(1), BYTES(2), BYTES(3), it->numbers[0], SEVERAL(4),       \
+  CALL(check_sshsig, BYTES(0), BYTES(1), BY, (uint32_t)it->numbers[0])                           \
+  CALL(check_signer, BYTES(0), BYTES(1), BYTES(2), BYTES(3), it->numbers[0], SEVERAL(4),         \
        (uint32_t)it->numbers[1])                                                                 \
   CALL(key_normal, BYTES(0), ROOM, &it->length)                                                  \
   CALL(certificate_normal, BYTES(0), ROOM, &it->length)                                          \
   CALL(sshsig_normal, BYTES(0), ROOM, &it->length)                                               \
   CALL(signature_normal, BYTES(0), ROOM, &it->length)                                            \
   CALL(next_string, BYTES(0), it->numbers[0], &it->part)                                         \
-  CALL(check_unrevoked_key_by_krl, BYTES(0), BYTES(1))                                                      \
-  CALL(check_unrevoked_certificate_by_krl, BYTES(0), BYTES(1))                                              \
-  CALL(check_unrevoked_key, SEVERAL(0), BYTES(1))                                                        \
-  CALL(check_unrevoked_certificate, SEVERAL(0), BYTES(1))                                                \
+  CALL(check_unrevoked_key_by_krl, BYTES(0), BYTES(1))                                           \
+  CALL(check_unrevoked_certificate_by_krl, BYTES(0), BYTES(1))                                   \
+  CALL(check_unrevoked_key, SEVERAL(0), BYTES(1))                                                \
+  CALL(check_unrevoked_certificate, SEVERAL(0), BYTES(1))                                        \
   CALL(next_line, BYTES(0), it->numbers[0], &it->part)                                           \
   CALL(authorized_entry, BYTES(0), ROOM, &it->entry)                                             \
   CALL(known_host, BYTES(0), ROOM, &it->entry)                                                   \
-  CALL(next_line_option, BYTES(0), it->numbers[0], ROOM, &it->entry_option)                     \
+  CALL(next_line_option, BYTES(0), it->numbers[0], ROOM, &it->entry_option)                      \
   CALL(login_question, &given->login, ROOM, &it->question)                                       \
-  CALL(check_login, &given->login, (uint32_t)it->numbers[3], ROOM, &it->grant)                 \
-  CALL(check_user_keys, &given->login, BYTES(6), BYTES(7), (uint32_t)it->numbers[3], ROOM,     \
+  CALL(check_login, &given->login, (uint32_t)it->numbers[3], ROOM, &it->grant)                   \
+  CALL(check_user_keys, &given->login, BYTES(6), BYTES(7), (uint32_t)it->numbers[3], ROOM,       \
        &it->user_grant)                                                                          \
-  CALL(check_principals, &given->login, BYTES(6), BYTES(7), (uint32_t)it->numbers[3], ROOM,    \
+  CALL(check_principals, &given->login, BYTES(6), BYTES(7), (uint32_t)it->numbers[3], ROOM,      \
        &it->user_grant)                                                                          \
-  CALL(check_host_key, &given->host, BYTES(2))                                                 \
-  CALL(check_host_certificate, &given->host, BYTES(2), (uint32_t)it->numbers[3])               \
+  CALL(check_host_key, &given->host, BYTES(2))                                                   \
+  CALL(check_host_certificate, &given->host, BYTES(2), (uint32_t)it->numbers[3])                 \
   CALL(unreadable_host_line, BYTES(0), BYTES(1), PORT, &it->length)                              \
   CALL(userauth_question, &given->request, ROOM, &it->question)                                  \
   CALL(userauth_question_of, &given->request, BYTES(6), ROOM, &it->question)                     \
-  CALL(check_grant_flags, (uint32_t)it->numbers[0], BYTES(0), BYTES(1))                                \
+  CALL(check_grant_flags, (uint32_t)it->numbers[0], BYTES(0), BYTES(1))                          \
   CALL(is_later_key_line, BYTES(0))                                                              \
   CALL(authority, BYTES(0), &it->sha256)                                                         \
   CALL(user_authority, BYTES(0), BYTES(1), &it->sha256)                                          \
-  CALL(line_may_name_key, BYTES(0), BYTES(1))                                                       \
-  CALL(line_may_name_authority, BYTES(0), BYTES(1))                                               \
+  CALL(line_may_name_key, BYTES(0), BYTES(1))                                                    \
+  CALL(line_may_name_authority, BYTES(0), BYTES(1))                                              \
   CALL(may_verify, BYTES(0))                                                                     \
-  CALL(check_safe_mode, it->numbers[0], it->numbers[1], (uint32_t)it->numbers[2])                    \
-  CALL(check_source_address, BYTES(0), BYTES(1))                                                \
-  CALL(check_from, BYTES(0), BYTES(2), BYTES(1))                                                \
+  CALL(check_safe_mode, it->numbers[0], it->numbers[1], (uint32_t)it->numbers[2])                \
+  CALL(check_source_address, BYTES(0), BYTES(1))                                                 \
+  CALL(check_from, BYTES(0), BYTES(2), BYTES(1))                                                 \
   CALL(read_time, BYTES(0), &it->time)
 
 static uint32_t call_by_name(given_call *it, const given_structs *given) {
-#define CALL(call, ...) \
+#define CALL(call, ...)                                                                          \
   if (!strcmp(it->name, #call)) return raf_##call(__VA_ARGS__);
   CALLS
 #undef CALL

@@ -1,5 +1,5 @@
-/* Asks the functions of helpers/reading.h, sshsig.h, verdict.h and verify.h, for checks/foreign.c, which has the
- * helpers. The verifier is linked with --wrap. */
+/* Asks the functions of helpers/reading.h, sshsig.h, verdict.h and verify.h, for checks/foreign.c,
+ * which has the helpers. The verifier is linked with --wrap. */
 #ifndef HELPER_CALLS_H
 #define HELPER_CALLS_H
 
@@ -45,11 +45,11 @@ static uint32_t log_in(given_call *it, const char *name) {
   uint32_t unverified = ask(it, name, NULL);
   const uint64_t *numbers = it->numbers;
   raf_login login = {raf_blob_span(it->spans[0]), raf_blob_span(it->spans[1]),
-                        raf_blob_span(it->spans[2]), raf_blob_span(it->spans[3]),
-                        {(const raf_sha256 *)it->spans[4].bytes,
-                         it->spans[4].length / sizeof(raf_sha256)},
-                        {it->several[5].items, it->several[5].count}, numbers[0],
-                        (uint32_t)numbers[1], (uint32_t)numbers[2]};
+                     raf_blob_span(it->spans[2]), raf_blob_span(it->spans[3]),
+                     {(const raf_sha256 *)it->spans[4].bytes,
+                      it->spans[4].length / sizeof(raf_sha256)},
+                     {it->several[5].items, it->several[5].count}, numbers[0],
+                     (uint32_t)numbers[1], (uint32_t)numbers[2]};
   free(it->room.bytes);
   it->room = made(it->spans[0].length);
   memset(&it->grant, FILLED, sizeof it->grant);
@@ -107,9 +107,9 @@ static void ask_verifications(given_call *it, const char *name) {
 static void ask_host_certificate(given_call *it, const char *name) {
   const uint64_t *numbers = it->numbers;
   raf_host_login login = {{it->several[0].items, it->several[0].count},
-                             raf_blob_span(it->spans[1]),
-                             {it->several[3].items, it->several[3].count}, numbers[2],
-                             (uint32_t)numbers[1], (uint16_t)numbers[0]};
+                          raf_blob_span(it->spans[1]),
+                          {it->several[3].items, it->several[3].count}, numbers[2],
+                          (uint32_t)numbers[1], (uint16_t)numbers[0]};
   uint32_t unverified = ask(it, name, NULL);
   verifications = 0;
   uint32_t answer = raf_verify_host_certificate(&login, raf_blob_span(it->spans[2]));
@@ -121,9 +121,9 @@ static void ask_host_certificate(given_call *it, const char *name) {
 static void ask_userauth(given_call *it, const char *name) {
   (void)name;
   raf_userauth request = {raf_blob_span(it->spans[0]), raf_blob_span(it->spans[1]),
-                             raf_blob_span(it->spans[2]), raf_blob_span(it->spans[3]),
-                             raf_blob_span(it->spans[4]), raf_blob_span(it->spans[5]),
-                             (uint32_t)it->numbers[0], (uint32_t)it->numbers[1]};
+                          raf_blob_span(it->spans[2]), raf_blob_span(it->spans[3]),
+                          raf_blob_span(it->spans[4]), raf_blob_span(it->spans[5]),
+                          (uint32_t)it->numbers[0], (uint32_t)it->numbers[1]};
   printf("%" PRIu32, raf_verify_userauth(&request));
 }
 
@@ -146,7 +146,7 @@ static void ask_signer_by(char **words) {
   raf_blob digest = it.spans[6], signature = it.spans[3];
   char *identity = text_of(words[2]), *name_space = text_of(words[3]);
   raf_signers by = {it.spans[0], NULL, strtoull(words[6], NULL, 10),
-                      {it.several[4].items, it.several[4].count}};
+                    {it.several[4].items, it.several[4].count}};
   if (raf_verify_signer_of_digest(signature, name_space, digest, &by) != RAF_SIGNER_NOT_ALLOWED)
     printf("nobody may sign ");
   by.identity = identity;

@@ -145,7 +145,7 @@ def check_names(count, built):
     numbers, *said = run([f"{built.plain}/foreign"], input="names\n").stdout.rstrip("\n").split(",")
     answers = next(it for it in enumerations() if "RAF_DONE" in it)
     named = {number: name.removeprefix("RAF_") for name, number in answers.items()}
-    wanted = [f"{it} {named.get(it, 'no answer')}" for it in (*range(200), 2**32 - 1)]
+    wanted = [f"{it} {named.get(it, 'no status')}" for it in (*range(200), 2**32 - 1)]
     count.check(f"{len(named)} answers have their names", said == wanted, set(said) ^ set(wanted))
     version, abi, *of_library = numbers.split()
     count.check("the library has the version and the ABI of the header", of_library == [version, abi], numbers)

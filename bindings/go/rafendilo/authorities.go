@@ -29,7 +29,9 @@ func UserAuthorities(text, user string) (keys []SHA256, laterLines []int, err er
 	})
 }
 
-func authoritiesOf(text string, call func(input, *SHA256) C.uint32_t) (keys []SHA256, laterLines []int, err error) {
+func authoritiesOf(
+	text string, call func(input, *SHA256) C.uint32_t,
+) (keys []SHA256, laterLines []int, err error) {
 	in, number := inputOf(text), 1
 	for place := C.size_t(0); ; {
 		part, isThere := nextLine(in, place)

@@ -16,7 +16,7 @@ func CertificateQuestion(certificate []byte) (Question, error) {
 }
 
 func questionOf(in input) (Question, error) {
-	return question(2*len(in)+256, func(to room, answer *C.raf_question) C.uint32_t {
+	return question(2*len(in)+256, func(to buffer, answer *C.raf_question) C.uint32_t {
 		return C.raf_certificate_question(in.pointer(), in.length(), to.at, to.length, answer)
 	})
 }
@@ -133,7 +133,7 @@ func CertificateContents(certificate []byte) (Contents, error) {
 }
 
 func certificateKey(in input) ([]byte, error) {
-	return form(len(in), func(to room, length *C.size_t) C.uint32_t {
+	return form(len(in), func(to buffer, length *C.size_t) C.uint32_t {
 		return C.raf_certificate_key(in.pointer(), in.length(), to.at, to.length, length)
 	})
 }

@@ -26,7 +26,7 @@
 // # The library
 //
 // The library lies in this package as assembly text, for Linux on x86-64 and aarch64. It takes cgo
-// and a C compiler, and no library or path. With the build tag rafendilo_installed the package links
-// what pkg-config calls rafendilo (`make install`) instead. That the library answers rightly is proved;
-// this package is written by hand and tested (checks/bindings).
+// and a C compiler, and no library or path. With the build tag rafendilo_installed the package
+// links what pkg-config calls rafendilo (`make install`) instead. That the library answers rightly
+// is proved; this package is written by hand and tested (checks/bindings).
 package rafendilo

@@ -18,10 +18,11 @@ type Draft struct {
 	Type CertificateType
 	// KeyID is a text for logs.
 	KeyID string
-	// Serial is a number of its own, and not 0: to OpenSSH that is none, and no KRL can name it.
+	// Serial is a number of its own, and not 0: to OpenSSH that is none, and no KRL can name
+	// it.
 	Serial uint64
-	// Principals are names. Where there are none, AllPrincipals has to say that the certificate is
-	// for everybody, and where there are some it may not.
+	// Principals are names. Where there are none, AllPrincipals has to say that the certificate
+	// is for everybody, and where there are some it may not.
 	Principals    []string
 	AllPrincipals bool
 	// ValidAfter is the first second of the window, and ValidBefore the first one after it, or
@@ -46,7 +47,7 @@ func (draft *Draft) CertificateFields() ([]byte, error) {
 	if err != nil {
 		return nil, err
 	}
-	return form(1024, func(to room, length *C.size_t) C.uint32_t {
+	return form(1024, func(to buffer, length *C.size_t) C.uint32_t {
 		return C.raf_certificate_to_be_signed(&asked, to.at, to.length, length)
 	})
 }
@@ -132,7 +133,7 @@ func listed(options map[string]string) ([]byte, error) {
 // Whether the signature is one of the authority is not asked here.
 func JoinCertificate(toBeSigned, signature []byte) ([]byte, error) {
 	in, by := inputOf(toBeSigned), inputOf(signature)
-	return form(len(in)+len(by)+4, func(to room, length *C.size_t) C.uint32_t {
+	return form(len(in)+len(by)+4, func(to buffer, length *C.size_t) C.uint32_t {
 		return C.raf_certificate_make(in.pointer(), in.length(), by.pointer(), by.length(),
 			to.at, to.length, length)
 	})

@@ -30,10 +30,10 @@ func nextLine(in input, place C.size_t) (part C.raf_part, isThere bool) {
 
 // entry is the entry that a call reads of a line, and its marker.
 func entry(
-	in input, call func(to room, answer *C.raf_entry) C.uint32_t,
+	in input, call func(to buffer, answer *C.raf_entry) C.uint32_t,
 ) (HostEntry, error) {
 	var answer C.raf_entry
-	data, err := written(len(in), &answer.length, func(to room) C.uint32_t {
+	data, err := written(len(in), &answer.length, func(to buffer) C.uint32_t {
 		return call(to, &answer)
 	})
 	if err != nil {
@@ -53,18 +53,18 @@ func entry(
 // It shows a line, and decides nothing: whom a text lets in, LogInByKeys says.
 func AuthorizedEntry(line string) (Entry, error) {
 	in := inputOf(line)
-	found, err := entry(in, func(to room, answer *C.raf_entry) C.uint32_t {
+	found, err := entry(in, func(to buffer, answer *C.raf_entry) C.uint32_t {
 		return C.raf_authorized_entry(in.pointer(), in.length(), to.at, to.length, answer)
 	})
 	return Entry{Options: found.Hosts, Key: found.Key, Comment: found.Comment}, err
 }
 
 // KnownHost gives the entry of a line of known_hosts, as ssh reads it. It fails with a Status where
-// the line is none, which may be a revocation, and with ErrMemory: to judge the key of a host, call
+// the line is none, which may be a revocation, and with ErrMemory: to check the key of a host, call
 // CheckHostKey.
 func KnownHost(line string) (HostEntry, error) {
 	in := inputOf(line)
-	return entry(in, func(to room, answer *C.raf_entry) C.uint32_t {
+	return entry(in, func(to buffer, answer *C.raf_entry) C.uint32_t {
 		return C.raf_known_host(in.pointer(), in.length(), to.at, to.length, answer)
 	})
 }
@@ -88,13 +88,13 @@ func LineOptions(text string) ([]LineOption, error) {
 	}
 }
 
-// ofOption is the bytes of a room for an option; a longer one is asked for again.
+// ofOption is the bytes of a buffer for an option; a longer one is asked for again.
 const ofOption = 256
 
 // nextEntryOption is the option at that place, and the place of the next one.
 func nextEntryOption(in input, place C.size_t) (LineOption, C.size_t, error) {
 	var answer C.raf_line_option_parts
-	data, err := written(ofOption, &answer.length, func(to room) C.uint32_t {
+	data, err := written(ofOption, &answer.length, func(to buffer) C.uint32_t {
 		return C.raf_next_line_option(in.pointer(), in.length(), place,
 			to.at, to.length, &answer)
 	})
@@ -108,10 +108,10 @@ func nextEntryOption(in input, place C.size_t) (LineOption, C.size_t, error) {
 	}, answer.next, nil
 }
 
-// LineMayNameKey tells whether sshd may take a line of authorized_keys for one of the key, given as its
-// blob, whatever it makes of the line's options: for a program that has sshd judge lines. Leave out
-// none but those for which it is false. It fails with a Status for bytes that are no key, and with
-// ErrMemory; then it is true.
+// LineMayNameKey tells whether sshd may take a line of authorized_keys for one of the key, given as
+// its blob, whatever it makes of the line's options: for a program that has sshd check lines. Leave
+// out none but those for which it is false. It fails with a Status for bytes that are no key, and
+// with ErrMemory; then it is true.
 func LineMayNameKey(line string, key []byte) (bool, error) {
 	in, of := inputOf(line), inputOf(key)
 	return mayBe(C.raf_line_may_name_key(in.pointer(), in.length(), of.pointer(), of.length()))

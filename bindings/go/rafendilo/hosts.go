@@ -10,15 +10,15 @@ type HostLogin struct {
 	// KnownHosts are the texts of all the files of known_hosts that count, the user's and the
 	// machine's.
 	KnownHosts []string
-	// Host is the name or the address as the user typed it, alone: net.SplitHostPort takes apart what
-	// a dialer has. An address is asked in the text that ssh asks.
+	// Host is the name or the address as the user typed it, alone: net.SplitHostPort takes
+	// apart what a dialer has. An address is asked in the text that ssh asks.
 	Host string
 	// Port is where it was asked.
 	Port uint16
 	// Now is the time at which a certificate has to be valid. Of a key it is not asked.
 	Now time.Time
-	// Revoked is what the files of ssh's RevokedHostKeys have, or NoRevocations. Without a file, or
-	// with one that was not read (nil), no host is trusted.
+	// Revoked is what the files of ssh's RevokedHostKeys have, or NoRevocations. Without a
+	// file, or with one that was not read (nil), no host is trusted.
 	Revoked [][]byte
 	// LeastRSABits is ssh's RequiredRSASize. Below 1,024, as 0, it is 1,024.
 	LeastRSABits uint32

@@ -8,12 +8,12 @@ import (
 	"math"
 )
 
-// question is what a call writes, which is given a room of that length at first.
+// question is what a call writes, which is given a buffer of that length at first.
 func question(
-	length int, call func(to room, answer *C.raf_question) C.uint32_t,
+	length int, call func(to buffer, answer *C.raf_question) C.uint32_t,
 ) (Question, error) {
 	var answer C.raf_question
-	data, err := written(length, &answer.length, func(to room) C.uint32_t {
+	data, err := written(length, &answer.length, func(to buffer) C.uint32_t {
 		return call(to, &answer)
 	})
 	if err != nil {
@@ -34,7 +34,7 @@ func question(
 func ReadLine(line string) (Line, error) {
 	var answer C.raf_line
 	in := inputOf(line)
-	data, err := written(len(in), &answer.length, func(to room) C.uint32_t {
+	data, err := written(len(in), &answer.length, func(to buffer) C.uint32_t {
 		return C.raf_read_line(in.pointer(), in.length(), to.at, to.length, &answer)
 	})
 	if err != nil {
@@ -91,7 +91,7 @@ func (digest SHA512) String() string {
 func SignatureQuestion(key, message, signature []byte) (Question, error) {
 	in, of, by := inputOf(key), inputOf(message), inputOf(signature)
 	length := len(in) + len(of) + len(by) + 256
-	return question(length, func(to room, answer *C.raf_question) C.uint32_t {
+	return question(length, func(to buffer, answer *C.raf_question) C.uint32_t {
 		return C.raf_signature_question(in.pointer(), in.length(), of.pointer(), of.length(),
 			by.pointer(), by.length(), to.at, to.length, answer)
 	})
@@ -103,7 +103,7 @@ func SignatureQuestion(key, message, signature []byte) (Question, error) {
 // their forms are. It fails with a Status for bytes that are none, and with ErrMemory.
 func NormalKey(key []byte) ([]byte, error) {
 	in := inputOf(key)
-	return form(len(in), func(to room, length *C.size_t) C.uint32_t {
+	return form(len(in), func(to buffer, length *C.size_t) C.uint32_t {
 		return C.raf_key_normal(in.pointer(), in.length(), to.at, to.length, length)
 	})
 }
@@ -112,7 +112,7 @@ func NormalKey(key []byte) ([]byte, error) {
 // NormalKey does.
 func NormalCertificate(certificate []byte) ([]byte, error) {
 	in := inputOf(certificate)
-	return form(len(in), func(to room, length *C.size_t) C.uint32_t {
+	return form(len(in), func(to buffer, length *C.size_t) C.uint32_t {
 		return C.raf_certificate_normal(in.pointer(), in.length(), to.at, to.length, length)
 	})
 }
@@ -121,7 +121,7 @@ func NormalCertificate(certificate []byte) ([]byte, error) {
 // NormalKey does.
 func NormalSSHSig(signature []byte) ([]byte, error) {
 	in := inputOf(signature)
-	return form(len(in), func(to room, length *C.size_t) C.uint32_t {
+	return form(len(in), func(to buffer, length *C.size_t) C.uint32_t {
 		return C.raf_sshsig_normal(in.pointer(), in.length(), to.at, to.length, length)
 	})
 }
@@ -130,7 +130,7 @@ func NormalSSHSig(signature []byte) ([]byte, error) {
 // bytes themselves. It fails with a Status for bytes that are none.
 func NormalSignature(signature []byte) ([]byte, error) {
 	in := inputOf(signature)
-	return form(len(in), func(to room, length *C.size_t) C.uint32_t {
+	return form(len(in), func(to buffer, length *C.size_t) C.uint32_t {
 		return C.raf_signature_normal(in.pointer(), in.length(), to.at, to.length, length)
 	})
 }

@@ -24,7 +24,7 @@ func init() {
 	}
 }
 
-// input is bytes as a call takes them: a copy, with a byte more of room, so that there is something
+// input is bytes as a call takes them: a copy, with a byte more, so that there is something
 // to point to where there are none.
 type input []byte
 
@@ -125,18 +125,18 @@ func have(status C.uint32_t) {
 	}
 }
 
-// room is where a call writes to.
-type room struct {
+// buffer is where a call writes to.
+type buffer struct {
 	at     *C.uint8_t
 	length C.size_t
 }
 
-// written is the room that a call has written to, which has that length at first and then the one
+// written is the buffer that a call has written to, which has that length at first and then the one
 // that the call says it needs: there its answer has that. It fails with what the call returns.
-func written(length int, needed *C.size_t, call func(to room) C.uint32_t) ([]byte, error) {
+func written(length int, needed *C.size_t, call func(to buffer) C.uint32_t) ([]byte, error) {
 	for {
 		data := make([]byte, length, length+1)
-		status := call(room{input(data).pointer(), C.size_t(length)})
+		status := call(buffer{input(data).pointer(), C.size_t(length)})
 		if status != C.RAF_SHORT_BUFFER || *needed <= C.size_t(length) {
 			return data, errorOf(status)
 		}
@@ -144,10 +144,10 @@ func written(length int, needed *C.size_t, call func(to room) C.uint32_t) ([]byt
 	}
 }
 
-// form is what a call writes to the front of a room, and nothing else.
-func form(length int, call func(to room, length *C.size_t) C.uint32_t) ([]byte, error) {
+// form is what a call writes to the front of a buffer, and nothing else.
+func form(length int, call func(to buffer, length *C.size_t) C.uint32_t) ([]byte, error) {
 	var answer C.size_t
-	data, err := written(length, &answer, func(to room) C.uint32_t { return call(to, &answer) })
+	data, err := written(length, &answer, func(to buffer) C.uint32_t { return call(to, &answer) })
 	if err != nil {
 		return nil, err
 	}

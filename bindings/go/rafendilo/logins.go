@@ -23,14 +23,14 @@ type Login struct {
 	Now time.Time
 	// Authorities are the fingerprints of the keys that may sign certificates of users.
 	Authorities []SHA256
-	// Revoked is what the files of sshd's RevokedKeys have, or NoRevocations. Without a file, or with
-	// one that was not read (nil), nobody is let in.
+	// Revoked is what the files of sshd's RevokedKeys have, or NoRevocations. Without a file,
+	// or with one that was not read (nil), nobody is let in.
 	Revoked [][]byte
 	// LeastRSABits is sshd's RequiredRSASize. Below 1,024, as 0, it is 1,024.
 	LeastRSABits uint32
-	// CallerChecksAddress says that the caller judges whether source-address has the client's address:
-	// then Client is not looked at. LogInByKeys and LogInByPrincipals always judge it, and then know
-	// no address.
+	// CallerChecksAddress says that the caller checks whether source-address has the client's
+	// address: then Client is not looked at. LogInByKeys and LogInByPrincipals always check it,
+	// and then know no address.
 	CallerChecksAddress bool
 	// Verify is IsSignature where it is nil.
 	Verify Verifier
@@ -50,8 +50,8 @@ const (
 	PermitX11Forwarding Permits = C.RAF_PERMIT_X11_FORWARDING
 	// PermitUserRC permits ~/.ssh/rc to run.
 	PermitUserRC Permits = C.RAF_PERMIT_USER_RC
-	// PermitAnyCommand permits what the client asks for, or a shell. Without it Grant.ForceCommand
-	// alone may run.
+	// PermitAnyCommand permits what the client asks for, or a shell. Without it
+	// Grant.ForceCommand alone may run.
 	PermitAnyCommand Permits = C.RAF_PERMIT_ANY_COMMAND
 	// PermitNoTouch permits a signature by a security key that nobody touched.
 	PermitNoTouch Permits = C.RAF_PERMIT_NO_TOUCH
@@ -59,10 +59,11 @@ const (
 	PermitNoVerification Permits = C.RAF_PERMIT_NO_VERIFICATION
 	// PermitTunnels permits tunnels (tun(4)). It and those below are in a UserGrant alone.
 	PermitTunnels Permits = C.RAF_PERMIT_TUNNELS
-	// PermitAnyTunnel permits whichever device of them. Without it UserGrant.Tunnel is the only one.
+	// PermitAnyTunnel permits whichever device of them. Without it UserGrant.Tunnel is the only
+	// one.
 	PermitAnyTunnel Permits = C.RAF_PERMIT_ANY_TUNNEL
-	// PermitOpenAnywhere permits ports, if they may be forwarded, to be so to anywhere. Without it
-	// UserGrant.PermitOpen has the only places.
+	// PermitOpenAnywhere permits ports, if they may be forwarded, to be so to anywhere. Without
+	// it UserGrant.PermitOpen has the only places.
 	PermitOpenAnywhere Permits = C.RAF_PERMIT_OPEN_ANYWHERE
 	// PermitListenAnywhere is the same of where may be listened, and of UserGrant.PermitListen.
 	PermitListenAnywhere Permits = C.RAF_PERMIT_LISTEN_ANYWHERE
@@ -100,7 +101,7 @@ func LogIn(login Login) (Grant, error) {
 	defer memory.free()
 	asked := login.held(&memory)
 	space := 2*len(login.Certificate) + 256
-	put, err := question(space, func(to room, answer *C.raf_question) C.uint32_t {
+	put, err := question(space, func(to buffer, answer *C.raf_question) C.uint32_t {
 		return C.raf_login_question(&asked, to.at, to.length, answer)
 	})
 	if err != nil {
@@ -111,14 +112,14 @@ func LogIn(login Login) (Grant, error) {
 
 func (login Login) held(memory *held) C.raf_login {
 	return C.raf_login{
-		certificate:    spanOf(memory, login.Certificate),
-		user:           spanOf(memory, login.User),
-		key:            spanOf(memory, login.Key),
-		client:         spanOf(memory, login.Client.AsSlice()),
-		authorities:    memory.digests(login.Authorities),
-		revoked:        filesOf(memory, login.Revoked),
-		unix_timestamp: C.uint64_t(SecondOf(login.Now)),
-		least_rsa_bits: C.uint32_t(login.LeastRSABits),
+		certificate:           spanOf(memory, login.Certificate),
+		user:                  spanOf(memory, login.User),
+		key:                   spanOf(memory, login.Key),
+		client:                spanOf(memory, login.Client.AsSlice()),
+		authorities:           memory.digests(login.Authorities),
+		revoked:               filesOf(memory, login.Revoked),
+		unix_timestamp:        C.uint64_t(SecondOf(login.Now)),
+		least_rsa_bits:        C.uint32_t(login.LeastRSABits),
 		caller_checks_address: numberOf(login.CallerChecksAddress),
 	}
 }
@@ -127,7 +128,7 @@ func (login Login) held(memory *held) C.raf_login {
 func grantOf(asked *C.raf_login, isVerified C.uint32_t) (Grant, error) {
 	var answer C.raf_grant
 	length := int(asked.certificate.length)
-	data, err := written(length, &answer.length, func(to room) C.uint32_t {
+	data, err := written(length, &answer.length, func(to buffer) C.uint32_t {
 		return C.raf_check_login(asked, isVerified, to.at, to.length, &answer)
 	})
 	if err != nil {

@@ -90,8 +90,8 @@ func TestLogInTurns(t *testing.T) {
 	same(t, "questions", asked, 1)
 }
 
-// A line lets in by the key alone, a line cert-authority by the certificate, and one that refuses is
-// told.
+// A line lets in by the key alone, a line cert-authority by the certificate, and one that refuses
+// is told.
 func TestLogInByKeys(t *testing.T) {
 	certified, own, by := user(t), read(t, "user.pub"), read(t, "authority.pub")
 	login := certified
@@ -117,7 +117,8 @@ func TestLogInByKeys(t *testing.T) {
 	same(t, "nobody", err, error(rafendilo.ErrLength))
 }
 
-// A line lets in by the certificate that lists its name, and the first for one that refuses ends it.
+// A line lets in by the certificate that lists its name, and the first for one that refuses ends
+// it.
 func TestLogInByPrincipals(t *testing.T) {
 	login := user(t)
 	grant, err := rafendilo.LogInByPrincipals(login, []byte("eve\nrestrict alice\n"), "")

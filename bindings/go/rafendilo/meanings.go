@@ -5,7 +5,7 @@ package rafendilo
 // meanings are the words for each number.
 var meanings = map[Status]string{
 	1:   "no memory",
-	2:   "the room is too short",
+	2:   "the buffer is too short",
 	3:   "nothing is left",
 	4:   "a name or a text that is given is not UTF-8",
 	10:  "not Base64",
@@ -21,7 +21,7 @@ var meanings = map[Status]string{
 	20:  "an empty namespace",
 	21:  "a public key that is not the private one's",
 	22:  "a version that is not read",
-	23:  "another fault",
+	23:  "another error",
 	24:  "signed by RSA with SHA-1",
 	30:  "not signed",
 	31:  "another authority",

@@ -130,7 +130,7 @@ func TestSecond(t *testing.T) {
 func TestStatus(t *testing.T) {
 	same(t, "name", rafendilo.ErrNotSigned.Name(), "NOT_SIGNED")
 	same(t, "words", rafendilo.ErrNotSigned.Error(), "not signed (30)")
-	same(t, "without words", rafendilo.Status(200).Error(), "an answer without words (200)")
+	same(t, "without words", rafendilo.Status(200).Error(), "a status without words (200)")
 }
 
 // What a call gives shares no bytes with what it was given, and appending to a part changes no

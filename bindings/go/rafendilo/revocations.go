@@ -28,9 +28,9 @@ func filesOf(memory *held, revoked [][]byte) C.raf_spans {
 }
 
 // CheckUnrevokedKey gives nil exactly if none of the files of sshd's RevokedKeys revokes the key,
-// given as its blob. It fails with ErrRevoked where one does, with ErrUnreadableRevocations where one
-// can't be read, as nil, and where there is none, with a Status for bytes that are no key, and with
-// ErrMemory.
+// given as its blob. It fails with ErrRevoked where one does, with ErrUnreadableRevocations where
+// one can't be read, as nil, and where there is none, with a Status for bytes that are no key, and
+// with ErrMemory.
 func CheckUnrevokedKey(revoked [][]byte, key []byte) error {
 	var memory held
 	defer memory.free()
@@ -49,10 +49,10 @@ func CheckUnrevokedCertificate(revoked [][]byte, certificate []byte) error {
 		in.pointer(), in.length()))
 }
 
-// CheckUnrevokedKeyByKRL gives nil exactly if a key revocation list (PROTOCOL.krl), as
-// `ssh-keygen -k` makes it, has neither the key, given as its blob, nor its digest by SHA-1 or
-// SHA-256. It fails with ErrRevoked where it has, with a Status for bytes that are no list (an empty
-// file is none, nor is a text of keys), or else no key, and with ErrMemory.
+// CheckUnrevokedKeyByKRL gives nil exactly if a key revocation list (PROTOCOL.krl), as `ssh-keygen
+// -k` makes it, has neither the key, given as its blob, nor its digest by SHA-1 or SHA-256. It
+// fails with ErrRevoked where it has, with a Status for bytes that are no list (an empty file is
+// none, nor is a text of keys), or else no key, and with ErrMemory.
 func CheckUnrevokedKeyByKRL(krl, key []byte) error {
 	list, in := inputOf(krl), inputOf(key)
 	return errorOf(C.raf_check_unrevoked_key_by_krl(list.pointer(), list.length(),

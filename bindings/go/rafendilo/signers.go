@@ -23,9 +23,9 @@ type Signers struct {
 
 // CheckSignerOfDigest gives nil exactly if the bytes, as they stand in the armour, are an SSH
 // signature, in that namespace and of a message with that digest, that counts as the identity's by
-// the allowed signers; else what is wrong first: as CheckSignerWithAnswer says, or SSHSigQuestionOfDigest.
-// The verifier is not asked about a key that may not sign. It fails with ErrMemory, which says
-// nothing of the signature.
+// the allowed signers; else what is wrong first: as CheckSignerWithAnswer says, or
+// SSHSigQuestionOfDigest. The verifier is not asked about a key that may not sign. It fails with
+// ErrMemory, which says nothing of the signature.
 func CheckSignerOfDigest(
 	signature []byte, namespace string, digest []byte, by Signers,
 ) error {
@@ -43,13 +43,13 @@ func CheckSignerOfDigest(
 	return verdict(1)
 }
 
-// CheckSignerWithAnswer gives nil exactly if an SSH signature counts as the identity's in that namespace,
-// by the allowed signers (docs/CALLING.md). isVerified is what a verifier said of the question of
-// this signature, in the namespace and of the message.
+// CheckSignerWithAnswer gives nil exactly if an SSH signature counts as the identity's in that
+// namespace, by the allowed signers (docs/CALLING.md). isVerified is what a verifier said of the
+// question of this signature, in the namespace and of the message.
 //
-// It fails with ErrNoIdentity, ErrSignerNotAllowed, ErrUnreadableRevocations, ErrRevoked or ErrNotSigned, the
-// first that holds. Ask with false first, and verify only where it fails with the last;
-// CheckSignerOfDigest does so. It fails with a Status for bytes that are no signature, with
+// It fails with ErrNoIdentity, ErrSignerNotAllowed, ErrUnreadableRevocations, ErrRevoked or
+// ErrNotSigned, the first that holds. Ask with false first, and verify only where it fails with the
+// last; CheckSignerOfDigest does so. It fails with a Status for bytes that are no signature, with
 // ErrText for a text that is not UTF-8, with ErrInvalidTime for a time before 1970, and with
 // ErrMemory.
 func CheckSignerWithAnswer(signature []byte, namespace string, by Signers, isVerified bool) error {

@@ -17,7 +17,7 @@ import (
 func SSHSigQuestion(signature []byte, namespace string, message []byte) (Question, SHA256, error) {
 	var signer SHA256
 	in, space, of := inputOf(signature), inputOf(namespace), inputOf(message)
-	asked, err := question(2*len(in)+256, func(to room, answer *C.raf_question) C.uint32_t {
+	asked, err := question(2*len(in)+256, func(to buffer, answer *C.raf_question) C.uint32_t {
 		return C.raf_sshsig_question(in.pointer(), in.length(), space.pointer(), space.length(),
 			of.pointer(), of.length(), to.at, to.length, answer, signer.pointer())
 	})
@@ -32,7 +32,7 @@ func SSHSigQuestionOfDigest(
 ) (Question, SHA256, error) {
 	var signer SHA256
 	in, space, of := inputOf(signature), inputOf(namespace), inputOf(digest)
-	asked, err := question(2*len(in)+256, func(to room, answer *C.raf_question) C.uint32_t {
+	asked, err := question(2*len(in)+256, func(to buffer, answer *C.raf_question) C.uint32_t {
 		return C.raf_sshsig_question_of_digest(in.pointer(), in.length(), space.pointer(),
 			space.length(), of.pointer(), of.length(), to.at, to.length, answer, signer.pointer())
 	})
@@ -42,8 +42,8 @@ func SSHSigQuestionOfDigest(
 // CheckSSHSig gives nil exactly if the bytes, as they stand in the armour, are an SSH signature
 // (`ssh-keygen -Y sign`) of the message in that namespace by one of the signers, which are the
 // fingerprints of the keys that may sign for that namespace; else what is wrong first: as
-// CheckSSHSigWithAnswer says, or, of a key that may sign, SSHSigQuestion. The verifier is not asked about
-// another signer's key. It fails with ErrMemory, which says nothing of the signature.
+// CheckSSHSigWithAnswer says, or, of a key that may sign, SSHSigQuestion. The verifier is not asked
+// about another signer's key. It fails with ErrMemory, which says nothing of the signature.
 func CheckSSHSig(
 	signature []byte, namespace string, message []byte, signers []SHA256, verify Verifier,
 ) error {
@@ -80,15 +80,17 @@ func checkSSHSig(
 	return CheckSSHSigWithAnswer(in, namespace, signers, true)
 }
 
-// CheckSSHSigWithAnswer gives nil exactly if an SSH signature counts in that namespace, where the keys with
-// these fingerprints may sign. isVerified is what a verifier said of the question of this signature,
-// in the namespace and of the message.
+// CheckSSHSigWithAnswer gives nil exactly if an SSH signature counts in that namespace, where the
+// keys with these fingerprints may sign. isVerified is what a verifier said of the question of this
+// signature, in the namespace and of the message.
 //
-// It fails with ErrSignerNotAllowed or ErrNotSigned, the first that holds; the last also for another
-// namespace, and for reserved bytes: ssh-keygen verifies such a signature as if these were empty.
-// Ask with false first, and verify only where it fails with the last; CheckSSHSig does so. It
-// fails with a Status for bytes that are no signature, and with ErrMemory.
-func CheckSSHSigWithAnswer(signature []byte, namespace string, signers []SHA256, isVerified bool) error {
+// It fails with ErrSignerNotAllowed or ErrNotSigned, the first that holds; the last also for
+// another namespace, and for reserved bytes: ssh-keygen verifies such a signature as if these were
+// empty. Ask with false first, and verify only where it fails with the last; CheckSSHSig does so.
+// It fails with a Status for bytes that are no signature, and with ErrMemory.
+func CheckSSHSigWithAnswer(
+	signature []byte, namespace string, signers []SHA256, isVerified bool,
+) error {
 	in, space, by := inputOf(signature), inputOf(namespace), digestsOf(signers)
 	return errorOf(C.raf_check_sshsig(in.pointer(), in.length(), space.pointer(),
 		space.length(), by.pointer(), by.count(), numberOf(isVerified)))

@@ -13,8 +13,8 @@ type Status uint32
 
 // What is no answer on what was given.
 const (
-	// ErrMemory is no refusal: the library was refused memory, nothing is said of what was given,
-	// and the call may be made again.
+	// ErrMemory is no refusal: the library was refused memory, nothing is said of what was
+	// given, and the call may be made again.
 	ErrMemory Status = C.RAF_MEMORY
 	// ErrText is for a principal, a line of authorized_keys or known_hosts, options, a text of
 	// known_hosts or a host's name that is not UTF-8. For such a line ReadLine fails with
@@ -22,17 +22,18 @@ const (
 	ErrText Status = C.RAF_TEXT
 )
 
-// The bytes are no certificate, key, signature or revocation list, or the line is none: a fault
-// that they have. For logs: lines with one fault may fail with different ones.
+// The bytes are no certificate, key, signature or revocation list, or the line is none: an error
+// that they have. For logs: lines with one error may fail with different ones.
 const (
 	// ErrBase64 is for a word of a line that is no Base64, or not the one of its bytes.
 	ErrBase64 Status = C.RAF_BASE64
-	// ErrCharacterEncoding is for a text that is not UTF-8, or has a character that no name has.
+	// ErrCharacterEncoding is for a text that is not UTF-8, or has a character that no name
+	// has.
 	ErrCharacterEncoding Status = C.RAF_CHARACTER_ENCODING
 	// ErrLabel is for a name that is none of those that may stand there.
 	ErrLabel Status = C.RAF_LABEL
-	// ErrLength is for a stated length that passes the bytes or is not the one wanted, for a word
-	// of a line that is missing, and for what is too long for a string.
+	// ErrLength is for a stated length that passes the bytes or is not the one wanted, for a
+	// word of a line that is missing, and for what is too long for a string.
 	ErrLength Status = C.RAF_LENGTH
 	// ErrTrailingData is for bytes after the end.
 	ErrTrailingData Status = C.RAF_TRAILING_DATA
@@ -50,11 +51,11 @@ const (
 	ErrTime Status = C.RAF_TIME
 	// ErrNamespace is for an empty namespace in an SSH signature.
 	ErrNamespace Status = C.RAF_NAMESPACE
-	// ErrUnsupportedVersion is for an SSH signature of a version above 1, and for a revocation list
-	// of another version than 1.
+	// ErrUnsupportedVersion is for an SSH signature of a version above 1, and for a revocation
+	// list of another version than 1.
 	ErrUnsupportedVersion Status = C.RAF_UNSUPPORTED_VERSION
-	// ErrRSASHA1 is for an RSA signature by SHA-1: the helpers in C tell it, while calls fail with
-	// ErrLength.
+	// ErrRSASHA1 is for an RSA signature by SHA-1: the helpers in C tell it, while calls fail
+	// with ErrLength.
 	ErrRSASHA1 Status = C.RAF_RSA_SHA1
 )
 
@@ -72,22 +73,23 @@ const (
 	ErrUnlistedPrincipal Status = C.RAF_UNLISTED_PRINCIPAL
 	// ErrUnsupported is for a key and a signature that do not go together.
 	ErrUnsupported Status = C.RAF_UNSUPPORTED
-	// ErrSignerNotAllowed is for an SSH signature whose key no line lets sign for the identity, in
-	// the namespace and at the time.
+	// ErrSignerNotAllowed is for an SSH signature whose key no line lets sign for the identity,
+	// in the namespace and at the time.
 	ErrSignerNotAllowed Status = C.RAF_SIGNER_NOT_ALLOWED
 	// ErrRevoked is for one whose key a revocation file revokes, and for such a certificate.
 	ErrRevoked Status = C.RAF_REVOKED
 	// ErrElsewhere is for a client's address that is none of those that are allowed.
 	ErrElsewhere Status = C.RAF_ELSEWHERE
-	// ErrUnreadableRevocations is for a revocation file that can't be read, and so revokes all, and
-	// where there is none.
+	// ErrUnreadableRevocations is for a revocation file that can't be read, and so revokes all,
+	// and where there is none.
 	ErrUnreadableRevocations Status = C.RAF_UNREADABLE_REVOCATIONS
 	// ErrKeyNotAccepted is for a kind or a size of key that OpenSSH does not let in.
 	ErrKeyNotAccepted Status = C.RAF_KEY_NOT_ACCEPTED
-	// ErrLaterKey is for a line with a key of a later kind, which signs nothing that is read. No call
-	// here fails with it: Authorities passes over such lines.
+	// ErrLaterKey is for a line with a key of a later kind, which signs nothing that is read.
+	// No call here fails with it: Authorities passes over such lines.
 	ErrLaterKey Status = C.RAF_LATER_KEY
-	// ErrUnsafeMode is for a file that is another's, or that others may write: IsSafeMode denies it.
+	// ErrUnsafeMode is for a file that is another's, or that others may write: IsSafeMode
+	// denies it.
 	ErrUnsafeMode Status = C.RAF_UNSAFE_MODE
 	// ErrOtherNamespace is for an SSH signature that is for another namespace.
 	ErrOtherNamespace Status = C.RAF_OTHER_NAMESPACE
@@ -96,23 +98,23 @@ const (
 // A certificate lets nobody in, whoever signed it: the first of these, with ErrKeyNotAccepted after
 // ErrOtherKey.
 const (
-	// ErrNotNormalForm is for bytes that are not the certificate's normal form, and so not those that
-	// were signed.
+	// ErrNotNormalForm is for bytes that are not the certificate's normal form, and so not
+	// those that were signed.
 	ErrNotNormalForm Status = C.RAF_NOT_NORMAL_FORM
 	// ErrOtherType is for one of a host where a user shows it, or of a user where a host does.
 	ErrOtherType Status = C.RAF_OTHER_TYPE
 	// ErrOtherKey is for one of another key than the client's.
 	ErrOtherKey Status = C.RAF_OTHER_KEY
-	// ErrCriticalOptions is for one with a critical option that is not known, or whose value sshd does
-	// not read.
+	// ErrCriticalOptions is for one with a critical option that is not known, or whose value
+	// sshd does not read.
 	ErrCriticalOptions Status = C.RAF_CRITICAL_OPTIONS
-	// ErrExtensions is for one with data in an extension that is a flag, or with a zero byte in the
-	// name of an extension.
+	// ErrExtensions is for one with data in an extension that is a flag, or with a zero byte in
+	// the name of an extension.
 	ErrExtensions Status = C.RAF_EXTENSIONS
 	// ErrKeyID is for one with a zero byte in its key id.
 	ErrKeyID Status = C.RAF_KEY_ID
-	// ErrValidPrincipals is for one that lists no principal, more than 256 or one with a zero byte,
-	// and for a user without a name.
+	// ErrValidPrincipals is for one that lists no principal, more than 256 or one with a zero
+	// byte, and for a user without a name.
 	ErrValidPrincipals Status = C.RAF_VALID_PRINCIPALS
 )
 
@@ -129,16 +131,16 @@ const (
 	ErrUnverified Status = C.RAF_UNVERIFIED
 )
 
-// Nobody is let in by authorized_keys, of which all but the last let another file be asked about, or
-// by a file of principals, of which the first alone does.
+// Nobody is let in by authorized_keys, of which all but the last let another file be asked about,
+// or by a file of principals, of which the first alone does.
 const (
-	// ErrUserNotListed is for a text without a line for the key, for the certificate's authority or for
-	// a principal of it.
+	// ErrUserNotListed is for a text without a line for the key, for the certificate's
+	// authority or for a principal of it.
 	ErrUserNotListed Status = C.RAF_USER_NOT_LISTED
 	// ErrLineExpired is for a line whose expiry-time is over.
 	ErrLineExpired Status = C.RAF_LINE_EXPIRED
-	// ErrLineOption is for a line that has principals, and no cert-authority; of a file of principals,
-	// for one that has either.
+	// ErrLineOption is for a line that has principals, and no cert-authority; of a file of
+	// principals, for one that has either.
 	ErrLineOption Status = C.RAF_LINE_OPTION
 	// ErrLineElsewhere is for a line whose from is for other places.
 	ErrLineElsewhere Status = C.RAF_LINE_ELSEWHERE
@@ -146,13 +148,15 @@ const (
 	ErrLineCommand Status = C.RAF_LINE_COMMAND
 	// ErrLinePrincipals is for a line that lets in nobody whom the certificate lists.
 	ErrLinePrincipals Status = C.RAF_LINE_PRINCIPALS
-	// ErrLineUnclear is for a line that may let in: sshd may take it, so no other one may count.
+	// ErrLineUnclear is for a line that may let in: sshd may take it, so no other one may
+	// count.
 	ErrLineUnclear Status = C.RAF_LINE_UNCLEAR
 )
 
 // A draft of a certificate contradicts itself.
 const (
-	// ErrPrincipals is for a draft that lists none and does not say so, or says so and lists some.
+	// ErrPrincipals is for a draft that lists none and does not say so, or says so and lists
+	// some.
 	ErrPrincipals Status = C.RAF_PRINCIPALS
 	// ErrEmptyWindow is for a window that has no second.
 	ErrEmptyWindow Status = C.RAF_EMPTY_WINDOW
@@ -183,7 +187,7 @@ const (
 	ErrNoIdentity Status = C.RAF_NO_IDENTITY
 )
 
-// Name is the name of the number in include/rafendilo.h, without RAF_: NOT_SIGNED, for example.
+// Name is the name of the status in include/rafendilo.h, without RAF_: NOT_SIGNED, for example.
 func (status Status) Name() string {
 	return C.GoString(C.raf_status_name(C.uint32_t(status)))
 }
@@ -192,7 +196,7 @@ func (status Status) Name() string {
 func (status Status) Error() string {
 	words, isKnown := meanings[status]
 	if !isKnown { // none that a call of this version gives
-		words = "an answer without words"
+		words = "a status without words"
 	}
 	return fmt.Sprintf("%s (%d)", words, uint32(status))
 }

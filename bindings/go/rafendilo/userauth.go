@@ -6,8 +6,8 @@ import "C"
 // Userauth is a client's request to log in by a public key, with its signature (RFC 4252, section
 // 7).
 type Userauth struct {
-	// SessionID is the session's identifier (RFC 4253, section 7.2): the server's own, and nothing
-	// that the client sent.
+	// SessionID is the session's identifier (RFC 4253, section 7.2): the server's own, and
+	// nothing that the client sent.
 	SessionID []byte
 	// User is the name that the client asks for.
 	User string
@@ -15,14 +15,15 @@ type Userauth struct {
 	Algorithm string
 	// PublicKey is the blob of the key or of the certificate in the request.
 	PublicKey []byte
-	// HostKey is the blob of the server's own host key, and nothing that the client sent, where the
-	// method is publickey-hostbound-v00@openssh.com; nil where it is publickey.
+	// HostKey is the blob of the server's own host key, and nothing that the client sent, where
+	// the method is publickey-hostbound-v00@openssh.com; nil where it is publickey.
 	HostKey []byte
 	// Signature is the blob of the client's signature.
 	Signature []byte
 	// Permits is that of the grant.
 	Permits Permits
-	// Signed is the signed bytes, where the server has them: else they are made of the fields above.
+	// Signed is the signed bytes, where the server has them: else they are made of the fields
+	// above.
 	Signed []byte
 	// Verify is IsSignature where it is nil.
 	Verify Verifier
@@ -45,7 +46,7 @@ func UserauthQuestion(request Userauth) (Question, error) {
 	defer memory.free()
 	asked, signed := request.held(&memory), inputOf(request.Signed)
 	length := 2*len(request.PublicKey) + len(request.Signature) + len(signed) + 512
-	return question(length, func(to room, answer *C.raf_question) C.uint32_t {
+	return question(length, func(to buffer, answer *C.raf_question) C.uint32_t {
 		if request.Signed == nil {
 			return C.raf_userauth_question(&asked, to.at, to.length, answer)
 		}
@@ -70,11 +71,11 @@ func (request Userauth) held(memory *held) C.raf_userauth {
 	return asked
 }
 
-// CheckGrantFlags gives nil unless the key, given as its blob, is a security key that nobody touched
-// (ErrUntouched) or that did not verify its user (ErrUnverified), as its signature says, and the
-// grant wants that. It is for servers whose SSH library has verified the signature; CheckUserauth
-// asks it itself. It fails with a Status for bytes that are no key or no signature, and with
-// ErrMemory.
+// CheckGrantFlags gives nil unless the key, given as its blob, is a security key that nobody
+// touched (ErrUntouched) or that did not verify its user (ErrUnverified), as its signature says,
+// and the grant wants that. It is for servers whose SSH library has verified the signature;
+// CheckUserauth asks it itself. It fails with a Status for bytes that are no key or no signature,
+// and with ErrMemory.
 func CheckGrantFlags(permits Permits, key, signature []byte) error {
 	in, by := inputOf(key), inputOf(signature)
 	return errorOf(C.raf_check_grant_flags(C.uint32_t(permits), in.pointer(), in.length(),

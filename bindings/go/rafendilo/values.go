@@ -16,8 +16,8 @@ type Algorithm uint32
 const (
 	// DSA is with SHA-1. Key: p, q, g, y; signature: r and s, unsigned, 20 bytes each.
 	DSA Algorithm = C.RAF_ASK_DSA
-	// P256 is ECDSA with SHA-256. Key: the curve's name and the point as in SEC 1; signature: two
-	// strings, r and s.
+	// P256 is ECDSA with SHA-256. Key: the curve's name and the point as in SEC 1; signature:
+	// two strings, r and s.
 	P256 Algorithm = C.RAF_ASK_P256
 	// P384 is ECDSA with SHA-384, likewise.
 	P384 Algorithm = C.RAF_ASK_P384
@@ -104,7 +104,8 @@ type Contents struct {
 	KeyID string
 	// Principals is empty for a certificate that is for everybody.
 	Principals []string
-	// CriticalOptions and Extensions have values by names; the value of one that has none is empty.
+	// CriticalOptions and Extensions have values by names; the value of one that has none is
+	// empty.
 	CriticalOptions, Extensions map[string]string
 	// Key is the blob of the key that is certified, and Authority that of the one that signed.
 	Key, Authority []byte

@@ -1,4 +1,4 @@
-"""What each number that a call returns is, whichever it is."""
+"""What each status that a call returns is, whichever it is."""
 from __future__ import annotations
 
 import enum
@@ -6,7 +6,7 @@ from typing import NoReturn
 
 
 class Answer(enum.IntEnum):
-    """A number that a call returns. Compare it with Status.DONE: it is no truth value, and where one is wanted it raises
+    """A status that a call returns. Compare it with Status.DONE: it is no truth value, and where one is wanted it raises
     TypeError."""
 
     def __bool__(self) -> NoReturn:

@@ -17,7 +17,7 @@ def certificate_question(certificate: BytesLike) -> Question:
     """What has to be verified of a certificate, given as its blob. Raises Refused where the bytes are none, or where key and
     signature do not go together, and MemoryError."""
     given = bytes_of(certificate)
-    return question_of(lambda *room: LIBRARY.raf_certificate_question(*given, *room), 2 * given[1] + 256)
+    return question_of(lambda *buffer: LIBRARY.raf_certificate_question(*given, *buffer), 2 * given[1] + 256)
 
 
 def is_certified(certificate: bytes, verifier: Verifier) -> bool:
@@ -103,7 +103,7 @@ def certificate_contents(certificate: BytesLike) -> Contents:
     )
     return Contents(
         key_id.decode(), tuple(it.decode() for it in strings(principals)), MappingProxyType(options(critical_options)),
-        MappingProxyType(options(extensions)), written(lambda *room: LIBRARY.raf_certificate_key(*given, *room), given[1]),
+        MappingProxyType(options(extensions)), written(lambda *buffer: LIBRARY.raf_certificate_key(*given, *buffer), given[1]),
         authority,
     )  # fmt: skip
 
@@ -168,7 +168,7 @@ def certificate_to_be_signed(
         certificate_type=number_of(certificate_type, 32), all_principals=principals is ALL_PRINCIPALS,
     )  # fmt: skip
     given = ctypes.byref(draft)
-    return written(lambda *room: LIBRARY.raf_certificate_to_be_signed(given, *room), 1024)
+    return written(lambda *buffer: LIBRARY.raf_certificate_to_be_signed(given, *buffer), 1024)
 
 
 def join_certificate(to_be_signed: BytesLike, signature: BytesLike) -> bytes:
@@ -176,7 +176,7 @@ def join_certificate(to_be_signed: BytesLike, signature: BytesLike) -> bytes:
     that is none, and MemoryError. Whether the signature is one of the authority is not asked here: certificate_question asks
     it."""
     given = (*bytes_of(to_be_signed), *bytes_of(signature))
-    return written(lambda *room: LIBRARY.raf_certificate_make(*given, *room), given[1] + given[3] + 4)
+    return written(lambda *buffer: LIBRARY.raf_certificate_make(*given, *buffer), given[1] + given[3] + 4)
 
 
 def make_certificate(

@@ -9,7 +9,7 @@ from ._header import Entry, LineOptionParts, Marker, Part, Status
 from ._library import LIBRARY, ask, bytes_of, done, number_of, parts_of
 from ._values import AuthorizedEntry, BytesLike, KnownHost, Refused
 
-# the bytes of a room for an option; a longer one is asked for again
+# the bytes of a buffer for an option; a longer one is asked for again
 OF_OPTION = 256
 
 
@@ -28,8 +28,8 @@ def entry_lines(text: BytesLike) -> list[bytes]:
 def _entry(call: Callable[..., int], line: BytesLike) -> tuple[int, tuple[bytes, ...]]:
     """The marker and the parts of the entry that a call reads."""
     given, answer = bytes_of(line), Entry()
-    room = ask(lambda *room: call(*given, *room), answer, given[1])
-    return answer.marker, parts_of(room, answer.front, answer.key, answer.comment)
+    buffer = ask(lambda *buffer: call(*given, *buffer), answer, given[1])
+    return answer.marker, parts_of(buffer, answer.front, answer.key, answer.comment)
 
 
 def authorized_entry(line: BytesLike) -> AuthorizedEntry:
@@ -41,7 +41,7 @@ def authorized_entry(line: BytesLike) -> AuthorizedEntry:
 
 def known_host(line: BytesLike) -> KnownHost:
     """The entry of a line of known_hosts, as ssh reads it. Raises Refused where the line is none, which may be a revocation, and
-    MemoryError: to judge the key of a host, ask check_host_key about the whole text."""
+    MemoryError: to check the key of a host, ask check_host_key about the whole text."""
     marker, parts = _entry(LIBRARY.raf_known_host, line)
     return KnownHost(Marker(marker), *parts)
 
@@ -55,18 +55,18 @@ def line_options(text: BytesLike) -> list[tuple[bytes, bytes | None]]:
     given, answer = bytes_of(text), LineOptionParts()
     while True:
         try:
-            room = ask(partial(LIBRARY.raf_next_line_option, *given, answer.next), answer, OF_OPTION)
+            buffer = ask(partial(LIBRARY.raf_next_line_option, *given, answer.next), answer, OF_OPTION)
         except Refused as refused:
             if refused.status == Status.END:
                 return found
             raise
-        name, value = parts_of(room, answer.name, answer.value)
+        name, value = parts_of(buffer, answer.name, answer.value)
         found.append((name, value if answer.has_value else None))
 
 
 def line_may_name_key(line: BytesLike, key: BytesLike) -> bool:
     """Whether sshd may take a line of authorized_keys for one of the key, given as its blob, whatever it makes of the line's options:
-    for a program that has sshd judge lines. Leave out none but those for which it is False. Raises Refused where the bytes are no
+    for a program that has sshd check lines. Leave out none but those for which it is False. Raises Refused where the bytes are no
     key, and MemoryError."""
     return _may_be(LIBRARY.raf_line_may_name_key(*bytes_of(line), *bytes_of(key)))
 

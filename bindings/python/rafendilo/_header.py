@@ -10,7 +10,7 @@ from typing import Any
 
 from ._answer import Answer
 
-# What raf_abi answers where the library has the structs, the calls and the numbers below.
+# What raf_abi answers where the library has the structs, the calls and the statuses below.
 ABI = 2
 # The end of a window that has none.
 FOREVER = 18446744073709551615
@@ -27,7 +27,7 @@ class Status(Answer):
     DONE = 0
     # Malloc refused; nothing is said of the input, and nothing is kept: the call may be made again.
     MEMORY = 1
-    # The room is too short; `length` says how many bytes are needed.
+    # The buffer is too short; `length` says how many bytes are needed.
     SHORT_BUFFER = 2
     # Nothing is left: the place is the end, or there is no such line or option.
     END = 3
@@ -57,7 +57,7 @@ class Status(Answer):
     TIME = 19
     # An empty namespace in the SSH signature.
     NAMESPACE = 20
-    # Never returned: a fault of private keys.
+    # Never returned: an error of private keys.
     PUBLIC_KEY = 21
     # An SSH signature of a version above 1, or a revocation list of another version than 1.
     UNSUPPORTED_VERSION = 22
@@ -218,7 +218,7 @@ class Marker(IntEnum):
 WORDS = {
     Status.DONE: "valid",
     Status.MEMORY: "no memory",
-    Status.SHORT_BUFFER: "the room is too short",
+    Status.SHORT_BUFFER: "the buffer is too short",
     Status.END: "nothing is left",
     Status.TEXT: "a name or a text that is given is not UTF-8",
     Status.BASE64: "not Base64",
@@ -234,7 +234,7 @@ WORDS = {
     Status.NAMESPACE: "an empty namespace",
     Status.PUBLIC_KEY: "a public key that is not the private one's",
     Status.UNSUPPORTED_VERSION: "a version that is not read",
-    Status.OTHER_ERROR: "another fault",
+    Status.OTHER_ERROR: "another error",
     Status.RSA_SHA1: "signed by RSA with SHA-1",
     Status.NOT_SIGNED: "not signed",
     Status.UNTRUSTED_AUTHORITY: "another authority",

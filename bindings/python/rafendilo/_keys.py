@@ -14,18 +14,18 @@ SSHSIG_FRONT = 10
 
 
 def question_of(call: Callable[..., int], length: int) -> Question:
-    """The question that a call writes, which is given a room of that length at first."""
+    """The question that a call writes, which is given a buffer of that length at first."""
     answer = _header.Question()
-    room = ask(call, answer, length)
-    return Question(Algorithm(answer.algorithm), *parts_of(room, answer.key, answer.message, answer.signature))
+    buffer = ask(call, answer, length)
+    return Question(Algorithm(answer.algorithm), *parts_of(buffer, answer.key, answer.message, answer.signature))
 
 
 def read_line(line: str | BytesLike) -> Line:
     """What stands in a line of a file of public keys or of certificates. Raises Refused where it is a line of neither, and
     MemoryError."""
     given, answer = text_of(line), _header.Line()
-    room = ask(lambda *room: LIBRARY.raf_read_line(*given, *room), answer, given[1])
-    blob, comment = parts_of(room, answer.blob, answer.comment)
+    buffer = ask(lambda *buffer: LIBRARY.raf_read_line(*given, *buffer), answer, given[1])
+    blob, comment = parts_of(buffer, answer.blob, answer.comment)
     return Line(blob, comment.decode(), answer.kind == LineKind.CERTIFICATE)
 
 
@@ -42,9 +42,9 @@ def fingerprint(key: BytesLike) -> bytes:
 
 def fingerprint_text(digest: BytesLike) -> str:
     """The text of a SHA-256 fingerprint, as ssh-keygen shows it. Raises ValueError where the digest has not 32 bytes."""
-    room = (ctypes.c_uint8 * FINGERPRINT_TEXT)()
-    done(LIBRARY.raf_fingerprint_text(digests_of([digest])[0], room, len(room)))
-    return bytes(room).decode("ascii")
+    buffer = (ctypes.c_uint8 * FINGERPRINT_TEXT)()
+    done(LIBRARY.raf_fingerprint_text(digests_of([digest])[0], buffer, len(buffer)))
+    return bytes(buffer).decode("ascii")
 
 
 def fingerprint_sha512(key: BytesLike) -> bytes:
@@ -60,9 +60,9 @@ def fingerprint_sha512_text(digest: BytesLike) -> str:
     given, length = bytes_of(digest)
     if length != 64:
         raise ValueError("a SHA-512 fingerprint has 64 bytes")
-    room = (ctypes.c_uint8 * FINGERPRINT_SHA512_TEXT)()
-    done(LIBRARY.raf_fingerprint_sha512_text(_header.Sha512((ctypes.c_uint8 * 64)(*given)), room, len(room)))
-    return bytes(room).decode("ascii")
+    buffer = (ctypes.c_uint8 * FINGERPRINT_SHA512_TEXT)()
+    done(LIBRARY.raf_fingerprint_sha512_text(_header.Sha512((ctypes.c_uint8 * 64)(*given)), buffer, len(buffer)))
+    return bytes(buffer).decode("ascii")
 
 
 # ---- signatures
@@ -82,7 +82,7 @@ def signature_question(key: BytesLike, message: BytesLike, signature: BytesLike)
     """What has to be verified of a signature of the message under a key, both given as their blobs (RFC 4253, section 6.6): as
     an agent gives it, or a client at a login. Raises Refused where they are none or do not go together, and MemoryError."""
     given = (*bytes_of(key), *bytes_of(message), *bytes_of(signature))
-    return question_of(lambda *room: LIBRARY.raf_signature_question(*given, *room), sum(given[1::2]) + 256)
+    return question_of(lambda *buffer: LIBRARY.raf_signature_question(*given, *buffer), sum(given[1::2]) + 256)
 
 
 def sshsig_question(
@@ -106,7 +106,7 @@ def _sshsig_question(
     call: Callable[..., int], signature: BytesLike, namespace: str | BytesLike, covered: BytesLike
 ) -> tuple[Question, bytes]:  # fmt: skip
     given, signer = (*bytes_of(signature), *text_of(namespace), *bytes_of(covered)), _header.Sha256()
-    question = question_of(lambda *room: call(*given, *room, ctypes.byref(signer)), sum(given[1::2]) + 256)
+    question = question_of(lambda *buffer: call(*given, *buffer, ctypes.byref(signer)), sum(given[1::2]) + 256)
     return question, bytes(signer.bytes)
 
 
@@ -133,7 +133,7 @@ def _sshsig_fields(signature: BytesLike) -> list[bytes]:
 def _normal(call: Callable[..., int], value: BytesLike) -> bytes:
     """What a call writes of the bytes, which is never longer than they are."""
     given = bytes_of(value)
-    return written(lambda *room: call(*given, *room), given[1])
+    return written(lambda *buffer: call(*given, *buffer), given[1])
 
 
 def normal_key(key: BytesLike) -> bytes:

@@ -1,4 +1,4 @@
-"""The library as ctypes has it, and how a call is given bytes and a room."""
+"""The library as ctypes has it, and how a call is given bytes and a buffer."""
 from __future__ import annotations
 
 import ctypes
@@ -106,21 +106,21 @@ def done(status: int) -> None:
 
 
 def ask(call: Callable[..., int], answer: Any, length: int) -> bytes:
-    """What a call has written to the front of a room, which is given one of that length, or of the length that it says is needed, and
+    """What a call has written to the front of a buffer, which is given one of that length, or of the length that it says is needed, and
     the answer. Raises unless it is done."""
     while True:
-        room = (ctypes.c_uint8 * max(length, 1))()
-        status = call(room, length, ctypes.byref(answer))
+        buffer = (ctypes.c_uint8 * max(length, 1))()
+        status = call(buffer, length, ctypes.byref(answer))
         needed = answer.value if isinstance(answer, ctypes.c_size_t) else answer.length
         if status != Status.SHORT_BUFFER or needed <= length:
             break
         length = needed
     done(status)
-    return ctypes.string_at(room, needed)
+    return ctypes.string_at(buffer, needed)
 
 
 def written(call: Callable[..., int], length: int) -> bytes:
-    """The bytes that a call writes to the front of a room, which has that length at first."""
+    """The bytes that a call writes to the front of a buffer, which has that length at first."""
     answer = ctypes.c_size_t()
     return ask(call, answer, length)
 

@@ -15,7 +15,7 @@ from ._library import LIBRARY, ask, bytes_of, digests_of, number_of, parts_of, s
 from ._values import BytesLike, Refused
 from ._verify import Verifier, decided, is_signature
 
-# the bytes of a room for what a login is bound to; a longer one is asked for again
+# the bytes of a buffer for what a login is bound to; a longer one is asked for again
 OF_GRANT = 4096
 
 
@@ -31,8 +31,8 @@ class Login:
     revoked: Iterable[BytesLike]  # what the files of sshd's RevokedKeys have, or NO_REVOCATIONS; without a file nobody is let in
     client: Address | None = None  # that of its socket; without one, a certificate with a source-address is refused
     least_rsa_bits: int = 0  # sshd's RequiredRSASize; below 1,024, as 0, it is 1,024
-    # True where you judge yourself whether source-address has the client's: client is not looked at. log_in_by_keys and
-    # log_in_by_principals always judge it, and then know no address
+    # True where you check yourself whether source-address has the client's: client is not looked at. log_in_by_keys and
+    # log_in_by_principals always check it, and then know no address
     caller_checks_address: bool = False
 
 
@@ -58,10 +58,10 @@ def log_in(login: Login, verifier: Verifier = is_signature) -> Grant:
     nobody is let in. To keep to the grant is yours."""
     given, length = bytes_of(login.certificate)
     asked = _header_of(login, given)
-    question = question_of(lambda *room: LIBRARY.raf_login_question(ctypes.byref(asked), *room), 2 * length + 256)
+    question = question_of(lambda *buffer: LIBRARY.raf_login_question(ctypes.byref(asked), *buffer), 2 * length + 256)
     is_verified, answer = verifier(question) is True, _header.Grant()
-    room = ask(lambda *room: LIBRARY.raf_check_login(ctypes.byref(asked), is_verified, *room), answer, length)
-    return _grant_of(answer, room)
+    buffer = ask(lambda *buffer: LIBRARY.raf_check_login(ctypes.byref(asked), is_verified, *buffer), answer, length)
+    return _grant_of(answer, buffer)
 
 
 def _header_of(login: Login, certificate: bytes) -> _header.Login:
@@ -74,8 +74,8 @@ def _header_of(login: Login, certificate: bytes) -> _header.Login:
     )  # fmt: skip
 
 
-def _grant_of(answer: _header.Grant, room: bytes) -> Grant:
-    command, key_id = (it.decode() for it in parts_of(room, answer.force_command, answer.key_id))
+def _grant_of(answer: _header.Grant, buffer: bytes) -> Grant:
+    command, key_id = (it.decode() for it in parts_of(buffer, answer.force_command, answer.key_id))
     permits = Permits(answer.permits)
     return Grant(permits, None if Permits.ANY_COMMAND in permits else command, answer.serial, key_id, bytes(answer.authority.bytes))
 
@@ -109,7 +109,7 @@ def log_in_by_keys(login: Login, text: BytesLike, host: str | BytesLike = "", ve
     login's authorities are not looked at. A verifier is asked about a certificate alone. The text need not be UTF-8: a line that is
     not ends it with LINE_UNCLEAR where it may be for the key.
 
-    Raises Refused, whose `line` is that of a line that refuses; then, for a number from USER_NOT_LISTED to LINE_PRINCIPALS, ask about
+    Raises Refused, whose `line` is that of a line that refuses; then, for a status from USER_NOT_LISTED to LINE_PRINCIPALS, ask about
     the next file, and for every other one about none. Else raises as log_in does."""
     return _log_in_by(LIBRARY.raf_check_user_keys, login, text, host, verifier)
 
@@ -129,8 +129,8 @@ def _log_in_by(verdict_by: Any, login: Login, text: BytesLike, host: str | Bytes
     def verdict(is_verified: bool) -> UserGrant:
         answer = _Answer()
 
-        def call(*room: Any) -> int:
-            return int(verdict_by(ctypes.byref(asked), given, length, *name, is_verified, *room))
+        def call(*buffer: Any) -> int:
+            return int(verdict_by(ctypes.byref(asked), given, length, *name, is_verified, *buffer))
 
         try:
             return _user_grant_of(answer, ask(call, answer, OF_GRANT))
@@ -140,9 +140,9 @@ def _log_in_by(verdict_by: Any, login: Login, text: BytesLike, host: str | Bytes
     return decided(verdict, lambda: is_certified(certificate, verifier))
 
 
-def _user_grant_of(answer: _Answer, room: bytes) -> UserGrant:
-    grant, permits = _grant_of(answer.grant, room), Permits(answer.grant.permits)
-    to_open, to_listen, environment = map(strings, parts_of(room, answer.permit_open, answer.permit_listen, answer.environment))
+def _user_grant_of(answer: _Answer, buffer: bytes) -> UserGrant:
+    grant, permits = _grant_of(answer.grant, buffer), Permits(answer.grant.permits)
+    to_open, to_listen, environment = map(strings, parts_of(buffer, answer.permit_open, answer.permit_listen, answer.environment))
     expires = answer.expires.first, answer.expires.last
     return UserGrant(
         **vars(grant), line=answer.line, environment=[it.decode() for it in environment],

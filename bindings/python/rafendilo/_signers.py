@@ -73,7 +73,7 @@ def check_sshsig(
     the keys that you trust for it. Else raises Refused: as check_sshsig_with_answer answers, or, of a key that may sign, as sshsig_question
     does. The verifier is not asked about another signer's key."""
     given, _ = bytes_of(signature)
-    _judge(given, namespace, signers, lambda: verifier(sshsig_question(given, namespace, message)[0]) is True)
+    _check(given, namespace, signers, lambda: verifier(sshsig_question(given, namespace, message)[0]) is True)
 
 
 def check_sshsig_of_digest(
@@ -81,8 +81,8 @@ def check_sshsig_of_digest(
 ) -> None:  # fmt: skip
     """The same of a message with that digest, by the hash that sshsig_hash names."""
     given, _ = bytes_of(signature)
-    _judge(given, namespace, signers, lambda: verifier(sshsig_question_of_digest(given, namespace, digest)[0]) is True)
+    _check(given, namespace, signers, lambda: verifier(sshsig_question_of_digest(given, namespace, digest)[0]) is True)
 
 
-def _judge(signature: bytes, namespace: str | BytesLike, signers: Collection[bytes], is_verified: Callable[[], bool]) -> None:
+def _check(signature: bytes, namespace: str | BytesLike, signers: Collection[bytes], is_verified: Callable[[], bool]) -> None:
     decided(lambda yes: done(check_sshsig_with_answer(signature, namespace, signers, yes)), is_verified)

@@ -46,9 +46,9 @@ def userauth_question(request: Userauth) -> Question:
     )  # fmt: skip
     given = ctypes.byref(asked)
     if request.signed is None:
-        return question_of(lambda *room: LIBRARY.raf_userauth_question(given, *room), 1024)
+        return question_of(lambda *buffer: LIBRARY.raf_userauth_question(given, *buffer), 1024)
     signed = bytes_of(request.signed)
-    return question_of(lambda *room: LIBRARY.raf_userauth_question_of(given, *signed, *room), 1024)
+    return question_of(lambda *buffer: LIBRARY.raf_userauth_question_of(given, *signed, *buffer), 1024)
 
 
 def check_grant_flags(permits: Permits, key: BytesLike, signature: BytesLike) -> None:

@@ -45,8 +45,8 @@ fn of_file(path: &Path, fault: impl fmt::Display) -> Untold {
     format!("{}: {fault}", path.display()).into()
 }
 
-/// The fingerprints of the keys in a file; of a line with a later kind of key it says that it passes
-/// over it. Fails where the file can't be read, and where a line is no key.
+/// The fingerprints of the keys in a file; of a line with a later kind of key it says that it
+/// passes over it. Fails where the file can't be read, and where a line is no key.
 fn fingerprints(path: &Path) -> Result<Vec<Sha256>, Untold> {
     let text = fs::read(path).map_err(|fault| of_file(path, fault))?;
     let found = rafendilo::authorities(&text).map_err(|fault| no_key(path, fault))?;
@@ -144,11 +144,11 @@ fn say(output: &mut impl Write, answer: Result<(), Status>) -> Result<bool, Unto
 
 /// Says of each line of the input what the function does of its certificate, and returns whether
 /// all are valid. Fails where there is no line.
-fn say_of_lines(judge: impl Fn(&[u8]) -> Result<(), Status>) -> Result<bool, Untold> {
+fn say_of_lines(check: impl Fn(&[u8]) -> Result<(), Status>) -> Result<bool, Untold> {
     let (mut input, mut output) = (io::stdin().lock(), io::stdout().lock());
     let (mut line, mut are_valid, mut is_empty) = (Vec::new(), true, true);
     while input.read_until(b'\n', &mut line)? > 0 {
-        let said = read(&line).and_then(|it| judge(&it));
+        let said = read(&line).and_then(|it| check(&it));
         are_valid &= say(&mut output, said)?;
         is_empty = false;
         line.clear();

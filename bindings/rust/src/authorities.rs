@@ -33,8 +33,8 @@ pub fn authorities(text: &[u8]) -> Result<Authorities, NoKey> {
 }
 
 /// The authorities that may sign for the user, by a text that says which may for whom: in its lines
-/// names of users, with commas between, stand before a key. Lines without the user's name are passed
-/// over, whatever follows. Fails as [`authorities`] does.
+/// names of users, with commas between, stand before a key. Lines without the user's name are
+/// passed over, whatever follows. Fails as [`authorities`] does.
 pub fn user_authorities(text: &[u8], user: &[u8]) -> Result<Authorities, NoKey> {
     read(text, |line, answer| raw::raf_user_authority(line, user, answer))
 }

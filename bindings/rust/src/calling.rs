@@ -48,8 +48,8 @@ pub(crate) fn expect_abi() {
     });
 }
 
-/// The calls of rafendilo.h as functions that are safe: of a slice C gets the pointer and the length,
-/// and a reference as a pointer. In brackets stands what each does first.
+/// The calls of rafendilo.h as functions that are safe: of a slice C gets the pointer and the
+/// length, and a reference as a pointer. In brackets stands what each does first.
 macro_rules! calls {
     (
         @ $first:tt $call:ident [$($rust:tt)*] [$($c:tt)*] [$($got:tt)*]

@@ -49,13 +49,13 @@ impl<'a> From<&'a str> for Principal<'a> {
     }
 }
 
-/// What has to be verified of a certificate, given as its blob. Fails with a number from 10 to 29
+/// What has to be verified of a certificate, given as its blob. Fails with a status from 10 to 29
 /// where the bytes are none, with [`Status::UNSUPPORTED`] where key and signature do not go
 /// together, and with [`Status::MEMORY`].
 pub fn certificate_question(certificate: &[u8]) -> Result<Question, Status> {
     let enough = certificate.len().saturating_mul(2).saturating_add(256);
-    Question::of_call(enough, |room, answer| {
-        raw::raf_certificate_question(certificate, room, answer)
+    Question::of_call(enough, |buffer, answer| {
+        raw::raf_certificate_question(certificate, buffer, answer)
     })
 }
 
@@ -64,7 +64,7 @@ pub fn certificate_question(certificate: &[u8]) -> Result<Question, Status> {
 /// your verification said of the question of this very certificate, and false where it raised none.
 /// [`check_certificate`] asks both at once.
 ///
-/// Fails with a number from 10 to 29 where the bytes are no certificate, with what is wrong first,
+/// Fails with a status from 10 to 29 where the bytes are no certificate, with what is wrong first,
 /// from [`Status::NOT_SIGNED`] to [`Status::UNLISTED_PRINCIPAL`], with [`Status::TEXT`] for a
 /// principal that is not UTF-8, and with [`Status::MEMORY`]. Whether it is one for users, lists
 /// anybody at all, what its options ask, and whether it is revoked is not asked here.
@@ -86,10 +86,10 @@ pub fn check_certificate_with_answer(
 }
 
 /// The two calls in one: [`certificate_question`], which `verify` answers with your cryptography,
-/// and [`check_certificate_with_answer`] of the same bytes, which are lent meanwhile, so that nobody changes
-/// them. Fails as the latter does, but first with [`Status::UNTRUSTED_AUTHORITY`] for each
-/// certificate of another authority, whose key may be one that the client made up: `verify` is not
-/// asked about it.
+/// and [`check_certificate_with_answer`] of the same bytes, which are lent meanwhile, so that
+/// nobody changes them. Fails as the latter does, but first with [`Status::UNTRUSTED_AUTHORITY`]
+/// for each certificate of another authority, whose key may be one that the client made up:
+/// `verify` is not asked about it.
 ///
 /// A login asks more of a certificate, [`log_in`](crate::log_in), and so does a host,
 /// [`check_host_certificate`](crate::check_host_certificate).
@@ -108,7 +108,7 @@ pub fn check_certificate(
     }
 }
 
-/// Whether the certificate raises a question, to which the verifier says yes. Fails with a number
+/// Whether the certificate raises a question, to which the verifier says yes. Fails with a status
 /// from 10 to 29 where the bytes are none, and with [`Status::MEMORY`].
 pub(crate) fn is_verified(
     certificate: &[u8],
@@ -138,7 +138,7 @@ pub struct CertificateFields {
     pub has_critical_options: bool,
 }
 
-/// The fields of a certificate, valid or not. Fails with a number from 10 to 29 where the bytes
+/// The fields of a certificate, valid or not. Fails with a status from 10 to 29 where the bytes
 /// are none.
 pub fn certificate_fields(certificate: &[u8]) -> Result<CertificateFields, Status> {
     let mut found = raw::Fields::default();
@@ -168,7 +168,7 @@ pub struct CertificateContents<'a> {
     pub authority: &'a [u8],
 }
 
-/// What a certificate lists, valid or not. Fails with a number from 10 to 29 where the bytes are
+/// What a certificate lists, valid or not. Fails with a status from 10 to 29 where the bytes are
 /// none. No item of its iterators fails.
 pub fn certificate_contents(certificate: &[u8]) -> Result<CertificateContents<'_>, Status> {
     let mut found = raw::Parts::default();
@@ -182,7 +182,7 @@ pub fn certificate_contents(certificate: &[u8]) -> Result<CertificateContents<'_
     })
 }
 
-/// The blob of the key that is certified, in its normal form. Fails with a number from 10 to 29
+/// The blob of the key that is certified, in its normal form. Fails with a status from 10 to 29
 /// where the bytes are no certificate, and with [`Status::MEMORY`].
 pub fn certificate_key(certificate: &[u8]) -> Result<Vec<u8>, Status> {
     written_of(raw::raf_certificate_key, certificate)

@@ -21,7 +21,7 @@ pub struct Sha512 {
     pub bytes: [u8; 64],
 }
 
-/// The SHA-256 fingerprint of a key, given as its blob. Fails with a number from 10 to 29 where
+/// The SHA-256 fingerprint of a key, given as its blob. Fails with a status from 10 to 29 where
 /// the bytes are no key, and with [`Status::MEMORY`].
 pub fn fingerprint(key: &[u8]) -> Result<Sha256, Status> {
     let mut digest = Sha256::default();
@@ -36,22 +36,22 @@ pub fn fingerprint_sha512(key: &[u8]) -> Result<Sha512, Status> {
     Ok(digest)
 }
 
-/// Writes the text that the call has written to the room, which is ASCII.
-fn show(answer: u32, room: &[u8], formatter: &mut fmt::Formatter<'_>) -> fmt::Result {
+/// Writes the text that the call has written to the buffer, which is ASCII.
+fn show(answer: u32, buffer: &[u8], formatter: &mut fmt::Formatter<'_>) -> fmt::Result {
     Status::of(answer).map_err(|_| fmt::Error)?;
-    formatter.pad(std::str::from_utf8(room).map_err(|_| fmt::Error)?)
+    formatter.pad(std::str::from_utf8(buffer).map_err(|_| fmt::Error)?)
 }
 
 impl fmt::Display for Sha256 {
     fn fmt(&self, formatter: &mut fmt::Formatter<'_>) -> fmt::Result {
-        let mut room = [0; raw::FINGERPRINT_TEXT];
-        show(raw::raf_fingerprint_text(self, &mut room), &room, formatter)
+        let mut buffer = [0; raw::FINGERPRINT_TEXT];
+        show(raw::raf_fingerprint_text(self, &mut buffer), &buffer, formatter)
     }
 }
 
 impl fmt::Display for Sha512 {
     fn fmt(&self, formatter: &mut fmt::Formatter<'_>) -> fmt::Result {
-        let mut room = [0; raw::FINGERPRINT_SHA512_TEXT];
-        show(raw::raf_fingerprint_sha512_text(self, &mut room), &room, formatter)
+        let mut buffer = [0; raw::FINGERPRINT_SHA512_TEXT];
+        show(raw::raf_fingerprint_sha512_text(self, &mut buffer), &buffer, formatter)
     }
 }

@@ -1,12 +1,12 @@
 //! How a certificate is made: two calls, with the signature between them.
 
+use crate::buffers::written;
 use crate::certificates::CertificateType;
 use crate::raw;
-use crate::rooms::written;
 use crate::status::Status;
 use crate::strings::string;
 
-/// Of how many bytes the room is that a draft gets at first.
+/// Of how many bytes the buffer is that a draft gets at first.
 const ROOM: usize = 1024;
 
 /// Whom a certificate that is made is for.
@@ -126,16 +126,16 @@ pub fn certificate_to_be_signed(draft: &Draft<'_>) -> Result<Vec<u8>, Status> {
         certificate_type: draft.certificate_type as u32,
         all_principals: u32::from(matches!(draft.principals, Listed::Everybody)),
     };
-    written(ROOM, |room, length| raw::raf_certificate_to_be_signed(&given, room, length))
+    written(ROOM, |buffer, length| raw::raf_certificate_to_be_signed(&given, buffer, length))
 }
 
 /// The certificate that the signature's blob (RFC 4253, section 6.6) makes of the bytes that were
-/// signed. Fails with a number from 10 to 29 where that is none, and with [`Status::MEMORY`].
+/// signed. Fails with a status from 10 to 29 where that is none, and with [`Status::MEMORY`].
 /// Whether the signature is one of the authority is not asked here.
 pub fn join_certificate(to_be_signed: &[u8], signature: &[u8]) -> Result<Vec<u8>, Status> {
     let enough = to_be_signed.len().saturating_add(signature.len()).saturating_add(4);
-    written(enough, |room, length| {
-        raw::raf_certificate_make(to_be_signed, signature, room, length)
+    written(enough, |buffer, length| {
+        raw::raf_certificate_make(to_be_signed, signature, buffer, length)
     })
 }
 

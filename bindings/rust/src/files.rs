@@ -2,8 +2,8 @@
 
 use std::iter::FusedIterator;
 
+use crate::buffers::ask;
 use crate::raw;
-use crate::rooms::ask;
 use crate::status::Status;
 
 /// The lines of a text that may be entries, lent of it.
@@ -50,19 +50,19 @@ pub struct AuthorizedEntry {
     pub comment: Vec<u8>,
 }
 
-/// The entry of a line of authorized_keys, as sshd reads it. Fails with a number from 10 to 29
+/// The entry of a line of authorized_keys, as sshd reads it. Fails with a status from 10 to 29
 /// where the line is none, with [`Status::TEXT`] where it is not UTF-8, and with
 /// [`Status::MEMORY`].
 ///
-/// It shows a line, and decides nothing: whom a text lets in, [`log_in_by_keys`](crate::log_in_by_keys)
-/// says.
+/// It shows a line, and decides nothing: whom a text lets in,
+/// [`log_in_by_keys`](crate::log_in_by_keys) says.
 pub fn authorized_entry(line: &[u8]) -> Result<AuthorizedEntry, Status> {
-    let (room, found) =
-        ask(line.len(), |room, answer| raw::raf_authorized_entry(line, room, answer))?;
+    let (buffer, found) =
+        ask(line.len(), |buffer, answer| raw::raf_authorized_entry(line, buffer, answer))?;
     Ok(AuthorizedEntry {
-        options: found.front.of(&room).to_vec(),
-        key: found.key.of(&room).to_vec(),
-        comment: found.comment.of(&room).to_vec(),
+        options: found.front.of(&buffer).to_vec(),
+        key: found.key.of(&buffer).to_vec(),
+        comment: found.comment.of(&buffer).to_vec(),
     })
 }
 
@@ -92,17 +92,18 @@ pub struct KnownHost {
 }
 
 /// The entry of a line of known_hosts, as ssh reads it. Fails as [`authorized_entry`] does, also
-/// where the line may be a revocation: [`check_host_key`](crate::check_host_key) judges the key of
+/// where the line may be a revocation: [`check_host_key`](crate::check_host_key) checks the key of
 /// a host by whole texts.
 pub fn known_host(line: &[u8]) -> Result<KnownHost, Status> {
-    let (room, found) = ask(line.len(), |room, answer| raw::raf_known_host(line, room, answer))?;
+    let (buffer, found) =
+        ask(line.len(), |buffer, answer| raw::raf_known_host(line, buffer, answer))?;
     let markers = [Marker::None, Marker::CertAuthority, Marker::Revoked];
     let marker = markers.iter().copied().find(|it| *it as u32 == found.marker);
     Ok(KnownHost {
         marker: marker.ok_or(Status::OTHER_ERROR)?,
-        hosts: found.front.of(&room).to_vec(),
-        key: found.key.of(&room).to_vec(),
-        comment: found.comment.of(&room).to_vec(),
+        hosts: found.front.of(&buffer).to_vec(),
+        key: found.key.of(&buffer).to_vec(),
+        comment: found.comment.of(&buffer).to_vec(),
     })
 }
 
@@ -115,7 +116,7 @@ pub struct LineOption {
     pub value: Option<Vec<u8>>,
 }
 
-/// The bytes of a room for an option; a longer one is asked for again.
+/// The bytes of a buffer for an option; a longer one is asked for again.
 const OF_OPTION: usize = 256;
 
 /// The options of an entry of authorized_keys. Fails with [`Status::FORMAT`] where the text is no
@@ -127,23 +128,23 @@ pub fn line_options(text: &[u8]) -> Result<Vec<LineOption>, Status> {
     let (mut options, mut place) = (Vec::new(), 0);
     loop {
         let asked =
-            ask(OF_OPTION, |room, answer| raw::raf_next_line_option(text, place, room, answer));
-        let (room, found) = match asked {
+            ask(OF_OPTION, |buffer, answer| raw::raf_next_line_option(text, place, buffer, answer));
+        let (buffer, found) = match asked {
             Ok(it) => it,
             Err(Status::END) => return Ok(options),
             Err(status) => return Err(status),
         };
-        let value = found.value.of(&room);
-        let name = found.name.of(&room).to_vec();
+        let value = found.value.of(&buffer);
+        let name = found.name.of(&buffer).to_vec();
         options.push(LineOption { name, value: (found.has_value != 0).then(|| value.to_vec()) });
         place = found.next;
     }
 }
 
-/// Whether sshd may take a line of authorized_keys for one of the key, given as its blob, whatever it
-/// makes of the line's options: for a program that has sshd judge lines. Leave out none but those
-/// for which it is `Ok(false)`. Fails with a number from 10 to 29 where the bytes are no key, and
-/// with [`Status::MEMORY`].
+/// Whether sshd may take a line of authorized_keys for one of the key, given as its blob, whatever
+/// it makes of the line's options: for a program that has sshd check lines. Leave out none but
+/// those for which it is `Ok(false)`. Fails with a status from 10 to 29 where the bytes are no key,
+/// and with [`Status::MEMORY`].
 pub fn line_may_name_key(line: &[u8], key: &[u8]) -> Result<bool, Status> {
     may_be(raw::raf_line_may_name_key(line, key))
 }

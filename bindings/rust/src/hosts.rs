@@ -1,9 +1,9 @@
 //! Whether the key or the certificate that a host shows is the host's, by known_hosts.
 
+use crate::buffers::spans;
 use crate::certificates::is_verified;
 use crate::questions::{decide, Question};
 use crate::raw;
-use crate::rooms::spans;
 use crate::status::Status;
 
 /// A host that shows a key or a certificate, and what is known of it.
@@ -11,8 +11,8 @@ use crate::status::Status;
 pub struct HostLogin<'a> {
     /// The texts of all the files of known_hosts that count, the user's and the machine's.
     pub known_hosts: &'a [&'a [u8]],
-    /// The name or the address as the user typed it, without brackets, in UTF-8. An address is asked
-    /// in the text that ssh(1) asks.
+    /// The name or the address as the user typed it, without brackets, in UTF-8. An address is
+    /// asked in the text that ssh(1) asks.
     pub host: &'a [u8],
     /// Where it was asked; not 0.
     pub port: u16,
@@ -28,7 +28,7 @@ pub struct HostLogin<'a> {
 /// Accepts the key, given as its blob, if it is one that the host is known by, as ssh(1) does or
 /// more strictly.
 ///
-/// Fails with a number from 10 to 29 where the bytes are no key, and else with what is wrong first:
+/// Fails with a status from 10 to 29 where the bytes are no key, and else with what is wrong first:
 /// [`Status::NO_PORT`], [`Status::NO_HOST`], [`Status::NO_ADDRESS`],
 /// [`Status::UNREADABLE_REVOCATIONS`], [`Status::HOST_REVOKED`], [`Status::HOST_UNREADABLE`],
 /// [`Status::HOST_CHANGED`], [`Status::HOST_UNKNOWN`] or [`Status::KEY_NOT_ACCEPTED`]; with
@@ -44,7 +44,7 @@ pub fn check_host_key(login: &HostLogin<'_>, key: &[u8]) -> Result<(), Status> {
 /// known_hosts names for the host, valid then, and not revoked. `verify` is your cryptography; it
 /// is asked once, and only where nothing else is wrong.
 ///
-/// Fails with a number from 10 to 29 where the bytes are no certificate, and else with what is
+/// Fails with a status from 10 to 29 where the bytes are no certificate, and else with what is
 /// wrong first: [`Status::NOT_NORMAL_FORM`]; as [`check_host_key`] does, never with
 /// [`Status::HOST_CHANGED`]; with [`Status::OTHER_TYPE`], [`Status::CRITICAL_OPTIONS`],
 /// [`Status::KEY_ID`] or [`Status::VALID_PRINCIPALS`]; with 32 to 34, and with

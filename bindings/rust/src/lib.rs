@@ -55,12 +55,13 @@
 //! the input; where Rust itself gets no memory for a copy, the process ends. What is lent of the
 //! input stands in it, and nothing is kept of it. Calls from several threads at once are fine; make
 //! none from a signal handler, or from the forked child of a process with threads. What no call
-//! answers, as is proved, would be a panic: a part that lies outside its bytes, and a fault of
+//! answers, as is proved, would be a panic: a part that lies outside its bytes, and an error of
 //! [`entry_lines`]. So is the first call of a library that has another ABI.
 #![deny(missing_docs)]
 
 mod addresses;
 mod authorities;
+mod buffers;
 mod calling;
 mod certificates;
 mod digests;
@@ -76,7 +77,6 @@ mod permits;
 mod questions;
 mod raw;
 mod revocations;
-mod rooms;
 mod signers;
 mod sshsigs;
 mod status;

@@ -152,7 +152,8 @@ struct Made<T> {
 
 impl<T> Drop for Made<T> {
     fn drop(&mut self) {
-        // SAFETY: libcrypto has made it to be freed so, null may be freed too, and nobody else has it
+        // SAFETY: libcrypto has made it to be freed so, null may be freed too, and nobody else has
+        // it
         unsafe { (self.free)(self.it) }
     }
 }

@@ -3,12 +3,12 @@
 use std::net::IpAddr;
 
 use crate::addresses::octets;
+use crate::buffers::{ask, spans};
 use crate::certificates::text;
 use crate::digests::Sha256;
 use crate::permits::Permits;
 use crate::questions::Question;
 use crate::raw;
-use crate::rooms::{ask, spans};
 use crate::status::Status;
 
 /// A login by a certificate.
@@ -34,9 +34,9 @@ pub struct Login<'a> {
     pub revoked: &'a [&'a [u8]],
     /// How many bits an RSA key has at least (`RequiredRSASize`). Below 1,024, as 0, it is 1,024.
     pub least_rsa_bits: u32,
-    /// Whether the caller judges itself if `source-address` has the client's address: then `client`
+    /// Whether the caller checks itself if `source-address` has the client's address: then `client`
     /// is not looked at. [`log_in_by_keys`](crate::log_in_by_keys) and
-    /// [`log_in_by_principals`](crate::log_in_by_principals) always judge it, and then know no
+    /// [`log_in_by_principals`](crate::log_in_by_principals) always check it, and then know no
     /// address.
     pub caller_checks_address: bool,
 }
@@ -62,7 +62,7 @@ pub struct Grant {
 /// is one for users, of that key and by an authority, valid then and there, and not revoked.
 /// `verify` is your cryptography; it is asked once, and only where nothing else is wrong.
 ///
-/// Fails with the first of these: [`Status::TEXT`]; a number from 10 to 29 where the key's bytes
+/// Fails with the first of these: [`Status::TEXT`]; a status from 10 to 29 where the key's bytes
 /// are no key, or else the certificate's are none; 70 to 76, with [`Status::KEY_NOT_ACCEPTED`]
 /// after 72; [`Status::UNTRUSTED_AUTHORITY`]; [`Status::UNREADABLE_REVOCATIONS`] or
 /// [`Status::REVOKED`]; [`Status::NOT_SIGNED`] where `verify` says no; 32 to 34, and
@@ -73,14 +73,14 @@ pub struct Grant {
 pub fn log_in(login: &Login<'_>, verify: impl FnOnce(&Question) -> bool) -> Result<Grant, Status> {
     with_raw(login, |asked| {
         let enough = login.certificate.len().saturating_mul(2).saturating_add(256);
-        let question = Question::of_call(enough, |room, answer| {
-            raw::raf_login_question(asked, room, answer)
+        let question = Question::of_call(enough, |buffer, answer| {
+            raw::raf_login_question(asked, buffer, answer)
         })?;
         let is_verified = u32::from(verify(&question));
-        let (room, found) = ask(login.certificate.len(), |room, answer| {
-            raw::raf_check_login(asked, is_verified, room, answer)
+        let (buffer, found) = ask(login.certificate.len(), |buffer, answer| {
+            raw::raf_check_login(asked, is_verified, buffer, answer)
         })?;
-        grant_in(&room, &found)
+        grant_in(&buffer, &found)
     })
 }
 
@@ -100,15 +100,15 @@ pub(crate) fn with_raw<T>(login: &Login<'_>, say: impl FnOnce(&raw::Login<'_>) -
     })
 }
 
-/// The grant that a verdict has written to that room.
-pub(crate) fn grant_in(room: &[u8], found: &raw::Grant) -> Result<Grant, Status> {
+/// The grant that a verdict has written to that buffer.
+pub(crate) fn grant_in(buffer: &[u8], found: &raw::Grant) -> Result<Grant, Status> {
     let permits = Permits::from_bits(found.permits);
-    let command = text(found.force_command.of(room))?;
+    let command = text(found.force_command.of(buffer))?;
     Ok(Grant {
         force_command: (!permits.contains(Permits::ANY_COMMAND)).then(|| command.into()),
         permits,
         serial: found.serial,
-        key_id: text(found.key_id.of(room))?.into(),
+        key_id: text(found.key_id.of(buffer))?.into(),
         authority: found.authority,
     })
 }

@@ -1,7 +1,7 @@
 //! What has to be verified.
 
+use crate::buffers::ask;
 use crate::raw;
-use crate::rooms::ask;
 use crate::status::Status;
 
 /// How a signature is made. The key's blob is strings ([`strings`](crate::strings()) goes over
@@ -42,20 +42,20 @@ impl Algorithm {
 #[derive(Clone, Debug)]
 pub struct Question {
     algorithm: Algorithm,
-    room: Vec<u8>,
+    buffer: Vec<u8>,
     answer: raw::Question,
 }
 
 impl Question {
-    /// The question that a call writes, which is given a room of that length. Fails as [`ask`]
+    /// The question that a call writes, which is given a buffer of that length. Fails as [`ask`]
     /// does, and with [`Status::UNSUPPORTED`] for an algorithm that has no name here.
     pub(crate) fn of_call(
         length: usize,
         call: impl FnMut(&mut [u8], &mut raw::Question) -> u32,
     ) -> Result<Question, Status> {
-        let (room, answer) = ask(length, call)?;
+        let (buffer, answer) = ask(length, call)?;
         let algorithm = Algorithm::of(answer.algorithm).ok_or(Status::UNSUPPORTED)?;
-        Ok(Question { algorithm, room, answer })
+        Ok(Question { algorithm, buffer, answer })
     }
 
     /// How the signature is made.
@@ -67,19 +67,19 @@ impl Question {
     /// The key's blob.
     #[must_use]
     pub fn key(&self) -> &[u8] {
-        self.answer.key.of(&self.room)
+        self.answer.key.of(&self.buffer)
     }
 
     /// What is signed.
     #[must_use]
     pub fn message(&self) -> &[u8] {
-        self.answer.message.of(&self.room)
+        self.answer.message.of(&self.buffer)
     }
 
     /// The signature.
     #[must_use]
     pub fn signature(&self) -> &[u8] {
-        self.answer.signature.of(&self.room)
+        self.answer.signature.of(&self.buffer)
     }
 
     /// Fails with [`Status::NOT_SIGNED`] where the verifier says no.

@@ -9,7 +9,7 @@ use crate::calling::{calls, expect_abi, Slice};
 use crate::digests::{Sha256, Sha512};
 use crate::status::{statuses, Status};
 
-/// What raf_abi answers where the library has the structs, the calls and the numbers below.
+/// What raf_abi answers where the library has the structs, the calls and the statuses below.
 pub const ABI: u32 = 2;
 
 /// The end of a window that has none.
@@ -104,8 +104,8 @@ statuses! {
     /// Malloc refused; nothing is said of the input, and nothing is kept: the call may be made
     /// again.
     MEMORY = 1, "no memory";
-    /// The room is too short; `length` says how many bytes are needed.
-    SHORT_BUFFER = 2, "the room is too short";
+    /// The buffer is too short; `length` says how many bytes are needed.
+    SHORT_BUFFER = 2, "the buffer is too short";
     /// Nothing is left: the place is the end, or there is no such line or option.
     END = 3, "nothing is left";
     /// The principal is not UTF-8, or a line of authorized_keys or known_hosts, options, a text of
@@ -135,12 +135,12 @@ statuses! {
     TIME = 19, "a time above 2^63 - 1";
     /// An empty namespace in the SSH signature.
     NAMESPACE = 20, "an empty namespace";
-    /// Never returned: a fault of private keys.
+    /// Never returned: an error of private keys.
     PUBLIC_KEY = 21, "a public key that is not the private one's";
     /// An SSH signature of a version above 1, or a revocation list of another version than 1.
     UNSUPPORTED_VERSION = 22, "a version that is not read";
     /// Never returned.
-    OTHER_ERROR = 23, "another fault";
+    OTHER_ERROR = 23, "another error";
     /// An RSA signature by SHA-1, which no call reads: to them it is RAF_LENGTH. raf_read_line_blob
     /// of helpers/ tells it.
     RSA_SHA1 = 24, "signed by RSA with SHA-1";
@@ -240,7 +240,7 @@ pub(crate) type Span<'a> = Slice<'a, u8>;
 /// Byte strings that a call reads: `count` of them, at no null pointer.
 pub(crate) type Spans<'a> = Slice<'a, Span<'a>>;
 
-/// A part of a room, or of other bytes: where it begins, and how many bytes it has.
+/// A part of a buffer, or of other bytes: where it begins, and how many bytes it has.
 #[repr(C)]
 #[derive(Clone, Copy, Debug, Default)]
 pub(crate) struct Part {
@@ -264,7 +264,7 @@ pub(crate) struct Question {
     pub message: Part,
     /// As the algorithm has it.
     pub signature: Part,
-    /// How many bytes of the room these take.
+    /// How many bytes of the buffer these take.
     pub length: usize,
     /// RAF_ASK_*.
     pub algorithm: u32,
@@ -277,7 +277,7 @@ pub(crate) struct Question {
 pub(crate) struct Line {
     pub blob: Part,
     pub comment: Part,
-    /// How many bytes of the room these take.
+    /// How many bytes of the buffer these take.
     pub length: usize,
     /// RAF_LINE_*.
     pub kind: u32,
@@ -379,7 +379,7 @@ pub(crate) struct Login<'a> {
     pub unix_timestamp: u64,
     /// As RequiredRSASize; below 1,024, as 0, it is 1,024.
     pub least_rsa_bits: u32,
-    /// 1: you judge yourself whether source-address, which no grant tells, has the client's, and
+    /// 1: you check yourself whether source-address, which no grant tells, has the client's, and
     /// `client` is not looked at: so does sshd with a certificate whose principals a program tells
     /// it, and before 9.4 it tells that program no address.
     pub caller_checks_address: u32,
@@ -393,7 +393,7 @@ pub(crate) struct Grant {
     pub force_command: Part,
     /// A text, for logs.
     pub key_id: Part,
-    /// How many bytes of the room these take.
+    /// How many bytes of the buffer these take.
     pub length: usize,
     /// The certificate's.
     pub serial: u64,
@@ -425,7 +425,7 @@ pub(crate) struct Userauth<'a> {
     pub permits: u32,
 }
 
-/// An entry of a line: where its parts stand in the room.
+/// An entry of a line: where its parts stand in the buffer.
 #[repr(C)]
 #[derive(Clone, Copy, Debug, Default)]
 pub(crate) struct Entry {
@@ -435,13 +435,13 @@ pub(crate) struct Entry {
     pub key: Part,
     /// All that follows.
     pub comment: Part,
-    /// How many bytes of the room these take.
+    /// How many bytes of the buffer these take.
     pub length: usize,
     /// RAF_MARKER_*; of authorized_keys always RAF_MARKER_NONE.
     pub marker: u32,
 }
 
-/// An option of an entry: where its parts stand in the room.
+/// An option of an entry: where its parts stand in the buffer.
 #[repr(C)]
 #[derive(Clone, Copy, Debug, Default)]
 pub(crate) struct LineOptionParts {
@@ -449,7 +449,7 @@ pub(crate) struct LineOptionParts {
     pub name: Part,
     /// Without its quotes, and without each backslash before a quote.
     pub value: Part,
-    /// How many bytes of the room these take.
+    /// How many bytes of the buffer these take.
     pub length: usize,
     /// The place of the next option.
     pub next: usize,
@@ -541,13 +541,13 @@ calls! {
 
 calls! {
     [expect_abi();]
-    fn raf_read_line(line: &[u8], room: &mut [u8], answer: &mut Line);
+    fn raf_read_line(line: &[u8], buffer: &mut [u8], answer: &mut Line);
     fn raf_is_later_key_line(line: &[u8]);
     fn raf_authority(line: &[u8], answer: &mut Sha256);
     fn raf_user_authority(line: &[u8], user: &[u8], answer: &mut Sha256);
     fn raf_may_verify(key: &[u8]);
     fn raf_check_safe_mode(owner: u64, user: u64, mode: u32);
-    fn raf_certificate_question(certificate: &[u8], room: &mut [u8], answer: &mut Question);
+    fn raf_certificate_question(certificate: &[u8], buffer: &mut [u8], answer: &mut Question);
     fn raf_check_certificate(
         certificate: &[u8], unix_timestamp: u64, authorities: &[Sha256], is_verified: u32
     );
@@ -558,34 +558,32 @@ calls! {
     fn raf_certificate_fields(certificate: &[u8], answer: &mut Fields);
     fn raf_certificate_parts(certificate: &[u8], answer: &mut Parts);
     fn raf_next_certificate_option(bytes: &[u8], place: usize, answer: &mut CertificateOptionParts);
-    fn raf_certificate_key(certificate: &[u8], room: &mut [u8], length: &mut usize);
-    fn raf_certificate_to_be_signed(draft: &Draft<'_>, room: &mut [u8], length: &mut usize);
+    fn raf_certificate_key(certificate: &[u8], buffer: &mut [u8], length: &mut usize);
+    fn raf_certificate_to_be_signed(draft: &Draft<'_>, buffer: &mut [u8], length: &mut usize);
     fn raf_certificate_make(
-        to_be_signed: &[u8], signature: &[u8], room: &mut [u8], length: &mut usize
+        to_be_signed: &[u8], signature: &[u8], buffer: &mut [u8], length: &mut usize
     );
     fn raf_fingerprint(key: &[u8], answer: &mut Sha256);
-    fn raf_fingerprint_text(digest: &Sha256, room: &mut [u8]);
+    fn raf_fingerprint_text(digest: &Sha256, buffer: &mut [u8]);
     fn raf_fingerprint_sha512(key: &[u8], answer: &mut Sha512);
-    fn raf_fingerprint_sha512_text(digest: &Sha512, room: &mut [u8]);
+    fn raf_fingerprint_sha512_text(digest: &Sha512, buffer: &mut [u8]);
     fn raf_signature_question(
-        key: &[u8], message: &[u8], signature: &[u8], room: &mut [u8], answer: &mut Question
+        key: &[u8], message: &[u8], signature: &[u8], buffer: &mut [u8], answer: &mut Question
     );
-    fn raf_login_question(login: &Login<'_>, room: &mut [u8], answer: &mut Question);
-    fn raf_check_login(
-        login: &Login<'_>, is_verified: u32, room: &mut [u8], answer: &mut Grant
-    );
-    fn raf_userauth_question(request: &Userauth<'_>, room: &mut [u8], answer: &mut Question);
+    fn raf_login_question(login: &Login<'_>, buffer: &mut [u8], answer: &mut Question);
+    fn raf_check_login(login: &Login<'_>, is_verified: u32, buffer: &mut [u8], answer: &mut Grant);
+    fn raf_userauth_question(request: &Userauth<'_>, buffer: &mut [u8], answer: &mut Question);
     fn raf_userauth_question_of(
-        request: &Userauth<'_>, signed_bytes: &[u8], room: &mut [u8], answer: &mut Question
+        request: &Userauth<'_>, signed_bytes: &[u8], buffer: &mut [u8], answer: &mut Question
     );
     fn raf_check_grant_flags(permits: u32, key: &[u8], signature: &[u8]);
     fn raf_sshsig_question(
-        signature: &[u8], name_space: &[u8], message: &[u8], room: &mut [u8], answer: &mut Question,
-        signer: &mut Sha256
+        signature: &[u8], name_space: &[u8], message: &[u8], buffer: &mut [u8],
+        answer: &mut Question, signer: &mut Sha256
     );
     fn raf_sshsig_question_of_digest(
-        signature: &[u8], name_space: &[u8], digest: &[u8], room: &mut [u8], answer: &mut Question,
-        signer: &mut Sha256
+        signature: &[u8], name_space: &[u8], digest: &[u8], buffer: &mut [u8],
+        answer: &mut Question, signer: &mut Sha256
     );
     fn raf_check_sshsig(
         signature: &[u8], name_space: &[u8], signers: &[Sha256], is_verified: u32
@@ -594,20 +592,20 @@ calls! {
         signers: &[u8], identity: &[u8], name_space: &[u8], signature: &[u8], unix_timestamp: u64,
         revoked: &[Span<'_>], is_verified: u32
     );
-    fn raf_key_normal(key: &[u8], room: &mut [u8], length: &mut usize);
-    fn raf_certificate_normal(certificate: &[u8], room: &mut [u8], length: &mut usize);
-    fn raf_sshsig_normal(signature: &[u8], room: &mut [u8], length: &mut usize);
-    fn raf_signature_normal(signature: &[u8], room: &mut [u8], length: &mut usize);
+    fn raf_key_normal(key: &[u8], buffer: &mut [u8], length: &mut usize);
+    fn raf_certificate_normal(certificate: &[u8], buffer: &mut [u8], length: &mut usize);
+    fn raf_sshsig_normal(signature: &[u8], buffer: &mut [u8], length: &mut usize);
+    fn raf_signature_normal(signature: &[u8], buffer: &mut [u8], length: &mut usize);
     fn raf_next_string(bytes: &[u8], place: usize, answer: &mut Part);
     fn raf_check_unrevoked_key(revoked: &[Span<'_>], key: &[u8]);
     fn raf_check_unrevoked_certificate(revoked: &[Span<'_>], certificate: &[u8]);
     fn raf_check_unrevoked_key_by_krl(krl: &[u8], key: &[u8]);
     fn raf_check_unrevoked_certificate_by_krl(krl: &[u8], certificate: &[u8]);
     fn raf_next_line(text: &[u8], place: usize, answer: &mut Part);
-    fn raf_authorized_entry(line: &[u8], room: &mut [u8], answer: &mut Entry);
-    fn raf_known_host(line: &[u8], room: &mut [u8], answer: &mut Entry);
+    fn raf_authorized_entry(line: &[u8], buffer: &mut [u8], answer: &mut Entry);
+    fn raf_known_host(line: &[u8], buffer: &mut [u8], answer: &mut Entry);
     fn raf_next_line_option(
-        options: &[u8], place: usize, room: &mut [u8], answer: &mut LineOptionParts
+        options: &[u8], place: usize, buffer: &mut [u8], answer: &mut LineOptionParts
     );
     fn raf_line_may_name_key(line: &[u8], key: &[u8]);
     fn raf_line_may_name_authority(line: &[u8], certificate: &[u8]);
@@ -618,11 +616,11 @@ calls! {
     fn raf_check_from(list: &[u8], host: &[u8], address: &[u8]);
     fn raf_read_time(text: &[u8], answer: &mut TimeSpan);
     fn raf_check_user_keys(
-        login: &Login<'_>, text: &[u8], host: &[u8], is_verified: u32, room: &mut [u8],
+        login: &Login<'_>, text: &[u8], host: &[u8], is_verified: u32, buffer: &mut [u8],
         answer: &mut UserGrant
     );
     fn raf_check_principals(
-        login: &Login<'_>, text: &[u8], host: &[u8], is_verified: u32, room: &mut [u8],
+        login: &Login<'_>, text: &[u8], host: &[u8], is_verified: u32, buffer: &mut [u8],
         answer: &mut UserGrant
     );
 }

@@ -1,8 +1,8 @@
 //! Whether an SSH signature counts, by a text of allowed signers.
 
+use crate::buffers::spans;
 use crate::questions::{decide, Question};
 use crate::raw;
-use crate::rooms::spans;
 use crate::sshsigs::sshsig_question_of_digest;
 use crate::status::Status;
 
@@ -25,8 +25,8 @@ pub struct Signers<'a> {
 /// digest and in that namespace, counts as the identity's by the allowed signers. `verify` is your
 /// cryptography, which is not asked about a key that may not sign.
 ///
-/// Fails as [`check_signer_with_answer`] does, and as [`sshsig_question_of_digest`] does of a key that may
-/// sign.
+/// Fails as [`check_signer_with_answer`] does, and as [`sshsig_question_of_digest`] does of a key
+/// that may sign.
 pub fn check_signer_of_digest(
     signature: &[u8],
     namespace: impl AsRef<[u8]>,
@@ -45,10 +45,10 @@ pub fn check_signer_of_digest(
 /// signature, in the namespace and of the message.
 ///
 /// Fails with [`Status::NO_IDENTITY`], [`Status::SIGNER_NOT_ALLOWED`],
-/// [`Status::UNREADABLE_REVOCATIONS`], [`Status::REVOKED`] or [`Status::NOT_SIGNED`], the first that holds: ask with `false`
-/// first, and verify only where it fails with the last, as [`check_signer_of_digest`] does. Fails
-/// with a number from 10 to 29 where the bytes are no signature, with [`Status::TEXT`] where a text
-/// is not UTF-8, and with [`Status::MEMORY`].
+/// [`Status::UNREADABLE_REVOCATIONS`], [`Status::REVOKED`] or [`Status::NOT_SIGNED`], the first
+/// that holds: ask with `false` first, and verify only where it fails with the last, as
+/// [`check_signer_of_digest`] does. Fails with a status from 10 to 29 where the bytes are no
+/// signature, with [`Status::TEXT`] where a text is not UTF-8, and with [`Status::MEMORY`].
 pub fn check_signer_with_answer(
     signature: &[u8],
     namespace: impl AsRef<[u8]>,

@@ -8,7 +8,7 @@ use crate::status::Status;
 use crate::strings::strings;
 
 /// A call that asks for the question of an SSH signature: the signature, the namespace, the message
-/// or its digest, the room, and what is written.
+/// or its digest, the buffer, and what is written.
 type Ask = fn(&[u8], &[u8], &[u8], &mut [u8], &mut raw::Question, &mut Sha256) -> u32;
 
 /// What such a call writes. Fails with what it answers.
@@ -20,15 +20,15 @@ fn question_by(
 ) -> Result<(Question, Sha256), Status> {
     let enough = signature.len().saturating_mul(2).saturating_add(256);
     let mut signer = Sha256::default();
-    let question = Question::of_call(enough, |room, answer| {
-        call(signature, namespace, covered, room, answer, &mut signer)
+    let question = Question::of_call(enough, |buffer, answer| {
+        call(signature, namespace, covered, buffer, answer, &mut signer)
     })?;
     Ok((question, signer))
 }
 
 /// What has to be verified of an SSH signature (what stands in its armour, Base64 decoded) of the
 /// message in that namespace, and the fingerprint of the key that signed, which has to be one that
-/// you trust for that namespace: [`check_sshsig`] asks both. Fails with a number from 10 to 29
+/// you trust for that namespace: [`check_sshsig`] asks both. Fails with a status from 10 to 29
 /// where the bytes are none, with [`Status::OTHER_NAMESPACE`], with [`Status::UNSUPPORTED`] where
 /// key and signature do not go together, and with [`Status::MEMORY`].
 pub fn sshsig_question(
@@ -53,9 +53,9 @@ pub fn sshsig_question_of_digest(
 }
 
 /// Whether an SSH signature is one of the message in that namespace, by one of the signers, which
-/// are those that you trust for it: `verify` answers its question. Fails as [`check_sshsig_with_answer`] does,
-/// and of a key that may sign as [`sshsig_question`] does. `verify` is not asked about another
-/// signer's key.
+/// are those that you trust for it: `verify` answers its question. Fails as
+/// [`check_sshsig_with_answer`] does, and of a key that may sign as [`sshsig_question`] does.
+/// `verify` is not asked about another signer's key.
 pub fn check_sshsig(
     signature: &[u8],
     namespace: impl AsRef<[u8]>,
@@ -83,13 +83,13 @@ pub fn check_sshsig_of_digest(
 }
 
 /// Whether an SSH signature counts in that namespace, where the keys with these fingerprints may
-/// sign. `is_verified` is your answer to the question of this signature, in the namespace and of the
-/// message.
+/// sign. `is_verified` is your answer to the question of this signature, in the namespace and of
+/// the message.
 ///
 /// Fails with [`Status::SIGNER_NOT_ALLOWED`] or [`Status::NOT_SIGNED`], the first that holds; the
 /// last also for another namespace, and for reserved bytes, which ssh-keygen takes to be empty. Ask
-/// with `false` first, and verify only where it fails with the last, as [`check_sshsig`] does. Fails
-/// with a number from 10 to 29 where the bytes are no signature, and with [`Status::MEMORY`].
+/// with `false` first, and verify only where it fails with the last, as [`check_sshsig`] does.
+/// Fails with a status from 10 to 29 where the bytes are no signature, and with [`Status::MEMORY`].
 pub fn check_sshsig_with_answer(
     signature: &[u8],
     namespace: impl AsRef<[u8]>,
@@ -112,7 +112,7 @@ pub enum HashAlgorithm {
 /// What stands in front of the strings of an SSH signature: `SSHSIG` and its version.
 const FRONT: usize = 10;
 
-/// The hash by which an SSH signature digests its message. Fails with a number from 10 to 29 where
+/// The hash by which an SSH signature digests its message. Fails with a status from 10 to 29 where
 /// the bytes are none, and with [`Status::MEMORY`].
 pub fn sshsig_hash(signature: &[u8]) -> Result<HashAlgorithm, Status> {
     match &field(signature, 3)?[..] {

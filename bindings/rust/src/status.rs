@@ -36,12 +36,12 @@ macro_rules! statuses {
             $($(#[doc = $meaning])+ pub const $name: Status = Status::constant($number);)+
 
             /// The name of rafendilo.h, without `RAF_`, as `raf_status_name` gives it; `no
-            /// answer` for a number that has none.
+            /// status` for a number that has none.
             #[must_use]
             pub const fn name(self) -> &'static str {
                 match self.number() {
                     $($number => stringify!($name),)+
-                    _ => "no answer",
+                    _ => "no status",
                 }
             }
 
@@ -50,7 +50,7 @@ macro_rules! statuses {
             pub const fn meaning(self) -> &'static str {
                 match self.number() {
                     $($number => $words,)+
-                    _ => "an answer without words",
+                    _ => "a status without words",
                 }
             }
         }

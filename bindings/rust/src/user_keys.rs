@@ -3,12 +3,12 @@
 use std::fmt;
 use std::ops::RangeInclusive;
 
+use crate::buffers::ask;
 use crate::certificates::{is_verified, text};
 use crate::logins::{grant_in, with_raw, Grant, Login};
 use crate::permits::Permits;
 use crate::questions::{decide, Question};
 use crate::raw;
-use crate::rooms::ask;
 use crate::status::Status;
 use crate::strings::strings;
 
@@ -80,8 +80,8 @@ impl From<Denial> for Status {
 /// does so as sshd(8) does by the first line that lets in, or more strictly. The host is the name
 /// that was found for the client's address (`UseDNS`), or empty. The login's authorities are not
 /// looked at. The text need not be UTF-8: a line that is not ends it where it may be for the key
-/// ([`Status::LINE_UNCLEAR`]). `verify` is your cryptography; it is asked about a certificate alone,
-/// and only where nothing else is wrong.
+/// ([`Status::LINE_UNCLEAR`]). `verify` is your cryptography; it is asked about a certificate
+/// alone, and only where nothing else is wrong.
 ///
 /// Fails with what is wrong first. With a status from [`Status::USER_NOT_LISTED`] to
 /// [`Status::LINE_PRINCIPALS`] ask about the next file, and with every other one about none.
@@ -112,7 +112,7 @@ pub fn log_in_by_principals(
     log_in_by(raw::raf_check_principals, login, text, host.as_ref(), verify)
 }
 
-/// The bytes of a room for what a login is bound to; a longer one is asked for again.
+/// The bytes of a buffer for what a login is bound to; a longer one is asked for again.
 const OF_GRANT: usize = 4096;
 
 /// The call of the library that decides by such a text.
@@ -128,32 +128,32 @@ fn log_in_by(
     with_raw(login, |asked| {
         let verdict = |yes| {
             let mut line = 0;
-            let said = ask(OF_GRANT, |room, answer: &mut raw::UserGrant| {
+            let said = ask(OF_GRANT, |buffer, answer: &mut raw::UserGrant| {
                 let yes = u32::from(yes);
-                let number = verdict_by(asked, text, host, yes, room, answer);
+                let number = verdict_by(asked, text, host, yes, buffer, answer);
                 line = answer.line;
                 number
             });
-            let (room, found) = said.map_err(|status| Denial { status, line })?;
-            Ok(user_grant_in(&room, &found)?)
+            let (buffer, found) = said.map_err(|status| Denial { status, line })?;
+            Ok(user_grant_in(&buffer, &found)?)
         };
         decide(verdict, || is_verified(login.certificate, verify))
     })
 }
 
-/// The grant that a verdict has written to that room.
-fn user_grant_in(room: &[u8], found: &raw::UserGrant) -> Result<UserGrant, Status> {
-    let grant = grant_in(room, &found.grant)?;
+/// The grant that a verdict has written to that buffer.
+fn user_grant_in(buffer: &[u8], found: &raw::UserGrant) -> Result<UserGrant, Status> {
+    let grant = grant_in(buffer, &found.grant)?;
     let bound = |any| (!grant.permits.contains(any)).then_some(());
     Ok(UserGrant {
         line: found.line,
         permit_open: bound(Permits::OPEN_ANYWHERE)
-            .map(|()| places(found.permit_open.of(room)))
+            .map(|()| places(found.permit_open.of(buffer)))
             .transpose()?,
         permit_listen: bound(Permits::LISTEN_ANYWHERE)
-            .map(|()| places(found.permit_listen.of(room)))
+            .map(|()| places(found.permit_listen.of(buffer)))
             .transpose()?,
-        environment: strings(found.environment.of(room))
+        environment: strings(found.environment.of(buffer))
             .map(|it| Ok(text(it?)?.into()))
             .collect::<Result<_, Status>>()?,
         expires: (found.expires.first != u64::MAX)

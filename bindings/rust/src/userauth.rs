@@ -45,7 +45,7 @@ pub fn check_userauth(
 /// [`Status::OTHER_ALGORITHM`] where the name in the request is not that of the signature's
 /// algorithm (a certificate's name stands for its plain one), with [`Status::UNTOUCHED`] or
 /// [`Status::UNVERIFIED`] where the flags of a security key lack what the grant does not let be,
-/// with a number from 10 to 29 where the blob in the request is no key, or no certificate, as the
+/// with a status from 10 to 29 where the blob in the request is no key, or no certificate, as the
 /// name says, or the signature is none, with [`Status::UNSUPPORTED`] where key and signature do not
 /// go together, and with [`Status::MEMORY`].
 pub fn userauth_question(request: &Userauth<'_>) -> Result<Question, Status> {
@@ -62,15 +62,15 @@ pub fn userauth_question(request: &Userauth<'_>) -> Result<Question, Status> {
     };
     let parts = [request.session_id, request.public_key, host_key, signed, request.signature];
     let enough = parts.iter().fold(512, |sum: usize, it| sum.saturating_add(it.len()));
-    Question::of_call(enough, |room, answer| match request.signed {
-        Some(signed) => raw::raf_userauth_question_of(&asked, signed, room, answer),
-        None => raw::raf_userauth_question(&asked, room, answer),
+    Question::of_call(enough, |buffer, answer| match request.signed {
+        Some(signed) => raw::raf_userauth_question_of(&asked, signed, buffer, answer),
+        None => raw::raf_userauth_question(&asked, buffer, answer),
     })
 }
 
 /// Accepts a client's signature, which an SSH library has verified, if its key is no security
 /// key's, or its flags have what the grant asks for. Fails with [`Status::UNTOUCHED`] or
-/// [`Status::UNVERIFIED`], with a number from 10 to 29 where the bytes are no key, or else no
+/// [`Status::UNVERIFIED`], with a status from 10 to 29 where the bytes are no key, or else no
 /// signature, and with [`Status::MEMORY`].
 pub fn check_grant_flags(permits: Permits, key: &[u8], signature: &[u8]) -> Result<(), Status> {
     Status::of(raw::raf_check_grant_flags(permits.bits(), key, signature))

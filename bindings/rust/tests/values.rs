@@ -44,7 +44,7 @@ fn values_go_from_thread_to_thread() {
 #[test]
 fn no_file_is_not_no_revocation() {
     let key = ed25519(b"the thirty-two bytes of some key");
-    assert_eq!(rafendilo::check_unrevoked_key(rafendilo::NO_REVOCATIONS, &key), Ok(false));
+    assert_eq!(rafendilo::check_unrevoked_key(rafendilo::NO_REVOCATIONS, &key), Ok(()));
     assert_eq!(rafendilo::check_unrevoked_key(&[], &key), Err(Status::UNREADABLE_REVOCATIONS));
     let login = HostLogin {
         known_hosts: &[

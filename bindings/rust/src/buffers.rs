@@ -1,11 +1,11 @@
-//! How a call is given a room, and lists of bytes.
+//! How a call is given a buffer, and lists of bytes.
 
 use crate::raw;
 use crate::status::Status;
 
-/// What a call answers beside a room.
+/// What a call answers beside a buffer.
 pub(crate) trait Answer: Default {
-    /// How many bytes of the room are written, or are needed.
+    /// How many bytes of the buffer are written, or are needed.
     fn length(&self) -> usize;
 }
 
@@ -39,38 +39,40 @@ pub(crate) fn spans<'a>(list: &[&'a [u8]]) -> Vec<raw::Span<'a>> {
     list.iter().map(|it| raw::Span::from(*it)).collect()
 }
 
-/// A room of that length. Fails with [`Status::MEMORY`].
-fn room_of(length: usize) -> Result<Vec<u8>, Status> {
-    let mut room = Vec::new();
-    room.try_reserve_exact(length).map_err(|_| Status::MEMORY)?;
-    room.resize(length, 0);
-    Ok(room)
+/// A buffer of that length. Fails with [`Status::MEMORY`].
+fn buffer_of(length: usize) -> Result<Vec<u8>, Status> {
+    let mut buffer = Vec::new();
+    buffer.try_reserve_exact(length).map_err(|_| Status::MEMORY)?;
+    buffer.resize(length, 0);
+    Ok(buffer)
 }
 
-/// The room that a call has written, and its answer. The call is given a room of that length, or
-/// of the one that it says is needed. Fails with what the call answers, and with
+/// The buffer that a call has written, and its answer. The call is given a buffer of that length,
+/// or of the one that it says is needed. Fails with what the call answers, and with
 /// [`Status::MEMORY`].
 pub(crate) fn ask<A: Answer>(
     length: usize,
     mut call: impl FnMut(&mut [u8], &mut A) -> u32,
 ) -> Result<(Vec<u8>, A), Status> {
-    let mut room = room_of(length)?;
+    let mut buffer = buffer_of(length)?;
     loop {
         let mut answer = A::default();
-        match Status::of(call(&mut room, &mut answer)) {
-            Ok(()) => return Ok((room, answer)),
-            Err(Status::SHORT_BUFFER) if answer.length() > room.len() => room = room_of(answer.length())?,
+        match Status::of(call(&mut buffer, &mut answer)) {
+            Ok(()) => return Ok((buffer, answer)),
+            Err(Status::SHORT_BUFFER) if answer.length() > buffer.len() => {
+                buffer = buffer_of(answer.length())?
+            }
             Err(status) => return Err(status),
         }
     }
 }
 
-/// The bytes that a call writes to the front of a room. Fails as [`ask`] does.
+/// The bytes that a call writes to the front of a buffer. Fails as [`ask`] does.
 pub(crate) fn written(
     length: usize,
     call: impl FnMut(&mut [u8], &mut usize) -> u32,
 ) -> Result<Vec<u8>, Status> {
-    let (mut room, length) = ask(length, call)?;
-    room.truncate(length);
-    Ok(room)
+    let (mut buffer, length) = ask(length, call)?;
+    buffer.truncate(length);
+    Ok(buffer)
 }
