@@ -505,7 +505,7 @@ typedef struct {
  * in this order: RAF_FORMAT for another certificate_type, RAF_TIME for a time above 2^63 - 1,
  * RAF_EMPTY_WINDOW, RAF_PRINCIPALS; then 10 to 29 for a key, a text or a list that is none. A key
  * to be certified that has a private-use name is rejected: RAF_LABEL. Also ask: docs/CHECKLIST.md,
- * "An authority". */
+ * "An authority (CA)". */
 uint32_t raf_certificate_to_be_signed(const raf_draft *draft, uint8_t *buffer,
                                       size_t buffer_length, size_t *length);
 
