@@ -58,9 +58,7 @@ pub fn check_host_certificate(
     verify: impl FnOnce(&Question) -> bool,
 ) -> Result<(), Status> {
     let verdict = |yes| {
-        with_raw(login, |asked| {
-            raw::raf_check_host_certificate(asked, certificate, u32::from(yes))
-        })
+        with_raw(login, |asked| raw::raf_check_host_certificate(asked, certificate, u32::from(yes)))
     };
     decide(verdict, || is_verified(certificate, verify))
 }

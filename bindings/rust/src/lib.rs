@@ -96,8 +96,8 @@ pub use certificates::{
 pub use digests::{fingerprint, fingerprint_sha512, Sha256, Sha512};
 pub use drafts::{certificate_to_be_signed, join_certificate, make_certificate, Draft, Listed};
 pub use files::{
-    authorized_entry, entry_lines, line_options, known_host, line_may_name_authority,
-    line_may_name_key, is_safe_mode, AuthorizedEntry, EntryLines, LineOption, KnownHost, Marker,
+    authorized_entry, entry_lines, is_safe_mode, known_host, line_may_name_authority,
+    line_may_name_key, line_options, AuthorizedEntry, EntryLines, KnownHost, LineOption, Marker,
 };
 pub use hosts::{check_host_certificate, check_host_key, unreadable_host_line, HostLogin};
 pub use keys::{
@@ -111,15 +111,16 @@ pub use permits::Permits;
 pub use questions::{Algorithm, Question};
 pub use raw::FOREVER;
 pub use revocations::{
-    check_unrevoked_certificate_by_krl, check_unrevoked_key_by_krl, check_unrevoked_certificate, check_unrevoked_key, NO_REVOCATIONS,
+    check_unrevoked_certificate, check_unrevoked_certificate_by_krl, check_unrevoked_key,
+    check_unrevoked_key_by_krl, NO_REVOCATIONS,
 };
 pub use signers::{check_signer_of_digest, check_signer_with_answer, Signers};
 pub use sshsigs::{
-    check_sshsig, check_sshsig_of_digest, sshsig_hash, sshsig_question, sshsig_question_of_digest,
-    sshsig_reserved, check_sshsig_with_answer, HashAlgorithm,
+    check_sshsig, check_sshsig_of_digest, check_sshsig_with_answer, sshsig_hash, sshsig_question,
+    sshsig_question_of_digest, sshsig_reserved, HashAlgorithm,
 };
 pub use status::Status;
 pub use strings::{string, strings, Strings};
 pub use times::read_time;
 pub use user_keys::{log_in_by_keys, log_in_by_principals, Denial, Place, UserGrant};
-pub use userauth::{check_userauth, check_grant_flags, userauth_question, Userauth};
+pub use userauth::{check_grant_flags, check_userauth, userauth_question, Userauth};

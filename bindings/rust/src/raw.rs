@@ -366,8 +366,7 @@ pub(crate) struct Login<'a> {
     pub certificate: Span<'a>,
     /// UTF-8.
     pub user: Span<'a>,
-    /// The blob of the key under which the client signs: whether it has raf_userauth_question
-    /// asks.
+    /// The blob of the key under which the client signs: whether it has raf_userauth_question asks.
     pub key: Span<'a>,
     /// The address of its socket, of 4 or 16 bytes; with any other number of bytes it has none:
     /// then source-address lets nobody in.
@@ -494,8 +493,8 @@ pub(crate) struct UserGrant {
     /// serial and authority are zero.
     pub grant: Grant,
     /// Without RAF_PERMIT_OPEN_ANYWHERE the only places to which ports may be forwarded: strings
-    /// (raf_next_string), two each: a host, and a port of two bytes, big-endian, or of none for
-    /// any port.
+    /// (raf_next_string), two each: a host, and a port of two bytes, big-endian, or of none for any
+    /// port.
     pub permit_open: Part,
     /// Likewise where may be listened.
     pub permit_listen: Part,
@@ -585,9 +584,7 @@ calls! {
         signature: &[u8], name_space: &[u8], digest: &[u8], buffer: &mut [u8],
         answer: &mut Question, signer: &mut Sha256
     );
-    fn raf_check_sshsig(
-        signature: &[u8], name_space: &[u8], signers: &[Sha256], is_verified: u32
-    );
+    fn raf_check_sshsig(signature: &[u8], name_space: &[u8], signers: &[Sha256], is_verified: u32);
     fn raf_check_signer(
         signers: &[u8], identity: &[u8], name_space: &[u8], signature: &[u8], unix_timestamp: u64,
         revoked: &[Span<'_>], is_verified: u32

@@ -87,10 +87,7 @@ pub extern "C" fn raf_check_certificate_for(
 
 /// The fields of a certificate that a policy asks for: `sshkey_calls::certificate_fields`.
 #[unsafe(no_mangle)]
-pub extern "C" fn raf_certificate_fields(
-    certificate: &[u8],
-    answer: &mut CertificateFields,
-) -> u32
+pub extern "C" fn raf_certificate_fields(certificate: &[u8], answer: &mut CertificateFields) -> u32
     ensures { GivesFields certificate.now result answer.old answer.new }
 {
     certificate_fields(certificate, answer)

@@ -11,7 +11,7 @@ ghost use Rattle.sshkey_entry_calls.specs.Options.{FindsKeyOption};
 
 use sshkey_calls::part::Part;
 use sshkey_entry_calls::{
-    EntryParts, OptionParts, authorized_entry, known_host, next_line_option, next_line,
+    EntryParts, OptionParts, authorized_entry, known_host, next_line, next_line_option,
 };
 use std::alloc::Global;
 

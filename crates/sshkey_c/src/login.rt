@@ -13,8 +13,8 @@ ghost use Rattle.sshkey_model.specs.Reading.{Fault, whole};
 
 use sshkey_calls::Question;
 use sshkey_login_calls::{
-    GrantParts, LoginRequest, UserGrantParts, login_question, check_login, check_principals,
-    check_user_keys,
+    GrantParts, LoginRequest, UserGrantParts, check_login, check_principals, check_user_keys,
+    login_question,
 };
 use std::alloc::Global;
 

@@ -51,11 +51,7 @@ pub extern "C" fn raf_sshsig_normal(
 
 /// The normal form of a signature: `sshkey_calls::signature_normal`.
 #[unsafe(no_mangle)]
-pub extern "C" fn raf_signature_normal(
-    signature: &[u8],
-    room: &mut [u8],
-    length: &mut usize,
-) -> u32
+pub extern "C" fn raf_signature_normal(signature: &[u8], room: &mut [u8], length: &mut usize) -> u32
     ensures normal { WritesNormalSignature signature.now
         result length.old length.new room.old room.new }
     ensures memory { result ≢ 1 }

@@ -33,7 +33,11 @@ pub extern "C" fn raf_certificate_key(
 
 /// The option at a place: `sshkey_calls::next_certificate_option`.
 #[unsafe(no_mangle)]
-pub extern "C" fn raf_next_certificate_option(bytes: &[u8], place: usize, answer: &mut OptionParts) -> u32
+pub extern "C" fn raf_next_certificate_option(
+    bytes: &[u8],
+    place: usize,
+    answer: &mut OptionParts,
+) -> u32
     ensures { FindsOption bytes.now place result answer.old answer.new }
 {
     next_certificate_option(bytes, place, answer)

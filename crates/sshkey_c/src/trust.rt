@@ -11,7 +11,7 @@ ghost use Rattle.sshkey_line_calls.specs.Lines.{TellsLine};
 ghost use Rattle.sshkey_model.specs.Certificates.{certificate_at, SpellsCertificate};
 
 use sshkey_calls::Sha256Digest;
-use sshkey_entry_calls::{authority, may_verify, check_safe_mode, user_authority};
+use sshkey_entry_calls::{authority, check_safe_mode, may_verify, user_authority};
 use sshkey_line_calls::{line_may_name_authority, line_may_name_key};
 use std::alloc::Global;
 
@@ -64,11 +64,7 @@ pub extern "C" fn raf_line_may_name_key(alloc: Global, line: &[u8], key: &[u8]) 
 
 /// The same for a certificate's authority: `sshkey_line_calls::line_may_name_authority`.
 #[unsafe(no_mangle)]
-pub extern "C" fn raf_line_may_name_authority(
-    alloc: Global,
-    line: &[u8],
-    certificate: &[u8],
-) -> u32
+pub extern "C" fn raf_line_may_name_authority(alloc: Global, line: &[u8], certificate: &[u8]) -> u32
     ensures { TellsOf SpellsCertificate certificate_at certificate.now
         (λ c. TellsLine c.signed.signature_key line.now result) result (Unit {0}) }
 {

@@ -83,7 +83,11 @@ pub fn answer_with<T: Copy>(laid: Result<(Vec<u8>, T)>, room: &mut [u8], answer:
     match laid {
         Ok((content, parts)) => {
             *answer = parts;
-            if write_to(room, &content) { DONE } else { SHORT_BUFFER }
+            if write_to(room, &content) {
+                DONE
+            } else {
+                SHORT_BUFFER
+            }
         }
         Err(_) => MEMORY,
     }

@@ -15,5 +15,9 @@ pub(crate) fn write_bytes(content: &[u8], room: &mut [u8], length: &mut usize) -
     ensures memory { result ≢ 1 }
 {
     *length = content.len();
-    if write_to(room, content) { DONE } else { SHORT_BUFFER }
+    if write_to(room, content) {
+        DONE
+    } else {
+        SHORT_BUFFER
+    }
 }
