@@ -9,7 +9,11 @@ from lib.harness import ROOT
 APART = re.compile(r"CHANGELOG\.md|include/rafendilo_0_2\.h|checks/asked/(clash\.py|openssh_\w+\.c)|checks/lib/old_names\.py|.*\.S")
 PATTERNS = {
     "a name of C": r"\bSSHKEY_[A-Z]|\bJUDGE_[A-Z]|\bsshkey\.(?:h|pc|map)\b|\blibsshkey(?!_c\b)",
-    "a helper": r"\bjudge_[a-z]",
+    # two lemmas speak of a function that is called judge
+    "a helper": r"\bjudge_(?!refused|taken)[a-z]",
+    "a crate": r"\b(?:FilledLines|split_field|normal_spells|lawful_names|decode_boxed|SecurityPair|decode_with_spare|names_are_among|"
+    r"contains_digest|CertificateByAuthority|TextsRef|OptionsRef|ToBeSigned|judge_key|"
+    r"admit_(?:key|certificate|principal)|may_be_for|is_let_in|is_read_key|is_read_text|are_read_principals|has_read_application|graver)\b",
     "a package": r"\b(?:import|package) sshkey\b|\bsshkey\.[A-Z]|python3-sshkey|sshkey-helpers|(?:go|python)/sshkey\b",
     "a verdict": r"\b(?:login|user_keys|principals|host_certificate|sshsig|signer)_verdict\b|\b(?:SSHSig|Signer)Verdict\b",
     "a validation": r"\bcertificate_validate(?:_for)?\b|\bvalidate_certificate\b|\bValidate(?:Certificate|SSHSig|Signer)\w*",
