@@ -33,8 +33,8 @@ pub enum Verdict {
 }
 
 impl Verdict {
-    /// Returns the graver of the two, the one that stands first in the list above: what two texts
-    /// say together, by what each of them says of the same key, host and port.
+    /// Returns the more severe of the two, which stands first in the list above: what two texts say
+    /// together, by what each of them says of the same key, host and port.
     pub fn max_severity(self, other: Verdict) -> Verdict
         ensures first { result ≡ max_severity_of self other }
         ensures together { SayTogether self other result }
