@@ -925,7 +925,7 @@ uint32_t raf_check_host_key(const raf_host_login *login, const uint8_t *key,
  *
  * RAF_DONE exactly if its bytes are its normal form; a line @cert-authority for the host has the
  * key that signed it; no line for the host revokes one of its two keys, and no revocation file the
- * certificate; no line that is no entry could be one for the host; OpenSSH accepts its key; it is
+ * certificate; no line that is no entry could be one for the host; OpenSSH accepts both keys; it is
  * for hosts, without critical options, of texts that ssh reads, and valid then for the host's name
  * in small letters, which it lists; and `is_verified` is 1 (memory aside). Else the first of these:
  * RAF_TEXT, 10 to 29, RAF_NOT_NORMAL_FORM, 100 to 102, RAF_UNREADABLE_REVOCATIONS, 50, 51,

@@ -11,7 +11,7 @@ from .hosts import (
 )  # fmt: skip
 from .linked import run, several, word
 from .shown_logins import blocks, built_page, said_by_python
-from .login_options import NO_NORMAL_FORM, RSA, UNACCEPTED, certificate, judged_keys, respelled
+from .login_options import NO_NORMAL_FORM, RSA, UNACCEPTED, certificate, certificate_by, judged_keys, no_signature, respelled
 from .revocation_calls import EMPTY, made_list
 
 # what the program callers answers, and the library
@@ -106,6 +106,10 @@ def by_certificate(maker, keys):
         yield name, shown, "DONE" if is_accepted else "KEY_NOT_ACCEPTED"
         if "2047" in name:
             yield f"{name}, of 2048 at least", replace(shown, bits=2048), "KEY_NOT_ACCEPTED"
+        line = certificate_by(held, lambda _, held=held: no_signature(held), keys["key"], string(HOST.encode()), {}, {}, kind=2)
+        # nothing is signed, so of a key that may sign that is said; RequiredRSASize is about the host's key
+        by_it = Shown(blob_of(line), (written(maker, [AUTHORITY], {"authority": held}),), second=now, bits=4096)
+        yield f"an authority: {name}", by_it, "NOT_SIGNED" if is_accepted else "KEY_NOT_ACCEPTED"
     flag = {"x@example.com": b""}
     line = certificate(maker, RSA, keys["key"], string(HOST.encode()), {}, flag, kind=2)
     for name, other in respelled(maker, line, RSA, flag):

@@ -13,11 +13,15 @@ use Rattle.sshkey_model.specs.Names.{Sha256}
 use Rattle.sshkey_model.specs.Refusals.{first_refusal_for}
 use Rattle.sshkey_model.specs.Verification.{Question}
 use Rattle.sshkey_model.proofs.Refusals.{none_where_wanted}
-use Rattle.host_keys.specs.Hosts.{HasHostFields, IsGoodFor, signers}
+use Rattle.host_keys.specs.Hosts.{HasHostFields, IsGoodFor, are_accepted, signers}
 
 -- the one fingerprint is the signer's
 own : (k : Key) (f : Fingerprint) → IsFingerprint Sha256 k f → fingerprint_of f ≡ fingerprint Sha256 k
 own k f is = let by = is.by in let digest = is.digest in rw (by, digest) refl
+
+-- for the same keys
+pub accepted_as : (least : ℕ) (k l s t : Key) → k ≡ l → s ≡ t → are_accepted least l t ≡ are_accepted least k s
+accepted_as least k l s t same_key same_signer = rw (same_key, same_signer) refl
 
 module _ (accepts : Question → Bool) (t : ℕ) (host : List ℕ) (c : Certificate) where
   -- what is wrong first is asked about that one

@@ -16,7 +16,7 @@ use Rattle.sshkey_base.specs.declared.error.Error.{Error}
 use Rattle.sshkey_base.specs.declared.error.Error.TheVariants.{Memory}
 use Rattle.sshkey_known_hosts.specs.declared.verdict.Verdict.{Verdict}
 use Rattle.sshkey_known_hosts.specs.declared.verdict.Verdict.TheVariants.{Changed, Revoked, Trusted, Unknown, Unreadable}
-use Rattle.host_keys.specs.Hosts.{HostCheck, IsBadFor, IsSaidOfKey, IsSaidOfSigned, OfAsked, plain_name}
+use Rattle.host_keys.specs.Hosts.{HostCheck, IsBadFor, IsSaidOfKey, IsSaidOfSigned, OfAsked, are_accepted, plain_name}
 use Rattle.host_keys.specs.declared.refusal.HostRefusal.{HostRefusal}
 use Rattle.host_keys.specs.declared.refusal.HostRefusal.TheVariants as refusal
 
@@ -59,7 +59,7 @@ answer_of (Ok false) (Err e) = Err refusal.Memory
 answer_of (Err e) said = Err refusal.Memory
 
 -- It is revoked, or that is said. Or it is not revoked, and that is said; or the host is trusted so
--- far, and the key is not accepted; or it is, and the certificate is bad for that reason; or memory
+-- far, and a key is not accepted; or they are, and the certificate is bad for that reason; or memory
 -- ran out.
 abbrev pub IsWhy : (Verdict → Type 0) → Bool → Bool → (HostRefusal → Type 0) → HostRefusal → Type 0
 IsWhy Said revoked accepted Bad refusal.Revoked = (revoked ≡ true) ⊎ Said Revoked
@@ -80,7 +80,7 @@ abbrev pub RefusesHostKey : HostCheck → (List ℕ → Bool) → Key → HostRe
 RefusesHostKey login revokes_key key = RefusesAsked login (λ asked. IsWhyNoKey asked revokes_key key)
 
 abbrev pub IsWhyNoCertificate : HostCheck → (Question → Bool) → (List ℕ → CertificateIdentity → Bool) → Certificate → HostRefusal → Type 0
-IsWhyNoCertificate login accepts revokes c = IsWhy (IsSaidOfSigned login.hmac login.host login.port c.signed.key c.signed.signature_key login.lines) (is_certificate_revoked revokes c) (openssh_accepts_key login.least_rsa_bits c.signed.key) (IsBadFor accepts login.time (plain_name login.host) c)
+IsWhyNoCertificate login accepts revokes c = IsWhy (IsSaidOfSigned login.hmac login.host login.port c.signed.key c.signed.signature_key login.lines) (is_certificate_revoked revokes c) (are_accepted login.least_rsa_bits c.signed.key c.signed.signature_key) (IsBadFor accepts login.time (plain_name login.host) c)
 
 -- The bytes spell no certificate, and have that fault. Or they spell one: they are not its normal
 -- form; or they are, and nothing can be asked about the host, or it is refused.

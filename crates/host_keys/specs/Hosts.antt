@@ -5,7 +5,7 @@ use denote.Ref.{Bor}
 use Rattle.openssh_limits.specs.Keys.{openssh_accepts_key}
 use Rattle.openssh_limits.specs.Read.{AreReadPrincipals}
 use Rattle.std.specs.List.{flat_map}
-use Rattle.std.specs.Prelude.{◌≡◌, ◌≢◌, ◌⊎◌, ℕ, List, [], ◌∷◌, Bool, false, IsTrue, Some}
+use Rattle.std.specs.Prelude.{◌≡◌, ◌≢◌, ◌⊎◌, ℕ, List, [], ◌∷◌, Bool, ◌&&◌, false, IsTrue, Some}
 use Rattle.sshkey_addresses.specs.AskedHosts.{IsAsked}
 use Rattle.sshkey_cert.specs.Validity.{refusal_of}
 use Rattle.sshkey_entries.specs.Fields.{filled_lines}
@@ -119,6 +119,11 @@ pub record IsGoodFor (accepts : Question → Bool) (t : ℕ) (host : List ℕ) (
   pub fields : HasHostFields c
   pub valid : IsValidFor accepts (signers c) t host c
 
+-- ssh accepts the host's key, of at least that size, and the key that signs for it, of any size by
+-- which it verifies (ssh_config(5), RequiredRSASize and CASignatureAlgorithms).
+abbrev pub are_accepted : ℕ → Key → Key → Bool
+are_accepted least_rsa_bits key authority = openssh_accepts_key least_rsa_bits key && openssh_accepts_key 0 authority
+
 -- The key is the host's by the name that is asked, and ssh accepts it.
 pub record IsTrustedKey (login : HostCheck) (revokes_key : List ℕ → Bool) (key : Key) : Type 0 where
   pub listed : IsSaidOfKey login.hmac login.host login.port key login.lines Trusted
@@ -129,11 +134,11 @@ abbrev pub IsHostKey : HostCheck → (List ℕ → Bool) → Key → Type 0
 IsHostKey login revokes_key key = OfAsked login (λ asked. IsTrustedKey asked revokes_key key)
 
 -- The certificate is the host's by the name that is asked: by an authority of the host, not revoked,
--- of a key that ssh accepts, and good for the host.
+-- with keys that ssh accepts, and good for the host.
 pub record IsTrustedCertificate (login : HostCheck) (accepts : Question → Bool) (revokes : List ℕ → CertificateIdentity → Bool) (c : Certificate) : Type 0 where
   pub trusted_by : IsSaidOfSigned login.hmac login.host login.port c.signed.key c.signed.signature_key login.lines Trusted
   pub unrevoked : is_certificate_revoked revokes c ≡ false
-  pub accepted : IsTrue (openssh_accepts_key login.least_rsa_bits c.signed.key)
+  pub accepted : IsTrue (are_accepted login.least_rsa_bits c.signed.key c.signed.signature_key)
   pub good : IsGoodFor accepts login.time (plain_name login.host) c
 
 -- The bytes are those of a certificate, in its normal form, that is the host's.

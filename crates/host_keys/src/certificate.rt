@@ -4,13 +4,14 @@ ghost use Rattle.std.specs.Prelude.{◌≡◌, ◌≢◌, ◌⊎◌, ◌↔◌, 
 ghost use Rattle.sshkey_addresses.specs.Likeness.{is_like_address};
 ghost use Rattle.sshkey_cert.specs.CertificateValues.{certificate_of};
 ghost use Rattle.sshkey_cert.specs.Validity.{FindsRefusal};
+ghost use Rattle.sshkey_keys.specs.Keys.{key_of};
 ghost use Rattle.sshkey_model.specs.Certificates.{IsCertificate, normal_certificate, certificate_format, SpellsCertificate};
 ghost use Rattle.sshkey_model.specs.Keys.{normal_key};
 ghost use Rattle.sshkey_model.specs.Parts.{BoxesFit, flat};
 ghost use Rattle.sshkey_model.specs.Refusals.{first_refusal_for};
 ghost use Rattle.sshkey_padding.specs.Padding.{padding};
 ghost use Rattle.host_keys.specs.Answers.{AsksOf, IsWhyNoCertificate, OkExactly, RefusesAsked, RefusesHostCertificate};
-ghost use Rattle.host_keys.specs.Hosts.{AreForHosts, HasHostFields, HasOtherField, IsBadFor, IsGoodFor, IsHostCertificate, IsTrustedCertificate, OfAsked, lines_of, login_of, plain_name, signers};
+ghost use Rattle.host_keys.specs.Hosts.{AreForHosts, HasHostFields, HasOtherField, IsBadFor, IsGoodFor, IsHostCertificate, IsTrustedCertificate, OfAsked, are_accepted, lines_of, login_of, plain_name, signers};
 ghost use Rattle.host_keys.specs.declared.refusal.HostRefusal.TheVariants as refusal;
 
 use crate::host_check::HostCheck;
@@ -22,7 +23,7 @@ use sshkey_base::{Error, HashAlg};
 use sshkey_cert::laws::one_certificate;
 use sshkey_cert::{Certificate, CertificateRefusal};
 use sshkey_cert_form::is_normal_form;
-use sshkey_keys::RawVerifier;
+use sshkey_keys::{KeyData, RawVerifier};
 use sshkey_known_hosts::HostHasher;
 use sshkey_krl::Revocations;
 use sshkey_model::laws::key_fits;
@@ -34,7 +35,8 @@ use std::alloc::Global;
 /// - a line `@cert-authority` of the texts of known_hosts, as OpenSSH reads them, has the key that
 ///   signed it for the host at that port, and no line for it revokes one of the two keys;
 /// - `revocations`, such as the list of `RevokedHostKeys` (ssh_config(5)), does not revoke it;
-/// - ssh(1) accepts the kind and the size of its key (`openssh_limits::openssh_accepts_key`);
+/// - ssh(1) accepts the kind and the size of its key (`openssh_limits::openssh_accepts_key`), and of the key
+///   that signed it, where RSA has 1,024 bits at least;
 /// - it is one for hosts, without critical options, with texts that ssh(1) reads: at most 256
 ///   principals, and no zero byte in one or in the key id;
 /// - it lists a principal, and is valid at that time for the host's name in small letters, for which
@@ -51,7 +53,7 @@ use std::alloc::Global;
 /// - `Revoked`: `revocations` revokes the certificate, or a line one of the keys;
 /// - `Unreadable`: a line that can't be read could be one for the host;
 /// - `Unknown`: the key that signed is no authority of the host;
-/// - `UnacceptedKey`;
+/// - `UnacceptedKey` for its key, or the one that signed;
 /// - `Certificate`: `CertificateFieldInvalid` with `CertType`, `CriticalOptions`, `KeyId` or
 ///   `ValidPrincipals`;
 /// - `Invalid` with the first refusal (`Certificate::first_refusal_for`), which is never
@@ -151,7 +153,7 @@ fn check_asked_certificate<H: HostHasher, R: Revocations, V: RawVerifier>(
         hmac,
     );
     answer(revoked, said)?;
-    if !openssh_accepts_key(key, login.least_rsa_bits) {
+    if !are_accepted(key, signer, login.least_rsa_bits) {
         return Err(HostRefusal::UnacceptedKey);
     }
     validate(
@@ -161,6 +163,14 @@ fn check_asked_certificate<H: HostHasher, R: Revocations, V: RawVerifier>(
         login.unix_timestamp,
         verifier,
     )
+}
+
+/// Whether ssh(1) accepts the host's key, and the key that signed for it. What size an RSA key has to
+/// have is asked of the host's: a key that signs has 1,024 bits at least.
+fn are_accepted(key: &KeyData, signer: &KeyData, least_rsa_bits: u32) -> bool
+    ensures { result ≡ are_accepted least_rsa_bits (key_of key.now) (key_of signer.now) }
+{
+    openssh_accepts_key(key, least_rsa_bits) && openssh_accepts_key(signer, 0)
 }
 
 /// Whether the certificate is good for the host at that time, if its authority is.
