@@ -1,5 +1,6 @@
 mod AskedNames
 mod Certificates
+mod ExampleLemmas
 mod Listed
 mod Said
 pub mod SeveralTexts

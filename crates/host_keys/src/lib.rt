@@ -6,6 +6,7 @@
 
 mod asked;
 mod certificate;
+pub mod examples;
 mod host_check;
 mod key;
 mod refusal;

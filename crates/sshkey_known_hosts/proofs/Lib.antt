@@ -11,3 +11,4 @@ pub mod AuthorityKeys
 pub mod ContainedCharacters
 mod Wholes
 mod UnreadableLines
+pub mod ExampleLemmas

@@ -8,3 +8,4 @@ pub mod MadeEntries
 pub mod Hmac
 pub mod HmacExamples
 pub mod UnreadableLines
+pub mod Examples

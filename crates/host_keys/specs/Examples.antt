@@ -1,0 +1,189 @@
+-- Worked examples of when a key or a certificate is a host's, on both sides of each edge: what is
+-- trusted, and the same with one thing changed (ssh(1), "VERIFYING HOST KEYS"; ssh_config(5);
+-- PROTOCOL.certkeys; sshconnect.c and sshkey.c of OpenSSH). ssh of 9.2 was asked.
+use Rattle.std.specs.Prelude.{◌≡◌, ℕ, ◌-◌, ◌^◌, List, [], ◌∷◌, ◌++◌, Bool, true, false, None, Some, codes, replicate, bytes_eq, if◌then◌else◌}
+use Rattle.sshkey_entries.specs.KnownHosts as known
+use Rattle.sshkey_known_hosts.specs.Examples.{broken_line, host, line, other_line}
+use Rattle.sshkey_known_hosts.specs.Hmac.{hmac_sha1}
+use Rattle.sshkey_known_hosts.specs.declared.verdict.Verdict.{Verdict}
+use Rattle.sshkey_known_hosts.specs.declared.verdict.Verdict.TheVariants.{Changed, Revoked, Trusted, Unknown, Unreadable}
+use Rattle.sshkey_krl.specs.Revocation.{CertificateIdentity}
+use Rattle.sshkey_model.specs.CertificateExamples.{authority}
+use Rattle.sshkey_model.specs.Certificates.{Certificate, Host, SignedFields, User, forever}
+use Rattle.sshkey_model.specs.KeyExamples.{ed25519_key, rsa_key}
+use Rattle.sshkey_model.specs.Keys.{Dsa, Key, Opaque, Rsa}
+use Rattle.sshkey_model.specs.Names.{Algorithm}
+use Rattle.sshkey_model.specs.Options.{CertificateOption}
+use Rattle.host_keys.specs.Hosts.{AreForHosts, HasHostFields, HostCheck, IsGoodFor, IsHostKey, IsSaid, IsSettled, IsTrustedCertificate, IsTrustedKey, IsVerdictOfSigned, OfAsked, are_accepted, plain_name}
+
+-- ---- by which name
+
+-- What is said at the port, and of the plain name.
+abbrev pub at_each : Verdict → Verdict → List ℕ → Verdict → Type 0
+at_each at_port plainly name v = v ≡ (if bytes_eq name (codes "[h.example]:2222") then at_port else plainly)
+
+-- The plain name is asked where nothing is known at the port, and at port 22.
+abbrev pub Names : Type 0
+Names = IsSaid (at_each Trusted Revoked) host 2222 Trusted
+    × ¬ IsSaid (at_each Trusted Revoked) host 2222 Revoked
+    × IsSaid (at_each Changed Trusted) host 2222 Changed
+    × ¬ IsSaid (at_each Changed Trusted) host 2222 Trusted
+    × IsSaid (at_each Unknown Trusted) host 2222 Trusted
+    × IsSaid (at_each Unknown Revoked) host 2222 Revoked
+    × IsSaid (at_each Unknown Unknown) host 2222 Unknown
+    × ¬ IsSaid (at_each Unknown Trusted) host 2222 Unknown
+    × IsSaid (at_each Changed Trusted) (codes "H.Example") 22 Trusted
+    × (plain_name (codes "H.Example") ≡ host)
+    × IsSettled Unknown 22
+    × IsSettled Changed 2222
+    × ¬ IsSettled Unknown 2222
+
+-- ---- a key
+
+abbrev pub login : HostCheck
+login = record {
+  hmac = hmac_sha1;
+  lines = line None host ∷ [];
+  host = codes "H.Example";
+  port = 22;
+  time = 100;
+  least_rsa_bits = 0;
+}
+
+abbrev pub dsa_key : Key
+dsa_key = Dsa (record { p = 7 ∷ []; q = 3 ∷ []; g = 2 ∷ []; y = 4 ∷ [] })
+
+-- Of another host, revoked by a line and by a list, hidden, changed, at another port, and with
+-- nothing to ask about.
+abbrev pub HostKeys : Type 0
+HostKeys = IsHostKey login (λ key. false) ed25519_key
+    × IsHostKey (record login { port = 2222 }) (λ key. false) ed25519_key
+    × ¬ IsHostKey login (λ key. true) ed25519_key
+    × ¬ IsHostKey login (λ key. false) authority
+    × ¬ IsHostKey (record login { lines = [] }) (λ key. false) ed25519_key
+    × ¬ IsHostKey (record login { lines = other_line ∷ [] }) (λ key. false) ed25519_key
+    × ¬ IsHostKey (record login { lines = line None host ∷ line (Some known.Revoked) host ∷ [] }) (λ key. false) ed25519_key
+    × ¬ IsHostKey (record login { lines = line None host ∷ broken_line ∷ [] }) (λ key. false) ed25519_key
+    × ¬ IsHostKey (record login { host = codes "g.example" }) (λ key. false) ed25519_key
+    × ¬ IsHostKey (record login { host = [] }) (λ key. false) ed25519_key
+    × ¬ IsHostKey (record login { port = 0 }) (λ key. false) ed25519_key
+
+-- ---- who signs
+
+abbrev rsa : List ℕ → Key
+rsa n = Rsa (record { e = 3 ∷ []; n = n })
+
+-- the powers of two of that many bits, as RFC 4251 writes them
+abbrev of_1023_bits : List ℕ
+of_1023_bits = 0x40 ∷ replicate 127 0
+
+abbrev of_1024_bits : List ℕ
+of_1024_bits = 0 ∷ 0x80 ∷ replicate 127 0
+
+-- An authority has any kind but DSA and private use, and 1,024 bits of RSA, whatever its hosts' have.
+abbrev pub Authorities : Type 0
+Authorities = (are_accepted 0 ed25519_key authority ≡ true)
+    × (are_accepted 0 ed25519_key dsa_key ≡ false)
+    × (are_accepted 0 dsa_key authority ≡ false)
+    × (are_accepted 0 ed25519_key (Opaque (codes "key@example.org") []) ≡ false)
+    × (are_accepted 0 ed25519_key (rsa of_1023_bits) ≡ false)
+    × (are_accepted 1025 ed25519_key (rsa of_1024_bits) ≡ true)
+    × (are_accepted 1024 (rsa of_1024_bits) (rsa of_1024_bits) ≡ true)
+    × (are_accepted 1025 (rsa of_1024_bits) (rsa of_1024_bits) ≡ false)
+
+abbrev pub OfSigned : List (List ℕ) → Verdict → Type 0
+OfSigned lines v = IsVerdictOfSigned hmac_sha1 host authority ed25519_key lines v
+
+abbrev pub by_line : List ℕ
+by_line = line (Some known.CertAuthority) host
+
+-- A line has the authority's key as an authority's; another reading of the line, or another
+-- authority, is none. A line that revokes one of the two keys comes first, then one that is hidden.
+abbrev pub SignedKeys : Type 0
+SignedKeys = OfSigned (by_line ∷ []) Trusted
+    × OfSigned (line None host ∷ []) Unknown
+    × OfSigned [] Unknown
+    × ¬ OfSigned (line None host ∷ []) Trusted
+    × IsVerdictOfSigned hmac_sha1 host ed25519_key authority (by_line ∷ []) Unknown
+    × IsVerdictOfSigned hmac_sha1 (codes "g.example") authority ed25519_key (by_line ∷ []) Unknown
+    × OfSigned (by_line ∷ line (Some known.Revoked) host ∷ []) Revoked
+    × ¬ OfSigned (by_line ∷ line (Some known.Revoked) host ∷ []) Trusted
+    × IsVerdictOfSigned hmac_sha1 host ed25519_key ed25519_key (by_line ∷ line (Some known.Revoked) host ∷ []) Revoked
+    × IsVerdictOfSigned hmac_sha1 host ed25519_key authority (by_line ∷ line (Some known.Revoked) host ∷ []) Revoked
+    × OfSigned (by_line ∷ broken_line ∷ []) Unreadable
+    × ¬ OfSigned (by_line ∷ broken_line ∷ []) Trusted
+    × ¬ OfSigned (other_line ∷ []) Changed
+
+-- ---- a certificate
+
+abbrev pub option : List ℕ → List ℕ → CertificateOption
+option name value = record { name = name; value = value }
+
+-- of one key, by the other
+abbrev pub fields : SignedFields
+fields = record {
+  nonce = [];
+  key = authority;
+  serial = 7;
+  certificate_type = Host;
+  key_id = codes "id";
+  valid_principals = host ∷ codes "g.example" ∷ [];
+  valid_after = 100;
+  valid_before = 200;
+  critical_options = [];
+  extensions = [];
+  reserved = [];
+  signature_key = ed25519_key;
+}
+
+abbrev pub of_fields : SignedFields → Certificate
+of_fields f = record { signed = f; signature = record { algorithm = Algorithm.Ed25519; blob = [] } }
+
+abbrev pub trusted_by : HostCheck
+trusted_by = record login { lines = by_line ∷ [] }
+
+abbrev pub TrustsFields : HostCheck → SignedFields → Type 0
+TrustsFields l f = IsTrustedCertificate l (λ q. true) (λ key identity. false) (of_fields f)
+
+-- Whatever the lines say, keys that ssh does not accept are no host's: of DSA, and of 8 bits.
+abbrev pub Unaccepted : Type 0
+Unaccepted = (l : HostCheck)
+    → ¬ IsTrustedKey l (λ key. false) dsa_key
+    × ¬ IsTrustedKey (record l { least_rsa_bits = 0 }) (λ key. false) rsa_key
+    × ¬ TrustsFields l (record fields { key = dsa_key })
+    × ¬ TrustsFields l (record fields { signature_key = dsa_key })
+
+-- For users, with a critical option, and a key id with a zero byte; an extension is none's concern.
+abbrev pub Fields : Type 0
+Fields = TrustsFields trusted_by fields
+    × ¬ TrustsFields trusted_by (record fields { certificate_type = User })
+    × ¬ TrustsFields trusted_by (record fields { critical_options = option (codes "x@example.com") [] ∷ [] })
+    × ¬ TrustsFields trusted_by (record fields { key_id = 0x69 ∷ 0 ∷ 0x64 ∷ [] })
+    × TrustsFields trusted_by (record fields { extensions = option (codes "x@example.com") [] ∷ [] })
+
+-- The host's name in small letters, byte by byte, whatever the port. A certificate that lists nobody
+-- is no host's.
+abbrev pub Principals : Type 0
+Principals = TrustsFields (record trusted_by { port = 2222 }) fields
+    × ¬ TrustsFields trusted_by (record fields { valid_principals = codes "g.example" ∷ [] })
+    × ¬ TrustsFields trusted_by (record fields { valid_principals = codes "H.Example" ∷ [] })
+    × ¬ TrustsFields trusted_by (record fields { valid_principals = codes "*.example" ∷ [] })
+    × ¬ TrustsFields trusted_by (record fields { valid_principals = [] })
+    × ¬ TrustsFields trusted_by (record fields { valid_principals = host ∷ (0 ∷ []) ∷ [] })
+    × AreForHosts (host ∷ [])
+    × ¬ AreForHosts []
+    × AreForHosts (replicate 256 host)
+    × ¬ AreForHosts (replicate 257 host)
+
+-- No authority, a line without the marker, a signature that does not count, and a revoked
+-- certificate; and times.
+abbrev pub Trust : Type 0
+Trust = ¬ TrustsFields (record trusted_by { lines = [] }) fields
+    × ¬ TrustsFields (record trusted_by { lines = line None host ∷ [] }) fields
+    × ¬ IsTrustedCertificate trusted_by (λ q. false) (λ key identity. false) (of_fields fields)
+    × ¬ IsTrustedCertificate trusted_by (λ q. true) (λ key identity. true) (of_fields fields)
+    × ¬ TrustsFields (record trusted_by { time = 99 }) fields
+    × TrustsFields (record trusted_by { time = 199 }) fields
+    × ¬ TrustsFields (record trusted_by { time = 200 }) fields
+    × TrustsFields (record trusted_by { time = 2 ^ 63 - 1 }) (record fields { valid_before = forever })
+    × ¬ TrustsFields (record trusted_by { time = 2 ^ 63 }) (record fields { valid_before = forever })

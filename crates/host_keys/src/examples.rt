@@ -1,0 +1,43 @@
+//! Worked examples of the definitions, on both sides of each edge.
+
+ghost use Rattle.host_keys.specs.Examples.{Authorities, Fields, HostKeys, Names, Principals, SignedKeys, Trust, Unaccepted};
+
+/// By which name a host is asked about.
+pub fn names()
+    ensures { Names }
+{}
+
+/// Keys.
+pub fn host_keys()
+    ensures { HostKeys }
+{}
+
+/// Keys that sign for others.
+pub fn authorities()
+    ensures { Authorities }
+{}
+
+/// Keys that an authority has signed.
+pub fn signed_keys()
+    ensures { SignedKeys }
+{}
+
+/// Of which fields a certificate has to be.
+pub fn fields()
+    ensures { Fields }
+{}
+
+/// Keys that are not accepted.
+pub fn unaccepted()
+    ensures { Unaccepted }
+{}
+
+/// Whom it lists.
+pub fn principals()
+    ensures { Principals }
+{}
+
+/// By whom and when it counts.
+pub fn trust()
+    ensures { Trust }
+{}

@@ -1,0 +1,161 @@
+-- Worked examples of what lines of known_hosts say of a host's key, on both sides of each edge: a
+-- line, and the same with one thing changed (sshd(8), "SSH_KNOWN_HOSTS FILE FORMAT"; ssh(1),
+-- "VERIFYING HOST KEYS"; hostfile.c of OpenSSH). `ssh-keygen -F` and ssh(1) of 9.2 were asked.
+use Rattle.std.specs.Prelude.{◌≡◌, ℕ, List, [], ◌∷◌, ◌++◌, Option, None, Some, codes, replicate}
+use Rattle.std.specs.List.{All}
+use Rattle.sshkey_entries.specs.Fields.{filled_lines}
+use Rattle.sshkey_entries.specs.HostNames.{known_name}
+use Rattle.sshkey_entries.specs.KnownHosts.{CertAuthority, Marker, after_marker}
+use Rattle.sshkey_entries.specs.KnownHosts as known
+use Rattle.sshkey_model.specs.CertificateExamples.{authority}
+use Rattle.sshkey_model.specs.KeyExamples.{ed25519_key}
+use Rattle.sshkey_model.specs.Keys.{Key}
+use Rattle.sshkey_model.specs.Lines.{space}
+use Rattle.sshkey_known_hosts.specs.Hmac.{hmac_sha1}
+use Rattle.sshkey_known_hosts.specs.HostEntries.{marker_of}
+use Rattle.sshkey_known_hosts.specs.Verdicts.{IsVerdict, max_severity_of, marked_verdict_of}
+use Rattle.sshkey_known_hosts.specs.declared.marker.Marker.TheVariants as marker
+use Rattle.sshkey_known_hosts.specs.declared.verdict.Verdict.{Verdict}
+use Rattle.sshkey_known_hosts.specs.declared.verdict.Verdict.TheVariants.{Changed, Revoked, Trusted, Unknown, Unreadable}
+
+-- ---- lines
+
+abbrev pub key_text : List ℕ
+key_text = codes "ssh-ed25519 AAAAC3NzaC1lZDI1NTE5AAAAILM+rvN+ot98qgEN796jTiQfZfG1KaT0PtFDJ/XFSqti"
+
+abbrev pub other_text : List ℕ
+other_text = codes "ssh-ed25519 AAAAC3NzaC1lZDI1NTE5AAAAIH1MFwI1oRdEifXgBQvWQfCBBtA/Pi8YCUE/I3wXFJo2"
+
+abbrev pub line : Option Marker → List ℕ → List ℕ
+line m hosts = after_marker m (hosts ++ (space ∷ key_text))
+
+abbrev pub host : List ℕ
+host = codes "h.example"
+
+-- What the lines say of the key that stands in `key_text`, by that name, and of that in
+-- `other_text`.
+abbrev pub Say : List ℕ → List (List ℕ) → Verdict → Verdict → Type 0
+Say name lines v w = IsVerdict hmac_sha1 name ed25519_key lines v × IsVerdict hmac_sha1 name authority lines w
+
+-- Of hosts for the name: a line lists its key, revokes it, or says of an authority and so nothing.
+abbrev pub SaysOfKeys : List ℕ × List ℕ → Type 0
+SaysOfKeys r = Say r.0 (line None r.1 ∷ []) Trusted Changed
+    × Say r.0 (line (Some known.Revoked) r.1 ∷ []) Revoked Unknown
+    × Say r.0 (line (Some CertAuthority) r.1 ∷ []) Unknown Unknown
+
+-- Of hosts that are not for the name, a line says nothing.
+abbrev pub SaysNothing : List ℕ × List ℕ → Type 0
+SaysNothing r = (m : Option Marker) → Say r.0 (line m r.1 ∷ []) Unknown Unknown
+
+-- ---- patterns
+
+abbrev pub named : List (List ℕ × List ℕ)
+named =
+    (host, host)
+    ∷ (host, codes "H.Example")
+    ∷ (host, codes "g.example,h.example")
+    ∷ (host, codes "*.example")
+    ∷ (host, codes "?.example")
+    ∷ (host, codes "*,!g.example")
+    ∷ (host, codes "h.example,|x|")
+    ∷ (host, replicate 1022 0x78 ++ codes ",h.example")
+    ∷ (codes "[h.example]:2222", codes "[h.example]:2222")
+    ∷ (codes "[h.example]:2222", codes "[*]:2222")
+    ∷ (codes "[h.example]:2222", codes "[h.example]:*")
+    ∷ []
+
+abbrev pub unnamed : List (List ℕ × List ℕ)
+unnamed =
+    (host, codes "g.example")
+    ∷ (host, codes "h.exampl")
+    ∷ (host, codes "h.example.")
+    ∷ (host, codes "?h.example")
+    ∷ (host, codes "h.example;g.example")
+    ∷ (host, codes "!g.example")
+    ∷ (host, codes "!h.example,*")
+    ∷ (host, codes "*.example,!h.example")
+    ∷ (host, codes "|x|,h.example")
+    ∷ (host, replicate 1023 0x78 ++ codes ",h.example")
+    ∷ (host, codes "[h.example]:2222")
+    ∷ (codes "[h.example]:2222", host)
+    ∷ (codes "[h.example]:2222", codes "[h.example]:22")
+    ∷ []
+
+abbrev pub Patterns : Type 0
+Patterns = All SaysOfKeys named × All SaysNothing unnamed
+
+-- The name that is asked about: in small letters, and between brackets at another port.
+abbrev pub Names : Type 0
+Names = (known_name (codes "H.Example") 22 ≡ host)
+    × (known_name (codes "H.Example") 2222 ≡ codes "[h.example]:2222")
+    × (known_name (codes "fd00::1") 2222 ≡ codes "[fd00::1]:2222")
+
+-- ---- hashes
+
+-- of `h.example` and of `[h.example]:2222`, as `ssh-keygen -H` wrote them; the last salt has 19 bytes
+abbrev pub hashed : List ℕ
+hashed = codes "|1|/msvAavr8/o4oo7m6qsivIMux8k=|2HapNFj+4l+dMdGPqXUBAEdUlfY="
+
+abbrev pub hashed_at_port : List ℕ
+hashed_at_port = codes "|1|0XW9S++19vGCHhvDryumID1PA1E=|v+Id+vM/KU0ctpb1L42lZ6QelTQ="
+
+abbrev pub short_salt : List ℕ
+short_salt = codes "|1|AAECAwQFBgcICQoLDA0ODxAREg==|gs1sQq2+8JRWdCHWwg/bKdx0uqU="
+
+abbrev pub Hashes : Type 0
+Hashes = SaysOfKeys (host, hashed)
+    × SaysNothing (codes "g.example", hashed)
+    × SaysNothing (codes "[h.example]:2222", hashed)
+    × SaysOfKeys (codes "[h.example]:2222", hashed_at_port)
+    × SaysNothing (host, hashed_at_port)
+    × SaysNothing (host, short_salt)
+
+-- ---- lines that are none
+
+abbrev tab : List ℕ
+tab = 9 ∷ []
+
+abbrev pub MayRevoke : List ℕ → Type 0
+MayRevoke text = Say host (text ∷ []) Unreadable Unreadable
+
+-- Another marker, two of them, a tab after that of an authority, a zero byte, and no key: ssh(1)
+-- passes over each of them, and it may be a revocation. What is for others says nothing.
+abbrev pub BrokenLines : Type 0
+BrokenLines = MayRevoke (codes "@gibberish h.example " ++ key_text)
+    × MayRevoke (codes "@revoked @cert-authority h.example " ++ key_text)
+    × MayRevoke (codes "@cert-authority" ++ tab ++ codes "h.example " ++ key_text)
+    × MayRevoke (codes "g.example " ++ key_text ++ (0 ∷ []))
+    × MayRevoke (codes "h.example ssh-ed25519")
+    × Say host (codes "g.example ssh-ed25519" ∷ []) Unknown Unknown
+
+-- Blanks in front and between, a comment, and a tab after the other marker.
+abbrev pub Blanks : Type 0
+Blanks = Say host ((tab ++ codes "  h.example" ++ tab ++ key_text ++ codes " # me") ∷ []) Trusted Changed
+    × Say host ((codes "@revoked" ++ tab ++ codes "h.example " ++ key_text) ∷ []) Revoked Unknown
+
+-- ---- several lines
+
+abbrev pub other_line : List ℕ
+other_line = host ++ (space ∷ other_text)
+
+abbrev pub broken_line : List ℕ
+broken_line = codes "h.example ssh-ed25519"
+
+abbrev pub revoking : List ℕ
+revoking = line (Some known.Revoked) host
+
+-- Whichever stands first: a line that revokes the key, one that cannot be read, one that lists the
+-- key, and one that lists another.
+abbrev pub Orders : Type 0
+Orders = Say host [] Unknown Unknown
+    × Say host (line None host ∷ revoking ∷ []) Revoked Changed
+    × Say host (revoking ∷ line None host ∷ []) Revoked Changed
+    × Say host (revoking ∷ broken_line ∷ []) Revoked Unreadable
+    × Say host (broken_line ∷ revoking ∷ []) Revoked Unreadable
+    × Say host (line None host ∷ broken_line ∷ []) Unreadable Unreadable
+    × Say host (broken_line ∷ line None host ∷ []) Unreadable Unreadable
+    × Say host (line None host ∷ other_line ∷ []) Trusted Trusted
+    × Say host (other_line ∷ line None host ∷ []) Trusted Trusted
+    × Say host (other_line ∷ line (Some CertAuthority) host ∷ []) Changed Trusted
+    × ¬ IsVerdict hmac_sha1 host ed25519_key (broken_line ∷ line None host ∷ []) Trusted
+    × ¬ IsVerdict hmac_sha1 host ed25519_key (other_line ∷ line None host ∷ []) Changed
