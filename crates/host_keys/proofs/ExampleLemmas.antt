@@ -9,7 +9,7 @@ use Rattle.sshkey_addresses.specs.AskedHosts.{IsAsked}
 use Rattle.sshkey_addresses.proofs.AskedHosts.{one_asked}
 use Rattle.sshkey_entries.specs.HostVerdicts.{IsAuthority}
 use Rattle.sshkey_entries.specs.KnownHosts.{CertAuthority, Revoked}
-use Rattle.sshkey_known_hosts.specs.Examples.{broken_line, host, line, other_line}
+use Rattle.sshkey_known_hosts.specs.Examples.{by_line, host, line}
 use Rattle.sshkey_known_hosts.specs.Hmac.{hmac_sha1}
 use Rattle.sshkey_known_hosts.specs.Verdicts.{IsVerdict}
 use Rattle.sshkey_patterns.specs.Commas.{patterns}
@@ -25,7 +25,7 @@ use Rattle.sshkey_model.specs.Lines.{IsWithout}
 use Rattle.sshkey_model.specs.Options.{CertificateOption}
 use Rattle.sshkey_model.proofs.Base64Words.{is_other_than}
 use Rattle.sshkey_model.proofs.LineTests.{all_characters, lacks}
-use Rattle.host_keys.specs.Examples.{TrustsFields, by_line, fields, login, trusted_by}
+use Rattle.host_keys.specs.Examples.{TrustsFields, fields, login, trusted_by}
 use Rattle.host_keys.specs.Hosts.{AreForHosts, HostCheck, IsHostKey, IsSaidOfKey, IsSaidOfSigned, IsVerdictOfSigned}
 use Rattle.host_keys.proofs.Said.{one_said}
 
@@ -126,9 +126,15 @@ found name [] (k, below, is) = absurd (omega (arith, below))
 found name (n ∷ names) (zero, below, is) = rw ((bytes_eq-Decides name n).1 (sym is)) refl
 found name (n ∷ names) (suc k, below, is) = rw (found name names (k, omega (arith, below), is)) (either_true (bytes_eq name n))
 
--- some principals, and not the host
-pub unlisted : (names : List (List ℕ)) → names ≢ [] → list_any (bytes_eq host) names ≡ false → (names ≡ []) ⊎ Contains names host → ⊥
-unlisted names some absent allowed = elim allowed [
+-- some principals, and not the name
+not_listed : (name : List ℕ) (names : List (List ℕ)) → names ≢ [] → list_any (bytes_eq name) names ≡ false → (names ≡ []) ⊎ Contains names name → ⊥
+not_listed name names some absent allowed = elim allowed [
   | inl none ↦ some none
-  | inr among ↦ never (sym absent ∙ found host names among)
+  | inr among ↦ never (sym absent ∙ found name names among)
 ]
+
+pub unlisted : (names : List (List ℕ)) → names ≢ [] → list_any (bytes_eq host) names ≡ false → (names ≡ []) ⊎ Contains names host → ⊥
+unlisted = not_listed host
+
+pub unlisted_capitals : (fields.valid_principals ≡ []) ⊎ Contains fields.valid_principals (codes "H.Example") → ⊥
+unlisted_capitals = not_listed (codes "H.Example") fields.valid_principals (λ e. cc e) refl

@@ -1,9 +1,9 @@
 -- Worked examples of when a key or a certificate is a host's, on both sides of each edge: what is
 -- trusted, and the same with one thing changed (ssh(1), "VERIFYING HOST KEYS"; ssh_config(5);
 -- PROTOCOL.certkeys; sshconnect.c and sshkey.c of OpenSSH). ssh of 9.2 was asked.
-use Rattle.std.specs.Prelude.{◌≡◌, ℕ, ◌-◌, ◌^◌, List, [], ◌∷◌, ◌++◌, Bool, true, false, None, Some, codes, replicate, bytes_eq, if◌then◌else◌}
+use Rattle.std.specs.Prelude.{◌≡◌, ℕ, ◌-◌, ◌^◌, List, [], ◌∷◌, ◌++◌, Bool, true, false, None, Some, Ok, Err, codes, replicate, bytes_eq, if◌then◌else◌}
 use Rattle.sshkey_entries.specs.KnownHosts as known
-use Rattle.sshkey_known_hosts.specs.Examples.{broken_line, host, line, other_line}
+use Rattle.sshkey_known_hosts.specs.Examples.{broken_line, by_line, host, line, other_line}
 use Rattle.sshkey_known_hosts.specs.Hmac.{hmac_sha1}
 use Rattle.sshkey_known_hosts.specs.declared.verdict.Verdict.{Verdict}
 use Rattle.sshkey_known_hosts.specs.declared.verdict.Verdict.TheVariants.{Changed, Revoked, Trusted, Unknown, Unreadable}
@@ -14,7 +14,13 @@ use Rattle.sshkey_model.specs.KeyExamples.{ed25519_key, rsa_key}
 use Rattle.sshkey_model.specs.Keys.{Dsa, Key, Opaque, Rsa}
 use Rattle.sshkey_model.specs.Names.{Algorithm}
 use Rattle.sshkey_model.specs.Options.{CertificateOption}
-use Rattle.host_keys.specs.Hosts.{AreForHosts, HasHostFields, HostCheck, IsGoodFor, IsHostKey, IsSaid, IsSettled, IsTrustedCertificate, IsTrustedKey, IsVerdictOfSigned, OfAsked, are_accepted, plain_name}
+use Rattle.sshkey_base.specs.declared.certificate.field.Field.{Field}
+use Rattle.sshkey_base.specs.declared.certificate.field.Field.TheVariants as field
+use Rattle.sshkey_base.specs.declared.error.Error.TheVariants.{CertificateFieldInvalid}
+use Rattle.host_keys.specs.Answers.{IsWhy, answer_of, verdict_answer}
+use Rattle.host_keys.specs.Hosts.{AreForHosts, HasOtherField, HostCheck, IsGoodFor, IsHostKey, IsSaid, IsSettled, IsTrustedCertificate, IsTrustedKey, IsVerdictOfSigned, OfAsked, are_accepted, plain_name}
+use Rattle.host_keys.specs.declared.refusal.HostRefusal.{HostRefusal}
+use Rattle.host_keys.specs.declared.refusal.HostRefusal.TheVariants as refusal
 
 -- ---- by which name
 
@@ -67,6 +73,9 @@ HostKeys = IsHostKey login (λ key. false) ed25519_key
     × ¬ IsHostKey (record login { host = codes "g.example" }) (λ key. false) ed25519_key
     × ¬ IsHostKey (record login { host = [] }) (λ key. false) ed25519_key
     × ¬ IsHostKey (record login { port = 0 }) (λ key. false) ed25519_key
+    × OfAsked login (λ it. it.host ≡ codes "H.Example")
+    × ¬ OfAsked (record login { host = [] }) (λ it. Unit {0})
+    × ¬ OfAsked (record login { port = 0 }) (λ it. Unit {0})
 
 -- ---- who signs
 
@@ -93,9 +102,6 @@ Authorities = (are_accepted 0 ed25519_key authority ≡ true)
 
 abbrev pub OfSigned : List (List ℕ) → Verdict → Type 0
 OfSigned lines v = IsVerdictOfSigned hmac_sha1 host authority ed25519_key lines v
-
-abbrev pub by_line : List ℕ
-by_line = line (Some known.CertAuthority) host
 
 -- A line has the authority's key as an authority's; another reading of the line, or another
 -- authority, is none. A line that revokes one of the two keys comes first, then one that is hidden.
@@ -170,6 +176,8 @@ Principals = TrustsFields (record trusted_by { port = 2222 }) fields
     × ¬ TrustsFields trusted_by (record fields { valid_principals = codes "*.example" ∷ [] })
     × ¬ TrustsFields trusted_by (record fields { valid_principals = [] })
     × ¬ TrustsFields trusted_by (record fields { valid_principals = host ∷ (0 ∷ []) ∷ [] })
+    × IsGoodFor (λ q. true) 100 host (of_fields fields)
+    × ¬ IsGoodFor (λ q. true) 100 (codes "H.Example") (of_fields fields)
     × AreForHosts (host ∷ [])
     × ¬ AreForHosts []
     × AreForHosts (replicate 256 host)
@@ -187,3 +195,48 @@ Trust = ¬ TrustsFields (record trusted_by { lines = [] }) fields
     × ¬ TrustsFields (record trusted_by { time = 200 }) fields
     × TrustsFields (record trusted_by { time = 2 ^ 63 - 1 }) (record fields { valid_before = forever })
     × ¬ TrustsFields (record trusted_by { time = 2 ^ 63 }) (record fields { valid_before = forever })
+
+-- ---- what is answered
+
+-- What is revoked by who says so comes first, then what the lines say.
+abbrev pub AnswersGiven : Type 0
+AnswersGiven = (verdict_answer Trusted ≡ Ok tt)
+    × (verdict_answer Revoked ≡ Err refusal.Revoked)
+    × (verdict_answer Unreadable ≡ Err refusal.Unreadable)
+    × (verdict_answer Changed ≡ Err refusal.Changed)
+    × (verdict_answer Unknown ≡ Err refusal.Unknown)
+    × (answer_of {E = Unit {0}} {F = Unit {0}} (Ok true) (Ok Changed) ≡ Err refusal.Revoked)
+    × (answer_of {E = Unit {0}} {F = Unit {0}} (Ok false) (Ok Changed) ≡ Err refusal.Changed)
+    × (answer_of {E = Unit {0}} {F = Unit {0}} (Ok false) (Ok Trusted) ≡ Ok tt)
+    × (answer_of {E = Unit {0}} {F = Unit {0}} (Err tt) (Ok Trusted) ≡ Err refusal.Memory)
+    × (answer_of {E = Unit {0}} {F = Unit {0}} (Ok false) (Err tt) ≡ Err refusal.Memory)
+
+-- of a verdict, by whether it is revoked and the keys are accepted, of a certificate that is bad
+abbrev pub Why : Verdict → Bool → Bool → HostRefusal → Type 0
+Why said revoked accepted = IsWhy (λ v. v ≡ said) revoked accepted (λ r. Unit {0})
+
+-- What is revoked comes first, then the verdict, then the keys, and last the certificate.
+abbrev pub Reasons : Type 0
+Reasons = Why Changed true true refusal.Revoked
+    × ¬ Why Changed true true refusal.Changed
+    × Why Revoked false true refusal.Revoked
+    × Why Unreadable false true refusal.Unreadable
+    × Why Changed false true refusal.Changed
+    × Why Unknown false false refusal.Unknown
+    × ¬ Why Unknown false false refusal.UnacceptedKey
+    × Why Trusted false false refusal.UnacceptedKey
+    × ¬ Why Trusted false true refusal.UnacceptedKey
+    × ¬ Why Trusted false false (refusal.Certificate (CertificateFieldInvalid field.CertType))
+    × Why Trusted false true (refusal.Certificate (CertificateFieldInvalid field.CertType))
+    × ¬ Why Trusted false true refusal.NotNormalForm
+
+abbrev pub Lacks : SignedFields → Field → Type 0
+Lacks f it = HasOtherField (of_fields f) (CertificateFieldInvalid it)
+
+-- The first of its fields that none for hosts has.
+abbrev pub FirstFields : Type 0
+FirstFields = Lacks (record fields { certificate_type = User }) field.CertType
+    × Lacks (record fields { certificate_type = User; critical_options = option (codes "x@example.com") [] ∷ [] }) field.CertType
+    × Lacks (record fields { critical_options = option (codes "x@example.com") [] ∷ [] }) field.CriticalOptions
+    × Lacks (record fields { key_id = 0x69 ∷ 0 ∷ 0x64 ∷ [] }) field.KeyId
+    × Lacks (record fields { valid_principals = [] }) field.ValidPrincipals

@@ -1,6 +1,6 @@
 //! Worked examples of the definitions, on both sides of each edge.
 
-ghost use Rattle.host_keys.specs.Examples.{Authorities, Fields, HostKeys, Names, Principals, SignedKeys, Trust, Unaccepted};
+ghost use Rattle.host_keys.specs.Examples.{AnswersGiven, Authorities, Fields, FirstFields, HostKeys, Names, Principals, Reasons, SignedKeys, Trust, Unaccepted};
 
 /// By which name a host is asked about.
 pub fn names()
@@ -40,4 +40,19 @@ pub fn principals()
 /// By whom and when it counts.
 pub fn trust()
     ensures { Trust }
+{}
+
+/// What is answered.
+pub fn answers()
+    ensures { AnswersGiven }
+{}
+
+/// Why a host is refused.
+pub fn reasons()
+    ensures { Reasons }
+{}
+
+/// Which field is wrong first.
+pub fn first_fields()
+    ensures { FirstFields }
 {}

@@ -80,7 +80,7 @@ spells blob k h e =
 abbrev authority_bytes : List ℕ
 authority_bytes = hex "0000000b 7373682d65643235353139 00000020 7d4c170235a1174489f5e0050bd641f08106d03f3e2f1809413f237c17149a36"
 
-own_spelled : SpellsKey ed25519_key ed25519_bytes
+pub own_spelled : SpellsKey ed25519_key ed25519_bytes
 unfolding key_at label_at after_at box_at string_at number_at bytes_at named
 own_spelled = spells ed25519_bytes ed25519_key Plain refl
 
@@ -142,10 +142,11 @@ module _ (text : List ℕ) (m : Option Marker) (hosts rest : List ℕ) (has : Ha
     fields = fields;
   }
 
+  pub for_others : (name : List ℕ) → (AreFor hmac_sha1 name h → ⊥) → IsForOthers hmac_sha1 name text
+  for_others name never_for = record { no_zero = has.no_zero; marker = m; hosts_part = hosts; after = rest; hosts = h; marked = has.marked; one_word = has.one_word; ends = has.ends; are = are; not_for = never_for }
+
   pub nothing_said : (name : List ℕ) → (AreFor hmac_sha1 name h → ⊥) → Say name (text ∷ []) verdict.Unknown verdict.Unknown
-  nothing_said name never_for =
-      let others : IsForOthers hmac_sha1 name text = record { no_zero = has.no_zero; marker = m; hosts_part = hosts; after = rest; hosts = h; marked = has.marked; one_word = has.one_word; ends = has.ends; are = are; not_for = never_for } in
-      (say.passed_over hmac_sha1 name ed25519_key text others, say.passed_over hmac_sha1 name authority text others)
+  nothing_said name never_for = let others = for_others name never_for in (say.passed_over hmac_sha1 name ed25519_key text others, say.passed_over hmac_sha1 name authority text others)
 
 abbrev pub own_verdict : Option Marker → Verdict
 own_verdict None = verdict.Trusted
@@ -184,7 +185,7 @@ fit_in (c ∷ hosts) = all_characters is_no_blank (c ∷ hosts) && (all_characte
 no : (b : Bool) → not b ≡ true → b ≡ true → ⊥
 no b e t = never (sym (not-true b e) ∙ t)
 
-abbrev after_hosts : List ℕ
+abbrev pub after_hosts : List ℕ
 after_hosts = space ∷ key_text
 
 marker_stays : (m : Marker) (rest : List ℕ) → without_blanks (marker_text m ++ rest) ≡ marker_text m ++ rest

@@ -12,3 +12,4 @@ pub mod ContainedCharacters
 mod Wholes
 mod UnreadableLines
 pub mod ExampleLemmas
+mod WrittenExamples

@@ -1,19 +1,26 @@
 -- Worked examples of what lines of known_hosts say of a host's key, on both sides of each edge: a
 -- line, and the same with one thing changed (sshd(8), "SSH_KNOWN_HOSTS FILE FORMAT"; ssh(1),
 -- "VERIFYING HOST KEYS"; hostfile.c of OpenSSH). `ssh-keygen -F` and ssh(1) of 9.2 were asked.
-use Rattle.std.specs.Prelude.{◌≡◌, ℕ, List, [], ◌∷◌, ◌++◌, Option, None, Some, codes, replicate}
+use Rattle.std.specs.Prelude.{◌≡◌, ℕ, List, [], ◌∷◌, ◌++◌, Option, None, Some, true, false, codes, replicate}
 use Rattle.std.specs.List.{All}
 use Rattle.sshkey_entries.specs.Fields.{filled_lines}
 use Rattle.sshkey_entries.specs.HostNames.{known_name}
-use Rattle.sshkey_entries.specs.KnownHosts.{CertAuthority, Marker, after_marker}
+use Rattle.sshkey_entries.specs.KnownHosts.{CertAuthority, KnownHost, Marker, after_marker}
 use Rattle.sshkey_entries.specs.KnownHosts as known
 use Rattle.sshkey_model.specs.CertificateExamples.{authority}
 use Rattle.sshkey_model.specs.KeyExamples.{ed25519_key}
 use Rattle.sshkey_model.specs.Keys.{Key}
 use Rattle.sshkey_model.specs.Lines.{space}
 use Rattle.sshkey_known_hosts.specs.Hmac.{hmac_sha1}
-use Rattle.sshkey_known_hosts.specs.HostEntries.{marker_of}
-use Rattle.sshkey_known_hosts.specs.Verdicts.{IsVerdict, max_severity_of, marked_verdict_of}
+use Rattle.sshkey_public.specs.PublicKeys.{comment_of, public_of}
+use Rattle.sshkey_public.specs.declared.public_key.PublicKey.{PublicKey}
+use Rattle.sshkey_known_hosts.specs.HostEntries.{marker_front, marker_of}
+use Rattle.sshkey_known_hosts.specs.HostLines.{IsToHost, is_unreadable}
+use Rattle.sshkey_known_hosts.specs.MadeEntries.{IsReadBack}
+use Rattle.sshkey_known_hosts.specs.NamedHosts.{TellsHosts}
+use Rattle.sshkey_known_hosts.specs.UnreadableLines.{HidesEntryIn, IsNumberOfFirst}
+use Rattle.sshkey_known_hosts.specs.Verdicts.{AreInOrder, IsAuthorityLine, IsVerdict, in_front, is_authority_of, marked_verdict_of, max_severity_of}
+use Rattle.sshkey_known_hosts.specs.declared.host_line.HostLine.TheVariants as is
 use Rattle.sshkey_known_hosts.specs.declared.marker.Marker.TheVariants as marker
 use Rattle.sshkey_known_hosts.specs.declared.verdict.Verdict.{Verdict}
 use Rattle.sshkey_known_hosts.specs.declared.verdict.Verdict.TheVariants.{Changed, Revoked, Trusted, Unknown, Unreadable}
@@ -159,3 +166,88 @@ Orders = Say host [] Unknown Unknown
     × Say host (other_line ∷ line (Some CertAuthority) host ∷ []) Changed Trusted
     × ¬ IsVerdict hmac_sha1 host ed25519_key (broken_line ∷ line None host ∷ []) Trusted
     × ¬ IsVerdict hmac_sha1 host ed25519_key (other_line ∷ line None host ∷ []) Changed
+
+-- ---- verdicts and markers
+
+-- Of two verdicts the graver one, whichever comes first.
+abbrev pub Severities : Type 0
+Severities = (max_severity_of Revoked Unreadable ≡ Revoked)
+    × (max_severity_of Unreadable Revoked ≡ Revoked)
+    × (max_severity_of Unreadable Trusted ≡ Unreadable)
+    × (max_severity_of Trusted Unreadable ≡ Unreadable)
+    × (max_severity_of Trusted Changed ≡ Trusted)
+    × (max_severity_of Changed Trusted ≡ Trusted)
+    × (max_severity_of Changed Unknown ≡ Changed)
+    × (max_severity_of Unknown Changed ≡ Changed)
+    × (max_severity_of Unknown Unknown ≡ Unknown)
+
+abbrev pub Markers : Type 0
+Markers = (marker_of marker.CertAuthority ≡ CertAuthority)
+    × (marker_of marker.Revoked ≡ known.Revoked)
+    × (marker_front (Some marker.CertAuthority) ≡ codes "@cert-authority ")
+    × (marker_front (Some marker.Revoked) ≡ codes "@revoked ")
+    × (marker_front None ≡ [])
+    × (marked_verdict_of (Some marker.CertAuthority) true ≡ Unknown)
+    × (marked_verdict_of (Some marker.CertAuthority) false ≡ Unknown)
+    × (marked_verdict_of (Some marker.Revoked) true ≡ Revoked)
+    × (marked_verdict_of (Some marker.Revoked) false ≡ Unknown)
+    × (marked_verdict_of None true ≡ Trusted)
+    × (marked_verdict_of None false ≡ Changed)
+    × (is_authority_of (Some marker.CertAuthority) ≡ true)
+    × (is_authority_of (Some marker.Revoked) ≡ false)
+    × (is_authority_of None ≡ false)
+
+-- ---- authorities
+
+abbrev pub by_line : List ℕ
+by_line = line (Some CertAuthority) host
+
+-- A line of the host's with the marker has its key as an authority's, and no other line has.
+abbrev pub AuthorityLines : Type 0
+AuthorityLines = (k : PublicKey) → public_of k ≡ ed25519_key → comment_of k ≡ []
+    → IsAuthorityLine hmac_sha1 host by_line (Some k)
+    × ¬ IsAuthorityLine hmac_sha1 host by_line None
+    × IsAuthorityLine hmac_sha1 host (line None host) None
+    × ¬ IsAuthorityLine hmac_sha1 host (line None host) (Some k)
+    × ¬ IsAuthorityLine hmac_sha1 host revoking (Some k)
+    × IsAuthorityLine hmac_sha1 (codes "g.example") by_line None
+    × AreInOrder hmac_sha1 host (by_line ∷ line None host ∷ []) (k ∷ [])
+    × ¬ AreInOrder hmac_sha1 host (by_line ∷ line None host ∷ []) []
+    × (in_front (Some k) (k ∷ []) ≡ k ∷ k ∷ [])
+    × (in_front None (k ∷ []) ≡ k ∷ [])
+
+-- ---- what a line is
+
+abbrev pub LineKinds : Type 0
+LineKinds = IsToHost hmac_sha1 host broken_line is.Unreadable
+    × IsToHost hmac_sha1 (codes "g.example") by_line is.ForOthers
+    × ((k : PublicKey) → public_of k ≡ ed25519_key → comment_of k ≡ [] → IsToHost hmac_sha1 host by_line (is.Entry (Some marker.CertAuthority) k))
+    × ((k : PublicKey) → ¬ IsToHost hmac_sha1 host by_line (is.Entry None k))
+    × (is_unreadable is.Unreadable ≡ true)
+    × (is_unreadable is.ForOthers ≡ false)
+    × (is_unreadable (is.OtherKey None) ≡ false)
+    × ((k : PublicKey) → is_unreadable (is.Entry None k) ≡ false)
+    × TellsHosts hmac_sha1 host host (Some true)
+    × TellsHosts hmac_sha1 host (codes "g.example") (Some false)
+    × TellsHosts hmac_sha1 host [] None
+
+-- ---- the number of a line
+
+-- Lines are numbered from 1. A comment is none that counts, whatever host its front names.
+abbrev pub Numbers : Type 0
+Numbers = IsNumberOfFirst (λ l. l ≡ codes "b") (codes "a" ∷ codes "b" ∷ codes "b" ∷ []) (Some 2)
+    × IsNumberOfFirst (λ l. l ≡ codes "a") (codes "a" ∷ codes "b" ∷ []) (Some 1)
+    × IsNumberOfFirst (λ l. l ≡ codes "c") (codes "a" ∷ codes "b" ∷ []) None
+    × HidesEntryIn hmac_sha1 host broken_line
+    × ¬ HidesEntryIn hmac_sha1 host (codes "#,h.example ssh-ed25519")
+
+-- ---- lines that are written
+
+abbrev pub written : List ℕ → KnownHost
+written pattern = record { marker = None; hosts = known.Patterns (pattern ∷ []); key = ed25519_key; comment = [] }
+
+-- A pattern with a tab is written as a line that ssh reads otherwise, one with a line feed as two.
+abbrev pub WrittenLines : Type 0
+WrittenLines = IsReadBack (written host)
+    × ¬ IsReadBack (written (codes "a" ++ tab ++ codes "b"))
+    × ¬ IsReadBack (written (codes "a" ++ (10 ∷ []) ++ codes "b"))

@@ -1,6 +1,6 @@
 //! Worked examples of the definitions, on both sides of each edge.
 
-ghost use Rattle.sshkey_known_hosts.specs.Examples.{Blanks, BrokenLines, Hashes, Names, Orders, Patterns};
+ghost use Rattle.sshkey_known_hosts.specs.Examples.{AuthorityLines, Blanks, BrokenLines, Hashes, LineKinds, Markers, Names, Numbers, Orders, Patterns, Severities, WrittenLines};
 ghost use Rattle.sshkey_known_hosts.specs.HmacExamples.{Digests};
 
 /// Patterns of hosts.
@@ -36,4 +36,34 @@ pub fn orders()
 /// HMAC-SHA1.
 pub fn hmacs()
     ensures { Digests }
+{}
+
+/// The graver of two verdicts.
+pub fn severities()
+    ensures { Severities }
+{}
+
+/// Markers.
+pub fn markers()
+    ensures { Markers }
+{}
+
+/// Lines of authorities.
+pub fn authority_lines()
+    ensures { AuthorityLines }
+{}
+
+/// Numbers of lines.
+pub fn numbers()
+    ensures { Numbers }
+{}
+
+/// Lines that are written.
+pub fn written_lines()
+    ensures { WrittenLines }
+{}
+
+/// What a line is to a host.
+pub fn line_kinds()
+    ensures { LineKinds }
 {}

@@ -34,4 +34,7 @@ returns c =
       untrusted (record login { host = codes "g.example" }) (codes "g.example") asked_other verdict.Unknown ed25519_key (inr (elsewhere.0, elsewhere.0)) (λ e. cc e) _,
       λ t. t.asked.some_host refl,
       λ t. t.asked.some_port refl,
+      record { name = codes "H.Example"; asked = asked 22 (λ e. omega (arith, e)); holds = refl },
+      λ t. t.asked.some_host refl,
+      λ t. t.asked.some_port refl,
     )

@@ -3,12 +3,11 @@ use Rattle.sshkey_entries.specs.KnownHosts.{CertAuthority, Revoked}
 use Rattle.sshkey_model.specs.CertificateExamples.{authority}
 use Rattle.sshkey_model.specs.KeyExamples.{ed25519_key}
 use Rattle.sshkey_patterns.specs.Commas.{patterns}
-use Rattle.sshkey_known_hosts.specs.Examples.{broken_line, host, line}
+use Rattle.sshkey_known_hosts.specs.Examples.{broken_line, by_line, host, line}
 use Rattle.sshkey_known_hosts.specs.Hmac.{hmac_sha1}
 use Rattle.sshkey_known_hosts.specs.declared.verdict.Verdict.TheVariants as verdict
 use Rattle.sshkey_known_hosts.proofs.ExampleLemmas.{hidden, host_line, of_none, of_unnamed, pair, said_of_host, unnamed_elsewhere, without_key}
 use Rattle.sshkey_known_hosts.proofs.Verdicts.{nothing}
-use Rattle.host_keys.specs.Examples.{by_line}
 use Rattle.host_keys.proofs.ExampleLemmas.{no_other_authority, signed_by, unmarked_none}
 use Rattle.host_keys.proofs.examples.signed_keys.Goals as goal
 
