@@ -35,16 +35,17 @@ use std::alloc::Global;
 /// - a line `@cert-authority` of the texts of known_hosts, as OpenSSH reads them, has the key that
 ///   signed it for the host at that port, and no line for it revokes one of the two keys;
 /// - `revocations`, such as the list of `RevokedHostKeys` (ssh_config(5)), does not revoke it;
-/// - ssh(1) accepts the kind and the size of its key (`openssh_limits::openssh_accepts_key`), and of the key
-///   that signed it, where RSA has 1,024 bits at least;
+/// - ssh(1) accepts the kind and the size of its key (`openssh_limits::openssh_accepts_key`), and of
+///   the key that signed it, where RSA has 1,024 bits at least;
 /// - it is one for hosts, without critical options, with texts that ssh(1) reads: at most 256
 ///   principals, and no zero byte in one or in the key id;
 /// - it lists a principal, and is valid at that time for the host's name in small letters, for which
 ///   ssh asks it too.
 ///
 /// So one that lists the name with capitals alone is not the host's, and one that lists an address in
-/// another text than the canonical one is not that address's (`sshkey_addresses::asked_host`). One that lists nobody is no
-/// host's, as ssh(1) has it since 10.3; before, it was each host's of its authority.
+/// another text than the canonical one is not that address's (`sshkey_addresses::asked_host`). One
+/// that lists nobody is no host's, as ssh(1) has it since 10.3; before, it was each host's of its
+/// authority.
 ///
 /// Unless memory runs out, it fails with the first of these that fits:
 /// - `Certificate` with an error of `Certificate::from_bytes`;
@@ -165,8 +166,8 @@ fn check_asked_certificate<H: HostHasher, R: Revocations, V: RawVerifier>(
     )
 }
 
-/// Whether ssh(1) accepts the host's key, and the key that signed for it. What size an RSA key has to
-/// have is asked of the host's: a key that signs has 1,024 bits at least.
+/// Whether ssh(1) accepts the host's key, and the key that signed for it. What size an RSA key has
+/// to have is asked of the host's: a key that signs has 1,024 bits at least.
 fn are_accepted(key: &KeyData, signer: &KeyData, least_rsa_bits: u32) -> bool
     ensures { result ≡ are_accepted least_rsa_bits (key_of key.now) (key_of signer.now) }
 {

@@ -22,8 +22,8 @@ pub enum HostRefusal {
     Changed,
     /// Nothing is known of the host, or the key that signed the certificate is no authority of it.
     Unknown,
-    /// ssh(1) accepts no such key, by its kind or its size (`openssh_limits::openssh_accepts_key`), or no such
-    /// key as signed the certificate.
+    /// ssh(1) accepts no such key, by its kind or its size (`openssh_limits::openssh_accepts_key`),
+    /// or no such key as signed the certificate.
     UnacceptedKey,
     /// The bytes spell no certificate; or it is by an authority of the host, but for users, with a
     /// critical option, or with a text that ssh(1) does not read (`Error::CertificateFieldInvalid`).

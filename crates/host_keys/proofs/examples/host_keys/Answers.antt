@@ -16,7 +16,7 @@ use Rattle.host_keys.proofs.examples.host_keys.Goals as goal
 
 pub returns : goal.returns
 unfolding digits patterns count_leading_zeros
-returns c = 
+returns c =
     let plain = said_of_host.0 in
     let gone = said_of_host.1 in
     let odd = hidden host broken_line without_key in

@@ -16,7 +16,7 @@ neither a b either = elim either [ inl x ↦ a x | inr y ↦ b y ]
 
 pub returns : goal.returns
 unfolding patterns
-returns c = 
+returns c =
     let by = said_of_host.2 in
     let plain = said_of_host.0 in
     let gone = said_of_host.1 in

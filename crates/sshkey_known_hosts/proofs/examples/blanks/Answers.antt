@@ -13,17 +13,17 @@ tab = 9 ∷ []
 
 pub returns : goal.returns
 unfolding without_front
-returns c = 
+returns c =
     let first = tab ++ codes "  h.example" ++ tab ++ key_text ++ codes " # me" in
     let second = codes "@revoked" ++ tab ++ codes "h.example " ++ key_text in (
       said host first None (Patterns (patterns host)) (codes "# me")
-      (read first None host (tab ++ key_text ++ codes " # me")
-      (record { no_zero = lacks 0 first refl; no_comment = λ is. omega (arith, is); marked = (refl, λ is. omega (arith, is)); one_word = field host refl; ends = inr refl })
-      (Patterns (patterns host)) host_is ed25519_key (codes "# me") (own_fields (codes " # me") (codes "# me") (inr refl) refl))
-      host_fits,
+          (read first None host (tab ++ key_text ++ codes " # me")
+          (record { no_zero = lacks 0 first refl; no_comment = λ is. omega (arith, is); marked = (refl, λ is. omega (arith, is)); one_word = field host refl; ends = inr refl })
+          (Patterns (patterns host)) host_is ed25519_key (codes "# me") (own_fields (codes " # me") (codes "# me") (inr refl) refl))
+          host_fits,
       said host second (Some Revoked) (Patterns (patterns host)) []
-      (read second (Some Revoked) host (codes " " ++ key_text)
-      (record { no_zero = lacks 0 second refl; no_comment = λ is. omega (arith, is); marked = (tab ++ codes "h.example " ++ key_text, refl, (inr refl, tt), refl, λ is. omega (arith, is)); one_word = field host refl; ends = inr refl })
-      (Patterns (patterns host)) host_is ed25519_key [] (own_fields [] [] (inl refl) refl))
-      host_fits,
+          (read second (Some Revoked) host (codes " " ++ key_text)
+          (record { no_zero = lacks 0 second refl; no_comment = λ is. omega (arith, is); marked = (tab ++ codes "h.example " ++ key_text, refl, (inr refl, tt), refl, λ is. omega (arith, is)); one_word = field host refl; ends = inr refl })
+          (Patterns (patterns host)) host_is ed25519_key [] (own_fields [] [] (inl refl) refl))
+          host_fits,
     )

@@ -10,7 +10,7 @@ use Rattle.sshkey_known_hosts.proofs.Verdicts.{listed, same_entry}
 use Rattle.sshkey_known_hosts.proofs.examples.line_kinds.Goals as goal
 
 pub returns : goal.returns
-returns c = 
+returns c =
     let by = host_line (Some CertAuthority) in (
       without_key,
       for_others by_line (Some CertAuthority) host after_hosts (parts (Some CertAuthority) host refl) _ host_is (codes "g.example") unnamed_elsewhere,

@@ -10,7 +10,7 @@ use Rattle.sshkey_known_hosts.proofs.ExampleLemmas.{hidden, other_said, pair, sa
 use Rattle.sshkey_known_hosts.proofs.examples.orders.Goals as goal
 
 pub returns : goal.returns
-returns c = 
+returns c =
     let plain = said_of_host.0 in
     let gone = said_of_host.1 in
     let by = said_of_host.2 in
