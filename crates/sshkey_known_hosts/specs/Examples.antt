@@ -169,7 +169,7 @@ Orders = Say host [] Unknown Unknown
 
 -- ---- verdicts and markers
 
--- Of two verdicts the graver one, whichever comes first.
+-- Of two verdicts the more severe one, whichever comes first.
 abbrev pub Severities : Type 0
 Severities = (max_severity_of Revoked Unreadable ≡ Revoked)
     × (max_severity_of Unreadable Revoked ≡ Revoked)

@@ -38,7 +38,7 @@ pub fn hmacs()
     ensures { Digests }
 {}
 
-/// The graver of two verdicts.
+/// The more severe of two verdicts.
 pub fn severities()
     ensures { Severities }
 {}
