@@ -11,7 +11,7 @@ use Rattle.sshkey_addresses.specs.SourceAddresses.{MayComeFrom}
 use Rattle.sshkey_addresses.specs.declared.from.FromFault.{FromFault}
 use Rattle.sshkey_addresses.proofs.Deciding.{decided, decides_may_come, from_answer, may_come_from, only}
 
-same_each : {R X : Type 0} (f g : R → X) (rows : List R) → map f rows ≡ map g rows → All (λ r. f r ≡ g r) rows
+pub same_each : {R X : Type 0} (f g : R → X) (rows : List R) → map f rows ≡ map g rows → All (λ r. f r ≡ g r) rows
 same_each f g [] e = All-nil (λ r. f r ≡ g r)
 same_each f g (r ∷ rows) e = All-cons (λ r. f r ≡ g r) r rows (ap (λ l. slice_index_or l 0 (f r)) e) (same_each f g rows (ap (drop 1) e))
 
@@ -40,7 +40,7 @@ of_itself : (lets : Bool) → is_ok_of lets (Ok lets) ≡ true
 of_itself true = refl
 of_itself false = refl
 
-never : false ≡ true → ⊥
+pub never : false ≡ true → ⊥
 never e = cc
 
 pub none_decided : (lets : Bool) (rows : List Question) → list_all (λ (r : Question). not (is_ok_of lets (from_answer r.0 (option_map lent r.1) r.2))) rows ≡ true → NoneDecided lets rows

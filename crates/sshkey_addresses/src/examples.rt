@@ -2,6 +2,7 @@
 
 ghost use Rattle.sshkey_addresses.specs.AskedExamples.{Asked};
 ghost use Rattle.sshkey_addresses.specs.Examples.{Characters, Clients, Hosts, Likeness, Lists, Seen, Sources, Texts};
+ghost use Rattle.sshkey_addresses.specs.HostExamples.{AskedNames, HostFaults, OneText};
 
 /// What is like an address.
 pub fn likeness()
@@ -46,4 +47,19 @@ pub fn seen()
 /// What OpenSSH's own code answered.
 pub fn asked()
     ensures { Asked }
+{}
+
+/// Which addresses have one text.
+pub fn one_text()
+    ensures { OneText }
+{}
+
+/// What is asked about a host.
+pub fn asked_names()
+    ensures { AskedNames }
+{}
+
+/// What is wrong with a host.
+pub fn host_faults()
+    ensures { HostFaults }
 {}

@@ -1,7 +1,7 @@
 -- Worked examples, on both sides of each edge: days as timegm(3) counts them, and times as OpenSSH
 -- reads them (misc.c, parse_absolute_time; strptime(3)).
 use Rattle.std.specs.Prelude.{◌≡◌, ◌+◌, ◌-◌, ◌*◌, ℕ, [], ◌∷◌, ◌++◌, map, false, true, codes}
-use Rattle.sshkey_times.specs.Times.{HasTimeForm, IsMoment, IsTimeText, IsZone, after, ahead, days_of_months, epoch, is_leap, moment, month_days, year_days}
+use Rattle.sshkey_times.specs.Times.{HasTimeForm, IsMoment, IsTimeText, IsZone, after, ahead, days_before, days_of_months, epoch, is_leap, moment, month_days, year_days}
 use Rattle.sshkey_times.specs.declared.times.Span.{Span}
 
 -- Of the centuries every fourth is a leap year.
@@ -11,9 +11,11 @@ LeapYears = (is_leap 1900 ≡ false) × (is_leap 2000 ≡ true) × (is_leap 2023
 abbrev pub Months : Type 0
 Months = (map (month_days 2023) (1 ∷ 2 ∷ 3 ∷ 4 ∷ 5 ∷ 6 ∷ 7 ∷ 8 ∷ 9 ∷ 10 ∷ 11 ∷ 12 ∷ []) ≡ 31 ∷ 28 ∷ 31 ∷ 30 ∷ 31 ∷ 30 ∷ 31 ∷ 31 ∷ 30 ∷ 31 ∷ 30 ∷ 31 ∷ []) × (month_days 2024 2 ≡ 29)
 
--- the days before 1970, of which the seconds are counted, and before March and December
+-- the days before 1970, of which the seconds are counted, and before March and December; and those
+-- from the start of 1970 to the 1st of March of a leap year
 abbrev pub Days : Type 0
 Days = (epoch ≡ 719528 * 86400) × (days_of_months 2023 2 ≡ 59) × (days_of_months 2024 2 ≡ 60) × (days_of_months 2023 11 ≡ 334)
+    × (days_before (moment (codes "19700101")) ≡ 719528) × (days_before (moment (codes "20240301")) ≡ 719528 + 19783)
 
 abbrev pub Moments : Type 0
 Moments = (moment (codes "20231130225958") ≡ record { year = 2023; month = 11; day = 30; hour = 22; minute = 59; second = 58 })
