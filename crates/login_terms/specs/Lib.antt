@@ -3,3 +3,4 @@ pub mod Values
 pub mod Words
 pub mod Terms
 pub mod Examples
+pub mod ValueExamples
