@@ -1,7 +1,12 @@
--- Worked examples: the lines of a text.
-use Rattle.std.specs.Prelude.{◌≡◌, [], ◌∷◌, true, false, codes}
+-- Worked examples: the lines of a text, and what stands in them.
+use Rattle.std.specs.Prelude.{◌≡◌, ℕ, List, [], ◌∷◌, true, false, codes, replicate}
 use Rattle.std.specs.Str.Lines.{strip_carriage_return}
+use Rattle.sshkey_model.specs.CertificateExamples.{openssh_certificate}
+use Rattle.sshkey_model.specs.Certificates.{Certificate}
 use Rattle.sshkey_model.specs.HexText.{hex}
+use Rattle.sshkey_model.specs.Keys.{Key, Ecdsa, Ed25519, Rsa}
+use Rattle.sshkey_model.specs.Names.{Nistp256}
+use Rattle.sshkey_revoked_keys.specs.NamedWords.{IsReadCertificate, IsReadKey}
 use Rattle.sshkey_revoked_keys.specs.RevokedKeys.{begins_krl}
 use Rattle.sshkey_revoked_keys.specs.RevokedLines.{is_certified_name, revoked_lines}
 
@@ -24,3 +29,30 @@ Returns = (strip_carriage_return (codes "AAAA\r") ≡ codes "AAAA") × (strip_ca
 -- A list begins with the eight bytes of PROTOCOL.krl.
 abbrev pub Beginnings : Type 0
 Beginnings = (begins_krl (hex "5353484b524c0a00") ≡ true) × (begins_krl (hex "5353484b524c0a") ≡ false) × (begins_krl (hex "5353484b524c0a01") ≡ false) × (begins_krl [] ≡ false)
+
+-- ---- what OpenSSH reads
+
+abbrev rsa_of_1023_bits : Key
+rsa_of_1023_bits = Rsa (record { e = 1 ∷ 0 ∷ 1 ∷ []; n = 0x40 ∷ replicate 127 0 })
+
+abbrev rsa_of_1024_bits : Key
+rsa_of_1024_bits = Rsa (record { e = 1 ∷ 0 ∷ 1 ∷ []; n = 0 ∷ 0x80 ∷ replicate 127 0 })
+
+abbrev compressed : Key
+compressed = Ecdsa Nistp256 (2 ∷ replicate 32 1)
+
+abbrev ed25519 : Key
+ed25519 = Ed25519 (replicate 32 1)
+
+abbrev certificate : Key → Key → List ℕ → List (List ℕ) → Certificate
+certificate key signer key_id principals = record openssh_certificate { signed = record openssh_certificate.signed { key = key; signature_key = signer; key_id = key_id; valid_principals = principals } }
+
+-- A line's key may be too short to let somebody in, one that signed a certificate may not; and each
+-- part of a certificate has to be read.
+abbrev pub ReadKeys : Type 0
+ReadKeys = IsReadKey rsa_of_1023_bits × ¬ IsReadKey compressed
+    × IsReadCertificate (certificate rsa_of_1023_bits rsa_of_1024_bits (codes "id") (codes "root" ∷ []))
+    × ¬ IsReadCertificate (certificate compressed ed25519 (codes "id") (codes "root" ∷ []))
+    × ¬ IsReadCertificate (certificate ed25519 rsa_of_1023_bits (codes "id") (codes "root" ∷ []))
+    × ¬ IsReadCertificate (certificate ed25519 ed25519 (codes "i\0d") (codes "root" ∷ []))
+    × ¬ IsReadCertificate (certificate ed25519 ed25519 (codes "id") (codes "ro\0ot" ∷ []))

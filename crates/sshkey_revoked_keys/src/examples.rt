@@ -1,6 +1,6 @@
 //! Worked examples of revocation files, on both sides of each edge.
 
-ghost use Rattle.sshkey_revoked_keys.specs.LineExamples.{Beginnings, CertificateNames, Lines, Returns};
+ghost use Rattle.sshkey_revoked_keys.specs.LineExamples.{Beginnings, CertificateNames, Lines, ReadKeys, Returns};
 
 /// Lines of a text.
 pub fn lines()
@@ -20,4 +20,9 @@ pub fn returns()
 /// What a list begins with.
 pub fn beginnings()
     ensures { Beginnings }
+{}
+
+/// What OpenSSH reads of keys and certificates.
+pub fn read_keys()
+    ensures { ReadKeys }
 {}
