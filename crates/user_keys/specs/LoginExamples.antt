@@ -9,7 +9,7 @@ use Rattle.sshkey_model.specs.Keys.{Key, Dsa, Ecdsa, Ed25519, Rsa, SkEcdsa, SkEd
 use Rattle.sshkey_model.specs.Names.{Nistp256}
 use Rattle.user_keys.specs.Answers.{first_refused, refusal_for}
 use Rattle.user_keys.specs.FirstLines.{TakesAsTold, TakesFirst, but_tunnels}
-use Rattle.user_keys.specs.Lines.{IsEntryFor, MayBeEntryFor, before_zero}
+use Rattle.user_keys.specs.Lines.{IsEntryFor, MayBeEntryFor, MayBeFor, before_zero}
 use Rattle.user_keys.specs.Options.{AreTerms, MayBeTerms}
 use Rattle.user_keys.specs.Spellings.{is_white, own_part}
 use Rattle.user_keys.specs.TermExamples.{expiring, for_names}
@@ -101,6 +101,15 @@ LetsCertificate = ((line : List ℕ) → IsOwn (by_certificate 5 (codes "alice" 
     × ((line : List ℕ) → Lets (by_certificate 5 (codes "alice" ∷ [])) line (record authority { command = Some (codes "id") }) → ⊥)
     × ((line : List ℕ) → Lets (by_certificate 21 (codes "alice" ∷ [])) line (record expiring { is_authority = true }) → ⊥)
     × (key_listed other None ≡ other) × (key_listed other (Some openssh_certificate) ≡ openssh_certificate.signed.signature_key)
+
+-- sshd may let the key in by a line that it may take for one of the key, or by one of the key that is
+-- over in some zone; and by no other: by none that is over in no zone, nor by one that is over in all.
+abbrev pub MayLetIn : Type 0
+MayLetIn = ((line : List ℕ) → MayBeFor other line → MayLet (by_key 10) line)
+    × ((line : List ℕ) → IsOwn (by_key 11) line expiring → MayLet (by_key 11) line)
+    × ((line : List ℕ) → IsOwn (by_key 20) line expiring → MayLet (by_key 20) line)
+    × ((line : List ℕ) → (MayBeFor other line → ⊥) → ((t : Terms) → IsOwn (by_key 10) line t → t ≡ expiring) → MayLet (by_key 10) line → ⊥)
+    × ((line : List ℕ) → (MayBeFor other line → ⊥) → ((t : Terms) → IsOwn (by_key 21) line t → t ≡ expiring) → MayLet (by_key 21) line → ⊥)
 
 -- Of the lines that refuse the first is told.
 abbrev pub FirstRefused : Type 0

@@ -2,7 +2,7 @@
 #![tactic(auto, unfolding(crate::specs::Computed::encode_symbols, crate::specs::Computed::without_front, crate::specs::Principals::after_last))]
 
 ghost use Rattle.user_keys.specs.Examples.{Listed, Marks, Merged, Names, Times, Together, White};
-ghost use Rattle.user_keys.specs.LoginExamples.{Entries, FirstRefused, LetsCertificate, LetsKey, LineEnds, OddEntries, Parts, Restricted, WhiteSpace};
+ghost use Rattle.user_keys.specs.LoginExamples.{Entries, FirstRefused, LetsCertificate, LetsKey, LineEnds, MayLetIn, OddEntries, Parts, Restricted, WhiteSpace};
 ghost use Rattle.user_keys.specs.TermExamples.{Asked, Certified, Commands, Decided, Expiry, From, Misplaced, Named, Permitted, PrincipalLines, Principals, Strictest};
 
 /// Until when a line counts.
@@ -133,6 +133,11 @@ pub fn lets_key()
 /// Lines that let a certificate in.
 pub fn lets_certificate()
     ensures { LetsCertificate }
+{}
+
+/// Lines by which sshd may let a key in.
+pub fn may_let_in()
+    ensures { MayLetIn }
 {}
 
 /// The first line that refuses.
