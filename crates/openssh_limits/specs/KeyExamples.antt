@@ -1,8 +1,8 @@
 -- Worked examples: keys on both sides of each edge.
-use Rattle.std.specs.Prelude.{◌≡◌, ℕ, List, [], ◌∷◌, true, false, codes, replicate}
+use Rattle.std.specs.Prelude.{◌≡◌, ℕ, List, [], ◌∷◌, true, false, None, Some, codes, replicate}
 use Rattle.sshkey_model.specs.Keys.{Key, Dsa, Ecdsa, Ed25519, Rsa, SkEcdsa, SkEd25519, Opaque}
 use Rattle.sshkey_model.specs.Names.{Nistp256}
-use Rattle.openssh_limits.specs.Keys.{is_read_number, openssh_accepts_key, openssh_reads_key, read_bits}
+use Rattle.openssh_limits.specs.Keys.{bit_len, bits_in, is_read_number, openssh_accepts_key, openssh_reads_key, read_bits}
 
 -- the powers of two of that many bits, as RFC 4251 writes them
 abbrev of_1023_bits : List ℕ
@@ -30,6 +30,12 @@ Numbers = (read_bits [] ≡ 0)
     × (read_bits of_1024_bits ≡ 1024)
     × (is_read_number of_16384_bits ≡ true)
     × (is_read_number of_16385_bits ≡ false)
+
+-- BN_num_bits(3) of the bytes of a positive number; a number of 2,049 bytes is not read (sshbuf.h,
+-- SSHBUF_MAX_BIGNUM).
+abbrev pub BitLengths : Type 0
+BitLengths = (bit_len [] ≡ 0) × (bit_len (1 ∷ []) ≡ 1) × (bit_len (0x7f ∷ []) ≡ 7) × (bit_len (0x80 ∷ []) ≡ 8) × (bit_len (1 ∷ 0 ∷ []) ≡ 9)
+    × (bits_in None ≡ 0) × (bits_in (Some (0xff ∷ [])) ≡ 8) × (bits_in (Some (replicate 2048 0xff)) ≡ 16384) × (bits_in (Some (replicate 2049 1)) ≡ 0)
 
 abbrev rsa : List ℕ → List ℕ → Key
 rsa e n = Rsa (record { e = e; n = n })

@@ -1,11 +1,16 @@
 //! Worked examples of the definitions, on both sides of each edge.
 
-ghost use Rattle.openssh_limits.specs.KeyExamples.{Numbers, OtherKeys, Parts, RsaKeys};
+ghost use Rattle.openssh_limits.specs.KeyExamples.{BitLengths, Numbers, OtherKeys, Parts, RsaKeys};
 ghost use Rattle.openssh_limits.specs.ReadExamples.{Applications, Principals};
 
 /// Numbers of keys.
 pub fn numbers()
     ensures { Numbers }
+{}
+
+/// Bits of numbers.
+pub fn bit_lengths()
+    ensures { BitLengths }
 {}
 
 /// Sizes of RSA keys.
