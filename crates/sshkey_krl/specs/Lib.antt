@@ -10,3 +10,4 @@ pub mod Written
 pub mod Owned
 pub mod Revocations
 pub mod KrlExamples
+pub mod WrittenExamples

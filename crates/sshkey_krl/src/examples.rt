@@ -1,6 +1,7 @@
 //! Worked examples of key revocation lists, on both sides of each edge.
 
 ghost use Rattle.sshkey_krl.specs.KrlExamples.{Authorities, BitmapEdges, BitmapSizes, KeySections, Kinds, NumberEdges, RevokedCertificates, RevokedKeys, SectionAuthorities, SerialEdges, TextEdges, Unread, WholeList};
+ghost use Rattle.sshkey_krl.specs.WrittenExamples.{Beginning, BitLengths, CertificateSections, KeysWritten, Zeros};
 
 /// A list.
 pub fn whole_list()
@@ -65,4 +66,29 @@ pub fn revoked_certificates()
 /// Lists that could not be read.
 pub fn unread()
     ensures { Unread }
+{}
+
+/// A list without sections.
+pub fn beginning()
+    ensures { Beginning }
+{}
+
+/// Sections about certificates.
+pub fn certificate_sections()
+    ensures { CertificateSections }
+{}
+
+/// Sections of a key and of a digest.
+pub fn keys_written()
+    ensures { KeysWritten }
+{}
+
+/// Zero bytes, and the name of RSA.
+pub fn zeros()
+    ensures { Zeros }
+{}
+
+/// Bits of numbers.
+pub fn bit_lengths()
+    ensures { BitLengths }
 {}
