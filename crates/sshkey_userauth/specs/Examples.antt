@@ -165,7 +165,7 @@ Verdicts = (judged (of_service (codes "ssh-connection") sk_name) touch (sk_ed255
 
 -- ---- the key
 
-abbrev point : List ℕ
+abbrev pub point : List ℕ
 point = hex "476e79e7d12f6c8b97364fe2dc20c41eebc015c8786fcaba028da08d1832bcd6"
 
 abbrev key_of_point : List ℕ

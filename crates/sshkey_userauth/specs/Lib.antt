@@ -3,3 +3,4 @@ pub mod RequestFormats
 pub mod Values
 pub mod Judgements
 pub mod Examples
+pub mod RequestExamples

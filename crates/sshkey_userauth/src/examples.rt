@@ -2,6 +2,7 @@
 #![tactic(auto, unfolding(sshkey_model::specs::Parts::flat))]
 
 ghost use Rattle.sshkey_userauth.specs.Examples.{CurveNames, FlagPlaces, Flags, KeyForms, KeyNames, Methods, OtherNames, RsaNames, SecurityKeyNames, Verdicts};
+ghost use Rattle.sshkey_userauth.specs.RequestExamples.{Asked, Credentials, Keyless, NameForms, Order, RequestParts};
 
 /// The bytes of both methods; an empty host key is one.
 pub fn methods()
@@ -51,4 +52,34 @@ pub fn verdicts()
 /// The key in a request.
 pub fn key_forms()
     ensures { KeyForms }
+{}
+
+/// The parts of requests.
+pub fn request_parts()
+    ensures { RequestParts }
+{}
+
+/// What follows the method's name.
+pub fn credentials()
+    ensures { Credentials }
+{}
+
+/// The two names of an algorithm.
+pub fn name_forms()
+    ensures { NameForms }
+{}
+
+/// What is told first.
+pub fn order()
+    ensures { Order }
+{}
+
+/// What a verifier is asked.
+pub fn asked()
+    ensures { Asked }
+{}
+
+/// Requests without a key.
+pub fn keyless()
+    ensures { Keyless }
 {}
