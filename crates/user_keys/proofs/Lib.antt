@@ -11,3 +11,4 @@ mod CertificateLogins
 mod PrincipalLines
 mod Principals
 mod LoginExamples
+mod EdgeExamples

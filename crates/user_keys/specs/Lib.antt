@@ -15,3 +15,4 @@ pub mod Computed
 pub mod Examples
 pub mod TermExamples
 pub mod LoginExamples
+pub mod EdgeExamples

@@ -1,6 +1,7 @@
 //! Worked examples of the definitions, on both sides of each edge.
 #![tactic(auto, unfolding(crate::specs::Computed::encode_symbols, crate::specs::Computed::without_front, crate::specs::Principals::after_last))]
 
+ghost use Rattle.user_keys.specs.EdgeExamples.{AdmittedCertificates, AdmittedKeys, Breaks, FirstLets, FirstLines, LinesOfPrincipals, OddLines, OptionsOfLines, PassedOver, Places, RefusedLines, Spelled};
 ghost use Rattle.user_keys.specs.Examples.{Listed, Marks, Merged, Names, Times, Together, White};
 ghost use Rattle.user_keys.specs.LoginExamples.{Entries, FirstRefused, LetsCertificate, LetsKey, LineEnds, MayLetIn, OddEntries, Parts, Restricted, WhiteSpace};
 ghost use Rattle.user_keys.specs.TermExamples.{Asked, Certified, Commands, Decided, Expiry, From, Misplaced, Named, Permitted, PrincipalLines, Principals, Strictest};
@@ -148,4 +149,64 @@ pub fn first_refused()
 /// What each sshd makes of `restrict`.
 pub fn restricted()
     ensures { Restricted }
+{}
+
+/// Which line is the first.
+pub fn first_lines()
+    ensures { FirstLines }
+{}
+
+/// By which line somebody is let in.
+pub fn first_lets()
+    ensures { FirstLets }
+{}
+
+/// Where lines and names end.
+pub fn breaks()
+    ensures { Breaks }
+{}
+
+/// Lines of principals.
+pub fn lines_of_principals()
+    ensures { LinesOfPrincipals }
+{}
+
+/// Options of these lines.
+pub fn options_of_lines()
+    ensures { OptionsOfLines }
+{}
+
+/// Where symbols stand.
+pub fn places()
+    ensures { Places }
+{}
+
+/// Lines that spell a key.
+pub fn spelled()
+    ensures { Spelled }
+{}
+
+/// Lines that are no entries.
+pub fn odd_lines()
+    ensures { OddLines }
+{}
+
+/// Lines that are passed over.
+pub fn passed_over()
+    ensures { PassedOver }
+{}
+
+/// Lines that refuse.
+pub fn refused_lines()
+    ensures { RefusedLines }
+{}
+
+/// Keys that let somebody in.
+pub fn admitted_keys()
+    ensures { AdmittedKeys }
+{}
+
+/// Certificates that let somebody in.
+pub fn admitted_certificates()
+    ensures { AdmittedCertificates }
 {}
