@@ -25,7 +25,7 @@ pub decides_one : (a : IpAddr) → Decides (has_one a) (HasOneText a)
 decides_one (V4 a) = (λ e. tt, λ h. refl)
 decides_one (V6 a) = Decides-not _ (Decides-and _ _ (Decides-ltb 1 (ipv6_bits a)) (Decides-ltb (ipv6_bits a) (2 ^ 32)))
 
-abbrev text_of : Option IpAddr → Option (List ℕ)
+abbrev pub text_of : Option IpAddr → Option (List ℕ)
 text_of None = None
 text_of (Some a) = cond (has_one a) (Some (ip_text a)) None
 
@@ -42,9 +42,15 @@ by_address : (host name : List ℕ) (a : IpAddr) (one : Bool) → has_one a ≡ 
 by_address host name a true has was e = record { address = a; written = is_address host a was; one = (decides_one a).0 has; text = sym (same_Some (ip_text a) name e) }
 by_address host name a false has was e = absurd (none-some name e)
 
-is_text_of : (host name : List ℕ) (o : Option IpAddr) → address_of host ≡ o → text_of o ≡ Some name → IsTextOf host name
+pub is_text_of : (host name : List ℕ) (o : Option IpAddr) → address_of host ≡ o → text_of o ≡ Some name → IsTextOf host name
 is_text_of host name None was e = absurd (none-some name e)
 is_text_of host name (Some a) was e = by_address host name a (has_one a) refl was e
+
+pub was_text_of : (host name : List ℕ) → IsTextOf host name → text_of (address_of host) ≡ Some name
+was_text_of host name is =
+    ap text_of (has_address_of host is.address is.written)
+    ∙ ap (λ (b : Bool). cond b (Some (ip_text is.address)) None) ((decides_one is.address).1 is.one)
+    ∙ ap (λ (n : List ℕ). Some n) (sym is.text)
 
 asked_for : (host name : List ℕ) (like : Bool) → is_like_address host ≡ like → name_of like host ≡ Some name → IsAskedFor host name
 asked_for host name true like e = inr (like, is_text_of host name (address_of host) refl e)
@@ -52,11 +58,7 @@ asked_for host name false like e = inl (like, sym (same_Some host name e))
 
 named : (host name : List ℕ) → IsAskedFor host name → name_of (is_like_address host) host ≡ Some name
 named host name (inl x) = ap (λ (b : Bool). name_of b host) x.0 ∙ ap (λ (n : List ℕ). Some n) (sym x.1)
-named host name (inr x) =
-    ap (λ (b : Bool). name_of b host) x.0
-    ∙ ap text_of (has_address_of host x.1.address x.1.written)
-    ∙ ap (λ (b : Bool). cond b (Some (ip_text x.1.address)) None) ((decides_one x.1.address).1 x.1.one)
-    ∙ ap (λ (n : List ℕ). Some n) (sym x.1.text)
+named host name (inr x) = ap (λ (b : Bool). name_of b host) x.0 ∙ was_text_of host name x.1
 
 pub is_asked : (host name : List ℕ) → name_or None host ≡ Some name → IsAsked host 22 name
 is_asked [] name e = absurd (none-some name e)

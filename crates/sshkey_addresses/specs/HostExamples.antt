@@ -2,13 +2,15 @@
 -- AI_NUMERICHOST reads it and inet_ntop(3) writes it.
 use Rattle.std.specs.Prelude.{ℕ, List, [], ◌∷◌, codes}
 use Rattle.std.specs.List.{All}
-use Rattle.sshkey_addresses.specs.AskedHosts.{HasOneText, IsAsked, IsHostFault}
+use Rattle.sshkey_addresses.specs.AskedHosts.{HasOneText, IsAsked, IsHostFault, IsTextOf}
 use Rattle.sshkey_addresses.specs.Examples.{ipv6}
 use Rattle.sshkey_addresses.specs.declared.host.HostFault.TheVariants.{Address, Empty, Memory, Port}
 
--- `::` and `::1` have one text, and other addresses of ::/96 have two.
+-- `::` and `::1` have one text, and other addresses of ::/96 have two. A host that writes no address
+-- has none.
 abbrev pub OneText : Type 0
 OneText = HasOneText (ipv6 0 0 0 0) × HasOneText (ipv6 0 0 0 1) × ¬ HasOneText (ipv6 0 0 0 2) × ¬ HasOneText (ipv6 0 0 0xffff 0xffff) × HasOneText (ipv6 0xfd00 0 0 1)
+    × IsTextOf (codes "0:0::1") (codes "::1") × ((name : List ℕ) → IsTextOf (codes "::2") name → ⊥) × ((name : List ℕ) → IsTextOf (codes "127.1") name → ⊥)
 
 -- what is asked under one name
 abbrev pub names : List (List ℕ × List ℕ)
