@@ -1,7 +1,7 @@
 -- Worked examples: how values of options are taken apart, on both sides of each edge (OpenSSH's misc.c,
 -- hpdelim2 and a2port; auth-options.c, handle_permit and the variables of sshauthopt_parse); and which
 -- options have a value.
-use Rattle.std.specs.Prelude.{◌≡◌, ℕ, List, [], ◌∷◌, ◌++◌, Some, None, true, codes, replicate}
+use Rattle.std.specs.Prelude.{◌≡◌, [], ◌∷◌, ◌++◌, Some, None, true, codes, replicate}
 use Rattle.login_terms.specs.Terms.{AddsWord, MayBeValue, MayBeWord, Terms, no_terms}
 use Rattle.login_terms.specs.Values.{IsInBrackets, IsNoNumber, IsPlainHost, IsVariable, IsVariableName, SplitsHost, any_tunnel, closing_bracket, colon, equals_sign, opening_bracket, slash}
 use Rattle.login_terms.specs.declared.words.Flag.TheVariants as flag

@@ -1,5 +1,5 @@
 -- Tests that compute which address or network a text is, for worked examples.
-use Rattle.std.proofs.Common.{◌≡◌, ℕ, ◌+◌, ◌≤◌, Bool, true, false, cond, ◌==◌, ◌&&◌, List, [], ◌∷◌, ◌++◌, Option, Some, None, length, codes, inl, inr, refl, sym, ap, subst, ◌∙◌, arith, lit≤, append_assoc, ne_eqb, eqb-true, append-nil}
+use Rattle.std.proofs.Common.{◌≡◌, ℕ, ◌≤◌, Bool, true, false, cond, ◌==◌, ◌&&◌, List, [], ◌∷◌, ◌++◌, Option, Some, None, length, codes, inl, inr, refl, sym, ap, subst, ◌∙◌, arith, lit≤, append_assoc, ne_eqb, eqb-true, append-nil}
 use Rattle.std.specs.Prelude.{nat_lt, option_map}
 use Rattle.std.specs.Bool.{Decides}
 use Rattle.std.specs.Char.{digit_value}

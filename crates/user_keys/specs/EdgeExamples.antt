@@ -1,12 +1,12 @@
 -- Worked examples: which line is the first, which lines are of a principal or may spell a key, and who
 -- is let in, each part held and broken by itself, as OpenSSH has it (auth2-pubkeyfile.c,
 -- `auth_check_authkeys_file` and `auth_check_principals_line`; auth2-pubkey.c, `user_cert_trusted_ca`).
-use Rattle.std.specs.Prelude.{◌≡◌, ◌+◌, ℕ, List, [], ◌∷◌, ◌++◌, Bool, true, false, None, Some, Option, codes}
+use Rattle.std.specs.Prelude.{◌≡◌, ℕ, List, [], ◌∷◌, ◌++◌, Bool, true, false, None, Some, codes}
 use Rattle.std.specs.declared.net.ip_addr.IpAddr.{IpAddr}
 use Rattle.login_policy.specs.Logins as policy
 use Rattle.login_policy.specs.Logins.{LetsIn}
 use Rattle.login_policy.specs.declared.client.Client.TheVariants.{At, Unknown}
-use Rattle.login_terms.specs.Terms.{Terms, no_terms, none_permitted, terms_of}
+use Rattle.login_terms.specs.Terms.{Terms, no_terms, terms_of}
 use Rattle.sshkey_entries.specs.AuthorizedKeys.{AuthorizedKey}
 use Rattle.sshkey_entries.specs.OpenSshLines.{IsAuthorizedLine}
 use Rattle.sshkey_krl.specs.Revocations.{is_key_revoked}

@@ -1,4 +1,4 @@
-use Rattle.std.proofs.Common.{[], codes, refl}
+use Rattle.std.proofs.Common.{codes, refl}
 use Rattle.std.specs.Fmt.{digits}
 use Rattle.std.specs.Net.Addr.{ipv4_bits, ipv6_bits}
 use Rattle.std.specs.Net.Reader.{read_ipv4, read_ipv6, read_number, read_octet, read_segment, read_segments}

@@ -1,11 +1,11 @@
-use Rattle.std.proofs.Common.{◌≡◌, ◌∙◌, codes, refl, sym}
+use Rattle.std.proofs.Common.{codes, refl}
 use Rattle.std.proofs.lemmas.Option.{none-some}
 use Rattle.std.specs.Fmt.{digits}
 use Rattle.std.specs.Net.Addr.{ipv4_bits, ipv6_bits}
 use Rattle.std.specs.Net.Reader.{read_ipv4, read_ipv6, read_number, read_octet, read_segment, read_segments}
 use Rattle.std.specs.Net.Text.{hex, hex_groups_text, ipv6_text}
 use Rattle.sshkey_addresses.specs.Examples.{ipv6}
-use Rattle.sshkey_addresses.proofs.HostTests.{decides_one, is_text_of, text_of, was_text_of}
+use Rattle.sshkey_addresses.proofs.HostTests.{decides_one, is_text_of, was_text_of}
 use Rattle.sshkey_addresses.proofs.Tables.{never}
 use Rattle.sshkey_addresses.proofs.TextTests.{address_of}
 use Rattle.sshkey_addresses.proofs.examples.one_text.Goals as goal

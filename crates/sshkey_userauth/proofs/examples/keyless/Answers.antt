@@ -1,12 +1,12 @@
-use Rattle.std.proofs.Common.{◌≡◌, ◌∙◌, List, [], Bool, true, false, None, Some, Result, Ok, Err, ap, codes, refl, subst, sym}
+use Rattle.std.proofs.Common.{◌≡◌, ◌∙◌, [], true, false, None, Result, Ok, Err, ap, codes, refl, subst, sym}
 use Rattle.std.specs.Result.{result_ok}
 use Rattle.std.proofs.lemmas.Option.{none-some, same_Some}
 use Rattle.sshkey_model.specs.Keys as keys
-use Rattle.sshkey_model.specs.Keys.{Key, key_at, key_data_at}
+use Rattle.sshkey_model.specs.Keys.{key_at, key_data_at}
 use Rattle.sshkey_model.specs.Labels.{label_at}
 use Rattle.sshkey_model.specs.Names.{named}
 use Rattle.sshkey_model.specs.Parts.{flat}
-use Rattle.sshkey_model.specs.Reading.{Fault, after_at, box_at, bytes_at, list_within, literal_at, number_at, string_at}
+use Rattle.sshkey_model.specs.Reading.{after_at, box_at, bytes_at, list_within, literal_at, number_at, string_at}
 use Rattle.sshkey_userauth.specs.Examples.{point, touch}
 use Rattle.sshkey_userauth.specs.Judgements.{ReadsKey, judged, key_from}
 use Rattle.sshkey_userauth.specs.RequestExamples.{asking, key_of_point, of_key, signature}

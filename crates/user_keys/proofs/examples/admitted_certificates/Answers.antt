@@ -1,4 +1,4 @@
-use Rattle.std.proofs.Common.{◌≡◌, refl, subst}
+use Rattle.std.proofs.Common.{refl, subst}
 use Rattle.user_keys.specs.CertificateLogins.{IsCertified}
 use Rattle.user_keys.proofs.EdgeExamples.{no_dsa}
 use Rattle.user_keys.proofs.examples.admitted_certificates.Goals as goal

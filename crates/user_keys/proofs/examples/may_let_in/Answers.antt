@@ -4,7 +4,7 @@ use Rattle.user_keys.specs.Judgements.{Judges}
 use Rattle.user_keys.specs.Lines.{MayBeFor}
 use Rattle.user_keys.specs.LoginExamples.{by_key, other}
 use Rattle.user_keys.specs.TermExamples.{expiring}
-use Rattle.user_keys.specs.UserLogins.{IsOwn, MayAllow, MayLet}
+use Rattle.user_keys.specs.UserLogins.{IsOwn, MayLet}
 use Rattle.user_keys.specs.declared.answer.Judgement.TheVariants.{Unclear}
 use Rattle.user_keys.proofs.examples.may_let_in.Goals as goal
 

@@ -1,4 +1,4 @@
-use Rattle.std.proofs.Common.{◌≡◌, ◌∙◌, ℕ, List, [], ◌∷◌, ap, codes, get_or, length, refl, sym}
+use Rattle.std.proofs.Common.{ℕ, List, [], ◌∷◌, ap, codes, get_or, refl}
 use Rattle.sshkey_entries.specs.Fronts.{without_front}
 use Rattle.user_keys.proofs.EdgeExamples.{unlike}
 use Rattle.user_keys.proofs.examples.places.Goals as goal

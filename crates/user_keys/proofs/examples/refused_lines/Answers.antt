@@ -1,4 +1,4 @@
-use Rattle.std.proofs.Common.{◌≡◌, None, arith, inl, refl, subst}
+use Rattle.std.proofs.Common.{None, arith, inl, refl, subst}
 use Rattle.login_terms.specs.Terms.{Terms}
 use Rattle.user_keys.specs.Judgements.{Judges}
 use Rattle.user_keys.specs.TermExamples.{expiring}
