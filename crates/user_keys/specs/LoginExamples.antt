@@ -44,7 +44,7 @@ LineEnds = (before_zero (codes "ab\0c\0") ≡ codes "ab") × (before_zero (codes
 abbrev entry_of : Key → List ℕ → AuthorizedKey
 entry_of key options = record { options = options; key = key; comment = [] }
 
-abbrev other : Key
+abbrev pub other : Key
 other = Ed25519 (replicate 32 2)
 
 -- An entry is for a key that has it, on terms that its options say, as that of an authority or of none.
@@ -69,7 +69,7 @@ OddEntries = ((options : List ℕ) → MayBeTerms options → MayBeEntryFor othe
 abbrev login_at : ℕ → Option Certificate → UserLogin
 login_at time certificate = record { lines = []; user = codes "alice"; offered = other; certificate = certificate; client = None; host = None; time = time; least_rsa_bits = 0 }
 
-abbrev by_key : ℕ → UserLogin
+abbrev pub by_key : ℕ → UserLogin
 by_key time = login_at time None
 
 -- A line of the key lets it in whose terms allow it: at its time, with no `principals`, and without a
