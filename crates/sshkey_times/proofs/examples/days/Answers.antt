@@ -6,6 +6,10 @@ use Rattle.sshkey_times.proofs.examples.days.Goals as goal
 pub returns : goal.returns
 unfolding days_of_months
 returns c = (
-  omega (arith, years 1970 (omega arith)), refl, refl, refl,
-  omega (arith, years 1970 (omega arith)), omega (arith, years 2024 (omega arith)),
+  omega (arith, years 1970 (omega arith)),
+  refl,
+  refl,
+  refl,
+  omega (arith, years 1970 (omega arith)),
+  omega (arith, years 2024 (omega arith)),
 )
