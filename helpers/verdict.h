@@ -10,8 +10,9 @@ extern "C" {
 #endif
 
 /* Whether a certificate lets a user in, and the grant: raf_check_login, with the verification
- * that raf_login_question asks for. So no cryptography runs over the key of an authority that is
- * none of the login's. A buffer of the certificate's length is enough. */
+ * that raf_login_question asks for, where nothing else is wrong. So no cryptography runs over the
+ * key of an authority that is none of the login's. A buffer of the certificate's length is
+ * enough. */
 uint32_t raf_log_in(const raf_login *login, uint8_t *buffer, size_t buffer_length,
                     raf_grant *answer);
 

@@ -607,13 +607,13 @@ typedef struct {
 } raf_grant;
 
 /* What has to be verified before a login is let in: the question of its certificate. So nothing is
- * verified of a certificate that a stranger signed.
+ * verified of a certificate that a stranger signed, or that has expired.
  *
- * RAF_DONE, or RAF_SHORT_BUFFER, only where raf_check_login, asked with 0, says
- * RAF_NOT_SIGNED: all that is looked at before is right. Else what that says; RAF_NOT_SIGNED
- * is said of a certificate that raises no question. Only with RAF_DONE is there something to
- * verify. A buffer of twice the certificate's length and 2,304 bytes is enough. RAF_MEMORY only
- * where the user is UTF-8 and the key is one. */
+ * RAF_DONE, or RAF_SHORT_BUFFER, exactly if all but the signature is right (memory aside): then
+ * raf_check_login lets in if the answer is yes. Else what that says, whatever the answer is;
+ * RAF_NOT_SIGNED, last, of a certificate that raises no question. Only with RAF_DONE is there
+ * something to verify. A buffer of twice the certificate's length and 2,304 bytes is enough.
+ * RAF_MEMORY only where the user is UTF-8 and the key is one. */
 uint32_t raf_login_question(const raf_login *login, uint8_t *buffer, size_t buffer_length,
                             raf_question *answer);
 
@@ -628,7 +628,7 @@ uint32_t raf_login_question(const raf_login *login, uint8_t *buffer, size_t buff
  * and no revocation file revokes it (memory and buffer aside). Else what is wrong first: RAF_TEXT
  * for the user, 10 to 29 for bytes that are no key, or else no certificate, 70 to 72, 59 for the
  * key or the one that signed, 73 to 76, then RAF_UNTRUSTED_AUTHORITY, RAF_UNREADABLE_REVOCATIONS or
- * RAF_REVOKED, 30, 32 to 34, and RAF_ELSEWHERE. A buffer as long as the certificate is enough.
+ * RAF_REVOKED, 32 to 34, RAF_ELSEWHERE, and last 30. A buffer as long as the certificate is enough.
  * RAF_MEMORY only where the user is UTF-8 and the key is one.
  *
  * With RAF_SHORT_BUFFER `*answer` is zero but for its `length`, and with every other answer but

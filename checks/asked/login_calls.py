@@ -124,7 +124,8 @@ def cases(maker):
     ):  # fmt: skip
         yield name, replace(good, **changes), wanted
     for name, changes, wanted in (
-        ("a turned bit", {}, "NOT_SIGNED"), ("a turned bit, and too late", {"second": 1706745600}, "NOT_SIGNED"),
+        ("a turned bit", {}, "NOT_SIGNED"), ("a turned bit, and too late", {"second": 1706745600}, "OUT_OF_WINDOW"),
+        ("a turned bit, and too early", {"second": 1704067199}, "OUT_OF_WINDOW"), ("a turned bit, and another user", {"user": b"eve"}, "UNLISTED_PRINCIPAL"),
         ("a turned bit, by another authority", {"authorities": strange}, "UNTRUSTED_AUTHORITY"), ("a turned bit, and another key", {"key": other}, "OTHER_KEY"),
     ):  # fmt: skip
         yield name, replace(broken, **changes), wanted
@@ -157,12 +158,12 @@ def options(maker):
         yield f"addresses, and {name}", replace(bound, client=client), wanted
         yield f"addresses, and {name}, which the caller judges", replace(bound, client=client, judges=True), moved
         yield f"no addresses, and {name}", replace(made(), client=client), Granted(FREE)
-    for name, changes, wanted in (
-        ("another user", {"user": b"eve"}, "UNLISTED_PRINCIPAL"), ("too late", {"second": 1706745600}, "OUT_OF_WINDOW"),
-        ("a turned bit", {"certificate": turned(bound.certificate)}, "NOT_SIGNED"),
+    for name, changes, wanted, judged in (
+        ("another user", {"user": b"eve"}, "UNLISTED_PRINCIPAL", "UNLISTED_PRINCIPAL"), ("too late", {"second": 1706745600}, "OUT_OF_WINDOW", "OUT_OF_WINDOW"),
+        ("a turned bit", {"certificate": turned(bound.certificate)}, "ELSEWHERE", "NOT_SIGNED"),
     ):  # fmt: skip
         yield f"from elsewhere, and {name}", replace(bound, client=OUTSIDE, **changes), wanted
-        yield f"from where the caller judges, and {name}", replace(bound, client=OUTSIDE, judges=True, **changes), wanted
+        yield f"from where the caller judges, and {name}", replace(bound, client=OUTSIDE, judges=True, **changes), judged
     other = certificates.put_together(critical={"source-address": string(b"10.0.0.1/40")})
     yield "no list of addresses, which the caller judges", replace(other, judges=True), "CRITICAL_OPTIONS"
 
@@ -258,10 +259,6 @@ def all_cases(made):
     return [*cases(maker), *options(maker), *rows(maker), *keys(maker), *revocations(maker), *by_kinds(made)]
 
 
-# what is answered without a verification: all but these
-VERIFIED = ("NOT_SIGNED", "INVALID_TIME", "OUT_OF_WINDOW", "UNLISTED_PRINCIPAL", "ELSEWHERE")
-
-
 def check_users(judge):
     """Logins by certificates in which one thing is wrong each, or two, of which the first is told."""
     found = all_cases(judge.made)
@@ -269,5 +266,6 @@ def check_users(judge):
     judge.hold("a login by a certificate", [(name, f"log-in {login.words()}", it) for (name, login, _), it in zip(found, said)])
     if judge.asker.is_package:
         return
-    counts = [int(isinstance(it, Granted) or it in VERIFIED) for *_, it in found]
+    # a verification is asked for only where nothing else is wrong
+    counts = [int(isinstance(it, Granted) or it == "NOT_SIGNED") for *_, it in found]
     judge.hold("the verifications of a login", [(name, f"verifications {login.words()}", str(it)) for (name, login, _), it in zip(found, counts)])

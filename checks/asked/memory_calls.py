@@ -63,8 +63,9 @@ def of_logins(good, second):
         (5, [revoked[:-1]], "UNREADABLE_REVOCATIONS"), (5, [b"", b"x"], "UNREADABLE_REVOCATIONS"),
     ):  # fmt: skip
         yield "check_login", [*good[:at], other, *good[at + 1 :]], [second, 0, 0, 1], wanted
-        yield "login_question", [*good[:at], other, *good[at + 1 :]], [second, 0], "DONE" if wanted == "UNLISTED_PRINCIPAL" else wanted
+        yield "login_question", [*good[:at], other, *good[at + 1 :]], [second, 0], wanted
     yield "check_login", good, [0, 0, 0, 1], "OUT_OF_WINDOW"
+    yield "login_question", good, [0, 0], "OUT_OF_WINDOW"
 
 
 def of_user_keys(given, authority, second):

@@ -90,7 +90,7 @@ type Grant struct {
 // what is wrong first. It fails with ErrText for a user that is not UTF-8, and with ErrMemory.
 //
 // It asks the library, the verifier, and the library again, over copies that nobody changes. The
-// verifier is not asked about the certificate of another authority, or about one that is revoked.
+// verifier is asked only where nothing else is wrong.
 //
 // That the client signs with the key is not looked at: CheckUserauth does, with what the grant
 // permits; until then nobody is let in. Where an SSH library verifies the signature and gives none,

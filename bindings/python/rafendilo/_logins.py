@@ -49,7 +49,8 @@ class Grant:
 
 def log_in(login: Login, verifier: Verifier = is_signature) -> Grant:
     """What the login is bound to, exactly if the certificate lets the user in, as sshd does by TrustedUserCAKeys, or more strictly
-    (docs/FORMATS.md). Asks the library, the verifier and the library again, over copies that nobody changes.
+    (docs/FORMATS.md). Asks the library, the verifier where nothing else is wrong, and the library again, over copies that nobody
+    changes.
 
     Raises Refused, which says what is wrong first, and MemoryError; ValueError for a number that does not fit its field, or a
     fingerprint of another length; TypeError where a file was not read (None).

@@ -65,8 +65,8 @@ pub struct Grant {
 /// Fails with the first of these: [`Status::TEXT`]; a status from 10 to 29 where the key's bytes
 /// are no key, or else the certificate's are none; 70 to 76, with [`Status::KEY_NOT_ACCEPTED`]
 /// after 72; [`Status::UNTRUSTED_AUTHORITY`]; [`Status::UNREADABLE_REVOCATIONS`] or
-/// [`Status::REVOKED`]; [`Status::NOT_SIGNED`] where `verify` says no; 32 to 34, and
-/// [`Status::ELSEWHERE`]. Else it fails only with [`Status::MEMORY`].
+/// [`Status::REVOKED`]; 32 to 34; [`Status::ELSEWHERE`]; and [`Status::NOT_SIGNED`] where `verify`
+/// says no. Else it fails only with [`Status::MEMORY`].
 ///
 /// Whether the client has signed this session under the key asks
 /// [`check_userauth`](crate::check_userauth): until then nobody is let in.

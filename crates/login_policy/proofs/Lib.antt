@@ -1,3 +1,4 @@
 mod Logins
 mod KnownOptions
 mod ExampleLemmas
+mod Pendings

@@ -1,5 +1,5 @@
 -- What the validation of a certificate decides.
-use Rattle.std.proofs.Common.{◌≡◌, ◌≢◌, ◌↔◌, ◌==◌, ◌++◌, ℕ, List, [], ◌∷◌, length, map, Bool, true, false, IsTrue, None, Option, Some, option_map, Bor, Ok, ap, arith, inl, inr, refl, subst, sym, ◌∙◌}
+use Rattle.std.proofs.Common.{◌≡◌, ◌≢◌, ◌↔◌, ◌==◌, ◌++◌, ℕ, List, [], ◌∷◌, length, map, Bool, true, false, IsTrue, None, IfErr, Result, Ok, Err, Option, Some, option_map, ◌⊎◌, Bor, ap, arith, inl, inr, refl, subst, sym, ◌∙◌}
 use Rattle.std.proofs.lemmas.Bool.Decides.{nat_tests}
 use Rattle.std.specs.Prelude.{Contains, String, is_some, not, string_bytes}
 use Rattle.std.specs.declared.net.ip_addr.IpAddr.{IpAddr}
@@ -18,13 +18,13 @@ use Rattle.sshkey_model.specs.Keys.{Key}
 use Rattle.sshkey_model.specs.OptionMaps.{value_of}
 use Rattle.sshkey_model.specs.Parts.{flat}
 use Rattle.sshkey_model.specs.Principals.{Allows, IsValidFor}
-use Rattle.sshkey_model.specs.Refusals.{RefuseTheUnwanted, NotSigned, UntrustedAuthority, first_refusal_for, has_trusted_authority, is_signed}
+use Rattle.sshkey_model.proofs.Refusals.{allowed as listed_or_none, allows_it}
+use Rattle.sshkey_model.specs.Refusals.{RefuseTheUnwanted, UnlistedPrincipal, allows, first_refusal_for, has_trusted_authority, is_signed, or_else, refusal_of_authority_or_time, unless}
 use Rattle.sshkey_model.specs.Refusals as model
-use Rattle.sshkey_model.specs.Verification.{Question}
 use Rattle.login_policy.specs.KnownOptions.{source_address}
-use Rattle.login_policy.specs.Logins.{GrantsExactly, HasRightFields, IsAllowedFrom, IsGrantOf, IsLogin, LetsIn, Login}
+use Rattle.login_policy.specs.Logins.{HasRightFields, IsAllowedFrom, IsGrantOf, IsLogin, LetsIn, Login}
 use Rattle.login_policy.specs.Principals.{AreForUser}
-use Rattle.login_policy.specs.Refusals.{ForHosts, HasWrongField, FromElsewhere, IsRefusalFor, IsRevoked, IsUntrusted, NotValid, OtherAuthority, OtherExtension, OtherKey, OtherKeyId, OtherPrincipals, RefusesSpelling, Unaccepted, UnknownOption}
+use Rattle.login_policy.specs.Refusals.{ForHosts, HasWrongField, FromElsewhere, IsRefusalFor, IsRevoked, IsUntrusted, NeedsJudging, NeedsMemory, NotSigned, NotValid, OtherAuthority, OtherExtension, OtherKey, OtherKeyId, OtherPrincipals, RefusesSpelling, Unaccepted, UnknownOption, refusal_but_signature}
 use Rattle.login_policy.specs.declared.client.Client.TheVariants.{At, LeftToCaller, Unknown}
 use Rattle.login_policy.specs.declared.grant.Grant.{Grant}
 use Rattle.login_policy.specs.declared.refusal.LoginRefusal.{LoginRefusal}
@@ -63,35 +63,37 @@ ran_out e r (inr is) memory = absurd (is.0 memory)
 
 -- ---- the authority
 
--- what is wrong with a certificate that is known to be by one of these, is what is wrong with it for all of them
-pub refusal_by_these : (accepts : Question → Bool) (given : List Fingerprint) (t : ℕ) (user : List ℕ) (by c : code.Certificate) (found : Option CertificateRefusal) → by ≡ c → has_trusted_authority given (certificate_of c) ≡ true → ((authorities : List Fingerprint) → has_trusted_authority authorities (certificate_of by) ≡ true → option_map refusal_of found ≡ first_refusal_for accepts authorities t user (certificate_of by)) → option_map refusal_of found ≡ first_refusal_for accepts given t user (certificate_of c)
-refusal_by_these accepts given t user by c found same trusted says = subst (λ (x : code.Certificate). option_map refusal_of found ≡ first_refusal_for accepts given t user (certificate_of x)) same (says given (subst (λ (x : code.Certificate). has_trusted_authority given (certificate_of x) ≡ true) (sym same) trusted))
+-- what is wrong with a certificate that is by one of the authorities
+pub refusal_by_these : (login : Login) (c : Certificate) (found : Option model.Refusal) → has_trusted_authority login.authorities c ≡ true → found ≡ or_else (refusal_of_authority_or_time true (c.signed.valid_after, c.signed.valid_before) login.time) (unless (allows c.signed.valid_principals login.user) UnlistedPrincipal None) → found ≡ refusal_but_signature login c
+refusal_by_these login c found trusted says = rw trusted says
 
-module _ (law : RefuseTheUnwanted) (accepts : Question → Bool) (authorities : List Fingerprint) (t : ℕ) (user : List ℕ) (c : Certificate) where
-  pub invalid : (w : model.Refusal) → first_refusal_for accepts authorities t user c ≡ Some w → IsValidFor accepts authorities t user c → ⊥
-  invalid w refused valid =
-      let none : first_refusal_for accepts authorities t user c ≡ None = (law accepts authorities t user c).1 valid in
-      let some = rw none at refused in
-      cc some
+-- whether a name is allowed
+pub allows_is : (b : Bool) (ps : List (List ℕ)) (wanted : List ℕ) → IsTrue b ↔ ((ps ≡ []) ⊎ Contains ps wanted) → b ≡ allows ps wanted
+allows_is true ps wanted both = sym (allows_it ps wanted (both.0 refl))
+allows_is false ps wanted both = go (allows ps wanted) refl
+  where
+    go : (found : Bool) → allows ps wanted ≡ found → false ≡ found
+    go false e = refl
+    go true e = both.1 (listed_or_none ps wanted e)
 
-  -- whoever signed: another authority is refused too
-  by_another : has_trusted_authority authorities c ≡ false → IsValidFor accepts authorities t user c → ⊥
-  by_another other valid = by_test (is_signed accepts c) refl
-    where
-      by_test : (signed : Bool) → is_signed accepts c ≡ signed → ⊥
-      by_test true is = invalid UntrustedAuthority (rw (is, other) refl) valid
-      by_test false is = invalid NotSigned (rw is refl) valid
+-- where nothing is wrong but the signature, and the verifier says yes to it, it is valid
+pub valid_if_signed : RefuseTheUnwanted → (login : Login) (c : Certificate) → refusal_but_signature login c ≡ None → is_signed login.accepts c ≡ true → IsValidFor login.accepts login.authorities login.time login.user c
+valid_if_signed law login c none signed = (law login.accepts login.authorities login.time login.user c).0 (rw signed none)
 
-  pub trusted : IsValidFor accepts authorities t user c → IsTrue (has_trusted_authority authorities c)
-  trusted valid = by_test (has_trusted_authority authorities c) refl
-    where
-      by_test : (yes : Bool) → has_trusted_authority authorities c ≡ yes → IsTrue (has_trusted_authority authorities c)
-      by_test true is = is
-      by_test false is = absurd (by_another is valid)
+-- and where it lets in, nothing is wrong
+pub none_if_let_in : RefuseTheUnwanted → (login : Login) (c : Certificate) → LetsIn login c → refusal_but_signature login c ≡ None
+none_if_let_in law login c lets =
+    let none : first_refusal_for login.accepts login.authorities login.time login.user c ≡ None = (law login.accepts login.authorities login.time login.user c).1 (record { valid = lets.valid; allowed = inr lets.listed }) in
+    let signed : is_signed login.accepts c ≡ true = lets.valid.signature in
+    rw signed at none
 
-  -- where nothing was found, it is valid
-  pub valid_if_none : (found : Option CertificateRefusal) → option_map refusal_of found ≡ first_refusal_for accepts authorities t user c → found ≡ None → IsValidFor accepts authorities t user c
-  valid_if_none found says none = (law accepts authorities t user c).0 (sym says ∙ ap (λ (f : Option CertificateRefusal). option_map refusal_of f) none)
+-- so the authority is one of these
+pub trusted_if_none : (login : Login) (c : Certificate) → refusal_but_signature login c ≡ None → IsTrue (has_trusted_authority login.authorities c)
+trusted_if_none login c none = by_test (has_trusted_authority login.authorities c) refl
+  where
+    by_test : (yes : Bool) → has_trusted_authority login.authorities c ≡ yes → IsTrue (has_trusted_authority login.authorities c)
+    by_test true is = is
+    by_test false is = let some = rw is at none in absurd (cc some)
 
 -- what was found is the first refusal
 pub found_wrong : (first : Option model.Refusal) (found : Option CertificateRefusal) (w : CertificateRefusal) → option_map refusal_of found ≡ first → found ≡ Some w → first ≡ Some (refusal_of w)
@@ -116,10 +118,11 @@ anywhere (Some list) = (λ yes. tt, λ any. refl)
 -- ---- what is refused lets nobody in
 
 untrusted : RefuseTheUnwanted → (login : Login) (c : Certificate) (r : LoginRefusal) → IsUntrusted login c r → LetsIn login c → ⊥
-untrusted law login c r (OtherAuthority other) lets = by_another law login.accepts login.authorities login.time login.user c other (record { valid = lets.valid; allowed = inr lets.listed })
+untrusted law login c r (OtherAuthority other) lets = let is : has_trusted_authority login.authorities c ≡ true = trusted_if_none login c (none_if_let_in law login c lets) in cc
 untrusted law login c r (IsRevoked by revoked) lets = let unrevoked = lets.unrevoked in cc
-untrusted law login c r (FromElsewhere unrevoked valid elsewhere) lets = elsewhere lets.from
-untrusted law login c r (NotValid by unrevoked w refused) lets = invalid law login.accepts login.authorities login.time login.user c (refusal_of w) refused (record { valid = lets.valid; allowed = inr lets.listed })
+untrusted law login c r (NotValid by unrevoked w refused) lets = let none = none_if_let_in law login c lets in cc
+untrusted law login c r (FromElsewhere unrevoked none elsewhere) lets = elsewhere lets.from
+untrusted law login c r (NotSigned unrevoked none from unsigned) lets = let signed : is_signed login.accepts c ≡ true = lets.valid.signature in cc
 
 wrong_field : (user : List ℕ) (offered : Key) (least : ℕ) (c : Certificate) (r : LoginRefusal) → HasWrongField user offered least c r → HasRightFields user offered least c → ⊥
 wrong_field user offered least c r (ForHosts other) right = other right.for_users
@@ -140,7 +143,7 @@ field_not_memory user offered least c r (OtherKeyId users own accepted known pla
 field_not_memory user offered least c r (OtherPrincipals users own accepted known plain id other) = λ memory. cc
 
 -- what the law says of two spellings
-abbrev OneCertificate : Type 0
+abbrev pub OneCertificate : Type 0
 OneCertificate = (c d : Certificate) (a b r q : List ℕ) → SpellsCertificate c a → SpellsCertificate d b → a ++ r ≡ b ++ q → (c ≡ d) × (a ≡ b) × (r ≡ q)
 
 -- which decides
@@ -162,5 +165,11 @@ no_login login none is = none is.certificate is.spelled
 
 -- ---- what is granted
 
-pub granted : (login : Login) (c : Certificate) (g : Grant) → SpellsCertificate c login.blob → login.blob ≡ flat (normal_certificate c) → HasRightFields login.user login.offered login.least_rsa_bits c → is_certificate_revoked login.revokes c ≡ false → IsValidFor login.accepts login.authorities login.time login.user c → IsAllowedFrom (value_of source_address c.signed.critical_options) login.client → IsGrantOf c g → GrantsExactly login (Ok g)
-granted login c g spelled normal right unrevoked valid from is = (record { certificate = c; spelled = spelled; normal = normal; lets_in = record { fields = right; listed = listed c login.user right.principals valid.allowed; unrevoked = unrevoked; valid = valid.valid; from = from } }, is)
+pub granted : (login : Login) (c : Certificate) (g : Grant) → SpellsCertificate c login.blob → login.blob ≡ flat (normal_certificate c) → HasRightFields login.user login.offered login.least_rsa_bits c → is_certificate_revoked login.revokes c ≡ false → IsValidFor login.accepts login.authorities login.time login.user c → IsAllowedFrom (value_of source_address c.signed.critical_options) login.client → IsGrantOf c g → (is : IsLogin login) × (is.certificate ≡ c) × IsGrantOf is.certificate g
+granted login c g spelled normal right unrevoked valid from is = (record { certificate = c; spelled = spelled; normal = normal; lets_in = record { fields = right; listed = listed c login.user right.principals valid.allowed; unrevoked = unrevoked; valid = valid.valid; from = from } }, refl, is)
+
+-- ---- memory
+
+pub judging : {X : Type 0} (authorities : List Fingerprint) (blob : List ℕ) (c : Certificate) → SpellsCertificate c blob → (result : Result X LoginRefusal) → IfErr result (λ r. r ≡ Memory → NeedsJudging authorities c) → IfErr result (λ r. r ≡ Memory → NeedsMemory authorities blob)
+judging authorities blob c spelled (Ok x) asks = tt
+judging authorities blob c spelled (Err r) asks = λ memory. inr (c, spelled, asks memory)

@@ -1,8 +1,8 @@
 -- Why a login is refused, and where memory is needed.
-use Rattle.std.specs.Prelude.{◌≡◌, ◌≢◌, ◌⊎◌, ℕ, List, All, Some, false, IsTrue}
+use Rattle.std.specs.Prelude.{◌≡◌, ◌≢◌, ◌⊎◌, ℕ, List, All, Option, None, Some, false, IsTrue}
 use Rattle.sshkey_cert.specs.Validity.{refusal_of}
 use Rattle.sshkey_cert.specs.declared.certificate.refusal.CertificateRefusal.{CertificateRefusal}
-use Rattle.sshkey_cert.specs.declared.certificate.refusal.CertificateRefusal.TheVariants.{Authority}
+use Rattle.sshkey_cert.specs.declared.certificate.refusal.CertificateRefusal.TheVariants.{Authority, Signature}
 use Rattle.sshkey_cert_form.specs.Faults.{IsFaultOf}
 use Rattle.sshkey_keys.specs.Fingerprints.{IsShort}
 use Rattle.sshkey_krl.specs.Revocations.{is_certificate_revoked}
@@ -12,8 +12,8 @@ use Rattle.sshkey_model.specs.Keys.{Key}
 use Rattle.sshkey_model.specs.Lines.{IsWithout}
 use Rattle.sshkey_model.specs.OptionMaps.{value_of}
 use Rattle.sshkey_model.specs.Parts.{flat}
-use Rattle.sshkey_model.specs.Principals.{IsValidFor}
-use Rattle.sshkey_model.specs.Refusals.{first_refusal_for, has_trusted_authority}
+use Rattle.sshkey_model.specs.Refusals.{UnlistedPrincipal, allows, has_trusted_authority, is_signed, or_else, refusal_of_authority_or_time, unless}
+use Rattle.sshkey_model.specs.Refusals as model
 use Rattle.sshkey_base.specs.Reading.{NoSpelling}
 use Rattle.sshkey_base.specs.declared.error.Error.{Error}
 use Rattle.sshkey_base.specs.declared.error.Error.TheVariants as error
@@ -42,13 +42,18 @@ pub data HasWrongField (user : List ℕ) (offered : Key) (least_rsa_bits : ℕ) 
   OtherKeyId : c.signed.certificate_type ≡ User → c.signed.key ≡ offered → IsTrue (are_accepted least_rsa_bits offered c.signed.signature_key) → All IsKnownOption c.signed.critical_options → All IsPlainExtension c.signed.extensions → ¬ IsWithout 0 c.signed.key_id → HasWrongField user offered least_rsa_bits c (invalid field.KeyId)
   OtherPrincipals : c.signed.certificate_type ≡ User → c.signed.key ≡ offered → IsTrue (are_accepted least_rsa_bits offered c.signed.signature_key) → All IsKnownOption c.signed.critical_options → All IsPlainExtension c.signed.extensions → IsWithout 0 c.signed.key_id → ¬ AreForUser user c.signed.valid_principals → HasWrongField user offered least_rsa_bits c (invalid field.ValidPrincipals)
 
+-- what is wrong first but the signature: the authority, the time or the user's name
+abbrev pub refusal_but_signature : Login → Certificate → Option model.Refusal
+refusal_but_signature login c = or_else (refusal_of_authority_or_time (has_trusted_authority login.authorities c) (c.signed.valid_after, c.signed.valid_before) login.time) (unless (allows c.signed.valid_principals login.user) UnlistedPrincipal None)
+
 -- The refusal says what is wrong first once the fields are right: the authority, then revocation,
--- then the signature, the time or the user's name, and only then where the client is.
+-- then the time or the user's name, then where the client is, and only then the signature.
 pub data IsUntrusted (login : Login) (c : Certificate) : LoginRefusal → Type 0 where
   OtherAuthority : has_trusted_authority login.authorities c ≡ false → IsUntrusted login c (refusal.Invalid Authority)
   IsRevoked : IsTrue (has_trusted_authority login.authorities c) → IsTrue (is_certificate_revoked login.revokes c) → IsUntrusted login c refusal.Revoked
-  NotValid : IsTrue (has_trusted_authority login.authorities c) → is_certificate_revoked login.revokes c ≡ false → (w : CertificateRefusal) → first_refusal_for login.accepts login.authorities login.time login.user c ≡ Some (refusal_of w) → IsUntrusted login c (refusal.Invalid w)
-  FromElsewhere : is_certificate_revoked login.revokes c ≡ false → IsValidFor login.accepts login.authorities login.time login.user c → (IsAllowedFrom (value_of source_address c.signed.critical_options) login.client → ⊥) → IsUntrusted login c refusal.Elsewhere
+  NotValid : IsTrue (has_trusted_authority login.authorities c) → is_certificate_revoked login.revokes c ≡ false → (w : CertificateRefusal) → refusal_but_signature login c ≡ Some (refusal_of w) → IsUntrusted login c (refusal.Invalid w)
+  FromElsewhere : is_certificate_revoked login.revokes c ≡ false → refusal_but_signature login c ≡ None → (IsAllowedFrom (value_of source_address c.signed.critical_options) login.client → ⊥) → IsUntrusted login c refusal.Elsewhere
+  NotSigned : is_certificate_revoked login.revokes c ≡ false → refusal_but_signature login c ≡ None → IsAllowedFrom (value_of source_address c.signed.critical_options) login.client → is_signed login.accepts c ≡ false → IsUntrusted login c (refusal.Invalid Signature)
 
 -- The refusal says what is wrong first with a certificate in its normal form.
 abbrev pub RefusesCertificate : Login → Certificate → LoginRefusal → Type 0
@@ -65,7 +70,7 @@ RefusesLogin login r = (NoSpelling SpellsCertificate login.blob × ((e : Error) 
 -- ---- where memory is needed
 
 -- Memory is needed for the fingerprint of the key that signed, if it is long; or, of a certificate by
--- one of the authorities alone, for the revocations, for the verifier and for the grant.
+-- one of the authorities alone, for the revocations, for the grant and for the verifier.
 abbrev pub NeedsJudging : List Fingerprint → Certificate → Type 0
 NeedsJudging authorities c = ¬ IsShort c.signed.signature_key ⊎ IsTrue (has_trusted_authority authorities c)
 

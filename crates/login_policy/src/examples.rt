@@ -2,6 +2,7 @@
 
 ghost use Rattle.login_policy.specs.Examples.{Clients, Extensions, Fields, Granted, Options, Trust, Unbound, Users};
 ghost use Rattle.login_policy.specs.KeyExamples.{Authorities};
+ghost use Rattle.login_policy.specs.PendingExamples.{Order, Pendings};
 
 /// Keys that sign for others.
 pub fn authorities()
@@ -46,4 +47,14 @@ pub fn granted()
 /// Which login is bound to nothing.
 pub fn unbound()
     ensures { Unbound }
+{}
+
+/// What is pending.
+pub fn pendings()
+    ensures { Pendings }
+{}
+
+/// What is refused first.
+pub fn order()
+    ensures { Order }
 {}

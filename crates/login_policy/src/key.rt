@@ -1,10 +1,11 @@
-//! Whether a key is the certified one, and is accepted.
+//! The keys of a certificate: the offered one, and the one that signed.
 
-ghost use Rattle.std.specs.Prelude.{◌≡◌, ◌↔◌, IsTrue};
+ghost use Rattle.std.specs.Prelude.{◌≡◌, ◌↔◌, IsTrue, true};
 ghost use Rattle.sshkey_cert.specs.CertificateValues.{certificate_of};
 ghost use Rattle.sshkey_keys.specs.Keys.{key_of};
 ghost use Rattle.sshkey_model.specs.Certificates.{IsCertificate};
 ghost use Rattle.sshkey_model.specs.Keys.{IsKey};
+ghost use Rattle.sshkey_model.specs.Refusals.{is_signed};
 ghost use Rattle.login_policy.specs.Logins.{are_accepted};
 
 use openssh_limits::openssh_accepts_key;
@@ -32,4 +33,16 @@ pub(crate) fn are_accepted(
 {
     openssh_accepts_key(offered, least_rsa_bits)
         && openssh_accepts_key(certificate.signature_key(), 0)
+}
+
+/// Whether the certificate raises a question: else no verifier can say yes. Does not allocate.
+pub(crate) fn raises_question(certificate: &Certificate) -> bool
+    ensures { result ≡ is_signed (λ _. true) (certificate_of certificate.now) }
+{
+    // that does not depend on the message
+    let message: &[u8] = &[];
+    certificate
+        .signature_key()
+        .question(message, certificate.signature())
+        .is_some()
 }

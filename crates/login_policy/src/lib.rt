@@ -9,12 +9,15 @@ mod client;
 pub mod examples;
 mod grant;
 mod key;
+pub mod laws;
 mod login;
 mod options;
+mod pending_login;
 mod principals;
 mod refusal;
 
 pub use client::Client;
 pub use grant::Grant;
-pub use login::{Login, log_in};
+pub use login::{Login, log_in, pending, pending_of};
+pub use pending_login::Pending;
 pub use refusal::LoginRefusal;

@@ -1,33 +1,34 @@
 //! Who may log in.
 
-ghost use Rattle.std.specs.Prelude.{◌≡◌, ◌≢◌, IfErr, OnOk};
+ghost use Rattle.std.specs.Prelude.{◌≡◌, ◌≢◌, true, IfErr, OnOk};
 ghost use Rattle.sshkey_cert.specs.CertificateValues.{certificate_of};
 ghost use Rattle.sshkey_cert.specs.Validity.{fingerprints_of};
 ghost use Rattle.sshkey_keys.specs.Keys.{key_of};
-ghost use Rattle.sshkey_model.specs.Certificates.{IsCertificate};
+ghost use Rattle.sshkey_model.specs.Certificates.{IsCertificate, SpellsCertificate};
 ghost use Rattle.sshkey_model.specs.Keys.{IsKey};
 ghost use Rattle.sshkey_padding.specs.Padding.{padding};
 ghost use Rattle.login_policy.specs.Logins.{GrantsExactly, HasRightFields, login_of};
-ghost use Rattle.login_policy.specs.Refusals.{HasWrongField, NeedsMemory, RefusesLogin, invalid};
+ghost use Rattle.login_policy.specs.Pendings.{PendsExactly};
+ghost use Rattle.login_policy.specs.Refusals.{HasWrongField, NeedsJudging, NeedsMemory, RefusesLogin, invalid};
 ghost use Rattle.login_policy.specs.declared.refusal.LoginRefusal.TheVariants.{Memory};
 
 use crate::authority::validate;
 use crate::client::Client;
 use crate::grant::{Grant, grant_of};
-use crate::key::{are_accepted, is_key_of};
+use crate::key::{are_accepted, is_key_of, raises_question};
 use crate::options::{are_known, are_plain, is_allowed_from};
+use crate::pending_login::Pending;
 use crate::principals::are_for;
 use crate::refusal::LoginRefusal;
 use openssh_limits::openssh_reads_text;
 use sshkey_base::Error;
 use sshkey_base::certificate::Field;
-use sshkey_cert::Certificate;
 use sshkey_cert::laws::one_certificate;
+use sshkey_cert::{Certificate, CertificateRefusal};
 use sshkey_cert_form::is_normal_form;
 use sshkey_keys::{Fingerprint, KeyData, RawVerifier};
 use sshkey_krl::Revocations;
 use sshkey_model::laws::certificates::refused_or_wanted;
-use sshkey_padding::Padding;
 use std::alloc::Global;
 
 /// A login that is asked for, and whom the server trusts.
@@ -81,16 +82,16 @@ pub struct Login<'a> {
 ///   and if the user's name is empty, which a certificate may list;
 /// - `Invalid` with `Authority` for another authority;
 /// - `Revoked`;
-/// - `Invalid` with `Signature`, `Time`, `Window` or `Principal`, as
-///   `Certificate::first_refusal_for` says;
-/// - `Elsewhere`.
+/// - `Invalid` with `Time`, `Window` or `Principal`, as `Certificate::first_refusal_for` says;
+/// - `Elsewhere`;
+/// - `Invalid` with `Signature`.
 ///
 /// For bytes that are no certificate, `Memory` means what it means for `Certificate::from_bytes`.
 ///
-/// The verifier is asked only about a certificate by one of the authorities that is not revoked: a
-/// key that a client made and signed with never reaches it. It is asked about an RSA signature with
-/// the zeros in front that the authority left out, as sshd(8) verifies it
-/// (`sshkey_padding::Padding`).
+/// It is `pending`, and then the verifier's answer: so that is asked only where nothing else is
+/// wrong. A key that a client made and signed with never reaches it, nor an expired certificate. It
+/// is asked about an RSA signature with the zeros in front that the authority left out, as sshd(8)
+/// verifies it (`sshkey_padding::Padding`).
 ///
 /// Who knows of no revocation writes `NoRevocations`. Pass on what reading a list gave: an `Err`
 /// revokes every certificate.
@@ -118,7 +119,49 @@ pub fn log_in<R: Revocations, V: RawVerifier>(
 {
     one_certificate();
     refused_or_wanted();
+    let held = pending(alloc, login, revocations)?;
+    held.decide_by(alloc, verifier)
+}
+
+/// All that `log_in` asks but the authority's signature: `Ok` exactly where it would let in if a
+/// verifier said yes to each question, and then with the one question that is left. It refuses with
+/// what `log_in` refuses with first; with `Invalid` and `Signature`, last, a certificate that raises
+/// no question, whose signature is by no algorithm of its authority's key.
+pub fn pending<R: Revocations>(
+    alloc: Global,
+    login: &Login,
+    revocations: &R,
+) -> Result<Pending, LoginRefusal>
+    requires { IsKey (key_of login.now.offered.now) }
+    ensures exactly { PendsExactly
+        (login_of login.now (λ _. true) (R.revokes revocations.now)) result }
+    ensures refused { IfErr result (λ r. r ≢ Memory → RefusesLogin
+        (login_of login.now (λ _. true) (R.revokes revocations.now)) r) }
+    ensures memory { IfErr result (λ r. r ≡ Memory
+        → NeedsMemory (fingerprints_of login.now.authorities.now) login.now.certificate.now) }
+{
     let certificate = Certificate::from_bytes(alloc, login.certificate)?;
+    pending_of(alloc, certificate, login, revocations)
+}
+
+/// The same of the certificate that was read from the login's bytes.
+pub fn pending_of<R: Revocations>(
+    alloc: Global,
+    certificate: Certificate,
+    login: &Login,
+    revocations: &R,
+) -> Result<Pending, LoginRefusal>
+    requires spelled { SpellsCertificate (certificate_of certificate) login.now.certificate.now }
+    requires offered { IsKey (key_of login.now.offered.now) }
+    ensures exactly { PendsExactly
+        (login_of login.now (λ _. true) (R.revokes revocations.now)) result }
+    ensures refused { IfErr result (λ r. r ≢ Memory → RefusesLogin
+        (login_of login.now (λ _. true) (R.revokes revocations.now)) r) }
+    ensures memory { IfErr result (λ r. r ≡ Memory → NeedsJudging
+        (fingerprints_of login.now.authorities.now) (certificate_of certificate)) }
+{
+    one_certificate();
+    refused_or_wanted();
     if !is_normal_form(&certificate, login.certificate) {
         return Err(LoginRefusal::NotNormalForm);
     }
@@ -128,12 +171,15 @@ pub fn log_in<R: Revocations, V: RawVerifier>(
         login.offered,
         login.least_rsa_bits,
     )?;
-    let padding = Padding { verifier };
-    let authority = validate(alloc, &certificate, login, revocations, &padding)?;
+    let authority = validate(alloc, &certificate, login, revocations)?;
     if !is_allowed_from(certificate.critical_options(), login.client) {
         return Err(LoginRefusal::Elsewhere);
     }
-    Ok(grant_of(alloc, &certificate, authority)?)
+    if !raises_question(&certificate) {
+        return Err(LoginRefusal::Invalid(CertificateRefusal::Signature));
+    }
+    let grant = grant_of(alloc, &certificate, authority)?;
+    Ok(Pending { certificate, grant })
 }
 
 /// Whether the fields are those of a certificate that lets the user in. Does not allocate.

@@ -1,14 +1,14 @@
 -- What the policy decides for the verifier that says to every question what was said to the one, it
 -- decides for every verifier that says so to that one.
-use Rattle.std.proofs.Common.{◌≡◌, ℕ, List, Bool, None, ap, inl, inr, sym, ◌∙◌}
+use Rattle.std.proofs.Common.{◌≡◌, ℕ, List, Bool, inl, inr, sym, ◌∙◌}
 use Rattle.login_policy.specs.Logins.{IsLogin, LetsIn, Login}
-use Rattle.login_policy.specs.Refusals.{FromElsewhere, IsRevoked, IsUntrusted, NotValid, OtherAuthority, RefusesLogin}
+use Rattle.login_policy.specs.Refusals.{FromElsewhere, IsRevoked, IsUntrusted, NotSigned, NotValid, OtherAuthority, RefusesLogin}
 use Rattle.login_policy.specs.declared.refusal.LoginRefusal.{LoginRefusal}
 use Rattle.sshkey_calls.proofs.Validations.{same_signed}
 use Rattle.sshkey_calls.specs.Validations.{Verified, is_yes_number}
 use Rattle.sshkey_model.specs.Certificates.{Certificate, SpellsCertificate}
 use Rattle.sshkey_model.specs.Fingerprints.{Fingerprint}
-use Rattle.sshkey_model.specs.Refusals.{NotSigned, UnlistedPrincipal, allows, first_refusal_for, has_trusted_authority, is_signed, or_else, refusal_of_authority_or_time, unless}
+use Rattle.sshkey_model.specs.Refusals.{is_signed}
 use Rattle.sshkey_model.specs.Validity.{IsValid}
 use Rattle.sshkey_model.specs.Verification.{Question}
 
@@ -37,14 +37,12 @@ module _ (p : Login) (n : ℕ) (accepts : Question → Bool) (v : Verified accep
   pub kept_out : (IsLogin (by p (λ _. is_yes_number n)) → ⊥) → IsLogin (by p accepts) → ⊥
   kept_out out is = out (record { certificate = is.certificate; spelled = is.spelled; normal = is.normal; lets_in = unlets is.certificate is.spelled is.lets_in })
 
-  first : (c : Certificate) → SpellsCertificate c p.blob → (given : List Fingerprint) (t : ℕ) (user : List ℕ) → first_refusal_for (λ _. is_yes_number n) given t user c ≡ first_refusal_for accepts given t user c
-  first c spelled given t user = ap (λ (b : Bool). or_else (unless b NotSigned (refusal_of_authority_or_time (has_trusted_authority given c) (c.signed.valid_after, c.signed.valid_before) t)) (unless (allows c.signed.valid_principals user) UnlistedPrincipal None)) (signed c spelled)
-
   untrusted : (c : Certificate) (e : LoginRefusal) → SpellsCertificate c p.blob → IsUntrusted (by p (λ _. is_yes_number n)) c e → IsUntrusted (by p accepts) c e
   untrusted c e spelled (OtherAuthority other) = OtherAuthority other
   untrusted c e spelled (IsRevoked given revoked) = IsRevoked given revoked
-  untrusted c e spelled (NotValid given unrevoked w refused) = NotValid given unrevoked w (sym (first c spelled p.authorities p.time p.user) ∙ refused)
-  untrusted c e spelled (FromElsewhere unrevoked is elsewhere) = FromElsewhere unrevoked (record { valid = valid c spelled _ _ is.valid; allowed = is.allowed }) elsewhere
+  untrusted c e spelled (NotValid given unrevoked w refused) = NotValid given unrevoked w refused
+  untrusted c e spelled (FromElsewhere unrevoked none elsewhere) = FromElsewhere unrevoked none elsewhere
+  untrusted c e spelled (NotSigned unrevoked none from unsigned) = NotSigned unrevoked none from (sym (signed c spelled) ∙ unsigned)
 
   pub refused : (e : LoginRefusal) → RefusesLogin (by p (λ _. is_yes_number n)) e → RefusesLogin (by p accepts) e
   refused e (inl none) = inl none

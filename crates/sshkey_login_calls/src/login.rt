@@ -36,13 +36,13 @@ use std::str;
 /// wrong first: from 10 to 29 the fault of bytes that are no key, or else no certificate, 70 for
 /// bytes that are not the certificate's normal form, 71 to 76 for a field and 59, after 72, for the
 /// kind or the size of the key, 31 for another authority, 58 where a revocation file cannot be read
-/// or there is none, which revokes everything, 56 for a certificate that is revoked, 30 where it was
-/// not verified, 32 to 34 for the time and the user, and 57 for the client's address, unless the
-/// caller judges that.
+/// or there is none, which revokes everything, 56 for a certificate that is revoked, 32 to 34 for the
+/// time and the user, 57 for the client's address, unless the caller judges that, and 30 where it was
+/// not verified.
 ///
-/// So 30, before anything is verified, says that an authority's certificate, which is not revoked,
-/// is to be verified, and nothing else has to be: `login_question` asks so, and says what. With any
-/// number but 0 nothing is granted. Memory is taken only where the user is UTF-8 and the key is one.
+/// So 30 says that all is right but the signature: `login_question` says what is to be verified then.
+/// With any number but 0 nothing is granted. Memory is taken only where the user is UTF-8 and the key
+/// is one.
 ///
 /// What is left to the caller: that the client has signed under the key, that a security key's flags
 /// are those that the grant asks for, and to run no other command than the grant says.

@@ -26,9 +26,9 @@ use std::str;
 /// nothing else is wrong that is looked at before. Else returns what `check_login` says then; 30 is
 /// said of a certificate that raises no question, and so is not signed.
 ///
-/// So nobody verifies a certificate that a stranger signed, or a revoked one. Memory is taken only
-/// where the user is UTF-8 and the key is one. With 2 the room stays as it was, and with every other
-/// number but 0 the answer too.
+/// So nobody verifies a certificate that a stranger signed, a revoked one, or one that has expired.
+/// Memory is taken only where the user is UTF-8 and the key is one. With 2 the room stays as it was,
+/// and with every other number but 0 the answer too.
 pub fn login_question(
     alloc: Global,
     login: &LoginRequest<'_>,

@@ -38,13 +38,14 @@ use std::alloc::Global;
 /// A line that refuses is passed over, as is one that sshd rejects (`log_in_by_key`).
 ///
 /// Unless memory runs out, it fails with the first of these that fits:
-/// - `Certificate` with `login_policy::UserRefusal::Certificate`: the bytes are no certificate;
+/// - `Certificate` with `login_policy::LoginRefusal::Certificate`: the bytes are no certificate;
 /// - `UnacceptedKey`: sshd accepts no key of the kind or the size of that which signed it;
 /// - `Unclear`: a line may be for the authority, or may allow the certificate, and none before it
 ///   lets it in;
 /// - `NotAllowed`: lines are for the authority, and each refuses the certificate;
 /// - `NotListed`;
-/// - `Certificate`: a line lets the certificate in, and `log_in` refuses it. No later line counts.
+/// - `Certificate`: a line lets the certificate in, and `log_in` refuses it, for its signature last.
+///   No later line counts.
 ///
 /// So whatever sshd makes of what cannot be told here, it lets the certificate in by the line of
 /// the grant, and on its terms.

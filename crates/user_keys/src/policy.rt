@@ -30,7 +30,7 @@ pub(crate) fn read_certificate(alloc: Global, bytes: &[u8]) -> Result<Certificat
 {
     let read = match Certificate::from_bytes(alloc, bytes) {
         Ok(read) => read,
-        Err(error) => return Err(UserRefusal::from(login_policy::UserRefusal::from(error))),
+        Err(error) => return Err(UserRefusal::from(login_policy::LoginRefusal::from(error))),
     };
     if !openssh_accepts_key(read.signature_key(), 0) {
         return Err(UserRefusal::UnacceptedKey);

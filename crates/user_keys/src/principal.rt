@@ -52,12 +52,12 @@ use std::alloc::{AllocError, Global};
 /// is `Unclear` where it is no UTF-8 up to a `#`.
 ///
 /// Unless memory runs out, it fails with the first of these that fits:
-/// - `Certificate` with `login_policy::UserRefusal::Certificate`: the bytes are no certificate;
+/// - `Certificate` with `login_policy::LoginRefusal::Certificate`: the bytes are no certificate;
 /// - `UnacceptedKey`: sshd accepts no key of the kind or the size of that which signed it;
 /// - `NotListed`: no line is for a principal;
 /// - `Unclear`: the first that is or may be so may be read, or may allow the certificate;
 /// - `NotAllowed`: it refuses the certificate;
-/// - `Certificate`: it lets the certificate in, and `log_in` refuses it.
+/// - `Certificate`: it lets the certificate in, and `log_in` refuses it, for its signature last.
 ///
 /// So whatever sshd makes of what cannot be told here, it lets the certificate in by the line of
 /// the grant, and on its terms.

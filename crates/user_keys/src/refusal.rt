@@ -33,8 +33,8 @@ pub enum UserRefusal {
     /// The key is revoked.
     Revoked,
     /// It is no certificate, or a line allows it, and it is refused for that
-    /// (`login_policy::log_in`). It is never `login_policy::UserRefusal::Memory`.
-    Certificate(login_policy::UserRefusal),
+    /// (`login_policy::log_in`). It is never `login_policy::LoginRefusal::Memory`.
+    Certificate(login_policy::LoginRefusal),
     /// Memory ran out.
     Memory,
 }
@@ -64,11 +64,11 @@ impl From<AllocError> for UserRefusal {
     }
 }
 
-impl From<login_policy::UserRefusal> for UserRefusal {
+impl From<login_policy::LoginRefusal> for UserRefusal {
     ghost from_gives = { IsRefusalOf };
 
-    fn from(refusal: login_policy::UserRefusal) -> UserRefusal {
-        if matches!(refusal, login_policy::UserRefusal::Memory) {
+    fn from(refusal: login_policy::LoginRefusal) -> UserRefusal {
+        if matches!(refusal, login_policy::LoginRefusal::Memory) {
             return UserRefusal::Memory;
         }
         UserRefusal::Certificate(refusal)

@@ -1,7 +1,11 @@
-use Rattle.std.proofs.Common.{subst, sym, ◌∙◌}
-use Rattle.sshkey_cert.specs.Validity.{FindsAuthority, fingerprints_of}
+use Rattle.std.proofs.Common.{ap, subst, sym, ◌∙◌}
+use Rattle.sshkey_cert.specs.CertificateValues.{certificate_of}
+use Rattle.sshkey_cert.specs.Validity.{FindsAuthority, fingerprints_of, refusal_of}
+use Rattle.sshkey_cert.specs.declared.certificate.refusal.CertificateRefusal.{CertificateRefusal}
+use Rattle.std.specs.Prelude.{Option, option_map, true}
+use Rattle.login_policy.specs.Logins.{login_of}
 use Rattle.login_policy.specs.Refusals.{IsRevoked, NotValid, OtherAuthority}
-use Rattle.login_policy.proofs.Logins.{found_wrong, refusal_by_these, valid_if_none}
+use Rattle.login_policy.proofs.Logins.{found_wrong, refusal_by_these}
 use Rattle.login_policy.proofs.authority.validate.Goals as goal
 
 pub returns-in_default-clause-refused : goal.returns-in_default-clause-refused
@@ -14,10 +18,14 @@ returns-then-is_revoked-clause-refused g c =
 
 pub returns-in-None-clause-valid : goal.returns-in-None-clause-valid
 returns-in-None-clause-valid g c =
+    let l = login_of c.args.login.now (λ _. true) (g.R.Revocations.revokes c.args.revocations.now) in
     let theirs = subst (FindsAuthority c.args.certificate.now (fingerprints_of c.args.login.now.authorities.now)) c.in-Some.is c.in_ok-by.ensures.found in
-    valid_if_none c.refused_or_wanted.ensures _ _ _ _ _ _ (refusal_by_these _ (fingerprints_of c.args.login.now.authorities.now) _ _ _ _ _ theirs.1 theirs.0 c.in_ok-first_refusal_for.ensures) c.in-None.is
+    let says = refusal_by_these l (certificate_of c.args.certificate.now) _ theirs.0 c.refusal_of_time_or_user.ensures in
+    sym says ∙ ap (λ (f : Option CertificateRefusal). option_map refusal_of f) c.in-None.is
 
-pub returns-in-Some-2-clause-refused : goal.returns-in-Some-2-clause-refused
-returns-in-Some-2-clause-refused g c =
+pub returns-in-Some-refusal_of_time_or_user-clause-refused : goal.returns-in-Some-refusal_of_time_or_user-clause-refused
+returns-in-Some-refusal_of_time_or_user-clause-refused g c =
+    let l = login_of c.args.login.now (λ _. true) (g.R.Revocations.revokes c.args.revocations.now) in
     let theirs = subst (FindsAuthority c.args.certificate.now (fingerprints_of c.args.login.now.authorities.now)) c.in-Some.is c.in_ok-by.ensures.found in
-    λ other. NotValid theirs.0 (sym c.in-Ok.ensures.said ∙ c.if-is_revoked.false) _ (found_wrong _ _ _ (refusal_by_these _ (fingerprints_of c.args.login.now.authorities.now) _ _ _ _ _ theirs.1 theirs.0 c.in_ok-first_refusal_for.ensures) c.in-Some-2.is)
+    let says = refusal_by_these l (certificate_of c.args.certificate.now) _ theirs.0 c.refusal_of_time_or_user.ensures in
+    λ other. NotValid theirs.0 (sym c.in-Ok.ensures.said ∙ c.if-is_revoked.false) _ (found_wrong _ _ _ says c.in-Some-refusal_of_time_or_user.is)
