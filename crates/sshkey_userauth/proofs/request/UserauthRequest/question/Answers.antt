@@ -1,4 +1,4 @@
-use Rattle.std.proofs.Common.{List, ℕ, ap, inl, inr, sym}
+use Rattle.std.proofs.Common.{List, ℕ, ap, inl, inr, sym, ◌∙◌}
 use Rattle.std.proofs.lemmas.Result.{err_from_is_err_and}
 use Rattle.sshkey_model.specs.Verification.{question}
 use Rattle.sshkey_keys.specs.Keys.{key_of}
@@ -25,5 +25,5 @@ returns-clause-asked c =
       judged = sym c.in_ok-form.ensures;
       key = key_of c.in_ok-key.key;
       held = c.in_ok-key.ensures;
-      question = ap (λ (m : List ℕ). question (key_of c.in_ok-key.key) m (signature_of c.args.signature)) (these_bytes (request_of c.args.self.now) c.args.signed.now spelled);
+      question = c.new.ensures ∙ ap (λ (m : List ℕ). question (key_of c.in_ok-key.key) m (signature_of c.args.signature)) (these_bytes (request_of c.args.self.now) c.args.signed.now spelled);
     }
