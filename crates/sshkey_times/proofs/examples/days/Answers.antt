@@ -6,7 +6,7 @@ use Rattle.sshkey_times.proofs.examples.days.Goals as goal
 pub returns : goal.returns
 unfolding days_of_months
 returns c = (
-  omega (arith, years 1970 (omega arith)),
+  omega (years 1970 (omega arith), arith),
   refl,
   refl,
   refl,
