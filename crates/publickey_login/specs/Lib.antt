@@ -1,0 +1,4 @@
+pub mod Signatures
+pub mod Refusals
+pub mod Values
+pub mod Examples
