@@ -142,7 +142,7 @@ AdmittedKeys = ((login : UserLogin) (revokes_key : List ℕ → Bool) (g : UserG
 -- A certificate by an authority of DSA lets nobody in, nor one that no line lets in, that is not in its
 -- normal form or that the policy refuses. A client's address is the policy's, too.
 abbrev pub AdmittedCertificates : Type 0
-AdmittedCertificates = ((IsLine : Certificate → ℕ → Terms → List ℕ → Type 0) (authorities : Certificate → List Fingerprint) (l : CertificateLogin) (g : UserGrant) (a : AdmitsBy IsLine authorities l g) (k : DsaKey) → a.certificate.signed.signature_key ≡ Dsa k → ⊥)
+AdmittedCertificates = ((authorities : Certificate → List Fingerprint) (l : CertificateLogin) (g : UserGrant) (a : AdmitsBy (λ c n t name. Unit {0}) authorities l g) (k : DsaKey) → a.certificate.signed.signature_key ≡ Dsa k → ⊥)
     × ((authorities : Certificate → List Fingerprint) (l : CertificateLogin) (g : UserGrant) → AdmitsBy (λ c n t name. ⊥) authorities l g → ⊥)
     × ((p : policy.Login) (c : Certificate) (t : Terms) (g : UserGrant) → BindsTogether p c t g → p.blob ≡ flat (normal_certificate c))
     × ((p : policy.Login) (c : Certificate) (t : Terms) (g : UserGrant) → BindsTogether p c t g → LetsIn p c)

@@ -5,7 +5,7 @@ use Rattle.user_keys.proofs.examples.admitted_certificates.Goals as goal
 
 pub returns : goal.returns
 returns c = (
-  (λ IsLine authorities l g a k dsa. no_dsa 0 a.certificate.signed.signature_key k dsa a.accepted),
+  (λ authorities l g a k dsa. no_dsa 0 a.certificate.signed.signature_key k dsa a.accepted),
   (λ authorities l g a. a.line),
   (λ p c t g binds. binds.normal),
   (λ p c t g binds. binds.lets_in),

@@ -1,4 +1,4 @@
-use Rattle.std.proofs.Common.{◌++◌, [], arith, codes, refl}
+use Rattle.std.proofs.Common.{◌++◌, [], arith, codes, inl, inr, refl}
 use Rattle.base64.specs.Rfc4648.{encode_symbols}
 use Rattle.sshkey_model.specs.HexText.{hex}
 use Rattle.user_keys.specs.EdgeExamples.{point}
