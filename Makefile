@@ -1,7 +1,7 @@
 # Builds what other languages link, of the text of the proved crate sshkey_c, and the programs of helpers/:
 #
 #     out/librafendilo.a  out/librafendilo.so  out/librafendilo.so.2  out/rafendilo.pc
-#     out/sshkey-check  out/sshkey-principals  out/sshkey-authorized-keys
+#     out/librafendilo-verify.a  out/sshkey-check  out/sshkey-principals  out/sshkey-authorized-keys
 #
 # and with `make go`, which takes Go (Debian: golang-go), the example in Go: out/check-go;
 # with `make rust`, which takes Rust (Debian: cargo), the one in Rust: out/check-rust; and with
@@ -10,8 +10,9 @@
 # Any C compiler for Linux on x86-64 or aarch64 does: the text stands in the tree, as bindings/library
 # last wrote it. The helpers take OpenSSL's libcrypto (Debian: libssl-dev), and `make lib` is without
 # them. `make check` asks the library's calls, and holds their answers against
-# ssh-keygen. `make install PREFIX=/usr/local` copies header, libraries, a rafendilo.pc that goes with
-# them where they are moved, the helpers and their manual pages; `make uninstall` removes them.
+# ssh-keygen. `make install PREFIX=/usr/local` copies headers, libraries, files for pkg-config that
+# go with them where they are moved, and the helpers with their manual pages and completions; `make
+# uninstall` removes them.
 # docs/FOREIGN.md is the page to read.
 
 # make divides names at blanks
@@ -49,13 +50,16 @@ CRYPTO := -lcrypto
 HEADERS := $(ROOT)/include/rafendilo.h $(wildcard $(ROOT)/helpers/*.h)
 PROGRAMS := $(OUT)/sshkey-check $(OUT)/sshkey-principals $(OUT)/sshkey-authorized-keys
 # what they are linked with, each with what it takes of it
-PARTS := $(addprefix $(OUT)/,program.o login.o memory.o show.o certificate.o sshsig.o reading.o sha1.o verdict.o verify.o)
+PARTS := $(addprefix $(OUT)/,program.o login.o login-log.o memory.o check-words.o check-lines.o check-keys.o report.o \
+	show.o text.o certificate.o sshsig.o reading.o sha1.o verdict.o verify.o)
+# what programs in C take of them
+VERIFY := judge sha1 sshsig verdict verify
 PAGES := $(notdir $(wildcard $(ROOT)/helpers/*.[18]))
 
 vpath %.c $(ROOT)/helpers $(ROOT)/bindings/go/rafendilo
 
 lib: $(OUT)/librafendilo.a $(OUT)/librafendilo.so $(OUT)/$(SONAME) $(OUT)/rafendilo.pc
-all: lib $(PROGRAMS)
+all: lib $(OUT)/librafendilo-verify.a $(PROGRAMS)
 
 # where it is of other sources than stand here, that is said, and no more; a package has none
 $(ROOT)/bindings/go/rafendilo/rafendilo_linux_$(PROCESSOR).S: always
@@ -95,7 +99,12 @@ $(OUT)/rafendilo.pc: $(ROOT)/bindings/rafendilo.pc.in $(ROOT)/VERSION
 $(OUT)/%.o: %.c $(HEADERS) $(OUT)/processor
 	$(CC) $(WARNED) $(CFLAGS) $(HARDENED) -c -o $@ $<
 
+# a program's own library may take them
+$(VERIFY:%=$(OUT)/%.o): HARDENED += -fPIC
+
+$(OUT)/librafendilo-verify.a: $(VERIFY:%=$(OUT)/%.o)
 $(OUT)/parts.a: $(PARTS)
+$(OUT)/librafendilo-verify.a $(OUT)/parts.a:
 	rm -f $@
 	$(AR) rcs $@ $^
 
@@ -128,8 +137,13 @@ LIB := $(DESTDIR)$(LIBDIR)
 # the prefix, from where rafendilo.pc is installed if that is below it
 UP := $(subst $() ,/,$(patsubst %,..,$(subst /, ,$(LIBDIR:$(PREFIX)/%=%)/pkgconfig)))
 FROM_LIB := $(if $(filter $(PREFIX)/%,$(LIBDIR)),$${pcfiledir}/$(UP),$(PREFIX))
+PACKAGES := rafendilo.pc rafendilo-verify.pc
 BIN := $(DESTDIR)$(PREFIX)/bin
 MAN := $(DESTDIR)$(PREFIX)/share/man
+# where shells look for completions below the prefix; Debian's zsh looks elsewhere
+BASH_COMPLETIONS := $(PREFIX)/share/bash-completion/completions
+ZSH_COMPLETIONS := $(PREFIX)/share/zsh/site-functions
+COMPLETIONS := $(DESTDIR)$(BASH_COMPLETIONS)/sshkey-check $(DESTDIR)$(ZSH_COMPLETIONS)/_sshkey-check
 # where the manual page is installed: sshkey-check.1 in man1
 INSTALLED = $(MAN)/man$(patsubst .%,%,$(suffix $(1)))/$(1)
 
@@ -140,20 +154,26 @@ install: all
 	install -m 755 $(OUT)/librafendilo.so $(LIB)/librafendilo.so.$(VERSION)
 	ln -sf librafendilo.so.$(VERSION) $(LIB)/$(SONAME)
 	ln -sf $(SONAME) $(LIB)/librafendilo.so
-	$(FILL) -e 's|@include@|$(FROM_LIB)/include|' -e 's|@lib@|$${pcfiledir}/..|' \
-		$(ROOT)/bindings/rafendilo.pc.in >$(LIB)/pkgconfig/rafendilo.pc
-	chmod 644 $(LIB)/pkgconfig/rafendilo.pc
+	install -d $(INCLUDE)/rafendilo
+	install -m 644 $(VERIFY:%=$(ROOT)/helpers/%.h) $(INCLUDE)/rafendilo
+	install -m 644 $(OUT)/librafendilo-verify.a $(LIB)
+	$(foreach it,$(PACKAGES),$(FILL) -e 's|@include@|$(FROM_LIB)/include|' \
+		-e 's|@lib@|$${pcfiledir}/..|' $(ROOT)/bindings/$(it).in >$(LIB)/pkgconfig/$(it) && \
+		chmod 644 $(LIB)/pkgconfig/$(it) &&) true
 	install -m 755 $(PROGRAMS) $(BIN)
 	$(foreach it,$(PAGES),sed 's|/usr/local/bin|$(abspath $(PREFIX))/bin|' $(ROOT)/helpers/$(it) \
 		>$(call INSTALLED,$(it)) && chmod 644 $(call INSTALLED,$(it)) &&) true
+	install -D -m 644 $(ROOT)/helpers/sshkey-check.bash $(DESTDIR)$(BASH_COMPLETIONS)/sshkey-check
+	install -D -m 644 $(ROOT)/helpers/_sshkey-check $(DESTDIR)$(ZSH_COMPLETIONS)/_sshkey-check
 	@echo "sshd has to run sshkey-principals and sshkey-authorized-keys as a user that nothing else"
 	@echo "runs as, not as nobody: any process of the same user can answer sshd in their place."
 	@echo "    useradd -r -M -s /usr/sbin/nologin sshkey"
 
 uninstall:
-	rm -f $(INCLUDE)/rafendilo.h $(INCLUDE)/rafendilo_0_2.h $(LIB)/librafendilo.a $(LIB)/pkgconfig/rafendilo.pc \
-		$(LIB)/librafendilo.so $(LIB)/$(SONAME) $(LIB)/librafendilo.so.$(VERSION) \
-		$(addprefix $(BIN)/,$(notdir $(PROGRAMS))) $(foreach it,$(PAGES),$(call INSTALLED,$(it)))
+	rm -f $(INCLUDE)/rafendilo.h $(INCLUDE)/rafendilo_0_2.h $(VERIFY:%=$(INCLUDE)/rafendilo/%.h) $(LIB)/librafendilo.a \
+		$(LIB)/librafendilo-verify.a $(PACKAGES:%=$(LIB)/pkgconfig/%) $(LIB)/librafendilo.so $(LIB)/$(SONAME) $(LIB)/librafendilo.so.$(VERSION) \
+		$(addprefix $(BIN)/,$(notdir $(PROGRAMS))) $(COMPLETIONS) $(foreach it,$(PAGES),$(call INSTALLED,$(it)))
+	[ ! -d $(INCLUDE)/rafendilo ] || rmdir --ignore-fail-on-non-empty $(INCLUDE)/rafendilo
 
 clean:
 	rm -rf $(OUT)

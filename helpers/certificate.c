@@ -2,6 +2,7 @@
 
 #include <stdlib.h>
 #include <string.h>
+#include <time.h>
 
 #include "verdict.h"
 
@@ -18,7 +19,8 @@ uint32_t certificate_read_key(raf_blob certificate, raf_blob *answer) {
   return status;
 }
 
-uint32_t certificate_log_in(raf_blob certificate, raf_login login, certificate_print *print) {
+uint32_t certificate_log_in(raf_blob certificate, raf_login login, certificate_print *print,
+                            const void *given) {
   raf_blob key = {NULL, 0};
   raf_grant grant;
   uint32_t answer = certificate_read_key(certificate, &key);
@@ -27,8 +29,24 @@ uint32_t certificate_log_in(raf_blob certificate, raf_login login, certificate_p
   login.certificate = raf_blob_span(certificate);
   login.key = raf_blob_span(key);
   answer = buffer ? raf_log_in(&login, buffer, certificate.length, &grant) : RAF_MEMORY;
-  if (answer == RAF_DONE && print) print(&grant, buffer);
+  if (answer == RAF_DONE && print) print(&grant, buffer, given);
   free(buffer);
   free(key.bytes);
   return answer;
+}
+
+bool certificate_write_window(raf_blob certificate, uint64_t unix_timestamp, char *buffer,
+                              size_t length) {
+  raf_fields fields;
+  struct tm parts;
+  memset(&fields, 0, sizeof fields);
+  if (raf_certificate_fields(raf_bytes(certificate.bytes), certificate.length, &fields) !=
+      RAF_DONE)
+    return false;
+  bool is_early = unix_timestamp < fields.valid_after;
+  uint64_t second = is_early ? fields.valid_after : fields.valid_before;
+  time_t when = (time_t)second;
+  return second <= INT64_MAX && gmtime_r(&when, &parts) &&
+         strftime(buffer, length, is_early ? "its time begins at %Y-%m-%dT%H:%M:%SZ"
+                                         : "its time was over at %Y-%m-%dT%H:%M:%SZ", &parts);
 }

@@ -5,18 +5,16 @@
 #include <errno.h>
 #include <fcntl.h>
 #include <getopt.h>
-#include <inttypes.h>
+#include <limits.h>
 #include <pwd.h>
-#include <stdarg.h>
 #include <stdio.h>
 #include <stdlib.h>
 #include <string.h>
 #include <sys/stat.h>
-#include <syslog.h>
 #include <unistd.h>
 
-/* of a key id, whose rest a log does without */
-#define LOGGED 200
+#include "text.h"
+
 /* the user id that Linux itself gives for one that has none here */
 #define NOBODY 65534
 
@@ -27,40 +25,77 @@ static bool is_user(const char *name) {
   return name[0] && name[0] != '.' && !strchr(name, '/');
 }
 
-/* Takes an option of the words; false where it is none, or stands there a second time. */
-static bool take_option(int letter, login_option own, login_request *asked) {
+/* Takes an option of the words; null, or what is wrong with it. */
+static const char *take_option(int letter, login_request *asked) {
   uint64_t bits;
   switch (letter) {
-  case 'r': return program_add_path(&asked->revoked, optarg);
-  case 's': return asked->is_logged = true;
-  case 'm': return asked->is_insecure = true;
+  case 'r': return program_add_path(&asked->revoked, optarg) ? NULL : "no memory";
+  case 's': return NULL; /* what it asked for is done without it */
+  case 'q':
+    asked->is_quiet = true;
+    return NULL;
+  case 'm':
+    asked->is_insecure = true;
+    return NULL;
+  case 'c':
+    asked->is_check = true;
+    return NULL;
+  case 'C':
+    asked->client = optarg;
+    return NULL;
   case LOGIN_FILE:
-    if (own != LOGIN_FILE || asked->is_file) return false;
+    if (asked->is_file) return "is a second path";
     asked->path = optarg;
-    return asked->is_file = true;
+    asked->is_file = true;
+    return NULL;
   case LOGIN_BITS:
-    if (own != LOGIN_BITS || !program_read_number(optarg, &bits) || bits > UINT32_MAX) return false;
+    if (!program_read_number(optarg, &bits) || bits > UINT32_MAX) return "is no number";
     asked->least_rsa_bits = (uint32_t)bits;
-    return true;
-  default: return false;
+    return NULL;
+  case ':': return "wants a word after it";
+  default: return "is no option";
   }
 }
 
-bool login_read_words(int count, char **words, login_option own, login_request *asked) {
-  static const struct option options[] = {{"revoked", required_argument, NULL, 'r'},
-                                          {"syslog", no_argument, NULL, 's'},
-                                          {"insecure-modes", no_argument, NULL, 'm'},
-                                          {"file", required_argument, NULL, LOGIN_FILE},
-                                          {"least-rsa-bits", required_argument, NULL, LOGIN_BITS},
-                                          {NULL, 0, NULL, 0}};
-  memset(asked, 0, sizeof *asked);
+/* Reads the options of the words; false, which is said, where they are none. */
+static bool read_options(int count, char **words, login_option own, login_request *asked) {
+  const struct option options[] = {
+      {"revoked", required_argument, NULL, 'r'},
+      {"syslog", no_argument, NULL, 's'},
+      {"quiet", no_argument, NULL, 'q'},
+      {"insecure-modes", no_argument, NULL, 'm'},
+      {"check", no_argument, NULL, 'c'},
+      {"client", required_argument, NULL, 'C'},
+      {own == LOGIN_FILE ? "file" : "least-rsa-bits", required_argument, NULL, own},
+      {NULL, 0, NULL, 0}};
   opterr = 0;
   /* those after the first word that is no option are the client's */
-  for (int letter; (letter = getopt_long(count, words, "+", options, NULL)) != -1;)
-    if (!take_option(letter, own, asked)) return false;
-  if (count - optind != (asked->is_file ? 3 : 4)) return false;
+  for (int letter; (letter = getopt_long(count, words, "+:", options, NULL)) != -1;) {
+    const char *wrong = take_option(letter, asked);
+    if (!wrong) continue;
+    login_complain(asked, "%s %s", words[optind - 1], wrong);
+    return false;
+  }
+  return true;
+}
+
+bool login_read_words(int count, char **words, login_option own, const char *usage,
+                      login_request *asked) {
+  memset(asked, 0, sizeof *asked);
+  bool is_read = read_options(count, words, own, asked);
+  /* a login has three words after the path, and of a user's file one is read with its user */
+  int wanted = asked->is_check ? 1 : asked->is_file ? 3 : 4;
+  if (is_read && count - optind != wanted) {
+    login_complain(asked, "%d words in place of %d", count - optind, wanted);
+    is_read = false;
+  }
+  if (!is_read) {
+    fprintf(stderr, "usage: %s\n", usage);
+    return false;
+  }
   if (!asked->is_file) asked->path = words[optind++];
-  asked->user = words[optind];
+  if (asked->is_file || !asked->is_check) asked->user = words[optind];
+  if (asked->is_check) return true;
   asked->type = words[optind + 1];
   asked->base64 = words[optind + 2];
   return true;
@@ -71,109 +106,7 @@ void login_forget(login_request *asked) {
   free(asked->offered);
 }
 
-/* ---- what is said */
-
-/* Writes the bytes for a log: what is no printable ASCII, or quotes, by three octal digits. */
-static void write_escaped(FILE *to, const uint8_t *bytes, size_t length) {
-  for (size_t at = 0; at < length && at < LOGGED; at++) {
-    if (bytes[at] >= ' ' && bytes[at] < 0x7f && bytes[at] != '\\' && bytes[at] != '"')
-      fputc(bytes[at], to);
-    else
-      fprintf(to, "\\%03o", bytes[at]);
-  }
-  if (length > LOGGED) fputs("..", to);
-}
-
-/* Tells the log of the request. */
-static void tell_log(const login_request *asked, int priority, const char *said) {
-  char *line = NULL;
-  size_t length = 0;
-  FILE *to = open_memstream(&line, &length);
-  if (!to) return;
-  fputs("user \"", to);
-  write_escaped(to, (const uint8_t *)asked->user, strlen(asked->user));
-  fprintf(to, "\", %s: %s", asked->offered ? asked->offered : "what is offered was not read", said);
-  if (fclose(to) == 0) {
-    openlog(program_name, LOG_PID, LOG_AUTH);
-    syslog(priority, "%s", line);
-  }
-  free(line);
-}
-
-void login_complain(const login_request *asked, const char *format, ...) {
-  char *said = NULL;
-  size_t length = 0;
-  FILE *to = open_memstream(&said, &length);
-  va_list words;
-  va_start(words, format);
-  if (to) vfprintf(to, format, words);
-  va_end(words);
-  if (!to || fclose(to)) {
-    program_complain("no memory");
-  } else {
-    program_complain("%s", said);
-    if (asked->is_logged) tell_log(asked, LOG_NOTICE, said);
-  }
-  free(said);
-}
-
-/* Whether it says that nothing can be told, and not that the client is not let in. */
-static bool is_untold(uint32_t answer) {
-  return answer == RAF_MEMORY || answer == RAF_TEXT || answer == RAF_UNREADABLE_REVOCATIONS;
-}
-
-int login_refuse(const login_request *asked, uint32_t answer) {
-  login_complain(asked, "%s: %s (%" PRIu32 ")", is_untold(answer) ? "it can't tell" : "refused",
-                 raf_status_meaning(answer), answer);
-  return is_untold(answer) ? program_untold : 0;
-}
-
-/* Writes the fingerprint of a key; false where it has none. */
-static bool write_key(FILE *to, const uint8_t *key, size_t length) {
-  uint8_t text[RAF_FINGERPRINT_TEXT] = {0};
-  raf_sha256 digest = {{0}};
-  if (raf_fingerprint(key, length, &digest) != RAF_DONE ||
-      raf_fingerprint_text(&digest, text, sizeof text) != RAF_DONE)
-    return false;
-  fprintf(to, "%.*s", (int)sizeof text, (const char *)text);
-  return true;
-}
-
-static bool write_certificate(FILE *to, raf_blob certificate) {
-  const uint8_t *bytes = certificate.bytes;
-  raf_fields fields;
-  raf_parts parts;
-  memset(&fields, 0, sizeof fields);
-  memset(&parts, 0, sizeof parts);
-  if (raf_certificate_fields(bytes, certificate.length, &fields) != RAF_DONE ||
-      raf_certificate_parts(bytes, certificate.length, &parts) != RAF_DONE)
-    return false;
-  fputs("certificate \"", to);
-  write_escaped(to, bytes + parts.key_id.start, parts.key_id.length);
-  fprintf(to, "\", serial %" PRIu64 ", authority ", fields.serial);
-  return write_key(to, bytes + parts.authority.start, parts.authority.length);
-}
-
-void login_note(login_request *asked, raf_blob offered, bool is_certificate) {
-  char *text = NULL;
-  size_t length = 0;
-  if (!asked->is_logged) return;
-  FILE *to = open_memstream(&text, &length);
-  if (!to) return;
-  bool is_known = true;
-  if (is_certificate) {
-    is_known = write_certificate(to, offered);
-  } else {
-    fputs("key ", to);
-    is_known = write_key(to, offered.bytes, offered.length);
-  }
-  if (fclose(to) == 0 && is_known)
-    asked->offered = text;
-  else
-    free(text);
-}
-
-/* ---- who may run it, and what it reads */
+/* ---- who may run it */
 
 static bool runs_as(uid_t user) {
   return user == getuid() || user == geteuid();
@@ -186,19 +119,34 @@ bool login_may_run(const login_request *asked) {
     login_complain(asked, "it does not run as nobody, but as a user that nothing else runs as");
     return false;
   }
-  if (is_user(asked->user)) return true;
+  if (!asked->user || is_user(asked->user)) return true;
   login_complain(asked, "no name of a user");
   return false;
 }
+
+/* ---- which files it believes */
 
 static bool is_safe(const struct stat *it, uid_t owner) {
   return raf_check_safe_mode(it->st_uid, owner, it->st_mode) == RAF_DONE;
 }
 
+/* Whether a file is believed that is open, or whether another one has its name by now. */
+typedef enum { BELIEVED, DISBELIEVED, REPLACED } belief;
+
+/* The path of the file that is open, without links, of malloc; null where the name is another's. */
+static char *path_of(const char *path, const struct stat *opened) {
+  struct stat it;
+  char *at = realpath(path, NULL);
+  if (at && lstat(at, &it) == 0 && it.st_dev == opened->st_dev && it.st_ino == opened->st_ino)
+    return at;
+  free(at);
+  return NULL;
+}
+
 /* Whether each folder above the file is safe, up to that home or else to the root. */
-static bool has_safe_folders(const login_request *asked, const char *path, uid_t owner,
-                             const char *home) {
-  char *at = realpath(path, NULL), *last = home ? realpath(home, NULL) : NULL;
+static belief has_safe_folders(const login_request *asked, const char *path,
+                               const struct stat *opened, uid_t owner, const char *home) {
+  char *at = path_of(path, opened), *last = home ? realpath(home, NULL) : NULL;
   bool good = at != NULL, is_last = false;
   while (good && !is_last) {
     struct stat it;
@@ -207,56 +155,129 @@ static bool has_safe_folders(const login_request *asked, const char *path, uid_t
     good = stat(at, &it) == 0 && is_safe(&it, owner);
     is_last = slash == at || (last && !strcmp(at, last));
   }
-  if (!at) login_complain(asked, "%s: %s", path, strerror(errno));
-  if (at && !good) login_complain(asked, "%s: others may write in %s", path, at);
+  belief found = good ? BELIEVED : at ? DISBELIEVED : REPLACED;
+  if (found == DISBELIEVED) login_complain(asked, "%s: others may write in %s", path, at);
   free(at);
   free(last);
-  return good;
+  return found;
 }
 
 /* Whether the file that is open may be believed. */
-static bool is_believed(const login_request *asked, FILE *file, const char *path,
-                        const char *owner) {
+static belief judge_file(const login_request *asked, FILE *file, const char *path,
+                         const char *owner) {
   const struct passwd *user = owner ? getpwnam(owner) : NULL;
   uid_t uid = user ? user->pw_uid : 0;
   struct stat it;
   if (fstat(fileno(file), &it) || !S_ISREG(it.st_mode)) {
     login_complain(asked, "%s: no regular file", path);
-    return false;
+    return DISBELIEVED;
   }
-  if (asked->is_insecure) return true;
-  if (is_safe(&it, uid)) return has_safe_folders(asked, path, uid, user ? user->pw_dir : NULL);
+  if (asked->is_insecure) return BELIEVED;
+  if (is_safe(&it, uid))
+    return has_safe_folders(asked, path, &it, uid, user ? user->pw_dir : NULL);
   login_complain(asked, "%s: %s", path, raf_status_meaning(RAF_UNSAFE_MODE));
-  return false;
+  return DISBELIEVED;
 }
 
-login_reading login_read_file(const login_request *asked, const char *path, const char *owner,
-                              raf_blob *answer) {
+/* Opens the file; says why where it can't, but for a file of an owner that is missing. */
+static login_reading open_file(const login_request *asked, const char *path, const char *owner,
+                               FILE **file) {
   /* a FIFO or a device would keep it waiting */
   int opened = open(path, O_RDONLY | O_NONBLOCK | O_NOCTTY | O_CLOEXEC);
-  FILE *file = opened < 0 ? NULL : fdopen(opened, "rb");
-  login_reading reading = LOGIN_UNTOLD;
-  if (!file) {
-    if (opened < 0 && errno == ENOENT) reading = LOGIN_MISSING;
+  *file = opened < 0 ? NULL : fdopen(opened, "rb");
+  if (*file) return LOGIN_READ;
+  bool is_missing = opened < 0 && errno == ENOENT;
+  if (!is_missing || !owner) login_complain(asked, "%s: %s", path, strerror(errno));
+  if (opened >= 0) close(opened);
+  return is_missing ? LOGIN_MISSING : LOGIN_UNTOLD;
+}
+
+/* Opens the file of the path, if it may be believed, likewise. */
+static login_reading open_believed(const login_request *asked, const char *path, const char *owner,
+                                   FILE **file) {
+  /* who replaces a file by rename may do so while it is checked */
+  for (int tries = 2; tries; tries--) {
+    login_reading reading = open_file(asked, path, owner, file);
+    if (reading != LOGIN_READ) return reading;
+    belief found = judge_file(asked, *file, path, owner);
+    if (found == BELIEVED) return LOGIN_READ;
+    fclose(*file);
+    if (found == DISBELIEVED) return LOGIN_UNTOLD;
+  }
+  login_complain(asked, "%s: it was replaced twice while it was checked", path);
+  return LOGIN_UNTOLD;
+}
+
+/* ---- what it reads */
+
+/* Gives each line of the file, likewise: RAF_DONE, or what `each` says. */
+static uint32_t read_lines(FILE *file, program_line *each, void *given, size_t *number) {
+  char *line = NULL;
+  size_t buffer = 0;
+  ssize_t length;
+  uint32_t answer = RAF_DONE;
+  *number = 0;
+  while (answer == RAF_DONE && (length = getline(&line, &buffer, file)) >= 0) {
+    raf_part part = {0, 0};
+    ++*number;
+    if (raf_next_line((const uint8_t *)line, (size_t)length, 0, &part) == RAF_DONE)
+      answer = each(line + part.start, part.length, *number, given);
+  }
+  free(line);
+  return answer;
+}
+
+login_reading login_each_line(const login_request *asked, const char *path, const char *owner,
+                              program_line *each, void *given) {
+  FILE *file;
+  size_t number;
+  login_reading reading = open_believed(asked, path, owner, &file);
+  if (reading != LOGIN_READ) return reading;
+  uint32_t answer = read_lines(file, each, given, &number);
+  if (answer != RAF_DONE)
+    login_complain(asked, "%s:%zu: %s", path, number, raf_status_meaning(answer));
+  else if (!feof(file))
     login_complain(asked, "%s: %s", path, strerror(errno));
-    if (opened >= 0) close(opened);
-    return reading;
-  }
-  if (is_believed(asked, file, path, owner)) {
-    if (raf_read_stream(file, answer))
-      reading = LOGIN_READ;
-    else
-      login_complain(asked, "%s: %s", path, strerror(errno));
-  }
+  bool is_read = answer == RAF_DONE && feof(file);
   fclose(file);
-  return reading;
+  return is_read ? LOGIN_READ : LOGIN_UNTOLD;
 }
 
 bool login_read_revoked(login_request *asked) {
   for (size_t at = 0; at < asked->revoked.count; at++) {
+    const char *path = asked->revoked.paths[at];
     raf_blob text = {NULL, 0};
-    if (login_read_file(asked, asked->revoked.paths[at], NULL, &text) != LOGIN_READ) return false;
+    FILE *file;
+    if (open_believed(asked, path, NULL, &file) != LOGIN_READ) return false;
+    bool is_read = raf_read_stream(file, &text);
+    if (!is_read) login_complain(asked, "%s: %s", path, strerror(errno));
+    fclose(file);
+    if (!is_read) return false;
     asked->revoked.texts[at] = raf_blob_span(text);
   }
   return true;
+}
+
+/* ---- what is checked before a login is */
+
+bool login_check_revoked(const login_request *asked) {
+  /* some key: nothing is asked but whether the files can be read */
+  static const uint8_t key[51] = "\0\0\0\13ssh-ed25519\0\0\0\40";
+  bool is_read = true;
+  for (size_t at = 0; at < asked->revoked.count; at++) {
+    uint32_t answer = raf_check_unrevoked_key(&asked->revoked.texts[at], 1, key, sizeof key);
+    if (answer == RAF_DONE || answer == RAF_NOT_REVOKED) continue;
+    login_complain(asked, "%s: %s", asked->revoked.paths[at], raf_status_meaning(answer));
+    is_read = false;
+  }
+  return is_read;
+}
+
+void login_print_line(const char *path, size_t number, raf_span users,
+                      const raf_sha256 *key) {
+  uint8_t text[RAF_FINGERPRINT_TEXT] = {0};
+  printf("%s:%zu: ", path, number);
+  text_print(users);
+  if (raf_fingerprint_text(key, text, sizeof text) == RAF_DONE)
+    printf(" by %.*s\n", (int)sizeof text, (const char *)text);
 }

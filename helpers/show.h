@@ -1,17 +1,43 @@
-/* What a certificate says, as `ssh-keygen -L` shows it. */
+/* What keys, certificates and grants say, as `ssh-keygen -l` and `-L` show it. Texts are printed by
+ * text_print. */
 #ifndef SHOW_H
 #define SHOW_H
 #include "reading.h"
 
-/* Prints what a certificate says, if it is one: RAF_DONE, or why it is none. Each control
- * character and each backslash of its texts is shown by three octal digits after a backslash. It is
- * shown as signed by the algorithm of that name, or, where that is null, by the one in it. */
+/* The device of tun(4) by which a grant is bound to no one device. */
+#define SHOW_ANY_DEVICE 0x7fffffff
+
+/* The text of a fingerprint; RAF_DONE, or why the bytes are no key. */
+typedef struct {
+  uint8_t text[RAF_FINGERPRINT_TEXT];
+} show_fingerprint;
+uint32_t show_read_fingerprint(raf_span key, show_fingerprint *answer);
+
+static inline raf_span show_fingerprint_of(const show_fingerprint *it) {
+  return (raf_span){it->text, sizeof it->text};
+}
+
+/* Prints the fingerprint of a key, its comment and its kind, as one line: likewise. */
+uint32_t show_key(raf_span key, bool is_certified, raf_span comment);
+
+/* Prints what a certificate says, if it is one: RAF_DONE, or why it is none. It is shown as
+ * signed by the algorithm of that name, or, where that is null, by the one in it. */
 uint32_t show_certificate(raf_blob certificate, const char *signed_by);
 
-/* Prints what a login by a certificate may do, and by which; likewise. */
+/* The name of the algorithm by which the certificate is signed: its last string begins with it. */
+raf_span show_algorithm(raf_blob certificate, const raf_parts *parts);
+
+/* What a grant may permit, in words; the last has none. */
+typedef struct {
+  const char *words;
+  uint32_t bit;
+} show_permission;
+extern const show_permission show_permissions[];
+
+/* Prints what a login by a certificate may do, and by which. */
 void show_certified(const raf_grant *grant, const uint8_t *buffer);
 
-/* Prints what a login by a line may do, and, where it is by a certificate, by which; likewise. */
+/* Prints what a login by a line may do, and, where it is by a certificate, by which. */
 void show_grant(const raf_user_grant *grant, const uint8_t *buffer, bool is_certified);
 
 #endif

@@ -6,6 +6,7 @@ import subprocess
 import sys
 
 from .archives import files_below, mode_of, pack_tar, pack_zip, write_sums
+from .needs import PYTHON
 from .papers import MACHINES, PACKAGE, filled, indented, proved_by
 
 # what of the tree the source package has: nothing that takes the proofs or the toolchain; PROVED-BY stands at its top
@@ -19,8 +20,6 @@ SOURCES = [
 TEXTS = [f"{PACKAGE}/rafendilo_linux_{it}.S" for it in MACHINES]
 # what makes a compiler for the machine's libraries of each processor
 COMPILERS = {it: f"{machine}-linux-gnu-gcc" for it, machine in MACHINES.items()}
-# Debian's Python, which has setuptools and wheel by Debian's packages
-PYTHON = "/usr/bin/python3"
 # the glibc of this year or later
 MANYLINUX = "manylinux2014"
 
@@ -187,12 +186,14 @@ def make_source(release, folder, _room, out):
     pack_tar(folder, f"{out}/{os.path.basename(folder)}.tar.gz", release.second)
 
 
-MAKERS = [make_source, make_tarball, make_debian, make_wheels, make_go, make_rust]
+MAKERS = {
+    "source": make_source, "tarball": make_tarball, "debian": make_debian, "python": make_wheels, "go": make_go, "rust": make_rust,
+}  # fmt: skip
 
 
-def make_all(release, room, out, git):
-    """Makes all packages in the folder `out`, and returns their paths."""
+def make_all(release, room, out, git, kinds):
+    """Makes the packages of these kinds in the folder `out`, and returns their paths."""
     folder = stage(release, room, git)
-    for maker in MAKERS:
-        maker(release, folder, room, out)
+    for kind in kinds:
+        MAKERS[kind](release, folder, room, out)
     return [f"{out}/{it}" for it in files_below(out)]

@@ -104,7 +104,7 @@ def bill_of_materials(release, artefacts):
         relations.append(("SPDXRef-DOCUMENT", "DESCRIBES", own))
         if not re.match(r"python3-", os.path.basename(path)):
             relations += [(own, "CONTAINS", it["SPDXID"]) for it in parts]
-        if re.search(r"helpers|\.tar\.", path):
+        if re.search(r"helpers|-dev_|\.tar\.", path):
             relations.append((own, "DEPENDS_ON", crypto["SPDXID"]))
     return json.dumps({
         "spdxVersion": "SPDX-2.3", "dataLicense": "CC0-1.0", "SPDXID": "SPDXRef-DOCUMENT", "name": f"rafendilo-{release.version}",

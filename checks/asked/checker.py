@@ -18,6 +18,7 @@ from .hosts import (
     in_one_file, written,
 )  # fmt: skip
 from .hosts import INVALID as INVALID_TIME
+from .checker_answers import check_answers, is_no_call
 from .login_checker import asked_of, certified, check_login_checker, granted, printed_with
 from .login_options import certificate
 from .made import MIDDLE, is_verified
@@ -46,7 +47,11 @@ ALLOWED = [
     ("while a line revokes no key", "alice {key}", {}, "ssh-ed25519 AAAA", UNREAD),
 ]  # fmt: skip
 # texts of a certificate that a terminal would take for commands, and how they are shown
-HOSTILE = ("\x1b[2J\x7f\x80\u0085\nx\\y\xa0\u00a9", "\\033[2J\\177\\302\\200\\302\\205\\012x\\134y\xa0\u00a9")
+HOSTILE = (
+    "\x1b[2J\x7f\x80\u0085\nx\\y\xa0\u00a9\u200d\u200e\u200f\u2027\u2028\u202e\u202f\u2066\u2069\u206a\u5b89",
+    "\\033[2J\\177\\302\\200\\302\\205\\012x\\134y\xa0\u00a9\u200d\\342\\200\\216\\342\\200\\217\u2027\\342\\200\\250\\342\\200\\256\u202f"
+    "\\342\\201\\246\\342\\201\\251\u206a\u5b89",
+)  # fmt: skip
 
 
 # ---- what is shown
@@ -180,7 +185,8 @@ def check_signature(count, programs, maker, name, signature, words, text, wanted
         allowed = "".join(f"signer {it}" for it in file if not it.startswith("#"))
     judged = is_verified(maker.folder, "checked", signature, text, "signer", MIDDLE, allowed, space)
     count.check(f"ssh-keygen, a signature {name}", judged == is_valid, judged)
-    said = ("valid\n", "") if is_valid else ("refused\n", f"sshkey-check: {path}: {wanted}\n")
+    empty = "" if os.path.getsize(keys) else f"sshkey-check: {keys}: it has no line\n"
+    said = ("valid\n", "") if is_valid else ("refused\n", f"{empty}sshkey-check: {path}: {wanted}\n")
     for program in programs:
         for more, how in (([maker.write("asked", text)], {}), ([], {"input": text})):
             ran = run([program, *given, *more], **how)
@@ -206,7 +212,8 @@ def check_allowed(count, programs, maker):
         for more in files:
             judged = run(["ssh-keygen", "-Y", "verify", "-O", f"verify-time={date}", *words, *more], input=text).returncode == 0
             count.check(f"ssh-keygen, a signature {name}, by {more or 'no file'}", judged == is_valid, judged)
-            said = ("valid\n", "") if is_valid else ("" if wanted == UNREAD else "refused\n", f"sshkey-check: {path}: {wanted}\n")
+            empty = f"sshkey-check: {maker.path('signers')}: it has no line\n" if line.startswith("#") else ""
+            said = ("valid\n", "") if is_valid else ("" if wanted == UNREAD else "refused\n", f"{empty}sshkey-check: {path}: {wanted}\n")
             status = VALID if is_valid else UNTOLD if wanted == UNREAD else INVALID
             for program, second in zip(programs, (date, str(MIDDLE))):
                 ran = run([program, "verify", *words, *more, "--at", second], input=text)
@@ -288,10 +295,11 @@ def check_hostile_words(count, built, made):
             wrong += [] if is_sound else [(words, ran)]
         count.check(f"{name} with sanitizers, {len(asked)} hostile keys and files", not wrong, *wrong[:2])
     shown = [line_of(data) for kind, data, _ in made.hostile if kind == "certificate"]
-    ran = run([f"{built.sanitized}/sshkey-check"], input="".join(f"{it}\n" for it in shown))
-    named = ran.stderr.count("sshkey-check: (stdin):") + ran.stdout.count("        Type: ")
-    is_sound = ran.returncode == INVALID and named == len(shown) and not re.search("Sanitizer|runtime error", ran.stderr)
-    count.check(f"sshkey-check with sanitizers shows or names {len(shown):,} hostile certificates", is_sound, named, ran.stderr[-2000:])
+    for words, told in (([], "        Type: "), (["--json"], '"verdict":"shown"'), (["fingerprint"], "SHA256:")):
+        ran = run([f"{built.sanitized}/sshkey-check", *words], input="".join(f"{it}\n" for it in shown))
+        named = ran.stderr.count("sshkey-check: (stdin):") + ran.stdout.count(told)
+        is_sound = ran.returncode == INVALID and named == len(shown) and not re.search("Sanitizer|runtime error", ran.stderr)
+        count.check(f"sshkey-check {words} with sanitizers shows or names {len(shown):,} hostile certificates", is_sound, named, ran.stderr[-2000:])
 
 
 # ---- how it is called
@@ -328,8 +336,7 @@ def check_words(count, programs, maker):
         ["verify"], ["verify", *signed[:4]], ["verify", *signed, "--ca", ca], ["verify", *signed, key, key], ["verify", "--help"],
     ):  # fmt: skip
         ran = run([programs[0], *words], input="")
-        same = ran.returncode == UNTOLD and ran.stderr.startswith("usage: ") and not ran.stdout
-        count.check(f"sshkey-check {' '.join(map(os.path.basename, words))} is no call", same, ran)
+        count.check(f"sshkey-check {' '.join(map(os.path.basename, words))} is no call", is_no_call(ran), ran)
     for words in (["verify", *signed[:4], "-s", maker.path("none")], ["verify", "-k", maker.folder, *signed[2:]], [*allowed, "-r", maker.path("none")],
                   ["verify", "-f", maker.path("none"), *allowed[3:]], [maker.path("none")], ["--host", "h", "--known-hosts", maker.path("none")],
                   *(["--ca", ca, "--user", "alice", "--from", it] for it in ("", "192.0.2", "::1%lo", "localhost")),
@@ -384,3 +391,4 @@ def check_checker(count, built, made):
     check_hostile_words(count, built, made)
     check_refused_memory(count, built, maker)
     check_words(count, programs, maker)
+    check_answers(count, programs, maker)

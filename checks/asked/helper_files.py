@@ -2,6 +2,7 @@
 with StrictModes (sshd_config(5)), where it reads the file itself. It takes root's rights to make such files."""
 import os
 import pwd
+import resource
 import shutil
 import tempfile
 from concurrent.futures import ThreadPoolExecutor
@@ -17,6 +18,8 @@ READING = "AuthorizedKeysFile {0}/%u\n"
 ASKING = "AuthorizedKeysFile none\nAuthorizedKeysCommand {1} {0} %u %t %k\nAuthorizedKeysCommandUser {2}\n"
 # where nobody but root writes, on the whole path
 SAFE = "/var/lib"
+# in how much memory, shared libraries too, a file is read that is longer
+LEAST_ROOM = 32 << 20
 # names, what a shell does in a new folder that has the file in the folder keys, and whether it is believed then
 FILES = [
     ("as it is", "", True), ("of mode 600 and the user's", "chown $user $file && chmod 600 $file", True), ("of mode 666", "chmod 666 $file", False),
@@ -43,27 +46,27 @@ NOTING = r"""
 #include <stdarg.h>
 #include <stdio.h>
 #include <stdlib.h>
-static void note(const char *format, va_list words) {
+static int facility;
+static void note(int priority, const char *format, va_list words) {
   FILE *to = fopen(getenv("NOTED"), "a");
   if (!to) abort();
+  fprintf(to, "%d.%d ", facility, priority);
   vfprintf(to, format, words);
   fputc('\n', to);
   fclose(to);
 }
-void openlog(const char *name, int option, int facility) { (void)name; (void)option; (void)facility; }
+void openlog(const char *name, int option, int of) { (void)name; (void)option; facility = of; }
 void syslog(int priority, const char *format, ...) {
   va_list words;
-  (void)priority;
   va_start(words, format);
-  note(format, words);
+  note(priority, format, words);
   va_end(words);
 }
 void __syslog_chk(int priority, int flag, const char *format, ...) {
   va_list words;
-  (void)priority;
   (void)flag;
   va_start(words, format);
-  note(format, words);
+  note(priority, format, words);
   va_end(words);
 }
 """
@@ -72,6 +75,19 @@ NAMELESS = """
 #include <pwd.h>
 #include <stddef.h>
 struct passwd *getpwnam(const char *name) { return name ? NULL : NULL; }
+"""
+# by syslog.h: the facility auth, and priorities for what can't be told and for what is refused
+ERROR, NOTICE = "32.3", "32.5"
+# in place of the C library's: what is found is what another renames meanwhile
+REPLACING = """
+#define _GNU_SOURCE
+#include <dlfcn.h>
+#include <stdio.h>
+#include <stdlib.h>
+char *realpath(const char *path, char *room) {
+  rename(getenv("REPLACING"), getenv("REPLACED"));
+  return ((char *(*)(const char *, char *))dlsym(RTLD_NEXT, "realpath"))(path, room);
+}
 """
 # an id of a certificate that would end a line and a quotation, and how it is logged
 KEY_ID, LOGGED_ID = 'jump "x\ny\\\x1b', r"jump \042x\012y\134\033"
@@ -186,7 +202,8 @@ def check_nobody(count, helpers, room, helper):
 
 
 def check_logged(count, helpers, room):
-    """By --syslog the log has user, what is offered and why it is refused; without it nothing, nor where nothing is refused."""
+    """The log has user, client, what is offered and why it is refused, or why the program can't tell; nothing where nothing is refused, nor
+    by --quiet."""
     maker, user, noted = helpers.maker, helpers.user, helpers.maker.path("noted")
     source, noting = maker.write("noting.c", NOTING), maker.path("noting.so")
     made = run(["cc", "-shared", "-fPIC", "-o", noting, source])
@@ -194,6 +211,7 @@ def check_logged(count, helpers, room):
     authority, key = (run(["ssh-keygen", "-lf", maker.path(f"{it}.pub")]).stdout.split()[1] for it in ("authority", "key"))
     files = {
         "good": f"{user} {maker.read('authority.pub')}\n".encode(), "other": f"{user} {maker.read('other.pub')}\n".encode(),
+        "strange": f"x{user} {maker.read('authority.pub')}\n".encode(),
         "none": made_list(maker, None, []), "revoked": made_list(maker, "authority", ["serial: 7"]),
         user: f"{helpers.key}\n".encode(), "x": f"{maker.read('other.pub')}\n".encode(),
     }  # fmt: skip
@@ -201,21 +219,111 @@ def check_logged(count, helpers, room):
     open_path = f"{placed(room, user, 'open', files['good'], 'chmod 666 $file')}/keys/open"
     of_certificate = f'user "{user}", certificate "{LOGGED_ID}", serial 7, authority {authority}: '
     of_key, folder = f'user "{user}", key {key}: ', os.path.dirname(path[user])
+    of_client = of_certificate.replace(", ", r', client "192.0.2.7 \042 22", ', 1)
+    unread = f'user "{user}", what is offered was not read: '
     for case, ask, words, wanted in (
         ("nothing is refused", helpers.of_certificate, [path["good"]], ""),
-        ("another authority", helpers.of_certificate, [path["other"]], f"{of_certificate}refused: another authority (31)"),
-        ("revoked", helpers.of_certificate, ["--revoked", path["revoked"], path["good"]], f"{of_certificate}refused: revoked"),
-        ("others may write", helpers.of_certificate, [open_path], f"{of_certificate}{open_path}: another's, or others may write it"),
+        ("another authority", helpers.of_certificate, [path["other"]], f"{NOTICE} {of_certificate}refused: another authority (31)"),
+        ("no line of the user's", helpers.of_certificate, [path["strange"]],
+         f'{NOTICE} {of_certificate}refused: no line of {path["strange"]} is for "{user}" (31)'),
+        ("the client is told", helpers.of_certificate, ["--client", '192.0.2.7 " 22', path["other"]], f"{NOTICE} {of_client}refused: another"),
+        ("revoked", helpers.of_certificate, ["--revoked", path["revoked"], path["good"]], f"{NOTICE} {of_certificate}refused: revoked (56)"),
+        ("a list that is none", helpers.of_certificate, ["--revoked", path["other"], path["good"]], f"{ERROR} {of_certificate}it can't tell: "),
+        ("others may write", helpers.of_certificate, [open_path], f"{ERROR} {of_certificate}{open_path}: another's, or others may write it"),
+        ("no authorities", helpers.of_certificate, [f"{folder}/none"], f"{ERROR} {of_certificate}{folder}/none: No such file"),
+        ("a word too many", helpers.of_certificate, [path["good"], "x"], f"{ERROR} what is offered was not read: 5 words in place of 4"),
+        ("a name of no user", lambda *it, **how: run([helpers.keys, *it, f".{user}", "a", "b"], **how), [folder],
+         f'{ERROR} user ".{unread[6:]}no name of a user'),
         ("a line is printed", helpers.of_key, [folder], ""),
-        ("no line", helpers.of_key, ["--file", path["x"]], f"{of_key}refused: no line is for it"),
-        ("no file", helpers.of_key, [f"{folder}/none"], f"{of_key}{folder}/none/{user}: No such file"),
+        ("no line", helpers.of_key, ["--file", path["x"]], f"{NOTICE} {of_key}refused: no line of {path['x']} is for it"),
+        ("no file", helpers.of_key, [f"{folder}/none"], f"{NOTICE} {of_key}refused: {folder}/none/{user}: No such file"),
     ):  # fmt: skip
-        for more in ([], ["--syslog"]):
+        for more in ([], ["--quiet"], ["--syslog"]):
             maker.write("noted", "")
             ran = ask(*more, *words, env={**os.environ, "LD_PRELOAD": noting, "NOTED": noted})
             said = maker.read("noted")
-            same = "\n" not in said and (said.startswith(wanted) and bool(said) == bool(wanted) if more else not said)
+            same = "\n" not in said and (not said if more == ["--quiet"] else said.startswith(wanted) and bool(said) == bool(wanted))
             count.check(f"what is logged where {case}, {more}", same, said, ran)
+    helpers.certificate = maker.certificate("authority", "key", "-n", user, "-V", "20240101000000Z:20240201000000Z")
+    ran = helpers.of_certificate("--quiet", path["good"])
+    said = (ran.returncode, ran.stdout, ran.stderr)
+    count.check("why it is over is told", said == (0, "", "sshkey-principals: refused: its time was over at 2024-02-01T00:00:00Z (33)\n"), ran)
+
+
+def check_checked(count, helpers, room, helper):
+    """--check reads all files as the user as whom sshd runs the program, and says who may be let in by whom, and what can't be read."""
+    maker, user = helpers.maker, helpers.user
+    authority, key = (run(["ssh-keygen", "-lf", maker.path(f"{it}.pub")]).stdout.split()[1] for it in ("authority", "key"))
+    text = f"# authorities\n{user},other\t{maker.read('authority.pub')}\n,x {maker.read('authority.pub')}\n".encode()
+    wrong = text + f"{user} ssh-ed25519 AAAA\n{maker.read('authority.pub')}\n, {maker.read('authority.pub')}\n".encode()
+    keys = f"# keys\n{helpers.key}\n".encode()
+    entry = keys + b"no-pty\n"
+
+    def checked(program, text, doing, *more, name="file"):
+        at = placed(room, user, name, text, doing)
+        words = more or ([f"{at}/keys"] if program == "keys" else [f"{at}/keys/{name}"])
+        ran = run([getattr(helpers, program), "--check", *words], user=helper, extra_groups=[], timeout=20)
+        return f"{at}/keys/{name}", ran
+
+    for case, program, text, doing, status, shown, told in (
+        ("authorities", "principals", text, "", 0, f"{{0}}:2: {user},other by {authority}\n{{0}}:3: ,x by {authority}\n", ""),
+        ("no lines", "principals", b"# none\n", "", 1, "", "{0}: it has no line"),
+        ("wrong lines", "principals", wrong, "", 1, f"{{0}}:2: {user},other by {authority}\n{{0}}:3: ,x by {authority}\n", "{0}:4: no key: "),
+        ("a file that it can't read", "principals", text, "chmod 600 $file", 1, "", "{0}: Permission denied"),
+        ("a file that others may write", "principals", text, "chmod 666 $file", 1, "", "{0}: another's, or others may write it"),
+        ("no file", "principals", text, "rm $file", 1, "", "{0}: No such file"), ("keys", "keys", keys, "", 0, f"{{0}}:2: {user} by {key}\n", ""),
+        ("keys that it can't read", "keys", keys, "chmod 600 $file", 1, "", "{0}: Permission denied"),
+        ("keys that others may write", "keys", keys, "chmod 666 $file", 1, "", "{0}: another's, or others may write it"),
+        ("a line that is no entry", "keys", entry, "", 1, f"{{0}}:2: {user} by {key}\n", "{0}:3: no entry: "),
+    ):  # fmt: skip
+        path, ran = checked(program, text, doing, name=user if program == "keys" else "file")
+        same = (ran.returncode, ran.stdout) == (status, shown.format(path)) and (told.format(path) in ran.stderr if told else not ran.stderr)
+        count.check(f"rafendilo-{program} --check of {case}", same, ran)
+        if case == "wrong lines":
+            said = [it.split(":")[2] for it in ran.stderr.splitlines()]
+            count.check("and it names each", said == ["4", "5", "6"], ran)
+        if status == 0:
+            listed = f"{placed(room, user, 'list', made_list(maker, None, []), '')}/keys/list"
+            no_list = f"{placed(room, user, 'no-list', b'ssh-ed25519 AAAA', '')}/keys/no-list"
+            for more, wanted in (([listed], 0), ([no_list], 1), ([listed, no_list], 1), ([f"{room}/none"], 1)):
+                where = os.path.dirname(path) if program == "keys" else path
+                _, ran = checked(program, text, "", *(it for one in more for it in ("--revoked", one)), where)
+                told = not ran.stderr if wanted == 0 else ran.stderr.startswith(f"rafendilo-{'authorized-' if program == 'keys' else ''}{program}: {more[-1]}: ")
+                count.check(f"and of the lists {[*map(os.path.basename, more)]}", ran.returncode == wanted and told, ran)
+    path, ran = checked("keys", keys, "", "--file", f"{os.path.dirname(placed(room, user, user, keys, ''))}/none", user)
+    count.check("sshkey-authorized-keys --check of one file", ran.returncode == 1 and "No such file" in ran.stderr, ran)
+
+
+def check_replaced(count, helpers, room):
+    """The folders that are judged are those of the file that is read."""
+    maker, user = helpers.maker, helpers.user
+    replacing = maker.path("replacing.so")
+    made = run(["cc", "-shared", "-fPIC", "-o", replacing, maker.write("replacing.c", REPLACING), "-ldl"])
+    count.check("what replaces a file is built", made.returncode == 0, made)
+    bound = f"restrict {helpers.key}"
+    for case, is_swapped, wanted in (("while it is judged", True, f"{bound}\n"), ("by nobody", False, "")):
+        at = placed(room, user, user, f"{bound}\n".encode(), f"mkdir -m 777 open && cp $file open && mv $file next && ln -s ../open/{user} $file")
+        with open(f"{at}/open/{user}", "w", encoding="ascii") as file:
+            file.write(f"{helpers.key}\n")
+        names = {"REPLACING": f"{at}/keys/next" if is_swapped else f"{at}/none", "REPLACED": f"{at}/keys/{user}"}
+        os.rename(f"{at}/next", f"{at}/keys/next")
+        ran = helpers.of_key(f"{at}/keys", env={**os.environ, "LD_PRELOAD": replacing, **names})
+        count.check(f"a link into a folder of mode 777 is replaced {case}", (ran.returncode, ran.stdout) == (0 if wanted else 1, wanted), ran)
+
+
+def check_room(count, helpers):
+    """Of a file of many lines one is held."""
+    path = helpers.maker.path("long")
+    with open(path, "w", encoding="ascii") as file:
+        file.write(("\n" * 999 + "# " + "x" * 999 + "\n") * 20_000 + helpers.key + "\n")
+
+    def limit():
+        resource.setrlimit(resource.RLIMIT_AS, (LEAST_ROOM, LEAST_ROOM))
+
+    ran = helpers.of_key("--insecure-modes", "--file", path, preexec_fn=limit)
+    size = os.path.getsize(path)
+    count.check(f"a file of {size:,} bytes is read in a room of {LEAST_ROOM:,}", (ran.returncode, ran.stdout) == (0, f"{helpers.key}\n") and size > LEAST_ROOM, ran)
+    os.remove(path)
 
 
 def check_files(count, built, folder, maker_in, helper):
@@ -236,6 +344,9 @@ def check_files(count, built, folder, maker_in, helper):
             check_keys(count, helpers, room, helper)
             check_roots(count, helpers, room)
             check_nobody(count, helpers, room, helper)
+            check_checked(count, helpers, room, helper)
+            check_replaced(count, helpers, room)
+            check_room(count, helpers)
             check_logged(count, helpers, room)
             check_roots(count, Helpers(maker_in(made), built.sanitized, user), room)
     finally:

@@ -247,9 +247,11 @@ def is_found(folder, package, library):
 # what is installed below a prefix
 INSTALLED = {
     "bin/sshkey-authorized-keys", "bin/sshkey-check", "bin/sshkey-principals", "include/rafendilo.h", "include/rafendilo_0_2.h",
-    "lib/librafendilo.a", "lib/librafendilo.so", f"lib/librafendilo.so.{ABI}", f"lib/librafendilo.so.{VERSION // 10_000}.{VERSION // 100 % 100}.{VERSION % 100}",
-    "lib/pkgconfig/rafendilo.pc", "share/man/man1/sshkey-check.1", "share/man/man8/sshkey-authorized-keys.8",
-    "share/man/man8/sshkey-principals.8",
+    "lib/librafendilo.a",
+    "lib/librafendilo.so", f"lib/librafendilo.so.{ABI}", f"lib/librafendilo.so.{VERSION // 10_000}.{VERSION // 100 % 100}.{VERSION % 100}",
+    "lib/librafendilo-verify.a", "lib/pkgconfig/rafendilo.pc", "lib/pkgconfig/rafendilo-verify.pc", "share/man/man1/sshkey-check.1",
+    "share/man/man8/sshkey-authorized-keys.8", "share/man/man8/sshkey-principals.8", "share/bash-completion/completions/sshkey-check",
+    "share/zsh/site-functions/_sshkey-check", *(f"include/rafendilo/{it}.h" for it in COPIED),
 }  # fmt: skip
 
 

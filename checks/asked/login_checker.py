@@ -5,6 +5,7 @@ import random
 
 from lib.harness import ssh_keygen
 
+from .checker_answers import is_no_call
 from .example_calls import INVALID, UNTOLD, VALID
 from .linked import VALGRIND, run
 from .made import MIDDLE, WINDOW
@@ -152,7 +153,7 @@ def check_hostile_lines(count, programs, maker):
             with open(asked[0], "wb") as file:
                 file.write(content)
             ran = run([*program, "login", *asked])
-            is_sound = (ran.returncode, ran.stdout, ran.stderr.count("\n")) == (INVALID, "refused\n", 1)
+            is_sound = (ran.returncode, ran.stdout, ran.stderr.count("\n")) == (INVALID, "refused\n", 1 if content else 2)
             wrong += [] if is_sound else [(content, ran)]
         count.check(f"sshkey-check login by {len(files)} files of any bytes", not wrong, *wrong[:2])
 
@@ -165,8 +166,7 @@ def check_login_words(count, program, maker):
         *([lines, user, key, *where, *more] for more in (["--user", user], ["--port", "22"], ["--keys", key])),
     ):  # fmt: skip
         ran = run([program, "login", *words], input="")
-        same = ran.returncode == UNTOLD and ran.stderr.startswith("usage: ") and not ran.stdout
-        count.check(f"sshkey-check login {' '.join(map(os.path.basename, words))} is no call", same, ran)
+        count.check(f"sshkey-check login {' '.join(map(os.path.basename, words))} is no call", is_no_call(ran), ran)
     none = maker.path("none")
     for words in (
         [none, user, key, *where], [lines, user, none, *where], [lines, user, maker.write("empty", ""), *where],

@@ -85,6 +85,7 @@ class Logins:
             ("unread", "{0}", "--revoked {0}/none "), ("by text", "{0}", "--revoked {0}/revoked.text "),
             ("by half a line", "{0}", "--revoked {0}/revoked.half "), ("by no bytes", "{0}", "--revoked {0}/revoked.empty "),
             ("by two files", "{0}", "--revoked {0}/revoked.empty --revoked {0}/revoked "), ("by more bits", "{0}", "--least-rsa-bits 3072 "),
+            ("naming the client", "{0}", '--client "%C" '),
         ):  # fmt: skip
             command = COMMAND.format(folder.format(maker.folder), program, helper, more.format(maker.folder))
             maker.write(name, CONFIGURATION.format(maker.folder) + command)
@@ -130,6 +131,8 @@ class Logins:
         yield "a number that the second file revokes", me, "own", ["-n", me, "-z", "5", *now], "by two files", False
         yield "a number that neither file revokes", me, "own", ["-n", me, "-z", "6", *now], "by two files", True
         yield "a key that is not RSA, where RSA has more bits", me, "own", ["-n", me, *now], "by more bits", True
+        if openssh() >= (9, 4):
+            yield "with where the client is, for the log", me, "own", ["-n", me, *now], "naming the client", True
         yield "a command", me, "own", ["-n", me, "-O", "force-command=true", *now], "asking", True
         yield "an option that sshd does not know", me, "own", ["-n", me, "-O", "critical:x@example.com=1", *now], "asking", False
         yield "an extension that sshd does not know", me, "own", ["-n", me, "-O", "extension:x@example.com=1", *now], "asking", True

@@ -1,6 +1,7 @@
 """What README and docs/FOREIGN.md show, as it stands there; and their logins, for checks/readme (C, Python) and checks/bindings (Go, Rust).
 These let in whom a certificate lists and who has signed the session, and nobody else: a certificate and a key are public, and whoever has
 these alone has signed nothing. What the client signs is put together in userauth_calls.py."""
+import os
 import re
 import time
 from types import SimpleNamespace
@@ -8,7 +9,7 @@ from types import SimpleNamespace
 from lib.harness import ROOT, blob_of
 from lib.signatures import signed
 
-from .linked import HELPERS, PEDANTIC, SANITIZED, C, run
+from .linked import HELPERS, PEDANTIC, SANITIZED, WARNINGS, C, run
 from .made import Maker, module
 from .userauth_calls import SESSION, Request
 
@@ -78,6 +79,15 @@ def built_page(built, maker, name, text):
     return path, run([*C, *PEDANTIC, f"-I{HELPERS}", *SANITIZED.split(), *parts])
 
 
+def installed_page(maker, root, name, text):
+    """The same by what `make install` put below that folder, which pkg-config finds: no path of the sources is known."""
+    path, names = f"{maker.folder}/{name}", {**os.environ, "PKG_CONFIG_PATH": f"{root}/lib/pkgconfig"}
+    maker.write(f"{name}.c", text)
+    flags = run(["pkg-config", "--cflags", "--libs", "rafendilo-verify"], env=names).stdout.split()
+    words = ["cc", "-std=c11", "-D_POSIX_C_SOURCE=200809L", *WARNINGS, *PEDANTIC, f"{path}.c", *flags, f"-Wl,-rpath,{root}/lib", "-o", path]
+    return path, run(words)
+
+
 # ---- their logins
 
 
@@ -122,6 +132,11 @@ def check_shown(count, folder):
     count.check("README shows a login in C, which compiles", len(in_c) == 1 and page.returncode == 0, page.stderr[-2000:])
     if page.returncode == 0:
         check_program(count, "C", path, maker)
+    installed = run(["make", "-C", ROOT, "install", f"OUT={out}", f"DESTDIR={folder}/root", "PREFIX=/usr"])
+    path, page = installed_page(maker, f"{folder}/root/usr", "installed-page", PAGE.format(in_c[0], ALGORITHM))
+    count.check("and by what make install installs", installed.returncode == 0 and page.returncode == 0, installed.stderr[-1000:], page.stderr[-2000:])
+    if page.returncode == 0:
+        check_program(count, "C, installed,", path, maker)
     rafendilo = module(f"{out}/librafendilo.so")
     for name, (authority, line, key, session, signature), wanted in cases(maker):
         given = {"authority_line": authority, "line": line, "key": blob_of(key), "address": ADDRESS, "algorithm": ALGORITHM}

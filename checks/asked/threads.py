@@ -19,7 +19,7 @@ def sources():
     """Those of helpers/ that no program alone needs."""
     for path in sorted(glob.glob(f"{HELPERS}/*.c")):
         with open(path, encoding="ascii") as file:
-            if not re.search(r'"(program|login)\.h"', file.read()):
+            if not re.search(r'"(program|login|check)\.h"', file.read()):
                 yield path
 
 

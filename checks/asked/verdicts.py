@@ -3,6 +3,8 @@ import re
 
 from .linked import run
 
+# what sshkey-check says in place of the words of OUT_OF_WINDOW, and the packages do not
+WINDOW = r"its time (?:begins|was over) at \d{4,}-\d\d-\d\dT\d\d:\d\d:\d\dZ \(33\)"
 
 def said(rafendilo, status):
     """What sshkey-check says of a number."""
@@ -20,11 +22,12 @@ def status_of(rafendilo, call, *given):
 
 
 def said_by_checker(words, authority, user, second, lines):
-    """What the program says of each line: `valid`, or `refused` and why. Below the first stands to what, which begins with blanks."""
+    """What the program says of each line: `valid`, or `refused` and why, but for when its time is. Below the first stands to what, which
+    begins with blanks."""
     ran = run([*words, "--ca", authority, "--user", user, "--at", str(second)], input="".join(f"{it}\n" for it in lines))
     if ran.returncode not in (0, 1):
         return [f"status {ran.returncode}: {ran.stderr[-2000:]}"]
-    reasons = dict(re.findall(r"^sshkey-check: \(stdin\):(\d+): (.*)$", ran.stderr, re.M))
+    reasons = dict(re.findall(r"^sshkey-check: \(stdin\):(\d+): (.*)$", re.sub(WINDOW, "not valid at that time (33)", ran.stderr), re.M))
     said_of_each = [it for it in ran.stdout.splitlines() if not it.startswith(" ")]
     return [it if it == "valid" else f"{it}: {reasons.get(str(at), 'why?')}" for at, it in enumerate(said_of_each, 1)]
 

@@ -1,0 +1,261 @@
+"""What sshkey-check says to who errs, its objects of JSON, its fingerprints against `ssh-keygen -l`, and what shells complete of its words,
+for checks/foreign."""
+import base64
+import json
+import os
+import re
+
+from lib.harness import ROOT, ssh_keygen, string
+
+from .example_calls import INVALID, UNTOLD, VALID
+from .linked import run
+from .login_options import certificate
+from .made import END, FIRST, MIDDLE, WINDOW
+
+CA = "--ca FILE --user NAME [--from ADDRESS] [--at TIME] [--revoked FILE].. [--json] [FILE]"
+HOST = "--host NAME [--port NUMBER] --known-hosts FILE.. [--at TIME] [--revoked FILE].. [--json] [FILE]"
+LOGIN = "login FILE NAME KEY --from ADDRESS [--ca FILE] [--host NAME] [--at TIME] [--revoked FILE].. [--json]"
+VERIFY = "verify -k KEYS -n NAMESPACE -s SIGNATURE [--json] [FILE]"
+SIGNER = "verify -f SIGNERS -I IDENTITY -n NAMESPACE -s SIGNATURE [-r REVOKED].. [--at TIME] [--json] [FILE]"
+SHOW, FINGERPRINT = "[--json] [FILE]", "fingerprint [--json] [FILE].."
+USAGES = [SHOW, CA, HOST, LOGIN, VERIFY, SIGNER, FINGERPRINT]
+# words that ask nothing, what is said of them, and of which usage
+SLIPS = [
+    ("--ca ca id", "--ca wants --user NAME", CA), ("--user x", "--user wants --ca FILE", CA), ("--from ::1", "--from wants --ca FILE", CA),
+    ("--ca", "--ca wants FILE", SHOW), ("--ca a --user b --ca c", "--ca is given twice", CA), ("--ca a --user b c d", "d is a word too many", CA),
+    ("--ca a --user b --keys c", "--ca takes no --keys", CA), ("--jsn id", "--jsn is no option", SHOW), ("-x id", "-x is no option", SHOW),
+    ("-c a", "-c is no option", SHOW), ("-k a", "-k is no option", SHOW), ("--json=x", "--json has no value", SHOW), ("a b", "b is a word too many", SHOW),
+    ("--at 1", "--at wants a question: --ca, --host, login or verify", SHOW), ("--keys a", "--keys wants a question: --ca, --host, login or verify", SHOW),
+    ("--host h", "--host wants --known-hosts FILE", HOST), ("--port 22", "--port wants --host NAME", HOST),
+    ("--host h --known-hosts k --ca c", "--host takes no --ca", HOST), ("--host h --host h", "--host is given twice", HOST),
+    ("login a b c", "login wants --from ADDRESS", LOGIN), ("login a b --from ::1", "login wants FILE NAME KEY", LOGIN),
+    ("login a b c d --from ::1", "d is a word too many", LOGIN), ("login a b c --from ::1 --user b", "login takes no --user", LOGIN),
+    ("verify", "verify wants --keys KEYS, or --signers SIGNERS", VERIFY), ("verify -k a -s b", "verify wants --namespace NAMESPACE", VERIFY),
+    ("verify -k a -n b", "verify wants --signature SIGNATURE", VERIFY), ("verify -k", "--keys wants KEYS", VERIFY),
+    ("verify -k a -n b -s c --at 1", "verify takes no --at", VERIFY), ("verify -f a -n b -s c", "verify wants --identity IDENTITY", SIGNER),
+    ("verify -I a -n b -s c", "verify wants --signers SIGNERS", SIGNER), ("verify -z", "-z is no option", VERIFY),
+    ("fingerprint --ca a b", "fingerprint takes no --ca", FINGERPRINT),
+]  # fmt: skip
+
+
+def is_no_call(ran):
+    """Whether it ended with 2, one line of what is wrong, and one of usage."""
+    told = re.fullmatch(r"sshkey-check: .+\nusage: sshkey-check (.+)\n", ran.stderr)
+    return ran.returncode == UNTOLD and not ran.stdout and bool(told) and told[1] in USAGES
+
+
+def check_slips(count, program):
+    for words, said, usage in SLIPS:
+        ran = run([program, *words.split()], input="")
+        same = is_no_call(ran) and ran.stderr == f"sshkey-check: {said}\nusage: sshkey-check {usage}\n"
+        count.check(f"sshkey-check {words} says what is wrong", same, ran)
+    shown = run([program, "--help"]).stdout.splitlines()
+    usages = [it[len("usage: sshkey-check ") :] for it in shown[: len(USAGES)]]
+    count.check("sshkey-check --help has each usage", usages == USAGES and not shown[len(USAGES)], shown)
+
+
+def check_wrong_files(count, programs, maker):
+    """What is said where another file is given than is wanted, an empty one, and of a certificate whose time is not."""
+    maker.certificate("admitting", "entering", "-n", "alice", *WINDOW)
+    key, shown, ca = (maker.path(it) for it in ("entering.pub", "entering-cert.pub", "admitting.pub"))
+    users = maker.write("authorities", f"alice,bob {maker.read('admitting.pub')}\n")
+    empty, copy = maker.write("empty", "\n# nothing\n"), maker.write("a-key", f"{maker.read('entering.pub')}\n")
+    asked, named = ["--ca", ca, "--user", "alice", "--at"], "(its name is entering-cert.pub) "
+    login = ["alice", key, "--from", "::1"]
+    missing, private = "a key, and no certificate", maker.path("entering")
+    public = f"{private}: a private key (the public one is in {private}.pub)"
+    for words, status, said in (
+        ([*asked, "20240116Z", key], INVALID, f"{key}:1: {missing} {named}(12)"), ([key], INVALID, f"{key}:1: {missing} {named}(12)"),
+        ([copy], INVALID, f"{copy}:1: {missing} (12)"),
+        (["login", copy, *login, "--ca", ca], INVALID, f"{key}:1: {missing} {named}(12)"),
+        ([*asked, str(END), shown], INVALID, f"{shown}:1: its time was over at 2024-02-01T00:00:00Z (33)"),
+        ([*asked, str(FIRST - 1), shown], INVALID, f"{shown}:1: its time begins at 2024-01-01T00:00:00Z (33)"),
+        (["--ca", users, "--user", "alice", shown], UNTOLD, f"{users}:1: no key: the line begins with users, as for sshkey-principals"),
+        (["--ca", empty, *asked[2:], str(MIDDLE), shown], INVALID, f"{empty}: it has no line\nsshkey-check: {shown}:1: another authority (31)"),
+        (["login", empty, *login], INVALID, f"{empty}: it has no line\nsshkey-check: {key}:1: no line is for the key (90)"),
+        (["--host", "h", "--known-hosts", empty, key], INVALID,
+         f"{empty}: it has no line\nsshkey-check: {key}:1: no key or authority is known for the host (53)"),
+        ([empty], UNTOLD, f"{empty}: no certificate was given"), (["fingerprint", empty], UNTOLD, f"{empty}: no key was given"),
+        ([private], UNTOLD, public), (["fingerprint", private], UNTOLD, public), (["--ca", private, "--user", "alice", shown], UNTOLD, public),
+        (["login", copy, "alice", private, *login[2:]], UNTOLD, public),
+        (["fingerprint", maker.path("none")], UNTOLD, f"{maker.path('none')}: No such file or directory"),
+    ):  # fmt: skip
+        for program in programs:
+            ran = run([program, *words], input="")
+            same = (ran.returncode, ran.stderr) == (status, f"sshkey-check: {said}\n") and ran.stdout in ("", "refused\n")
+            count.check(f"sshkey-check says: {said}", same, ran)
+
+
+# ---- fingerprints
+
+
+def check_fingerprints(count, programs, maker):
+    """A key's fingerprint is that of `ssh-keygen -l`, in whatever file the key stands."""
+    kinds = {f"printed{at}": kind for at, kind in enumerate(("ed25519", "ecdsa -b 256", "ecdsa -b 384", "ecdsa -b 521", "rsa -b 2048"))}
+    for name, kind in kinds.items():
+        maker.key(name, kind)
+        maker.certificate("admitting", name, "-n", "alice")
+    keys = [maker.read(f"{it}.pub") for it in kinds]
+    bare = " ".join(keys[0].split()[:2])
+    lines = [
+        "# keys", "", *keys, *(maker.read(f"{it}-cert.pub") for it in kinds), f'no-pty,command="a b" {keys[1]}', f"host.example {keys[2]} of a host",
+        f"host.example {bare}", f"{bare} \tcaf\xe9", f"{bare} \x1b[2J",
+    ]  # fmt: skip
+    path = maker.path("every-key")
+    with open(path, "w", encoding="latin-1") as file:
+        file.write("".join(f"{it}\n" for it in lines))
+    # but for the number of bits
+    wanted = [it.split(" ", 1)[1] for it in run(["ssh-keygen", "-l", "-f", path]).stdout.splitlines()]
+    for program in programs:
+        ran = run([program, "fingerprint", path])
+        same = (ran.returncode, ran.stdout.splitlines(), ran.stderr) == (VALID, wanted, "") and len(wanted) == len(lines) - 2
+        count.check(f"sshkey-check fingerprint of {len(wanted)} lines", same, *set(ran.stdout.splitlines()) ^ set(wanted), ran.stderr)
+        ran = run([program, "fingerprint", maker.path("printed0.pub"), "-", maker.path("printed1.pub")], input=f"{bare}\nno key\n@revoked * {bare}\n")
+        said = ran.returncode, [it.split()[0] for it in ran.stdout.splitlines()], re.findall(r"^sshkey-check: (\S+):", ran.stderr, re.M)
+        known = [it.split()[0] for it in wanted[:2]]
+        count.check("sshkey-check fingerprint of several files", said == (INVALID, [*known[:1] * 3, known[1]], ["(stdin):2"]), ran)
+        ran = run([program, "fingerprint", "--json", path])
+        told = [json.loads(it) for it in ran.stdout.splitlines()]
+        shown = [(it["public_key"], it["line"]) for it in told]
+        numbered = [(it.split()[0], at) for it, at in zip(wanted, range(3, len(lines) + 1))]
+        same = shown == numbered and told[0]["type"] == "ssh-ed25519" and told[5]["type"] == "ssh-ed25519-cert-v01@openssh.com"
+        of_bytes = (told[-2]["comment"], base64.b64decode(told[-2]["comment_base64"]), told[-1]["comment"])
+        count.check("sshkey-check fingerprint --json", same and of_bytes == ("caf\ufffd", b"caf\xe9", "\x1b[2J"), ran)
+
+
+# ---- JSON
+
+# a text that JSON and terminals take for more than a text
+TEXT = '"\\\x1b\n\x7f\u0085\u202e\u2028\u5b89'
+
+
+def objects(ran):
+    """What it printed, which is objects, one a line, of printable characters."""
+    lines = ran.stdout.splitlines()
+    return [json.loads(it) for it in lines] if ran.stdout.isprintable() or all(map(str.isprintable, lines)) else []
+
+
+def verdict(status, name, meaning, **more):
+    return {"verdict": "valid" if status == 0 else "refused", "status": status, "name": name, "meaning": meaning, **more}
+
+
+def check_shown_objects(count, programs, maker):
+    """A certificate that is shown is an object with all that it says."""
+    of, serial = string(TEXT.encode()), 2**64 - 1
+    by, own = (ssh_keygen("-l", "-f", maker.path(f"{it}.pub"), text=True).stdout.split()[1] for it in ("admitting", "entering"))
+    hostile = certificate(maker, "admitting", maker.read("entering.pub"), of, {"force-command": of}, {"x@example.com": b""}, TEXT.encode())
+    plain = maker.certificate("admitting", "entering", "-h", "-n", "a,b", "-z", str(serial), *WINDOW)
+    path = maker.write("shown", f"{hostile}\n# x\n{plain}\nssh-ed25519 AAAA\n")
+    common = {"file": path, "verdict": "shown", "authority": by, "public_key": own, "type": "ssh-ed25519-cert-v01@openssh.com", "signed_by": "ssh-ed25519"}
+    for program in programs:
+        ran = run([program, "--json", path])
+        found = objects(ran)
+        count.check("sshkey-check --json prints an object a line", ran.returncode == INVALID and len(found) == 3, ran)
+        said = found[0]
+        same = common.items() <= said.items() and (said["line"], said["key_id"], said["principals"]) == (1, TEXT, [TEXT])
+        same = same and said["critical_options"] == [{"name": "force-command", "value": TEXT}] and said["extensions"] == [{"name": "x@example.com", "value": None}]
+        count.check("an object has texts as they are", same, said)
+        wanted = {
+            **common, "line": 3, "key_id": "id", "serial": serial, "valid_after": FIRST, "valid_before": END, "certificate_type": "host",
+            "principals": ["a", "b"], "critical_options": [], "extensions": [],
+        }  # fmt: skip
+        count.check("an object has all that a certificate says", found[1] == wanted, found[1], wanted)
+        wanted = {"file": path, "line": 4, **verdict(13, "LENGTH", "a length that passes the bytes")}
+        count.check("an object says that a line is no certificate", found[2] == wanted, found[2])
+
+
+def check_verdict_objects(count, programs, maker):
+    """A verdict is an object, with which certificate it is, and to what it lets in."""
+    words = ["-n", "alice", "-z", "7", *WINDOW]
+    by = ssh_keygen("-l", "-f", maker.path("admitting.pub"), text=True).stdout.split()[1]
+    maker.certificate("admitting", "entering", *words, "-O", "force-command=date", "-O", "no-pty")
+    ca, key, shown = (maker.path(it) for it in ("admitting.pub", "entering.pub", "entering-cert.pub"))
+    options = 'command="ls",permitopen="h:80",permitopen="[::1]:*",no-pty,tunnel="3",environment="A=b",expiry-time="20240201Z"'
+    lines = maker.write("authorized_keys", f"# x\n{options} {maker.read('entering.pub')}\n")
+    bound = maker.write("bound_keys", f'restrict,permitopen="h:80" {maker.read("entering.pub")}\n')
+    known, text = maker.write("known", f"h {maker.read('entering.pub')}\n"), maker.write("asked", "a text")
+    signature = maker.write("armour.sig", ssh_signature(maker))
+    identity = {"key_id": "id", "serial": 7, "authority": by, "valid_after": FIRST, "valid_before": END}
+    good = verdict(0, "DONE", "valid")
+    permitted = ["port forwarding", "agent forwarding", "X11 forwarding", "user rc"]
+    flags = {"touch_required": True, "verification_required": True}
+    over = verdict(33, "OUT_OF_WINDOW", "its time was over at 2024-02-01T00:00:00Z")
+    anywhere = [{"host": "*", "port": None}]
+    at, login = ["--at", str(MIDDLE)], ["alice", key, "--from", "192.0.2.7", "--at", str(MIDDLE)]
+    for name, asked, wanted in (
+        ("--ca", ["--ca", ca, "--user", "alice", *at, shown],
+         {"file": shown, "line": 1, **good, **identity, "command": "date", "permits": permitted, **flags}),
+        ("--ca, over", ["--ca", ca, "--user", "alice", "--at", str(END), shown], {"file": shown, "line": 1, **over, **identity}),
+        ("login", ["login", lines, *login],
+         {"file": key, "line": 1, **good, "by_file": lines, "by_line": 2, "command": "ls", "permits": [*permitted, "tunnels"], **flags,
+          "forwards_to": [{"host": "h", "port": 80}, {"host": "::1", "port": None}], "listens_at": anywhere, "tunnel": "3", "environment": ["A=b"],
+          "expires": END, "expires_latest": END}),
+        ("login, restricted", ["login", bound, *login],
+         {"file": key, "line": 1, **good, "by_file": bound, "by_line": 1, "command": None, "permits": ["any command"], **flags, "forwards_to": [],
+          "listens_at": [], "tunnel": None, "environment": [], "expires": None, "expires_latest": None}),
+        ("login, refused", ["login", lines, "alice", key, "--from", "192.0.2.7", "--at", str(END + 1)],
+         {"file": key, "line": 1, **verdict(91, "LINE_EXPIRED", "a line whose time is over"), "by_file": lines, "by_line": 2}),
+        ("--host", ["--host", "h", "--known-hosts", known, key], {"file": key, "line": 1, **good}),
+        ("--host, another", ["--host", "g", "--known-hosts", known, key],
+         {"file": key, "line": 1, **verdict(53, "HOST_UNKNOWN", "no key or authority is known for the host")}),
+        ("verify", ["verify", "-k", key, "-n", "file", "-s", signature, text], {"file": signature, "message": text, **good}),
+        ("verify, refused", ["verify", "-k", ca, "-n", "file", "-s", signature, text],
+         {"file": signature, "message": text, **verdict(55, "SIGNER_NOT_ALLOWED", "no allowed signer")}),
+    ):  # fmt: skip
+        # what a plain key's signature has to say, nothing asks
+        wanted = {**wanted, "verification_required": False} if "verification_required" in wanted else wanted
+        for program in programs:
+            first = ["login"] if asked[0] == "login" else ["verify"] if asked[0] == "verify" else []
+            ran = run([program, *first, "--json", *asked[len(first) :]])
+            same = objects(ran) == [wanted] and ran.returncode == (VALID if wanted["status"] == 0 else INVALID)
+            count.check(f"sshkey-check --json of {name}", same, ran, wanted)
+
+
+def ssh_signature(maker):
+    """The armour of a signature by the key of a text."""
+    maker.signature("entering", "a text")
+    return maker.read("signed.sig") + "\n"
+
+
+def check_page(count):
+    """The manual page names each member of an object."""
+    with open(f"{ROOT}/helpers/report.c", encoding="ascii") as file:
+        names = set(re.findall(r'\b(?:json|print)_\w+\("(\w+)"', file.read())) | {"file", "host", "name"}
+    with open(f"{ROOT}/helpers/sshkey-check.1", encoding="ascii") as file:
+        page = file.read()
+    page = page[page.index(".Ss JSON") :]
+    missing = {it for it in names if not re.search(rf"(?<![\w-]){it}(?![\w-])", page)}
+    count.check(f"sshkey-check(1) has the {len(names)} names of JSON", not missing and len(names) > 30, missing, names)
+
+
+# ---- completion
+
+
+def check_completion(count, program):
+    """Both shells are told each option and each word that the program takes, and bash gives those that go with what is typed."""
+    taken = set(re.findall(r"(?<!\S)\[?(--[a-z-]+|-[a-zA-Z])\b", "\n".join(USAGES)))
+    for name in ("sshkey-check.bash", "_sshkey-check"):
+        with open(f"{ROOT}/helpers/{name}", encoding="ascii") as file:
+            text = file.read()
+        told = {it for it in taken if re.search(rf"(?<![\w-]){it}(?![\w-])", text)}
+        words = {it for it in ("login", "verify", "fingerprint") if re.search(rf"\b{it}\b", text)}
+        count.check(f"{name} has each option and each word", told == taken and len(words) == 3, taken - told, words)
+    for typed, wanted, other in (
+        (["--k"], {"--known-hosts"}, "--keys"), (["lo"], {"login"}, "verify"), (["login", "--f"], {"--from"}, "--user"),
+        (["verify", "-"], {"-k", "-f", "-I", "-n", "-s", "-r", "--at", "--json"}, "--ca"), (["fingerprint", "--"], {"--json"}, "--ca"),
+        (["--ca", f"{ROOT}/VER"], {f"{ROOT}/VERSION"}, "--user"),
+    ):  # fmt: skip
+        script = f'. "{ROOT}/helpers/sshkey-check.bash"; COMP_WORDS=(sshkey-check "$@"); COMP_CWORD=$#; _sshkey_check; printf "%s\\n" "${{COMPREPLY[@]}}"'
+        ran = run(["bash", "-c", script, "bash", *typed], cwd=os.path.dirname(program))
+        found = set(ran.stdout.split())
+        count.check(f"bash completes {typed}", wanted <= found and other not in found and not ran.stderr, ran)
+
+
+def check_answers(count, programs, maker):
+    check_slips(count, programs[0])
+    check_wrong_files(count, programs, maker)
+    check_fingerprints(count, programs, maker)
+    check_shown_objects(count, programs, maker)
+    check_verdict_objects(count, programs, maker)
+    check_page(count)
+    check_completion(count, programs[0])

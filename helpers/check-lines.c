@@ -1,0 +1,201 @@
+/* What sshkey-check says of lines: of certificates, of what hosts show, and of logins. */
+#include <stdio.h>
+#include <stdlib.h>
+
+#include "certificate.h"
+#include "check.h"
+#include "sha1.h"
+#include "verdict.h"
+
+bool check_can_not_tell(uint32_t answer) {
+  return answer == RAF_MEMORY || answer == RAF_UNREADABLE_REVOCATIONS;
+}
+
+report check_report(const check_request *asked, size_t number) {
+  return (report){.path = asked->path ? asked->path : REPORT_INPUT,
+                  .line = number,
+                  .by_path = asked->lines,
+                  .unix_timestamp = asked->second,
+                  .is_verdict = asked->mode != CHECK_SHOW && asked->mode != CHECK_FINGERPRINT,
+                  .is_json = asked->given[CHECK_JSON] != NULL};
+}
+
+uint32_t check_read_shown(const char *line, size_t length, raf_blob *shown,
+                          bool *is_certificate) {
+  uint32_t answer = raf_read_line_blob(line, length, RAF_LINE_CERTIFICATE, shown);
+  *is_certificate = answer != RAF_LABEL;
+  return *is_certificate ? answer : raf_read_line_blob(line, length, RAF_LINE_KEY, shown);
+}
+
+/* ---- certificates */
+
+/* What is asked of who holds that key, with that certificate or none. */
+static raf_login login_of(raf_blob key, raf_blob certificate, const check_request *asked) {
+  return (raf_login){.certificate = raf_blob_span(certificate),
+                     .user = raf_text_span(asked->user),
+                     .key = raf_blob_span(key),
+                     .client = {asked->address, asked->address_length},
+                     .authorities = raf_authority_digests(asked->by),
+                     .revoked = program_revocations(&asked->revoked),
+                     .unix_timestamp = asked->second};
+}
+
+/* Prints to what the certificate logs in. */
+static void print_certified(const raf_grant *grant, const uint8_t *buffer, const void *of) {
+  report_certified(of, grant, buffer);
+}
+
+/* Shows what stands before a signature by SHA-1: RAF_RSA_SHA1, or why not. */
+static uint32_t show_sha1(const char *line, size_t length, report *of) {
+  uint32_t answer = raf_read_sha1_line(line, length, &of->certificate);
+  uint32_t shown = answer == RAF_RSA_SHA1 ? report_certificate(of, answer) : RAF_DONE;
+  return shown == RAF_DONE ? answer : shown;
+}
+
+/* Whether the line has a key. */
+static bool is_key_line(const char *line, size_t length) {
+  raf_blob key = {NULL, 0};
+  bool is_key = raf_read_line_blob(line, length, RAF_LINE_KEY, &key) == RAF_DONE;
+  free(key.bytes);
+  return is_key;
+}
+
+/* What is said of the certificate of a line: by an authority, or shown. */
+static uint32_t answer_certificate(const char *line, size_t length, report *of,
+                                   const check_request *asked) {
+  raf_blob own = {NULL, 0};
+  bool is_shown = asked->mode == CHECK_SHOW;
+  uint32_t answer = raf_read_line_blob(line, length, RAF_LINE_CERTIFICATE, &of->certificate);
+  if (answer == RAF_LABEL) of->is_key = is_key_line(line, length);
+  if (answer == RAF_RSA_SHA1 && is_shown) return show_sha1(line, length, of);
+  if (answer != RAF_DONE) return answer;
+  return is_shown ? report_certificate(of, answer)
+                  : certificate_log_in(of->certificate, login_of(own, of->certificate, asked),
+                                       print_certified, of);
+}
+
+/* ---- hosts */
+
+/* Names the lines of known_hosts that may hide a revocation: of one file, where the host is known
+ * at that port. */
+static bool name_unreadable(const check_request *asked, uint16_t port) {
+  bool is_named = false;
+  for (size_t at = 0; at < asked->known_hosts.count; at++) {
+    raf_span text = asked->known_hosts.texts[at], host = raf_text_span(asked->given[CHECK_HOST]);
+    size_t number = 0;
+    if (raf_unreadable_host_line(text.bytes, text.length, host.bytes, host.length, port,
+                                 &number) != RAF_DONE)
+      continue;
+    program_complain("%s:%zu: no entry, and may be one for the host",
+                     asked->known_hosts.paths[at], number);
+    is_named = true;
+  }
+  return is_named;
+}
+
+/* Whether the key or the certificate of a line is the host's. */
+static uint32_t answer_host(const char *line, size_t length, report *of,
+                            const check_request *asked) {
+  uint16_t port = (uint16_t)asked->port_number;
+  raf_host_login login = {program_texts(&asked->known_hosts),
+                          raf_text_span(asked->given[CHECK_HOST]),
+                          program_revocations(&asked->revoked), asked->second, 0, port};
+  raf_blob shown = {NULL, 0};
+  bool is_certificate;
+  uint32_t answer = check_read_shown(line, length, &shown, &is_certificate);
+  if (answer == RAF_DONE)
+    answer = is_certificate ? raf_verify_host_certificate(&login, raf_blob_span(shown))
+                            : raf_check_host_key(&login, shown.bytes, shown.length);
+  if (is_certificate)
+    of->certificate = shown;
+  else
+    free(shown.bytes);
+  if (answer == RAF_DONE) report_valid(of);
+  /* ssh asks about the plain name where nothing is known at the port */
+  if (answer == RAF_HOST_UNREADABLE && !name_unreadable(asked, port)) name_unreadable(asked, 22);
+  return answer;
+}
+
+/* ---- logins by authorized_keys or by principals */
+
+/* Whether that logs the user in: says to what, or tells the report which line refuses. */
+static uint32_t judge_login(const raf_login *login, report *of, const check_request *asked) {
+  /* a buffer of this length is enough, and one of no bytes may be null */
+  size_t length = asked->listing.length + 2 * login->certificate.length + 1;
+  uint8_t *buffer = calloc(1, length);
+  raf_user_grant grant;
+  if (!buffer) return RAF_MEMORY;
+  const char *name = asked->given[CHECK_HOST];
+  raf_span host = raf_text_span(name ? name : ""), text = raf_blob_span(asked->listing);
+  uint32_t answer = (asked->given[CHECK_AUTHORITIES] ? raf_log_in_by_principals : raf_log_in_by_keys)(
+      login, text, host, buffer, length, &grant);
+  of->by_line = grant.line;
+  if (answer == RAF_DONE) report_grant(of, &grant, buffer);
+  free(buffer);
+  return answer;
+}
+
+/* Whether the key or the certificate of a line logs the user in. */
+static uint32_t answer_login(const char *line, size_t length, report *of,
+                             const check_request *asked) {
+  raf_blob key = {NULL, 0}, shown = {NULL, 0};
+  bool is_certificate;
+  uint32_t answer = check_read_shown(line, length, &shown, &is_certificate);
+  *(is_certificate ? &of->certificate : &key) = shown;
+  if (answer == RAF_DONE && is_certificate) answer = certificate_read_key(shown, &key);
+  /* authorities sign certificates */
+  of->is_key = answer == RAF_DONE && asked->given[CHECK_AUTHORITIES] && !is_certificate;
+  if (of->is_key) answer = RAF_LABEL;
+  if (answer == RAF_DONE) {
+    raf_login login = login_of(key, of->certificate, asked);
+    answer = judge_login(&login, of, asked);
+  }
+  free(key.bytes);
+  return answer;
+}
+
+/* ---- lines */
+
+/* Whether nothing is said of the line, but that it can't tell. */
+static bool is_untold(uint32_t answer, check_mode mode) {
+  /* of a login by names that are not UTF-8 nothing follows */
+  return check_can_not_tell(answer) || (mode == CHECK_LOGIN && answer == RAF_TEXT);
+}
+
+/* Answers what is asked about a line: RAF_DONE, or why it can't tell. */
+static uint32_t answer_line(const char *line, size_t length, size_t number, void *given) {
+  check_request *asked = given;
+  report of = check_report(asked, number);
+  uint32_t answer = asked->mode == CHECK_HOST_KEY  ? answer_host(line, length, &of, asked)
+                    : asked->mode == CHECK_LOGIN ? answer_login(line, length, &of, asked)
+                                                 : answer_certificate(line, length, &of, asked);
+  bool is_refused = answer != RAF_DONE && !is_untold(answer, asked->mode);
+  /* what SHA-1 signed is shown */
+  bool is_shown = asked->mode == CHECK_SHOW && answer == RAF_RSA_SHA1;
+  asked->count++;
+  if (is_refused) {
+    asked->is_valid = false;
+    (is_shown ? report_complain : report_refused)(&of, answer);
+    answer = RAF_DONE;
+  }
+  free(of.certificate.bytes);
+  return answer;
+}
+
+int check_text(raf_blob text, check_request *asked) {
+  size_t number;
+  program_line *each = asked->mode == CHECK_FINGERPRINT ? check_fingerprint : answer_line;
+  const char *what = asked->mode == CHECK_FINGERPRINT ? "key"
+                     : asked->mode == CHECK_HOST_KEY || asked->mode == CHECK_LOGIN
+                         ? "key or certificate"
+                         : "certificate";
+  const char *path = asked->path ? asked->path : REPORT_INPUT;
+  asked->count = 0;
+  uint32_t answer = program_each_line(text, each, asked, &number);
+  if (answer != RAF_DONE)
+    program_complain("%s:%zu: %s", path, number, raf_status_meaning(answer));
+  else if (!asked->count)
+    program_complain("%s: no %s was given", path, what);
+  if (!program_is_written() || answer != RAF_DONE || !asked->count) return UNTOLD;
+  return asked->is_valid ? VALID : INVALID;
+}

@@ -1,0 +1,232 @@
+/* The words of sshkey-check. */
+#include <getopt.h>
+#include <limits.h>
+#include <string.h>
+
+#include "check.h"
+
+#define SHOW "sshkey-check [--json] [FILE]"
+#define CERTIFICATE                                                                       \
+  "sshkey-check --ca FILE --user NAME [--from ADDRESS] [--at TIME] [--revoked FILE].. " \
+  "[--json] [FILE]"
+#define HOST_KEY                                                                               \
+  "sshkey-check --host NAME [--port NUMBER] --known-hosts FILE.. [--at TIME] [--revoked FILE]" \
+  ".. [--json] [FILE]"
+#define LOGIN                                                                               \
+  "sshkey-check login FILE NAME KEY --from ADDRESS [--ca FILE] [--host NAME] [--at TIME] " \
+  "[--revoked FILE].. [--json]"
+#define VERIFY "sshkey-check verify -k KEYS -n NAMESPACE -s SIGNATURE [--json] [FILE]"
+#define SIGNER                                                                           \
+  "sshkey-check verify -f SIGNERS -I IDENTITY -n NAMESPACE -s SIGNATURE [-r REVOKED].. " \
+  "[--at TIME] [--json] [FILE]"
+#define FINGERPRINT "sshkey-check fingerprint [--json] [FILE].."
+
+const char check_help[] =
+    "usage: " SHOW "\n       " CERTIFICATE "\n       " HOST_KEY "\n       " LOGIN
+    "\n       " VERIFY "\n       " SIGNER "\n       " FINGERPRINT "\n"
+    "\n"
+    "The first shows each certificate of FILE, or of standard input, as ssh-keygen -L does. The\n"
+    "second says of each whether it logs NAME in by an authority of the file, and to what, from\n"
+    "that address, at that second since 1970 or date (YYYYMMDD[HHMM[SS]]Z), or else now. The\n"
+    "third says of each, or of a key, whether it is that of the host, by all the files of\n"
+    "known_hosts. The fourth says whether the key or the certificate of the file KEY logs NAME\n"
+    "in from that address, and to what, or which line of FILE refuses it: authorized_keys, or\n"
+    "with --ca the principals of these authorities. The fifth says whether the signature of\n"
+    "ssh-keygen -Y sign is one of FILE in the namespace by a key of the file KEYS, and the sixth\n"
+    "whether it is the identity's by the file of allowed signers, as ssh-keygen -Y verify does.\n"
+    "The last shows the SHA-256 fingerprint of each key. With --json each answer is an object in\n"
+    "a line.\n"
+    "Status 0: all is shown, or valid; 1: not all, as standard error says; 2: it can't tell.\n";
+
+/* The options as they are written, and what follows them, if anything does. */
+static const struct {
+  const char *name, *value;
+  char letter; /* by which verify takes it too; 0 for none */
+} options[] = {[CHECK_AUTHORITIES] = {"--ca", "FILE"},
+               [CHECK_USER] = {"--user", "NAME"},
+               [CHECK_FROM] = {"--from", "ADDRESS"},
+               [CHECK_HOST] = {"--host", "NAME"},
+               [CHECK_PORT] = {"--port", "NUMBER"},
+               [CHECK_KNOWN_HOSTS] = {"--known-hosts", "FILE"},
+               [CHECK_KEYS] = {"--keys", "KEYS", 'k'},
+               [CHECK_SIGNERS] = {"--signers", "SIGNERS", 'f'},
+               [CHECK_IDENTITY] = {"--identity", "IDENTITY", 'I'},
+               [CHECK_NAMESPACE] = {"--namespace", "NAMESPACE", 'n'},
+               [CHECK_SIGNATURE] = {"--signature", "SIGNATURE", 's'},
+               [CHECK_REVOKED] = {"--revoked", "FILE", 'r'},
+               [CHECK_AT] = {"--at", "TIME"},
+               [CHECK_JSON] = {"--json", NULL}};
+
+#define ONE(option) (1u << CHECK_##option)
+#define OF_SIGNATURES (ONE(NAMESPACE) | ONE(SIGNATURE))
+
+/* What each question is called in a complaint, if it has a name; which options it needs, and which
+ * it also takes; and how it is asked. */
+static const struct {
+  const char *name;
+  unsigned needs, takes;
+  const char *usage;
+} questions[] = {
+    [CHECK_SHOW] = {NULL, 0, ONE(JSON), SHOW},
+    [CHECK_CERTIFICATE] = {NULL, ONE(AUTHORITIES) | ONE(USER),
+                           ONE(FROM) | ONE(AT) | ONE(REVOKED) | ONE(JSON), CERTIFICATE},
+    [CHECK_HOST_KEY] = {NULL, ONE(HOST) | ONE(KNOWN_HOSTS),
+                        ONE(PORT) | ONE(AT) | ONE(REVOKED) | ONE(JSON), HOST_KEY},
+    [CHECK_LOGIN] = {"login", ONE(FROM),
+                     ONE(AUTHORITIES) | ONE(HOST) | ONE(AT) | ONE(REVOKED) | ONE(JSON), LOGIN},
+    [CHECK_VERIFY] = {"verify", ONE(KEYS) | OF_SIGNATURES, ONE(JSON), VERIFY},
+    [CHECK_SIGNER] = {"verify", ONE(SIGNERS) | ONE(IDENTITY) | OF_SIGNATURES,
+                      ONE(REVOKED) | ONE(AT) | ONE(JSON), SIGNER},
+    [CHECK_FINGERPRINT] = {"fingerprint", 0, ONE(JSON), FINGERPRINT}};
+
+/* ---- what the words give */
+
+/* The number by which getopt_long gives an option, and the option of a number. */
+static int number_of(int option) {
+  return options[option].letter ? options[option].letter : UCHAR_MAX + 1 + option;
+}
+
+static check_option option_of(int number) {
+  int at = 0;
+  while (number_of(at) != number) at++;
+  return (check_option)at;
+}
+
+/* Takes an option; false, which is said, where it was given. */
+static bool take_option(check_option option, const char *value, check_request *asked) {
+  bool is_revoked = option == CHECK_REVOKED, is_list = is_revoked || option == CHECK_KNOWN_HOSTS;
+  if (asked->given[option] && !is_list) {
+    program_complain("%s is given twice", options[option].name);
+    return false;
+  }
+  asked->given[option] = value ? value : "";
+  return !is_list || program_add_path(is_revoked ? &asked->revoked : &asked->known_hosts, value);
+}
+
+/* Says what is wrong with the word that getopt_long does not take. */
+static void complain_of_word(int found, const char *word) {
+  if (found == ':')
+    program_complain("%s wants %s", options[option_of(optopt)].name,
+                     options[option_of(optopt)].value);
+  else if (optopt > UCHAR_MAX)
+    program_complain("%s has no value", options[option_of(optopt)].name);
+  else if (optopt)
+    program_complain("-%c is no option", optopt);
+  else
+    program_complain("%s is no option", word);
+}
+
+/* Reads the options of the words; false, which is said, where they are none. */
+static bool read_options(int count, char **words, check_request *asked) {
+  struct option longs[CHECK_OPTIONS + 1];
+  memset(longs, 0, sizeof longs);
+  for (int at = 0; at < CHECK_OPTIONS; at++)
+    longs[at] = (struct option){options[at].name + 2,
+                                options[at].value ? required_argument : no_argument, NULL,
+                                number_of(at)};
+  opterr = 0;
+  const char *letters = asked->mode == CHECK_VERIFY ? ":k:n:s:f:I:r:" : ":";
+  for (int found; (found = getopt_long(count, words, letters, longs, NULL)) != -1;) {
+    if (found == '?' || found == ':') {
+      complain_of_word(found, words[optind - 1]);
+      return false;
+    }
+    if (!take_option(option_of(found), optarg, asked)) return false;
+  }
+  return true;
+}
+
+/* Reads the words that are no options, which begin there; false, which is said, where there are too
+ * many, or too few. */
+static bool read_rest(int count, char **words, check_request *asked) {
+  int left = count - optind;
+  if (asked->mode == CHECK_FINGERPRINT) {
+    asked->paths = words + optind;
+    asked->path_count = left;
+    return true;
+  }
+  if (asked->mode == CHECK_LOGIN && left >= 3) {
+    asked->lines = words[optind++];
+    asked->user = words[optind++];
+    left -= 2;
+  } else if (asked->mode == CHECK_LOGIN) {
+    program_complain("login wants FILE NAME KEY");
+    return false;
+  }
+  if (left > 1) {
+    program_complain("%s is a word too many", words[optind + 1]);
+    return false;
+  }
+  if (left && strcmp(words[optind], "-")) asked->path = words[optind];
+  return true;
+}
+
+/* ---- what they ask */
+
+/* What the first word says that is asked. */
+static check_mode mode_of(int count, char **words) {
+  if (count < 2) return CHECK_SHOW;
+  return !strcmp(words[1], "login")         ? CHECK_LOGIN
+         : !strcmp(words[1], "verify")      ? CHECK_VERIFY
+         : !strcmp(words[1], "fingerprint") ? CHECK_FINGERPRINT
+                                            : CHECK_SHOW;
+}
+
+/* What the options say that is asked. */
+static check_mode mode_by_options(const check_request *asked) {
+  const char *const *given = asked->given;
+  if (asked->mode == CHECK_VERIFY)
+    return given[CHECK_KEYS] || !(given[CHECK_SIGNERS] || given[CHECK_IDENTITY]) ? CHECK_VERIFY
+                                                                               : CHECK_SIGNER;
+  if (asked->mode != CHECK_SHOW) return asked->mode;
+  if (given[CHECK_HOST] || given[CHECK_PORT] || given[CHECK_KNOWN_HOSTS]) return CHECK_HOST_KEY;
+  return given[CHECK_AUTHORITIES] || given[CHECK_USER] || given[CHECK_FROM] ? CHECK_CERTIFICATE
+                                                                          : CHECK_SHOW;
+}
+
+/* What is asked, by a name: its word, or else the first option of it that is given. */
+static const char *name_of(const check_request *asked) {
+  unsigned takes = questions[asked->mode].needs | questions[asked->mode].takes;
+  const char *name = questions[asked->mode].name;
+  for (int at = 0; at < CHECK_OPTIONS && !name; at++)
+    if (asked->given[at] && (takes & 1u << at)) name = options[at].name;
+  return name;
+}
+
+/* Whether no option is given that is not taken; what is wrong is said. */
+static bool has_no_other(const check_request *asked) {
+  unsigned takes = questions[asked->mode].needs | questions[asked->mode].takes;
+  for (int at = 0; at < CHECK_OPTIONS; at++) {
+    if (!asked->given[at] || takes & 1u << at) continue;
+    if (asked->mode == CHECK_SHOW)
+      program_complain("%s wants a question: --ca, --host, login or verify", options[at].name);
+    else
+      program_complain("%s takes no %s", name_of(asked), options[at].name);
+    return false;
+  }
+  return true;
+}
+
+/* Whether each option is given that is needed, likewise. */
+static bool has_needed(const check_request *asked) {
+  for (int at = 0; at < CHECK_OPTIONS; at++) {
+    if (asked->given[at] || !(questions[asked->mode].needs & 1u << at)) continue;
+    const char *other = at == CHECK_KEYS ? ", or --signers SIGNERS" : "";
+    program_complain("%s wants %s %s%s", name_of(asked), options[at].name, options[at].value,
+                     other);
+    return false;
+  }
+  return true;
+}
+
+bool check_read_words(int count, char **words, check_request *asked) {
+  asked->mode = mode_of(count, words);
+  optind = asked->mode == CHECK_SHOW ? 1 : 2;
+  bool is_read = read_options(count, words, asked);
+  asked->mode = mode_by_options(asked);
+  is_read = is_read && read_rest(count, words, asked) && has_no_other(asked);
+  is_read = is_read && has_needed(asked);
+  if (asked->mode == CHECK_CERTIFICATE) asked->user = asked->given[CHECK_USER];
+  if (!is_read) fprintf(stderr, "usage: %s\n", questions[asked->mode].usage);
+  return is_read;
+}

@@ -1,0 +1,82 @@
+/* What sshkey-check is asked, and the parts that answer it. */
+#ifndef CHECK_H
+#define CHECK_H
+#include "program.h"
+#include "report.h"
+#include "sshsig.h"
+
+enum { VALID = 0, INVALID = 1, UNTOLD = 2 };
+
+/* The options of the words; the last is how many there are. */
+typedef enum {
+  CHECK_AUTHORITIES,
+  CHECK_USER,
+  CHECK_FROM,
+  CHECK_HOST,
+  CHECK_PORT,
+  CHECK_KNOWN_HOSTS,
+  CHECK_KEYS,
+  CHECK_SIGNERS,
+  CHECK_IDENTITY,
+  CHECK_NAMESPACE,
+  CHECK_SIGNATURE,
+  CHECK_REVOKED,
+  CHECK_AT,
+  CHECK_JSON,
+  CHECK_OPTIONS
+} check_option;
+
+/* What the words ask. */
+typedef enum {
+  CHECK_SHOW,        /* what certificates say */
+  CHECK_CERTIFICATE, /* whether they log a user in */
+  CHECK_HOST_KEY,    /* whether keys or certificates are a host's */
+  CHECK_LOGIN,       /* whether a key or a certificate logs a user in by a file */
+  CHECK_VERIFY,      /* whether an SSH signature counts by keys */
+  CHECK_SIGNER,      /* whether it does by a file of allowed signers */
+  CHECK_FINGERPRINT  /* the fingerprints of keys */
+} check_mode;
+
+typedef struct {
+  check_mode mode;
+  const char *given[CHECK_OPTIONS]; /* the value of an option, null where it is not given */
+  const char *path;                 /* of what is asked about; null for standard input */
+  char **paths;                     /* of files with keys, whose fingerprints are asked */
+  int path_count;
+  const char *user;  /* who logs in */
+  const char *lines; /* the path of a file of authorized_keys or of principals */
+  program_files known_hosts, revoked;
+  raf_authorities by;
+  raf_signers allowed;
+  raf_blob listing; /* the text of `lines` */
+  uint8_t address[16];
+  size_t address_length;
+  uint64_t second, port_number;
+  size_t count; /* of the lines that are answered */
+  bool is_valid;
+  bool is_untold; /* a line of the keys is none */
+} check_request;
+
+extern const char check_help[];
+
+/* Reads the words; false, with a word to standard error, where they ask nothing. */
+bool check_read_words(int count, char **words, check_request *asked);
+
+/* Whether it can't tell: nothing follows of what is asked about. */
+bool check_can_not_tell(uint32_t answer);
+
+/* A report about a line of what is asked about. */
+report check_report(const check_request *asked, size_t number);
+
+/* Answers what is asked about each line of the text, and returns the program's status. */
+int check_text(raf_blob text, check_request *asked);
+
+/* Reads the certificate of a line, or else its key, which it says: RAF_DONE, or why there is
+ * none. */
+uint32_t check_read_shown(const char *line, size_t length, raf_blob *shown,
+                          bool *is_certificate);
+
+/* Shows the fingerprint of the key of a line: RAF_DONE, or why it can't tell. */
+program_line check_fingerprint;
+
+#endif

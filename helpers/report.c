@@ -1,0 +1,331 @@
+#include "report.h"
+
+#include <inttypes.h>
+#include <stdio.h>
+#include <stdlib.h>
+#include <string.h>
+
+#include "certificate.h"
+#include "program.h"
+#include "show.h"
+#include "text.h"
+
+/* of the words that say why something is refused */
+#define WORDS 512
+
+/* ---- why it is refused */
+
+/* Writes that a key is no certificate, and what the file of the key's certificate is called. */
+static bool write_name(const report *of, char *buffer) {
+  const char *slash = strrchr(of->path, '/'), *name = slash ? slash + 1 : of->path;
+  const char *ending = strrchr(name, '.'), *said = "a key, and no certificate";
+  size_t length = ending && !strcmp(ending, ".pub") ? (size_t)(ending - name) : 0;
+  if (length && length < WORDS / 2)
+    snprintf(buffer, WORDS, "%s (its name is %.*s-cert.pub)", said, (int)length, name);
+  else
+    snprintf(buffer, WORDS, "%s", said);
+  return true;
+}
+
+/* Writes why it is refused, in words: more than the answer means, where more is known. */
+static void write_words(const report *of, uint32_t answer, char *buffer) {
+  bool is_written = false;
+  if (answer == RAF_OUT_OF_WINDOW)
+    is_written = certificate_write_window(of->certificate, of->unix_timestamp, buffer, WORDS);
+  if (answer == RAF_LABEL && of->is_key) is_written = write_name(of, buffer);
+  if (!is_written) snprintf(buffer, WORDS, "%s", raf_status_meaning(answer));
+}
+
+void report_complain(const report *of, uint32_t answer) {
+  char words[WORDS];
+  size_t number = of->by_line ? of->by_line : of->line;
+  write_words(of, answer, words);
+  const char *path = of->by_line ? of->by_path : of->path;
+  if (number)
+    program_complain("%s:%zu: %s (%" PRIu32 ")", path, number, words, answer);
+  else
+    program_complain("%s: %s (%" PRIu32 ")", path, words, answer);
+}
+
+/* ---- lists in objects */
+
+/* Separates what stands in a list, which begins. */
+static void separate(bool *is_first) {
+  if (!*is_first) putchar(',');
+  *is_first = false;
+}
+
+/* Prints a list of strings, one after the other. */
+static void print_strings(const char *name, raf_span list) {
+  raf_part part = {0, 0};
+  bool is_first = true;
+  json_name(name);
+  putchar('[');
+  for (size_t place = 0;
+       raf_next_string(list.bytes, list.length, place, &part) == RAF_DONE;
+       place = part.start + part.length) {
+    separate(&is_first);
+    json_string(text_part(list.bytes, part));
+  }
+  putchar(']');
+}
+
+/* Prints options of a certificate: null is the value of one that holds nothing. */
+static void print_options(const char *name, raf_span list) {
+  raf_certificate_option_parts option;
+  bool is_first = true;
+  memset(&option, 0, sizeof option);
+  json_name(name);
+  putchar('[');
+  while (raf_next_certificate_option(list.bytes, list.length, option.next, &option) == RAF_DONE) {
+    separate(&is_first);
+    printf("{\"name\":");
+    json_string(text_part(list.bytes, option.name));
+    /* after the length of four bytes what the option holds */
+    if (option.name.start + option.name.length + 4 == option.next)
+      json_null("value");
+    else
+      json_text("value", text_part(list.bytes, option.value));
+    putchar('}');
+  }
+  putchar(']');
+}
+
+static void print_permissions(uint32_t permits) {
+  bool is_first = true;
+  json_name("permits");
+  putchar('[');
+  for (const show_permission *at = show_permissions; at->words; at++) {
+    if (!(permits & at->bit)) continue;
+    separate(&is_first);
+    json_string(raf_text_span(at->words));
+  }
+  putchar(']');
+}
+
+/* Prints places to which, or at which, ports may be forwarded. */
+static void print_places(const char *name, raf_span list) {
+  raf_part host = {0, 0}, port = {0, 0};
+  bool is_first = true;
+  json_name(name);
+  putchar('[');
+  for (size_t place = 0;
+       raf_next_string(list.bytes, list.length, place, &host) == RAF_DONE &&
+       raf_next_string(list.bytes, list.length, host.start + host.length, &port) == RAF_DONE;
+       place = port.start + port.length) {
+    const uint8_t *number = list.bytes + port.start;
+    separate(&is_first);
+    printf("{\"host\":");
+    json_string(text_part(list.bytes, host));
+    if (port.length)
+      json_number("port", (uint64_t)number[0] << 8 | number[1]);
+    else
+      json_null("port");
+    putchar('}');
+  }
+  putchar(']');
+}
+
+/* ---- members of objects */
+
+static void print_second(const char *name, uint64_t second) {
+  if (second == UINT64_MAX)
+    json_null(name);
+  else
+    json_number(name, second);
+}
+
+/* Prints the fingerprint of a key, where it has one. */
+static void print_fingerprint(const char *name, raf_span key) {
+  show_fingerprint fingerprint;
+  if (show_read_fingerprint(key, &fingerprint) == RAF_DONE)
+    json_text(name, show_fingerprint_of(&fingerprint));
+  else
+    json_null(name);
+}
+
+/* Begins an object with what it is about. */
+static void begin(const report *of, const char *verdict) {
+  json_begin(of->path);
+  if (of->line) json_number("line", of->line);
+  if (of->message) json_words("message", of->message);
+  json_words("verdict", verdict);
+}
+
+/* The same of a verdict, with why it is, and by which line. */
+static void begin_verdict(const report *of, uint32_t answer) {
+  char words[WORDS];
+  write_words(of, answer, words);
+  begin(of, answer == RAF_DONE ? "valid" : "refused");
+  json_number("status", answer);
+  json_words("name", raf_status_name(answer));
+  json_words("meaning", words);
+  if (!of->by_line) return;
+  json_words("by_file", of->by_path);
+  json_number("by_line", of->by_line);
+}
+
+/* Prints which certificate it is, if there is one. */
+static void print_identity(raf_blob certificate) {
+  raf_fields fields;
+  raf_parts parts;
+  memset(&fields, 0, sizeof fields);
+  memset(&parts, 0, sizeof parts);
+  const uint8_t *bytes = raf_bytes(certificate.bytes);
+  if (raf_certificate_fields(bytes, certificate.length, &fields) != RAF_DONE ||
+      raf_certificate_parts(bytes, certificate.length, &parts) != RAF_DONE)
+    return;
+  json_text("key_id", text_part(bytes, parts.key_id));
+  json_number("serial", fields.serial);
+  print_fingerprint("authority", text_part(bytes, parts.authority));
+  json_number("valid_after", fields.valid_after);
+  print_second("valid_before", fields.valid_before);
+}
+
+/* Prints what a login may do by a certificate or a line. */
+static void print_permitted(const raf_grant *grant, const uint8_t *buffer) {
+  if (grant->permits & RAF_PERMIT_ANY_COMMAND)
+    json_null("command");
+  else
+    json_text("command", text_part(buffer, grant->force_command));
+  print_permissions(grant->permits);
+  json_flag("touch_required", !(grant->permits & RAF_PERMIT_NO_TOUCH));
+  json_flag("verification_required", !(grant->permits & RAF_PERMIT_NO_VERIFICATION));
+}
+
+/* Prints where ports may be forwarded: nowhere without the permission, with the bit anywhere. */
+static void print_forwards(const char *name, uint32_t permits, uint32_t anywhere,
+                           raf_span list) {
+  static const uint8_t any[] = "\0\0\0\1*\0\0\0"; /* that host, at any port */
+  if (!(permits & RAF_PERMIT_PORT_FORWARDING)) list.length = 0;
+  else if (permits & anywhere) list = (raf_span){any, sizeof any};
+  print_places(name, list);
+}
+
+/* Prints which device of tun(4) may be had: none without the permission. */
+static void print_tunnel(const raf_user_grant *grant) {
+  char number[16];
+  uint32_t permits = grant->grant.permits;
+  snprintf(number, sizeof number, "%" PRIu32, grant->tunnel);
+  if (!(permits & RAF_PERMIT_TUNNELS))
+    json_null("tunnel");
+  else if (permits & RAF_PERMIT_ANY_TUNNEL || grant->tunnel == SHOW_ANY_DEVICE)
+    json_words("tunnel", "any");
+  else
+    json_words("tunnel", number);
+}
+
+/* ---- answers */
+
+void report_valid(const report *of) {
+  if (of->is_json) {
+    begin_verdict(of, RAF_DONE);
+    print_identity(of->certificate);
+    json_end();
+  } else {
+    puts("valid");
+  }
+}
+
+void report_certified(const report *of, const raf_grant *grant, const uint8_t *buffer) {
+  if (of->is_json) {
+    begin_verdict(of, RAF_DONE);
+    print_identity(of->certificate);
+    print_permitted(grant, buffer);
+    json_end();
+  } else {
+    puts("valid");
+    show_certified(grant, buffer);
+  }
+}
+
+void report_grant(const report *of, const raf_user_grant *grant, const uint8_t *buffer) {
+  uint32_t permits = grant->grant.permits;
+  if (!of->is_json) {
+    puts("valid");
+    show_grant(grant, buffer, of->certificate.length > 0);
+    return;
+  }
+  begin_verdict(of, RAF_DONE);
+  print_identity(of->certificate);
+  print_permitted(&grant->grant, buffer);
+  print_forwards("forwards_to", permits, RAF_PERMIT_OPEN_ANYWHERE,
+                 text_part(buffer, grant->permit_open));
+  print_forwards("listens_at", permits, RAF_PERMIT_LISTEN_ANYWHERE,
+                 text_part(buffer, grant->permit_listen));
+  print_tunnel(grant);
+  print_strings("environment", text_part(buffer, grant->environment));
+  print_second("expires", grant->expires.first);
+  print_second("expires_latest", grant->expires.last);
+  json_end();
+}
+
+void report_refused(const report *of, uint32_t answer) {
+  if (of->is_json) {
+    begin_verdict(of, answer);
+    print_identity(of->certificate);
+    json_end();
+  } else if (of->is_verdict) {
+    puts("refused");
+  }
+  report_complain(of, answer);
+}
+
+/* ---- what is shown */
+
+/* Prints the path and the number of a line, as ssh-keygen does. */
+static void print_heading(const report *of) {
+  if (of->line == 1 && strcmp(of->path, REPORT_INPUT))
+    printf("%s:\n", of->path);
+  else
+    printf("%s:%zu:\n", of->path, of->line);
+}
+
+uint32_t report_certificate(const report *of, uint32_t said) {
+  raf_blob certificate = of->certificate, key = {NULL, 0};
+  const char *signed_by = said == RAF_RSA_SHA1 ? "ssh-rsa" : NULL;
+  raf_fields fields;
+  raf_parts parts;
+  memset(&fields, 0, sizeof fields);
+  memset(&parts, 0, sizeof parts);
+  if (!of->is_json) {
+    print_heading(of);
+    return show_certificate(certificate, signed_by);
+  }
+  const uint8_t *bytes = certificate.bytes;
+  uint32_t answer = raf_certificate_fields(bytes, certificate.length, &fields);
+  if (answer == RAF_DONE) answer = raf_certificate_parts(bytes, certificate.length, &parts);
+  if (answer == RAF_DONE) answer = certificate_read_key(certificate, &key);
+  if (answer != RAF_DONE) return answer;
+  if (said == RAF_DONE)
+    begin(of, "shown");
+  else
+    begin_verdict(of, said);
+  print_identity(certificate);
+  json_text("type", text_first_string(raf_blob_span(certificate)));
+  json_words("certificate_type", fields.certificate_type == RAF_USER ? "user" : "host");
+  print_fingerprint("public_key", raf_blob_span(key));
+  if (signed_by)
+    json_words("signed_by", signed_by);
+  else
+    json_text("signed_by", show_algorithm(certificate, &parts));
+  print_strings("principals", text_part(bytes, parts.principals));
+  print_options("critical_options", text_part(bytes, parts.critical_options));
+  print_options("extensions", text_part(bytes, parts.extensions));
+  json_end();
+  free(key.bytes);
+  return RAF_DONE;
+}
+
+uint32_t report_key(const report *of, raf_span key, raf_span comment) {
+  if (!of->is_json) return show_key(key, of->certificate.length > 0, comment);
+  show_fingerprint fingerprint;
+  uint32_t answer = show_read_fingerprint(key, &fingerprint);
+  if (answer != RAF_DONE) return answer;
+  begin(of, "shown");
+  json_text("type", text_first_string(of->certificate.length ? raf_blob_span(of->certificate) : key));
+  json_text("public_key", show_fingerprint_of(&fingerprint));
+  json_text("comment", comment);
+  json_end();
+  return RAF_DONE;
+}

@@ -1,0 +1,41 @@
+/* What sshkey-check answers about a line or a file: in words on standard output, or as an object of
+ * JSON in one line; and on standard error why it is refused. */
+#ifndef REPORT_H
+#define REPORT_H
+#include "reading.h"
+
+/* The path that stands for standard input. */
+#define REPORT_INPUT "(stdin)"
+
+typedef struct {
+  const char *path;     /* of the file that is asked about */
+  size_t line;          /* its number there, from 1; 0 where the whole file is asked about */
+  const char *by_path;  /* of the file with the line that lets in or refuses */
+  size_t by_line;       /* 0 where no line does */
+  const char *message;  /* the path of what an SSH signature is asked of, or null */
+  raf_blob certificate; /* what is shown, or of no bytes */
+  uint64_t unix_timestamp;
+  bool is_key;     /* a key stands there, where a certificate is wanted */
+  bool is_verdict; /* `refused` is said of what is */
+  bool is_json;
+} report;
+
+/* Says that it is valid; and to what a grant lets in, by a certificate alone, or by a line. */
+void report_valid(const report *of);
+void report_certified(const report *of, const raf_grant *grant, const uint8_t *buffer);
+void report_grant(const report *of, const raf_user_grant *grant, const uint8_t *buffer);
+
+/* Says that it is refused, and why. */
+void report_refused(const report *of, uint32_t answer);
+
+/* Says why alone. */
+void report_complain(const report *of, uint32_t answer);
+
+/* Shows the certificate, with that answer, which tells how it is signed: RAF_DONE, or why it
+ * can't be shown. */
+uint32_t report_certificate(const report *of, uint32_t said);
+
+/* Shows the key, as show_key: likewise. */
+uint32_t report_key(const report *of, raf_span key, raf_span comment);
+
+#endif

@@ -1,0 +1,20 @@
+# Completion of sshkey-check(1) for bash.
+_sshkey_check() {
+  local word=${COMP_WORDS[COMP_CWORD]} words
+  case ${COMP_WORDS[COMP_CWORD-1]} in
+    --ca|--known-hosts|--keys|--signers|--signature|--revoked|-[kfsr])
+      mapfile -t COMPREPLY < <(compgen -f -- "$word"); return ;;
+    --user) mapfile -t COMPREPLY < <(compgen -u -- "$word"); return ;;
+    --host) mapfile -t COMPREPLY < <(compgen -A hostname -- "$word"); return ;;
+    --at|--from|--port|--identity|--namespace|-[In]) COMPREPLY=(); return ;;
+  esac
+  case ${COMP_WORDS[1]} in
+    login) words="--from --ca --host --at --revoked --json" ;;
+    verify) words="-k -f -I -n -s -r --at --json" ;;
+    fingerprint) words="--json" ;;
+    *) words="--ca --user --from --host --port --known-hosts --at --revoked --json --help --version"
+       [ "$COMP_CWORD" != 1 ] || words="login verify fingerprint $words" ;;
+  esac
+  mapfile -t COMPREPLY < <(compgen -W "$words" -- "$word"; compgen -f -- "$word")
+}
+complete -o filenames -F _sshkey_check sshkey-check
