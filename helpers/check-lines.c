@@ -119,7 +119,7 @@ static uint32_t answer_host(const char *line, size_t length, report *of,
 /* ---- logins by authorized_keys or by principals */
 
 /* Whether that logs the user in: says to what, or tells the report which line refuses. */
-static uint32_t judge_login(const raf_login *login, report *of, const check_request *asked) {
+static uint32_t log_in_by(const raf_login *login, report *of, const check_request *asked) {
   /* a buffer of this length is enough, and one of no bytes may be null */
   size_t length = asked->listing.length + 2 * login->certificate.length + 1;
   uint8_t *buffer = calloc(1, length);
@@ -148,7 +148,7 @@ static uint32_t answer_login(const char *line, size_t length, report *of,
   if (of->is_key) answer = RAF_LABEL;
   if (answer == RAF_DONE) {
     raf_login login = login_of(key, of->certificate, asked);
-    answer = judge_login(&login, of, asked);
+    answer = log_in_by(&login, of, asked);
   }
   free(key.bytes);
   return answer;

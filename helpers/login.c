@@ -163,7 +163,7 @@ static belief has_safe_folders(const login_request *asked, const char *path,
 }
 
 /* Whether the file that is open may be believed. */
-static belief judge_file(const login_request *asked, FILE *file, const char *path,
+static belief check_file(const login_request *asked, FILE *file, const char *path,
                          const char *owner) {
   const struct passwd *user = owner ? getpwnam(owner) : NULL;
   uid_t uid = user ? user->pw_uid : 0;
@@ -199,7 +199,7 @@ static login_reading open_believed(const login_request *asked, const char *path,
   for (int tries = 2; tries; tries--) {
     login_reading reading = open_file(asked, path, owner, file);
     if (reading != LOGIN_READ) return reading;
-    belief found = judge_file(asked, *file, path, owner);
+    belief found = check_file(asked, *file, path, owner);
     if (found == BELIEVED) return LOGIN_READ;
     fclose(*file);
     if (found == DISBELIEVED) return LOGIN_UNTOLD;
@@ -266,7 +266,7 @@ bool login_check_revoked(const login_request *asked) {
   bool is_read = true;
   for (size_t at = 0; at < asked->revoked.count; at++) {
     uint32_t answer = raf_check_unrevoked_key(&asked->revoked.texts[at], 1, key, sizeof key);
-    if (answer == RAF_DONE || answer == RAF_NOT_REVOKED) continue;
+    if (answer == RAF_DONE || answer == RAF_REVOKED) continue;
     login_complain(asked, "%s: %s", asked->revoked.paths[at], raf_status_meaning(answer));
     is_read = false;
   }

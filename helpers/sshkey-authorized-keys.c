@@ -43,7 +43,7 @@ static uint32_t read_offered(const login_request *asked, offered *answer) {
   uint32_t status = raf_read_words_blob(asked->type, asked->base64, RAF_LINE_KEY, &answer->blob);
   answer->is_certificate = status != RAF_DONE;
   return answer->is_certificate ? raf_read_words_blob(asked->type, asked->base64,
-                                                      RAF_LINE_CERTIFICATE, &answer->blob)
+                                                         RAF_LINE_CERTIFICATE, &answer->blob)
                                 : status;
 }
 
@@ -136,7 +136,7 @@ typedef struct {
 
 /* Prints that the user may be let in by the key of a line, or says that the line is no entry: sshd
  * may read it otherwise. */
-static uint32_t check_line(const char *line, size_t length, size_t number, void *given) {
+static uint32_t print_checked(const char *line, size_t length, size_t number, void *given) {
   checked *of = given;
   raf_sha256 digest = {{0}};
   raf_entry entry;
@@ -164,7 +164,7 @@ static bool check_user(const login_request *asked, const char *user) {
   char *path = path_of(asked, user);
   checked of = {asked, path, user, true};
   if (!path) return false;
-  login_reading reading = login_each_line(asked, path, user, check_line, &of);
+  login_reading reading = login_each_line(asked, path, user, print_checked, &of);
   if (reading == LOGIN_MISSING) login_complain(asked, "%s: %s", path, strerror(ENOENT));
   free(path);
   return reading == LOGIN_READ && of.is_whole;
