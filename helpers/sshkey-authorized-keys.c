@@ -43,7 +43,7 @@ static uint32_t read_offered(const login_request *asked, offered *answer) {
   uint32_t status = raf_read_words_blob(asked->type, asked->base64, RAF_LINE_KEY, &answer->blob);
   answer->is_certificate = status != RAF_DONE;
   return answer->is_certificate ? raf_read_words_blob(asked->type, asked->base64,
-                                                         RAF_LINE_CERTIFICATE, &answer->blob)
+                                                      RAF_LINE_CERTIFICATE, &answer->blob)
                                 : status;
 }
 
