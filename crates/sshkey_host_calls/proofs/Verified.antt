@@ -1,7 +1,7 @@
 -- The verifier that says to every question what was said to the one.
 use Rattle.std.proofs.Common.{◌≡◌, ℕ, List, Bool, Some, None, inl, inr, subst, sym, ◌∙◌}
 use Rattle.host_keys.specs.Answers.{IsWhyNoCertificate, RefusesAsked, RefusesHostCertificate}
-use Rattle.host_keys.specs.Hosts.{HostRequest, IsGoodFor, IsHostCertificate, IsTrustedCertificate, OfAsked, plain_name, signers}
+use Rattle.host_keys.specs.Hosts.{HostCheck, IsGoodFor, IsHostCertificate, IsTrustedCertificate, OfAsked, plain_name, signers}
 use Rattle.host_keys.specs.declared.refusal.HostRefusal.{HostRefusal}
 use Rattle.host_keys.specs.declared.refusal.HostRefusal.TheVariants as refusal
 use Rattle.sshkey_calls.specs.Validations.{Verified, is_yes_number}
@@ -23,7 +23,7 @@ module _ (one other : Question → Bool) (t : ℕ) (host : List ℕ) (c : Certif
       let none : first_refusal_for one (signers c) t host c ≡ None = (none_where_wanted one (signers c) t host c).1 is.valid in
       record { fields = is.fields; valid = (none_where_wanted other (signers c) t host c).0 (sym same ∙ none) }
 
-module _ (login : HostRequest) (one other : Question → Bool) (revokes : List ℕ → CertificateIdentity → Bool) (c : Certificate) (same : first_refusal_for one (signers c) login.time (plain_name login.host) c ≡ first_refusal_for other (signers c) login.time (plain_name login.host) c) where
+module _ (login : HostCheck) (one other : Question → Bool) (revokes : List ℕ → CertificateIdentity → Bool) (c : Certificate) (same : first_refusal_for one (signers c) login.time (plain_name login.host) c ≡ first_refusal_for other (signers c) login.time (plain_name login.host) c) where
   trusted_there : IsTrustedCertificate login one revokes c → IsTrustedCertificate login other revokes c
   trusted_there is = record { trusted_by = is.trusted_by; unrevoked = is.unrevoked; accepted = is.accepted; good = good_there one other login.time (plain_name login.host) c same is.good }
 
@@ -41,7 +41,7 @@ module _ (login : HostRequest) (one other : Question → Bool) (revokes : List �
 
 -- ---- what is told
 
-module _ (login : HostRequest) (accepts : Question → Bool) (revokes : List ℕ → CertificateIdentity → Bool) (bytes : List ℕ) (is_verified : ℕ) (v : Verified accepts bytes is_verified) where
+module _ (login : HostCheck) (accepts : Question → Bool) (revokes : List ℕ → CertificateIdentity → Bool) (bytes : List ℕ) (is_verified : ℕ) (v : Verified accepts bytes is_verified) where
   abbrev said : Question → Bool
   said _ = is_yes_number is_verified
 

@@ -28,11 +28,11 @@ abbrev pub are_texts : HostRequest → Bool
 are_texts l = is_utf8 l.host.now && list_all (λ text. is_utf8 text.now) l.known_hosts.now
 
 -- the host, by these lines, under HMAC-SHA1
-abbrev pub login_with : HostRequest → List (List ℕ) → hosts.HostRequest
+abbrev pub login_with : HostRequest → List (List ℕ) → hosts.HostCheck
 login_with l lines = record { hmac = hmac_sha1; lines = lines; host = l.host.now; port = l.port; time = l.unix_timestamp; least_rsa_bits = l.least_rsa_bits }
 
 -- by the lines of all the texts
-abbrev pub login_of : HostRequest → hosts.HostRequest
+abbrev pub login_of : HostRequest → hosts.HostCheck
 login_of l = login_with l (lines_of l.known_hosts.now)
 
 -- ---- numbers

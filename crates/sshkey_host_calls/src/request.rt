@@ -51,11 +51,11 @@ impl<'a> HostRequest<'a> {
     }
 
     /// The host, and these texts of known_hosts.
-    pub(crate) fn with_texts<'b>(&'b self, texts: &'b [&'b str]) -> host_keys::HostRequest<'b>
+    pub(crate) fn with_texts<'b>(&'b self, texts: &'b [&'b str]) -> host_keys::HostCheck<'b>
         requires { are_texts self.now ≡ true }
         ensures { login_of result hmac_sha1 ≡ login_with self.now (lines_of texts.now) }
     {
-        host_keys::HostRequest {
+        host_keys::HostCheck {
             texts,
             host: text_of(self.host),
             port: self.port,

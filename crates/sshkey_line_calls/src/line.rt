@@ -11,7 +11,6 @@ use sshkey_cert_ref::CertificateRef;
 use sshkey_keys::KeyData;
 use sshkey_keys_ref::KeyDataRef;
 use std::alloc::Global;
-use user_keys::line_may_name_key;
 
 /// Whether sshd(8) may take a line of authorized_keys for one of the key that all the bytes spell
 /// (`user_keys::line_may_name_key`). Nothing is asked of the bytes of the line.
@@ -49,11 +48,11 @@ pub fn line_may_name_authority(alloc: Global, line: &[u8], certificate: &[u8]) -
     }
 }
 
-/// The number of a line and a key.
+/// The status of a line and a key.
 fn line_status(line: &[u8], key: &KeyData) -> u32
     ensures { TellsLine (key_of key.now) line.now result }
 {
-    if line_may_name_key(line, key) {
+    if user_keys::line_may_name_key(line, key) {
         return DONE;
     }
     END

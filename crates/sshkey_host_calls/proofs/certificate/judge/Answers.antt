@@ -16,6 +16,6 @@ returns c _ =
     let bytes = c.args.certificate.now in (
       reads,
       c.in-Ok-read.ensures.read,
-      subst (λ (x : hosts.HostRequest). IsJudged (IsHostCertificate x (λ _. c.args.said.now.is_yes) (one_revokes reads) bytes) (RefusesHostCertificate x (λ _. c.args.said.now.is_yes) (one_revokes reads) bytes) (are_read reads) c.answer_status.result) login
+      subst (λ (x : hosts.HostCheck). IsJudged (IsHostCertificate x (λ _. c.args.said.now.is_yes) (one_revokes reads) bytes) (RefusesHostCertificate x (λ _. c.args.said.now.is_yes) (one_revokes reads) bytes) (are_read reads) c.answer_status.result) login
           (judged_as (IsHostCertificate known (λ _. c.args.said.now.is_yes) (one_revokes reads) bytes) (RefusesHostCertificate known (λ _. c.args.said.now.is_yes) (one_revokes reads) bytes) (are_read reads) c.check_certificate.result c.answer_status.result c.are_read.result c.answer_status.ensures.number c.are_read.ensures c.answer_status.ensures.some c.check_certificate.ensures.exactly c.check_certificate.ensures.refused),
     )

@@ -21,6 +21,6 @@ returns c k spelled _ =
     let why = RefusesHostKey known (one_revokes_key reads) (key_of c.in-Ok.key) in (
       reads,
       c.in-Ok-read.ensures.read,
-      subst (λ (x : hosts.HostRequest × Key). IsJudged (IsHostKey x.0 (one_revokes_key reads) x.1) (RefusesHostKey x.0 (one_revokes_key reads) x.1) (are_read reads) c.answer_status.result) (λ i. (login i, one i))
+      subst (λ (x : hosts.HostCheck × Key). IsJudged (IsHostKey x.0 (one_revokes_key reads) x.1) (RefusesHostKey x.0 (one_revokes_key reads) x.1) (are_read reads) c.answer_status.result) (λ i. (login i, one i))
           (judged_as (IsHostKey known (one_revokes_key reads) (key_of c.in-Ok.key)) why (are_read reads) c.check_key.result c.answer_status.result c.are_read.result c.answer_status.ensures.number c.are_read.ensures c.answer_status.ensures.some c.check_key.ensures.exactly (for_others why c.check_key.result c.check_key.ensures.refused)),
     )

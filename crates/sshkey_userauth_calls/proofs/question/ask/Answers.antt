@@ -23,8 +23,8 @@ returns-in-Ok-question c g made =
     (λ no. cc (c.in-Ok-question.ensures.other no))
     (λ _. asked_told r required signature c.answer_question.result _ _ _ _ (asks c.in-Ok-question.asked) c.in-Ok-question.ensures.asked (rw c.question-in-Ok-question.ensures at c.answer_question.ensures)))
 
-pub returns : goal.returns
-returns c g made =
+pub returns-in-Err : goal.returns-in-Err
+returns-in-Err c g made =
     let r = request_of c.expected.result in
     let required = c.requirements_of-requirements.result in
     let signature = signature_of c.in-Ok.signature in
