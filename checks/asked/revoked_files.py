@@ -127,7 +127,7 @@ def said(folder, at, data, signatures):
     for signature in signatures:
         words = ["-Y", "verify", "-f", f"{folder}/of-files-allowed", "-I", "me", "-n", "file", "-s", signature, "-r", path]
         run = ssh_keygen("-vvv", *words, input=b"hi\n", stdin=None, check=False)
-        found = re.search(rb"raf_check_revoked: (.*?)\r?\n", run.stderr)
+        found = re.search(rb"sig_verify: \w+_check_revoked: (.*?)\r?\n", run.stderr)
         assert found or not run.returncode, run
         yield OK if not found else REVOKED if b"revoked" in found[1] else REFUSED
 
