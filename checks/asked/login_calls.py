@@ -96,8 +96,8 @@ class Certificates:
 
 
 def turned(blob):
-    """With a bit turned in the first principal's last letter, so that it is not signed."""
-    at = blob.index(string(b"alice")) + 8
+    """With a bit turned in its nonce, behind its name, so that it is not signed, and all else is as it was."""
+    at = 4 + int.from_bytes(blob[:4], "big") + 4
     return blob[:at] + bytes([blob[at] ^ 1]) + blob[at + 1 :]
 
 

@@ -101,7 +101,7 @@ LANGUAGES = {"cc": built_c, "go": built_go, "cargo": built_rust}
 
 
 def check_pages(count, folder, out):
-    """The programs are built in the folder, over the libraries and parts.a in `out`, where the commands are."""
+    """The programs are built in the folder, over the libraries in `out`, where the commands are."""
     for command, built in LANGUAGES.items():
         if shutil.which(command):
             made = built(f"{folder}/page-{command}", out)
