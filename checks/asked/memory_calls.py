@@ -341,7 +341,7 @@ def check_memory(judge):
 
 def takes_early(call, question, wanted, answer):
     """Whether a call takes memory of which the header says otherwise."""
-    is_value, other = wanted in (0, 2, 60), string(OTHER_NAME.encode()).hex() in question
+    is_value, other = wanted in (0, 2, 56), string(OTHER_NAME.encode()).hex() in question
     return answer.split()[1] != "0" and (call in OF_VALUES and not is_value or call in OF_OTHER_NAMES and not other)
 
 
