@@ -278,7 +278,7 @@ def check_checked(count, helpers, room, helper):
     ):  # fmt: skip
         path, ran = checked(program, text, doing, name=user if program == "keys" else "file")
         same = (ran.returncode, ran.stdout) == (status, shown.format(path)) and (told.format(path) in ran.stderr if told else not ran.stderr)
-        count.check(f"rafendilo-{program} --check of {case}", same, ran)
+        count.check(f"sshkey-{program} --check of {case}", same, ran)
         if case == "wrong lines":
             said = [it.split(":")[2] for it in ran.stderr.splitlines()]
             count.check("and it names each", said == ["4", "5", "6"], ran)
@@ -288,7 +288,7 @@ def check_checked(count, helpers, room, helper):
             for more, wanted in (([listed], 0), ([no_list], 1), ([listed, no_list], 1), ([f"{room}/none"], 1)):
                 where = os.path.dirname(path) if program == "keys" else path
                 _, ran = checked(program, text, "", *(it for one in more for it in ("--revoked", one)), where)
-                told = not ran.stderr if wanted == 0 else ran.stderr.startswith(f"rafendilo-{'authorized-' if program == 'keys' else ''}{program}: {more[-1]}: ")
+                told = not ran.stderr if wanted == 0 else ran.stderr.startswith(f"sshkey-{'authorized-' if program == 'keys' else ''}{program}: {more[-1]}: ")
                 count.check(f"and of the lists {[*map(os.path.basename, more)]}", ran.returncode == wanted and told, ran)
     path, ran = checked("keys", keys, "", "--file", f"{os.path.dirname(placed(room, user, user, keys, ''))}/none", user)
     count.check("sshkey-authorized-keys --check of one file", ran.returncode == 1 and "No such file" in ran.stderr, ran)
