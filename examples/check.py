@@ -20,10 +20,10 @@ from typing import Any
 
 try:
     import rafendilo
-except (ImportError, OSError) as fault:  # the library is not there, or is another
+except (ImportError, OSError) as error:  # the library is not there, or is another
     if __name__ != "__main__":
         raise
-    print(f"check.py: {fault}", file=sys.stderr)
+    print(f"check.py: {error}", file=sys.stderr)
     sys.exit(2)
 
 
@@ -42,8 +42,8 @@ def fingerprints(path: str) -> Collection[bytes]:
         text = file.read()
     try:
         found = rafendilo.authorities(text)
-    except rafendilo.NoKey as fault:
-        raise ValueError(f"{path}:{fault.line}: no key") from fault
+    except rafendilo.NoKey as error:
+        raise ValueError(f"{path}:{error.line}: no key") from error
     for number in found.later_lines:
         print(f"check.py: {path}:{number}: a later kind of key, which is passed over", file=sys.stderr)
     return found.keys

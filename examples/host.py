@@ -17,10 +17,10 @@ from collections.abc import Collection, Iterable, Iterator
 try:
     import rafendilo
     from rafendilo import Status
-except (ImportError, OSError) as fault:  # the library is not there, or is another
+except (ImportError, OSError) as error:  # the library is not there, or is another
     if __name__ != "__main__":
         raise
-    print(f"host.py: {fault}", file=sys.stderr)
+    print(f"host.py: {error}", file=sys.stderr)
     sys.exit(2)
 
 WORDS = {

@@ -24,10 +24,10 @@ try:
 
     import check
     import rafendilo
-except (ImportError, OSError) as fault:  # a library is not there, or is another
+except (ImportError, OSError) as error:  # a library is not there, or is another
     if __name__ != "__main__":
         raise
-    print(f"issue.py: {fault}", file=sys.stderr)
+    print(f"issue.py: {error}", file=sys.stderr)
     sys.exit(2)
 
 

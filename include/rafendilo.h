@@ -6,8 +6,8 @@
  *   1. raf_certificate_question says what has to be verified: an algorithm, a key, a message and
  *      a signature.
  *   2. You verify that with a library of yours.
- *   3. raf_check_certificate and .._validate_for say whether the certificate is valid, given
- *      what you found, or what is wrong with it first.
+ *   3. raf_check_certificate and .._for say whether the certificate is valid, given what you
+ *      found, or what is wrong with it first.
  *
  * A login is such a check too: raf_login_question, and raf_check_login; by authorized_keys,
  * raf_check_user_keys, and by a file of principals, raf_check_principals. Of an SSH signature
@@ -38,7 +38,6 @@
  * `*answer` then. (The text of a fingerprint has a fixed length, so its calls set none.) Every
  * other return value but RAF_DONE leaves the buffer, `*answer` and `*length` as they were; but a
  * grant is zero then. `*signer` is written with RAF_DONE alone.
- *
  */
 #ifndef RAFENDILO_H
 #define RAFENDILO_H
@@ -511,7 +510,7 @@ uint32_t raf_certificate_to_be_signed(const raf_draft *draft, uint8_t *buffer,
 
 /* Writes the certificate that a signature makes of these bytes. RAF_DONE exactly if that is a
  * certificate, memory and buffer aside; else 10 to 29. Whether the signature is one of these bytes
- * raf_certificate_question asks, and .._validate says. */
+ * raf_certificate_question asks, and raf_check_certificate says. */
 uint32_t raf_certificate_make(const uint8_t *to_be_signed, size_t to_be_signed_length,
                               const uint8_t *signature, size_t signature_length, uint8_t *buffer,
                               size_t buffer_length, size_t *length);
@@ -750,8 +749,7 @@ uint32_t raf_check_signer(const uint8_t *signers, size_t signers_length,
  *
  * Each call writes it to the front of the buffer, and its length to `length`, also with
  * RAF_SHORT_BUFFER. RAF_DONE exactly if the bytes are a value of that kind (memory and buffer
- * aside); else 10 to
- * 29. A buffer of the bytes' length is enough.   */
+ * aside); else 10 to 29. A buffer of the bytes' length is enough. */
 
 /* Of a key. RAF_MEMORY only where the bytes are a key, and not its normal form. */
 uint32_t raf_key_normal(const uint8_t *key, size_t key_length, uint8_t *buffer,
@@ -1049,9 +1047,8 @@ uint32_t raf_check_user_keys(const raf_login *login, const uint8_t *text,
  * RAF_DONE exactly if that line comes before each that cannot be told, and allows the certificate,
  * place and time, OpenSSH accepts the key that signed it, and raf_check_login lets it in by
  * login->authorities for that principal (memory and buffer aside). No bytes are no certificate: 10
- * to
- * 29. RAF_LINE_PRINCIPALS never comes. A line for a principal cannot be told where it is not UTF-8
- * up to a #.
+ * to 29. RAF_LINE_PRINCIPALS never comes. A line for a principal cannot be told where it is not
+ * UTF-8 up to a #.
  *
  * A line that refuses ends it: after RAF_USER_NOT_LISTED alone ask about the next file, and after
  * every other answer, 91 to 96 too, let no other one count. */

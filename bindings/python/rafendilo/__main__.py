@@ -83,8 +83,8 @@ def main() -> int:
     command, *words = sys.argv[1:] or [""]
     try:
         return 0 if answer_words(command, words) else 1
-    except (ImportError, OSError, ValueError, MemoryError) as fault:
-        print(f"rafendilo: {fault or type(fault).__name__}", file=sys.stderr)
+    except (ImportError, OSError, ValueError, MemoryError) as error:
+        print(f"rafendilo: {error or type(error).__name__}", file=sys.stderr)
         # or else Python writes what is left, and its status is that of this
         sys.stdout = None  # type: ignore[assignment]
         return 2
