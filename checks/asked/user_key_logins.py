@@ -48,7 +48,8 @@ OF_KEYS = [
     'command="a",command="b" %s\n%s', f"foo %s\n{BY_FORCED} %s", "cert-authority %s", f"cert-authority %s\n{BY_FORCED} %s",
     f'principals="root" %s\n{BY_FORCED} %s', f"{BY_FORCED},no-pty %s\n%s", "%o\n%s", "# %s", "   \t%s a # b", "%s\r", f"{BY_FORCED} %s\r",
     'command="" %s', ",,no-pty,,pty, %s", 'permitopen="h:80" %s', 'permitopen="h:http" %s\n%s', 'tunnel="x" %s', 'tunnel="1" %s',
-    "verify-required %s", "no-touch-required %s",
+    "verify-required %s", "no-touch-required %s", f"//%s\n{BY_FORCED} %s", f"no-pty, no-user-rc %s\n{BY_FORCED} %s",
+    f'command="a" command="b" %s\n{BY_FORCED} %s', f'"%s"\n{BY_FORCED} %s', f'command="a %s\n{BY_FORCED} %s', f"x: %s\n{BY_FORCED} %s",
 ]  # fmt: skip
 ALL = {it: b"" for it in ("permit-X11-forwarding", "permit-port-forwarding", "permit-pty", "permit-user-rc")}
 COMMAND = {"critical": {"force-command": string(CERTIFIED.encode())}}

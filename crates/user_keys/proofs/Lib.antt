@@ -1,6 +1,7 @@
 mod Blobs
 mod FirstLines
 mod Judgements
+mod KeyNames
 mod Lines
 mod LongParts
 mod Places
@@ -12,3 +13,4 @@ mod PrincipalLines
 mod Principals
 mod LoginExamples
 mod EdgeExamples
+mod NameExamples

@@ -2,6 +2,7 @@
 use Rattle.std.proofs.Common.{◌≡◌, ◌≢◌, ◌∙◌, ◌≤◌, ℕ, List, Bool, true, false, not, IfOk, Result, Ok, Err, ap, inl, inr, length, refl, subst, sym}
 use Rattle.std.proofs.Math.Bool.{beq}
 use Rattle.std.specs.Prelude.{slice_index}
+use Rattle.std.specs.Str.{IsUtf8}
 use Rattle.sshkey_entries.specs.AuthorizedKeys.{AuthorizedKey}
 use Rattle.sshkey_entries.specs.Entries.{IsNoEntry, hash_sign}
 use Rattle.sshkey_entries.specs.Fields.{without_blanks}
@@ -14,7 +15,7 @@ use Rattle.login_terms.specs.Terms.{Terms, terms_of}
 use Rattle.sshkey_entries.specs.declared.reading.Reading.{Reading}
 use Rattle.sshkey_entries.specs.declared.reading.Reading.TheVariants.{Is, Rejected, Unclear}
 use Rattle.login_terms.specs.declared.terms.Terms as code
-use Rattle.user_keys.specs.Lines.{IsEntryFor, IsFor, IsTextEntry, MayBeEntryFor, MayBeFor, before_zero, is_zero}
+use Rattle.user_keys.specs.Lines.{HasName, IsEntryFor, IsFor, IsTextEntry, MayBeEntryFor, MayBeFor, before_zero, is_zero}
 use Rattle.user_keys.specs.Options.{AreTerms, MayBeTerms}
 use Rattle.user_keys.specs.Spellings.{AreMarks, HasMark, MaySpell, StandIn, own_part}
 use Rattle.user_keys.specs.declared.marks.Marks.{Marks}
@@ -116,12 +117,24 @@ module _ (authority : Bool) (key : Key) (line : List ℕ) where
   )
 
   -- what a line says that is no entry, nor a comment
-  pub of_none : IsNoEntry IsTextEntry (before_zero line) → slice_index (without_blanks (before_zero line)) 0 ≢ hash_sign → (m : Marks) → AreMarks (own_part key) m → (r : Reading code.Terms) → Tells terms_of (λ _. ⊥) (HasMark m (before_zero line)) r → Tells terms_of (IsFor authority key line) (MayBeFor key line) r
-  of_none none no_comment m are = told_as terms_of (λ _. ⊥) (IsFor authority key line) (HasMark m (before_zero line)) (MayBeFor key line)
-      (λ t no. absurd no)
-      (λ t own. none own.0 own.1)
-      (λ has. inr (record { no_comment = no_comment; no_entry = none; spelled = marks_are (own_part key) (before_zero line) m are has }))
-      (λ may. elim may [
-        | inl other ↦ absurd (none other.0 other.1)
-        | inr odd ↦ are_marks (own_part key) (before_zero line) m are odd.spelled
-      ])
+  module _ (none : IsNoEntry IsTextEntry (before_zero line)) (no_comment : slice_index (without_blanks (before_zero line)) 0 ≢ hash_sign) (m : Marks) (are : AreMarks (own_part key) m) (r : Reading code.Terms) where
+    -- one that is no UTF-8
+    pub of_no_text : ¬ IsUtf8 (before_zero line) → Tells terms_of (λ _. ⊥) (HasMark m (before_zero line)) r → Tells terms_of (IsFor authority key line) (MayBeFor key line) r
+    of_no_text no_utf8 = told_as terms_of (λ _. ⊥) (IsFor authority key line) (HasMark m (before_zero line)) (MayBeFor key line)
+        (λ t no. absurd no)
+        (λ t own. none own.0 own.1)
+        (λ has. inr (record { no_comment = no_comment; no_entry = none; spelled = marks_are (own_part key) (before_zero line) m are has; has_name = λ utf8. absurd (no_utf8 utf8) }))
+        (λ may. elim may [
+          | inl other ↦ absurd (none other.0 other.1)
+          | inr odd ↦ are_marks (own_part key) (before_zero line) m are odd.spelled
+        ]) r
+
+    pub of_text : IsUtf8 (before_zero line) → Tells terms_of (λ _. ⊥) (HasMark m (before_zero line) × HasName key (without_blanks (before_zero line))) r → Tells terms_of (IsFor authority key line) (MayBeFor key line) r
+    of_text utf8 = told_as terms_of (λ _. ⊥) (IsFor authority key line) (HasMark m (before_zero line) × HasName key (without_blanks (before_zero line))) (MayBeFor key line)
+        (λ t no. absurd no)
+        (λ t own. none own.0 own.1)
+        (λ has. inr (record { no_comment = no_comment; no_entry = none; spelled = marks_are (own_part key) (before_zero line) m are has.0; has_name = λ _. has.1 }))
+        (λ may. elim may [
+          | inl other ↦ absurd (none other.0 other.1)
+          | inr odd ↦ (are_marks (own_part key) (before_zero line) m are odd.spelled, odd.has_name utf8)
+        ]) r

@@ -1,7 +1,7 @@
 -- Worked examples: which line is the first, which lines are of a principal or may spell a key, and who
 -- is let in, each part held and broken by itself, as OpenSSH has it (auth2-pubkeyfile.c,
 -- `auth_check_authkeys_file` and `auth_check_principals_line`; auth2-pubkey.c, `user_cert_trusted_ca`).
-use Rattle.std.specs.Prelude.{◌≡◌, ℕ, List, [], ◌∷◌, ◌++◌, Bool, true, false, None, Some, codes}
+use Rattle.std.specs.Prelude.{◌≡◌, ℕ, List, [], ◌∷◌, ◌++◌, Bool, true, false, None, Some, codes, slice_index}
 use Rattle.std.specs.declared.net.ip_addr.IpAddr.{IpAddr}
 use Rattle.login_policy.specs.Logins as policy
 use Rattle.login_policy.specs.Logins.{LetsIn}
@@ -14,13 +14,16 @@ use Rattle.sshkey_model.specs.CertificateExamples.{openssh_certificate}
 use Rattle.sshkey_model.specs.Certificates.{Certificate, normal_certificate}
 use Rattle.sshkey_model.specs.Fingerprints.{Fingerprint}
 use Rattle.sshkey_model.specs.HexText.{hex}
-use Rattle.sshkey_model.specs.Keys.{Dsa, DsaKey}
+use Rattle.sshkey_model.specs.Keys.{Dsa, DsaKey, Opaque}
 use Rattle.sshkey_model.specs.Parts.{flat}
 use Rattle.user_keys.specs.CertificateLogins.{AdmitsBy, BindsTogether, CertificateLogin, IsCertified, IsCertifiedBy, client_of}
 use Rattle.user_keys.specs.Certificates.{merged}
 use Rattle.user_keys.specs.Filters.{IsPassedOver}
 use Rattle.user_keys.specs.FirstLines.{IsFirst, LetsFirst}
-use Rattle.user_keys.specs.Lines.{IsFor, IsOddlySpelled, IsTextEntry, MayBeFor, before_zero, is_zero}
+use Rattle.sshkey_entries.specs.Entries.{IsNoEntry, hash_sign}
+use Rattle.sshkey_entries.specs.Fields.{without_blanks}
+use Rattle.std.specs.Str.{IsUtf8}
+use Rattle.user_keys.specs.Lines.{HasName, IsFor, IsNameFor, IsOddlySpelled, IsTextEntry, MayBeFor, before_zero, is_zero}
 use Rattle.user_keys.specs.LoginExamples.{by_key, other}
 use Rattle.user_keys.specs.Options.{AreTerms, MayBeTerms}
 use Rattle.user_keys.specs.Principals.{DecidesBy, HasOptions, MayDecideBy, after_last, is_feed, is_space, is_tab}
@@ -105,13 +108,31 @@ Spelled = MaySpell point (codes "ssh-ed25519 " ++ (codes "AAAAC3NzaC1lZDI1NTE5AA
 
 -- ---- a line
 
--- A line that is no UTF-8 is no entry, and a comment or an entry is none that is oddly spelled.
+-- A key may begin with its own name, each fixed one, a later one, or a short one in either case, and
+-- with no word that only ends so; nor with a certificate's name, nor with that of another private use.
+abbrev pub KeyNames : Type 0
+KeyNames = IsNameFor other (codes "ssh-ed25519") × IsNameFor other (codes "ssh-dss") × IsNameFor other (codes "rsa-sha2-512") × IsNameFor other (codes "sk-ssh-ed25519@openssh.com")
+    × IsNameFor other (codes "webauthn-sk-ecdsa-sha2-nistp256@openssh.com") × IsNameFor other (codes "ssh-mldsa44-ed25519") × IsNameFor other (codes "ED25519") × IsNameFor other (codes "Ecdsa-sk")
+    × IsNameFor (Opaque (codes "ssh-xmss@openssh.com") (codes "p")) (codes "ssh-xmss@openssh.com") × ¬ IsNameFor other (codes "ssh-xmss@openssh.com")
+    × ¬ IsNameFor other (codes "//ssh-ed25519") × ¬ IsNameFor other (codes "ssh-ed25519-cert-v01@openssh.com") × ¬ IsNameFor other []
+
+-- A name stands at the front, or behind options, in whose quotes blanks are no end. Options end at a
+-- blank behind a comma, too, and those whose quotes stay open nowhere.
+abbrev pub HasNames : Type 0
+HasNames = HasName other (codes "ssh-ed25519 AAAA") × HasName other (codes "command=\"a b\" \tED25519 AAAA")
+    × ¬ HasName other (codes ";ssh-ed25519 AAAA") × ¬ HasName other (codes "no-pty, no-user-rc ssh-ed25519 AAAA")
+    × ¬ HasName other (codes "command=\"a\" x ssh-ed25519 AAAA") × ¬ HasName other (codes "\"\\\" ssh-ed25519 AAAA")
+
+-- A line that is no UTF-8 is no entry, and a comment or an entry is none that is oddly spelled; nor is
+-- one of UTF-8 without a name.
 abbrev pub OddLines : Type 0
 OddLines = (is_zero 0 ≡ true) × (is_zero 0x30 ≡ false)
     × ((entry : AuthorizedKey) → IsTextEntry (0xff ∷ []) entry → ⊥) × ((text : List ℕ) (entry : AuthorizedKey) → IsTextEntry text entry → IsAuthorizedLine text entry)
     × ¬ IsOddlySpelled other (codes " # comment")
     × ((line : List ℕ) (entry : AuthorizedKey) → IsTextEntry (before_zero line) entry → IsOddlySpelled other line → ⊥)
     × ((line : List ℕ) → (MaySpell (own_part other) (before_zero line) → ⊥) → IsOddlySpelled other line → ⊥)
+    × ((line : List ℕ) → IsUtf8 (before_zero line) → (HasName other (without_blanks (before_zero line)) → ⊥) → IsOddlySpelled other line → ⊥)
+    × ((line : List ℕ) → (slice_index (without_blanks (before_zero line)) 0 ≡ hash_sign → ⊥) → IsNoEntry IsTextEntry (before_zero line) → MaySpell (own_part other) (before_zero line) → (IsUtf8 (before_zero line) → ⊥) → IsOddlySpelled other line)
 
 -- No line of the key is passed over, as that of an authority neither, nor one that sshd may take for one.
 abbrev pub PassedOver : Type 0

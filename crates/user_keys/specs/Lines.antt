@@ -1,13 +1,17 @@
 -- Which key a line of authorized_keys is for, and on which terms (sshd(8), "AUTHORIZED_KEYS FILE
 -- FORMAT").
-use Rattle.std.specs.Prelude.{◌≡◌, ◌≢◌, ◌⊎◌, ℕ, List, Bool, ◌==◌, slice_index}
+use Rattle.std.specs.Prelude.{◌≡◌, ◌≢◌, ◌⊎◌, ℕ, List, Bool, ◌==◌, IsSome, codes, drop, slice_index}
 use Rattle.std.specs.List.{before_first}
 use Rattle.std.specs.Str.{IsUtf8}
 use Rattle.sshkey_entries.specs.AuthorizedKeys.{AuthorizedKey}
 use Rattle.sshkey_entries.specs.Entries.{IsNoEntry, hash_sign}
 use Rattle.sshkey_entries.specs.Fields.{without_blanks}
 use Rattle.sshkey_entries.specs.OpenSshLines.{IsAuthorizedLine}
+use Rattle.sshkey_entries.specs.OptionEnds.{EndsOptions, is_blank}
+use Rattle.sshkey_entries.specs.OtherKeys.{IsShortName}
 use Rattle.sshkey_model.specs.Keys.{Key}
+use Rattle.sshkey_model.specs.Lines.{key_name}
+use Rattle.sshkey_model.specs.Names.{algorithm_name, algorithms, named}
 use Rattle.login_terms.specs.Terms.{Terms}
 use Rattle.user_keys.specs.Options.{AreTerms, MayBeTerms}
 use Rattle.user_keys.specs.Spellings.{MaySpell, own_part}
@@ -37,16 +41,36 @@ pub record IsEntryFor (authority : Bool) (key : Key) (entry : AuthorizedKey) (t 
 abbrev pub MayBeEntryFor : Key → AuthorizedKey → Type 0
 MayBeEntryFor key entry = ((entry.key ≡ key) × MayBeTerms entry.options) ⊎ ((entry.key ≢ key) × (own_part entry.key ≡ own_part key))
 
+-- ---- names of keys
+
+-- A name by which OpenSSH reads a key since 8.3 or 10.4, and no key is read here.
+abbrev pub IsLaterName : List ℕ → Type 0
+IsLaterName word = (word ≡ codes "webauthn-sk-ecdsa-sha2-nistp256@openssh.com") ⊎ (word ≡ codes "ssh-mldsa44-ed25519")
+
+-- Some version of OpenSSH takes the key, or one of another kind, to begin with the word (sshkey.c,
+-- `sshkey_read`). What begins with a certificate's name lets no key in, nor signed one.
+abbrev pub IsNameFor : Key → List ℕ → Type 0
+IsNameFor key word = (word ≡ key_name key) ⊎ IsSome (named algorithm_name algorithms word) ⊎ IsLaterName word ⊎ IsShortName word
+
+abbrev pub BeginsWithName : Key → List ℕ → Type 0
+BeginsWithName key text = IsNameFor key (before_first is_blank text)
+
+-- Such a name stands where sshd looks for a key: at the front of the text, or behind its options.
+abbrev pub HasName : Key → List ℕ → Type 0
+HasName key text = BeginsWithName key text ⊎ ((place : ℕ) × EndsOptions text place × BeginsWithName key (without_blanks (drop place text)))
+
 -- ---- lines
 
 abbrev pub IsFor : Bool → Key → List ℕ → Terms → Type 0
 IsFor authority key line t = (entry : AuthorizedKey) × IsTextEntry (before_zero line) entry × IsEntryFor authority key entry t
 
--- It is no entry, as one that is no UTF-8, nor a comment, and the key may be spelled in it.
+-- It is no entry, as one that is no UTF-8, nor a comment, and the key may be spelled in it, behind a
+-- name if it is UTF-8.
 pub record IsOddlySpelled (key : Key) (line : List ℕ) : Type 0 where
   pub no_comment : slice_index (without_blanks (before_zero line)) 0 ≢ hash_sign
   pub no_entry : IsNoEntry IsTextEntry (before_zero line)
   pub spelled : MaySpell (own_part key) (before_zero line)
+  pub has_name : IsUtf8 (before_zero line) → HasName key (without_blanks (before_zero line))
 
 -- sshd may take the line for one of the key.
 abbrev pub MayBeFor : Key → List ℕ → Type 0

@@ -1,7 +1,7 @@
 //! Worked examples of the definitions, on both sides of each edge.
 #![tactic(auto, unfolding(crate::specs::Computed::encode_symbols, crate::specs::Computed::without_front, crate::specs::Principals::after_last))]
 
-ghost use Rattle.user_keys.specs.EdgeExamples.{AdmittedCertificates, AdmittedKeys, Breaks, FirstLets, FirstLines, LinesOfPrincipals, OddLines, OptionsOfLines, PassedOver, Places, RefusedLines, Spelled};
+ghost use Rattle.user_keys.specs.EdgeExamples.{AdmittedCertificates, AdmittedKeys, Breaks, FirstLets, FirstLines, HasNames, KeyNames, LinesOfPrincipals, OddLines, OptionsOfLines, PassedOver, Places, RefusedLines, Spelled};
 ghost use Rattle.user_keys.specs.Examples.{Listed, Marks, Merged, Names, Times, Together, White};
 ghost use Rattle.user_keys.specs.LoginExamples.{Entries, FirstRefused, LetsCertificate, LetsKey, LineEnds, MayLetIn, OddEntries, Parts, Restricted, WhiteSpace};
 ghost use Rattle.user_keys.specs.TermExamples.{Asked, Certified, Commands, Decided, Expiry, From, Misplaced, Named, Permitted, PrincipalLines, Principals, Strictest};
@@ -184,6 +184,16 @@ pub fn places()
 /// Lines that spell a key.
 pub fn spelled()
     ensures { Spelled }
+{}
+
+/// Names in front of a key.
+pub fn key_names()
+    ensures { KeyNames }
+{}
+
+/// Where such a name stands in a line.
+pub fn has_names()
+    ensures { HasNames }
 {}
 
 /// Lines that are no entries.

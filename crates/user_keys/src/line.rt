@@ -1,15 +1,17 @@
 //! A line of authorized_keys.
 
-ghost use Rattle.std.specs.Prelude.{◌≡◌, ◌↔◌, ◌≤◌, IfErr, IfOk, IsTrue, length, slice_index};
+ghost use Rattle.std.specs.Prelude.{◌≡◌, ◌↔◌, ◌≤◌, IfErr, IfOk, IsSome, IsTrue, length, slice_index};
 ghost use Rattle.sshkey_authorized_keys.specs.OpenSshEntries.{openssh_entry_of};
 ghost use Rattle.sshkey_entries.specs.Entries.{hash_sign};
 ghost use Rattle.sshkey_entries.specs.Fields.{without_blanks};
+ghost use Rattle.sshkey_entries.specs.OtherKeys.{IsShortName};
 ghost use Rattle.sshkey_keys.specs.Keys.{key_of};
 ghost use Rattle.sshkey_model.specs.Keys.{IsKey};
+ghost use Rattle.sshkey_model.specs.Names.{algorithm_name, algorithms, named};
 ghost use Rattle.sshkey_entries.specs.Readings.{Tells};
 ghost use Rattle.login_terms.specs.Terms.{terms_of};
 ghost use Rattle.user_keys.specs.Judgements.{Judges, NamesInVain, joined};
-ghost use Rattle.user_keys.specs.Lines.{IsEntryFor, IsFor, MayBeEntryFor, MayBeFor};
+ghost use Rattle.user_keys.specs.Lines.{BeginsWithName, HasName, IsEntryFor, IsFor, IsLaterName, IsNameFor, MayBeEntryFor, MayBeFor};
 ghost use Rattle.user_keys.specs.Spellings.{AreMarks, HasMark, MaySpell, own_part};
 
 use crate::answer::{Answer, Judgement};
@@ -21,8 +23,10 @@ use crate::refusal::Reason;
 use crate::text::{before_first, skip_blanks};
 use crate::time::counts_at;
 use login_terms::{Reading, Terms};
-use sshkey_authorized_keys::{Entry, OpenSshEntry};
+use sshkey_authorized_keys::{Entry, OpenSshEntry, split_options};
+use sshkey_base::Algorithm;
 use sshkey_entries::laws::one_authorized_line;
+use sshkey_entries::split_blank;
 use sshkey_keys::KeyData;
 use std::alloc::{AllocError, Global};
 use std::str;
@@ -61,9 +65,76 @@ pub(crate) fn terms_for(
             if error.is_memory() {
                 return Err(AllocError);
             }
-            Ok(unread(line, marks))
+            Ok(unread_text(text, key, marks))
         }
     }
+}
+
+/// What a line of UTF-8 says that is no entry, nor a comment: sshd(8) may take it for one of the key
+/// where a mark stands in it, and a name where sshd looks for a key.
+fn unread_text(line: &str, key: &KeyData, marks: &Marks) -> Reading<Terms>
+    ensures { Tells terms_of (λ _. ⊥) (HasMark marks.now line.now
+        × HasName (key_of key.now) (without_blanks line.now)) result }
+{
+    if has_name(sshkey_entries::skip_blanks(line), key) {
+        return unread(line.as_bytes(), marks);
+    }
+    Reading::Rejected
+}
+
+/// Whether a name stands where sshd(8) looks for a key: at the front of the text, or behind its
+/// options.
+fn has_name(text: &str, key: &KeyData) -> bool
+    ensures { IsTrue result ↔ HasName (key_of key.now) text.now }
+{
+    if begins_with_name(text, key) {
+        return true;
+    }
+    match split_options(text) {
+        Some((_, rest)) => begins_with_name(sshkey_entries::skip_blanks(rest), key),
+        None => false,
+    }
+}
+
+fn begins_with_name(text: &str, key: &KeyData) -> bool
+    ensures { IsTrue result ↔ BeginsWithName (key_of key.now) text.now }
+{
+    let (word, _) = split_blank(text);
+    is_name_for(key, word)
+}
+
+/// Whether some version of OpenSSH takes the key, or one of another kind, to begin with the word.
+fn is_name_for(key: &KeyData, word: &str) -> bool
+    ensures { IsTrue result ↔ IsNameFor (key_of key.now) word.now }
+{
+    word == key.algorithm_name()
+        || is_fixed_name(word)
+        || is_later_name(word)
+        || is_short_name(word)
+}
+
+fn is_fixed_name(word: &str) -> bool
+    ensures { IsTrue result ↔ IsSome (named algorithm_name algorithms word.now) }
+{
+    Algorithm::from_fixed_name(word).is_some()
+}
+
+fn is_later_name(word: &str) -> bool
+    ensures { IsTrue result ↔ IsLaterName word.now }
+{
+    word == "webauthn-sk-ecdsa-sha2-nistp256@openssh.com" || word == "ssh-mldsa44-ed25519"
+}
+
+fn is_short_name(word: &str) -> bool
+    ensures { IsTrue result ↔ IsShortName word.now }
+{
+    word.eq_ignore_ascii_case("rsa")
+        || word.eq_ignore_ascii_case("dsa")
+        || word.eq_ignore_ascii_case("ecdsa")
+        || word.eq_ignore_ascii_case("ed25519")
+        || word.eq_ignore_ascii_case("ecdsa-sk")
+        || word.eq_ignore_ascii_case("ed25519-sk")
+        || word.eq_ignore_ascii_case("xmss")
 }
 
 /// What a line says that is no entry, nor a comment: sshd(8) may take it for one of the key where a

@@ -16,4 +16,6 @@ returns c = (
   (λ is. is.no_comment refl),
   (λ line entry is odd. odd.no_entry entry is),
   (λ line none odd. none odd.spelled),
+  (λ line utf8 none odd. none (odd.has_name utf8)),
+  (λ line no_comment none spelled no_utf8. record { no_comment = no_comment; no_entry = none; spelled = spelled; has_name = λ utf8. absurd (no_utf8 utf8) }),
 )
