@@ -45,7 +45,7 @@ def fingerprints(path: str) -> Collection[bytes]:
     except rafendilo.NoKey as error:
         raise ValueError(f"{path}:{error.line}: no key") from error
     for number in found.later_lines:
-        print(f"check.py: {path}:{number}: a later kind of key, which is passed over", file=sys.stderr)
+        print(f"check.py: {path}:{number}: a later kind of key, which is not read", file=sys.stderr)
     return found.keys
 
 

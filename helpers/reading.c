@@ -4,6 +4,7 @@
 #include <stdlib.h>
 #include <string.h>
 
+#include "later.h"
 #include "sha1.h"
 
 raf_span raf_blob_span(raf_blob blob) {
@@ -27,6 +28,15 @@ static uint32_t told_length(const char *line, size_t length) {
   return answer;
 }
 
+/* The same, but RAF_LATER_KEY where the bytes of the line name a later kind. */
+static uint32_t told_kind(const char *line, size_t length, uint32_t status) {
+  raf_blob found = raf_decode_second_word(line, length, 0);
+  if (!found.bytes) return RAF_MEMORY;
+  bool is_later = raf_names_later_kind(found);
+  free(found.bytes);
+  return is_later ? (uint32_t)RAF_LATER_KEY : status;
+}
+
 uint32_t raf_read_line_blob(const char *line, size_t length, uint32_t kind, raf_blob *answer) {
   /* a buffer as long as the line is enough */
   uint8_t *buffer = calloc(1, length + 1);
@@ -34,6 +44,7 @@ uint32_t raf_read_line_blob(const char *line, size_t length, uint32_t kind, raf_
   memset(&found, 0, sizeof found);
   if (!buffer) return RAF_MEMORY;
   uint32_t status = raf_read_line((const uint8_t *)line, length, buffer, length, &found);
+  if (status != RAF_DONE && status != RAF_MEMORY) status = told_kind(line, length, status);
   if (status == RAF_DONE && found.kind != kind) status = RAF_LABEL;
   if (status == RAF_LENGTH && kind == RAF_LINE_CERTIFICATE) status = told_length(line, length);
   if (status != RAF_DONE) {
@@ -152,7 +163,7 @@ static const struct {
     {RAF_ELSEWHERE, "from an address that is not allowed"},
     {RAF_UNREADABLE_REVOCATIONS, "the revocation file can't be read"},
     {RAF_KEY_NOT_ACCEPTED, "a kind or a size of key that OpenSSH does not let in"},
-    {RAF_LATER_KEY, "a later kind of key, which is passed over"},
+    {RAF_LATER_KEY, "a later kind of key, which is not read"},
     {RAF_UNSAFE_MODE, "another's, or others may write it"},
     {RAF_NOT_NORMAL_FORM, "not in its normal form"},
     {RAF_OTHER_TYPE, "for hosts in place of users, or for users in place of hosts"},

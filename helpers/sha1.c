@@ -37,6 +37,19 @@ size_t raf_decode_base64(uint8_t *bytes, size_t length) {
   return is_end(digits, padding, bits) ? decoded : SIZE_MAX;
 }
 
+raf_blob raf_decode_second_word(const char *line, size_t length, size_t room) {
+  raf_blob word = {calloc(1, length + room + 1), 0};
+  const char *front = memchr(line, ' ', length);
+  if (!word.bytes || !front) return word;
+  size_t left = length - (size_t)(++front - line);
+  const char *end = memchr(front, ' ', left);
+  word.length = end ? (size_t)(end - front) : left;
+  memcpy(word.bytes, front, word.length);
+  size_t decoded = raf_decode_base64(word.bytes, word.length);
+  word.length = decoded == SIZE_MAX ? 0 : decoded;
+  return word;
+}
+
 /* ---- certificates */
 
 static const char sha1[] = "\0\0\0\7ssh-rsa", sha256[] = "\0\0\0\14rsa-sha2-256";
@@ -77,24 +90,10 @@ static raf_blob renamed(raf_blob bytes, size_t place) {
   return (raf_blob){bytes.bytes, bytes.length + SHA256 - SHA1};
 }
 
-/* The bytes of the second word of a line, and buffer after them; none where there is none. */
-static raf_blob word_of(const char *line, size_t length) {
-  raf_blob word = {calloc(1, length + SHA256), 0};
-  const char *front = memchr(line, ' ', length);
-  if (!word.bytes || !front) return word;
-  size_t left = length - (size_t)(++front - line);
-  const char *end = memchr(front, ' ', left);
-  word.length = end ? (size_t)(end - front) : left;
-  memcpy(word.bytes, front, word.length);
-  size_t decoded = raf_decode_base64(word.bytes, word.length);
-  word.length = decoded == SIZE_MAX ? 0 : decoded;
-  return word;
-}
-
 uint32_t raf_read_sha1_line(const char *line, size_t length, raf_blob *answer) {
   raf_fields fields;
   memset(&fields, 0, sizeof fields);
-  raf_blob found = word_of(line, length);
+  raf_blob found = raf_decode_second_word(line, length, SHA256);
   if (!found.bytes) return RAF_MEMORY;
   size_t place = SIZE_MAX;
   for (size_t parts = 1; parts <= MOST_PARTS && place == SIZE_MAX; parts++)

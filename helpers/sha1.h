@@ -16,6 +16,10 @@ extern "C" {
  * nobody signed it, and it is there to be shown. */
 uint32_t raf_read_sha1_line(const char *line, size_t length, raf_blob *answer);
 
+/* The bytes that the second word of a line spells in Base64, of malloc, with so much room behind
+ * them: none where it spells none, and a null pointer where memory ran out. */
+raf_blob raf_decode_second_word(const char *line, size_t length, size_t room);
+
 /* Decodes Base64 with white space in it to the front of the same bytes: their number, or SIZE_MAX
  * where it is none. */
 size_t raf_decode_base64(uint8_t *bytes, size_t length);

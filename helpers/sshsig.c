@@ -3,6 +3,7 @@
 #include <stdlib.h>
 #include <string.h>
 
+#include "later.h"
 #include "sha1.h"
 #include "verify.h"
 
@@ -61,10 +62,13 @@ size_t raf_sshsig_digest_length(raf_blob signature) {
   return memcmp(signature.bytes + hash.start, "sha512", 6) ? 0 : 64;
 }
 
-/* The answer; but RAF_LENGTH is RAF_RSA_SHA1 where that is what the signature names. */
+/* The answer; but a fault is RAF_LATER_KEY where the signature names a later kind, and RAF_LENGTH is
+ * RAF_RSA_SHA1 where that is what it names. */
 static uint32_t told(uint32_t answer, raf_blob signature) {
   static const char sha1[] = "\0\0\0\7ssh-rsa";
   raf_part own = string_of(signature, SIGNATURE);
+  bool is_fault = answer >= RAF_BASE64 && answer <= RAF_OTHER_ERROR;
+  if (is_fault && raf_names_later_kind(signature)) return RAF_LATER_KEY;
   if (answer != RAF_LENGTH || own.length < sizeof sha1 - 1) return answer;
   return memcmp(signature.bytes + own.start, sha1, sizeof sha1 - 1) ? answer : RAF_RSA_SHA1;
 }

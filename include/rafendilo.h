@@ -144,7 +144,8 @@ enum {
   RAF_KEY_NOT_ACCEPTED = 59, /* a kind or a size of key that OpenSSH does not let in */
 
   RAF_LATER_KEY = 61,   /* the line has a key of a later kind, which signs nothing that is read:
-                           pass over it, and say so */
+                           pass over it, and say so. Of bytes that name such a kind the calls say 10
+                           to 29; raf_read_line_blob and sshsig.h of helpers/ tell it */
   RAF_UNSAFE_MODE = 62, /* another's, or others may write it */
 
   /* 70 to 76, with 59 after 72: a certificate that lets nobody in, whoever signed it; the first of

@@ -1,5 +1,6 @@
 """helpers/sshkey-check, for checks/foreign: what it shows of a certificate against `ssh-keygen -L`, whether certificates are valid
 against check.py, and whether signatures are against `ssh-keygen -Y verify`."""
+import base64
 import os
 import random
 import re
@@ -7,14 +8,14 @@ import time
 from concurrent.futures import ThreadPoolExecutor
 
 from lib.harness import ROOT, blob_of, line_of, ssh_keygen, string
-from lib.signatures import armoured, ssh_signature_over
+from lib.signatures import armoured, ssh_signature, ssh_signature_over
 
 from .certificate_calls import CASES
 from .key_calls import all_of
 from .example_calls import INVALID, SPACE, UNTOLD, VALID, armour_cases
 from .linked import VALGRIND, run, turned
 from .hosts import (
-    BROKEN, CERTIFICATES, CERTIFICATES_AND_LATER, CERTIFICATES_OF_FILES, HOST, KEYS, KEYS_AND_LATER, KEYS_OF_FILES, LATER, TYPED, UNASKED, field,
+    BROKEN, CERTIFICATES, CERTIFICATES_AND_LATER, CERTIFICATES_OF_FILES, HOST, KEYS, KEYS_AND_LATER, KEYS_OF_FILES, LATER, LATER_BLOB, LATER_NAME, TYPED, UNASKED, field,
     in_one_file, written,
 )  # fmt: skip
 from .hosts import INVALID as INVALID_TIME
@@ -115,6 +116,36 @@ def check_sha1(count, programs, maker):
         ran = run([programs[1], "verify", *words, "-n", SPACE, "-s", path], input="a text")
         same = (ran.returncode, ran.stdout, ran.stderr) == (INVALID, "refused\n", told.format(path))
         count.check(f"sshkey-check verify {words[0]}, a signature by SHA-1", same, ran)
+
+
+def later_lines(blob, authority):
+    """Lines of a later or former kind of key: of keys, and of certificates of it, by it, and with a signature of it."""
+    own, inner = base64.b64decode(LATER_BLOB), string(b"x") * 2
+    front = blob[: blob.index(string(authority))]
+    named = {it: string(it) + inner for it in (LATER_NAME + b"-cert", b"ssh-xmss@openssh.com", b"webauthn-sk-ecdsa-sha2-nistp256@openssh.com")}
+    yield "a key", LATER["later"]
+    for name, data in named.items():
+        yield name.decode(), f"{name.decode()} {base64.b64encode(data).decode()}"
+    yield "by an authority", line_of(front + string(own) + string(string(LATER_NAME) + inner))
+    yield "by a signature of WebAuthn", line_of(front + string(authority) + string(list(named.values())[-1]))
+
+
+def check_later_kinds(count, programs, maker):
+    """What is of a later or former kind of key is named as that: keys, certificates, their authorities and signatures."""
+    told = "sshkey-check: {}: a later kind of key, which is not read (61)\n"
+    ca = maker.path("sha1-authority.pub")
+    for name, line in later_lines(blob_of(maker.read("shown0-cert.pub")), blob_of(maker.read("sha1-authority.pub"))):
+        path = maker.write("later.pub", f"{line}\n")
+        for words, said in ((["--ca", ca, "--user", "alice"], "refused\n"), ([], ""), (["fingerprint"], "")):
+            ran = run([programs[1], *words, path])
+            same = (ran.returncode, ran.stdout, ran.stderr) == (INVALID, said, told.format(f"{path}:1"))
+            count.check(f"sshkey-check {' '.join(words[:1])}, a later kind: {name}", same, ran)
+    key = blob_of(maker.read("shown1.pub"))
+    for name, signer, kind in (("a key", base64.b64decode(LATER_BLOB), LATER_NAME), ("WebAuthn", key, b"webauthn-sk-ecdsa-sha2-nistp256@openssh.com")):
+        path = maker.write("armour.sig", armoured(ssh_signature(signer, string(kind) + string(b"x") * 3, SPACE.encode())))
+        ran = run([programs[1], "verify", "-k", maker.path("shown1.pub"), "-n", SPACE, "-s", path], input="a text")
+        same = (ran.returncode, ran.stdout, ran.stderr) == (INVALID, "refused\n", told.format(path))
+        count.check(f"sshkey-check verify, a later kind: {name}", same, ran)
 
 
 def check_hostile_texts(count, programs, maker):
@@ -382,6 +413,7 @@ def check_checker(count, built, made):
     programs = [f"{it}/sshkey-check" for it in (built.plain, built.sanitized)]
     check_shown(count, programs, maker)
     check_sha1(count, programs, maker)
+    check_later_kinds(count, programs, maker)
     check_verified(count, programs, maker)
     check_key_files(count, programs, maker)
     check_allowed(count, programs, maker)

@@ -15,7 +15,7 @@ from .revocation_calls import EMPTY, made_list
 from .stubs import OTHER_ABI, check_other_abi, stub_library
 
 # what is said of a line of a later kind of key
-PASSED_OVER = "a later kind of key, which is passed over"
+PASSED_OVER = "a later kind of key, which is not read"
 # the status that a program has promised
 VALID, INVALID, UNTOLD = 0, 1, 2
 SECONDS = [

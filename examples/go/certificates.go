@@ -26,7 +26,7 @@ func fingerprints(path string) ([]rafendilo.SHA256, error) {
 		return nil, fmt.Errorf("%s: %w", path, err)
 	}
 	for _, line := range laterLines {
-		why := "a later kind of key, which is passed over"
+		why := "a later kind of key, which is not read"
 		fmt.Fprintf(os.Stderr, "check: %s:%d: %s\n", path, line, why)
 	}
 	return keys, nil

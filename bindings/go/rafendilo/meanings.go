@@ -41,7 +41,7 @@ var meanings = map[Status]string{
 	57:  "from an address that is not allowed",
 	58:  "the revocation file can't be read",
 	59:  "a kind or a size of key that OpenSSH does not let in",
-	61:  "a later kind of key, which is passed over",
+	61:  "a later kind of key, which is not read",
 	62:  "another's, or others may write it",
 	70:  "not in its normal form",
 	71:  "for hosts in place of users, or for users in place of hosts",

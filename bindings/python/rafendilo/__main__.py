@@ -45,7 +45,7 @@ def checker(authorities: str, user: str, second: Optional[str] = None) -> Callab
     with open(authorities, "rb") as file:
         by = rafendilo.authorities(file.read())
     for number in by.later_lines:
-        print(f"rafendilo: {authorities}:{number}: a later kind of key, which is passed over", file=sys.stderr)
+        print(f"rafendilo: {authorities}:{number}: a later kind of key, which is not read", file=sys.stderr)
     # the bytes that stand in the command line, also where they are not UTF-8
     return lambda line: check(line, by, os.fsencode(user), now)
 

@@ -254,7 +254,7 @@ WORDS = {
     Status.ELSEWHERE: "from an address that is not allowed",
     Status.UNREADABLE_REVOCATIONS: "the revocation file can't be read",
     Status.KEY_NOT_ACCEPTED: "a kind or a size of key that OpenSSH does not let in",
-    Status.LATER_KEY: "a later kind of key, which is passed over",
+    Status.LATER_KEY: "a later kind of key, which is not read",
     Status.UNSAFE_MODE: "another's, or others may write it",
     Status.NOT_NORMAL_FORM: "not in its normal form",
     Status.OTHER_TYPE: "for hosts in place of users, or for users in place of hosts",

@@ -51,7 +51,7 @@ fn fingerprints(path: &Path) -> Result<Vec<Sha256>, Untold> {
     let text = fs::read(path).map_err(|fault| of_file(path, fault))?;
     let found = rafendilo::authorities(&text).map_err(|fault| no_key(path, fault))?;
     for line in found.later_lines {
-        let why = "a later kind of key, which is passed over";
+        let why = "a later kind of key, which is not read";
         writeln!(io::stderr(), "check: {}:{line}: {why}", path.display())?;
     }
     Ok(found.keys)

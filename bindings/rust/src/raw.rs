@@ -184,7 +184,7 @@ statuses! {
     KEY_NOT_ACCEPTED = 59, "a kind or a size of key that OpenSSH does not let in";
     /// The line has a key of a later kind, which signs nothing that is read: pass over it, and say
     /// so.
-    LATER_KEY = 61, "a later kind of key, which is passed over";
+    LATER_KEY = 61, "a later kind of key, which is not read";
     /// Another's, or others may write it.
     UNSAFE_MODE = 62, "another's, or others may write it";
     /// Its bytes are not its normal form: not those that were signed.
