@@ -47,8 +47,8 @@ MayBeEntryFor key entry = ((entry.key ≡ key) × MayBeTerms entry.options) ⊎ 
 abbrev pub IsLaterName : List ℕ → Type 0
 IsLaterName word = (word ≡ codes "webauthn-sk-ecdsa-sha2-nistp256@openssh.com") ⊎ (word ≡ codes "ssh-mldsa44-ed25519")
 
--- Some version of OpenSSH takes the key, or one of another kind, to begin with the word (sshkey.c,
--- `sshkey_read`). What begins with a certificate's name lets no key in, nor signed one.
+-- Some version of OpenSSH takes the key, or one of another kind, to begin with the word (sshkey.c).
+-- What begins with a certificate's name lets no key in, nor is it an authority.
 abbrev pub IsNameFor : Key → List ℕ → Type 0
 IsNameFor key word = (word ≡ key_name key) ⊎ IsSome (named algorithm_name algorithms word) ⊎ IsLaterName word ⊎ IsShortName word
 
