@@ -131,6 +131,8 @@ static uint32_t log_in_by(const raf_login *login, report *of, const check_reques
       login, text, host, buffer, length, &grant);
   of->by_line = grant.line;
   if (answer == RAF_DONE) report_grant(of, &grant, buffer);
+  if (answer == RAF_USER_NOT_LISTED && !asked->given[CHECK_AUTHORITIES])
+    check_find_option(asked->listing, login, host, of);
   free(buffer);
   return answer;
 }

@@ -27,12 +27,27 @@ static bool write_name(const report *of, char *buffer) {
   return true;
 }
 
+/* Writes that a line has the key, and an option that keeps sshd from reading it. */
+static bool write_option(raf_span option, char *buffer) {
+  char name[65];
+  size_t length = option.length < sizeof name ? option.length : sizeof name - 1;
+  for (size_t at = 0; at < length; at++) {
+    uint8_t byte = option.bytes[at];
+    name[at] = byte >= ' ' && byte < 0x7f ? (char)byte : '?';
+  }
+  name[length] = 0;
+  snprintf(buffer, WORDS, "it has the key, and an option that sshd does not read: %s", name);
+  return true;
+}
+
 /* Writes why it is refused, in words: more than the answer means, where more is known. */
 static void write_words(const report *of, uint32_t answer, char *buffer) {
   bool is_written = false;
   if (answer == RAF_OUT_OF_WINDOW)
     is_written = certificate_write_window(of->certificate, of->unix_timestamp, buffer, WORDS);
   if (answer == RAF_LABEL && of->is_key) is_written = write_name(of, buffer);
+  if (answer == RAF_USER_NOT_LISTED && of->option.length)
+    is_written = write_option(of->option, buffer);
   if (!is_written) snprintf(buffer, WORDS, "%s", raf_status_meaning(answer));
 }
 

@@ -12,6 +12,7 @@ typedef struct {
   size_t line;          /* its number there, from 1; 0 where the whole file is asked about */
   const char *by_path;  /* of the file with the line that lets in or refuses */
   size_t by_line;       /* 0 where no line does */
+  raf_span option;      /* for which that line is not read, or of no bytes */
   const char *message;  /* the path of what an SSH signature is asked of, or null */
   raf_blob certificate; /* what is shown, or of no bytes */
   uint64_t unix_timestamp;

@@ -42,8 +42,7 @@ uint32_t show_read_fingerprint(raf_span key, show_fingerprint *answer) {
   return raf_fingerprint_text(&digest, answer->text, sizeof answer->text);
 }
 
-/* Prints the kind of a key, its ending, and its fingerprint. */
-static uint32_t print_key(raf_span key, const char *ending) {
+uint32_t show_named_key(raf_span key, const char *ending) {
   show_fingerprint fingerprint;
   uint32_t answer = show_read_fingerprint(key, &fingerprint);
   if (answer != RAF_DONE) return answer;
@@ -73,7 +72,7 @@ uint32_t show_key(raf_span key, bool is_certified, raf_span comment) {
 static uint32_t print_certified_key(raf_blob certificate) {
   raf_blob key = {NULL, 0};
   uint32_t answer = certificate_read_key(certificate, &key);
-  if (answer == RAF_DONE) answer = print_key(raf_blob_span(key), "-CERT");
+  if (answer == RAF_DONE) answer = show_named_key(raf_blob_span(key), "-CERT");
   free(key.bytes);
   return answer;
 }
@@ -174,7 +173,7 @@ uint32_t show_certificate(raf_blob certificate, const char *signed_by) {
   answer = print_certified_key(certificate);
   if (answer != RAF_DONE) return answer;
   printf("\n        Signing CA: ");
-  answer = print_key(text_part(bytes, parts.authority), "");
+  answer = show_named_key(text_part(bytes, parts.authority), "");
   if (answer != RAF_DONE) return answer;
   printf(" (using ");
   if (signed_by)

@@ -17,6 +17,9 @@ static inline raf_span show_fingerprint_of(const show_fingerprint *it) {
   return (raf_span){it->text, sizeof it->text};
 }
 
+/* Prints the kind of a key, that ending, and its fingerprint: likewise. */
+uint32_t show_named_key(raf_span key, const char *ending);
+
 /* Prints the fingerprint of a key, its comment and its kind, as one line: likewise. */
 uint32_t show_key(raf_span key, bool is_certified, raf_span comment);
 

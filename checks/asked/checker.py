@@ -19,6 +19,7 @@ from .hosts import (
 )  # fmt: skip
 from .hosts import INVALID as INVALID_TIME
 from .checker_answers import check_answers, is_no_call
+from .git_checker import check_git
 from .login_checker import asked_of, certified, check_login_checker, granted, printed_with
 from .login_options import certificate
 from .made import MIDDLE, is_verified
@@ -392,3 +393,4 @@ def check_checker(count, built, made):
     check_refused_memory(count, built, maker)
     check_words(count, programs, maker)
     check_answers(count, programs, maker)
+    check_git(count, programs, maker)
