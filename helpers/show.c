@@ -157,7 +157,8 @@ raf_span show_algorithm(raf_blob certificate, const raf_parts *parts) {
   return text_first_string(text_first_string(rest));
 }
 
-uint32_t show_certificate(raf_blob certificate, const char *signed_by) {
+uint32_t show_certificate(raf_blob certificate, const char *signed_by,
+                          const unread_certificate *own) {
   const uint8_t *bytes = certificate.bytes;
   raf_fields fields;
   raf_parts parts;
@@ -183,10 +184,13 @@ uint32_t show_certificate(raf_blob certificate, const char *signed_by) {
   printf(")\n        Key ID: \"");
   text_print(text_part(bytes, parts.key_id));
   printf("\"\n        Serial: %" PRIu64 "\n", fields.serial);
+  if (own) fields.valid_after = own->valid_after, fields.valid_before = own->valid_before;
   print_window(&fields);
   print_principals(text_part(bytes, parts.principals));
-  print_options("Critical Options", true, text_part(bytes, parts.critical_options));
-  print_options("Extensions", false, text_part(bytes, parts.extensions));
+  const uint8_t *from = own ? own->bytes.bytes : bytes;
+  raf_part critical = own ? own->critical_options : parts.critical_options;
+  print_options("Critical Options", true, text_part(from, critical));
+  print_options("Extensions", false, text_part(from, own ? own->extensions : parts.extensions));
   return RAF_DONE;
 }
 
