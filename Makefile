@@ -145,6 +145,9 @@ MAN := $(DESTDIR)$(PREFIX)/share/man
 BASH_COMPLETIONS := $(PREFIX)/share/bash-completion/completions
 ZSH_COMPLETIONS := $(PREFIX)/share/zsh/site-functions
 COMPLETIONS := $(DESTDIR)$(BASH_COMPLETIONS)/sshkey-check $(DESTDIR)$(ZSH_COMPLETIONS)/_sshkey-check
+# what fetches revoked keys, and when: systemd looks for units below its prefix, and starts none
+UNITS := sshkey-revoked.service sshkey-revoked.timer
+SYSTEMD := $(DESTDIR)$(PREFIX)/lib/systemd/system
 # where the manual page is installed: sshkey-check.1 in man1
 INSTALLED = $(MAN)/man$(patsubst .%,%,$(suffix $(1)))/$(1)
 
@@ -161,7 +164,10 @@ install: all
 	$(foreach it,$(PACKAGES),$(FILL) -e 's|@include@|$(FROM_LIB)/include|' \
 		-e 's|@lib@|$${pcfiledir}/..|' $(ROOT)/bindings/$(it).in >$(LIB)/pkgconfig/$(it) && \
 		chmod 644 $(LIB)/pkgconfig/$(it) &&) true
-	install -m 755 $(PROGRAMS) $(BIN)
+	install -m 755 $(PROGRAMS) $(ROOT)/helpers/sshkey-revoked $(BIN)
+	install -d $(SYSTEMD)
+	$(foreach it,$(UNITS),sed 's|/usr/local/bin/|$(abspath $(PREFIX))/bin/|' $(ROOT)/helpers/$(it) \
+		>$(SYSTEMD)/$(it) && chmod 644 $(SYSTEMD)/$(it) &&) true
 	$(foreach it,$(PAGES),sed 's|/usr/local/bin|$(abspath $(PREFIX))/bin|' $(ROOT)/helpers/$(it) \
 		>$(call INSTALLED,$(it)) && chmod 644 $(call INSTALLED,$(it)) &&) true
 	install -D -m 644 $(ROOT)/helpers/sshkey-check.bash $(DESTDIR)$(BASH_COMPLETIONS)/sshkey-check
@@ -173,7 +179,7 @@ install: all
 uninstall:
 	rm -f $(INCLUDE)/rafendilo.h $(INCLUDE)/rafendilo_0_2.h $(VERIFY:%=$(INCLUDE)/rafendilo/%.h) $(LIB)/librafendilo.a \
 		$(LIB)/librafendilo-verify.a $(PACKAGES:%=$(LIB)/pkgconfig/%) $(LIB)/librafendilo.so $(LIB)/$(SONAME) $(LIB)/librafendilo.so.$(VERSION) \
-		$(addprefix $(BIN)/,$(notdir $(PROGRAMS))) $(COMPLETIONS) $(foreach it,$(PAGES),$(call INSTALLED,$(it)))
+		$(addprefix $(BIN)/,$(notdir $(PROGRAMS)) sshkey-revoked) $(UNITS:%=$(SYSTEMD)/%) $(COMPLETIONS) $(foreach it,$(PAGES),$(call INSTALLED,$(it)))
 	[ ! -d $(INCLUDE)/rafendilo ] || rmdir --ignore-fail-on-non-empty $(INCLUDE)/rafendilo
 
 clean:

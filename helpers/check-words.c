@@ -20,6 +20,7 @@
   "sshkey-check verify -f SIGNERS -I IDENTITY -n NAMESPACE -s SIGNATURE [-r REVOKED].. " \
   "[--at TIME] [--json] [FILE]"
 #define FINGERPRINT "sshkey-check fingerprint [--json] [FILE].."
+#define REVOCATIONS "sshkey-check revoked [--json] [FILE].."
 #define FIND "sshkey-check -Y find-principals -f SIGNERS -s SIGNATURE [-O verify-time=TIME]"
 #define KEYGEN                                                                           \
   "sshkey-check -Y verify -f SIGNERS -I IDENTITY -n NAMESPACE -s SIGNATURE [-r REVOKED].. " \
@@ -29,8 +30,8 @@
 
 const char check_help[] =
     "usage: " SHOW "\n       " CERTIFICATE "\n       " HOST_KEY "\n       " LOGIN
-    "\n       " VERIFY "\n       " SIGNER "\n       " FINGERPRINT "\n       " FIND
-    "\n       " KEYGEN "\n       " UNKNOWN "\n"
+    "\n       " VERIFY "\n       " SIGNER "\n       " FINGERPRINT "\n       " REVOCATIONS
+    "\n       " FIND "\n       " KEYGEN "\n       " UNKNOWN "\n"
     "\n"
     "The first shows each certificate of FILE, or of standard input, as ssh-keygen -L does. The\n"
     "second says of each whether it logs NAME in by an authority of the file, and to what, from\n"
@@ -41,8 +42,9 @@ const char check_help[] =
     "with --ca the principals of these authorities. The fifth says whether the signature of\n"
     "ssh-keygen -Y sign is one of FILE in the namespace by a key of the file KEYS, and the sixth\n"
     "whether it is the identity's by the file of allowed signers, as ssh-keygen -Y verify does.\n"
-    "The seventh shows the SHA-256 fingerprint of each key. The last are ssh-keygen's own words,\n"
-    "for git's gpg.ssh.program. With --json each answer is an object in a line.\n"
+    "The seventh shows the SHA-256 fingerprint of each key. The eighth says whether what is\n"
+    "revoked can be read. The last are ssh-keygen's own words, for git's gpg.ssh.program. With\n"
+    "--json each answer is an object in a line.\n"
     "Status 0: all is shown, or valid; 1: not all, as standard error says; 2: it can't tell.\n";
 
 /* The options as they are written, and what follows them, if anything does. */
@@ -89,6 +91,7 @@ static const struct {
     [CHECK_KEYGEN] = {"verify", ONE(SIGNERS) | ONE(IDENTITY) | OF_SIGNATURES,
                       ONE(REVOKED) | ONE(TIME), KEYGEN},
     [CHECK_UNKNOWN] = {"check-novalidate", OF_SIGNATURES, ONE(TIME), UNKNOWN},
+    [CHECK_REVOCATIONS] = {"revoked", 0, ONE(JSON), REVOCATIONS},
     [CHECK_FINGERPRINT] = {"fingerprint", 0, ONE(JSON), FINGERPRINT}};
 
 /* ---- what the words give */
@@ -159,7 +162,7 @@ static bool read_options(int count, char **words, check_request *asked) {
  * many, or too few. */
 static bool read_rest(int count, char **words, check_request *asked) {
   int left = count - optind;
-  if (asked->mode == CHECK_FINGERPRINT) {
+  if (asked->mode == CHECK_FINGERPRINT || asked->mode == CHECK_REVOCATIONS) {
     asked->paths = words + optind;
     asked->path_count = left;
     return true;
@@ -193,6 +196,7 @@ static check_mode mode_of(int count, char **words) {
   return !strcmp(words[1], "login")         ? CHECK_LOGIN
          : !strcmp(words[1], "verify")      ? CHECK_VERIFY
          : !strcmp(words[1], "fingerprint") ? CHECK_FINGERPRINT
+         : !strcmp(words[1], "revoked")     ? CHECK_REVOCATIONS
                                             : CHECK_SHOW;
 }
 

@@ -38,14 +38,15 @@ typedef enum {
   CHECK_FIND,        /* who may have made one, by such a file, in the words of ssh-keygen -Y */
   CHECK_KEYGEN,      /* whether it counts by such a file, likewise */
   CHECK_UNKNOWN,     /* whether it is one by its own key, likewise */
-  CHECK_FINGERPRINT  /* the fingerprints of keys */
+  CHECK_FINGERPRINT, /* the fingerprints of keys */
+  CHECK_REVOCATIONS  /* whether revocation files can be read */
 } check_mode;
 
 typedef struct {
   check_mode mode;
   const char *given[CHECK_OPTIONS]; /* the value of an option, null where it is not given */
   const char *path;                 /* of what is asked about; null for standard input */
-  char **paths;                     /* of files with keys, whose fingerprints are asked */
+  char **paths;                     /* of the files where several are asked about */
   int path_count;
   const char *user;  /* who logs in */
   const char *lines; /* the path of a file of authorized_keys or of principals */

@@ -12,10 +12,10 @@ _sshkey_check() {
   case ${COMP_WORDS[1]} in
     login) words="--from --ca --host --at --revoked --json" ;;
     verify) words="-k -f -I -n -s -r --at --json" ;;
-    fingerprint) words="--json" ;;
+    fingerprint|revoked) words="--json" ;;
     -Y) words="-f -I -n -s -r -O" ;;
     *) words="--ca --user --from --host --port --known-hosts --at --revoked --json --help --version"
-       [ "$COMP_CWORD" != 1 ] || words="login verify fingerprint -Y $words" ;;
+       [ "$COMP_CWORD" != 1 ] || words="login verify fingerprint revoked -Y $words" ;;
   esac
   mapfile -t COMPREPLY < <(compgen -W "$words" -- "$word"; compgen -f -- "$word")
 }

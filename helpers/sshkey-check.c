@@ -177,6 +177,17 @@ static bool read_others(check_request *asked) {
   return true;
 }
 
+/* Says whether what is revoked can be read, and returns the status. */
+static int answer_revocations(raf_blob text, const check_request *asked) {
+  report of = check_report(asked, 0);
+  uint32_t answer = program_check_revocations(raf_blob_span(text));
+  if (answer == RAF_DONE)
+    report_valid(&of);
+  else
+    report_complain(&of, answer);
+  return program_is_written() && answer == RAF_DONE ? VALID : UNTOLD;
+}
+
 /* Answers about the file of the path, and returns the status. */
 static int answer_file(check_request *asked) {
   raf_blob text = {NULL, 0};
@@ -189,8 +200,12 @@ static int answer_file(check_request *asked) {
     program_complain("%s: %s", path, strerror(errno));
   else if (!(is_signature ? raf_read_file(read, &text) : raf_read_stream(file, &text)))
     program_complain("%s: %s", read, strerror(errno));
-  else if (is_signature || !is_private(path, text))
-    status = is_signature ? check_signature(text, file, asked) : check_text(text, asked);
+  else if (is_signature)
+    status = check_signature(text, file, asked);
+  else if (asked->mode == CHECK_REVOCATIONS)
+    status = answer_revocations(text, asked);
+  else if (!is_private(path, text))
+    status = check_text(text, asked);
   free(text.bytes);
   if (asked->path && file) fclose(file);
   return status;

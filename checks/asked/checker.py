@@ -20,6 +20,7 @@ from .hosts import (
 )  # fmt: skip
 from .hosts import INVALID as INVALID_TIME
 from .checker_answers import check_answers, is_no_call
+from .fetched import check_fetched
 from .git_checker import check_git
 from .login_checker import asked_of, certified, check_login_checker, granted, printed_with
 from .login_options import certificate, pairs_of
@@ -443,3 +444,4 @@ def check_checker(count, built, made):
     check_words(count, programs, maker)
     check_answers(count, programs, maker)
     check_git(count, programs, maker)
+    check_fetched(count, programs, maker)

@@ -21,7 +21,8 @@ SHOW, FINGERPRINT = "[--json] [FILE]", "fingerprint [--json] [FILE].."
 FIND = "-Y find-principals -f SIGNERS -s SIGNATURE [-O verify-time=TIME]"
 KEYGEN = "-Y verify -f SIGNERS -I IDENTITY -n NAMESPACE -s SIGNATURE [-r REVOKED].. [-O verify-time=TIME]"
 UNKNOWN = "-Y check-novalidate -n NAMESPACE -s SIGNATURE [-O verify-time=TIME]"
-USAGES = [SHOW, CA, HOST, LOGIN, VERIFY, SIGNER, FINGERPRINT, FIND, KEYGEN, UNKNOWN]
+REVOKED = "revoked [--json] [FILE].."
+USAGES = [SHOW, CA, HOST, LOGIN, VERIFY, SIGNER, FINGERPRINT, REVOKED, FIND, KEYGEN, UNKNOWN]
 # words that ask nothing, what is said of them, and of which usage
 SLIPS = [
     ("--ca ca id", "--ca wants --user NAME", CA), ("--user x", "--user wants --ca FILE", CA), ("--from ::1", "--from wants --ca FILE", CA),
@@ -38,7 +39,7 @@ SLIPS = [
     ("verify -k a -n b -s c --at 1", "verify takes no --at", VERIFY), ("verify -f a -n b -s c", "verify wants --identity IDENTITY", SIGNER),
     ("verify -I a -n b -s c", "verify wants --signers SIGNERS", SIGNER), ("verify -z", "-z is no option", VERIFY),
     ("fingerprint --ca a b", "fingerprint takes no --ca", FINGERPRINT),
-    ("-Y find-principals -s a", "find-principals wants --signers SIGNERS", FIND), ("-Y find-principals -n a", "find-principals takes no --namespace", FIND),
+    ("revoked --revoked a b", "revoked takes no --revoked", REVOKED), ("-Y find-principals -s a", "find-principals wants --signers SIGNERS", FIND), ("-Y find-principals -n a", "find-principals takes no --namespace", FIND),
     ("-Y verify -f a -I b -n c -s d e", "e is a word too many", KEYGEN), ("-Y verify -f a -I b -n c -s d --json", "verify takes no --json", KEYGEN),
     ("-Y check-novalidate -s a", "check-novalidate wants --namespace NAMESPACE", UNKNOWN), ("-Y", "-Y is no option", SHOW),
     ("-Y sign -n git -f a b", "-Y sign is nothing that is answered here", UNKNOWN),
@@ -245,8 +246,8 @@ def check_completion(count, program):
         with open(f"{ROOT}/helpers/{name}", encoding="ascii") as file:
             text = file.read()
         told = {it for it in taken if re.search(rf"(?<![\w-]){it}(?![\w-])", text)}
-        words = {it for it in ("login", "verify", "fingerprint") if re.search(rf"\b{it}\b", text)}
-        count.check(f"{name} has each option and each word", told == taken and len(words) == 3, taken - told, words)
+        words = {it for it in ("login", "verify", "fingerprint", "revoked") if re.search(rf"\b{it}\b", text)}
+        count.check(f"{name} has each option and each word", told == taken and len(words) == 4, taken - told, words)
     for typed, wanted, other in (
         (["--k"], {"--known-hosts"}, "--keys"), (["lo"], {"login"}, "verify"), (["login", "--f"], {"--from"}, "--user"),
         (["verify", "-"], {"-k", "-f", "-I", "-n", "-s", "-r", "--at", "--json"}, "--ca"), (["fingerprint", "--"], {"--json"}, "--ca"),
