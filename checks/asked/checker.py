@@ -345,9 +345,11 @@ def check_hostile_words(count, built, made):
             wrong += [] if is_sound else [(words, ran)]
         count.check(f"{name} with sanitizers, {len(asked)} hostile keys and files", not wrong, *wrong[:2])
     shown = [line_of(data) for kind, data, _ in made.hostile if kind == "certificate"]
-    for words, told in (([], "        Type: "), (["--json"], '"verdict":"shown"'), (["fingerprint"], "SHA256:")):
+    for words, told in (([], r"^\(stdin\):(\d+):$"), (["--json"], r'"line":(\d+),"verdict":"shown"'), (["fingerprint"], "^SHA256:.*")):
         ran = run([f"{built.sanitized}/sshkey-check", *words], input="".join(f"{it}\n" for it in shown))
-        named = ran.stderr.count("sshkey-check: (stdin):") + ran.stdout.count(told)
+        # what is shown and not read is both
+        found = {it if it.isdigit() else at for at, it in enumerate(re.findall(told, ran.stdout, re.M))}
+        named = len(found | {*re.findall(r"^sshkey-check: \(stdin\):(\d+):", ran.stderr, re.M)})
         is_sound = ran.returncode == INVALID and named == len(shown) and not re.search("Sanitizer|runtime error", ran.stderr)
         count.check(f"sshkey-check {words} with sanitizers shows or names {len(shown):,} hostile certificates", is_sound, named, ran.stderr[-2000:])
 

@@ -418,6 +418,12 @@ class TimeSpan(Structure):
     _fields_ = [("first", c_uint64), ("last", c_uint64)]
 
 
+class Destination(Structure):
+    """raf_destination"""
+
+    _fields_ = [("host", Part), ("port", c_uint16)]
+
+
 class UserGrant(Structure):
     """raf_user_grant"""
 
@@ -490,6 +496,7 @@ CALLS: dict[str, tuple[Any, ...]] = {
     "raf_check_source_address": (c_char_p, c_size_t, c_char_p, c_size_t),
     "raf_check_from": (c_char_p, c_size_t, c_char_p, c_size_t, c_char_p, c_size_t),
     "raf_read_time": (c_char_p, c_size_t, POINTER(TimeSpan)),
+    "raf_host_and_port": (c_char_p, c_size_t, POINTER(Destination)),
     "raf_check_user_keys": (
         POINTER(Login), c_char_p, c_size_t, c_char_p, c_size_t, c_uint32, POINTER(c_uint8), c_size_t, POINTER(UserGrant)
     ),

@@ -8,7 +8,7 @@ from dataclasses import dataclass
 from . import _header
 from ._certificates import is_certified
 from ._header import Status
-from ._library import LIBRARY, bytes_of, done, number_of, spans_of, text_of
+from ._library import LIBRARY, bytes_of, done, number_of, parts_of, spans_of, text_of
 from ._named import names_blobs
 from ._values import BytesLike
 from ._verify import Verifier, decided, is_signature
@@ -64,6 +64,17 @@ def check_host_certificate(login: HostLogin, certificate: BytesLike, verifier: V
         done(LIBRARY.raf_check_host_certificate(ctypes.byref(asked), given, length, is_verified))
 
     decided(verdict, lambda: is_certified(given, verifier))
+
+
+def host_and_port(text: str | BytesLike) -> tuple[str, int | None]:
+    """The host and the port that a user types: `host:port`, `[host]:port`, `[host]` or a host alone, whose port is None. Without brackets
+    a text with several colons is a host alone, as an address of IPv6.
+
+    Raises Refused where something else follows a bracket or the one colon."""
+    given, answer = text_of(text), _header.Destination()
+    done(LIBRARY.raf_host_and_port(*given, ctypes.byref(answer)))
+    (host,) = parts_of(given[0], answer.host)
+    return host.decode(), answer.port or None
 
 
 def unreadable_host_line(known_hosts: BytesLike, host: str | BytesLike, port: int) -> int | None:
