@@ -50,8 +50,9 @@ CRYPTO := -lcrypto
 HEADERS := $(ROOT)/include/rafendilo.h $(wildcard $(ROOT)/helpers/*.h)
 PROGRAMS := $(OUT)/sshkey-check $(OUT)/sshkey-principals $(OUT)/sshkey-authorized-keys
 # what they are linked with, each with what it takes of it
-PARTS := $(addprefix $(OUT)/,program.o login.o login-log.o memory.o check-words.o check-lines.o check-keys.o report.o \
-	show.o text.o certificate.o sshsig.o reading.o sha1.o later.o verdict.o verify.o)
+PARTS := $(addprefix $(OUT)/,program.o login.o login-log.o memory.o check-words.o check-lines.o check-keys.o check-option.o \
+	check-signatures.o report.o \
+	show.o unread.o text.o certificate.o sshsig.o reading.o sha1.o later.o verdict.o verify.o)
 # what programs in C take of them
 VERIFY := reading sha1 later sshsig verdict verify
 PAGES := $(notdir $(wildcard $(ROOT)/helpers/*.[18]))
@@ -144,6 +145,9 @@ MAN := $(DESTDIR)$(PREFIX)/share/man
 BASH_COMPLETIONS := $(PREFIX)/share/bash-completion/completions
 ZSH_COMPLETIONS := $(PREFIX)/share/zsh/site-functions
 COMPLETIONS := $(DESTDIR)$(BASH_COMPLETIONS)/sshkey-check $(DESTDIR)$(ZSH_COMPLETIONS)/_sshkey-check
+# what fetches revoked keys, and when: systemd looks for units below its prefix, and starts none
+UNITS := sshkey-revoked.service sshkey-revoked.timer
+SYSTEMD := $(DESTDIR)$(PREFIX)/lib/systemd/system
 # where the manual page is installed: sshkey-check.1 in man1
 INSTALLED = $(MAN)/man$(patsubst .%,%,$(suffix $(1)))/$(1)
 
@@ -160,7 +164,10 @@ install: all
 	$(foreach it,$(PACKAGES),$(FILL) -e 's|@include@|$(FROM_LIB)/include|' \
 		-e 's|@lib@|$${pcfiledir}/..|' $(ROOT)/bindings/$(it).in >$(LIB)/pkgconfig/$(it) && \
 		chmod 644 $(LIB)/pkgconfig/$(it) &&) true
-	install -m 755 $(PROGRAMS) $(BIN)
+	install -m 755 $(PROGRAMS) $(ROOT)/helpers/sshkey-revoked $(BIN)
+	install -d $(SYSTEMD)
+	$(foreach it,$(UNITS),sed 's|/usr/local/bin/|$(abspath $(PREFIX))/bin/|' $(ROOT)/helpers/$(it) \
+		>$(SYSTEMD)/$(it) && chmod 644 $(SYSTEMD)/$(it) &&) true
 	$(foreach it,$(PAGES),sed 's|/usr/local/bin|$(abspath $(PREFIX))/bin|' $(ROOT)/helpers/$(it) \
 		>$(call INSTALLED,$(it)) && chmod 644 $(call INSTALLED,$(it)) &&) true
 	install -D -m 644 $(ROOT)/helpers/sshkey-check.bash $(DESTDIR)$(BASH_COMPLETIONS)/sshkey-check
@@ -172,7 +179,7 @@ install: all
 uninstall:
 	rm -f $(INCLUDE)/rafendilo.h $(INCLUDE)/rafendilo_0_2.h $(VERIFY:%=$(INCLUDE)/rafendilo/%.h) $(LIB)/librafendilo.a \
 		$(LIB)/librafendilo-verify.a $(PACKAGES:%=$(LIB)/pkgconfig/%) $(LIB)/librafendilo.so $(LIB)/$(SONAME) $(LIB)/librafendilo.so.$(VERSION) \
-		$(addprefix $(BIN)/,$(notdir $(PROGRAMS))) $(COMPLETIONS) $(foreach it,$(PAGES),$(call INSTALLED,$(it)))
+		$(addprefix $(BIN)/,$(notdir $(PROGRAMS)) sshkey-revoked) $(UNITS:%=$(SYSTEMD)/%) $(COMPLETIONS) $(foreach it,$(PAGES),$(call INSTALLED,$(it)))
 	[ ! -d $(INCLUDE)/rafendilo ] || rmdir --ignore-fail-on-non-empty $(INCLUDE)/rafendilo
 
 clean:

@@ -198,6 +198,12 @@ static void ask_time(given_call *it, const char *name) {
   if (is_done(ask(it, name, NULL))) printf(" %" PRIu64 " %" PRIu64, it->time.first, it->time.last);
 }
 
+static void ask_host_and_port(given_call *it, const char *name) {
+  if (!is_done(ask(it, name, NULL))) return;
+  say_part(" ", it->spans[0], it->destination.host);
+  printf(" %d", it->destination.port);
+}
+
 static void ask_addresses(given_call *it, const char *name) {
   printf("%" PRIu32 " ", ask(it, name, NULL));
   printf("%" PRIu32, ask(it, "check_from", NULL));
@@ -374,6 +380,7 @@ static const struct {
     {"safe-mode", ask_number, "check_safe_mode", 0},
     {"addresses", ask_addresses, "check_source_address", 3},
     {"time", ask_time, "read_time", 1},
+    {"host-and-port", ask_host_and_port, "host_and_port", 1},
     {"signer", ask_number, "check_signer", 5},
     {"unrevoked-key-by-krl", ask_number, "check_unrevoked_key_by_krl", 2},
     {"unrevoked-certificate-by-krl", ask_number, "check_unrevoked_certificate_by_krl", 2},

@@ -52,6 +52,14 @@ static uint32_t show_sha1(const char *line, size_t length, report *of) {
   return shown == RAF_DONE ? answer : shown;
 }
 
+/* Shows what a certificate says that is not read, if it can be found: that answer, or why it can't
+ * tell. */
+static uint32_t show_unread(const char *line, size_t length, uint32_t answer, report *of) {
+  uint32_t status = unread_read_line(line, length, &of->unread, &of->certificate);
+  if (status == RAF_DONE) status = report_certificate(of, answer);
+  return status == RAF_MEMORY ? status : answer;
+}
+
 /* Whether the line has a key. */
 static bool is_key_line(const char *line, size_t length) {
   raf_blob key = {NULL, 0};
@@ -68,6 +76,8 @@ static uint32_t answer_certificate(const char *line, size_t length, report *of,
   uint32_t answer = raf_read_line_blob(line, length, RAF_LINE_CERTIFICATE, &of->certificate);
   if (answer == RAF_LABEL) of->is_key = is_key_line(line, length);
   if (answer == RAF_RSA_SHA1 && is_shown) return show_sha1(line, length, of);
+  if ((answer == RAF_FORMAT || answer == RAF_TIME) && is_shown)
+    return show_unread(line, length, answer, of);
   if (answer != RAF_DONE) return answer;
   return is_shown ? report_certificate(of, answer)
                   : certificate_log_in(of->certificate, login_of(own, of->certificate, asked),
@@ -131,6 +141,8 @@ static uint32_t log_in_by(const raf_login *login, report *of, const check_reques
       login, text, host, buffer, length, &grant);
   of->by_line = grant.line;
   if (answer == RAF_DONE) report_grant(of, &grant, buffer);
+  if (answer == RAF_USER_NOT_LISTED && !asked->given[CHECK_AUTHORITIES])
+    check_find_option(asked->listing, login, host, of);
   free(buffer);
   return answer;
 }
@@ -170,8 +182,7 @@ static uint32_t answer_line(const char *line, size_t length, size_t number, void
                     : asked->mode == CHECK_LOGIN ? answer_login(line, length, &of, asked)
                                                  : answer_certificate(line, length, &of, asked);
   bool is_refused = answer != RAF_DONE && !is_untold(answer, asked->mode);
-  /* what SHA-1 signed is shown */
-  bool is_shown = asked->mode == CHECK_SHOW && answer == RAF_RSA_SHA1;
+  bool is_shown = asked->mode == CHECK_SHOW && of.certificate.length;
   asked->count++;
   if (is_refused) {
     asked->is_valid = false;
@@ -179,6 +190,7 @@ static uint32_t answer_line(const char *line, size_t length, size_t number, void
     answer = RAF_DONE;
   }
   free(of.certificate.bytes);
+  free(of.unread.bytes.bytes);
   return answer;
 }
 

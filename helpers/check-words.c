@@ -20,10 +20,18 @@
   "sshkey-check verify -f SIGNERS -I IDENTITY -n NAMESPACE -s SIGNATURE [-r REVOKED].. " \
   "[--at TIME] [--json] [FILE]"
 #define FINGERPRINT "sshkey-check fingerprint [--json] [FILE].."
+#define REVOCATIONS "sshkey-check revoked [--json] [FILE].."
+#define FIND "sshkey-check -Y find-principals -f SIGNERS -s SIGNATURE [-O verify-time=TIME]"
+#define KEYGEN                                                                           \
+  "sshkey-check -Y verify -f SIGNERS -I IDENTITY -n NAMESPACE -s SIGNATURE [-r REVOKED].. " \
+  "[-O verify-time=TIME]"
+#define UNKNOWN \
+  "sshkey-check -Y check-novalidate -n NAMESPACE -s SIGNATURE [-O verify-time=TIME]"
 
 const char check_help[] =
     "usage: " SHOW "\n       " CERTIFICATE "\n       " HOST_KEY "\n       " LOGIN
-    "\n       " VERIFY "\n       " SIGNER "\n       " FINGERPRINT "\n"
+    "\n       " VERIFY "\n       " SIGNER "\n       " FINGERPRINT "\n       " REVOCATIONS
+    "\n       " FIND "\n       " KEYGEN "\n       " UNKNOWN "\n"
     "\n"
     "The first shows each certificate of FILE, or of standard input, as ssh-keygen -L does. The\n"
     "second says of each whether it logs NAME in by an authority of the file, and to what, from\n"
@@ -34,8 +42,9 @@ const char check_help[] =
     "with --ca the principals of these authorities. The fifth says whether the signature of\n"
     "ssh-keygen -Y sign is one of FILE in the namespace by a key of the file KEYS, and the sixth\n"
     "whether it is the identity's by the file of allowed signers, as ssh-keygen -Y verify does.\n"
-    "The last shows the SHA-256 fingerprint of each key. With --json each answer is an object in\n"
-    "a line.\n"
+    "The seventh shows the SHA-256 fingerprint of each key. The eighth says whether what is\n"
+    "revoked can be read. The last are ssh-keygen's own words, for git's gpg.ssh.program. With\n"
+    "--json each answer is an object in a line.\n"
     "Status 0: all is shown, or valid; 1: not all, as standard error says; 2: it can't tell.\n";
 
 /* The options as they are written, and what follows them, if anything does. */
@@ -55,7 +64,8 @@ static const struct {
                [CHECK_SIGNATURE] = {"--signature", "SIGNATURE", 's'},
                [CHECK_REVOKED] = {"--revoked", "FILE", 'r'},
                [CHECK_AT] = {"--at", "TIME"},
-               [CHECK_JSON] = {"--json", NULL}};
+               [CHECK_JSON] = {"--json", NULL},
+               [CHECK_TIME] = {"--option", "verify-time=TIME", 'O'}};
 
 #define ONE(option) (1u << CHECK_##option)
 #define OF_SIGNATURES (ONE(NAMESPACE) | ONE(SIGNATURE))
@@ -77,9 +87,19 @@ static const struct {
     [CHECK_VERIFY] = {"verify", ONE(KEYS) | OF_SIGNATURES, ONE(JSON), VERIFY},
     [CHECK_SIGNER] = {"verify", ONE(SIGNERS) | ONE(IDENTITY) | OF_SIGNATURES,
                       ONE(REVOKED) | ONE(AT) | ONE(JSON), SIGNER},
+    [CHECK_FIND] = {"find-principals", ONE(SIGNERS) | ONE(SIGNATURE), ONE(TIME), FIND},
+    [CHECK_KEYGEN] = {"verify", ONE(SIGNERS) | ONE(IDENTITY) | OF_SIGNATURES,
+                      ONE(REVOKED) | ONE(TIME), KEYGEN},
+    [CHECK_UNKNOWN] = {"check-novalidate", OF_SIGNATURES, ONE(TIME), UNKNOWN},
+    [CHECK_REVOCATIONS] = {"revoked", 0, ONE(JSON), REVOCATIONS},
     [CHECK_FINGERPRINT] = {"fingerprint", 0, ONE(JSON), FINGERPRINT}};
 
 /* ---- what the words give */
+
+/* Whether the words are those of ssh-keygen -Y. */
+static bool is_keygen(check_mode mode) {
+  return mode == CHECK_FIND || mode == CHECK_KEYGEN || mode == CHECK_UNKNOWN;
+}
 
 /* The number by which getopt_long gives an option, and the option of a number. */
 static int number_of(int option) {
@@ -125,7 +145,9 @@ static bool read_options(int count, char **words, check_request *asked) {
                                 options[at].value ? required_argument : no_argument, NULL,
                                 number_of(at)};
   opterr = 0;
-  const char *letters = asked->mode == CHECK_VERIFY ? ":k:n:s:f:I:r:" : ":";
+  const char *letters = is_keygen(asked->mode)        ? ":n:s:f:I:r:O:"
+                        : asked->mode == CHECK_VERIFY ? ":k:n:s:f:I:r:"
+                                                      : ":";
   for (int found; (found = getopt_long(count, words, letters, longs, NULL)) != -1;) {
     if (found == '?' || found == ':') {
       complain_of_word(found, words[optind - 1]);
@@ -140,7 +162,7 @@ static bool read_options(int count, char **words, check_request *asked) {
  * many, or too few. */
 static bool read_rest(int count, char **words, check_request *asked) {
   int left = count - optind;
-  if (asked->mode == CHECK_FINGERPRINT) {
+  if (asked->mode == CHECK_FINGERPRINT || asked->mode == CHECK_REVOCATIONS) {
     asked->paths = words + optind;
     asked->path_count = left;
     return true;
@@ -153,8 +175,9 @@ static bool read_rest(int count, char **words, check_request *asked) {
     program_complain("login wants FILE NAME KEY");
     return false;
   }
-  if (left > 1) {
-    program_complain("%s is a word too many", words[optind + 1]);
+  int most = is_keygen(asked->mode) ? 0 : 1;
+  if (left > most) {
+    program_complain("%s is a word too many", words[optind + most]);
     return false;
   }
   if (left && strcmp(words[optind], "-")) asked->path = words[optind];
@@ -166,9 +189,14 @@ static bool read_rest(int count, char **words, check_request *asked) {
 /* What the first word says that is asked. */
 static check_mode mode_of(int count, char **words) {
   if (count < 2) return CHECK_SHOW;
+  if (!strcmp(words[1], "-Y") && count > 2)
+    return !strcmp(words[2], "find-principals") ? CHECK_FIND
+           : !strcmp(words[2], "verify")        ? CHECK_KEYGEN
+                                                : CHECK_UNKNOWN;
   return !strcmp(words[1], "login")         ? CHECK_LOGIN
          : !strcmp(words[1], "verify")      ? CHECK_VERIFY
          : !strcmp(words[1], "fingerprint") ? CHECK_FINGERPRINT
+         : !strcmp(words[1], "revoked")     ? CHECK_REVOCATIONS
                                             : CHECK_SHOW;
 }
 
@@ -221,8 +249,10 @@ static bool has_needed(const check_request *asked) {
 
 bool check_read_words(int count, char **words, check_request *asked) {
   asked->mode = mode_of(count, words);
-  optind = asked->mode == CHECK_SHOW ? 1 : 2;
-  bool is_read = read_options(count, words, asked);
+  optind = asked->mode == CHECK_SHOW ? 1 : is_keygen(asked->mode) ? 3 : 2;
+  bool is_read = asked->mode != CHECK_UNKNOWN || !strcmp(words[2], questions[CHECK_UNKNOWN].name);
+  if (!is_read) program_complain("-Y %s is nothing that is answered here", words[2]);
+  is_read = is_read && read_options(count, words, asked);
   asked->mode = mode_by_options(asked);
   is_read = is_read && read_rest(count, words, asked) && has_no_other(asked);
   is_read = is_read && has_needed(asked);

@@ -23,6 +23,7 @@ typedef enum {
   CHECK_REVOKED,
   CHECK_AT,
   CHECK_JSON,
+  CHECK_TIME,
   CHECK_OPTIONS
 } check_option;
 
@@ -34,14 +35,18 @@ typedef enum {
   CHECK_LOGIN,       /* whether a key or a certificate logs a user in by a file */
   CHECK_VERIFY,      /* whether an SSH signature counts by keys */
   CHECK_SIGNER,      /* whether it does by a file of allowed signers */
-  CHECK_FINGERPRINT  /* the fingerprints of keys */
+  CHECK_FIND,        /* who may have made one, by such a file, in the words of ssh-keygen -Y */
+  CHECK_KEYGEN,      /* whether it counts by such a file, likewise */
+  CHECK_UNKNOWN,     /* whether it is one by its own key, likewise */
+  CHECK_FINGERPRINT, /* the fingerprints of keys */
+  CHECK_REVOCATIONS  /* whether revocation files can be read */
 } check_mode;
 
 typedef struct {
   check_mode mode;
   const char *given[CHECK_OPTIONS]; /* the value of an option, null where it is not given */
   const char *path;                 /* of what is asked about; null for standard input */
-  char **paths;                     /* of files with keys, whose fingerprints are asked */
+  char **paths;                     /* of the files where several are asked about */
   int path_count;
   const char *user;  /* who logs in */
   const char *lines; /* the path of a file of authorized_keys or of principals */
@@ -71,6 +76,10 @@ report check_report(const check_request *asked, size_t number);
 /* Answers what is asked about each line of the text, and returns the program's status. */
 int check_text(raf_blob text, check_request *asked);
 
+/* Answers what is asked about the SSH signature in the armour of the text, of what is left of the
+ * file, and returns the program's status. */
+int check_signature(raf_blob text, FILE *file, const check_request *asked);
+
 /* Reads the certificate of a line, or else its key, which it says: RAF_DONE, or why there is
  * none. */
 uint32_t check_read_shown(const char *line, size_t length, raf_blob *shown,
@@ -78,5 +87,9 @@ uint32_t check_read_shown(const char *line, size_t length, raf_blob *shown,
 
 /* Shows the fingerprint of the key of a line: RAF_DONE, or why it can't tell. */
 program_line check_fingerprint;
+
+/* Tells the report of the first line of authorized_keys that has the login's key, or that of its
+ * certificate's authority, and an option that sshd does not read, where no line lets it in. */
+void check_find_option(raf_blob text, const raf_login *login, raf_span host, report *of);
 
 #endif

@@ -261,12 +261,10 @@ bool login_read_revoked(login_request *asked) {
 /* ---- what is checked before a login is */
 
 bool login_check_revoked(const login_request *asked) {
-  /* some key: nothing is asked but whether the files can be read */
-  static const uint8_t key[51] = "\0\0\0\13ssh-ed25519\0\0\0\40";
   bool is_read = true;
   for (size_t at = 0; at < asked->revoked.count; at++) {
-    uint32_t answer = raf_check_unrevoked_key(&asked->revoked.texts[at], 1, key, sizeof key);
-    if (answer == RAF_DONE || answer == RAF_REVOKED) continue;
+    uint32_t answer = program_check_revocations(asked->revoked.texts[at]);
+    if (answer == RAF_DONE) continue;
     login_complain(asked, "%s: %s", asked->revoked.paths[at], raf_status_meaning(answer));
     is_read = false;
   }

@@ -51,6 +51,9 @@ bool program_add_path(program_files *to, const char *path);
 raf_spans program_texts(const program_files *files);
 raf_spans program_revocations(const program_files *files);
 
+/* Whether what is asked about revocations can read what a file has: RAF_DONE, or why not. */
+uint32_t program_check_revocations(raf_span text);
+
 /* Gives their memory back. */
 void program_forget(program_files *files);
 

@@ -27,12 +27,46 @@ static bool write_name(const report *of, char *buffer) {
   return true;
 }
 
+/* Writes those words, and the name of an option, which may have any bytes. */
+static bool write_option(const char *said, raf_span option, char *buffer) {
+  char name[65];
+  size_t length = option.length < sizeof name ? option.length : sizeof name - 1;
+  for (size_t at = 0; at < length; at++) {
+    uint8_t byte = option.bytes[at];
+    name[at] = byte >= ' ' && byte < 0x7f ? (char)byte : '?';
+  }
+  name[length] = 0;
+  snprintf(buffer, WORDS, "%s: %s", said, name);
+  return true;
+}
+
+/* What the certificate is whose readable one is shown; null where that is its own. */
+static const unread_certificate *unread_of(const report *of) {
+  return of->unread.bytes.length ? &of->unread : NULL;
+}
+
+/* Writes which option keeps a certificate from being read, if one does. */
+static bool write_unread(const report *of, char *buffer) {
+  const unread_certificate *it = unread_of(of);
+  bool is_twice = false;
+  if (!it) return false;
+  raf_span option = unread_option(text_part(it->bytes.bytes, it->critical_options), &is_twice);
+  if (!option.length)
+    option = unread_option(text_part(it->bytes.bytes, it->extensions), &is_twice);
+  return option.length && write_option(is_twice ? "an option that stands there twice"
+                                                : "an option out of order", option, buffer);
+}
+
 /* Writes why it is refused, in words: more than the answer means, where more is known. */
 static void write_words(const report *of, uint32_t answer, char *buffer) {
   bool is_written = false;
   if (answer == RAF_OUT_OF_WINDOW)
     is_written = certificate_write_window(of->certificate, of->unix_timestamp, buffer, WORDS);
   if (answer == RAF_LABEL && of->is_key) is_written = write_name(of, buffer);
+  if (answer == RAF_USER_NOT_LISTED && of->option.length)
+    is_written = write_option("it has the key, and an option that sshd does not read",
+                              of->option, buffer);
+  if (answer == RAF_FORMAT) is_written = write_unread(of, buffer);
   if (!is_written) snprintf(buffer, WORDS, "%s", raf_status_meaning(answer));
 }
 
@@ -166,7 +200,8 @@ static void begin_verdict(const report *of, uint32_t answer) {
 }
 
 /* Prints which certificate it is, if there is one. */
-static void print_identity(raf_blob certificate) {
+static void print_identity(const report *of) {
+  raf_blob certificate = of->certificate;
   raf_fields fields;
   raf_parts parts;
   memset(&fields, 0, sizeof fields);
@@ -178,8 +213,9 @@ static void print_identity(raf_blob certificate) {
   json_text("key_id", text_part(bytes, parts.key_id));
   json_number("serial", fields.serial);
   print_fingerprint("authority", text_part(bytes, parts.authority));
-  json_number("valid_after", fields.valid_after);
-  print_second("valid_before", fields.valid_before);
+  const unread_certificate *own = unread_of(of);
+  json_number("valid_after", own ? own->valid_after : fields.valid_after);
+  print_second("valid_before", own ? own->valid_before : fields.valid_before);
 }
 
 /* Prints what a login may do by a certificate or a line. */
@@ -220,7 +256,7 @@ static void print_tunnel(const raf_user_grant *grant) {
 void report_valid(const report *of) {
   if (of->is_json) {
     begin_verdict(of, RAF_DONE);
-    print_identity(of->certificate);
+    print_identity(of);
     json_end();
   } else {
     puts("valid");
@@ -230,7 +266,7 @@ void report_valid(const report *of) {
 void report_certified(const report *of, const raf_grant *grant, const uint8_t *buffer) {
   if (of->is_json) {
     begin_verdict(of, RAF_DONE);
-    print_identity(of->certificate);
+    print_identity(of);
     print_permitted(grant, buffer);
     json_end();
   } else {
@@ -247,7 +283,7 @@ void report_grant(const report *of, const raf_user_grant *grant, const uint8_t *
     return;
   }
   begin_verdict(of, RAF_DONE);
-  print_identity(of->certificate);
+  print_identity(of);
   print_permitted(&grant->grant, buffer);
   print_forwards("forwards_to", permits, RAF_PERMIT_OPEN_ANYWHERE,
                  text_part(buffer, grant->permit_open));
@@ -263,7 +299,7 @@ void report_grant(const report *of, const raf_user_grant *grant, const uint8_t *
 void report_refused(const report *of, uint32_t answer) {
   if (of->is_json) {
     begin_verdict(of, answer);
-    print_identity(of->certificate);
+    print_identity(of);
     json_end();
   } else if (of->is_verdict) {
     puts("refused");
@@ -290,7 +326,7 @@ uint32_t report_certificate(const report *of, uint32_t said) {
   memset(&parts, 0, sizeof parts);
   if (!of->is_json) {
     print_heading(of);
-    return show_certificate(certificate, signed_by);
+    return show_certificate(certificate, signed_by, unread_of(of));
   }
   const uint8_t *bytes = certificate.bytes;
   uint32_t answer = raf_certificate_fields(bytes, certificate.length, &fields);
@@ -301,7 +337,7 @@ uint32_t report_certificate(const report *of, uint32_t said) {
     begin(of, "shown");
   else
     begin_verdict(of, said);
-  print_identity(certificate);
+  print_identity(of);
   json_text("type", text_first_string(raf_blob_span(certificate)));
   json_words("certificate_type", fields.certificate_type == RAF_USER ? "user" : "host");
   print_fingerprint("public_key", raf_blob_span(key));
@@ -310,8 +346,11 @@ uint32_t report_certificate(const report *of, uint32_t said) {
   else
     json_text("signed_by", show_algorithm(certificate, &parts));
   print_strings("principals", text_part(bytes, parts.principals));
-  print_options("critical_options", text_part(bytes, parts.critical_options));
-  print_options("extensions", text_part(bytes, parts.extensions));
+  const unread_certificate *own = unread_of(of);
+  print_options("critical_options", own ? text_part(own->bytes.bytes, own->critical_options)
+                                        : text_part(bytes, parts.critical_options));
+  print_options("extensions", own ? text_part(own->bytes.bytes, own->extensions)
+                                  : text_part(bytes, parts.extensions));
   json_end();
   free(key.bytes);
   return RAF_DONE;

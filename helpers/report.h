@@ -3,6 +3,7 @@
 #ifndef REPORT_H
 #define REPORT_H
 #include "reading.h"
+#include "unread.h"
 
 /* The path that stands for standard input. */
 #define REPORT_INPUT "(stdin)"
@@ -12,8 +13,10 @@ typedef struct {
   size_t line;          /* its number there, from 1; 0 where the whole file is asked about */
   const char *by_path;  /* of the file with the line that lets in or refuses */
   size_t by_line;       /* 0 where no line does */
+  raf_span option;      /* for which that line is not read, or of no bytes */
   const char *message;  /* the path of what an SSH signature is asked of, or null */
   raf_blob certificate; /* what is shown, or of no bytes */
+  unread_certificate unread; /* of which that is the readable one, where it has bytes */
   uint64_t unix_timestamp;
   bool is_key;     /* a key stands there, where a certificate is wanted */
   bool is_verdict; /* `refused` is said of what is */

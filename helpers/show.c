@@ -42,8 +42,7 @@ uint32_t show_read_fingerprint(raf_span key, show_fingerprint *answer) {
   return raf_fingerprint_text(&digest, answer->text, sizeof answer->text);
 }
 
-/* Prints the kind of a key, its ending, and its fingerprint. */
-static uint32_t print_key(raf_span key, const char *ending) {
+uint32_t show_named_key(raf_span key, const char *ending) {
   show_fingerprint fingerprint;
   uint32_t answer = show_read_fingerprint(key, &fingerprint);
   if (answer != RAF_DONE) return answer;
@@ -73,7 +72,7 @@ uint32_t show_key(raf_span key, bool is_certified, raf_span comment) {
 static uint32_t print_certified_key(raf_blob certificate) {
   raf_blob key = {NULL, 0};
   uint32_t answer = certificate_read_key(certificate, &key);
-  if (answer == RAF_DONE) answer = print_key(raf_blob_span(key), "-CERT");
+  if (answer == RAF_DONE) answer = show_named_key(raf_blob_span(key), "-CERT");
   free(key.bytes);
   return answer;
 }
@@ -158,7 +157,8 @@ raf_span show_algorithm(raf_blob certificate, const raf_parts *parts) {
   return text_first_string(text_first_string(rest));
 }
 
-uint32_t show_certificate(raf_blob certificate, const char *signed_by) {
+uint32_t show_certificate(raf_blob certificate, const char *signed_by,
+                          const unread_certificate *own) {
   const uint8_t *bytes = certificate.bytes;
   raf_fields fields;
   raf_parts parts;
@@ -174,7 +174,7 @@ uint32_t show_certificate(raf_blob certificate, const char *signed_by) {
   answer = print_certified_key(certificate);
   if (answer != RAF_DONE) return answer;
   printf("\n        Signing CA: ");
-  answer = print_key(text_part(bytes, parts.authority), "");
+  answer = show_named_key(text_part(bytes, parts.authority), "");
   if (answer != RAF_DONE) return answer;
   printf(" (using ");
   if (signed_by)
@@ -184,10 +184,13 @@ uint32_t show_certificate(raf_blob certificate, const char *signed_by) {
   printf(")\n        Key ID: \"");
   text_print(text_part(bytes, parts.key_id));
   printf("\"\n        Serial: %" PRIu64 "\n", fields.serial);
+  if (own) fields.valid_after = own->valid_after, fields.valid_before = own->valid_before;
   print_window(&fields);
   print_principals(text_part(bytes, parts.principals));
-  print_options("Critical Options", true, text_part(bytes, parts.critical_options));
-  print_options("Extensions", false, text_part(bytes, parts.extensions));
+  const uint8_t *from = own ? own->bytes.bytes : bytes;
+  raf_part critical = own ? own->critical_options : parts.critical_options;
+  print_options("Critical Options", true, text_part(from, critical));
+  print_options("Extensions", false, text_part(from, own ? own->extensions : parts.extensions));
   return RAF_DONE;
 }
 

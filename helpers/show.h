@@ -3,6 +3,7 @@
 #ifndef SHOW_H
 #define SHOW_H
 #include "reading.h"
+#include "unread.h"
 
 /* The device of tun(4) by which a grant is bound to no one device. */
 #define SHOW_ANY_DEVICE 0x7fffffff
@@ -17,12 +18,17 @@ static inline raf_span show_fingerprint_of(const show_fingerprint *it) {
   return (raf_span){it->text, sizeof it->text};
 }
 
+/* Prints the kind of a key, that ending, and its fingerprint: likewise. */
+uint32_t show_named_key(raf_span key, const char *ending);
+
 /* Prints the fingerprint of a key, its comment and its kind, as one line: likewise. */
 uint32_t show_key(raf_span key, bool is_certified, raf_span comment);
 
 /* Prints what a certificate says, if it is one: RAF_DONE, or why it is none. It is shown as
- * signed by the algorithm of that name, or, where that is null, by the one in it. */
-uint32_t show_certificate(raf_blob certificate, const char *signed_by);
+ * signed by the algorithm of that name, or, where that is null, by the one in it. It may be the
+ * readable one of another, which is shown, or of null. */
+uint32_t show_certificate(raf_blob certificate, const char *signed_by,
+                          const unread_certificate *own);
 
 /* The name of the algorithm by which the certificate is signed: its last string begins with it. */
 raf_span show_algorithm(raf_blob certificate, const raf_parts *parts);

@@ -6,14 +6,16 @@ _sshkey_check() {
       mapfile -t COMPREPLY < <(compgen -f -- "$word"); return ;;
     --user) mapfile -t COMPREPLY < <(compgen -u -- "$word"); return ;;
     --host) mapfile -t COMPREPLY < <(compgen -A hostname -- "$word"); return ;;
-    --at|--from|--port|--identity|--namespace|-[In]) COMPREPLY=(); return ;;
+    --at|--from|--port|--identity|--namespace|-[InO]) COMPREPLY=(); return ;;
+    -Y) mapfile -t COMPREPLY < <(compgen -W "find-principals verify check-novalidate" -- "$word"); return ;;
   esac
   case ${COMP_WORDS[1]} in
     login) words="--from --ca --host --at --revoked --json" ;;
     verify) words="-k -f -I -n -s -r --at --json" ;;
-    fingerprint) words="--json" ;;
+    fingerprint|revoked) words="--json" ;;
+    -Y) words="-f -I -n -s -r -O" ;;
     *) words="--ca --user --from --host --port --known-hosts --at --revoked --json --help --version"
-       [ "$COMP_CWORD" != 1 ] || words="login verify fingerprint $words" ;;
+       [ "$COMP_CWORD" != 1 ] || words="login verify fingerprint revoked -Y $words" ;;
   esac
   mapfile -t COMPREPLY < <(compgen -W "$words" -- "$word"; compgen -f -- "$word")
 }

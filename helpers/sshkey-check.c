@@ -6,55 +6,9 @@
 #include <string.h>
 
 #include "check.h"
-#include "verify.h"
 
 const char program_name[] = "sshkey-check";
 const int program_untold = UNTOLD;
-
-/* ---- SSH signatures */
-
-/* Says whether the signature counts for what is left of the file, and returns the status. */
-static int verify_file(raf_blob signature, FILE *file, const check_request *asked) {
-  uint8_t bytes[64];
-  raf_blob digest = {bytes, raf_sshsig_digest_length(signature)};
-  const char *name_space = asked->given[CHECK_NAMESPACE];
-  report of = check_report(asked, 0);
-  of.message = of.path;
-  of.path = asked->given[CHECK_SIGNATURE];
-  /* what names no hash is refused, whatever the digest is */
-  if (!digest.length) digest.length = 32;
-  if (!raf_digest_stream(file, digest.bytes, digest.length)) {
-    program_complain("%s: %s", of.message, strerror(errno));
-    return UNTOLD;
-  }
-  uint32_t answer = asked->mode == CHECK_SIGNER
-                        ? raf_verify_signer_of_digest(signature, name_space, digest, &asked->allowed)
-                        : raf_verify_sshsig_of_digest(signature, name_space, digest, asked->by);
-  if (check_can_not_tell(answer)) {
-    report_complain(&of, answer);
-    return UNTOLD;
-  }
-  if (answer == RAF_DONE)
-    report_valid(&of);
-  else
-    report_refused(&of, answer);
-  if (!program_is_written()) return UNTOLD;
-  return answer == RAF_DONE ? VALID : INVALID;
-}
-
-/* The same of the signature in the armour of the text. */
-static int verify_text(raf_blob text, FILE *file, const check_request *asked) {
-  raf_blob signature = {NULL, 0};
-  uint32_t answer = raf_read_armour(text, &signature);
-  if (answer != RAF_DONE) {
-    program_complain("%s: %s", asked->given[CHECK_SIGNATURE],
-                     answer == RAF_MEMORY ? raf_status_meaning(answer) : "no SSH signature");
-    return UNTOLD;
-  }
-  int status = verify_file(signature, file, asked);
-  free(signature.bytes);
-  return status;
-}
 
 /* ---- keys that count */
 
@@ -139,9 +93,29 @@ static bool read_files(program_files *files, bool may_be_empty) {
   return true;
 }
 
-/* Reads a second since 1970, or a date of one second, likewise. ssh-keygen takes 12 and 14 digits
- * for a date. */
-static bool read_second(const char *word, uint64_t *answer) {
+/* The second at which a clock of the machine's zone shows the date of digits; false where it does
+ * never, or twice. */
+static bool read_local(const char *word, uint64_t *answer) {
+  time_t found = -1;
+  int count = 0;
+  for (int is_summer = 0; is_summer < 2; is_summer++) {
+    struct tm date = {.tm_isdst = is_summer}, shown;
+    sscanf(word, "%4d%2d%2d%2d%2d%2d", &date.tm_year, &date.tm_mon, &date.tm_mday, &date.tm_hour,
+           &date.tm_min, &date.tm_sec);
+    date.tm_year -= 1900, date.tm_mon--;
+    int day = date.tm_mday, hour = date.tm_hour, minute = date.tm_min;
+    time_t second = mktime(&date);
+    bool is_shown = second >= 0 && localtime_r(&second, &shown) && shown.tm_mday == day &&
+                    shown.tm_hour == hour && shown.tm_min == minute;
+    if (is_shown && second != found) count++, found = second;
+  }
+  *answer = (uint64_t)found;
+  return count == 1;
+}
+
+/* Reads a second since 1970, or a date of one second, likewise: without Z one of the machine's zone
+ * as git writes it, if `is_local`. ssh-keygen takes 12 and 14 digits for a date. */
+static bool read_second(const char *word, bool is_local, uint64_t *answer) {
   raf_time_span span = {0, 0};
   size_t length = strlen(word);
   bool has_length = length == 8 || length == 12 || length == 14; /* of a date */
@@ -149,7 +123,17 @@ static bool read_second(const char *word, uint64_t *answer) {
   bool is_date = raf_read_time((const uint8_t *)word, length, &span) == RAF_DONE;
   *answer = span.first;
   if (is_date && span.first == span.last) return true;
+  if (is_date && is_local && read_local(word, answer)) return true;
   program_complain(is_date ? "%s has no zone: write a Z after it" : "%s is no time", word);
+  return false;
+}
+
+/* Reads an option of ssh-keygen -Y, likewise: verify-time, and no other. */
+static bool read_verify_time(const char *word, uint64_t *answer) {
+  static const char name[] = "verify-time=";
+  if (!strncmp(word, name, sizeof name - 1))
+    return read_second(word + sizeof name - 1, true, answer);
+  program_complain("-O takes verify-time=TIME alone");
   return false;
 }
 
@@ -165,9 +149,10 @@ static bool read_address(const char *word, check_request *asked) {
 /* Reads the numbers of the words; false, with a word to standard error, where one is none. */
 static bool read_numbers(check_request *asked) {
   const char *at = asked->given[CHECK_AT], *from = asked->given[CHECK_FROM];
-  const char *port = asked->given[CHECK_PORT];
+  const char *port = asked->given[CHECK_PORT], *time = asked->given[CHECK_TIME];
   asked->port_number = 22;
-  if (at && !read_second(at, &asked->second)) return false;
+  if (at && !read_second(at, false, &asked->second)) return false;
+  if (time && !read_verify_time(time, &asked->second)) return false;
   if (from && !read_address(from, asked)) return false;
   if (!port) return true;
   if (program_read_number(port, &asked->port_number) && asked->port_number <= UINT16_MAX)
@@ -192,10 +177,21 @@ static bool read_others(check_request *asked) {
   return true;
 }
 
+/* Says whether what is revoked can be read, and returns the status. */
+static int answer_revocations(raf_blob text, const check_request *asked) {
+  report of = check_report(asked, 0);
+  uint32_t answer = program_check_revocations(raf_blob_span(text));
+  if (answer == RAF_DONE)
+    report_valid(&of);
+  else
+    report_complain(&of, answer);
+  return program_is_written() && answer == RAF_DONE ? VALID : UNTOLD;
+}
+
 /* Answers about the file of the path, and returns the status. */
 static int answer_file(check_request *asked) {
   raf_blob text = {NULL, 0};
-  bool is_signature = asked->mode == CHECK_VERIFY || asked->mode == CHECK_SIGNER;
+  bool is_signature = asked->given[CHECK_SIGNATURE] != NULL;
   const char *path = asked->path ? asked->path : REPORT_INPUT;
   const char *read = is_signature ? asked->given[CHECK_SIGNATURE] : path;
   FILE *file = asked->path ? fopen(asked->path, "rb") : stdin;
@@ -204,8 +200,12 @@ static int answer_file(check_request *asked) {
     program_complain("%s: %s", path, strerror(errno));
   else if (!(is_signature ? raf_read_file(read, &text) : raf_read_stream(file, &text)))
     program_complain("%s: %s", read, strerror(errno));
-  else if (is_signature || !is_private(path, text))
-    status = is_signature ? verify_text(text, file, asked) : check_text(text, asked);
+  else if (is_signature)
+    status = check_signature(text, file, asked);
+  else if (asked->mode == CHECK_REVOCATIONS)
+    status = answer_revocations(text, asked);
+  else if (!is_private(path, text))
+    status = check_text(text, asked);
   free(text.bytes);
   if (asked->path && file) fclose(file);
   return status;

@@ -53,6 +53,7 @@ them: FILES, which are revocation files, and TEXTS), numbers and names:
     options TEXT                                             0 NAME=VALUE, or NAME where there is none, ..
     addresses LIST ADDRESS HOST                              NUMBER NUMBER: of the list as source-address, and as from
     time TEXT                                                0 FIRST LAST
+    host-and-port TEXT                                       0 HOST PORT, 0 where none stands there
 
 and a package also
 
@@ -278,6 +279,10 @@ class Answers(VerdictAnswers):
 
     def time(self, text):
         return ["0", *map(str, self.rafendilo.read_time(data_of(text)))]
+
+    def host_and_port(self, text):
+        host, port = self.rafendilo.host_and_port(data_of(text))
+        return ["0", word(host.encode()), str(port or 0)]
 
 
 # ---- how the answers are judged

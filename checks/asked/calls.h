@@ -34,6 +34,7 @@ typedef struct {
   raf_grant grant;
   raf_user_grant user_grant;
   raf_time_span time;
+  raf_destination destination;
 } given_call;
 
 /* The structs that calls are given. */
@@ -109,7 +110,8 @@ typedef struct {
   CALL(check_safe_mode, it->numbers[0], it->numbers[1], (uint32_t)it->numbers[2])                \
   CALL(check_source_address, BYTES(0), BYTES(1))                                                 \
   CALL(check_from, BYTES(0), BYTES(2), BYTES(1))                                                 \
-  CALL(read_time, BYTES(0), &it->time)
+  CALL(read_time, BYTES(0), &it->time)                                                           \
+  CALL(host_and_port, BYTES(0), &it->destination)
 
 static uint32_t call_by_name(given_call *it, const given_structs *given) {
 #define CALL(call, ...)                                                                          \

@@ -3,6 +3,7 @@ from lib.harness import string
 
 from .address_calls import check_addresses
 from .certificate_calls import check_certificates
+from .destination_calls import check_destinations
 from .digest_calls import check_digests
 from .entry_calls import check_entry_calls
 from .host_calls import check_hosts
@@ -132,5 +133,6 @@ def check_calls(judge, is_short=False):
     check_trust(judge)
     check_addresses(judge)
     check_times(judge)
+    check_destinations(judge)
     check_newer(judge)
     check_verified(judge)

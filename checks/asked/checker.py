@@ -1,6 +1,7 @@
 """helpers/sshkey-check, for checks/foreign: what it shows of a certificate against `ssh-keygen -L`, whether certificates are valid
 against check.py, and whether signatures are against `ssh-keygen -Y verify`."""
 import base64
+import json
 import os
 import random
 import re
@@ -20,8 +21,10 @@ from .hosts import (
 )  # fmt: skip
 from .hosts import INVALID as INVALID_TIME
 from .checker_answers import check_answers, is_no_call
+from .fetched import check_fetched
+from .git_checker import check_git
 from .login_checker import asked_of, certified, check_login_checker, granted, printed_with
-from .login_options import certificate
+from .login_options import certificate, pairs_of
 from .made import MIDDLE, is_verified
 
 KINDS = ("ed25519", "ecdsa -b 256", "ecdsa -b 384", "ecdsa -b 521", "rsa -b 2048")
@@ -146,6 +149,53 @@ def check_later_kinds(count, programs, maker):
         ran = run([programs[1], "verify", "-k", maker.path("shown1.pub"), "-n", SPACE, "-s", path], input="a text")
         same = (ran.returncode, ran.stdout, ran.stderr) == (INVALID, "refused\n", told.format(path))
         count.check(f"sshkey-check verify, a later kind: {name}", same, ran)
+
+
+# options and windows of certificates that are not read, and why
+UNREAD_ONES = [
+    ("an option twice", {}, [("permit-pty", b""), ("permit-pty", b"")], None, "an option that stands there twice: permit-pty (15)"),
+    ("an option out of order", {}, [("b@x", string(b"1")), ("a@x", b"")], None, "an option out of order: a@x (15)"),
+    ("a longer name before its beginning", [("force-command", string(b"x")), ("force", string(b"y"))], {}, None, "an option out of order: force (15)"),
+    ("an option twice and one out of order", {"verify-required": b""}, [("b", b""), ("b", b""), ("a", b"")], None,
+     "an option that stands there twice: b (15)"),
+    ("an option twice that would be a terminal's command", {}, [("\x1b[2J", b"")] * 2, None, "an option that stands there twice: ?[2J (15)"),
+    ("an end that is too late", {}, {"permit-pty": b""}, (0, 2**63), "a time above 2^63 - 1 (19)"),
+    ("a beginning that is too late", {}, {}, (2**63, 2**64 - 1), "a time above 2^63 - 1 (19)"),
+    ("a window that is too late", {"force-command": string(b"x")}, {}, (2**64 - 2, 2**64 - 2), "a time above 2^63 - 1 (19)"),
+]  # fmt: skip
+
+
+def check_unread(count, programs, maker):
+    """A certificate with an option twice or out of order, or a time above 2^63 - 1, is shown as ssh-keygen shows it, and what is wrong with
+    it is said; it is valid for nobody."""
+    for at in range(len(KINDS)):
+        for name, critical, extensions, window, told in UNREAD_ONES[:: 1 if at == 0 else 5]:
+            line = certificate(maker, f"shower{at}", maker.read(f"shown{at}.pub"), string(b"alice"), critical, extensions, window=window)
+            path = maker.write("unread", f"{line} a comment\n")
+            wanted = run(["ssh-keygen", "-L", "-f", path]).stdout
+            said = f"sshkey-check: {path}:1: {told}\n"
+            for program in programs:
+                ran = run([program, path])
+                same = (ran.returncode, ran.stderr, late(ran.stdout)) == (INVALID, said, late(wanted))
+                count.check(f"sshkey-check shows a certificate of {KINDS[at]} with {name}", same, ran, wanted)
+                ran = run([program, "--ca", maker.path(f"shower{at}.pub"), "--user", "alice", path])
+                count.check("and it is valid for nobody", (ran.returncode, ran.stdout) == (INVALID, "refused\n"), ran)
+                (found,) = map(json.loads, run([program, "--json", path]).stdout.splitlines())
+                first, end = window or (found["valid_after"], found["valid_before"])
+                same = (found["valid_after"], found["valid_before"]) == (first, None if end == 2**64 - 1 else end) and found["verdict"] == "refused"
+                same = same and [it["name"] for it in found["extensions"]] == [it[0] for it in pairs_of(extensions)] and told.startswith(found["meaning"])
+                count.check("and as an object with all that it says", same, found)
+    blob = blob_of(certificate(maker, "shower0", maker.read("shown0.pub"), string(b"alice"), {}, [("a", b"")] * 2))
+    lines = [line_of(it) for it in (*(blob[:at] for at in range(40, len(blob), 3)), *turned(blob)[40::2])]
+    ran = run([programs[1]], input="".join(f"{it}\n" for it in lines))
+    named = ran.stderr.count("sshkey-check: (stdin):")
+    is_sound = ran.returncode == INVALID and named == len(lines) and 0 < ran.stderr.count("twice") < named
+    count.check(f"sshkey-check names each of {len(lines)} such certificates that are cut or turned", is_sound, ran.stderr[-2000:])
+
+
+def late(shown):
+    """What is shown, without seconds above 2^63 - 1, in place of which ssh-keygen shows whatever lies in its memory."""
+    return re.sub(r"(?<= )(second \d{19,20}|-?\d+-\d\d-\d\dT\d\d:\d\d:\d\d)", "TIME", shown).replace("\x1b", "\\033")
 
 
 def check_hostile_texts(count, programs, maker):
@@ -326,9 +376,11 @@ def check_hostile_words(count, built, made):
             wrong += [] if is_sound else [(words, ran)]
         count.check(f"{name} with sanitizers, {len(asked)} hostile keys and files", not wrong, *wrong[:2])
     shown = [line_of(data) for kind, data, _ in made.hostile if kind == "certificate"]
-    for words, told in (([], "        Type: "), (["--json"], '"verdict":"shown"'), (["fingerprint"], "SHA256:")):
+    for words, told in (([], r"^\(stdin\):(\d+):$"), (["--json"], r'"line":(\d+),"verdict":"shown"'), (["fingerprint"], "^SHA256:.*")):
         ran = run([f"{built.sanitized}/sshkey-check", *words], input="".join(f"{it}\n" for it in shown))
-        named = ran.stderr.count("sshkey-check: (stdin):") + ran.stdout.count(told)
+        # what is shown and not read is both
+        found = {it if it.isdigit() else at for at, it in enumerate(re.findall(told, ran.stdout, re.M))}
+        named = len(found | {*re.findall(r"^sshkey-check: \(stdin\):(\d+):", ran.stderr, re.M)})
         is_sound = ran.returncode == INVALID and named == len(shown) and not re.search("Sanitizer|runtime error", ran.stderr)
         count.check(f"sshkey-check {words} with sanitizers shows or names {len(shown):,} hostile certificates", is_sound, named, ran.stderr[-2000:])
 
@@ -414,6 +466,7 @@ def check_checker(count, built, made):
     check_shown(count, programs, maker)
     check_sha1(count, programs, maker)
     check_later_kinds(count, programs, maker)
+    check_unread(count, programs, maker)
     check_verified(count, programs, maker)
     check_key_files(count, programs, maker)
     check_allowed(count, programs, maker)
@@ -424,3 +477,5 @@ def check_checker(count, built, made):
     check_refused_memory(count, built, maker)
     check_words(count, programs, maker)
     check_answers(count, programs, maker)
+    check_git(count, programs, maker)
+    check_fetched(count, programs, maker)

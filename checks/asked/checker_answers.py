@@ -18,7 +18,11 @@ LOGIN = "login FILE NAME KEY --from ADDRESS [--ca FILE] [--host NAME] [--at TIME
 VERIFY = "verify -k KEYS -n NAMESPACE -s SIGNATURE [--json] [FILE]"
 SIGNER = "verify -f SIGNERS -I IDENTITY -n NAMESPACE -s SIGNATURE [-r REVOKED].. [--at TIME] [--json] [FILE]"
 SHOW, FINGERPRINT = "[--json] [FILE]", "fingerprint [--json] [FILE].."
-USAGES = [SHOW, CA, HOST, LOGIN, VERIFY, SIGNER, FINGERPRINT]
+FIND = "-Y find-principals -f SIGNERS -s SIGNATURE [-O verify-time=TIME]"
+KEYGEN = "-Y verify -f SIGNERS -I IDENTITY -n NAMESPACE -s SIGNATURE [-r REVOKED].. [-O verify-time=TIME]"
+UNKNOWN = "-Y check-novalidate -n NAMESPACE -s SIGNATURE [-O verify-time=TIME]"
+REVOKED = "revoked [--json] [FILE].."
+USAGES = [SHOW, CA, HOST, LOGIN, VERIFY, SIGNER, FINGERPRINT, REVOKED, FIND, KEYGEN, UNKNOWN]
 # words that ask nothing, what is said of them, and of which usage
 SLIPS = [
     ("--ca ca id", "--ca wants --user NAME", CA), ("--user x", "--user wants --ca FILE", CA), ("--from ::1", "--from wants --ca FILE", CA),
@@ -35,6 +39,10 @@ SLIPS = [
     ("verify -k a -n b -s c --at 1", "verify takes no --at", VERIFY), ("verify -f a -n b -s c", "verify wants --identity IDENTITY", SIGNER),
     ("verify -I a -n b -s c", "verify wants --signers SIGNERS", SIGNER), ("verify -z", "-z is no option", VERIFY),
     ("fingerprint --ca a b", "fingerprint takes no --ca", FINGERPRINT),
+    ("revoked --revoked a b", "revoked takes no --revoked", REVOKED), ("-Y find-principals -s a", "find-principals wants --signers SIGNERS", FIND), ("-Y find-principals -n a", "find-principals takes no --namespace", FIND),
+    ("-Y verify -f a -I b -n c -s d e", "e is a word too many", KEYGEN), ("-Y verify -f a -I b -n c -s d --json", "verify takes no --json", KEYGEN),
+    ("-Y check-novalidate -s a", "check-novalidate wants --namespace NAMESPACE", UNKNOWN), ("-Y", "-Y is no option", SHOW),
+    ("-Y sign -n git -f a b", "-Y sign is nothing that is answered here", UNKNOWN),
 ]  # fmt: skip
 
 
@@ -238,11 +246,12 @@ def check_completion(count, program):
         with open(f"{ROOT}/helpers/{name}", encoding="ascii") as file:
             text = file.read()
         told = {it for it in taken if re.search(rf"(?<![\w-]){it}(?![\w-])", text)}
-        words = {it for it in ("login", "verify", "fingerprint") if re.search(rf"\b{it}\b", text)}
-        count.check(f"{name} has each option and each word", told == taken and len(words) == 3, taken - told, words)
+        words = {it for it in ("login", "verify", "fingerprint", "revoked") if re.search(rf"\b{it}\b", text)}
+        count.check(f"{name} has each option and each word", told == taken and len(words) == 4, taken - told, words)
     for typed, wanted, other in (
         (["--k"], {"--known-hosts"}, "--keys"), (["lo"], {"login"}, "verify"), (["login", "--f"], {"--from"}, "--user"),
         (["verify", "-"], {"-k", "-f", "-I", "-n", "-s", "-r", "--at", "--json"}, "--ca"), (["fingerprint", "--"], {"--json"}, "--ca"),
+        (["-Y", "ver"], {"verify"}, "find-principals"), (["-Y", "verify", "-"], {"-f", "-I", "-n", "-s", "-r", "-O"}, "--ca"),
         (["--ca", f"{ROOT}/VER"], {f"{ROOT}/VERSION"}, "--user"),
     ):  # fmt: skip
         script = f'. "{ROOT}/helpers/sshkey-check.bash"; COMP_WORDS=(sshkey-check "$@"); COMP_CWORD=$#; _sshkey_check; printf "%s\\n" "${{COMPREPLY[@]}}"'

@@ -62,7 +62,14 @@ ROWS = [
     ("any device", 'tunnel="any" {key}', None, [], granted(1, "Tunnel: any")),
     ("a variable", 'environment="A=\\"b\x1b" {key}', None, [], granted(1, 'Environment: A="b\\033')),
     ("a security key", "no-touch-required,verify-required {key}", None, [], granted(1, "Touch: not required", "Verification: required")),
-    ("nobody's line", "{other}\nunknown {key}", None, [], (90, 0)), ("an authority's line", "cert-authority {key}", None, [], (90, 0)),
+    ("nobody's line", "{other}", None, [], (90, 0)), ("an authority's line", "cert-authority {key}", None, [], (90, 0)),
+    ("an option that sshd does not read", '{other}\ncomand="ls" {key}', None, [], (90, 2, "comand")),
+    ("such an option after others", 'restrict,command="a b,c",no-such="x",pty {key}', None, [], (90, 1, "no-such")),
+    ("such a value", 'pty,expiry-time="soon" {key}\nunknown {key}', None, [], (90, 1, "expiry-time")),
+    ("two commands", 'command="a",command="b" {key}', None, [], (90, 1, 'command="a",command="b"')),
+    ("an authority's line with such an option", "cert-authority,x {key}", None, [], (90, 0)), ("such another's line", "x {other}", None, [], (90, 0)),
+    ("an authority's option that sshd does not read", "{other}\ncert-authority,comand {authority}", ALICE, [], (90, 2, "comand")),
+    ("an authority's line without cert-authority", "restrict {authority}", ALICE, [], (90, 0)),
     ("principals in vain", 'principals="alice" {key}', None, [], (92, 1)),
     ("a revoked key", "{key}", None, ["--revoked", "revoked"], (56, 0)),
     ("a certificate", "cert-authority {authority}", ALICE, [], granted(1, *CERTIFIED)),
@@ -133,8 +140,9 @@ def check_rows(count, programs, maker):
         if isinstance(wanted, list):
             printed = printed_with(wanted, None if words is None else maker.path("admitting.pub"))
         else:
-            number, line = wanted
+            number, line, *option = wanted
             printed, told = "refused\n", f"sshkey-check: {f'{asked[0]}:{line}' if line else f'{asked[2]}:1'}: "
+            told += f"it has the key, and an option that sshd does not read: {option[0]} (90)" if option else ""
         for program in programs:
             ran = run([program, "login", *asked], env={**os.environ, "TZ": "UTC"})
             same = ran.stdout == printed and ran.returncode == (INVALID if told else VALID) and ran.stderr.startswith(told)

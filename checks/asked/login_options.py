@@ -83,8 +83,13 @@ BY_DEVICE = [
 ]  # fmt: skip
 
 
+def pairs_of(options):
+    """The options, each with its data: a list may have one twice."""
+    return [*options.items()] if isinstance(options, dict) else options
+
+
 def pairs(options):
-    return string(b"".join(string(name.encode()) + string(data) for name, data in options.items()))
+    return string(b"".join(string(name.encode()) + string(data) for name, data in pairs_of(options)))
 
 
 def certified_name(name):

@@ -218,6 +218,8 @@ def of_files(maker, key):
     yield "check_from", [b"*,", bytes(16), b"host"], [], "FORMAT"
     for text, wanted in ((b"20270101Z", "DONE"), (b"20270101", "DONE"), (b"2027", "FORMAT"), (b"\xff", "TEXT")):
         yield "read_time", [text], [], wanted
+    for text, wanted in ((b"h:22", "DONE"), (b"[::1]", "DONE"), (b"h:", "FORMAT"), (b"\xff", "TEXT")):
+        yield "host_and_port", [text], [], wanted
     yield "next_line", [hashed], [0], "DONE"
     yield "next_line", [hashed], [len(hashed)], "END"
     options = b'no-pty,command="say \\"hi\\""'

@@ -1,10 +1,16 @@
 """What the Python module takes and gives, for checks/foreign: what has no truth value, what is no list of names or of files, what
 nobody changes, what a verifier answers, and nonces."""
 import base64
+import builtins
 import copy
 import dataclasses
 import inspect
+import os
 import pickle
+import pydoc
+import re
+import shutil
+import tempfile
 import typing
 from unittest.mock import patch
 
@@ -243,6 +249,92 @@ def check_authorities(count, rafendilo, authority):
         count.check(f"{name} refuses the text", told, found)
 
 
+def check_blobs(count, rafendilo, maker, key, certificate):
+    """A line in place of a blob is named, and what takes it apart; of what is no line nothing is said."""
+    line, shown = maker.read("listed0.pub").encode(), maker.read("listed0-cert.pub").encode()
+    out, host = "a line, and not its blob: read_line(line).blob", rafendilo.HostLogin([], "host", 22, rafendilo.NO_REVOCATIONS, MIDDLE)
+    request = rafendilo.Userauth(b"id", "alice", "ssh-ed25519", line, b"", rafendilo.Permits(0))
+    calls = {
+        "fingerprint": ("key", lambda it: rafendilo.fingerprint(it), line), "certificate_fields": ("certificate", rafendilo.certificate_fields, shown),
+        "log_in": ("certificate", lambda it: rafendilo.log_in(dataclasses.replace(login_of(rafendilo, key, certificate), certificate=it)), shown),
+        "log_in, the key": ("key", lambda it: rafendilo.log_in(login_of(rafendilo, it, certificate)), line),
+        "log_in_by_keys": ("key", lambda it: rafendilo.log_in_by_keys(login_of(rafendilo, it, b""), b""), line),
+        "check_host_key": ("key", lambda it: rafendilo.check_host_key(host, it), line),
+        "check_host_certificate": ("certificate", lambda it: rafendilo.check_host_certificate(host, it), shown),
+        "check_userauth": ("public_key", lambda it: rafendilo.check_userauth(dataclasses.replace(request, public_key=it)), line),
+        "check_unrevoked_key": ("key", lambda it: rafendilo.check_unrevoked_key(rafendilo.NO_REVOCATIONS, it), line),
+    }  # fmt: skip
+    for name, (argument, call, given) in calls.items():
+        for value, kind in ((given, "Refused"), (b"\t " + given, "Refused"), (given.decode(), "TypeError")):
+            found = raised(call, value)
+            count.check(f"{name} names a line that is a {type(value).__name__}", found is not None and found[0] == kind and f"{argument}: {out}" in found[1], found)
+        plain, text = raised(call, given[:3]), raised(call, "a text")
+        count.check(f"{name} says of other bytes what is wrong with them", plain is not None and plain[0] == "Refused" and plain[1].endswith(")"), plain)
+        count.check(f"{name} names a text", text is not None and text[0] == "TypeError" and f"{argument}: a text" in text[1], text)
+    found = raised(rafendilo.sshsig_hash, b"-----BEGIN SSH SIGNATURE-----\n")
+    count.check("an armour that is given as a signature is named", found is not None and found[1].endswith(": signature: an armour, and not what stands in it, decoded"), found)
+
+
+def check_help(count, rafendilo):
+    """help has each call before the classes, and each field of what is given and answered with a text of its own."""
+    page = pydoc.plaintext.document(rafendilo)
+    calls = [it for it in rafendilo.__all__ if inspect.isfunction(getattr(rafendilo, it))]
+    front = page[: page.index("\nCLASSES")]
+    missing = [it for it in calls if not re.search(rf"^    {it}: [A-Z]", front, re.M)]
+    count.check(f"help has {len(calls)} calls in front", len(calls) > 40 and not missing, missing)
+    values = [it for it in map(rafendilo.__dict__.get, rafendilo.__all__) if inspect.isclass(it) and dataclasses.is_dataclass(it)]
+    # of whose fields the sentence above speaks
+    given = [it for it in values if it.__name__ not in ("Authorities", "AuthorizedEntry", "Contents", "KnownHost", "Line", "Question")]
+    own = [(it, name) for it in given for name in it.__annotations__]
+    missing = [(it.__name__, name) for it, name in own if not re.search(rf"^    {name}: \S", it.__doc__, re.M)]
+    count.check(f"help has a text for each of {len(own)} fields", len(own) > 35 and not missing, missing)
+    missing = [it.name for it in rafendilo.Status if f"    {it.name}: " not in rafendilo.Status.__doc__]
+    missing += [it.name for it in rafendilo.Permits if it > 31 and f"    {it.name}: " not in rafendilo.Permits.__doc__]
+    count.check("and for each status and bit that needs one", not missing, missing)
+
+
+# what stands in ssh_config for the host, and which files are found: by their names, of those that are there
+SSH_FILES = [
+    ("UserKnownHostsFile {0}/a\nGlobalKnownHostsFile {0}/b", ["a", "b"]), ("UserKnownHostsFile {0}/a {0}/missing {0}/b\nGlobalKnownHostsFile none", ["a", "b"]),
+    ("UserKnownHostsFile none\nGlobalKnownHostsFile none", []), ("UserKnownHostsFile {0}/missing\nGlobalKnownHostsFile {0}/a/b", []),
+    ("UserKnownHostsFile {0}/%h\nGlobalKnownHostsFile {0}/b {0}/%h", ["host", "b", "percent"]), ("UserKnownHostsFile {0}/a\nGlobalKnownHostsFile {0}/a", ["a", "a"]),
+    ("Hostname b\nUserKnownHostsFile {0}/%h\nGlobalKnownHostsFile none", ["b"]),
+    # of these it can't be told
+    ('UserKnownHostsFile "{0}/a b"', ValueError), ('UserKnownHostsFile none\nGlobalKnownHostsFile {0}/a "{0}/a b"', ValueError),
+    ("KnownHostsCommand /bin/true\nUserKnownHostsFile {0}/a", ValueError), ("UserKnownHostsFile {0}/%%h", ValueError), ("UserKnownHostsFile {0}", OSError),
+    ("UserKnownHostsFile none\nGlobalKnownHostsFile ~/no/such/file", []), ("UserKnownHostsFile none\nGlobalKnownHostsFile ~no-such-user/a", ValueError),
+    ("NoSuchOption yes", OSError),
+]  # fmt: skip
+
+
+def check_files_of_ssh(count, rafendilo):
+    """The texts of the files that a real ssh names are read; where it names others than files, or what it names can't be told, it raises."""
+    real = shutil.which("ssh")
+    with tempfile.TemporaryDirectory() as folder:
+        for name in ("a", "b", "a b", "host"):
+            with open(f"{folder}/{name}", "w", encoding="ascii") as file:
+                file.write(name)
+        with open(f"{folder}/%h", "w", encoding="ascii") as file:
+            file.write("percent")
+        with open(f"{folder}/ssh", "w", encoding="ascii") as file:
+            file.write(f'#!/bin/sh\nexec {real} -F {folder}/config "$@"\n')
+        os.chmod(f"{folder}/ssh", 0o755)
+        with patch.dict(os.environ, PATH=f"{folder}:{os.environ['PATH']}"):
+            for lines, wanted in SSH_FILES:
+                with open(f"{folder}/config", "w", encoding="ascii") as file:
+                    file.write(lines.format(folder) + "\n")
+                found, texts = raised(rafendilo.known_hosts_of_ssh, "host"), None
+                if found is None:
+                    texts = [it.decode() for it in rafendilo.known_hosts_of_ssh("host")]
+                same = texts == wanted if isinstance(wanted, list) else found is not None and issubclass(getattr(builtins, found[0], OSError), wanted)
+                count.check(f"known_hosts_of_ssh where ssh_config says {lines!r}", same, texts, found)
+            found = raised(rafendilo.known_hosts_of_ssh, "-Gx")
+            count.check("what ssh takes for no host raises OSError", found is not None and found[0] == "OSError", found)
+        with patch.dict(os.environ, PATH=folder + "/a"):
+            found = raised(rafendilo.known_hosts_of_ssh, "host")
+            count.check("without ssh it raises OSError", found is not None and issubclass(getattr(builtins, found[0]), OSError), found)
+
+
 def check_python(count, rafendilo, maker):
     """Over the keys and certificates of certificate_calls."""
     key, authority = maker.blob("listed0"), maker.blob("lister0")
@@ -260,3 +352,6 @@ def check_python(count, rafendilo, maker):
     check_no_file(count, rafendilo, key, certificate)
     check_verifiers(count, rafendilo, key, certificate)
     check_authorities(count, rafendilo, authority)
+    check_blobs(count, rafendilo, maker, key, certificate)
+    check_help(count, rafendilo)
+    check_files_of_ssh(count, rafendilo)

@@ -67,6 +67,21 @@ func (login HostLogin) held(memory *held) C.raf_host_login {
 	}
 }
 
+// HostAndPort takes apart what a user types: host:port, [host]:port, [host] or a host alone, whose
+// port is 0. Without brackets a text with several colons is a host alone, as an address of IPv6.
+//
+// It fails with ErrFormat where something else follows a bracket or the one colon, and with ErrText
+// where the text is not UTF-8.
+func HostAndPort(text string) (host string, port uint16, err error) {
+	var found C.raf_destination
+	in := inputOf(text)
+	err = errorOf(C.raf_host_and_port(in.pointer(), in.length(), &found))
+	if err != nil {
+		return "", 0, err
+	}
+	return text[found.host.start:][:found.host.length], uint16(found.port), nil
+}
+
 // UnreadableHostLine gives the number, from 1, of the first line of a text of known_hosts by which
 // CheckHostKey fails with ErrHostUnreadable for that host, and 0 where there is none. It fails with
 // ErrText where text or host are not UTF-8, and with ErrMemory.

@@ -988,6 +988,22 @@ typedef struct {
  * it may be; else RAF_TEXT where it is not UTF-8, and RAF_FORMAT. Takes no memory. */
 uint32_t raf_read_time(const uint8_t *text, size_t length, raf_time_span *answer);
 
+/* ---- hosts and ports (RFC 3986, section 3.2) ------------------------------------------------- */
+
+/* Where a host stands in a text, without brackets, and its port, if one stands there. */
+typedef struct {
+  raf_part host;
+  uint16_t port; /* 0 where none stands there: take the one that you would ask else */
+} raf_destination;
+
+/* Takes apart what a user types for a host: HOST:PORT, [HOST]:PORT, [HOST] or HOST. Digits write a
+ * port, from 1 on. Without brackets a text with several colons is a host alone, as an address of
+ * IPv6. The host may have no bytes; what else it is, raf_check_host_key asks.
+ *
+ * RAF_DONE exactly if the text is that; else RAF_TEXT where it is not UTF-8, and RAF_FORMAT, where
+ * something else follows a bracket or the one colon. Takes no memory. */
+uint32_t raf_host_and_port(const uint8_t *text, size_t length, raf_destination *answer);
+
 /* ---- whom authorized_keys lets in (sshd(8)) -------------------------------------------------- */
 
 /* What a login by a line of authorized_keys may do. */
@@ -1177,6 +1193,9 @@ RAF_IS(sizeof(raf_line_option_parts) == 56);
 RAF_IS(offsetof(raf_time_span, first) == 0);
 RAF_IS(offsetof(raf_time_span, last) == 8);
 RAF_IS(sizeof(raf_time_span) == 16);
+RAF_IS(offsetof(raf_destination, host) == 0);
+RAF_IS(offsetof(raf_destination, port) == 16);
+RAF_IS(sizeof(raf_destination) == 24);
 RAF_IS(offsetof(raf_user_grant, grant) == 0);
 RAF_IS(offsetof(raf_user_grant, permit_open) == 88);
 RAF_IS(offsetof(raf_user_grant, permit_listen) == 104);

@@ -21,7 +21,12 @@ out/librafendilo.so (`make` builds it), or else the system's. Whoever sets RAFEN
 the effective and the real user or group differ, and a helper that keeps its caller's environment in another way has to clear it.
 A library of another ABI, or without one of the calls, is refused: OSError, when this package is imported. Calls from several
 threads at once are fine.
+
+The calls:
 """
+import inspect as _inspect
+import textwrap as _textwrap
+
 from ._addresses import Address, check_from, check_source_address
 from ._authorities import Authorities, NoKey, authorities, is_later_key_line, user_authorities
 from ._certificates import (
@@ -45,7 +50,7 @@ from ._files import (
     is_safe_mode,
 )
 from ._header import FOREVER, Algorithm, CertificateType, Marker, Permits, Status
-from ._hosts import HostLogin, check_host_certificate, check_host_key, unreadable_host_line
+from ._hosts import HostLogin, check_host_certificate, check_host_key, host_and_port, unreadable_host_line
 from ._keys import (
     fingerprint,
     fingerprint_sha512,
@@ -67,6 +72,7 @@ from ._keys import (
 )
 from ._logins import Grant, Login, UserGrant, log_in, log_in_by_keys, log_in_by_principals
 from ._revocations import check_unrevoked_certificate_by_krl, check_unrevoked_key_by_krl, check_unrevoked_certificate, check_unrevoked_key
+from ._ssh import known_hosts_of_ssh
 from ._signers import Signers, check_signer_of_digest, check_sshsig, check_sshsig_of_digest, check_signer_with_answer, check_sshsig_with_answer
 from ._times import read_time
 from ._userauth import Userauth, check_userauth, check_grant_flags, userauth_question
@@ -93,8 +99,8 @@ __all__ = [
     "NoKey", "Permits", "Question", "Refused", "Signers", "Status", "UserGrant", "Userauth", "Verifier", "authorities", "authorized_entry",
     "certificate_contents", "certificate_fields", "certificate_question", "certificate_to_be_signed", "check_host_certificate",
     "check_host_key", "check_userauth", "entry_lines", "line_options", "fingerprint", "fingerprint_sha512",
-    "fingerprint_sha512_text", "fingerprint_text", "check_from", "check_grant_flags", "is_later_key_line", "is_signature",
-    "join_certificate", "check_certificate", "check_signer_of_digest", "check_sshsig", "check_sshsig_of_digest", "known_host",
+    "fingerprint_sha512_text", "fingerprint_text", "check_from", "host_and_port", "check_grant_flags", "is_later_key_line", "is_signature",
+    "join_certificate", "check_certificate", "check_signer_of_digest", "check_sshsig", "check_sshsig_of_digest", "known_host", "known_hosts_of_ssh",
     "check_unrevoked_certificate_by_krl", "check_unrevoked_key_by_krl", "log_in", "log_in_by_keys", "log_in_by_principals", "make_certificate", "line_may_name_authority",
     "line_may_name_key", "may_verify", "normal_certificate", "normal_key", "normal_signature", "normal_sshsig", "options", "read_line",
     "read_time", "check_unrevoked_certificate", "check_unrevoked_key", "signature_question",
@@ -102,3 +108,15 @@ __all__ = [
     "check_sshsig_with_answer", "is_safe_mode", "string", "strings", "unreadable_host_line", "user_authorities", "userauth_question",
     "check_certificate_with_answer",
 ]  # fmt: skip
+
+
+def _listed(name: str) -> str:
+    """The call of that name, or nothing of another, with the first sentence of what is said of it."""
+    call = globals()[name]
+    first = " ".join(str(call.__doc__).split()).partition(". ")[0].rstrip(".")
+    return _textwrap.fill(f"{name}: {first}.", 130, subsequent_indent="    ") + "\n" if _inspect.isfunction(call) else ""
+
+
+# before the classes, which help has first, with all that numbers have; without texts there are none (-OO)
+if __doc__:
+    __doc__ = f"{__doc__}\n{''.join(map(_listed, sorted(__all__)))}"

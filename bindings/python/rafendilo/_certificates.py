@@ -9,10 +9,12 @@ from types import MappingProxyType
 from ._header import FOREVER, CertificateOptionParts, CertificateType, Draft, Fields, Parts, Span, Status
 from ._keys import question_of, string, strings
 from ._library import LIBRARY, bytes_of, digests_of, done, number_of, parts_of, text_of, written
+from ._named import names_blobs
 from ._values import ALL_PRINCIPALS, AllPrincipals, BytesLike, CertificateFields, Contents, Question, Refused
 from ._verify import Verifier, is_signature
 
 
+@names_blobs
 def certificate_question(certificate: BytesLike) -> Question:
     """What has to be verified of a certificate, given as its blob. Raises Refused where the bytes are none, or where key and
     signature do not go together, and MemoryError."""
@@ -49,6 +51,7 @@ def check_certificate_with_answer(
     return status
 
 
+@names_blobs
 def check_certificate(
     certificate: BytesLike, unix_timestamp: int, authorities: Iterable[BytesLike], principal: str | BytesLike | None = None,
     verifier: Verifier = is_signature,
@@ -67,6 +70,7 @@ def check_certificate(
 # ---- what a certificate says
 
 
+@names_blobs
 def certificate_fields(certificate: BytesLike) -> CertificateFields:
     """What a policy asks of a certificate, valid or not. Raises Refused where the bytes are none."""
     answer = Fields()
@@ -94,6 +98,7 @@ def options(blob: BytesLike) -> dict[str, str]:
     return found
 
 
+@names_blobs
 def certificate_contents(certificate: BytesLike) -> Contents:
     """What a certificate lists, valid or not. Raises Refused where the bytes are none, and MemoryError."""
     given, parts = bytes_of(certificate), Parts()
@@ -141,6 +146,7 @@ def _name(principal: str | BytesLike) -> bytes:
     return name
 
 
+@names_blobs
 def certificate_to_be_signed(
     key: BytesLike, authority: BytesLike, *, principals: Iterable[str] | AllPrincipals,
     certificate_type: int = CertificateType.USER, key_id: str = "", serial: int = 0, valid_after: int = 0,

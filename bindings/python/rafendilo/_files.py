@@ -7,6 +7,7 @@ from functools import partial
 
 from ._header import Entry, LineOptionParts, Marker, Part, Status
 from ._library import LIBRARY, ask, bytes_of, done, number_of, parts_of
+from ._named import names_blobs
 from ._values import AuthorizedEntry, BytesLike, KnownHost, Refused
 
 # the bytes of a buffer for an option; a longer one is asked for again
@@ -64,6 +65,7 @@ def line_options(text: BytesLike) -> list[tuple[bytes, bytes | None]]:
         found.append((name, value if answer.has_value else None))
 
 
+@names_blobs
 def line_may_name_key(line: BytesLike, key: BytesLike) -> bool:
     """Whether sshd may take a line of authorized_keys for one of the key, given as its blob, whatever it makes of the line's options:
     for a program that has sshd check lines. Leave out none but those for which it is False. Raises Refused where the bytes are no
@@ -71,8 +73,10 @@ def line_may_name_key(line: BytesLike, key: BytesLike) -> bool:
     return _may_be(LIBRARY.raf_line_may_name_key(*bytes_of(line), *bytes_of(key)))
 
 
+@names_blobs
 def line_may_name_authority(line: BytesLike, certificate: BytesLike) -> bool:
-    """The same of the authority that signed the certificate, given as its blob."""
+    """Whether sshd may take a line of authorized_keys for one of the authority that signed the certificate, given as its blob: as
+    line_may_name_key of a key."""
     return _may_be(LIBRARY.raf_line_may_name_authority(*bytes_of(line), *bytes_of(certificate)))
 
 

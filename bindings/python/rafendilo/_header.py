@@ -21,150 +21,153 @@ FINGERPRINT_SHA512_TEXT = 93
 
 
 class Status(Answer):
-    """What a call returns."""
+    """What a call returns.
 
-    # Done; of a check: all is good, and of revocations that nothing revokes it.
+    DONE: Done; of a check: all is good, and of revocations that nothing revokes it.
+    MEMORY: Malloc refused; nothing is said of the input, and nothing is kept: the call may be made again.
+    SHORT_BUFFER: The buffer is too short; `length` says how many bytes are needed.
+    END: Nothing is left: the place is the end, or there is no such line or option.
+    TEXT: The principal is not UTF-8, or a line of authorized_keys or known_hosts, options, a text of known_hosts or of signers, a
+        host's name, an identity, a namespace or a time; nothing is said of the rest. raf_read_line returns 11 for such a line.
+    BASE64: A word of a line is no Base64, or not the one of its bytes.
+    CHARACTER_ENCODING: A text is not UTF-8, or has a character that no name has.
+    LABEL: A name that is none of those that may stand there.
+    LENGTH: A stated length passes the bytes, or is not the one wanted; a word of a line is missing; a digest is not as long as
+        one by the signature's hash.
+    TRAILING_DATA: Bytes follow the end.
+    FORMAT: A value does not keep the form of its kind.
+    ALGORITHM_UNKNOWN: Two names differ that have to be one, or a point begins with 00 or 05.
+    CRYPTO: A number in a signature is not positive, or the curve of a security key is not P-256.
+    ECDSA: No encoding of a point.
+    TIME: A time above 2^63 - 1 in the certificate.
+    NAMESPACE: An empty namespace in the SSH signature.
+    PUBLIC_KEY: Never returned: an error of private keys.
+    UNSUPPORTED_VERSION: An SSH signature of a version above 1, or a revocation list of another version than 1.
+    OTHER_ERROR: Never returned.
+    RSA_SHA1: An RSA signature by SHA-1, which no call reads: to them it is RAF_LENGTH. raf_read_line_blob of helpers/ tells it.
+    NOT_SIGNED: It raises no question, or `is_verified` is not 1; a signature also where it is in another namespace, or has
+        reserved bytes.
+    UNTRUSTED_AUTHORITY: The key that signed it is none of the authorities'.
+    INVALID_TIME: The time is above 2^63 - 1.
+    OUT_OF_WINDOW: It is not yet valid, or no longer.
+    UNLISTED_PRINCIPAL: It lists principals, and not this one.
+    UNSUPPORTED: Key and signature do not go together: it is not signed.
+    OTHER_NAMESPACE: The SSH signature is for another namespace.
+    PRINCIPALS: It lists none and does not say so, or says so and lists some.
+    EMPTY_WINDOW: Its window has no second.
+    HOST_REVOKED: A line for the host, or a revocation file, revokes it.
+    HOST_UNREADABLE: A line is no entry, and may be one for the host.
+    HOST_CHANGED: A line for the host has another key, and none has this one.
+    HOST_UNKNOWN: No line without a marker is for the host.
+    SIGNER_NOT_ALLOWED: No line lets its key sign for the identity, there and then; or it is none of the keys that may sign.
+    REVOKED: A revocation file or list revokes the key, the signer's, or the certificate.
+    ELSEWHERE: The client's address is none of those that are allowed.
+    UNREADABLE_REVOCATIONS: One can't be read, or there is none: so everything is revoked.
+    KEY_NOT_ACCEPTED: A kind or a size of key that OpenSSH does not let in.
+    LATER_KEY: The line has a key of a later kind, which signs nothing that is read: pass over it, and say so.
+    UNSAFE_MODE: Another's, or others may write it.
+    NOT_NORMAL_FORM: Its bytes are not its normal form: not those that were signed.
+    OTHER_TYPE: A user shows one for hosts, or a host one for users.
+    OTHER_KEY: It certifies another key than the client's.
+    CRITICAL_OPTIONS: A critical option that is not known, or whose value sshd does not read.
+    EXTENSIONS: Data in an extension that is a flag, or a zero byte in a name.
+    KEY_ID: A zero byte in the key id.
+    VALID_PRINCIPALS: It lists no principal, more than 256 or one with a zero byte; or the user's name is empty.
+    OTHER_REQUEST: The signed bytes are not those of this request, or its service is not ssh-connection.
+    OTHER_ALGORITHM: The algorithm that the request names is not the signature's.
+    UNTOUCHED: Nobody touched the security key, and the grant wants it.
+    UNVERIFIED: The security key did not verify its user, and the grant wants it.
+    USER_NOT_LISTED: No line is for the key, for the certificate's authority, or for a principal of it.
+    LINE_EXPIRED: Its expiry-time is over.
+    LINE_OPTION: It has principals, and no cert-authority; of a file of principals, one of both.
+    LINE_ELSEWHERE: Its from is for other places.
+    LINE_COMMAND: Its command is another than the certificate's.
+    LINE_PRINCIPALS: The certificate lists nobody whom it lets in.
+    LINE_UNCLEAR: A line may let in, and how sshd reads it cannot be told: so no other line and no other file may.
+    NO_PORT: The port is 0.
+    NO_HOST: The host has no bytes.
+    NO_ADDRESS: It is like an address, and is none with one text: 127.1, fe80::1%eth0.
+    NO_IDENTITY: The signer's identity has no bytes.
+    """
     DONE = 0
-    # Malloc refused; nothing is said of the input, and nothing is kept: the call may be made again.
     MEMORY = 1
-    # The buffer is too short; `length` says how many bytes are needed.
     SHORT_BUFFER = 2
-    # Nothing is left: the place is the end, or there is no such line or option.
     END = 3
-    # The principal is not UTF-8, or a line of authorized_keys or known_hosts, options, a text of known_hosts or of signers, a
-    # host's name, an identity, a namespace or a time; nothing is said of the rest. raf_read_line returns 11 for such a line.
     TEXT = 4
-    # A word of a line is no Base64, or not the one of its bytes.
     BASE64 = 10
-    # A text is not UTF-8, or has a character that no name has.
     CHARACTER_ENCODING = 11
-    # A name that is none of those that may stand there.
     LABEL = 12
-    # A stated length passes the bytes, or is not the one wanted; a word of a line is missing; a digest is not as long as one by
-    # the signature's hash.
     LENGTH = 13
-    # Bytes follow the end.
     TRAILING_DATA = 14
-    # A value does not keep the form of its kind.
     FORMAT = 15
-    # Two names differ that have to be one, or a point begins with 00 or 05.
     ALGORITHM_UNKNOWN = 16
-    # A number in a signature is not positive, or the curve of a security key is not P-256.
     CRYPTO = 17
-    # No encoding of a point.
     ECDSA = 18
-    # A time above 2^63 - 1 in the certificate.
     TIME = 19
-    # An empty namespace in the SSH signature.
     NAMESPACE = 20
-    # Never returned: an error of private keys.
     PUBLIC_KEY = 21
-    # An SSH signature of a version above 1, or a revocation list of another version than 1.
     UNSUPPORTED_VERSION = 22
-    # Never returned.
     OTHER_ERROR = 23
-    # An RSA signature by SHA-1, which no call reads: to them it is RAF_LENGTH. raf_read_line_blob of helpers/ tells it.
     RSA_SHA1 = 24
-    # It raises no question, or `is_verified` is not 1; a signature also where it is in another namespace, or has reserved bytes.
     NOT_SIGNED = 30
-    # The key that signed it is none of the authorities'.
     UNTRUSTED_AUTHORITY = 31
-    # The time is above 2^63 - 1.
     INVALID_TIME = 32
-    # It is not yet valid, or no longer.
     OUT_OF_WINDOW = 33
-    # It lists principals, and not this one.
     UNLISTED_PRINCIPAL = 34
-    # Key and signature do not go together: it is not signed.
     UNSUPPORTED = 40
-    # The SSH signature is for another namespace.
     OTHER_NAMESPACE = 41
-    # It lists none and does not say so, or says so and lists some.
     PRINCIPALS = 45
-    # Its window has no second.
     EMPTY_WINDOW = 46
-    # A line for the host, or a revocation file, revokes it.
     HOST_REVOKED = 50
-    # A line is no entry, and may be one for the host.
     HOST_UNREADABLE = 51
-    # A line for the host has another key, and none has this one.
     HOST_CHANGED = 52
-    # No line without a marker is for the host.
     HOST_UNKNOWN = 53
-    # No line lets its key sign for the identity, there and then; or it is none of the keys that may sign.
     SIGNER_NOT_ALLOWED = 55
-    # A revocation file or list revokes the key, the signer's, or the certificate.
     REVOKED = 56
-    # The client's address is none of those that are allowed.
     ELSEWHERE = 57
-    # One can't be read, or there is none: so everything is revoked.
     UNREADABLE_REVOCATIONS = 58
-    # A kind or a size of key that OpenSSH does not let in.
     KEY_NOT_ACCEPTED = 59
-    # The line has a key of a later kind, which signs nothing that is read: pass over it, and say so.
     LATER_KEY = 61
-    # Another's, or others may write it.
     UNSAFE_MODE = 62
-    # Its bytes are not its normal form: not those that were signed.
     NOT_NORMAL_FORM = 70
-    # A user shows one for hosts, or a host one for users.
     OTHER_TYPE = 71
-    # It certifies another key than the client's.
     OTHER_KEY = 72
-    # A critical option that is not known, or whose value sshd does not read.
     CRITICAL_OPTIONS = 73
-    # Data in an extension that is a flag, or a zero byte in a name.
     EXTENSIONS = 74
-    # A zero byte in the key id.
     KEY_ID = 75
-    # It lists no principal, more than 256 or one with a zero byte; or the user's name is empty.
     VALID_PRINCIPALS = 76
-    # The signed bytes are not those of this request, or its service is not ssh-connection.
     OTHER_REQUEST = 80
-    # The algorithm that the request names is not the signature's.
     OTHER_ALGORITHM = 81
-    # Nobody touched the security key, and the grant wants it.
     UNTOUCHED = 82
-    # The security key did not verify its user, and the grant wants it.
     UNVERIFIED = 83
-    # No line is for the key, for the certificate's authority, or for a principal of it.
     USER_NOT_LISTED = 90
-    # Its expiry-time is over.
     LINE_EXPIRED = 91
-    # It has principals, and no cert-authority; of a file of principals, one of both.
     LINE_OPTION = 92
-    # Its from is for other places.
     LINE_ELSEWHERE = 93
-    # Its command is another than the certificate's.
     LINE_COMMAND = 94
-    # The certificate lists nobody whom it lets in.
     LINE_PRINCIPALS = 95
-    # A line may let in, and how sshd reads it cannot be told: so no other line and no other file may.
     LINE_UNCLEAR = 96
-    # The port is 0.
     NO_PORT = 100
-    # The host has no bytes.
     NO_HOST = 101
-    # It is like an address, and is none with one text: 127.1, fe80::1%eth0.
     NO_ADDRESS = 102
-    # The signer's identity has no bytes.
     NO_IDENTITY = 103
 
 
 class Algorithm(IntEnum):
-    """How a signature is made."""
+    """How a signature is made.
 
+    P256: With SHA-256.
+    P384: With SHA-384.
+    P521: With SHA-512.
+    RSA_SHA256: With SHA-256.
+    RSA_SHA512: With SHA-512.
+    """
     DSA = 1
-    # With SHA-256.
     P256 = 2
-    # With SHA-384.
     P384 = 3
-    # With SHA-512.
     P521 = 4
     ED25519 = 5
-    # With SHA-256.
     RSA_SHA256 = 6
-    # With SHA-512.
     RSA_SHA512 = 7
 
 
@@ -183,26 +186,27 @@ class CertificateType(IntEnum):
 
 
 class Permits(IntFlag):
-    """What a grant permits."""
+    """What a grant permits.
 
+    ANY_COMMAND: No force-command: what the client asks for, or a shell.
+    NO_TOUCH: A security key that nobody touched.
+    NO_VERIFICATION: A security key that did not verify its user.
+    TUNNELS: Tunnels (tun(4)).
+    ANY_TUNNEL: Whichever device of them.
+    OPEN_ANYWHERE: Ports may be forwarded to anywhere, if at all.
+    LISTEN_ANYWHERE: Ports may be listened at anywhere, if at all.
+    """
     PTY = 1
     PORT_FORWARDING = 2
     AGENT_FORWARDING = 4
     X11_FORWARDING = 8
     USER_RC = 16
-    # No force-command: what the client asks for, or a shell.
     ANY_COMMAND = 32
-    # A security key that nobody touched.
     NO_TOUCH = 64
-    # A security key that did not verify its user.
     NO_VERIFICATION = 128
-    # Tunnels (tun(4)).
     TUNNELS = 256
-    # Whichever device of them.
     ANY_TUNNEL = 512
-    # Ports may be forwarded to anywhere, if at all.
     OPEN_ANYWHERE = 1024
-    # Ports may be listened at anywhere, if at all.
     LISTEN_ANYWHERE = 2048
 
 
@@ -414,6 +418,12 @@ class TimeSpan(Structure):
     _fields_ = [("first", c_uint64), ("last", c_uint64)]
 
 
+class Destination(Structure):
+    """raf_destination"""
+
+    _fields_ = [("host", Part), ("port", c_uint16)]
+
+
 class UserGrant(Structure):
     """raf_user_grant"""
 
@@ -486,6 +496,7 @@ CALLS: dict[str, tuple[Any, ...]] = {
     "raf_check_source_address": (c_char_p, c_size_t, c_char_p, c_size_t),
     "raf_check_from": (c_char_p, c_size_t, c_char_p, c_size_t, c_char_p, c_size_t),
     "raf_read_time": (c_char_p, c_size_t, POINTER(TimeSpan)),
+    "raf_host_and_port": (c_char_p, c_size_t, POINTER(Destination)),
     "raf_check_user_keys": (
         POINTER(Login), c_char_p, c_size_t, c_char_p, c_size_t, c_uint32, POINTER(c_uint8), c_size_t, POINTER(UserGrant)
     ),

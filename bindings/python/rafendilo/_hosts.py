@@ -8,21 +8,30 @@ from dataclasses import dataclass
 from . import _header
 from ._certificates import is_certified
 from ._header import Status
-from ._library import LIBRARY, bytes_of, done, number_of, spans_of, text_of
+from ._library import LIBRARY, bytes_of, done, number_of, parts_of, spans_of, text_of
+from ._named import names_blobs
 from ._values import BytesLike
 from ._verify import Verifier, decided, is_signature
 
 
 @dataclass(frozen=True)
 class HostLogin:
-    """A host that shows a key or a certificate, and whom the client trusts."""
+    """A host that shows a key or a certificate, and whom the client trusts.
 
-    known_hosts: Iterable[BytesLike]  # the texts of all the files that count, the user's and the machine's
-    host: str | BytesLike  # the name or address as the user typed it, without brackets
-    port: int  # not 0
-    revoked: Iterable[BytesLike]  # what the files of ssh's RevokedHostKeys have, or NO_REVOCATIONS; without a file none is trusted
-    unix_timestamp: int | None = None  # of a key it is not asked
-    least_rsa_bits: int = 0  # ssh's RequiredRSASize; below 1,024, as 0, it is 1,024
+    known_hosts: the texts of all the files that count, the user's and the machine's (known_hosts_of_ssh)
+    host: the name or address as the user typed it, without brackets
+    port: not 0
+    revoked: what the files of ssh's RevokedHostKeys have, or NO_REVOCATIONS; without a file none is trusted
+    unix_timestamp: of a key it is not asked
+    least_rsa_bits: ssh's RequiredRSASize; below 1,024, as 0, it is 1,024
+    """
+
+    known_hosts: Iterable[BytesLike]
+    host: str | BytesLike
+    port: int
+    revoked: Iterable[BytesLike]
+    unix_timestamp: int | None = None
+    least_rsa_bits: int = 0
 
 
 def _header_of(login: HostLogin, unix_timestamp: int) -> _header.HostLogin:
@@ -32,6 +41,7 @@ def _header_of(login: HostLogin, unix_timestamp: int) -> _header.HostLogin:
     )  # fmt: skip
 
 
+@names_blobs
 def check_host_key(login: HostLogin, key: BytesLike) -> None:
     """Returns exactly if the key, given as its blob, is trusted as that of the host, as ssh(1) trusts it, or more strictly
     (docs/FORMATS.md); else raises Refused, which says what is wrong first. Raises MemoryError, ValueError for a number that does not
@@ -40,9 +50,10 @@ def check_host_key(login: HostLogin, key: BytesLike) -> None:
     done(LIBRARY.raf_check_host_key(ctypes.byref(asked), *bytes_of(key)))
 
 
+@names_blobs
 def check_host_certificate(login: HostLogin, certificate: BytesLike, verifier: Verifier = is_signature) -> None:
-    """The same of a certificate, given as its blob, by an authority that known_hosts names for the host; it has to list the host in
-    small letters. Asks the library, the verifier and the library again, over copies that nobody changes. Raises TypeError also
+    """Returns exactly if the certificate, given as its blob, is trusted as that of the host, by an authority that known_hosts names for
+    it: as check_host_key of a key. It has to list the host in small letters. Asks the library, the verifier and the library again, over copies that nobody changes. Raises TypeError also
     without a time. Whether the host holds the certified key is not looked at."""
     if login.unix_timestamp is None:
         raise TypeError("a certificate is valid at a time, and none is given")
@@ -53,6 +64,17 @@ def check_host_certificate(login: HostLogin, certificate: BytesLike, verifier: V
         done(LIBRARY.raf_check_host_certificate(ctypes.byref(asked), given, length, is_verified))
 
     decided(verdict, lambda: is_certified(given, verifier))
+
+
+def host_and_port(text: str | BytesLike) -> tuple[str, int | None]:
+    """The host and the port that a user types: `host:port`, `[host]:port`, `[host]` or a host alone, whose port is None. Without brackets
+    a text with several colons is a host alone, as an address of IPv6.
+
+    Raises Refused where something else follows a bracket or the one colon."""
+    given, answer = text_of(text), _header.Destination()
+    done(LIBRARY.raf_host_and_port(*given, ctypes.byref(answer)))
+    (host,) = parts_of(given[0], answer.host)
+    return host.decode(), answer.port or None
 
 
 def unreadable_host_line(known_hosts: BytesLike, host: str | BytesLike, port: int) -> int | None:

@@ -7,6 +7,7 @@ from collections.abc import Callable
 from . import _header
 from ._header import FINGERPRINT_SHA512_TEXT, FINGERPRINT_TEXT, Algorithm, LineKind, Status
 from ._library import LIBRARY, ask, bytes_of, digests_of, done, parts_of, text_of, written
+from ._named import names_blobs
 from ._values import BytesLike, Line, Question
 
 # what stands in front of the strings of an SSH signature: SSHSIG and its version
@@ -32,6 +33,7 @@ def read_line(line: str | BytesLike) -> Line:
 # ---- fingerprints
 
 
+@names_blobs
 def fingerprint(key: BytesLike) -> bytes:
     """The SHA-256 fingerprint of a key, given as its blob: 32 bytes. Raises Refused where the bytes are no key, and
     MemoryError."""
@@ -47,6 +49,7 @@ def fingerprint_text(digest: BytesLike) -> str:
     return bytes(buffer).decode("ascii")
 
 
+@names_blobs
 def fingerprint_sha512(key: BytesLike) -> bytes:
     """The SHA-512 fingerprint of a key, given as its blob: 64 bytes. Raises Refused where the bytes are no key, and
     MemoryError."""
@@ -68,6 +71,7 @@ def fingerprint_sha512_text(digest: BytesLike) -> str:
 # ---- signatures
 
 
+@names_blobs
 def may_verify(key: BytesLike) -> bool:
     """Whether a verifier may say yes to a signature under the key, given as its blob: OpenSSH lets somebody in by it, and one of RSA
     has 2,048 bits or more. Raises Refused where the bytes are no key."""
@@ -78,6 +82,7 @@ def may_verify(key: BytesLike) -> bool:
     return True
 
 
+@names_blobs
 def signature_question(key: BytesLike, message: BytesLike, signature: BytesLike) -> Question:
     """What has to be verified of a signature of the message under a key, both given as their blobs (RFC 4253, section 6.6): as
     an agent gives it, or a client at a login. Raises Refused where they are none or do not go together, and MemoryError."""
@@ -85,6 +90,7 @@ def signature_question(key: BytesLike, message: BytesLike, signature: BytesLike)
     return question_of(lambda *buffer: LIBRARY.raf_signature_question(*given, *buffer), sum(given[1::2]) + 256)
 
 
+@names_blobs
 def sshsig_question(
     signature: BytesLike, namespace: str | BytesLike, message: BytesLike
 ) -> tuple[Question, bytes]:  # fmt: skip
@@ -94,11 +100,12 @@ def sshsig_question(
     return _sshsig_question(LIBRARY.raf_sshsig_question, signature, namespace, message)
 
 
+@names_blobs
 def sshsig_question_of_digest(
     signature: BytesLike, namespace: str | BytesLike, digest: BytesLike
 ) -> tuple[Question, bytes]:  # fmt: skip
-    """The same with the digest of the message in place of the message, so that a long one need not be in memory: by the hash that
-    sshsig_hash names. Raises Refused, with Status.LENGTH, also where the digest is not as long as one by that hash."""
+    """What has to be verified of an SSH signature, as sshsig_question says it, of a message with that digest, so that a long one need
+    not be in memory: by the hash that sshsig_hash names. Raises Refused, with Status.LENGTH, also where the digest is not as long as one by that hash."""
     return _sshsig_question(LIBRARY.raf_sshsig_question_of_digest, signature, namespace, digest)
 
 
@@ -136,22 +143,26 @@ def _normal(call: Callable[..., int], value: BytesLike) -> bytes:
     return written(lambda *buffer: call(*given, *buffer), given[1])
 
 
+@names_blobs
 def normal_key(key: BytesLike) -> bytes:
     """The normal form of a key, given as its blob: two keys are the same exactly if theirs are. Raises Refused where the bytes
     are none, and MemoryError."""
     return _normal(LIBRARY.raf_key_normal, key)
 
 
+@names_blobs
 def normal_certificate(certificate: BytesLike) -> bytes:
     """The normal form of a certificate, given as its blob. Raises Refused where the bytes are none, and MemoryError."""
     return _normal(LIBRARY.raf_certificate_normal, certificate)
 
 
+@names_blobs
 def normal_sshsig(signature: BytesLike) -> bytes:
     """The normal form of an SSH signature. Raises Refused where the bytes are none, and MemoryError."""
     return _normal(LIBRARY.raf_sshsig_normal, signature)
 
 
+@names_blobs
 def normal_signature(signature: BytesLike) -> bytes:
     """The normal form of a signature as signature_question takes it: the bytes themselves. Raises Refused where they are
     none."""

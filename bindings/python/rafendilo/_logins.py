@@ -12,6 +12,7 @@ from ._certificates import is_certified
 from ._header import FOREVER, Permits
 from ._keys import question_of, strings
 from ._library import LIBRARY, ask, bytes_of, digests_of, number_of, parts_of, span_of, spans_of, text_of
+from ._named import names_blobs
 from ._values import BytesLike, Refused
 from ._verify import Verifier, decided, is_signature
 
@@ -21,32 +22,50 @@ OF_GRANT = 4096
 
 @dataclass(frozen=True)
 class Login:
-    """A login by a certificate, and whom the server trusts."""
+    """A login by a certificate, and whom the server trusts.
 
-    certificate: BytesLike  # its blob, as the client sent it
-    user: str | BytesLike  # the name that the client asks for; the empty one is nobody's
-    key: BytesLike  # the blob of the key under which the client signs
+    certificate: its blob, as the client sent it
+    user: the name that the client asks for; the empty one is nobody's
+    key: the blob of the key under which the client signs
+    unix_timestamp: when that is, in seconds since 1970
+    authorities: the fingerprints of the keys that may sign certificates of users
+    revoked: what the files of sshd's RevokedKeys have, or NO_REVOCATIONS; without a file nobody is let in
+    client: the address of its socket; without one, a certificate with a source-address is refused
+    least_rsa_bits: sshd's RequiredRSASize; below 1,024, as 0, it is 1,024
+    caller_checks_address: True where you check yourself whether source-address has the client's: client is not looked at.
+        log_in_by_keys and log_in_by_principals always check it, and then know no address
+    """
+
+    certificate: BytesLike
+    user: str | BytesLike
+    key: BytesLike
     unix_timestamp: int
-    authorities: Iterable[BytesLike]  # the fingerprints of the keys that may sign certificates of users
-    revoked: Iterable[BytesLike]  # what the files of sshd's RevokedKeys have, or NO_REVOCATIONS; without a file nobody is let in
-    client: Address | None = None  # that of its socket; without one, a certificate with a source-address is refused
-    least_rsa_bits: int = 0  # sshd's RequiredRSASize; below 1,024, as 0, it is 1,024
-    # True where you check yourself whether source-address has the client's: client is not looked at. log_in_by_keys and
-    # log_in_by_principals always check it, and then know no address
+    authorities: Iterable[BytesLike]
+    revoked: Iterable[BytesLike]
+    client: Address | None = None
+    least_rsa_bits: int = 0
     caller_checks_address: bool = False
 
 
 @dataclass(frozen=True)
 class Grant:
-    """What a login is bound to."""
+    """What a login is bound to.
+
+    permits: what it may do, and what it need not
+    force_command: the one command that may run; None with Permits.ANY_COMMAND
+    serial: the certificate's
+    key_id: the certificate's, for logs: a text of the authority's
+    authority: the fingerprint of the key that signed it
+    """
 
     permits: Permits
-    force_command: str | None  # the one command that may run; None with Permits.ANY_COMMAND
-    serial: int  # the certificate's
-    key_id: str  # the certificate's, for logs: a text of the authority's
-    authority: bytes  # the fingerprint of the key that signed it
+    force_command: str | None
+    serial: int
+    key_id: str
+    authority: bytes
 
 
+@names_blobs
 def log_in(login: Login, verifier: Verifier = is_signature) -> Grant:
     """What the login is bound to, exactly if the certificate lets the user in, as sshd does by TrustedUserCAKeys, or more strictly
     (docs/FORMATS.md). Asks the library, the verifier where nothing else is wrong, and the library again, over copies that nobody
@@ -86,15 +105,23 @@ def _grant_of(answer: _header.Grant, buffer: bytes) -> Grant:
 
 @dataclass(frozen=True)
 class UserGrant(Grant):
-    """What a login by a line of authorized_keys is bound to. Of a plain key serial and authority are zero, and key_id is empty."""
+    """What a login by a line of authorized_keys is bound to. Of a plain key serial and authority are zero, and key_id is empty.
 
-    line: int  # the number of the line, from 1
-    # the hosts and ports to which ports may be forwarded alone; None: to any. Hosts are compared byte by byte, and "*" is any
+    line: the number of the line, from 1
+    permit_open: the hosts and ports to which ports may be forwarded alone; None: to any. Hosts are compared byte by byte, and "*" is
+        any
+    permit_listen: likewise where may be listened
+    environment: NAME=VALUE each; by its defaults sshd sets none
+    expires: the first and the last second that may be the last at which the line counts; None: at any
+    tunnel: the only device of tun(4); None with Permits.ANY_TUNNEL
+    """
+
+    line: int
     permit_open: list[tuple[str, int | None]] | None
-    permit_listen: list[tuple[str, int | None]] | None  # likewise where may be listened
-    environment: list[str]  # NAME=VALUE each; by its defaults sshd sets none
-    expires: tuple[int, int] | None  # the first and the last second that may be the last at which the line counts; None: at any
-    tunnel: int | None  # the only device of tun(4); None with Permits.ANY_TUNNEL
+    permit_listen: list[tuple[str, int | None]] | None
+    environment: list[str]
+    expires: tuple[int, int] | None
+    tunnel: int | None
 
 
 class _Answer(_header.UserGrant):
@@ -103,6 +130,7 @@ class _Answer(_header.UserGrant):
         return int(self.grant.length)
 
 
+@names_blobs
 def log_in_by_keys(login: Login, text: BytesLike, host: str | BytesLike = "", verifier: Verifier = is_signature) -> UserGrant:
     """What the login is bound to, exactly if a text of authorized_keys lets the user in: by the key, where the login's certificate is
     empty, and else by that certificate of the key, for which lines cert-authority are asked. It does so as sshd does by the first
@@ -115,9 +143,10 @@ def log_in_by_keys(login: Login, text: BytesLike, host: str | BytesLike = "", ve
     return _log_in_by(LIBRARY.raf_check_user_keys, login, text, host, verifier)
 
 
+@names_blobs
 def log_in_by_principals(login: Login, text: BytesLike, host: str | BytesLike = "", verifier: Verifier = is_signature) -> UserGrant:
-    """The same by a text in the form of AuthorizedPrincipalsFile, where the login's authorities are those of TrustedUserCAKeys. The
-    first line for a principal of the certificate decides, and the user is not asked about.
+    """What the login is bound to, exactly if a text in the form of AuthorizedPrincipalsFile lets the user in by the certificate, where
+    the login's authorities are those of TrustedUserCAKeys: as log_in_by_keys by lines. The first line for a principal of the certificate decides, and the user is not asked about.
 
     Raises as log_in_by_keys does; after USER_NOT_LISTED alone ask about the next file: a line that refuses ends it."""
     return _log_in_by(LIBRARY.raf_check_principals, login, text, host, verifier)

@@ -7,6 +7,7 @@ from dataclasses import dataclass
 from ._header import Status
 from ._keys import sshsig_question, sshsig_question_of_digest
 from ._library import LIBRARY, bytes_of, digests_of, done, number_of, spans_of, text_of
+from ._named import names_blobs
 from ._values import BytesLike
 from ._verify import Verifier, decided, is_signature
 
@@ -14,14 +15,21 @@ from ._verify import Verifier, decided, is_signature
 @dataclass(frozen=True)
 class Signers:
     """By whom a signature has to be, as `ssh-keygen -Y verify` asks, or more strictly (docs/CALLING.md): a time without Z in the
-    text, which is of the machine's zone there, has to hold in every zone here."""
+    text, which is of the machine's zone there, has to hold in every zone here.
 
-    text: BytesLike  # that of a file of allowed signers
-    identity: str | BytesLike  # one of those whom it names
+    text: that of a file of allowed signers
+    identity: one of those whom it names
+    unix_timestamp: when the signature has to count, in seconds since 1970
+    revoked: what the files of ssh-keygen's -r have, or NO_REVOCATIONS; without a file no signature counts
+    """
+
+    text: BytesLike
+    identity: str | BytesLike
     unix_timestamp: int
-    revoked: Iterable[BytesLike]  # what the files of ssh-keygen's -r have, or NO_REVOCATIONS; without a file no signature counts
+    revoked: Iterable[BytesLike]
 
 
+@names_blobs
 def check_signer_with_answer(signature: BytesLike, namespace: str | BytesLike, by: Signers, is_verified: bool) -> Status:
     """Status.DONE exactly if an SSH signature (what stands in its armour, decoded) counts as the identity's in that namespace, by the
     allowed signers. `is_verified` is your answer to the question of this signature, in the namespace and of the message
@@ -38,6 +46,7 @@ def check_signer_with_answer(signature: BytesLike, namespace: str | BytesLike, b
     return status
 
 
+@names_blobs
 def check_signer_of_digest(
     signature: BytesLike, namespace: str | BytesLike, digest: BytesLike, by: Signers, verifier: Verifier = is_signature
 ) -> None:  # fmt: skip
@@ -52,6 +61,7 @@ def check_signer_of_digest(
     decided(lambda yes: done(check_signer_with_answer(given, namespace, by, yes)), is_verified)
 
 
+@names_blobs
 def check_sshsig_with_answer(signature: BytesLike, namespace: str | BytesLike, signers: Iterable[BytesLike], is_verified: bool) -> Status:
     """Status.DONE exactly if an SSH signature (what stands in its armour, decoded) counts in that namespace, where the keys with these
     fingerprints may sign. `is_verified` is your answer to the question of this signature, in the namespace and of the message.
@@ -66,6 +76,7 @@ def check_sshsig_with_answer(signature: BytesLike, namespace: str | BytesLike, s
     return status
 
 
+@names_blobs
 def check_sshsig(
     signature: BytesLike, namespace: str | BytesLike, message: BytesLike, signers: Collection[bytes], verifier: Verifier = is_signature
 ) -> None:  # fmt: skip
@@ -76,10 +87,12 @@ def check_sshsig(
     _check(given, namespace, signers, lambda: verifier(sshsig_question(given, namespace, message)[0]) is True)
 
 
+@names_blobs
 def check_sshsig_of_digest(
     signature: BytesLike, namespace: str | BytesLike, digest: BytesLike, signers: Collection[bytes], verifier: Verifier = is_signature
 ) -> None:  # fmt: skip
-    """The same of a message with that digest, by the hash that sshsig_hash names."""
+    """Returns exactly if an SSH signature is one of a message with that digest, by the hash that sshsig_hash names, as check_sshsig
+    says it of a message."""
     given, _ = bytes_of(signature)
     _check(given, namespace, signers, lambda: verifier(sshsig_question_of_digest(given, namespace, digest)[0]) is True)
 

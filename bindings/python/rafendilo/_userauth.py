@@ -8,6 +8,7 @@ from . import _header
 from ._header import Permits, Status
 from ._keys import question_of
 from ._library import LIBRARY, bytes_of, done, number_of, span_of, text_of
+from ._named import names_blobs
 from ._values import BytesLike, Question, Refused
 from ._verify import Verifier, is_signature
 
@@ -15,16 +16,26 @@ from ._verify import Verifier, is_signature
 @dataclass(frozen=True)
 class Userauth:
     """A client's signature for a login, and the request that it has to be of. The method is publickey-hostbound-v00@openssh.com where
-    a host key is given, and else publickey."""
+    a host key is given, and else publickey.
 
-    session_id: BytesLike  # the server's own, and nothing that the client sent
+    session_id: the server's own, and nothing that the client sent
+    user: the name that the client asks for
+    algorithm: the name of the public key algorithm in the request
+    public_key: the blob of the key or the certificate from which the grant came
+    signature: its blob (RFC 4253, section 6.6)
+    permits: the grant's
+    host_key: the blob of the server's own host key, and nothing that the client sent
+    signed: the bytes that were signed, where the server has them: else they are made of the request
+    """
+
+    session_id: BytesLike
     user: str | BytesLike
-    algorithm: str | BytesLike  # the name of the public key algorithm in the request
-    public_key: BytesLike  # the blob of the key or the certificate from which the grant came
-    signature: BytesLike  # its blob (RFC 4253, section 6.6)
-    permits: Permits  # the grant's
-    host_key: BytesLike | None = None  # the blob of the server's own host key, and nothing that the client sent
-    signed: BytesLike | None = None  # the bytes that were signed, where the server has them: else they are made of the request
+    algorithm: str | BytesLike
+    public_key: BytesLike
+    signature: BytesLike
+    permits: Permits
+    host_key: BytesLike | None = None
+    signed: BytesLike | None = None
 
 
 def check_userauth(request: Userauth, verifier: Verifier = is_signature) -> None:
@@ -34,6 +45,7 @@ def check_userauth(request: Userauth, verifier: Verifier = is_signature) -> None
         raise Refused(Status.NOT_SIGNED)
 
 
+@names_blobs
 def userauth_question(request: Userauth) -> Question:
     """What has to be verified of a client's signature. Raises Refused where it is no signature, OTHER_REQUEST where the signed bytes
     are not those of the request, OTHER_ALGORITHM where the request names another algorithm than the signature's, UNTOUCHED and
@@ -51,6 +63,7 @@ def userauth_question(request: Userauth) -> Question:
     return question_of(lambda *buffer: LIBRARY.raf_userauth_question_of(given, *signed, *buffer), 1024)
 
 
+@names_blobs
 def check_grant_flags(permits: Permits, key: BytesLike, signature: BytesLike) -> None:
     """Returns unless the key, given as its blob, is a security key that nobody touched, or that did not verify its user, as its
     signature says, and a grant that permits this wants it: then raises Refused, UNTOUCHED or UNVERIFIED. It is for servers whose

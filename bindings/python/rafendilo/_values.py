@@ -26,14 +26,15 @@ NO_REVOCATIONS: Final = (b"SSHKRL\n\0\0\0\0\1" + bytes(32),)
 
 class Refused(ValueError):
     """What was given is not what it has to be: `status` says what is wrong first, and the text is its words and its number. `line` is
-    the number, from 1, of the line of authorized_keys that refuses, and 0 where none does."""
+    the number, from 1, of the line of authorized_keys that refuses, and 0 where none does. `hint` names an argument that is a line in
+    place of a blob, and is empty where none is."""
 
-    def __init__(self, status: int, line: int = 0) -> None:
-        self.status, self.line = Status(status), line
-        super().__init__(f"{WORDS[self.status]} ({self.status:d})" + (f" in line {line}" if line else ""))
+    def __init__(self, status: int, line: int = 0, hint: str = "") -> None:
+        self.status, self.line, self.hint = Status(status), line, hint
+        super().__init__(f"{WORDS[self.status]} ({self.status:d})" + (f" in line {line}" if line else "") + (f": {hint}" if hint else ""))
 
     def __reduce__(self) -> tuple[Any, ...]:
-        return type(self), (self.status, self.line)
+        return type(self), (self.status, self.line, self.hint)
 
 
 @dataclass(frozen=True)
@@ -58,14 +59,22 @@ class Line:
 
 @dataclass(frozen=True)
 class CertificateFields:
-    """What a policy asks of a certificate."""
+    """What a policy asks of a certificate.
+
+    serial: its number
+    valid_after: the first second of its window
+    valid_before: the first second after its window, FOREVER if it has no end
+    certificate_type: whom it is for
+    lists_principals: one that lists none is for everybody
+    has_critical_options: refuse one that has some unless you know each
+    """
 
     serial: int
-    valid_after: int  # the first second of its window
-    valid_before: int  # the first second after its window, FOREVER if it has no end
+    valid_after: int
+    valid_before: int
     certificate_type: CertificateType
-    lists_principals: bool  # one that lists none is for everybody
-    has_critical_options: bool  # refuse one that has some unless you know each
+    lists_principals: bool
+    has_critical_options: bool
 
 
 @dataclass(frozen=True)

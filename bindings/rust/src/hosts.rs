@@ -1,5 +1,7 @@
 //! Whether the key or the certificate that a host shows is the host's, by known_hosts.
 
+use std::str;
+
 use crate::buffers::spans;
 use crate::certificates::is_verified;
 use crate::questions::{decide, Question};
@@ -77,6 +79,19 @@ fn with_raw(
         least_rsa_bits: login.least_rsa_bits,
         port: login.port,
     }))
+}
+
+/// The host and the port that a user types: `host:port`, `[host]:port`, `[host]` or a host alone.
+/// Without brackets a text with several colons is a host alone, as an address of IPv6. Fails with
+/// [`Status::FORMAT`] where something else follows a bracket or the one colon, and with
+/// [`Status::TEXT`] where the text is not UTF-8.
+pub fn host_and_port<T: AsRef<[u8]> + ?Sized>(text: &T) -> Result<(&str, Option<u16>), Status> {
+    let mut found = raw::Destination::default();
+    let text = text.as_ref();
+    Status::of(raw::raf_host_and_port(text, &mut found))?;
+    let host = &text[found.host.start..][..found.host.length];
+    let host = str::from_utf8(host).map_err(|_| Status::TEXT)?;
+    Ok((host, (found.port != 0).then_some(found.port)))
 }
 
 /// The number, from 1 on, of the first line of a text of known_hosts for which a host is answered

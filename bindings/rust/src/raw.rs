@@ -485,6 +485,15 @@ pub(crate) struct TimeSpan {
     pub last: u64,
 }
 
+/// Where a host stands in a text, without brackets, and its port, if one stands there.
+#[repr(C)]
+#[derive(Clone, Copy, Debug, Default)]
+pub(crate) struct Destination {
+    pub host: Part,
+    /// 0 where none stands there: take the one that you would ask else.
+    pub port: u16,
+}
+
 /// What a login by a line of authorized_keys may do.
 #[repr(C)]
 #[derive(Clone, Copy, Debug, Default)]
@@ -530,6 +539,7 @@ const _: () = assert!(size_of::<HostLogin>() == 64);
 const _: () = assert!(size_of::<Entry>() == 64);
 const _: () = assert!(size_of::<LineOptionParts>() == 56);
 const _: () = assert!(size_of::<TimeSpan>() == 16);
+const _: () = assert!(size_of::<Destination>() == 24);
 const _: () = assert!(size_of::<UserGrant>() == 168);
 
 calls! {
@@ -612,6 +622,7 @@ calls! {
     fn raf_check_source_address(list: &[u8], address: &[u8]);
     fn raf_check_from(list: &[u8], host: &[u8], address: &[u8]);
     fn raf_read_time(text: &[u8], answer: &mut TimeSpan);
+    fn raf_host_and_port(text: &[u8], answer: &mut Destination);
     fn raf_check_user_keys(
         login: &Login<'_>, text: &[u8], host: &[u8], is_verified: u32, buffer: &mut [u8],
         answer: &mut UserGrant

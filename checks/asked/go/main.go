@@ -154,6 +154,10 @@ var answers = map[string]func(of []string) ([]string, error){
 		}
 		return nil, nil
 	},
+	"host-and-port": func(of []string) ([]string, error) {
+		host, port, err := rafendilo.HostAndPort(text(of[0]))
+		return []string{word(host), fmt.Sprint(port)}, err
+	},
 	"time": func(of []string) ([]string, error) {
 		first, last, err := rafendilo.ReadTime(text(of[0]))
 		seconds := []string{fmt.Sprint(first.Unix()), fmt.Sprint(last.Unix())}

@@ -391,6 +391,11 @@ fn addresses(given: &[&str]) -> String {
     format!("{by_certificate} {}", number_of(rafendilo::check_from(&list, &host, address)))
 }
 
+fn host_and_port(text: &[u8]) -> Answer {
+    let (host, port) = rafendilo::host_and_port(text)?;
+    words([word(host.as_bytes()), port.unwrap_or(0).to_string()])
+}
+
 fn time(text: &[u8]) -> Answer {
     let (first, last) = rafendilo::read_time(text)?.into_inner();
     words([first.to_string(), last.to_string()])
@@ -466,6 +471,7 @@ fn answer(question: &str) -> Answer {
         "host" => host(&at(0)),
         "options" => options(&at(0)),
         "addresses" => Ok(addresses(given)),
+        "host-and-port" => host_and_port(&at(0)),
         "time" => time(&at(0)),
         "signer" | "is-signer" => Ok(signer(what, given)),
         "unrevoked-key" => {

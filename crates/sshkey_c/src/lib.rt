@@ -8,6 +8,7 @@
 
 mod address;
 mod certificate;
+mod destination;
 mod draft;
 mod entry;
 mod host;

@@ -1,0 +1,2 @@
+mod Colons
+mod Parts

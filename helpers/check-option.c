@@ -1,0 +1,116 @@
+/* Which option keeps sshd from reading a line that has the key: raf_check_user_keys is asked about
+ * the line anew, with each option alone. */
+#include <stdio.h>
+#include <stdlib.h>
+#include <string.h>
+#include <strings.h>
+
+#include "check.h"
+
+static const char authority[] = "cert-authority";
+
+/* What is asked of lines, one at a time. */
+typedef struct {
+  const raf_login *login;
+  raf_span host;
+  report *of; /* is told of the first line that is found */
+} asked_lines;
+
+/* Writes a line with those options, and of an authority where the login has a certificate; null
+ * where there is no memory. */
+static char *write_line(const asked_lines *asked, raf_span options, raf_span key, size_t *length) {
+  char *line = NULL;
+  FILE *to = open_memstream(&line, length);
+  if (!to) return NULL;
+  fwrite(options.bytes, 1, options.length, to);
+  if (asked->login->certificate.length)
+    fprintf(to, "%s%s", options.length ? "," : "", authority);
+  fputc(' ', to);
+  fwrite(key.bytes, 1, key.length, to);
+  if (fclose(to) == 0) return line;
+  free(line);
+  return NULL;
+}
+
+/* What is said of the login by that line: RAF_USER_NOT_LISTED where it is none for the key, or is
+ * not read. */
+static uint32_t ask_line(const asked_lines *asked, raf_span options, raf_span key) {
+  size_t length = 0;
+  raf_user_grant grant;
+  char *line = write_line(asked, options, key, &length);
+  if (!line) return RAF_MEMORY;
+  size_t buffer_length = length + 2 * asked->login->certificate.length;
+  uint8_t *buffer = calloc(1, buffer_length);
+  uint32_t answer = !buffer ? (uint32_t)RAF_MEMORY
+                            : raf_check_user_keys(asked->login, (const uint8_t *)line, length,
+                                                  asked->host.bytes, asked->host.length, 0, buffer,
+                                                  buffer_length, &grant);
+  free(buffer);
+  free(line);
+  return answer;
+}
+
+/* The name with which the option begins, or else its first byte. */
+static raf_span name_of(raf_span option) {
+  size_t length = 0;
+  while (length < option.length && !strchr("=,\" \t", option.bytes[length])) length++;
+  return (raf_span){option.bytes, length || !option.length ? length : 1};
+}
+
+static bool is_authority(raf_span name) {
+  return name.length == sizeof authority - 1 &&
+         !strncasecmp((const char *)name.bytes, authority, name.length);
+}
+
+/* The option that is not read with that key, or all where they are not read together; of no bytes
+ * where they are, or the line is an authority's and a key is shown. */
+static raf_span find_unread(const asked_lines *asked, raf_span options, raf_span key) {
+  uint8_t *buffer = calloc(1, options.length + 1);
+  raf_line_option_parts parts = {{0, 0}, {0, 0}, 0, 0, 0};
+  raf_span found = options;
+  if (ask_line(asked, options, key) != RAF_USER_NOT_LISTED) found.length = 0;
+  for (size_t place = 0; buffer && place < found.length; place = parts.next) {
+    uint32_t answer = raf_next_line_option(options.bytes, options.length, place, buffer,
+                                           options.length, &parts);
+    if (answer != RAF_DONE) parts.next = options.length;
+    if (place) place++; /* the comma before it */
+    raf_span option = {options.bytes + place, parts.next - place}, name = name_of(option);
+    bool is_of_others = !asked->login->certificate.length && is_authority(name);
+    if (!is_of_others && answer == RAF_DONE &&
+        ask_line(asked, option, key) != RAF_USER_NOT_LISTED)
+      continue;
+    if (is_of_others) name.length = 0;
+    found = name;
+    break;
+  }
+  free(buffer);
+  return found;
+}
+
+/* Tells the report of a line that has the key, and options that are not read. */
+static uint32_t look_at_line(const char *line, size_t length, size_t number, void *given) {
+  const asked_lines *asked = given;
+  const raf_span none = {(const uint8_t *)"", 0};
+  raf_entry entry;
+  memset(&entry, 0, sizeof entry);
+  uint8_t *buffer = calloc(1, length);
+  if (!buffer) return RAF_MEMORY;
+  const uint8_t *bytes = (const uint8_t *)line;
+  uint32_t answer = raf_authorized_entry(bytes, length, buffer, length, &entry);
+  free(buffer);
+  raf_span options = {bytes, entry.front.length};
+  raf_span key = {bytes + options.length, length - options.length};
+  if (answer != RAF_DONE || !options.length ||
+      ask_line(asked, none, key) == RAF_USER_NOT_LISTED)
+    return answer == RAF_MEMORY ? answer : (uint32_t)RAF_DONE;
+  asked->of->option = find_unread(asked, options, key);
+  if (!asked->of->option.length) return RAF_DONE;
+  asked->of->by_line = number;
+  return RAF_END;
+}
+
+void check_find_option(raf_blob text, const raf_login *login, raf_span host, report *of) {
+  size_t number;
+  asked_lines asked = {login, host, of};
+  program_each_line(text, look_at_line, &asked, &number);
+}
