@@ -1,1 +1,4 @@
 mod Unsigned
+mod Searches
+mod Sources
+mod Grants

@@ -2,11 +2,27 @@
 #![tactic(auto)]
 
 pub mod examples;
+mod grant;
+mod held;
+mod login;
 mod offer;
+mod pending_login;
+mod place;
 mod refusal;
 mod request;
+mod search;
 mod signed;
+mod sources;
+mod trusted;
 
+pub use grant::{PublickeyGrant, Source};
+pub use login::{log_in, pending};
 pub use offer::Offer;
+pub use pending_login::{Answers, Pending};
+pub use place::Place;
 pub use refusal::PublickeyRefusal;
 pub use signed::{Signed, client_question};
+pub use trusted::{Principals, Text, Trusted};
+
+#[test]
+fn compiles() {}
