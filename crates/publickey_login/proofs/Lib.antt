@@ -2,3 +2,4 @@ mod Unsigned
 mod Searches
 mod Sources
 mod Grants
+mod Whys
