@@ -16,7 +16,7 @@ use Rattle.sshkey_userauth.specs.declared.judgement.Requirements.{Requirements}
 use Rattle.sshkey_userauth.specs.declared.judgement.name.KeyForm.{KeyForm}
 use Rattle.sshkey_userauth.specs.declared.judgement.name.KeyForm.TheVariants.{Certified, Plain}
 use Rattle.user_keys.specs.Certificates.{merged}
-use Rattle.publickey_login.proofs.Sources.{one_key_source, one_source}
+use Rattle.publickey_login.proofs.OneSource.{one_key_source, one_source}
 use Rattle.publickey_login.proofs.Unsigned.{one_signature}
 use Rattle.publickey_login.specs.Grants.{Grants, GrantsCertificate, GrantsKey, IsPending, required_of}
 use Rattle.publickey_login.specs.Logins.{Login}
@@ -51,15 +51,15 @@ module _ (l : Login) where
   same_grants None None k j Plain Plain g h x y =
       let same = one_key k j x.spelled y.spelled in
       record { authority = refl; key = same; form = refl; terms = one_key_terms k g h x (subst (λ (i : Key). GrantsKey l i h) same y) }
-  same_grants None (Some b) k j Plain Certified g h x y = absurd (blobs_apart k y.0 l.offer.blob x.spelled y.1.0.spelled)
-  same_grants (Some a) None k j Certified Plain g h x y = absurd (blobs_apart j x.0 l.offer.blob y.spelled x.1.0.spelled)
+  same_grants None (Some b) k j Plain Certified g h x y = absurd (blobs_apart k y.0 l.offer.blob x.spelled y.1.spelled)
+  same_grants (Some a) None k j Certified Plain g h x y = absurd (blobs_apart j x.0 l.offer.blob y.spelled x.1.spelled)
   same_grants (Some a) (Some b) k j Certified Certified g h x y =
-      let same = one_certificate x.0 y.0 x.1.0.spelled y.1.0.spelled in
+      let same = one_certificate x.0 y.0 x.1.spelled y.1.spelled in
       record {
-        authority = ap (λ (o : Option Question). Some o) (y.1.1.1 ∙ ap certificate_question same ∙ sym x.1.1.1);
-        key = y.1.1.0 ∙ ap (λ (d : Certificate). d.signed.key) same ∙ sym x.1.1.0;
+        authority = ap (λ (o : Option Question). Some o) (y.3 ∙ ap certificate_question same ∙ sym x.3);
+        key = y.2 ∙ ap (λ (d : Certificate). d.signed.key) same ∙ sym x.2;
         form = refl;
-        terms = one_terms x.0 g h x.1.0 (subst (λ (d : Certificate). GrantsCertificate l d h) same y.1.0);
+        terms = one_terms x.0 g h x.1 (subst (λ (d : Certificate). GrantsCertificate l d h) same y.1);
       }
   same_grants None b k j Certified q g h x y = absurd x
   same_grants (Some a) b k j Plain q g h x y = absurd x
@@ -78,8 +78,8 @@ same_required server g h same = ap (λ (t : Terms). record { touch_required = se
 -- it does not depend on what is required
 pub one_left : (o : Offer) (s : Signed) (r q : Requirements) (key : Key) (form : KeyForm) (a b : Option (Option Question)) → IsLeft o s r key form a → IsLeft o s q key form b → b ≡ a
 one_left o (Request session_id host_key bytes) r q key form (Some a) (Some b) x y =
-    let names : Some y.0 ≡ Some x.0 = sym y.1.0 ∙ x.1.0 in
-    let signature = one_signature x.1.1.signature y.1.1.signature bytes x.1.1.spelled y.1.1.spelled in
+    let names : Some y.0 ≡ Some x.0 = sym y.1 ∙ x.1 in
+    let signature = one_signature x.2.signature y.2.signature bytes x.2.spelled y.2.spelled in
     cc
 one_left o (Request session_id host_key bytes) r q key form None b x y = absurd x
 one_left o (Request session_id host_key bytes) r q key form (Some a) None x y = absurd y

@@ -1,5 +1,5 @@
 mod Unsigned
 mod Searches
-mod Sources
+mod OneSource
 mod Grants
 mod Whys

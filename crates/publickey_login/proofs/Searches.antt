@@ -4,14 +4,12 @@ use Rattle.std.specs.Str.Lines.{lines}
 use Rattle.login_terms.specs.Terms.{Terms}
 use Rattle.sshkey_model.specs.Certificates.{Certificate}
 use Rattle.user_keys.proofs.FirstLines.{none_lets, nothing_lets, one_terms, some_first}
-use Rattle.user_keys.proofs.Principals.{not_allowed, one_judged, one_name, undecided}
+use Rattle.user_keys.proofs.Principals.{not_allowed, one_name, refused_is_told, refused_lets_in, undecided}
 use Rattle.user_keys.specs.Certificates.{name_for}
 use Rattle.user_keys.specs.CertificateLogins.{by}
 use Rattle.user_keys.specs.FirstLines.{EndsBy}
-use Rattle.user_keys.specs.PrincipalLogins.{JudgesPrincipal}
 use Rattle.user_keys.specs.Principals.{Decides, MayDecide, lines_at_feeds}
 use Rattle.user_keys.specs.UserLogins.{Ends, Lets, MayLet, UserLogin}
-use Rattle.user_keys.specs.declared.answer.Judgement.TheVariants as judgement
 use Rattle.user_keys.specs.declared.refusal.UserRefusal.TheVariants as why
 use Rattle.publickey_login.specs.Logins.{Read, Text, Unreadable}
 use Rattle.publickey_login.specs.Searches.{ArePassed, AuthorityLine, Found, GoesOn, IsFoundBy, IsFoundIn, IsOfFirst, KeyLine, Passes, PrincipalLine, RefusesBy, Sought, in_principals, in_text}
@@ -46,7 +44,7 @@ module _ (u : UserLogin) where
   pub found_lets : (s : Sought) (text : List ℕ) (f : Found) → IsFoundBy u s text f → RefusesBy u s text → ⊥
   found_lets KeyLine text f a b = b
   found_lets (AuthorityLine c) text f a b = b
-  found_lets (PrincipalLine c) text f a (n, t, name, decides, reason, judged) = not_allowed (in_principals u text) c n t name decides (why.NotAllowed n reason) (inl (reason, judged, refl)) f.line f.terms f.name a
+  found_lets (PrincipalLine c) text f a (n, t, name, decides, says) = refused_lets_in (in_principals u text) c n t name decides says f.line f.terms f.name a
 
   -- ---- a text that cannot be told
 
@@ -59,20 +57,14 @@ module _ (u : UserLogin) where
   unclear_counts : (s : Sought) (text : List ℕ) (n : ℕ) → IsUnclearBy u s text n → Passes u s text → ⊥
   unclear_counts KeyLine text n (line, first, may) none = none (some_first (Ends (in_text u text)) (lines text) line n first)
   unclear_counts (AuthorityLine c) text n (line, first, may) none = none (some_first (Ends (by (in_text u text) c)) (lines text) line n first)
-  unclear_counts (PrincipalLine c) text n (inl (inl x)) none = absurd x.1
+  unclear_counts (PrincipalLine c) text n (inl (inl x)) none = absurd (cc x.1)
   unclear_counts (PrincipalLine c) text n (inl (inr (line, m, first, may, is))) none = none (some_first (EndsBy (Decides c) (MayDecide c)) (lines_at_feeds text) line m first)
   unclear_counts (PrincipalLine c) text n (inr (m, t, name, decides, says)) none = nothing_lets (Decides c) (MayDecide c) (lines_at_feeds text) none m t decides.0
 
   unclear_told : (s : Sought) (text : List ℕ) (n : ℕ) → RefusesBy u s text → IsUnclearBy u s text n → ⊥
   unclear_told KeyLine text n a b = a
   unclear_told (AuthorityLine c) text n a b = a
-  unclear_told (PrincipalLine c) text n a (inl (inl x)) = absurd x.1
-  unclear_told (PrincipalLine c) text n (m, t, name, decides, judged) (inl (inr (line, k, first, may, is))) = none_lets (Decides c) (MayDecide c) (lines_at_feeds text) line k first may m t decides.0
-  unclear_told (PrincipalLine c) text n a (inr (m, t, name, decides, inl (reason, judged, is))) = absurd is
-  unclear_told (PrincipalLine c) text n (m, t, name, decides, reason, judged) (inr (k, v, other, also, inr (unclear, is))) =
-      let same = one_terms (Decides c) (MayDecide c) (lines_at_feeds text) m k t v decides.0 also.0 in
-      let both = one_judged (in_principals u text) c t (judgement.Refuses reason) judgement.Unclear judged (subst (λ (w : Terms). JudgesPrincipal (in_principals u text) c w judgement.Unclear) same unclear) in
-      absurd both
+  unclear_told (PrincipalLine c) text n (m, t, name, decides, says) why = refused_is_told (in_principals u text) c m n t name decides says why
 
   -- ---- several texts
 
@@ -160,7 +152,7 @@ module _ (u : UserLogin) where
       pub stops : (n : ℕ) (line : Option ℕ) → IsStopped u s rest n line → IsStopped u s texts (k + n) line
 
     pub all_left : (texts : List Text) → AreLeft texts texts 0
-    all_left texts = record { found = λ n f a. a; goes_on = λ a. a; stops = λ n line a. a }
+    all_left texts = record { found = λ n f a. subst (λ (m : ℕ). IsFoundIn u s texts m f) (omega arith) a; goes_on = λ a. a; stops = λ n line a. subst (λ (m : ℕ). IsStopped u s texts m line) (omega arith) a }
 
     later_found : (text : List ℕ) (rest : List Text) → Passes u s text → (n : ℕ) (f : Found) → IsFoundIn u s rest n f → IsFoundIn u s (Read text ∷ rest) (suc n) f
     unfolding IsOfFirst
@@ -169,7 +161,7 @@ module _ (u : UserLogin) where
     later_goes : (text : List ℕ) (rest : List Text) → Passes u s text → GoesOn u s rest → GoesOn u s (Read text ∷ rest)
     unfolding IsOfFirst ArePassed
     later_goes text rest passed (inl all) = inl (passed, all)
-    later_goes text rest passed (inr (m, b)) = inr (suc m, passed, b)
+    later_goes text rest passed (inr (m, b)) = inr (suc m, (passed, b))
 
     later_stops : (text : List ℕ) (rest : List Text) → Passes u s text → (n : ℕ) (line : Option ℕ) → IsStopped u s rest n line → IsStopped u s (Read text ∷ rest) (suc n) line
     unfolding IsOfFirst IsUnread

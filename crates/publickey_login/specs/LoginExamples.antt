@@ -109,7 +109,7 @@ Sources = IsCertificateSource (login (trusting [] InCertificate [])) certificate
 
 -- By a line the key that it has signs for the login, and else one of the authorities.
 abbrev pub Counted : Type 0
-Counted = (counted_in (source.AuthorizedKeys 3) 1 2 ≡ 1) × (counted_in (source.Command 3) 1 2 ≡ 1) × (counted_in source.Authority 1 2 ≡ 2) × (counted_in (source.Principals 3) 1 2 ≡ 2)
+Counted = (signer trusted : ℕ) → (counted_in (source.AuthorizedKeys 3) signer trusted ≡ signer) × (counted_in (source.Command 3) signer trusted ≡ signer) × (counted_in source.Authority signer trusted ≡ trusted) × (counted_in (source.Principals 3) signer trusted ≡ trusted)
 
 abbrev requiring : Bool → Bool → Requirements
 requiring touch verify = record { touch_required = touch; verify_required = verify }

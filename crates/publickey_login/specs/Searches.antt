@@ -6,11 +6,9 @@ use Rattle.login_terms.specs.Terms.{Terms}
 use Rattle.sshkey_model.specs.Certificates.{Certificate}
 use Rattle.user_keys.specs.CertificateLogins.{IsLineFor, by}
 use Rattle.user_keys.specs.FirstLines.{EndsBy, LetsFirst}
-use Rattle.user_keys.specs.PrincipalLogins.{DecidesFirst, IsPrincipalLine, JudgesPrincipal}
+use Rattle.user_keys.specs.PrincipalLogins.{DecidesFirst, IsPrincipalLine, RefusesPrincipal}
 use Rattle.user_keys.specs.Principals.{Decides, MayDecide, lines_at_feeds}
 use Rattle.user_keys.specs.UserLogins.{Ends, Lets, MayLet, UserLogin}
-use Rattle.user_keys.specs.declared.answer.Judgement.TheVariants.{Refuses}
-use Rattle.user_keys.specs.declared.refusal.Reason.{Reason}
 use Rattle.publickey_login.specs.Logins.{Read, Text, Unreadable}
 
 -- ---- what is sought
@@ -55,7 +53,7 @@ Passes u (PrincipalLine c) text = ¬ Any (EndsBy (Decides c) (MayDecide c)) (lin
 abbrev pub RefusesBy : UserLogin → Sought → List ℕ → Type 0
 RefusesBy u KeyLine text = ⊥
 RefusesBy u (AuthorityLine c) text = ⊥
-RefusesBy u (PrincipalLine c) text = (n : ℕ) × (t : Terms) × (name : List ℕ) × DecidesFirst c (lines_at_feeds text) n t name × ((reason : Reason) × JudgesPrincipal (in_principals u text) c t (Refuses reason))
+RefusesBy u (PrincipalLine c) text = (n : ℕ) × (t : Terms) × (name : List ℕ) × DecidesFirst c (lines_at_feeds text) n t name × RefusesPrincipal (in_principals u text) c t
 
 -- ---- several texts
 

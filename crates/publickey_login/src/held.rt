@@ -163,9 +163,9 @@ fn hold_certificate<R: Revocations>(
 
 /// The login that lines are asked about.
 fn user_login<'a>(
-    offer: &Offer<'a>,
+    offer: &'a Offer<'a>,
     trusted: &Trusted,
-    place: &Place<'a>,
+    place: &'a Place<'a>,
     key: &'a KeyData,
 ) -> UserLogin<'a>
     ensures login { (revokes : List ℕ → CertificateIdentity → Bool) (revokes_key : List ℕ → Bool) →

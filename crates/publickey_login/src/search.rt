@@ -78,7 +78,7 @@ pub(crate) fn find_in(
     sought: Sought,
 ) -> Result<Option<Origin>, PublickeyRefusal>
     requires { CanSeek login.now (sought_of sought) }
-    ensures { SearchesIn (login_of login.now None) (sought_of sought) list
+    ensures { SearchesIn (login_of login.now None) (sought_of sought.entry) list
         (map text_of texts.now) result }
 {
     for (number, text) in texts.iter().enumerate() {
@@ -104,7 +104,7 @@ fn find(
     sought: Sought,
 ) -> Result<TextVerdict, PublickeyRefusal>
     requires { CanSeek login.now (sought_of sought) }
-    ensures { SearchesText (login_of login.now None) (sought_of sought) source text.now
+    ensures { SearchesText (login_of login.now None) (sought_of sought.entry) source text.now
         result }
 {
     match find_line(alloc, &UserLogin { text, ..*login }, sought) {
@@ -121,7 +121,7 @@ fn find(
 
 /// What follows where the lines that are for somebody refuse: for a principal the first decides.
 fn refused(sought: Sought) -> TextVerdict
-    ensures { result ≡ refused (sought_of sought) }
+    ensures { result ≡ refused (sought_of sought.entry) }
 {
     match sought {
         Sought::KeyLine | Sought::AuthorityLine(_) => TextVerdict::Passes,
@@ -132,7 +132,7 @@ fn refused(sought: Sought) -> TextVerdict
 /// The line of the login's text that lets in.
 fn find_line(alloc: Global, login: &UserLogin, sought: Sought) -> Result<NamedLine, UserRefusal>
     requires { CanSeek login.now (sought_of sought) }
-    ensures { FindsText (login_of login.now None) (sought_of sought) login.now.text.now result }
+    ensures { FindsText (login_of login.now None) (sought_of sought.entry) login.now.text.now result }
 {
     match sought {
         Sought::KeyLine => match find_key_line(alloc, login) {

@@ -38,7 +38,13 @@ pub(crate) fn key_origin(
         (IsWhyNoKeySource l (key_of login.now.offered.now)) result }
 {
     let texts = trusted.authorized_keys;
-    if let Some(origin) = find_in(alloc, texts, TextList::AuthorizedKeys, login, Sought::KeyLine)? {
+    if let Some(origin) = find_in(
+        alloc,
+        texts,
+        TextList::AuthorizedKeys,
+        login,
+        Sought::KeyLine,
+    )? {
         return Ok(origin);
     }
     let texts = trusted.command_keys;

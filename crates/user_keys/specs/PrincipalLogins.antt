@@ -48,6 +48,10 @@ judged_in_place c t j = if t.is_authority then Refuses MisplacedOption else judg
 abbrev pub JudgesPrincipal : UserLogin → Certificate → Terms → Judgement → Type 0
 JudgesPrincipal login c t j = (alone : Judgement) × Judges t login.time login.client login.host alone × (j ≡ judged_in_place c t alone)
 
+-- The terms refuse it.
+abbrev pub RefusesPrincipal : UserLogin → Certificate → Terms → Type 0
+RefusesPrincipal login c t = (reason : Reason) × JudgesPrincipal login c t (Refuses reason)
+
 abbrev pub IsPrincipalLine : UserLogin → Certificate → ℕ → Terms → List ℕ → Type 0
 IsPrincipalLine login c number t name = DecidesFirst c login.lines number t name × JudgesPrincipal login c t Allows
 

@@ -37,7 +37,7 @@ module _ (l : Login) where
         cc
 
     one_of_principals : (p : Principals) (s t : Source) (f g : Found) → IsOfPrincipals l c p s f → IsOfPrincipals l c p t g → (g.terms ≡ f.terms) × (g.name ≡ f.name)
-    one_of_principals InCertificate source.Authority source.Authority f g a b = (b.1.0 ∙ sym a.1.0, one_listed f g a.1.1 b.1.1)
+    one_of_principals InCertificate source.Authority source.Authority f g a b = (b.1 ∙ sym a.1, one_listed f g a.2 b.2)
     one_of_principals InCertificate source.Authority (source.AuthorizedKeys m) f g a b = absurd b
     one_of_principals InCertificate source.Authority (source.Principals m) f g a b = absurd b
     one_of_principals InCertificate source.Authority (source.Command m) f g a b = absurd b
@@ -54,8 +54,8 @@ module _ (l : Login) where
 
     principals_end : (p : Principals) (s : Source) (f : Found) → IsOfPrincipals l c p s f → PrincipalsGoOn l c p → ⊥
     principals_end InCertificate source.Authority f a none =
-        let both : Some f.name ≡ None = sym a.1.1 ∙ none in
-        absurd both
+        let both : Some f.name ≡ None = sym a.2 ∙ none in
+        absurd (cc both)
     principals_end InCertificate (source.AuthorizedKeys n) f a none = a
     principals_end InCertificate (source.Principals n) f a none = a
     principals_end InCertificate (source.Command n) f a none = a
@@ -71,7 +71,7 @@ module _ (l : Login) where
     authority_ends s f a (inr goes) = principals_end l.trusted.principals s f a.1 goes.1
 
     abbrev Same : Source → Source → Found → Found → Type 0
-    Same s t f g = (authorities_of l c s ≡ authorities_of l c t) × (g.terms ≡ f.terms) × (g.name ≡ f.name)
+    Same s t f g = (authorities_of l c s ≡ authorities_of l c t) × ((g.terms ≡ f.terms) × (g.name ≡ f.name))
 
     files_end : (n : ℕ) (f : Found) → IsFoundIn (user_of l c.signed.key) (AuthorityLine c) l.trusted.authorized_keys n f → GoesOn (user_of l c.signed.key) (AuthorityLine c) l.trusted.authorized_keys → ⊥
     files_end n f a goes = found_ends (user_of l c.signed.key) (AuthorityLine c) l.trusted.authorized_keys n f a goes
@@ -84,12 +84,12 @@ module _ (l : Login) where
     one_source source.Authority (source.AuthorizedKeys m) f g a b = absurd (files_end m g b a.0)
     one_source source.Authority source.Authority f g a b = (refl, one_of_principals l.trusted.principals source.Authority source.Authority f g a.1.1 b.1.1)
     one_source source.Authority (source.Principals m) f g a b = (refl, one_of_principals l.trusted.principals source.Authority (source.Principals m) f g a.1.1 b.1.1)
-    one_source source.Authority (source.Command m) f g a b = absurd (authority_ends source.Authority f a.1 b.1.0)
+    one_source source.Authority (source.Command m) f g a b = absurd (authority_ends source.Authority f a.1 b.1)
     one_source (source.Principals n) (source.AuthorizedKeys m) f g a b = absurd (files_end m g b a.0)
     one_source (source.Principals n) source.Authority f g a b = (refl, one_of_principals l.trusted.principals (source.Principals n) source.Authority f g a.1.1 b.1.1)
     one_source (source.Principals n) (source.Principals m) f g a b = (refl, one_of_principals l.trusted.principals (source.Principals n) (source.Principals m) f g a.1.1 b.1.1)
-    one_source (source.Principals n) (source.Command m) f g a b = absurd (authority_ends (source.Principals n) f a.1 b.1.0)
+    one_source (source.Principals n) (source.Command m) f g a b = absurd (authority_ends (source.Principals n) f a.1 b.1)
     one_source (source.Command n) (source.AuthorizedKeys m) f g a b = absurd (files_end m g b a.0)
-    one_source (source.Command n) source.Authority f g a b = absurd (authority_ends source.Authority g b.1 a.1.0)
-    one_source (source.Command n) (source.Principals m) f g a b = absurd (authority_ends (source.Principals m) g b.1 a.1.0)
-    one_source (source.Command n) (source.Command m) f g a b = (refl, one_in (user_of l c.signed.key) (AuthorityLine c) l.trusted.command_keys n m f g a.1.1 b.1.1)
+    one_source (source.Command n) source.Authority f g a b = absurd (authority_ends source.Authority g b.1 a.1)
+    one_source (source.Command n) (source.Principals m) f g a b = absurd (authority_ends (source.Principals m) g b.1 a.1)
+    one_source (source.Command n) (source.Command m) f g a b = (refl, one_in (user_of l c.signed.key) (AuthorityLine c) l.trusted.command_keys n m f g a.2 b.2)
