@@ -3,3 +3,5 @@ mod Searches
 mod OneSource
 mod Grants
 mod Whys
+mod Answered
+mod Origins

@@ -1,19 +1,30 @@
 -- What the first text says that is not passed over.
-use Rattle.std.proofs.Common.{◌≡◌, ◌≢◌, ◌∙◌, ◌+◌, ℕ, zero, suc, List, [], ◌∷◌, Option, Some, None, ap, arith, inl, inr, refl, subst, sym}
+use Rattle.std.proofs.Common.{◌≡◌, ◌≢◌, ◌∙◌, ◌+◌, ◌<◌, ◌≤◌, ℕ, zero, suc, List, [], ◌∷◌, IfErr, Option, Some, None, Result, Ok, Err, ap, arith, drop, inl, inr, length, map, slice_index_or, subst, sym}
+use Rattle.std.proofs.lemmas.List.{drop_more}
+use Rattle.std.proofs.Math.ListN.{drop_of_length-le}
 use Rattle.std.specs.Str.Lines.{lines}
 use Rattle.login_terms.specs.Terms.{Terms}
 use Rattle.sshkey_model.specs.Certificates.{Certificate}
 use Rattle.user_keys.proofs.FirstLines.{none_lets, nothing_lets, one_terms, some_first}
 use Rattle.user_keys.proofs.Principals.{not_allowed, one_name, refused_is_told, refused_lets_in, undecided}
 use Rattle.user_keys.specs.Certificates.{name_for}
-use Rattle.user_keys.specs.CertificateLogins.{by}
+use Rattle.user_keys.specs.Answers.{IsWhyNoLine}
+use Rattle.user_keys.specs.CertificateLogins.{FindsLine, IsLineFor, by}
 use Rattle.user_keys.specs.FirstLines.{EndsBy}
+use Rattle.user_keys.specs.PrincipalLogins.{IsPrincipalLine, IsWhyUndecided}
 use Rattle.user_keys.specs.Principals.{Decides, MayDecide, lines_at_feeds}
 use Rattle.user_keys.specs.UserLogins.{Ends, Lets, MayLet, UserLogin}
+use Rattle.user_keys.specs.declared.grant.NamedLine.{NamedLine}
+use Rattle.user_keys.specs.declared.refusal.Reason.{Reason}
+use Rattle.user_keys.specs.declared.refusal.UserRefusal.{UserRefusal}
 use Rattle.user_keys.specs.declared.refusal.UserRefusal.TheVariants as why
 use Rattle.publickey_login.specs.Logins.{Read, Text, Unreadable}
 use Rattle.publickey_login.specs.Searches.{ArePassed, AuthorityLine, Found, GoesOn, IsFoundBy, IsFoundIn, IsOfFirst, KeyLine, Passes, PrincipalLine, RefusesBy, Sought, in_principals, in_text}
-use Rattle.publickey_login.specs.Stops.{IsStopped, IsUnclearBy, IsUnread}
+use Rattle.publickey_login.specs.Results.{FindsText, SearchesText, refused}
+use Rattle.publickey_login.specs.Stops.{IsStopped, IsUnclearBy, IsUnread, IsWhy}
+use Rattle.publickey_login.specs.Values.{text_of}
+use Rattle.publickey_login.specs.declared.grant.Source.{Source}
+use Rattle.publickey_login.specs.declared.trusted.Text as code
 
 module _ (u : UserLogin) where
   -- ---- a text
@@ -65,6 +76,37 @@ module _ (u : UserLogin) where
   unclear_told KeyLine text n a b = a
   unclear_told (AuthorityLine c) text n a b = a
   unclear_told (PrincipalLine c) text n (m, t, name, decides, says) why = refused_is_told (in_principals u text) c m n t name decides says why
+
+  -- ---- what is found of a text
+
+  no_key_line : (text : List ℕ) (r : UserRefusal) → IsWhyNoLine (in_text u text) r → (f : Found) → IsFoundBy u KeyLine text f → ⊥
+  no_key_line text why.NotListed none f a = found_counts KeyLine text f a none.0
+  no_key_line text (why.NotAllowed n reason) none f a = found_counts KeyLine text f a none.0
+  no_key_line text (why.Unclear n) none f a = unclear_lets KeyLine text n f a none
+  no_key_line text why.UnacceptedKey none f a = none
+  no_key_line text why.Revoked none f a = none
+  no_key_line text (why.Certificate p) none f a = none
+  no_key_line text why.Memory none f a = none
+
+  pub key_line : (text : List ℕ) (r : UserRefusal) → (r ≢ why.Memory → IsWhyNoLine (in_text u text) r) → FindsText u KeyLine text (Err r)
+  key_line text r refused = λ other. (refused other, no_key_line text r (refused other))
+
+  pub authority_line : (c : Certificate) (text : List ℕ) (result : Result NamedLine UserRefusal) → FindsLine (IsLineFor (in_text u text) c) result → IfErr result (λ r. r ≢ why.Memory → IsWhyNoLine (by (in_text u text) c) r) → FindsText u (AuthorityLine c) text result
+  authority_line c text (Ok line) exactly refused = exactly
+  authority_line c text (Err r) exactly refused = λ other. (refused other, λ f a. exactly other f.line f.terms f.name a)
+
+  pub principal_line : (c : Certificate) (text : List ℕ) (result : Result NamedLine UserRefusal) → FindsLine (IsPrincipalLine (in_principals u text) c) result → IfErr result (λ r. r ≢ why.Memory → IsWhyUndecided (in_principals u text) c r) → FindsText u (PrincipalLine c) text result
+  principal_line c text (Ok line) exactly refused = exactly
+  principal_line c text (Err r) exactly refused = λ other. (refused other, λ f a. exactly other f.line f.terms f.name a)
+
+  -- lines that refuse are passed over, but for a principal
+  pub line_refuses : (s : Sought) (from : Source) (text : List ℕ) (n : ℕ) (reason : Reason) → IsWhy u s text (why.NotAllowed n reason) → SearchesText u s from text (Ok (refused s))
+  line_refuses KeyLine from text n reason none = none.0
+  line_refuses (AuthorityLine c) from text n reason none = none.0
+  line_refuses (PrincipalLine c) from text n reason (inl (inl x)) = absurd (cc x.1)
+  line_refuses (PrincipalLine c) from text n reason (inl (inr (line, m, first, may, is))) = absurd (cc is)
+  line_refuses (PrincipalLine c) from text n reason (inr (m, t, name, decides, inl refuses)) = (m, t, name, decides, (refuses.0, refuses.1))
+  line_refuses (PrincipalLine c) from text n reason (inr (m, t, name, decides, inr unclear)) = absurd (cc unclear.1)
 
   -- ---- several texts
 
@@ -196,3 +238,11 @@ module _ (u : UserLogin) where
     pub none_left : (texts : List Text) (k : ℕ) → AreLeft texts [] k → GoesOn u s texts
     unfolding ArePassed
     none_left texts k left = left.goes_on (inl tt)
+
+-- ---- the texts of a call
+
+pub left_at : (xs : List code.Text) (k : ℕ) (d t : code.Text) → k < length xs → slice_index_or xs k d ≡ t → map text_of (drop k xs) ≡ text_of t ∷ map text_of (drop (k + 1) xs)
+left_at xs k d t below is = ap (λ (x : List code.Text). map text_of x) (drop_more xs k d below) ∙ ap (λ (x : code.Text). text_of x ∷ map text_of (drop (k + 1) xs)) is
+
+pub nothing_left : (xs : List code.Text) (k : ℕ) → length xs ≤ k → map text_of (drop k xs) ≡ []
+nothing_left xs k above = ap (λ (x : List code.Text). map text_of x) (drop_of_length-le xs above)

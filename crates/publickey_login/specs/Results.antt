@@ -43,6 +43,10 @@ use Rattle.publickey_login.specs.declared.trusted.Trusted.{Trusted}
 
 -- ---- a text
 
+-- the login that lines are asked about, whatever text it holds
+abbrev pub asked_of : code.UserLogin → UserLogin
+asked_of u = by_lines (users.login_of u None) []
+
 -- sshd accepts the key whose lines are sought.
 abbrev pub CanSeek : code.UserLogin → Sought → Type 0
 CanSeek login KeyLine = IsKey (key_of login.offered.now) × IsTrue (openssh_accepts_key login.least_rsa_bits (key_of login.offered.now))
@@ -79,7 +83,7 @@ SearchesIn u s of texts (Err r) = r ≢ refusal.Memory → IsWhyStopped u s of t
 
 -- The login that lines are asked about is this one's, by those whom the server trusts.
 pub record AsksOf (l : Login) (u : code.UserLogin) (t : Trusted) : Type 0 where
-  pub user : by_lines (users.login_of u None) [] ≡ user_of l (key_of u.offered.now)
+  pub user : asked_of u ≡ user_of l (key_of u.offered.now)
   pub trusted : trusted_of t ≡ l.trusted
 
 -- It is that source; or there is none for that, out of memory aside.

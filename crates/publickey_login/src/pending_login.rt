@@ -1,8 +1,9 @@
 //! A login of which all is right but the signatures.
 
-ghost use Rattle.std.specs.Prelude.{◌≡◌, option_map};
+ghost use Rattle.std.specs.Prelude.{◌≡◌, ◌↔◌, IfOk, IsTrue, option_map};
 ghost use Rattle.sshkey_keys.specs.Questions.{asks};
 ghost use Rattle.sshkey_padding.specs.Padding.{padding};
+ghost use Rattle.publickey_login.specs.Grants.{IsAnswered};
 ghost use Rattle.publickey_login.specs.Results.{Decides, DecidesBy, authority_in, client_in};
 
 use crate::grant::PublickeyGrant;
@@ -73,9 +74,15 @@ impl Pending {
         ensures { DecidesBy (padding (V.accepts verifier.now)) self result }
     {
         let padded = Padding { verifier };
+        // the client's is asked about only where the authority's is one
         let authority = is_answered(&self.authority, &padded)?;
-        // the client is asked about only where its authority has signed
-        let client = authority && is_answered(&self.client, &padded)?;
+        if !authority {
+            return self.decide(Answers {
+                authority,
+                client: false,
+            });
+        }
+        let client = is_answered(&self.client, &padded)?;
         self.decide(Answers { authority, client })
     }
 }
@@ -84,7 +91,10 @@ impl Pending {
 fn is_answered<V: RawVerifier>(
     question: &Option<SignatureQuestion<'static>>,
     verifier: &V,
-) -> Result<bool, AllocError> {
+) -> Result<bool, AllocError>
+    ensures { IfOk result (λ yes. IsTrue yes
+        ↔ IsAnswered (V.accepts verifier.now) (option_map asks question.now)) }
+{
     match question {
         Some(question) => question.is_accepted(verifier),
         None => Ok(true),

@@ -3,9 +3,8 @@
 ghost use Rattle.sshkey_cert.specs.CertificateValues.{certificate_of};
 ghost use Rattle.sshkey_keys.specs.Keys.{key_of};
 ghost use Rattle.sshkey_model.specs.Keys.{IsKey};
-ghost use Rattle.std.specs.Prelude.{◌≡◌, map, None};
-ghost use Rattle.user_keys.specs.UserLogins.{login_of};
-ghost use Rattle.publickey_login.specs.Results.{CanSeek, FindsText, SearchesIn, SearchesText, refused};
+ghost use Rattle.std.specs.Prelude.{◌≡◌, map};
+ghost use Rattle.publickey_login.specs.Results.{CanSeek, FindsText, SearchesIn, SearchesText, asked_of, refused};
 ghost use Rattle.publickey_login.specs.Stops.{source_in};
 ghost use Rattle.publickey_login.specs.Values.{sought_of, text_of};
 
@@ -78,7 +77,7 @@ pub(crate) fn find_in(
     sought: Sought,
 ) -> Result<Option<Origin>, PublickeyRefusal>
     requires { CanSeek login.now (sought_of sought) }
-    ensures { SearchesIn (login_of login.now None) (sought_of sought.entry) list
+    ensures { SearchesIn (asked_of login.now) (sought_of sought.entry) list
         (map text_of texts.now) result }
 {
     for (number, text) in texts.iter().enumerate() {
@@ -104,7 +103,7 @@ fn find(
     sought: Sought,
 ) -> Result<TextVerdict, PublickeyRefusal>
     requires { CanSeek login.now (sought_of sought) }
-    ensures { SearchesText (login_of login.now None) (sought_of sought.entry) source text.now
+    ensures { SearchesText (asked_of login.now) (sought_of sought.entry) source text.now
         result }
 {
     match find_line(alloc, &UserLogin { text, ..*login }, sought) {
@@ -132,7 +131,7 @@ fn refused(sought: Sought) -> TextVerdict
 /// The line of the login's text that lets in.
 fn find_line(alloc: Global, login: &UserLogin, sought: Sought) -> Result<NamedLine, UserRefusal>
     requires { CanSeek login.now (sought_of sought) }
-    ensures { FindsText (login_of login.now None) (sought_of sought.entry) login.now.text.now result }
+    ensures { FindsText (asked_of login.now) (sought_of sought.entry) login.now.text.now result }
 {
     match sought {
         Sought::KeyLine => match find_key_line(alloc, login) {
