@@ -5,3 +5,5 @@ mod Grants
 mod Whys
 mod Answered
 mod Origins
+mod Helds
+mod Pendings

@@ -23,7 +23,7 @@ use Rattle.user_keys.specs.declared.refusal.UserRefusal.TheVariants as why
 use Rattle.publickey_login.specs.Grants.{Grants, GrantsCertificate, GrantsKey, IsAnswered, IsPending}
 use Rattle.publickey_login.specs.Logins.{Login, Text}
 use Rattle.publickey_login.specs.Searches.{AuthorityLine, Found, GoesOn, IsFoundBy, IsFoundIn, KeyLine, Passes, PrincipalLine, RefusesBy, Sought, by_lines}
-use Rattle.publickey_login.specs.Stops.{IsUnclearBy, IsWhy, IsWhyNoAuthority, IsWhyNoCertificate, IsWhyNoKey, IsWhyNothing, IsWhyStopped, source_in}
+use Rattle.publickey_login.specs.Stops.{IsUnclearBy, IsWhy, IsWhyNoAuthority, IsWhyNoCertificate, IsWhyNoKey, IsWhyNothing, IsWhyStopped, IsWhyUnanswered, source_in}
 use Rattle.publickey_login.specs.Signatures.{Signed}
 use Rattle.publickey_login.specs.Sources.{AuthorityGoesOn, IsListed, IsOfAuthority, user_of}
 use Rattle.publickey_login.specs.Values.{found_of, trusted_of}
@@ -159,4 +159,4 @@ Decides p a (Err r) = ((IsYes (authority_in p) a.authority → ⊥) × (r ≡ re
 -- Out of memory aside, that verifier's answers decide.
 abbrev pub DecidesBy : (Question → Bool) → Pending → Result PublickeyGrant PublickeyRefusal → Type 0
 DecidesBy accepts p (Ok g) = (g ≡ grant_in p) × IsAnswered accepts (authority_in p) × IsAnswered accepts (client_in p)
-DecidesBy accepts p (Err r) = r ≢ refusal.Memory → ((IsAnswered accepts (authority_in p) → ⊥) × (r ≡ refusal.Certificate (Invalid Signature))) ⊎ (IsAnswered accepts (authority_in p) × (IsAnswered accepts (client_in p) → ⊥) × (r ≡ refusal.NotSigned))
+DecidesBy accepts p (Err r) = r ≢ refusal.Memory → IsWhyUnanswered accepts (authority_in p) (client_in p) r

@@ -1,24 +1,31 @@
 -- Why a login is refused: what is wrong first.
-use Rattle.std.specs.Prelude.{◌≡◌, ◌≢◌, ◌⊎◌, ℕ, zero, suc, List, [], ◌∷◌, IsTrue, Option, Some, None, false, true}
+use Rattle.std.specs.Prelude.{◌≡◌, ◌≢◌, ◌⊎◌, ℕ, zero, suc, List, [], ◌∷◌, Bool, IsTrue, Option, Some, None, false, true}
 use Rattle.login_policy.specs.Refusals.{RefusesLogin}
 use Rattle.login_policy.specs.declared.refusal.LoginRefusal.{LoginRefusal}
+use Rattle.login_policy.specs.declared.refusal.LoginRefusal.TheVariants.{Invalid}
 use Rattle.openssh_limits.specs.Keys.{openssh_accepts_key}
 use Rattle.sshkey_base.specs.Reading.{NoSpelling}
 use Rattle.sshkey_base.specs.declared.error.Error.{Error}
+use Rattle.sshkey_cert.specs.declared.certificate.refusal.CertificateRefusal.TheVariants.{Signature}
 use Rattle.sshkey_krl.specs.Revocations.{is_key_revoked}
 use Rattle.sshkey_model.specs.Certificates.{Certificate, SpellsCertificate}
 use Rattle.sshkey_model.specs.Keys.{Key, SpellsKey}
 use Rattle.sshkey_model.specs.Refusals.{has_trusted_authority}
+use Rattle.sshkey_model.specs.Verification.{Question}
+use Rattle.sshkey_userauth.specs.declared.judgement.name.KeyForm.{KeyForm}
 use Rattle.user_keys.specs.Answers.{IsWhyNoLine}
 use Rattle.user_keys.specs.CertificateLogins.{by}
 use Rattle.user_keys.specs.PrincipalLogins.{IsWhyUndecided}
 use Rattle.user_keys.specs.UserLogins.{UserLogin}
 use Rattle.user_keys.specs.declared.refusal.UserRefusal.{UserRefusal}
 use Rattle.user_keys.specs.declared.refusal.UserRefusal.TheVariants as why
-use Rattle.publickey_login.specs.Grants.{policy_login}
+use Rattle.publickey_login.specs.Grants.{Grants, IsAnswered, IsPending, policy_login, required_of}
 use Rattle.publickey_login.specs.Logins.{Files, Login, Read, Text, Unreadable}
+use Rattle.publickey_login.specs.Refusals.{IsWhyUnnamed, IsWhyUnsigned}
 use Rattle.publickey_login.specs.Searches.{AuthorityLine, Found, GoesOn, IsOfFirst, KeyLine, Passes, PrincipalLine, Sought, in_principals, in_text}
+use Rattle.publickey_login.specs.Signatures.{IsNamed, Signed}
 use Rattle.publickey_login.specs.Sources.{AuthorityGoesOn, FilesGoOn, IsCertificateSource, authorities_of, user_of}
+use Rattle.publickey_login.specs.declared.grant.PublickeyGrant.{PublickeyGrant}
 use Rattle.publickey_login.specs.declared.grant.Source.{Source}
 use Rattle.publickey_login.specs.declared.grant.Source.TheVariants as source
 use Rattle.publickey_login.specs.declared.refusal.PublickeyRefusal.{PublickeyRefusal}
@@ -103,3 +110,24 @@ abbrev pub IsWhyNothing : Login → PublickeyRefusal → Type 0
 IsWhyNothing l r = (NoSpelling SpellsKey l.offer.blob × NoSpelling SpellsCertificate l.offer.blob × ((e : Error) × (r ≡ refusal.NoKey e)))
     ⊎ ((k : Key) × SpellsKey k l.offer.blob × IsWhyNoKey l k r)
     ⊎ ((c : Certificate) × SpellsCertificate c l.offer.blob × IsWhyNoCertificate l c r)
+
+-- ---- nobody logs in
+
+-- Nothing is granted; or something is, and the client's signature is refused before anybody is asked.
+abbrev pub IsWhyNotPending : Login → Signed → PublickeyRefusal → Type 0
+IsWhyNotPending l s r = IsWhyNothing l r
+    ⊎ ((g : PublickeyGrant) × (authority : Option (Option Question)) × (k : Key) × (form : KeyForm) × Grants l g authority k form × IsWhyUnsigned l.offer s (required_of l.trusted.requirements g) k form r)
+
+-- The authority's signature is none; or it is one, and the client's is none.
+abbrev pub IsWhyUnanswered : (Question → Bool) → Option (Option Question) → Option (Option Question) → PublickeyRefusal → Type 0
+IsWhyUnanswered accepts authority client r = ((IsAnswered accepts authority → ⊥) × (r ≡ refusal.Certificate (Invalid Signature)))
+    ⊎ (IsAnswered accepts authority × (IsAnswered accepts client → ⊥) × (r ≡ refusal.NotSigned))
+
+abbrev pub IsWhyNoLogin : (Question → Bool) → Login → Signed → PublickeyRefusal → Type 0
+IsWhyNoLogin accepts l s r = IsWhyNotPending l s r
+    ⊎ ((g : PublickeyGrant) × (authority : Option (Option Question)) × (client : Option (Option Question)) × IsPending l s g authority client × IsWhyUnanswered accepts authority client r)
+
+-- Nothing is granted; or the name is of another algorithm; or the authority's signature is none.
+abbrev pub IsWhyNoQuery : (Question → Bool) → Login → PublickeyRefusal → Type 0
+IsWhyNoQuery accepts l r = IsWhyNothing l r
+    ⊎ ((g : PublickeyGrant) × (authority : Option (Option Question)) × (k : Key) × (form : KeyForm) × Grants l g authority k form × (IsWhyUnnamed l.offer.algorithm k form r ⊎ (IsNamed l.offer.algorithm k form × IsWhyUnanswered accepts authority None r)))

@@ -13,7 +13,7 @@ ghost use Rattle.publickey_login.specs.Logins.{address_of};
 ghost use Rattle.publickey_login.specs.Results.{AsksOf, CertificateHolds, HoldsExactly, IsPolicyRefusal, KeyHolds};
 ghost use Rattle.publickey_login.specs.Sources.{counted_in};
 ghost use Rattle.publickey_login.specs.Values.{login_of};
-ghost use Rattle.publickey_login.specs.declared.refusal.PublickeyRefusal.TheVariants.{Memory};
+ghost use Rattle.publickey_login.specs.declared.refusal.PublickeyRefusal.TheVariants.{Memory, NoKey};
 
 use crate::grant::{PublickeyGrant, Source};
 use crate::offer::Offer;
@@ -33,7 +33,7 @@ use sshkey_krl::Revocations;
 use sshkey_userauth::KeyForm;
 use std::alloc::Global;
 use std::net::IpAddr;
-use user_keys::{UserLogin, merged};
+use user_keys::{NamedLine, UserGrant, UserLogin, merged};
 
 /// What would be granted, the key under which the client signs, and the question about the
 /// authority's signature, of a certificate.
@@ -93,10 +93,20 @@ fn hold_key<R: Revocations>(
     let login = user_login(offer, trusted, place, &key);
     let Origin { source, line } = key_origin(alloc, &login, trusted)?;
     let fingerprint = fingerprint_of(alloc, &key)?;
+    let NamedLine { first, name: _ } = line;
+    let UserGrant {
+        line,
+        terms,
+        certified: _,
+    } = first;
     Ok(Held {
         grant: PublickeyGrant {
             source,
-            user: line.first,
+            user: UserGrant {
+                line,
+                terms,
+                certified: None,
+            },
             key: fingerprint,
         },
         authority: None,
@@ -231,7 +241,7 @@ fn refused_by(refusal: LoginRefusal) -> PublickeyRefusal
 
 /// Why bytes are neither a key nor a certificate.
 fn unread(no_key: Error, no_certificate: Error) -> PublickeyRefusal
-    ensures { result ≢ Memory → no_certificate ≢ error.Memory }
+    ensures { result ≢ Memory → (no_certificate ≢ error.Memory) × (result ≡ NoKey no_key) }
 {
     if no_certificate.is_memory() {
         return PublickeyRefusal::Memory;

@@ -1,9 +1,11 @@
 //! Who logs in.
 
 ghost use Rattle.sshkey_padding.specs.Padding.{padding};
-ghost use Rattle.std.specs.Prelude.{◌≡◌};
+ghost use Rattle.std.specs.Prelude.{◌≡◌, ◌≢◌, IfErr};
 ghost use Rattle.publickey_login.specs.Grants.{IsLogin, MayLogIn, required_of};
 ghost use Rattle.publickey_login.specs.Logins.{client_known};
+ghost use Rattle.publickey_login.specs.Stops.{IsWhyNoLogin, IsWhyNoQuery, IsWhyNotPending};
+ghost use Rattle.publickey_login.specs.declared.refusal.PublickeyRefusal.TheVariants.{Memory};
 ghost use Rattle.publickey_login.specs.Results.{GrantsExactly, OffersExactly, PendsExactly};
 ghost use Rattle.publickey_login.specs.Values.{login_of, place_known, place_seen, signed_of};
 
@@ -33,6 +35,10 @@ pub fn log_in<R: Revocations, V: RawVerifier>(
     ensures exactly { GrantsExactly (IsLogin (padding (V.accepts verifier.now))
         (login_of offer.now trusted.now (place_seen signed.now place.now)
         (R.revokes revocations.now) (R.revokes_key revocations.now)) (signed_of signed.now)) result }
+    ensures refused { IfErr result (λ r. r ≢ Memory → IsWhyNoLogin
+        (padding (V.accepts verifier.now))
+        (login_of offer.now trusted.now (place_seen signed.now place.now)
+        (R.revokes revocations.now) (R.revokes_key revocations.now)) (signed_of signed.now) r) }
 {
     let held = pending(alloc, offer, signed, trusted, place, revocations)?;
     held.decide_by(verifier)
@@ -49,6 +55,9 @@ pub fn pending<R: Revocations>(
     ensures exactly { PendsExactly (login_of offer.now trusted.now
         (place_seen signed.now place.now)
         (R.revokes revocations.now) (R.revokes_key revocations.now)) (signed_of signed.now) result }
+    ensures refused { IfErr result (λ r. r ≢ Memory → IsWhyNotPending
+        (login_of offer.now trusted.now (place_seen signed.now place.now)
+        (R.revokes revocations.now) (R.revokes_key revocations.now)) (signed_of signed.now) r) }
 {
     let place = place_seen(signed, place);
     let Held {
@@ -79,6 +88,9 @@ pub fn may_log_in<R: Revocations, V: RawVerifier>(
     ensures exactly { OffersExactly (MayLogIn (padding (V.accepts verifier.now))
         (login_of offer.now trusted.now (place_known place.now)
         (R.revokes revocations.now) (R.revokes_key revocations.now))) result }
+    ensures refused { IfErr result (λ r. r ≢ Memory → IsWhyNoQuery
+        (padding (V.accepts verifier.now)) (login_of offer.now trusted.now (place_known place.now)
+        (R.revokes revocations.now) (R.revokes_key revocations.now)) r) }
 {
     let place = Place {
         client: client_known(place.client),

@@ -1,23 +1,13 @@
-use Rattle.std.proofs.Common.{rules, ◌≡◌, ◌≢◌, ℕ, List, Bool, IfErr, IfOk, ◌+◌, ◌-◌, ◌*◌, ◌<◌, ◌≤◌, length, ◌/◌, ◌%◌, true, false, nat_eq, nat_lt, [], ◌∷◌, ◌++◌, slice_index_or, slice_set, bit_and, bit_or, Fits, w8, w32, w64, Bor, MutBor}
-use Rattle.sshkey_base.specs.declared.error.Error.TheVariants as error
-use Rattle.sshkey_cert.specs.CertificateValues.{certificate_of}
-use Rattle.sshkey_keys.specs.Keys.{key_of}
-use Rattle.sshkey_keys_ref.specs.KeyDataRef.{key_bytes}
-use Rattle.sshkey_keys.specs.Fingerprints.{IsFingerprint}
-use Rattle.sshkey_krl.specs.Revocation.{CertificateIdentity}
-use Rattle.sshkey_model.specs.Certificates.{SpellsCertificate}
-use Rattle.sshkey_model.specs.Names.{Sha256}
-use Rattle.publickey_login.specs.Logins.{address_of}
-use Rattle.publickey_login.specs.Results.{AsksOf, CertificateHolds, HoldsExactly, IsPolicyRefusal, KeyHolds}
-use Rattle.publickey_login.specs.Sources.{counted_in}
+use Rattle.std.proofs.Common.{inl, refl, sym}
+use Rattle.sshkey_base.proofs.Acceptance.{other_cause}
 use Rattle.publickey_login.specs.Values.{login_of}
-use Rattle.publickey_login.specs.declared.refusal.PublickeyRefusal.TheVariants.{Memory}
+use Rattle.publickey_login.proofs.Helds.{by_certificate, by_key}
 use Rattle.publickey_login.proofs.held.hold.Goals as goal
 
--- src/held.rt:49:1
 pub returns-in-Ok-from_bytes : goal.returns-in-Ok-from_bytes
-returns-in-Ok-from_bytes g c = ?
+returns-in-Ok-from_bytes g c = record { exactly = by_certificate (login_of c.args.offer.now c.args.trusted.now c.args.place.now (g.R.Revocations.revokes c.args.revocations.now) (g.R.Revocations.revokes_key c.args.revocations.now)) c.hold_certificate.result c.hold_certificate.ensures }
 
--- src/held.rt:49:1
 pub returns-in-Err-from_bytes : goal.returns-in-Err-from_bytes
-returns-in-Err-from_bytes g c = ?
+returns-in-Err-from_bytes g c = record { exactly = λ other.
+    let is = c.unread.ensures other in
+    inl (c.in-Err.ensures.accepts, c.in-Err-from_bytes.ensures.accepts (other_cause _ is.0) refl, (c.in-Err.no_key, is.1)) }
