@@ -5,6 +5,8 @@ use Rattle.login_policy.specs.Logins.{IsGrantOf, LetsIn}
 use Rattle.login_policy.specs.Pendings as policies
 use Rattle.login_policy.specs.declared.grant.Grant as grants
 use Rattle.login_policy.specs.declared.pending_login.Pending as held
+use Rattle.login_policy.specs.declared.refusal.LoginRefusal.{LoginRefusal}
+use Rattle.login_policy.specs.declared.refusal.LoginRefusal.TheVariants as policy_refusal
 use Rattle.login_terms.specs.Terms.{Terms, terms_of}
 use Rattle.openssh_limits.specs.Keys.{openssh_accepts_key}
 use Rattle.sshkey_cert.proofs.CertificateReaders.{certificate_grammar}
@@ -29,7 +31,7 @@ use Rattle.user_keys.specs.CertificateLogins.{signer}
 use Rattle.user_keys.specs.declared.grant.UserGrant.{UserGrant}
 use Rattle.publickey_login.specs.Grants.{Grants, GrantsCertificate, GrantsKey, policy_login}
 use Rattle.publickey_login.specs.Logins.{Login}
-use Rattle.publickey_login.specs.Results.{CertificateHolds, HoldsExactly, KeyHolds}
+use Rattle.publickey_login.specs.Results.{CertificateHolds, HoldsExactly, IsPolicyRefusal, KeyHolds}
 use Rattle.publickey_login.specs.Searches.{Found}
 use Rattle.publickey_login.specs.Sources.{IsCertificateSource, authorities_of, counted_in}
 use Rattle.publickey_login.specs.declared.grant.PublickeyGrant.{PublickeyGrant}
@@ -37,6 +39,7 @@ use Rattle.publickey_login.specs.declared.grant.Source.{Source}
 use Rattle.publickey_login.specs.declared.grant.Source.TheVariants as source
 use Rattle.publickey_login.specs.declared.held.Held.{Held}
 use Rattle.publickey_login.specs.declared.refusal.PublickeyRefusal.{PublickeyRefusal}
+use Rattle.publickey_login.specs.declared.refusal.PublickeyRefusal.TheVariants as refusal
 
 -- ---- of what is held
 
@@ -53,6 +56,11 @@ by_certificate l (Ok h) is =
     let form = is.4 in
     rw (asked, form) (is.0, is.1, is.2, refl)
 by_certificate l (Err r) is = λ other. inr (inr (is other))
+
+-- the policy refuses
+pub refused_policy : (p : LoginRefusal) (r : PublickeyRefusal) → IsPolicyRefusal p r → r ≢ refusal.Memory → (p ≢ policy_refusal.Memory) × (r ≡ refusal.Certificate p)
+refused_policy p r (inl memory) other = absurd (other memory.1)
+refused_policy p r (inr is) other = is
 
 -- ---- whose certificates count
 
