@@ -1,12 +1,11 @@
 -- What the answers decide.
-use Rattle.std.proofs.Common.{◌≡◌, ◌≢◌, ◌↔◌, ◌∙◌, Bool, IsTrue, Option, Some, None, Result, Ok, Err, false, inl, inr, is_some, not, option_map, refl, subst, sym, true}
+use Rattle.std.proofs.Common.{◌≡◌, ◌↔◌, Bool, IsTrue, Option, Some, None, Result, Ok, Err, false, inl, inr, is_some, not, option_map, refl, true}
 use Rattle.sshkey_keys.specs.Questions.{asks}
 use Rattle.sshkey_keys.specs.declared.signature_question.SignatureQuestion.{SignatureQuestion}
 use Rattle.sshkey_model.specs.Verification.{Question}
 use Rattle.publickey_login.specs.Grants.{IsAnswered}
 use Rattle.publickey_login.specs.Results.{Decides, DecidesBy, IsYes, authority_in, client_in}
 use Rattle.publickey_login.specs.declared.grant.PublickeyGrant.{PublickeyGrant}
-use Rattle.publickey_login.specs.declared.pending_login.Answers.{Answers}
 use Rattle.publickey_login.specs.declared.pending_login.Pending.{Pending}
 use Rattle.publickey_login.specs.declared.refusal.PublickeyRefusal.{PublickeyRefusal}
 

@@ -1,12 +1,9 @@
 -- One grant is pending, with one question to each signer.
-use Rattle.std.proofs.Common.{◌≡◌, ◌≢◌, ◌∙◌, ◌||◌, ℕ, List, [], Bool, IsTrue, Some, None, Ok, Err, Option, Result, ap, false, inl, inr, option_map, refl, subst, sym, true}
+use Rattle.std.proofs.Common.{◌≡◌, ◌∙◌, ◌||◌, [], Some, None, Option, ap, refl, subst, sym}
 use Rattle.login_terms.specs.Terms.{Terms, terms_of}
-use Rattle.openssh_limits.specs.Keys.{openssh_accepts_key}
 use Rattle.sshkey_cert.proofs.CertificateReaders.{certificate_grammar}
 use Rattle.sshkey_cert.specs.Questions.{certificate_question}
 use Rattle.sshkey_keys.proofs.KeyReaders.{key_grammar}
-use Rattle.sshkey_keys.specs.Keys.{key_of}
-use Rattle.sshkey_keys.specs.Questions.{asks}
 use Rattle.sshkey_model.proofs.Grammars.{one_front}
 use Rattle.sshkey_model.proofs.LinesApart.{blobs_apart}
 use Rattle.sshkey_model.specs.Certificates.{Certificate, SpellsCertificate}
@@ -18,7 +15,7 @@ use Rattle.sshkey_userauth.specs.declared.judgement.name.KeyForm.TheVariants.{Ce
 use Rattle.user_keys.specs.Certificates.{merged}
 use Rattle.publickey_login.proofs.OneSource.{one_key_source, one_source}
 use Rattle.publickey_login.proofs.Unsigned.{one_signature}
-use Rattle.publickey_login.specs.Grants.{Grants, GrantsCertificate, GrantsKey, IsPending, required_of}
+use Rattle.publickey_login.specs.Grants.{Grants, GrantsCertificate, GrantsKey, required_of}
 use Rattle.publickey_login.specs.Logins.{Login}
 use Rattle.publickey_login.specs.Signatures.{BySshd, ByTransport, IsLeft, Offer, Request, Signed}
 use Rattle.publickey_login.specs.declared.grant.PublickeyGrant.{PublickeyGrant}

@@ -1,40 +1,33 @@
 -- What is held of a login.
-use Rattle.std.proofs.Common.{◌≡◌, ◌≢◌, ◌∙◌, ℕ, List, [], ◌∷◌, Bool, IsTrue, Option, Some, None, Result, Ok, Err, ap, inl, inr, option_map, refl, string_bytes, subst, sym, true}
-use Rattle.login_policy.specs.Logins as policy
+use Rattle.std.proofs.Common.{◌≡◌, ◌≢◌, ◌∙◌, ℕ, List, [], ◌∷◌, IsTrue, Some, Result, Ok, Err, ap, inl, inr, option_map, refl, string_bytes, subst, sym, true}
 use Rattle.login_policy.specs.Logins.{IsGrantOf, LetsIn}
 use Rattle.login_policy.specs.Pendings as policies
 use Rattle.login_policy.specs.declared.grant.Grant as grants
 use Rattle.login_policy.specs.declared.pending_login.Pending as held
 use Rattle.login_policy.specs.declared.refusal.LoginRefusal.{LoginRefusal}
 use Rattle.login_policy.specs.declared.refusal.LoginRefusal.TheVariants as policy_refusal
-use Rattle.login_terms.specs.Terms.{Terms, terms_of}
+use Rattle.login_terms.specs.Terms.{terms_of}
 use Rattle.openssh_limits.specs.Keys.{openssh_accepts_key}
 use Rattle.sshkey_cert.proofs.CertificateReaders.{certificate_grammar}
-use Rattle.sshkey_cert.specs.Questions.{certificate_question}
-use Rattle.sshkey_cert.specs.Validity.{fingerprint_of, fingerprints_of}
+use Rattle.sshkey_cert.specs.Validity.{fingerprints_of}
 use Rattle.sshkey_cert_values.specs.OptionMaps.{options_of}
 use Rattle.sshkey_fingerprints.specs.declared.fingerprint.Fingerprint.{Fingerprint}
 use Rattle.sshkey_keys.specs.Fingerprints.{IsFingerprint}
-use Rattle.sshkey_keys.specs.Keys.{key_of}
-use Rattle.sshkey_keys.specs.Questions.{asks}
 use Rattle.sshkey_model.proofs.Grammars.{one_front}
 use Rattle.sshkey_model.specs.Certificates.{Certificate, SpellsCertificate, normal_certificate}
 use Rattle.sshkey_model.specs.Fingerprints as model
-use Rattle.sshkey_model.specs.Keys.{Key, SpellsKey}
+use Rattle.sshkey_model.specs.Keys.{Key}
 use Rattle.sshkey_model.specs.Names.{Sha256}
 use Rattle.sshkey_model.specs.Parts.{flat}
-use Rattle.sshkey_userauth.specs.declared.judgement.name.KeyForm.{KeyForm}
-use Rattle.sshkey_userauth.specs.declared.judgement.name.KeyForm.TheVariants.{Certified, Plain}
 use Rattle.user_keys.proofs.CertificateLogins.{merged_as, own}
 use Rattle.user_keys.specs.Certificates.{merged_with}
 use Rattle.user_keys.specs.CertificateLogins.{signer}
 use Rattle.user_keys.specs.declared.grant.UserGrant.{UserGrant}
-use Rattle.publickey_login.specs.Grants.{Grants, GrantsCertificate, GrantsKey, policy_login}
+use Rattle.publickey_login.specs.Grants.{GrantsCertificate, policy_login}
 use Rattle.publickey_login.specs.Logins.{Login}
 use Rattle.publickey_login.specs.Results.{CertificateHolds, HoldsExactly, IsPolicyRefusal, KeyHolds}
 use Rattle.publickey_login.specs.Searches.{Found}
 use Rattle.publickey_login.specs.Sources.{IsCertificateSource, authorities_of, counted_in}
-use Rattle.publickey_login.specs.declared.grant.PublickeyGrant.{PublickeyGrant}
 use Rattle.publickey_login.specs.declared.grant.Source.{Source}
 use Rattle.publickey_login.specs.declared.grant.Source.TheVariants as source
 use Rattle.publickey_login.specs.declared.held.Held.{Held}

@@ -1,9 +1,7 @@
 -- One source lets in.
-use Rattle.std.proofs.Common.{◌≡◌, ◌≢◌, ◌∙◌, ℕ, List, [], IsTrue, Some, None, Ok, Err, Option, Result, ap, false, inl, inr, refl, subst, sym, true}
-use Rattle.sshkey_keys.specs.Keys.{key_of}
+use Rattle.std.proofs.Common.{◌≡◌, ◌∙◌, ℕ, Some, None, inl, inr, refl, sym}
 use Rattle.sshkey_model.specs.Certificates.{Certificate}
 use Rattle.sshkey_model.specs.Keys.{Key}
-use Rattle.sshkey_model.specs.Refusals.{has_trusted_authority}
 use Rattle.user_keys.specs.Certificates.{name_listed}
 use Rattle.publickey_login.proofs.Searches.{found_ends, one_in}
 use Rattle.publickey_login.specs.Logins.{Files, InCertificate, Login, Principals}

@@ -1,5 +1,5 @@
 -- What the searches say of a login.
-use Rattle.std.proofs.Common.{◌≡◌, ◌≢◌, ◌∙◌, ℕ, List, IsErrAnd, IsTrue, Option, Some, None, Result, Ok, Err, ap, false, inl, inr, refl, subst, sym, true}
+use Rattle.std.proofs.Common.{◌≡◌, ◌≢◌, ◌∙◌, List, IsTrue, Option, Some, None, Result, Ok, Err, ap, inl, inr, refl, subst, sym, true}
 use Rattle.sshkey_keys.specs.Keys.{key_of}
 use Rattle.sshkey_model.specs.Certificates.{Certificate}
 use Rattle.sshkey_model.specs.Keys.{Key}
@@ -8,10 +8,10 @@ use Rattle.user_keys.specs.UserLogins.{UserLogin}
 use Rattle.user_keys.specs.declared.login.UserLogin as code
 use Rattle.publickey_login.specs.Logins as logins
 use Rattle.publickey_login.specs.Logins.{Files, InCertificate, Login, Principals, Text}
-use Rattle.publickey_login.specs.Results.{AsksOf, Originates, OriginatesBy, OwnOrigin, SearchesIn, asked_of}
-use Rattle.publickey_login.specs.Searches.{AuthorityLine, Found, GoesOn, KeyLine, PrincipalLine, Sought}
-use Rattle.publickey_login.specs.Sources.{AuthorityGoesOn, FilesGoOn, IsCertificateSource, IsKeySource, IsOfAuthority, IsOfPrincipals, PrincipalsGoOn, user_of}
-use Rattle.publickey_login.specs.Stops.{IsWhyNoAuthority, IsWhyNoKeySource, IsWhyNoSource, IsWhyStopped, source_in}
+use Rattle.publickey_login.specs.Results.{AsksOf, OriginatesBy, SearchesIn, asked_of}
+use Rattle.publickey_login.specs.Searches.{AuthorityLine, Found, KeyLine, PrincipalLine, Sought}
+use Rattle.publickey_login.specs.Sources.{FilesGoOn, IsCertificateSource, IsKeySource, IsOfPrincipals, PrincipalsGoOn, user_of}
+use Rattle.publickey_login.specs.Stops.{IsWhyNoKeySource, IsWhyNoSource}
 use Rattle.publickey_login.specs.Values.{found_of, trusted_of}
 use Rattle.publickey_login.specs.declared.grant.Source.{Source}
 use Rattle.publickey_login.specs.declared.grant.Source.TheVariants as source

@@ -1,5 +1,5 @@
 -- Who logs in, and who does not.
-use Rattle.std.proofs.Common.{◌≡◌, ◌≢◌, ◌∙◌, Bool, IfErr, Option, Some, None, Result, Ok, Err, ap, inl, inr, subst, sym}
+use Rattle.std.proofs.Common.{◌≡◌, ◌≢◌, Bool, IfErr, Option, Result, Ok, Err, inl, inr, subst, sym}
 use Rattle.sshkey_model.specs.Keys.{Key}
 use Rattle.sshkey_model.specs.Verification.{Question}
 use Rattle.sshkey_userauth.specs.declared.judgement.Requirements.{Requirements}
@@ -7,7 +7,7 @@ use Rattle.sshkey_userauth.specs.declared.judgement.name.KeyForm.{KeyForm}
 use Rattle.publickey_login.proofs.Grants.{one_left, same_grants, same_required}
 use Rattle.publickey_login.proofs.Unsigned.{not_left}
 use Rattle.publickey_login.proofs.Whys.{nothing}
-use Rattle.publickey_login.specs.Grants.{Grants, IsAnswered, IsLogin, IsPending, MayLogIn, required_of}
+use Rattle.publickey_login.specs.Grants.{IsAnswered, IsLogin, IsPending, MayLogIn, required_of}
 use Rattle.publickey_login.specs.Logins.{Login}
 use Rattle.publickey_login.specs.Results.{DecidesBy, GrantsExactly, authority_in, client_in, grant_in}
 use Rattle.publickey_login.specs.Signatures.{IsLeft, IsNamed, Signed}

@@ -1,18 +1,16 @@
 -- Where a login is refused, nothing is granted.
-use Rattle.std.proofs.Common.{◌≡◌, ◌≢◌, ◌∙◌, ℕ, List, [], Bool, IsTrue, Some, None, Option, ap, false, inl, inr, refl, subst, sym, true}
+use Rattle.std.proofs.Common.{◌≡◌, ℕ, List, Some, None, Option, inl, inr, subst, sym}
 use Rattle.login_policy.proofs.Logins as policies
 use Rattle.login_policy.specs.Logins as policy
 use Rattle.login_policy.specs.Refusals.{RefusesLogin}
 use Rattle.login_policy.specs.declared.refusal.LoginRefusal.{LoginRefusal}
-use Rattle.openssh_limits.specs.Keys.{openssh_accepts_key}
 use Rattle.sshkey_cert.proofs.CertificateReaders.{certificate_grammar}
-use Rattle.sshkey_krl.specs.Revocations.{is_key_revoked}
 use Rattle.sshkey_model.proofs.Grammars.{one_front}
 use Rattle.sshkey_model.proofs.LinesApart.{blobs_apart}
 use Rattle.sshkey_model.proofs.Refusals.{none_where_wanted}
-use Rattle.sshkey_model.specs.Certificates.{Certificate, SpellsCertificate}
+use Rattle.sshkey_model.specs.Certificates.{Certificate}
 use Rattle.sshkey_model.specs.Fingerprints.{Fingerprint}
-use Rattle.sshkey_model.specs.Keys.{Key, SpellsKey}
+use Rattle.sshkey_model.specs.Keys.{Key}
 use Rattle.sshkey_model.specs.Verification.{Question}
 use Rattle.sshkey_userauth.specs.declared.judgement.name.KeyForm.{KeyForm}
 use Rattle.sshkey_userauth.specs.declared.judgement.name.KeyForm.TheVariants.{Certified, Plain}

@@ -1,10 +1,10 @@
 -- Worked examples of who is let in by what, on both sides of each edge (sshd_config(5);
 -- auth2-pubkey.c and auth2-pubkeyfile.c of OpenSSH).
-use Rattle.std.specs.Prelude.{◌≡◌, ◌≢◌, ℕ, List, [], ◌∷◌, Bool, true, false, Option, Some, None, codes}
+use Rattle.std.specs.Prelude.{◌≡◌, ℕ, List, [], ◌∷◌, Bool, true, false, Some, None, codes}
 use Rattle.std.specs.declared.net.ip_addr.IpAddr.{IpAddr}
 use Rattle.login_policy.specs.Examples.{fields, of_fields}
 use Rattle.login_policy.specs.declared.client.Client.TheVariants.{At, LeftToCaller, Unknown}
-use Rattle.login_terms.specs.Terms.{Terms, all_permitted, no_terms}
+use Rattle.login_terms.specs.Terms.{all_permitted, no_terms}
 use Rattle.sshkey_model.specs.CertificateExamples.{authority}
 use Rattle.sshkey_model.specs.Certificates.{Certificate}
 use Rattle.sshkey_model.specs.Fingerprints.{fingerprint}

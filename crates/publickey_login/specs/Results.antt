@@ -11,7 +11,6 @@ use Rattle.sshkey_keys.specs.Questions.{asks}
 use Rattle.sshkey_model.specs.Certificates.{Certificate, IsCertificate, SpellsCertificate}
 use Rattle.sshkey_model.specs.Keys.{IsKey, Key, SpellsKey}
 use Rattle.sshkey_model.specs.Verification.{Question}
-use Rattle.sshkey_userauth.specs.declared.judgement.name.KeyForm.{KeyForm}
 use Rattle.sshkey_userauth.specs.declared.judgement.name.KeyForm.TheVariants.{Certified, Plain}
 use Rattle.user_keys.specs.Certificates.{name_listed}
 use Rattle.user_keys.specs.UserLogins.{UserLogin}

@@ -23,6 +23,3 @@ pub use place::Place;
 pub use refusal::PublickeyRefusal;
 pub use signed::{Signed, client_question};
 pub use trusted::{Principals, Text, Trusted};
-
-#[test]
-fn compiles() {}

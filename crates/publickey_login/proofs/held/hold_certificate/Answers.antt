@@ -1,4 +1,4 @@
-use Rattle.std.proofs.Common.{◌≡◌, ◌∙◌, List, Ok, Option, Result, Some, ap, inl, inr, refl, subst, sym, true}
+use Rattle.std.proofs.Common.{◌≡◌, ◌∙◌, Ok, Option, Some, ap, inl, inr, refl, subst, sym, true}
 use Rattle.std.proofs.lemmas.Result.{err_from_is_err_and}
 use Rattle.login_policy.specs.Logins as policy
 use Rattle.login_policy.specs.Pendings as policies
@@ -63,8 +63,7 @@ returns g c =
     let pends = subst (λ (x : policy.Login). policies.PendsExactly x (Ok p)) asked c.in-Ok-pending_of.ensures.exactly in
     let held = held_certificate l k c.requires accepted c.in_ok-source.field-0.source found from p pends in
     let given = c.in-Ok-decide.ensures in
-    let same : c.in-Ok-decide.granted ≡ policies.grant_in p = cc in
-    (
+    let same : c.in-Ok-decide.granted ≡ policies.grant_in p = cc in (
       k,
       grants_certificate l k c.requires accepted c.in_ok-source.field-0.source found from p pends c.in-Ok-decide.granted same c.merged.result c.merged.ensures.line c.merged.ensures.terms c.merged.ensures.certified c.in_ok-fingerprint.fingerprint (subst (λ (x : Key). IsFingerprint Sha256 x c.in_ok-fingerprint.fingerprint) is_own c.in_ok-fingerprint.ensures.given),
       is_own,

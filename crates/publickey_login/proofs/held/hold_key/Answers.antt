@@ -1,11 +1,7 @@
-use Rattle.std.proofs.Common.{◌≡◌, ◌∙◌, IsTrue, false, inr, refl, subst, sym}
+use Rattle.std.proofs.Common.{◌∙◌, inr, refl, subst, sym}
 use Rattle.std.proofs.lemmas.Result.{err_from_is_err_and}
-use Rattle.openssh_limits.specs.Keys.{openssh_accepts_key}
-use Rattle.sshkey_krl.specs.Revocations.{is_key_revoked}
 use Rattle.sshkey_keys.specs.Keys.{key_of}
-use Rattle.sshkey_model.specs.Keys.{Key, SpellsKey}
-use Rattle.publickey_login.specs.Sources.{IsKeySource}
-use Rattle.publickey_login.specs.Stops.{IsWhyNoKeySource}
+use Rattle.sshkey_model.specs.Keys.{SpellsKey}
 use Rattle.publickey_login.specs.Values.{found_of, login_of}
 use Rattle.publickey_login.proofs.held.hold_key.Goals as goal
 
@@ -23,15 +19,18 @@ pub returns : goal.returns
 returns g c =
     let l = (login_of c.args.offer.now c.args.trusted.now c.args.place.now (g.R.Revocations.revokes c.args.revocations.now) (g.R.Revocations.revokes_key c.args.revocations.now)) in
     let asks = c.user_login-login.ensures.login (g.R.Revocations.revokes c.args.revocations.now) (g.R.Revocations.revokes_key c.args.revocations.now) in
-    let from = rw c.user_login-login.ensures.key at (c.in_ok-source.ensures l asks) in
-    (record {
-      spelled = subst (SpellsKey (key_of c.in-Ok.key)) c.requires c.in-Ok.ensures.spelled;
-      accepted = sym c.openssh_accepts_key.ensures ∙ c.if-not-openssh_accepts_key.false;
-      unrevoked = sym c.in_ok-is_key_revoked.ensures.said ∙ c.if-branch.false;
-      found = found_of c.in_ok-source.field-0.line;
-      source = from;
-      line = refl;
-      terms = refl;
-      plain = refl;
-      key = c.in_ok-fingerprint.ensures.given;
-    }, refl, refl)
+    let from = rw c.user_login-login.ensures.key at (c.in_ok-source.ensures l asks) in (
+      record {
+        spelled = subst (SpellsKey (key_of c.in-Ok.key)) c.requires c.in-Ok.ensures.spelled;
+        accepted = sym c.openssh_accepts_key.ensures ∙ c.if-not-openssh_accepts_key.false;
+        unrevoked = sym c.in_ok-is_key_revoked.ensures.said ∙ c.if-branch.false;
+        found = found_of c.in_ok-source.field-0.line;
+        source = from;
+        line = refl;
+        terms = refl;
+        plain = refl;
+        key = c.in_ok-fingerprint.ensures.given;
+      },
+      refl,
+      refl,
+    )

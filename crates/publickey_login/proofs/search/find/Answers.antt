@@ -1,4 +1,4 @@
-use Rattle.std.proofs.Common.{None, refl}
+use Rattle.std.proofs.Common.{refl}
 use Rattle.publickey_login.specs.Values.{sought_of}
 use Rattle.publickey_login.proofs.Searches.{line_refuses}
 use Rattle.publickey_login.specs.Results.{asked_of}

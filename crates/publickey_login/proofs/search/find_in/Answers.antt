@@ -1,9 +1,8 @@
-use Rattle.std.proofs.Common.{◌+◌, List, [], None, Ok, Some, ap, drop, map, refl, subst, sym, ◌∙◌}
+use Rattle.std.proofs.Common.{◌+◌, List, [], None, Ok, Some, ap, drop, map, subst, ◌∙◌}
 use Rattle.std.proofs.lemmas.Result.{err_from_is_err_and}
 use Rattle.publickey_login.proofs.Searches.{AreLeft, found_here, left_at, none_left, nothing_left, one_less, refused_here, unread_here, untold_here}
 use Rattle.publickey_login.specs.Logins.{Text}
 use Rattle.publickey_login.specs.Results.{SearchesText, asked_of}
-use Rattle.publickey_login.specs.Stops.{refusal_at, source_in}
 use Rattle.publickey_login.specs.Values.{found_of, sought_of, text_of}
 use Rattle.publickey_login.specs.declared.grant.Source.{Source}
 use Rattle.publickey_login.specs.declared.refusal.PublickeyRefusal.TheVariants as refusal

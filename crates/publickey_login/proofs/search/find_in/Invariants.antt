@@ -1,4 +1,4 @@
-use Rattle.std.proofs.Common.{None, drop, map}
+use Rattle.std.proofs.Common.{drop, map}
 use Rattle.publickey_login.proofs.Searches.{AreLeft}
 use Rattle.publickey_login.specs.Values.{sought_of, text_of}
 use Rattle.publickey_login.specs.Results.{asked_of}

@@ -1,4 +1,3 @@
-use Rattle.std.proofs.Common.{None}
 use Rattle.sshkey_cert.specs.CertificateValues.{certificate_of}
 use Rattle.publickey_login.proofs.Searches.{authority_line, key_line, principal_line}
 use Rattle.publickey_login.specs.Results.{asked_of}

@@ -1,13 +1,8 @@
-use Rattle.std.proofs.Common.{◌≡◌, ◌∙◌, ap, None, Ok, Option, Some, map, not, refl, subst, sym, true}
-use Rattle.std.proofs.lemmas.Result.{err_from_is_err_and}
+use Rattle.std.proofs.Common.{◌∙◌, ap, map, sym}
 use Rattle.sshkey_cert.specs.CertificateValues.{certificate_of}
 use Rattle.sshkey_model.specs.Refusals.{has_trusted_authority}
 use Rattle.publickey_login.specs.Logins.{Trusted}
-use Rattle.publickey_login.specs.Results.{SearchesIn, OriginatesBy, asked_of}
-use Rattle.publickey_login.specs.Searches.{AuthorityLine, KeyLine}
-use Rattle.publickey_login.specs.Values.{principals_of, text_of, trusted_of}
-use Rattle.publickey_login.specs.declared.search.Origin.{Origin}
-use Rattle.publickey_login.specs.declared.search.TextList.TheVariants as list
+use Rattle.publickey_login.specs.Values.{principals_of, text_of}
 use Rattle.publickey_login.proofs.Origins.{by_principals_of}
 use Rattle.publickey_login.specs.declared.trusted.Principals.{Principals}
 use Rattle.publickey_login.proofs.sources.authority_origin.Goals as goal

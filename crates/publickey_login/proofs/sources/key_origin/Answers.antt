@@ -1,10 +1,8 @@
-use Rattle.std.proofs.Common.{◌≡◌, ◌∙◌, ap, None, Ok, Option, Some, map, not, refl, subst, sym, true}
+use Rattle.std.proofs.Common.{Ok, Option, subst}
 use Rattle.std.proofs.lemmas.Result.{err_from_is_err_and}
-use Rattle.sshkey_cert.specs.CertificateValues.{certificate_of}
-use Rattle.publickey_login.specs.Logins.{Files}
-use Rattle.publickey_login.specs.Results.{SearchesIn, OriginatesBy, asked_of}
-use Rattle.publickey_login.specs.Searches.{AuthorityLine, KeyLine}
-use Rattle.publickey_login.specs.Values.{principals_of, text_of, trusted_of}
+use Rattle.publickey_login.specs.Results.{SearchesIn, asked_of}
+use Rattle.publickey_login.specs.Searches.{KeyLine}
+use Rattle.publickey_login.specs.Values.{trusted_of}
 use Rattle.publickey_login.specs.declared.search.Origin.{Origin}
 use Rattle.publickey_login.specs.declared.search.TextList.TheVariants as list
 use Rattle.publickey_login.proofs.Origins.{key_by_command, key_in_files, no_key_at_all, no_key_by_command, no_key_in_files}
