@@ -1,5 +1,6 @@
 -- Who logs in, and who does not.
 use Rattle.std.proofs.Common.{◌≡◌, ◌≢◌, Bool, IfErr, Option, Result, Ok, Err, inl, inr, subst, sym}
+use Rattle.login_terms.specs.Terms.{terms_of}
 use Rattle.sshkey_model.specs.Keys.{Key}
 use Rattle.sshkey_model.specs.Verification.{Question}
 use Rattle.sshkey_userauth.specs.declared.judgement.Requirements.{Requirements}
@@ -30,14 +31,17 @@ module _ (l : Login) where
         not_left l.offer s (required_of l.trusted.requirements h) k form r other why client (subst (λ (x : KeyForm). IsLeft l.offer s (required_of l.trusted.requirements h) k x client) same.form of_key)
 
     -- what is pending twice has the same questions
-    same_authority : (g h : PublickeyGrant) (a b q w : Option (Option Question)) → IsPending l s g a q → IsPending l s h b w → b ≡ a
+    pub same_authority : (g h : PublickeyGrant) (a b q w : Option (Option Question)) → IsPending l s g a q → IsPending l s h b w → b ≡ a
     same_authority g h a b q w x y = (same_grants l a b x.key y.key x.form y.form g h x.grants y.grants).authority
 
-    same_client : (g h : PublickeyGrant) (a b q w : Option (Option Question)) → IsPending l s g a q → IsPending l s h b w → w ≡ q
+    pub same_client : (g h : PublickeyGrant) (a b q w : Option (Option Question)) → IsPending l s g a q → IsPending l s h b w → w ≡ q
     same_client g h a b q w x y =
         let same = same_grants l a b x.key y.key x.form y.form g h x.grants y.grants in
         let of_key = subst (λ (k : Key). IsLeft l.offer s (required_of l.trusted.requirements h) k y.form w) same.key y.left in
         one_left l.offer s (required_of l.trusted.requirements g) (required_of l.trusted.requirements h) x.key x.form q w x.left (subst (λ (form : KeyForm). IsLeft l.offer s (required_of l.trusted.requirements h) x.key form w) same.form of_key)
+
+    pub same_terms : (g h : PublickeyGrant) (a b q w : Option (Option Question)) → IsPending l s g a q → IsPending l s h b w → terms_of h.user.terms ≡ terms_of g.user.terms
+    same_terms g h a b q w x y = (same_grants l a b x.key y.key x.form y.form g h x.grants y.grants).terms
 
     module _ (accepts : Question → Bool) (p : Pending) (is : IsPending l s (grant_in p) (authority_in p) (client_in p)) where
       pub decided : (result : Result PublickeyGrant PublickeyRefusal) → DecidesBy accepts p result → GrantsExactly (IsLogin accepts l s) result

@@ -7,5 +7,6 @@ pub mod Grants
 pub mod Stops
 pub mod Values
 pub mod Results
+pub mod Laws
 pub mod Examples
 pub mod LoginExamples

@@ -1,9 +1,11 @@
-//! Who logs in by public key: sshd's method publickey, the client's signature included.
+//! Who logs in by public key: what sshd(8) asks of its method publickey, in its order, the client's
+//! signature included (RFC 4252, section 7).
 #![tactic(auto)]
 
 pub mod examples;
 mod grant;
 mod held;
+pub mod laws;
 mod login;
 mod offer;
 mod pending_login;
@@ -16,7 +18,7 @@ mod sources;
 mod trusted;
 
 pub use grant::{PublickeyGrant, Source};
-pub use login::{log_in, pending};
+pub use login::{log_in, may_log_in, pending};
 pub use offer::Offer;
 pub use pending_login::{Answers, Pending};
 pub use place::Place;

@@ -23,6 +23,39 @@ use sshkey_krl::Revocations;
 use sshkey_userauth::Requirements;
 use std::alloc::Global;
 
+/// Lets in who holds the key that is offered, by itself or in a certificate, and has signed with it,
+/// as sshd(8) does by its method publickey (RFC 4252, section 7), and says what the login is bound
+/// to.
+///
+/// What is offered is a key or a certificate, such as sshd accepts, and not revoked. What lets it in
+/// is the first of these, on its own terms (sshd_config(5)):
+/// - the texts of `AuthorizedKeysFile`, each in its turn: the first line that is for the key, or
+///   `cert-authority` for the key that signed the certificate, and allows the login
+///   (`user_keys::log_in_by_key`, `user_keys::log_in_by_certificate`);
+/// - an authority of `TrustedUserCAKeys`, for a certificate that lists the user; or, with texts of
+///   `AuthorizedPrincipalsFile`, one of whose principals the first line that is for one lets in
+///   (`user_keys::log_in_by_principal`);
+/// - what `AuthorizedKeysCommand` wrote, as the texts of `AuthorizedKeysFile`.
+///
+/// One that refuses is passed over. A certificate also has to be such as `login_policy::log_in` lets
+/// in, for that name and by that authority, which the lines of a text name themselves. The client's
+/// signature is asked about here, over the bytes of its own request, or whoever has verified it is
+/// named (`Signed`). The flags of a security key are what the server and the grant require.
+///
+/// Unless memory runs out, it fails with the first of these that fits:
+/// - `NoKey`: the bytes are no key and no certificate;
+/// - `UnacceptedKey`, for the key, or for that which signed the certificate;
+/// - `Revoked`, for a key that is offered by itself;
+/// - `Unclear` and `Unreadable`: nothing before that text or line lets in, and what it says cannot be
+///   told;
+/// - `NotListed`: nothing lets in;
+/// - `Certificate` with what `login_policy::log_in` fails with, but its signature;
+/// - what `client_question` fails with;
+/// - `Certificate` of `Invalid` with `Signature`: the authority's signature is none;
+/// - `NotSigned`.
+///
+/// It is `pending`, and then the verifier's answers: so nobody is asked where anything else is wrong,
+/// nor about the client's signature under what a stranger has certified.
 pub fn log_in<R: Revocations, V: RawVerifier>(
     alloc: Global,
     offer: &Offer,
@@ -44,6 +77,9 @@ pub fn log_in<R: Revocations, V: RawVerifier>(
     held.decide_by(verifier)
 }
 
+/// All that `log_in` asks but the signatures: `Ok` exactly where it would let in if a verifier said
+/// yes to each question, and then with the questions that are left, one for each signer. It fails
+/// with what `log_in` fails with first.
 pub fn pending<R: Revocations>(
     alloc: Global,
     offer: &Offer,
@@ -76,7 +112,12 @@ pub fn pending<R: Revocations>(
 }
 
 /// Whether what is offered lets in whoever signs with it: the answer to the query without a
-/// signature (RFC 4252, section 7). It grants nothing.
+/// signature (RFC 4252, section 7). It grants nothing. An address that is left to the caller is
+/// `Client::Unknown` here.
+///
+/// It fails with what `log_in` fails with first, but for the client's signature: of what
+/// `client_question` fails with only with `Algorithm`, for a name that is told and is none of the
+/// key's.
 pub fn may_log_in<R: Revocations, V: RawVerifier>(
     alloc: Global,
     offer: &Offer,
