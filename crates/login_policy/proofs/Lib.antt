@@ -1,4 +1,4 @@
-mod Logins
+pub mod Logins
 mod KnownOptions
 mod ExampleLemmas
 mod Pendings

@@ -1,1 +1,9 @@
 mod Unsigned
+mod Searches
+mod OneSource
+mod Grants
+mod Whys
+mod Answered
+mod Origins
+mod Helds
+mod Pendings

@@ -28,6 +28,14 @@ not_asked r required key form bytes asked refusal.Algorithm other why is =
     let same = one_signature why.0 is.signature bytes why.1 is.spelled in
     why.2.2 (cc (same, why.2.1, is.judged))
 not_asked r required key form bytes asked refusal.NoFlags other why is = absurd why
+not_asked r required key form bytes asked (refusal.NoKey e) other why is = absurd why
+not_asked r required key form bytes asked refusal.UnacceptedKey other why is = absurd why
+not_asked r required key form bytes asked refusal.Revoked other why is = absurd why
+not_asked r required key form bytes asked refusal.NotListed other why is = absurd why
+not_asked r required key form bytes asked (refusal.Unclear source line) other why is = absurd why
+not_asked r required key form bytes asked (refusal.Unreadable source) other why is = absurd why
+not_asked r required key form bytes asked (refusal.Certificate e) other why is = absurd why
+not_asked r required key form bytes asked refusal.NotSigned other why is = absurd why
 not_asked r required key form bytes asked refusal.Memory other why is = absurd (other refl)
 
 flags_wrong : (key : Key) (required : Requirements) (flags : Option ℕ) (e : PublickeyRefusal) → IsWhyFlagsOf key required flags e → HasFlags key required flags → ⊥

@@ -1,4 +1,12 @@
 pub mod Signatures
 pub mod Refusals
+pub mod Logins
+pub mod Searches
+pub mod Sources
+pub mod Grants
+pub mod Stops
 pub mod Values
+pub mod Results
+pub mod Laws
 pub mod Examples
+pub mod LoginExamples

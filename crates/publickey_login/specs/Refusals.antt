@@ -26,8 +26,8 @@ IsWhyUnasked r required form bytes refusal.TooLong = ¬ BoxesFit (userauth_reque
 IsWhyUnasked r required form bytes (refusal.NoSignature e) = (e ≢ error.Memory) × NoSpelling SpellsSignature bytes
 IsWhyUnasked r required form bytes (refusal.Signature e) = (g : Signature) × SpellsSignature g bytes × (judged r required g ≡ Err e)
 IsWhyUnasked r required form bytes refusal.Algorithm = (g : Signature) × SpellsSignature g bytes × ((other : KeyForm) × (judged r required g ≡ Ok other) × (other ≢ form))
-IsWhyUnasked r required form bytes refusal.NoFlags = ⊥
 IsWhyUnasked r required form bytes refusal.Memory = Unit {0}
+IsWhyUnasked r required form bytes _ = ⊥
 
 -- The flags lack what is required; or none are told, and something is.
 abbrev pub IsWhyNoFlags : Requirements → Option ℕ → PublickeyRefusal → Type 0

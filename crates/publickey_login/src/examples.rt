@@ -1,7 +1,8 @@
 //! Worked examples of who has signed, on both sides of each edge.
-#![tactic(auto)]
+#![tactic(auto, unfolding(crate::specs::Searches::IsOfFirst, crate::specs::Searches::ArePassed))]
 
 ghost use Rattle.publickey_login.specs.Examples.{Flagless, Flags, Left, Named};
+ghost use Rattle.publickey_login.specs.LoginExamples.{Answered, Authorities, Counted, FirstTexts, Listed, OwnTerms, PassedTexts, Places, Required, Sources};
 
 /// The names under which a key or a certificate signs.
 pub fn named()
@@ -21,4 +22,54 @@ pub fn flagless()
 /// What is left to ask.
 pub fn left()
     ensures { Left }
+{}
+
+/// Which of several texts counts.
+pub fn first_texts()
+    ensures { FirstTexts }
+{}
+
+/// Which texts are passed over.
+pub fn passed_texts()
+    ensures { PassedTexts }
+{}
+
+/// Where a client is.
+pub fn places()
+    ensures { Places }
+{}
+
+/// Whom a certificate lists.
+pub fn listed()
+    ensures { Listed }
+{}
+
+/// What a certificate says alone.
+pub fn own_terms()
+    ensures { OwnTerms }
+{}
+
+/// Whom an authority lets in.
+pub fn authorities()
+    ensures { Authorities }
+{}
+
+/// What is asked first.
+pub fn sources()
+    ensures { Sources }
+{}
+
+/// Whose certificates count.
+pub fn counted()
+    ensures { Counted }
+{}
+
+/// What is required of a security key.
+pub fn required()
+    ensures { Required }
+{}
+
+/// What counts as an answer.
+pub fn answered()
+    ensures { Answered }
 {}

@@ -1,12 +1,27 @@
-//! Who logs in by public key: sshd's method publickey, the client's signature included.
+//! Who logs in by public key: what sshd(8) asks of its method publickey, in its order, the client's
+//! signature included (RFC 4252, section 7).
 #![tactic(auto)]
 
 pub mod examples;
+mod grant;
+mod held;
+pub mod laws;
+mod login;
 mod offer;
+mod pending_login;
+mod place;
 mod refusal;
 mod request;
+mod search;
 mod signed;
+mod sources;
+mod trusted;
 
+pub use grant::{PublickeyGrant, Source};
+pub use login::{log_in, may_log_in, pending};
 pub use offer::Offer;
+pub use pending_login::{Answers, Pending};
+pub use place::Place;
 pub use refusal::PublickeyRefusal;
 pub use signed::{Signed, client_question};
+pub use trusted::{Principals, Text, Trusted};

@@ -104,7 +104,11 @@ pub fn client_question(
 }
 
 /// Whether the name, if one is told, is that of such a key in that form.
-fn check_name(name: Option<&[u8]>, key: &KeyData, form: KeyForm) -> Result<(), PublickeyRefusal>
+pub(crate) fn check_name(
+    name: Option<&[u8]>,
+    key: &KeyData,
+    form: KeyForm,
+) -> Result<(), PublickeyRefusal>
     ensures named { OnOk result (IsNamed (option_map lent name.entry) (key_of key.now) form) }
     ensures other { IfErr result (λ r. IsWhyUnnamed (option_map lent name.entry) (key_of key.now)
         form r) }

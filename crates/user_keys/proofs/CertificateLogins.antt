@@ -1,7 +1,7 @@
 -- Who is let in by a certificate.
-use Rattle.std.proofs.Common.{◌≡◌, ◌≢◌, ◌∙◌, ◌++◌, ◌≤◌, ℕ, List, [], Bool, true, false, IsTrue, Option, Some, None, ap, inl, inr, length, option_map, refl, string_bytes, subst, sym}
+use Rattle.std.proofs.Common.{◌≡◌, ◌≢◌, ◌∙◌, ◌++◌, ◌≤◌, ℕ, List, [], Bool, true, false, IfErr, IsTrue, Option, Some, None, Result, Ok, Err, ap, inl, inr, length, option_map, refl, string_bytes, subst, sym}
 use Rattle.std.specs.List.{Any}
-use Rattle.std.specs.Prelude.{is_some}
+use Rattle.std.specs.Prelude.{IsErrAnd, is_some}
 use Rattle.login_policy.specs.Logins.{IsGrantOf, IsLogin, LetsIn}
 use Rattle.login_policy.specs.Refusals.{IsRefusalFor}
 use Rattle.login_policy.specs.declared.client.Client.{Client}
@@ -23,13 +23,14 @@ use Rattle.sshkey_model.specs.Keys.{Key}
 use Rattle.sshkey_model.specs.Names.{Sha256}
 use Rattle.sshkey_model.specs.Parts.{flat}
 use Rattle.user_keys.specs.Answers.{IsWhyNoLine}
-use Rattle.user_keys.specs.CertificateLogins.{AdmitsBy, BindsTogether, CertificateLogin, IsAsStrictBy, IsLineFor, IsRefusalOf, IsWhyUnread, by, client_of, policy_login}
+use Rattle.user_keys.specs.CertificateLogins.{AdmitsBy, BindsTogether, CertificateLogin, FindsLine, IsAsStrictBy, IsLineFor, IsRefusalOf, IsWhyUnread, by, client_of, policy_login}
 use Rattle.user_keys.specs.Certificates.{judged_by, merged, merged_with, name_for}
 use Rattle.user_keys.specs.FirstLines.{LetsFirst, TakesAsTold, TakesFirst}
 use Rattle.user_keys.specs.Spellings.{MaySpell, own_part}
 use Rattle.user_keys.specs.UserLogins.{GrantsFirst, Lets, MayLet}
 use Rattle.user_keys.specs.declared.answer.Judgement.{Judgement}
 use Rattle.user_keys.specs.declared.answer.Judgement.TheVariants as judgement
+use Rattle.user_keys.specs.declared.grant.NamedLine.{NamedLine}
 use Rattle.user_keys.specs.declared.grant.UserGrant.{UserGrant}
 use Rattle.user_keys.specs.declared.refusal.UserRefusal.{UserRefusal}
 use Rattle.user_keys.specs.declared.refusal.UserRefusal.TheVariants as refusal
@@ -45,6 +46,16 @@ other_refusal p r (inr is) other = is
 pub other_error : (e : Error) (p : policies.LoginRefusal) → IsRefusalFor e p → p ≢ policy_refusal.Memory → (e ≢ error.Memory) × (p ≡ policy_refusal.Certificate e)
 other_error e p (inl memory) other = absurd (other memory.1)
 other_error e p (inr is) other = is
+
+-- ---- out of memory
+
+pub ran_out : (IsLine : ℕ → Terms → List ℕ → Type 0) (r : Result NamedLine UserRefusal) → IsErrAnd r (λ e. e ≡ refusal.Memory) → FindsLine IsLine r
+ran_out IsLine (Ok found) is = absurd is
+ran_out IsLine (Err e) is = λ other. absurd (other is)
+
+pub ran_out_else : {X : Type 0} (Why : UserRefusal → Type 0) (r : Result X UserRefusal) → IsErrAnd r (λ e. e ≡ refusal.Memory) → IfErr r (λ e. e ≢ refusal.Memory → Why e)
+ran_out_else Why (Ok x) is = tt
+ran_out_else Why (Err e) is = λ other. absurd (other is)
 
 -- ---- the authority
 

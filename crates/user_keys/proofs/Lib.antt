@@ -1,16 +1,16 @@
 mod Blobs
-mod FirstLines
+pub mod FirstLines
 mod Judgements
 mod KeyNames
 mod Lines
-mod LongParts
+pub mod LongParts
 mod Places
 mod Spelled
 mod Shown
 mod ListedNames
-mod CertificateLogins
+pub mod CertificateLogins
 mod PrincipalLines
-mod Principals
+pub mod Principals
 mod LoginExamples
 mod EdgeExamples
 mod NameExamples

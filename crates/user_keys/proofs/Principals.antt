@@ -12,7 +12,7 @@ use Rattle.sshkey_model.specs.Certificates.{Certificate}
 use Rattle.user_keys.specs.Certificates.{is_listed}
 use Rattle.user_keys.specs.FirstLines.{EndsBy, IsFirst}
 use Rattle.user_keys.specs.Options.{AreTerms, MayBeTerms}
-use Rattle.user_keys.specs.PrincipalLogins.{DecidesFirst, IsPrincipalLine, IsWhyNoDecision, IsWhyNotAllowed, JudgesPrincipal, judged_in_place}
+use Rattle.user_keys.specs.PrincipalLogins.{DecidesFirst, IsPrincipalLine, IsWhyNoDecision, IsWhyNotAllowed, IsWhyUndecided, JudgesPrincipal, RefusesPrincipal, judged_in_place}
 use Rattle.user_keys.specs.Principals.{Decides, DecidesBy, HasOptions, MayDecide, MayDecideBy, SplitsLine, is_principal, lines_at_feeds, name_in, names_principal}
 use Rattle.user_keys.specs.UserLogins.{UserLogin}
 use Rattle.user_keys.specs.declared.answer.Judgement.{Judgement}
@@ -122,6 +122,19 @@ module _ (login : UserLogin) (c : Certificate) where
   pub undecided : (r : UserRefusal) → IsWhyNoDecision c login.lines r → (n : ℕ) (u : Terms) (other : List ℕ) → IsPrincipalLine login c n u other → ⊥
   undecided r (inl none) n u other is = nothing_lets (Decides c) (MayDecide c) login.lines none.0 n u is.0.0
   undecided r (inr may) n u other is = none_lets (Decides c) (MayDecide c) login.lines may.0 may.1 may.2 may.3 n u is.0.0
+
+  -- what refuses can be told
+  pub refused_is_told : (m n : ℕ) (t : Terms) (name : List ℕ) → DecidesFirst c login.lines m t name → RefusesPrincipal login c t → IsWhyUndecided login c (refusal.Unclear n) → ⊥
+  refused_is_told m n t name decides says (inl (inl none)) = absurd (cc none.1)
+  refused_is_told m n t name decides says (inl (inr (line, k, first, may, is))) = none_lets (Decides c) (MayDecide c) login.lines line k first may m t decides.0
+  refused_is_told m n t name decides says (inr (k, u, other, also, inl refuses)) = absurd (cc refuses.2)
+  refused_is_told m n t name decides says (inr (k, u, other, also, inr unclear)) =
+      let same = one_terms (Decides c) (MayDecide c) login.lines m k t u decides.0 also.0 in
+      absurd (cc (one_judged t (judgement.Refuses says.0) judgement.Unclear says.1 (subst (λ (v : Terms). JudgesPrincipal login c v judgement.Unclear) same unclear.0)))
+
+  -- and nobody is let in by it
+  pub refused_lets_in : (m : ℕ) (t : Terms) (name : List ℕ) → DecidesFirst c login.lines m t name → RefusesPrincipal login c t → (n : ℕ) (u : Terms) (other : List ℕ) → IsPrincipalLine login c n u other → ⊥
+  refused_lets_in m t name decides says = not_allowed m t name decides (refusal.NotAllowed m says.0) (inl (says.0, says.1, refl))
 
 -- ---- where memory is asked for
 

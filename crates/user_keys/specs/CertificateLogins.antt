@@ -31,6 +31,7 @@ use Rattle.user_keys.specs.Spellings.{MaySpell, own_part}
 use Rattle.user_keys.specs.UserLogins.{Lets, MayLet, UserLogin, login_of}
 use Rattle.user_keys.specs.declared.login.UserLogin as code
 use Rattle.user_keys.specs.declared.grant.Certified.{Certified}
+use Rattle.user_keys.specs.declared.grant.NamedLine.{NamedLine}
 use Rattle.user_keys.specs.declared.grant.UserGrant.{UserGrant}
 use Rattle.user_keys.specs.declared.refusal.UserRefusal.{UserRefusal}
 use Rattle.user_keys.specs.declared.refusal.UserRefusal.TheVariants as refusal
@@ -146,6 +147,11 @@ IsWhyNoCertificate l r = IsWhyRefusedBy (λ c. IsWhyNoLine (by l.login c)) (IsLi
 -- The key that signed the certificate may be spelled in a line.
 abbrev pub NeedsMemory : CertificateLogin → Type 0
 NeedsMemory l = NeedsMemoryBy (λ c. MaySpell (own_part c.signed.signature_key)) l
+
+-- Out of memory aside, it is that line, for that name; or there is none.
+abbrev pub FindsLine : (ℕ → Terms → List ℕ → Type 0) → Result NamedLine UserRefusal → Type 0
+FindsLine IsLine (Ok found) = IsLine found.first.line (terms_of found.first.terms) (string_bytes found.name)
+FindsLine IsLine (Err r) = r ≢ refusal.Memory → (number : ℕ) (t : Terms) (name : List ℕ) → IsLine number t name → ⊥
 
 -- ---- what the policy says
 

@@ -26,9 +26,12 @@ use Rattle.user_keys.specs.declared.refusal.Reason.TheVariants.{MisplacedOption}
 use Rattle.user_keys.specs.declared.refusal.UserRefusal.{UserRefusal}
 use Rattle.user_keys.specs.declared.refusal.UserRefusal.TheVariants as refusal
 
--- that of a call
+-- that of a call, whose text is one of principals
+abbrev pub login_in_place : code.UserLogin → UserLogin
+login_in_place l = record (login_of l None) { lines = lines_at_feeds l.text.now }
+
 abbrev pub principal_login : code.UserLogin → List ℕ → (Question → Bool) → (List ℕ → krl.CertificateIdentity → Bool) → CertificateLogin
-principal_login l blob accepts revokes = record { login = record (login_of l None) { lines = lines_at_feeds l.text.now }; blob = blob; accepts = accepts; revokes = revokes }
+principal_login l blob accepts revokes = record { login = login_in_place l; blob = blob; accepts = accepts; revokes = revokes }
 
 -- ---- the line that decides
 
@@ -44,6 +47,10 @@ judged_in_place c t j = if t.is_authority then Refuses MisplacedOption else judg
 -- The terms say that of the login by the certificate.
 abbrev pub JudgesPrincipal : UserLogin → Certificate → Terms → Judgement → Type 0
 JudgesPrincipal login c t j = (alone : Judgement) × Judges t login.time login.client login.host alone × (j ≡ judged_in_place c t alone)
+
+-- The terms refuse it.
+abbrev pub RefusesPrincipal : UserLogin → Certificate → Terms → Type 0
+RefusesPrincipal login c t = (reason : Reason) × JudgesPrincipal login c t (Refuses reason)
 
 abbrev pub IsPrincipalLine : UserLogin → Certificate → ℕ → Terms → List ℕ → Type 0
 IsPrincipalLine login c number t name = DecidesFirst c login.lines number t name × JudgesPrincipal login c t Allows

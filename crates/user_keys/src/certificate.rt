@@ -1,19 +1,22 @@
 //! Whether a certificate lets its holder in, by an authority that authorized_keys lists.
 
-ghost use Rattle.std.specs.Prelude.{◌≡◌, ◌≢◌, IfErr, IfOk};
+ghost use Rattle.std.specs.Prelude.{◌≡◌, ◌≢◌, IfErr, IfOk, IsTrue, None};
+ghost use Rattle.openssh_limits.specs.Keys.{openssh_accepts_key};
 ghost use Rattle.login_terms.specs.Terms.{terms_of};
 ghost use Rattle.sshkey_cert.specs.CertificateValues.{certificate_of};
 ghost use Rattle.sshkey_keys.specs.Keys.{key_of};
+ghost use Rattle.sshkey_model.specs.Certificates.{IsCertificate};
 ghost use Rattle.sshkey_model.specs.Keys.{IsKey};
 ghost use Rattle.sshkey_padding.specs.Padding.{padding};
-ghost use Rattle.user_keys.specs.Answers.{GrantsExactly};
-ghost use Rattle.user_keys.specs.CertificateLogins.{AdmitsCertificate, IsAsStrictWith, IsWhyNoCertificate, NeedsMemory, login_with};
+ghost use Rattle.user_keys.specs.Answers.{GrantsExactly, IsWhyNoLine};
+ghost use Rattle.user_keys.specs.CertificateLogins.{AdmitsCertificate, FindsLine, IsAsStrictWith, IsLineFor, IsWhyNoCertificate, NeedsMemory, by, login_with};
 ghost use Rattle.user_keys.specs.Certificates.{judged_by, judged_with};
+ghost use Rattle.user_keys.specs.UserLogins.{login_of};
 ghost use Rattle.user_keys.specs.declared.refusal.UserRefusal.TheVariants as refusal;
 
 use crate::answer::Judgement;
 use crate::first_line::first_grant;
-use crate::grant::UserGrant;
+use crate::grant::{NamedLine, UserGrant};
 use crate::login::UserLogin;
 use crate::merge::{agree, merged};
 use crate::names::name_listed;
@@ -91,6 +94,38 @@ pub fn log_in_by_certificate<R: Revocations, V: RawVerifier>(
         verifier,
     )?;
     Ok(merged(first, granted))
+}
+
+/// The first line of the certificate's authority that lets the certificate in, and the name for
+/// which it does, as `log_in_by_certificate` finds it; the rest of the certificate is not asked
+/// about. sshd(8) accepts the authority's key.
+///
+/// Unless memory runs out, it fails with `Unclear`, `NotAllowed` or `NotListed`, as
+/// `log_in_by_certificate` does.
+pub fn find_authority_line(
+    alloc: Global,
+    login: &UserLogin,
+    certificate: &Certificate,
+) -> Result<NamedLine, UserRefusal>
+    requires certificate { IsCertificate (certificate_of certificate.now) }
+    requires accepted { IsTrue (openssh_accepts_key 0
+        (certificate_of certificate.now).signed.signature_key) }
+    ensures exactly { FindsLine (IsLineFor (login_of login.now None)
+        (certificate_of certificate.now)) result }
+    ensures refused { IfErr result (λ r. r ≢ refusal.Memory
+        → IsWhyNoLine (by (login_of login.now None) (certificate_of certificate.now)) r) }
+{
+    let first = first_grant(alloc, login, Some(certificate))?;
+    // a line that lets the certificate in does so for a name
+    let Some(name) = name_listed(
+        certificate.valid_principals(),
+        login.user,
+        &first.terms.principals,
+    ) else {
+        return Err(UserRefusal::NotListed);
+    };
+    let name = String::from_str(alloc, name)?;
+    Ok(NamedLine { first, name })
 }
 
 /// What the terms of an authority's line say of a login by the certificate, of which they say that

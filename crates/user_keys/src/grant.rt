@@ -15,6 +15,15 @@ pub struct UserGrant {
     pub certified: Option<Certified>,
 }
 
+/// A line that lets a certificate in, and the name for which it does.
+#[derive(Drop)]
+pub struct NamedLine {
+    /// The line, and what it says alone.
+    pub first: UserGrant,
+    /// The one of the certificate's principals that counts.
+    pub name: String,
+}
+
 /// Which certificate a login is by, for a log.
 #[derive(Debug, Drop)]
 pub struct Certified {

@@ -1,10 +1,11 @@
 //! Whether a key lets its holder in.
 
-ghost use Rattle.std.specs.Prelude.{◌≢◌, IfErr, IfOk, None};
+ghost use Rattle.std.specs.Prelude.{◌≡◌, ◌≢◌, IfErr, IfOk, IsTrue, None};
+ghost use Rattle.openssh_limits.specs.Keys.{openssh_accepts_key};
 ghost use Rattle.sshkey_keys.specs.Keys.{key_of};
 ghost use Rattle.sshkey_model.specs.Keys.{IsKey};
-ghost use Rattle.user_keys.specs.Answers.{AsksOfKey, GrantsExactly, IsWhyNoKey};
-ghost use Rattle.user_keys.specs.UserLogins.{Admits, IsAsStrict, login_of};
+ghost use Rattle.user_keys.specs.Answers.{AsksOfKey, GrantsExactly, IsWhyNoKey, IsWhyNoLine};
+ghost use Rattle.user_keys.specs.UserLogins.{Admits, GrantsFirst, IsAsStrict, login_of};
 ghost use Rattle.user_keys.specs.declared.refusal.UserRefusal.TheVariants as refusal;
 
 use crate::first_line::first_grant;
@@ -64,5 +65,22 @@ pub fn log_in_by_key<R: Revocations>(
     if is_revoked {
         return Err(UserRefusal::Revoked);
     }
+    first_grant(alloc, login, None)
+}
+
+/// The first line of the text that lets the key in, and what its options say, as `log_in_by_key`
+/// finds it; whether the key is revoked is not asked. sshd(8) accepts the key.
+///
+/// Unless memory runs out, it fails with `Unclear`, `NotAllowed` or `NotListed`, as `log_in_by_key`
+/// does.
+pub fn find_key_line(alloc: Global, login: &UserLogin) -> Result<UserGrant, UserRefusal>
+    requires key { IsKey (key_of login.now.offered.now) }
+    requires accepted { IsTrue (openssh_accepts_key login.now.least_rsa_bits
+        (key_of login.now.offered.now)) }
+    ensures exactly { GrantsExactly (GrantsFirst (login_of login.now None)) result }
+    ensures by_key { IfOk result (λ g. g.certified ≡ None) }
+    ensures refused { IfErr result (λ r. r ≢ refusal.Memory
+        → IsWhyNoLine (login_of login.now None) r) }
+{
     first_grant(alloc, login, None)
 }

@@ -27,10 +27,13 @@ mod refusal;
 mod text;
 mod time;
 
-pub use certificate::log_in_by_certificate;
+pub use certificate::{find_authority_line, log_in_by_certificate};
 pub use filter::line_may_name_key;
-pub use grant::{Certified, UserGrant};
-pub use key::log_in_by_key;
+pub use grant::{Certified, NamedLine, UserGrant};
+pub use key::{find_key_line, log_in_by_key};
 pub use login::UserLogin;
-pub use principal::log_in_by_principal;
+pub use merge::merged;
+pub use names::name_listed;
+pub use policy::read_certificate;
+pub use principal::{find_principal_line, log_in_by_principal};
 pub use refusal::{Reason, UserRefusal};

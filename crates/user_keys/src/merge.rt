@@ -11,7 +11,7 @@ use sshkey_cert_values::OptionsMap;
 
 /// What a login by a certificate is bound to, which a line and the policy grant each. The commands
 /// agree.
-pub(crate) fn merged(first: UserGrant, login: login_policy::Grant) -> UserGrant
+pub fn merged(first: UserGrant, login: login_policy::Grant) -> UserGrant
     ensures line { result.line ≡ first.line }
     ensures terms { terms_of result.terms ≡ merged_with (terms_of first.terms)
         (option_map string_bytes login.force_command) (options_of login.extensions)

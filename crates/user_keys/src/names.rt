@@ -7,7 +7,7 @@ ghost use Rattle.user_keys.specs.Certificates.{first_listed, name_listed};
 
 /// Whom a certificate with these names lets in as the user: the user, if it lists that name; or,
 /// where the line has `principals`, the first of these that it lists. Does not allocate.
-pub(crate) fn name_listed<'a>(
+pub fn name_listed<'a>(
     listed: &[String],
     user: &'a str,
     principals: &'a Option<String>,

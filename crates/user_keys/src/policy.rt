@@ -22,7 +22,7 @@ use std::alloc::Global;
 use std::net::IpAddr;
 
 /// Reads a certificate by an authority whose key sshd(8) accepts.
-pub(crate) fn read_certificate(alloc: Global, bytes: &[u8]) -> Result<Certificate, UserRefusal>
+pub fn read_certificate(alloc: Global, bytes: &[u8]) -> Result<Certificate, UserRefusal>
     ensures reads { IfOk result (λ c. SpellsCertificate (certificate_of c) bytes.now
         × IsTrue (openssh_accepts_key 0 (certificate_of c).signed.signature_key)) }
     ensures refused { IfErr result (λ r. r ≢ refusal.Memory → IsWhyUnread bytes.now r) }

@@ -11,14 +11,15 @@ ghost use Rattle.sshkey_keys.specs.Keys.{key_of};
 ghost use Rattle.sshkey_model.specs.Keys.{IsKey};
 ghost use Rattle.sshkey_padding.specs.Padding.{padding};
 ghost use Rattle.user_keys.specs.Answers.{GrantsExactly};
-ghost use Rattle.user_keys.specs.PrincipalLogins.{AdmitsPrincipal, ChecksTerms, FindsDecision, IsAsStrictInPlace, IsWhyNoPrincipal, NeedsMemoryInPlace, judged_in_place, principal_login};
+ghost use Rattle.user_keys.specs.CertificateLogins.{FindsLine};
+ghost use Rattle.user_keys.specs.PrincipalLogins.{AdmitsPrincipal, ChecksTerms, FindsDecision, IsAsStrictInPlace, IsPrincipalLine, IsWhyNoPrincipal, IsWhyUndecided, NeedsMemoryInPlace, judged_in_place, login_in_place, principal_login};
 ghost use Rattle.user_keys.specs.Principals.{DecidesBy, MayDecideBy, is_principal, lines_at_feeds, names_principal};
 ghost use Rattle.user_keys.specs.UserLogins.{login_of};
 ghost use Rattle.user_keys.specs.declared.refusal.UserRefusal.TheVariants as refusal;
 
 use crate::answer::Judgement;
 use crate::certificate::judged_by;
-use crate::grant::UserGrant;
+use crate::grant::{NamedLine, UserGrant};
 use crate::line::judge;
 use crate::login::UserLogin;
 use crate::merge::{agree, merged};
@@ -107,6 +108,35 @@ pub fn log_in_by_principal<R: Revocations, V: RawVerifier>(
         verifier,
     )?;
     Ok(merged(first, granted))
+}
+
+/// The first line of the text that is for a principal of the certificate, and that name, if it
+/// allows the certificate, the place and the time, as `log_in_by_principal` finds it; the rest of
+/// the certificate is not asked about.
+///
+/// Unless memory runs out, it fails with `NotListed`, `Unclear` or `NotAllowed`, as
+/// `log_in_by_principal` does.
+pub fn find_principal_line(
+    alloc: Global,
+    login: &UserLogin,
+    certificate: &Certificate,
+) -> Result<NamedLine, UserRefusal>
+    ensures exactly { FindsLine (IsPrincipalLine (login_in_place login.now)
+        (certificate_of certificate.now)) result }
+    ensures refused { IfErr result (λ r. r ≢ refusal.Memory
+        → IsWhyUndecided (login_in_place login.now) (certificate_of certificate.now) r) }
+{
+    let Decision { first, name } = match first_principal(alloc, login.text, certificate) {
+        Ok(decision) => decision,
+        Err(refusal) => return Err(refusal),
+    };
+    // the name is a principal's
+    let Some(name) = listed_as(certificate.valid_principals(), name) else {
+        return Err(UserRefusal::NotListed);
+    };
+    check_terms(alloc, &first, login, certificate)?;
+    let name = String::from_str(alloc, name)?;
+    Ok(NamedLine { first, name })
 }
 
 /// The line that decides, and the principal that it is for.

@@ -1,0 +1,147 @@
+//! The first text that lets in.
+
+ghost use Rattle.sshkey_cert.specs.CertificateValues.{certificate_of};
+ghost use Rattle.sshkey_keys.specs.Keys.{key_of};
+ghost use Rattle.sshkey_model.specs.Keys.{IsKey};
+ghost use Rattle.std.specs.Prelude.{◌≡◌, map};
+ghost use Rattle.publickey_login.specs.Results.{CanSeek, FindsText, SearchesIn, SearchesText, asked_of, refused};
+ghost use Rattle.publickey_login.specs.Stops.{source_in};
+ghost use Rattle.publickey_login.specs.Values.{sought_of, text_of};
+
+use crate::grant::Source;
+use crate::refusal::PublickeyRefusal;
+use crate::trusted::Text;
+use sshkey_cert::Certificate;
+use std::alloc::Global;
+use user_keys::{
+    NamedLine, UserLogin, UserRefusal, find_authority_line, find_key_line, find_principal_line,
+};
+
+/// What is sought in texts.
+#[derive(Clone, Copy)]
+pub(crate) enum Sought<'a> {
+    /// A line of the key that is offered.
+    KeyLine,
+    /// A line of the certificate's authority.
+    AuthorityLine(&'a Certificate),
+    /// A line for one of the certificate's principals.
+    PrincipalLine(&'a Certificate),
+}
+
+/// What a text says.
+#[derive(Drop)]
+enum TextVerdict {
+    /// That line lets in.
+    Lets(NamedLine),
+    /// The line that decides refuses, and no other counts.
+    Refuses,
+    /// It is passed over.
+    Passes,
+}
+
+/// Whose texts they are.
+#[derive(Clone, Copy)]
+pub(crate) enum TextList {
+    AuthorizedKeys,
+    Principals,
+    Command,
+}
+
+impl TextList {
+    /// The text of that number.
+    fn source(self, number: usize) -> Source
+        ensures { result ≡ source_in self number }
+    {
+        match self {
+            TextList::AuthorizedKeys => Source::AuthorizedKeys(number),
+            TextList::Principals => Source::Principals(number),
+            TextList::Command => Source::Command(number),
+        }
+    }
+}
+
+/// By what a login is let in, and what that says.
+#[derive(Drop)]
+pub(crate) struct Origin {
+    pub source: Source,
+    pub line: NamedLine,
+}
+
+/// The line that lets in, of the first text that is not passed over; `None` where what comes after
+/// the texts is to be asked. The list says whose texts they are.
+pub(crate) fn find_in(
+    alloc: Global,
+    texts: &[Text],
+    list: TextList,
+    login: &UserLogin,
+    sought: Sought,
+) -> Result<Option<Origin>, PublickeyRefusal>
+    requires { CanSeek login.now (sought_of sought) }
+    ensures { SearchesIn (asked_of login.now) (sought_of sought.entry) list
+        (map text_of texts.now) result }
+{
+    for (number, text) in texts.iter().enumerate() {
+        let source = list.source(number);
+        match text {
+            Text::Read(text) => match find(alloc, text, source, login, sought)? {
+                TextVerdict::Lets(line) => return Ok(Some(Origin { source, line })),
+                TextVerdict::Refuses => return Ok(None),
+                TextVerdict::Passes => {}
+            },
+            Text::Unreadable => return Err(PublickeyRefusal::Unreadable { source }),
+        }
+    }
+    Ok(None)
+}
+
+/// What a text says, which is that source.
+fn find(
+    alloc: Global,
+    text: &[u8],
+    source: Source,
+    login: &UserLogin,
+    sought: Sought,
+) -> Result<TextVerdict, PublickeyRefusal>
+    requires { CanSeek login.now (sought_of sought) }
+    ensures { SearchesText (asked_of login.now) (sought_of sought.entry) source text.now
+        result }
+{
+    match find_line(alloc, &UserLogin { text, ..*login }, sought) {
+        Ok(line) => Ok(TextVerdict::Lets(line)),
+        Err(UserRefusal::NotListed) => Ok(TextVerdict::Passes),
+        Err(UserRefusal::NotAllowed { line: _, reason: _ }) => Ok(refused(sought)),
+        Err(UserRefusal::Unclear { line }) => Err(PublickeyRefusal::Unclear { source, line }),
+        Err(UserRefusal::UnacceptedKey) => Err(PublickeyRefusal::UnacceptedKey),
+        Err(UserRefusal::Revoked) => Err(PublickeyRefusal::Revoked),
+        Err(UserRefusal::Certificate(refusal)) => Err(PublickeyRefusal::Certificate(refusal)),
+        Err(UserRefusal::Memory) => Err(PublickeyRefusal::Memory),
+    }
+}
+
+/// What follows where the lines that are for somebody refuse: for a principal the first decides.
+fn refused(sought: Sought) -> TextVerdict
+    ensures { result ≡ refused (sought_of sought.entry) }
+{
+    match sought {
+        Sought::KeyLine | Sought::AuthorityLine(_) => TextVerdict::Passes,
+        Sought::PrincipalLine(_) => TextVerdict::Refuses,
+    }
+}
+
+/// The line of the login's text that lets in.
+fn find_line(alloc: Global, login: &UserLogin, sought: Sought) -> Result<NamedLine, UserRefusal>
+    requires { CanSeek login.now (sought_of sought) }
+    ensures { FindsText (asked_of login.now) (sought_of sought.entry) login.now.text.now result }
+{
+    match sought {
+        Sought::KeyLine => match find_key_line(alloc, login) {
+            Ok(first) => Ok(NamedLine {
+                first,
+                name: String::new(alloc),
+            }),
+            Err(refusal) => Err(refusal),
+        },
+        Sought::AuthorityLine(certificate) => find_authority_line(alloc, login, certificate),
+        Sought::PrincipalLine(certificate) => find_principal_line(alloc, login, certificate),
+    }
+}
