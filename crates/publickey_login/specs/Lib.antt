@@ -10,3 +10,4 @@ pub mod Results
 pub mod Laws
 pub mod Examples
 pub mod LoginExamples
+pub mod GrantExamples

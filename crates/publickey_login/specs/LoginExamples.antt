@@ -57,10 +57,10 @@ Places = ((a : IpAddr) → client_known (At a) ≡ At a) × (client_known Unknow
 
 -- ---- an authority
 
-abbrev certificate : Certificate
+abbrev pub certificate : Certificate
 certificate = of_fields fields
 
-abbrev nobodys : Certificate
+abbrev pub nobodys : Certificate
 nobodys = of_fields (record fields { valid_principals = [] })
 
 abbrev found : List ℕ → Found
@@ -79,10 +79,10 @@ Listed = IsListed (codes "alice") certificate (found (codes "alice"))
 abbrev pub OwnTerms : Type 0
 OwnTerms = (own_terms.touch_required ≡ false) × (own_terms.verify_required ≡ false) × (own_terms.permissions ≡ all_permitted) × (own_terms.command ≡ None) × (own_terms.is_authority ≡ false)
 
-abbrev trusting : List Text → Principals → List Text → Trusted
+abbrev pub trusting : List Text → Principals → List Text → Trusted
 trusting files principals command = record { authorized_keys = files; authorities = fingerprint Sha256 authority ∷ []; principals = principals; command_keys = command; least_rsa_bits = 0; requirements = record { touch_required = false; verify_required = false } }
 
-abbrev login : Trusted → Login
+abbrev pub login : Trusted → Login
 login t = record { offer = record { user = codes "alice"; algorithm = None; blob = [] }; trusted = t; client = Unknown; host = None; time = 100; revokes = λ key identity. false; revokes_key = λ key. false }
 
 -- An authority that is trusted lets in, without a file; a file of principals that has no line takes

@@ -2,6 +2,7 @@
 #![tactic(auto, unfolding(crate::specs::Searches::IsOfFirst, crate::specs::Searches::ArePassed))]
 
 ghost use Rattle.publickey_login.specs.Examples.{Flagless, Flags, Left, Named};
+ghost use Rattle.publickey_login.specs.GrantExamples.{Certificates, Keys, Logins, Refusals};
 ghost use Rattle.publickey_login.specs.LoginExamples.{Answered, Authorities, Counted, FirstTexts, Listed, OwnTerms, PassedTexts, Places, Required, Sources};
 
 /// The names under which a key or a certificate signs.
@@ -72,4 +73,24 @@ pub fn required()
 /// What counts as an answer.
 pub fn answered()
     ensures { Answered }
+{}
+
+/// Keys that are granted nothing.
+pub fn ungranted_keys()
+    ensures { Keys }
+{}
+
+/// Certificates that are granted nothing.
+pub fn ungranted_certificates()
+    ensures { Certificates }
+{}
+
+/// Who does not log in.
+pub fn no_logins()
+    ensures { Logins }
+{}
+
+/// What refuses, and what is passed over.
+pub fn refusals()
+    ensures { Refusals }
 {}

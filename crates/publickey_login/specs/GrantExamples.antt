@@ -1,0 +1,53 @@
+-- Worked examples of who is granted nothing, and who does not log in: each with one thing changed
+-- (auth2-pubkey.c of OpenSSH).
+use Rattle.std.specs.Prelude.{◌≡◌, ℕ, List, [], ◌∷◌, Bool, true, false, Option, Some, None, codes}
+use Rattle.login_policy.specs.Examples.{dsa_key, fields}
+use Rattle.sshkey_model.specs.Certificates.{Certificate}
+use Rattle.sshkey_model.specs.Keys.{Key}
+use Rattle.sshkey_model.specs.Verification.{Question}
+use Rattle.user_keys.specs.UserLogins.{UserLogin}
+use Rattle.publickey_login.specs.Grants.{GrantsCertificate, GrantsKey, IsLogin, IsPending, MayLogIn}
+use Rattle.publickey_login.specs.LoginExamples.{certificate, login, nobodys, trusting}
+use Rattle.publickey_login.specs.Logins.{Files, InCertificate, Login, Read, Unreadable}
+use Rattle.publickey_login.specs.Searches.{AuthorityLine, Found, IsFoundBy, KeyLine, PrincipalLine, RefusesBy}
+use Rattle.publickey_login.specs.Signatures.{BySshd, Request}
+use Rattle.publickey_login.specs.Sources.{PrincipalsGoOn, user_of}
+use Rattle.publickey_login.specs.declared.grant.PublickeyGrant.{PublickeyGrant}
+
+abbrev pub trusting_all : Login
+trusting_all = login (trusting [] InCertificate [])
+
+-- A revoked key, a DSA key, and one that no text has: an authority lets in no key by itself.
+abbrev pub Keys : Type 0
+Keys = (g : PublickeyGrant) → ¬ GrantsKey (record trusting_all { revokes_key = λ key. true }) fields.key g
+    × ¬ GrantsKey trusting_all dsa_key g
+    × ¬ GrantsKey trusting_all fields.key g
+    × ¬ GrantsKey (login (trusting (Unreadable ∷ []) InCertificate [])) fields.key g
+
+-- A revoked certificate; one before and after its window; of an authority whom nobody trusts; that
+-- lists nobody; and where a file of principals has no line.
+abbrev pub Certificates : Type 0
+Certificates = (g : PublickeyGrant) → ¬ GrantsCertificate (record trusting_all { revokes = λ key identity. true }) certificate g
+    × ¬ GrantsCertificate (record trusting_all { time = 99 }) certificate g
+    × ¬ GrantsCertificate (record trusting_all { time = 200 }) certificate g
+    × ¬ GrantsCertificate (login (record (trusting [] InCertificate []) { authorities = [] })) certificate g
+    × ¬ GrantsCertificate trusting_all nobodys g
+    × ¬ GrantsCertificate (login (trusting [] (Files []) [])) certificate g
+    × ¬ GrantsCertificate (login (trusting (Unreadable ∷ []) InCertificate [])) certificate g
+
+-- Where the verifier says no nobody logs in who signs here, nor by a certificate at all, and none may
+-- offer one.
+abbrev pub Logins : Type 0
+Logins = ((l : Login) (g : PublickeyGrant) (session_id bytes : List ℕ) (host_key : Option (List ℕ)) → ¬ IsLogin (λ q. false) l (Request session_id host_key bytes) g)
+    × ((l : Login) (g : PublickeyGrant) (client : Option (Option Question)) → ¬ IsPending l BySshd g None (Some None))
+    × ((g : PublickeyGrant) (is : MayLogIn (λ q. false) trusting_all) → is.authority ≡ None)
+    × ¬ MayLogIn (λ q. true) (login (record (trusting [] InCertificate []) { authorities = [] }))
+
+-- Lines of keys and of authorities that refuse are passed over, and a certificate that lists somebody
+-- is let in by its authority.
+abbrev pub Refusals : Type 0
+Refusals = ((u : UserLogin) (text : List ℕ) → ¬ RefusesBy u KeyLine text)
+    × ((u : UserLogin) (c : Certificate) (text : List ℕ) → ¬ RefusesBy u (AuthorityLine c) text)
+    × ((f : Found) → ¬ IsFoundBy (user_of trusting_all fields.key) KeyLine [] f)
+    × PrincipalsGoOn trusting_all nobodys InCertificate
+    × ¬ PrincipalsGoOn trusting_all certificate InCertificate
