@@ -5,6 +5,10 @@ mod Lines
 mod LongParts
 mod Places
 mod Spelled
+mod Searches
+mod Unmarked
+mod SkippedLines
+mod Unlisted
 mod Shown
 mod ListedNames
 mod CertificateLogins
