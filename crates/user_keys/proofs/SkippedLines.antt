@@ -1,15 +1,14 @@
 -- The lines of a front in no part of which a mark stands.
-use Rattle.std.proofs.Common.{◌≡◌, ◌∙◌, ◌+◌, ◌-◌, ◌++◌, ◌<◌, ◌≤◌, ℕ, zero, suc, List, [], ◌∷◌, false, Some, ap, append-nil, append_assoc, arith, drop, eqb, eqb-true, get_or, inl, inr, length, refl, subst, sym, take, take-append-drop}
+use Rattle.std.proofs.Common.{cond, ◌≡◌, ◌∙◌, ◌+◌, ◌-◌, ◌++◌, ◌<◌, ◌≤◌, ℕ, zero, suc, List, [], ◌∷◌, false, Some, ap, append-nil, append_assoc, arith, drop, eqb, eqb-true, get_or, inl, inr, length, refl, subst, sym, take, take-append-drop}
 use Rattle.std.proofs.lemmas.Bool.{cases_lt, cond_both}
 use Rattle.std.proofs.lemmas.List.{drop_more, get_or-take, length-append, length-take, length-take-le, take-take, take_rest}
 use Rattle.std.proofs.lemmas.List.Elements.{All-append, All-cons, All-from_get_or, All-nil}
 use Rattle.std.proofs.lemmas.List.Splits.{length-slice_split, slice_split_at, slice_split_first, slice_split_none}
-use Rattle.std.proofs.lemmas.List.Sums.{fails_before_first, passes_at_first, split_at_first}
-use Rattle.std.specs.List.{All, after_first, before_first, position_or_len, slice_split}
+use Rattle.std.proofs.lemmas.List.Sums.{count_by-le-length, fails_before_first, passes_at_first, split_at_first, sum_by-take-drop}
+use Rattle.std.specs.List.{All, after_first, before_first, count_by, position_or_len, slice_split}
 use Rattle.std.specs.Prelude.{slice_index}
 use Rattle.std.specs.Str.Lines.{lines, lines_of_parts, strip_carriage_return}
-use Rattle.memchr.specs.Find.{IsLastByte, is_byte, places}
-use Rattle.memchr.proofs.lemmas.CallerLemmas.{length-places, length-places-le}
+use Rattle.memchr.specs.Find.{IsLastByte, is_byte}
 use Rattle.sshkey_entries.proofs.TextLines.{more_lines}
 use Rattle.user_keys.specs.Principals.{is_feed}
 use Rattle.user_keys.specs.Skips.{SkipsLines}
@@ -75,7 +74,7 @@ module _ (m : Marks) where
   ]
 
   module _ (text : List ℕ) (n : ℕ) (within : n ≤ length text) (free : IsUnmarked m (take n text)) where
-    pub skipped : (end count : ℕ) → IsLastByte (is_byte 10) (take n text) (Some end) → count ≡ length (places (is_byte 10) (take end (take n text))) → SkipsLines m text (count + 1) (take (length text - (end + 1)) (drop (end + 1) text))
+    pub skipped : (end count : ℕ) → IsLastByte (is_byte 10) (take n text) (Some end) → count ≡ count_by is_feed (take end (take n text)) → SkipsLines m text (count + 1) (take (length text - (end + 1)) (drop (end + 1) text))
     skipped end count last counted =
         let size : length (take n text) ≡ n = length-take-le n text within in
         let less : end < n = omega (arith, last.0.high, size) in
@@ -86,21 +85,21 @@ module _ (m : Marks) where
         let whole : text ≡ front ++ (10 ∷ rest) = sym (take-append-drop end text) ∙ ap (λ (l : List ℕ). l ++ drop end text) (sym (take-take end n text (omega (arith, less)))) ∙ ap (λ (l : List ℕ). front ++ l) (drop_more text end 0 (omega (arith, less, within)) ∙ ap (λ (c : ℕ). c ∷ rest) feed) in
         let inner : take n text ≡ front ++ drop end (take n text) = sym (take-append-drop end (take n text)) in
         let all = skips (length front) front rest (omega arith) (λ before part after is. free before part (after ++ drop end (take n text)) (inner ∙ ap (λ (l : List ℕ). l ++ drop end (take n text)) is ∙ append_assoc before (part ++ after) (drop end (take n text)) ∙ ap (λ (l : List ℕ). before ++ l) (append_assoc part after (drop end (take n text))))) in
-        let number : count + 1 ≡ length all.0 = ap (λ (k : ℕ). k + 1) (counted ∙ length-places (is_byte 10) front) ∙ sym (length-slice_split is_feed front) ∙ sym all.2 in
+        let number : count + 1 ≡ length all.0 = ap (λ (k : ℕ). k + 1) counted ∙ sym (length-slice_split is_feed front) ∙ sym all.2 in
         record {
           before = all.0;
           is = ap lines whole ∙ all.1 ∙ ap (λ (l : List ℕ). all.0 ++ lines l) (sym given);
           counted = number;
           unmarked = all.3;
-          smaller = omega (arith, ap length whole, ap length given, length-append front (10 ∷ rest), counted, length-places-le (is_byte 10) front);
+          smaller = omega (arith, ap length whole, ap length given, length-append front (10 ∷ rest), counted, count_by-le-length is_feed front);
         }
 
   -- the same of a first block
   module _ (text : List ℕ) (size n end count : ℕ) where
-    pub skipped_block : n ≤ length (take size text) → IsUnmarked m (take n (take size text)) → IsLastByte (is_byte 10) (take n (take size text)) (Some end) → count ≡ length (places (is_byte 10) (take end (take n (take size text)))) → SkipsLines m text (count + 1) (take (length text - (end + 1)) (drop (end + 1) text))
+    pub skipped_block : n ≤ length (take size text) → IsUnmarked m (take n (take size text)) → IsLastByte (is_byte 10) (take n (take size text)) (Some end) → count ≡ count_by is_feed (take end (take n (take size text))) → SkipsLines m text (count + 1) (take (length text - (end + 1)) (drop (end + 1) text))
     skipped_block within free last counted =
         let same : take n (take size text) ≡ take n text = take-take n size text (omega (arith, within, length-take size text)) in
-        skipped text n (omega (arith, within, length-take size text)) (subst (IsUnmarked m) same free) end count (subst (λ (l : List ℕ). IsLastByte (is_byte 10) l (Some end)) same last) (counted ∙ ap (λ (l : List ℕ). length (places (is_byte 10) (take end l))) same)
+        skipped text n (omega (arith, within, length-take size text)) (subst (IsUnmarked m) same free) end count (subst (λ (l : List ℕ). IsLastByte (is_byte 10) l (Some end)) same last) (counted ∙ ap (λ (l : List ℕ). count_by is_feed (take end l)) same)
 
   -- one block after another
   pub skipped_on : (text rest after : List ℕ) (count more : ℕ) → SkipsLines m text count rest → SkipsLines m rest more after → SkipsLines m text (count + more) after
@@ -111,3 +110,11 @@ module _ (m : Marks) where
     unmarked = All-append Unmarked a.before b.before a.unmarked b.unmarked;
     smaller = omega (arith, a.smaller, b.smaller);
   }
+
+-- line feeds counted in one part after another
+pub counted_on : (text rest : List ℕ) (n count few : ℕ) → few ≡ count_by is_feed (take n rest) → count + count_by is_feed rest ≡ count_by is_feed text → count + few + count_by is_feed (take (length rest - n) (drop n rest)) ≡ count_by is_feed text
+counted_on text rest n count few here all =
+    let given : take (length rest - n) (drop n rest) ≡ drop n rest = take_rest rest n in
+    let parts : count_by is_feed (take n rest) + count_by is_feed (drop n rest) ≡ count_by is_feed rest = sum_by-take-drop (λ c. cond (is_feed c) 1 0) rest n in
+    let left : count_by is_feed (take (length rest - n) (drop n rest)) ≡ count_by is_feed (drop n rest) = ap (count_by is_feed) given in
+    omega (arith, here, all, parts, left)

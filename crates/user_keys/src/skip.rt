@@ -1,13 +1,18 @@
 //! The lines at the front of a text in which a key is not spelled.
 
-ghost use Rattle.std.specs.Prelude.{◌<◌, IfSome, length};
+ghost use Rattle.std.specs.List.{count_by};
+ghost use Rattle.std.specs.Prelude.{◌≡◌, ◌<◌, ◌≤◌, IfSome, length};
+ghost use Rattle.user_keys.specs.Principals.{is_feed};
 ghost use Rattle.user_keys.specs.Skips.{SkipsLines};
 
 use crate::marks::Marks;
-use memchr::{memchr_iter, memrchr};
+use memchr::memrchr;
 
 /// How many bytes are searched at once.
 const BLOCK: usize = 1 << 16;
+
+/// In how many bytes line feeds are counted at once.
+const CHUNK: usize = 128;
 
 /// How many lines at the front of the text have none of the marks, as far as that is found without a
 /// look at each line, and what follows them.
@@ -32,9 +37,35 @@ fn skip_block<'a>(text: &'a [u8], marks: &Marks) -> Option<(usize, &'a [u8])>
     let front = &block[..marks.unmarked_front(block)];
     match memrchr(b'\n', front) {
         Some(end) => {
-            let count = memchr_iter(b'\n', &front[..end]).count();
+            let count = count_feeds(&front[..end]);
             Some((count + 1, &text[end + 1..]))
         }
         None => None,
     }
+}
+
+/// How many line feeds a text has, of which short parts are counted by many bytes at once.
+fn count_feeds(text: &[u8]) -> usize
+    ensures { result ≡ count_by is_feed text.now }
+{
+    let mut count = 0;
+    let mut rest = text;
+    while CHUNK < rest.len() {
+        count += count_few(&rest[..CHUNK]) as usize;
+        rest = &rest[CHUNK..];
+    }
+    count + count_few(rest) as usize
+}
+
+fn count_few(text: &[u8]) -> u8
+    requires { length text.now ≤ 128 }
+    ensures { result ≡ count_by is_feed text.now }
+{
+    let mut count = 0;
+    for byte in text {
+        if *byte == b'\n' {
+            count += 1;
+        }
+    }
+    count
 }
