@@ -1,9 +1,10 @@
-/* Makes a call of the library for C about a file so many times, for bench/files:
+/* Makes a call of the library for C about a file so many times, for bench/files and bench/memory:
  *
  *     files KIND CALLS FILE SECOND
  *
  * FILE is what grows. SECOND is the key, the certificate or the SSH signature that is asked about.
- * It prints what the last call answered. */
+ * It prints what the last call answered, and on standard error by how many bytes the peak of its
+ * memory grew meanwhile. */
 #include <stdio.h>
 #include <stdlib.h>
 #include <string.h>
@@ -83,13 +84,25 @@ static uint32_t call(const char *kind, raf_blob file, raf_blob second) {
                           second.bytes, second.length, AT, none.items, none.count, 0);
 }
 
+/* The peak of this process's memory in bytes. */
+static long peak(void) {
+  char line[128];
+  long kibibytes = 0;
+  FILE *status = fopen("/proc/self/status", "r");
+  while (status && fgets(line, sizeof line, status)) sscanf(line, "VmHWM: %ld", &kibibytes);
+  if (status) fclose(status);
+  return kibibytes * 1024;
+}
+
 int main(int count, char **words) {
   raf_blob file = {NULL, 0}, second = {NULL, 0};
   if (count != 5 || !raf_read_file(words[3], &file) || !raf_read_file(words[4], &second))
     return 2;
   volatile uint32_t last = 0;
+  long before = peak();
   for (long calls = strtol(words[2], NULL, 10); calls; calls--) last = call(words[1], file, second);
   printf("%u\n", last);
+  fprintf(stderr, "%ld\n", peak() - before);
   free(file.bytes);
   free(second.bytes);
   return 0;

@@ -4,7 +4,7 @@
  *
  * `login-question` and `verdict` are those of a login which lets in, and `log-in` both, which is
  * all that raf_log_in asks but the verification; `verify` is what libcrypto takes to answer. It
- * prints nanoseconds of processor time a call. */
+ * prints nanoseconds of processor time a call, and what the last one answered. */
 #include <stdio.h>
 #include <stdlib.h>
 #include <string.h>
@@ -64,7 +64,7 @@ static uint32_t call(const char *what, raf_blob given) {
   if (!strcmp(what, "log-in")) return log_in(given);
   if (!strcmp(what, "validate"))
     return raf_check_certificate_for(given.bytes, given.length, 1, (const uint8_t *)"user", 4,
-                                     &digest, 1, 1);
+                                     &authority, 1, 1);
   if (!strcmp(what, "fields")) return raf_certificate_fields(given.bytes, given.length, &fields);
   if (!strcmp(what, "fingerprint")) return raf_fingerprint(given.bytes, given.length, &digest);
   return ask(given);

@@ -34,6 +34,9 @@ static void *reallocated(void *old, size_t length, const char *file, int line) {
   return NULL;
 }
 
-void program_end_without_memory(void) {
+void program_start_libcrypto(void) {
+  const uint64_t without = OPENSSL_INIT_NO_LOAD_CRYPTO_STRINGS | OPENSSL_INIT_NO_ADD_ALL_CIPHERS |
+                           OPENSSL_INIT_NO_ADD_ALL_DIGESTS | OPENSSL_INIT_NO_ATEXIT;
   if (CRYPTO_set_mem_functions(allocated, reallocated, released) != 1) abort();
+  if (OPENSSL_init_crypto(without, NULL) != 1) end();
 }

@@ -25,8 +25,11 @@ void program_show_version(void);
 int program_show(int count, char **words, const char *help);
 
 /* Has the program end with program_untold as soon as libcrypto is refused memory, which itself
- * answers then as if a signature were wrong. To be called before libcrypto is, once. */
-void program_end_without_memory(void);
+ * answers then as if a signature were wrong. Starts libcrypto without what nobody asks for here: the
+ * texts of its errors, the names of older ciphers and digests, and its putting away at the end,
+ * which would ask for memory after the answer is printed. Its configuration, where administrators
+ * set FIPS, is read with the first key as ever. To be called before libcrypto is, once. */
+void program_start_libcrypto(void);
 
 /* What is done with a line and its number: RAF_DONE, or why no further one is to be given. */
 typedef uint32_t program_line(const char *line, size_t length, size_t number, void *given);

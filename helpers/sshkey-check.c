@@ -225,7 +225,7 @@ static int answer_request(check_request *asked) {
 
 int main(int count, char **words) {
   check_request asked;
-  program_end_without_memory();
+  program_start_libcrypto();
   memset(&asked, 0, sizeof asked);
   asked.second = (uint64_t)time(NULL);
   asked.is_valid = true;

@@ -168,7 +168,7 @@ static int check_files(login_request *asked) {
 
 int main(int count, char **words) {
   login_request asked;
-  program_end_without_memory();
+  program_start_libcrypto();
   int status = program_show(count, words, help);
   if (status >= 0) return status;
   status = program_untold;

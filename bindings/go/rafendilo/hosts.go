@@ -87,8 +87,10 @@ func HostAndPort(text string) (host string, port uint16, err error) {
 // ErrText where text or host are not UTF-8, and with ErrMemory.
 func UnreadableHostLine(knownHosts, host string, port uint16) (int, error) {
 	var number C.size_t
-	in, whom := inputOf(knownHosts), inputOf(host)
-	status := C.raf_unreadable_host_line(in.pointer(), in.length(), whom.pointer(),
+	var memory held
+	defer memory.free()
+	in, whom := spanOf(&memory, knownHosts), inputOf(host)
+	status := C.raf_unreadable_host_line(in.bytes, in.length, whom.pointer(),
 		whom.length(), C.uint16_t(port), &number)
 	if status == C.RAF_END {
 		return 0, nil

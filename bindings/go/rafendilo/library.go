@@ -64,21 +64,24 @@ func (memory *held) free() {
 	}
 }
 
-func (memory *held) copied(data []byte) unsafe.Pointer {
-	at := C.CBytes(data)
+func copied[T string | []byte](memory *held, data T) unsafe.Pointer {
+	at := C.malloc(C.size_t(len(data)))
 	*memory = append(*memory, at)
+	copy(unsafe.Slice((*byte)(at), len(data)), data)
 	return at
 }
 
+// spanOf is such a copy. A file is better given so, also where it may point to Go's memory: that is
+// kept until it is collected.
 func spanOf[T string | []byte](memory *held, data T) C.raf_span {
 	return C.raf_span{
-		bytes: (*C.uint8_t)(memory.copied([]byte(data))), length: C.size_t(len(data)),
+		bytes: (*C.uint8_t)(copied(memory, data)), length: C.size_t(len(data)),
 	}
 }
 
 func spansOf[T string | []byte](memory *held, all []T) C.raf_spans {
 	// zeros, since Go looks at a pointer before it writes another in its place
-	at := (*C.raf_span)(memory.copied(make([]byte, len(all)*C.sizeof_raf_span)))
+	at := (*C.raf_span)(copied(memory, make([]byte, len(all)*C.sizeof_raf_span)))
 	for number, items := 0, unsafe.Slice(at, len(all)); number < len(all); number++ {
 		items[number] = spanOf(memory, all[number])
 	}
@@ -90,7 +93,7 @@ func (memory *held) digests(fingerprints []SHA256) C.raf_digests {
 	for _, one := range fingerprints {
 		all = append(all, one[:]...)
 	}
-	at := (*C.raf_sha256)(memory.copied(all))
+	at := (*C.raf_sha256)(copied(memory, all))
 	return C.raf_digests{items: at, count: C.size_t(len(fingerprints))}
 }
 

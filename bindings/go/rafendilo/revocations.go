@@ -54,8 +54,10 @@ func CheckUnrevokedCertificate(revoked [][]byte, certificate []byte) error {
 // fails with ErrRevoked where it has, with a Status for bytes that are no list (an empty file is
 // none, nor is a text of keys), or else no key, and with ErrMemory.
 func CheckUnrevokedKeyByKRL(krl, key []byte) error {
-	list, in := inputOf(krl), inputOf(key)
-	return errorOf(C.raf_check_unrevoked_key_by_krl(list.pointer(), list.length(),
+	var memory held
+	defer memory.free()
+	list, in := spanOf(&memory, krl), inputOf(key)
+	return errorOf(C.raf_check_unrevoked_key_by_krl(list.bytes, list.length,
 		in.pointer(), in.length()))
 }
 
@@ -64,7 +66,9 @@ func CheckUnrevokedKeyByKRL(krl, key []byte) error {
 // certificates of that key or of every key. The serial number 0 revokes nothing. It fails as
 // CheckUnrevokedKeyByKRL does.
 func CheckUnrevokedCertificateByKRL(krl, certificate []byte) error {
-	list, in := inputOf(krl), inputOf(certificate)
-	return errorOf(C.raf_check_unrevoked_certificate_by_krl(list.pointer(), list.length(),
+	var memory held
+	defer memory.free()
+	list, in := spanOf(&memory, krl), inputOf(certificate)
+	return errorOf(C.raf_check_unrevoked_certificate_by_krl(list.bytes, list.length,
 		in.pointer(), in.length()))
 }

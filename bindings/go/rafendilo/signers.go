@@ -66,13 +66,13 @@ func CheckSignerWithAnswer(signature []byte, namespace string, by Signers, isVer
 func (by Signers) verdict(
 	memory *held, in input, namespace string,
 ) func(isVerified C.uint32_t) error {
-	text, whose, space := inputOf(by.Text), inputOf(by.Identity), inputOf(namespace)
+	text, whose, space := spanOf(memory, by.Text), inputOf(by.Identity), inputOf(namespace)
 	now, files := by.Now.Unix(), filesOf(memory, by.Revoked)
 	return func(isVerified C.uint32_t) error {
 		if now < 0 {
 			return ErrInvalidTime
 		}
-		return errorOf(C.raf_check_signer(text.pointer(), text.length(), whose.pointer(),
+		return errorOf(C.raf_check_signer(text.bytes, text.length, whose.pointer(),
 			whose.length(), space.pointer(), space.length(), in.pointer(), in.length(),
 			C.uint64_t(now), files.items, files.count, isVerified))
 	}

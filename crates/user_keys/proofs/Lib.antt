@@ -6,6 +6,10 @@ mod Lines
 pub mod LongParts
 mod Places
 mod Spelled
+mod Searches
+mod Unmarked
+mod SkippedLines
+mod Unlisted
 mod Shown
 mod ListedNames
 pub mod CertificateLogins

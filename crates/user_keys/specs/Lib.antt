@@ -1,4 +1,5 @@
 pub mod Spellings
+pub mod Skips
 pub mod Options
 pub mod Judgements
 pub mod Certificates

@@ -1,8 +1,9 @@
 -- In which lines of authorized_keys a key may be spelled for sshd(8). It passes over white space
 -- within Base64, and reads needless zeros and other names in front of a key, or did so.
-use Rattle.std.specs.Prelude.{◌≡◌, ◌⊎◌, ℕ, ◌+◌, ◌-◌, ◌<◌, List, [], ◌∷◌, Bool, ◌||◌, ◌==◌, drop, length, slice_index, slice_range, Option, Some, None}
+use Rattle.std.specs.Prelude.{◌≡◌, ◌⊎◌, ℕ, ◌+◌, ◌-◌, ◌<◌, ◌≤◌, List, [], ◌∷◌, ◌++◌, Bool, false, ◌||◌, ◌==◌, drop, length, slice_index, slice_range, Option, Some, None}
 use Rattle.base64.specs.Engines.{standard}
 use Rattle.base64.specs.GeneralPurpose.{encode_of}
+use Rattle.memchr.specs.Find.{OccursAt}
 use Rattle.sshkey_entries.specs.Fronts.{without_front}
 use Rattle.user_keys.specs.declared.marks.Marks.{Marks}
 use Rattle.sshkey_model.specs.Keys.{Key, Dsa, Ecdsa, Ed25519, Rsa, SkEcdsa, SkEd25519, Opaque}
@@ -63,3 +64,21 @@ HasMarkAt m text place = StandAt m.first.symbols text place ⊎ StandAt m.second
 abbrev pub FindsAfter : List ℕ → ℕ → Option (Bor (List ℕ)) → Type 0
 FindsAfter text symbol None = (rest : List ℕ) → without_front is_white text ≡ symbol ∷ rest → ⊥
 FindsAfter text symbol (Some rest) = without_front is_white text ≡ symbol ∷ rest.now
+
+-- the first place from there on where a mark may stand, by its first symbol
+abbrev pub FindsStart : Marks → List ℕ → ℕ → Option ℕ → Type 0
+FindsStart m text from None = (k : ℕ) → from ≤ k → k < length text → HasMarkAt m text k → ⊥
+FindsStart m text from (Some place) = (from ≤ place) × (place < length text) × ((k : ℕ) → from ≤ k → k < place → HasMarkAt m text k → ⊥)
+
+-- ---- texts in which no mark stands
+
+abbrev pub IsUnspaced : List ℕ → Type 0
+IsUnspaced text = (k : ℕ) → k < length text → is_white (slice_index text k) ≡ false
+
+-- The symbols stand nowhere in the text without white space between them.
+abbrev pub Lacks : List ℕ → List ℕ → Type 0
+Lacks symbols text = (k : ℕ) → OccursAt text symbols k → ⊥
+
+-- No mark stands in any part of the text.
+abbrev pub IsUnmarked : Marks → List ℕ → Type 0
+IsUnmarked m text = (before part after : List ℕ) → text ≡ before ++ (part ++ after) → HasMark m part → ⊥

@@ -16,6 +16,7 @@ use crate::line::{judge, terms_for};
 use crate::login::UserLogin;
 use crate::marks::Marks;
 use crate::refusal::UserRefusal;
+use crate::skip::skip_lines;
 use crate::text::next_line;
 use login_terms::{Reading, Terms};
 use sshkey_cert::Certificate;
@@ -44,8 +45,7 @@ pub(crate) fn first_grant(
     let key = listed_key(login.offered, certificate);
     let marks = Marks::of(key);
     let mut refused = None;
-    let mut line = 0;
-    let mut rest = login.text;
+    let (mut line, mut rest) = skip_lines(login.text, &marks);
     while let Some((text, more)) = next_line(rest) {
         line += 1;
         rest = more;

@@ -24,6 +24,7 @@ mod policy;
 mod principal;
 mod principal_line;
 mod refusal;
+mod skip;
 mod text;
 mod time;
 

@@ -1,13 +1,14 @@
 //! What stands in each line that may spell a key.
 
-ghost use Rattle.std.specs.Prelude.{◌≡◌, ◌↔◌, ◌<◌, ◌≤◌, IsTrue, length, not, position};
+ghost use Rattle.std.specs.Prelude.{◌≡◌, ◌↔◌, ◌<◌, ◌≤◌, IsTrue, length, not, position, take};
 ghost use Rattle.base64.specs.Engines.{standard};
 ghost use Rattle.base64.specs.GeneralPurpose.{encode_of};
 ghost use Rattle.sshkey_entries.specs.Fronts.{without_front};
 ghost use Rattle.sshkey_keys.specs.Keys.{key_of};
-ghost use Rattle.user_keys.specs.Spellings.{AreMarks, FindsAfter, Follow, HasMark, HasMarkAt, StandAt, is_white, own_part};
+ghost use Rattle.user_keys.specs.Spellings.{AreMarks, FindsAfter, FindsStart, Follow, HasMark, HasMarkAt, IsUnmarked, IsUnspaced, Lacks, StandAt, is_white, own_part};
 
 use base64::engine::general_purpose::STANDARD;
+use memchr::{memchr3, memmem};
 use sshkey_keys::KeyData;
 
 /// How many symbols of Base64 a mark has.
@@ -47,6 +48,17 @@ fn skip_white(text: &[u8]) -> &[u8]
     match first_other(text) {
         Some(start) => &text[start..],
         None => &[],
+    }
+}
+
+/// How many bytes of the text stand before its first white space.
+fn unspaced_front(text: &[u8]) -> usize
+    ensures bound { result ≤ length text.now }
+    ensures unspaced { IsUnspaced (take result text.now) }
+{
+    match memchr3(0x0b, 0x0c, 0x0d, text) {
+        Some(place) => place,
+        None => text.len(),
     }
 }
 
@@ -91,6 +103,18 @@ impl Mark {
         Mark { symbols }
     }
 
+    /// How many bytes of the text stand before the first place where it stands without white space.
+    fn free_front(&self, text: &[u8]) -> usize
+        requires { 0 < length self.now.symbols }
+        ensures bound { result ≤ length text.now }
+        ensures free { Lacks self.now.symbols (take result text.now) }
+    {
+        match memmem::find(text, &self.symbols) {
+            Some(place) => place,
+            None => text.len(),
+        }
+    }
+
     /// Whether it stands in the text from that place on.
     fn stands_at(&self, text: &[u8], place: usize) -> bool
         requires { place < length text.now }
@@ -128,12 +152,39 @@ impl Marks {
     pub(crate) fn stand_in(&self, text: &[u8]) -> bool
         ensures { IsTrue result ↔ HasMark self.now text.now }
     {
-        for place in 0..text.len() {
+        let mut from = 0;
+        while let Some(place) = self.next_place(text, from) {
             if self.stand_at(text, place) {
                 return true;
             }
+            from = place + 1;
         }
         false
+    }
+
+    /// How many bytes stand at the front of a text in no part of which a mark stands.
+    pub(crate) fn unmarked_front(&self, text: &[u8]) -> usize
+        ensures bound { result ≤ length text.now }
+        ensures unmarked { IsUnmarked self.now (take result text.now) }
+    {
+        let unspaced = unspaced_front(text);
+        let first = self.first.free_front(&text[..unspaced]);
+        let second = self.second.free_front(&text[..first]);
+        self.third.free_front(&text[..second])
+    }
+
+    /// The first place from there on where the first symbol of one of the marks stands.
+    fn next_place(&self, text: &[u8], from: usize) -> Option<usize>
+        requires { from ≤ length text.now }
+        ensures { FindsStart self.now text.now from result }
+    {
+        let first = self.first.symbols[0];
+        let second = self.second.symbols[0];
+        let third = self.third.symbols[0];
+        match memchr3(first, second, third, &text[from..]) {
+            Some(step) => Some(from + step),
+            None => None,
+        }
     }
 
     fn stand_at(&self, text: &[u8], place: usize) -> bool

@@ -7,6 +7,8 @@ ghost use Rattle.sshkey_entries.specs.Fields.{without_blanks};
 ghost use Rattle.sshkey_entries.specs.OptionEnds.{is_blank};
 ghost use Rattle.user_keys.specs.Principals.{SplitsAt, SplitsLine, TakesLine};
 
+use memchr::memchr;
+
 /// The text before the first such byte, and what stands after it, if there is one.
 pub(crate) fn split_once(text: &[u8], divider: u8) -> Option<(&[u8], &[u8])>
     ensures { SplitsAt divider text.now result }
@@ -20,7 +22,7 @@ pub(crate) fn split_once(text: &[u8], divider: u8) -> Option<(&[u8], &[u8])>
 fn first_of(text: &[u8], divider: u8) -> Option<usize>
     ensures { result ≡ position (λ c. c == divider) text.now }
 {
-    text.iter().position(|byte| *byte == divider)
+    memchr(divider, text)
 }
 
 /// The text up to the first such byte, or all of it.

@@ -4,9 +4,11 @@ use Rattle.std.specs.List.{Any}
 use Rattle.std.specs.Str.Lines.{lines}
 use Rattle.login_terms.specs.Terms.{terms_of}
 use Rattle.user_keys.specs.Answers.{IsWhyNoLine, SaysOf}
-use Rattle.user_keys.specs.Spellings.{MaySpell, own_part}
+use Rattle.sshkey_model.specs.Keys.{Key}
+use Rattle.user_keys.specs.Spellings.{AreMarks, MaySpell, own_part}
 use Rattle.user_keys.specs.UserLogins.{Ends, GrantsFirst, Lets, MayLet, listed_key}
 use Rattle.user_keys.proofs.Shown.{login_with}
+use Rattle.user_keys.proofs.Unlisted.{none_ends, none_listed}
 use Rattle.user_keys.proofs.FirstLines.{RefusedBy, asked, granted, here, none_lets, none_more, nothing_lets, out_of_memory, passed, refused_also, strict, why}
 use Rattle.user_keys.proofs.first_line.first_grant.Goals as goal
 
@@ -109,3 +111,16 @@ returns-clause-refused c =
     let login = login_with c.args.login.now c.args.certificate in
     let all : login.lines ≡ was.0 = was.1 ∙ ap (λ (l : List (List ℕ)). was.0 ++ l) c.in_default.ensures ∙ append-nil was.0 in
     λ other. subst (IsWhyNoLine login) (sym c.refusal_for.ensures) (why login c.loop-text.refused (λ some. was.2 (subst (Any (Ends login)) all some)) (subst (λ (l : List (List ℕ)). RefusedBy login l c.loop-text.refused) (sym all) was.3))
+
+pub loop-text-init : goal.loop-text-init
+loop-text-init c =
+    let login = login_with c.args.login.now c.args.certificate in
+    let skipped = c.skip_lines-line.ensures in
+    let are : AreMarks (own_part (listed_key login)) c.of-marks.result = subst (λ (k : Key). AreMarks (own_part k) c.of-marks.result) c.listed_key-key.ensures c.of-marks.ensures in (
+      skipped.before,
+      skipped.is,
+      none_ends login c.requires c.of-marks.result are skipped.before skipped.unmarked,
+      none_listed login c.requires c.of-marks.result are skipped.before skipped.unmarked,
+      skipped.counted,
+      skipped.smaller,
+    )
