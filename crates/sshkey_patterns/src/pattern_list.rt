@@ -43,8 +43,9 @@ pub fn bytes_match_pattern_list(text: &[u8], list: &[u8], letter_case: LetterCas
     is_named
 }
 
-/// A list up to its first comma, or all of it, and what follows that comma.
-fn split_first_pattern(list: &[u8]) -> (&[u8], &[u8])
+/// A list up to its first comma, or all of it, and what follows that comma, of any bytes. Does not
+/// allocate.
+pub fn split_first_pattern(list: &[u8]) -> (&[u8], &[u8])
     requires { 0 < length list.now }
     ensures { patterns list.now ≡ result.0.now ∷ patterns result.1.now }
 {
