@@ -17,7 +17,7 @@ use sshkey_authorized_keys::{Entry, OpenSshEntry, OpenSshOptions};
 use sshkey_base::{Error, Result};
 use sshkey_entries::bytes::text_of;
 use sshkey_entries::laws::one_authorized_line;
-use sshkey_entries::{FilledLines, LetterCase, matches_pattern_list};
+use sshkey_entries::{LetterCase, NonBlankByteLines, matches_pattern_list};
 use sshkey_keys::{KeyData, RawVerifier};
 use sshkey_krl::Revocations;
 use sshkey_padding::Padding;
@@ -208,7 +208,7 @@ fn is_allowed(
         unix_timestamp (key_of key.now) signers.now) }
     ensures memory { IfErr result (λ e. e ≡ Memory) }
 {
-    for line in FilledLines::new(signers) {
+    for line in NonBlankByteLines::new(signers) {
         let allowed = bytes_allow(alloc, line, identity, namespace, unix_timestamp, key)?;
         if allowed {
             return Ok(true);

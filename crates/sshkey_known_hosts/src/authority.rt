@@ -13,7 +13,7 @@ use crate::host_name::known_name;
 use crate::marker::Marker;
 use crate::verdict::has_lines;
 use sshkey_base::Result;
-use sshkey_entries::FilledLines;
+use sshkey_entries::NonBlankByteLines;
 use sshkey_public::PublicKey;
 use std::alloc::Global;
 
@@ -75,7 +75,7 @@ pub fn authorities<H: HostHasher>(
     }
     let name = known_name(alloc, host, port)?;
     let mut found = Vec::new(alloc);
-    for line in FilledLines::new(text) {
+    for line in NonBlankByteLines::new(text) {
         if let Some(key) = line_authority(alloc, line, name.as_str(), hmac)? {
             found.push(key)?;
         }

@@ -13,7 +13,7 @@ use crate::host_line::{HostLine, read_host_line};
 use crate::host_name::known_name;
 use crate::marker::Marker;
 use sshkey_base::Result;
-use sshkey_entries::FilledLines;
+use sshkey_entries::NonBlankByteLines;
 use sshkey_keys::KeyData;
 use std::alloc::Global;
 
@@ -96,7 +96,7 @@ fn line_verdict<H: HostHasher>(
 pub(crate) fn has_lines(text: &[u8]) -> bool
     ensures { IsTrue result ↔ (0 < length (filled_lines text.now)) }
 {
-    FilledLines::new(text).next().is_some()
+    NonBlankByteLines::new(text).next().is_some()
 }
 
 /// What a text of known_hosts, as OpenSSH reads it, says of a host's key (sshd(8),
@@ -146,7 +146,7 @@ pub fn key_verdict<H: HostHasher>(
     }
     let name = known_name(alloc, host, port)?;
     let mut found = Verdict::Unknown;
-    for line in FilledLines::new(text) {
+    for line in NonBlankByteLines::new(text) {
         found = found.max_severity(line_verdict(alloc, line, name.as_str(), key, hmac)?);
     }
     Ok(found)

@@ -12,26 +12,26 @@ use std::marker::Model;
 ///
 /// Contracts see the list of those that are left.
 #[derive(Drop)]
-pub struct FilledLines<'a> {
+pub struct NonBlankByteLines<'a> {
     rest: &'a [u8],
 }
 
-impl<'a> Model for FilledLines<'a> {
+impl<'a> Model for NonBlankByteLines<'a> {
     ghost Value = { List (List ℕ) };
 
     ghost view = { λ s. filled_lines s.rest.now };
 }
 
-impl<'a> FilledLines<'a> {
+impl<'a> NonBlankByteLines<'a> {
     /// The lines of a text. Does not allocate.
-    pub fn new(text: &'a [u8]) -> FilledLines<'a>
+    pub fn new(text: &'a [u8]) -> NonBlankByteLines<'a>
         ensures { result ≡ filled_lines text.now }
     {
-        FilledLines { rest: text }
+        NonBlankByteLines { rest: text }
     }
 }
 
-impl<'a> Iterator for FilledLines<'a> {
+impl<'a> Iterator for NonBlankByteLines<'a> {
     type Item = &'a [u8];
 
     ghost next_gives = { YieldsFirstRef (λ left. left) };

@@ -1,7 +1,7 @@
 use Rattle.std.proofs.Common.{◌≡◌, length}
 use Rattle.std.specs.Str.Lines.{lines}
 use Rattle.sshkey_entries.specs.Fields.{filled_lines}
-use Rattle.sshkey_entries.proofs.filled_lines.FilledLinesIterator.next.Given as goal
+use Rattle.sshkey_entries.proofs.non_blank_byte_lines.NonBlankByteLinesIterator.next.Given as goal
 
 -- no line that counts was passed over
 abbrev pub invariant-lines : goal.invariant-lines
