@@ -70,7 +70,7 @@ def by_key(maker, keys):
             yield f"a key, {name}, of 2048 at least", replace(known, bits=2048), "KEY_NOT_ACCEPTED"
     for name, blob, changes, wanted in (
         ("no file", own, {"texts": ()}, "HOST_UNKNOWN"), ("no key", own[:-1], {}, "LENGTH"), ("more than a key", own + b"\0", {}, "TRAILING_DATA"),
-        ("a host that is no text", own, {"host": b"\xff"}, "TEXT"), ("a file that is no text", own, {"texts": (*listed, b"\xff\n")}, "TEXT"),
+        ("a host that is no text", own, {"host": b"\xff"}, "TEXT"), ("a line that is not UTF-8", own, {"texts": (*listed, b"\xff\n")}, "DONE"),
     ):  # fmt: skip
         yield f"a key, {name}", replace(Shown(blob, tuple(listed)), **changes), wanted
 
@@ -121,8 +121,9 @@ def by_certificate(maker, keys):
     for name, changes, wanted in (
         ("no file", {"texts": ()}, "HOST_UNKNOWN"), ("another host", {"host": b"g.example"}, "HOST_UNKNOWN"), ("a turned bit", {"blob": turned}, "NOT_SIGNED"),
         ("no certificate", {"blob": good.blob[:-1]}, "LENGTH"), ("a key in its place", {"blob": blob_of(keys["key"])}, "LABEL"), ("no bytes", {"blob": b""}, "LENGTH"),
-        ("a host that is no text", {"host": b"\xff"}, "TEXT"), ("a file that is no text", {"texts": (b"\xff\n",)}, "TEXT"), ("no time", {"second": 2**63}, "INVALID_TIME"),
-        ("a second file that is no text", {"texts": (*texts, b"\xff\n")}, "TEXT"), ("a file that is no text, and revoked", {"texts": (b"\xff\n", revoked)}, "TEXT"),
+        ("a host that is no text", {"host": b"\xff"}, "TEXT"), ("a line that is not UTF-8", {"texts": (b"\xff\n",)}, "HOST_UNKNOWN"), ("no time", {"second": 2**63}, "INVALID_TIME"),
+        ("a second file with such a line", {"texts": (*texts, b"\xff\n")}, "DONE"), ("such a line, and revoked", {"texts": (b"\xff\n", revoked)}, "HOST_REVOKED"),
+        ("a comment that is not UTF-8", {"texts": (b"# gr\xf6\xdfe\n" + texts[0][:-1] + b" gr\xf6\xdfe\n",)}, "DONE"), ("hosts that are not UTF-8, and no key", {"texts": (*texts, b"gr\xf6n,* x\n")}, "HOST_UNREADABLE"),
     ):  # fmt: skip
         yield name, replace(good, **changes), wanted
 
@@ -201,8 +202,8 @@ def check_hosts(judge):
     for name, lines, port, wanted in UNREADABLE:
         text = written(maker, lines, keys)
         asked.append((name, f"unreadable-line {word(text)} {word(HOST.encode())} {port}", f"0 {wanted}" if wanted else str(judge.number("END"))))
-    for name, text, host in (("no text", b"\xff", HOST.encode()), ("no host", b"", b"\xff")):
-        asked.append((name, f"unreadable-line {word(text)} {word(host)} 22", str(judge.number("TEXT"))))
+    for name, text, host, wanted in (("hosts that are not UTF-8", b"gr\xf6n x\n", HOST.encode(), "END"), ("a host that is not UTF-8", b"", b"\xff", "TEXT")):
+        asked.append((name, f"unreadable-line {word(text)} {word(host)} 22", str(judge.number(wanted))))
     text = written(maker, ["h.example {key}", "@revoked fd00::1 {broken}", "[fd00::1]:2222 {broken}"], keys)
     for name, host, port, wanted in (
         ("of an address", b"FD00:0::1", 22, "0 2"), ("of an address at a port", b"fd00:0::1", 2222, "0 3"), ("of no address", b"127.1", 22, "NO_ADDRESS"),

@@ -105,7 +105,7 @@ def of_hosts(maker, second):
         ([b"# a comment\n", hashed + authority], [EMPTY], 22, "DONE", "DONE"), ([hashed, authority], [b"", EMPTY], 2222, "DONE", "DONE"),
         ([], [EMPTY], 22, "HOST_UNKNOWN", "HOST_UNKNOWN"), ([hashed + authority, revoked], [EMPTY], 22, "HOST_REVOKED", "HOST_REVOKED"),
         ([hashed + b"host ssh-ed25519 AAAA\n"], [EMPTY], 22, "HOST_UNREADABLE", "HOST_UNREADABLE"), ([hashed + authority], [listed], 22, "HOST_REVOKED", "HOST_REVOKED"),
-        ([hashed + authority], [], 22, "UNREADABLE_REVOCATIONS", "UNREADABLE_REVOCATIONS"), ([hashed + authority, b"\xff"], [EMPTY], 22, "TEXT", "TEXT"),
+        ([hashed + authority], [], 22, "UNREADABLE_REVOCATIONS", "UNREADABLE_REVOCATIONS"), ([hashed + authority, b"\xff"], [EMPTY], 22, "DONE", "DONE"),
     ):  # fmt: skip
         yield "check_host_key", [texts, b"host", own, files], [port, 0], of_key
         yield "check_host_certificate", [texts, b"host", certificate, files], [port, 0, second, 1], of_certificate_
@@ -114,7 +114,7 @@ def of_hosts(maker, second):
     yield "check_host_certificate", [[authority], b"host", certificate, [EMPTY]], [22, 0, second, 0], "NOT_SIGNED"
     yield "check_host_certificate", [[authority], b"other", certificate, [EMPTY]], [22, 0, second, 1], "UNLISTED_PRINCIPAL"
     yield "check_host_certificate", [[authority], b"host", certificate[:-1], [EMPTY]], [22, 0, second, 1], "LENGTH"
-    for text, wanted in ((hashed + b"host x y\n", "DONE"), (hashed, "END"), (b"", "END"), (b"\xff", "TEXT")):
+    for text, wanted in ((hashed + b"host x y\n", "DONE"), (hashed, "END"), (b"", "END"), (b"\xff", "END")):
         yield "unreadable_host_line", [text, b"host"], [22], wanted
     for line, wanted in ((LATER["later"].encode(), "DONE"), (LATER["cut"].encode(), "LABEL"), (b"", "LABEL"), (b"\xff", "TEXT")):
         yield "is_later_key_line", [line], [], wanted

@@ -171,7 +171,8 @@ def texts_of(maker):
         ("its key and no line end", key, yes), ("its key after another", f"# x\n{other}\n \t{key}\r\n", yes),
         ("another key", f"{other}\n", no), ("its authority", f"{authority}\n", (UNREVOKED, REVOKED)), ("its certificate", f"{certificate}\n", yes),
         ("half a key", f"{key[:40]}\n", no_file), ("its key, and a line that is none", f"{key}\nx\n", no_file),
-        ("a word", "x\n", no_file), ("a text that is not UTF-8", f"{other} \udcff\n", no_file), ("a list's first word", "SSHKRL\n", no_file),
+        ("a word", "x\n", no_file), ("a comment that is not UTF-8", f"# gr\udcf6\udcdfe\n{other} gr\udcf6\udcdfe\n", no), ("its key, and a comment that is not UTF-8", f"{key} \udcff\n", yes),
+        ("a key that is not UTF-8", f"{key[:40]}\udcff{key[40:]}\n", no_file), ("a list's first word", "SSHKRL\n", no_file),
         ("a private-use name", f"{line_of(string(b'name@example.com') + string(b'x'))}\n", no_file),
     ]  # fmt: skip
 

@@ -25,11 +25,12 @@ BY_HAND = [
     "{private}\n", "{large}\n", "{greatest}\n", "{greatest}\n{key}\n", "{negative}\n", "{negative_exponent}\n", "{negative_dsa}\n",
     "{compressed}\n", "{held_compressed}\n", "{held}\n", "{zero_byte}\n", "{held_zero_byte}\n", "{by_private}\n", "{by_small}\n",
     "{by_point}\n", "{zero_in_id}\n", "{zero_in_name}\n", "{many_principals}\n", "{p256}\n", "{rsa}\n{key}\n", "SSHKRL\n", "SSHKRL", "{key}\n#", "{key}\n #\n", "{key}\n\f\n", "{key}\n\v{other}\n", "\ufeff{key}\n",
+    "# gr\udcf6\udcdfe\n{key}\n", "{key} gr\udcf6\udcdfe\n", "{other} \udcff\n{key}\n", "{other}\t\udcff\n", "{certificate} \udcff\n", "\udcff\n", "\udcff{key}\n",
+    "{name}\udcff {word}\n", "{name} {word}\udcff\n", "{name} \udcff\n", "{other} \udcff\nx\n", "{key}\n{name} {word}\udcff\n",
 ]  # fmt: skip
 # files that one of both refuses alone: what is otherwise, and whether it is read here (docs/FORMATS.md)
 OTHERWISE = {
-    "\0x\n": False, "{other}\n \0\n": False, "{other}\0\n": False, "# \udcff\n": False, "{other} \udcff\n": False,
-    "{name} {split}\n": False, "rsa-sha2-256 {rsa_word}\n": False, "{off_curve}\n": True, "{unsigned}\n": True, "{ended}\n": False,
+    "\0x\n": False, "{other}\n \0\n": False, "{other}\0\n": False, "{name} {split}\n": False, "rsa-sha2-256 {rsa_word}\n": False, "{off_curve}\n": True, "{unsigned}\n": True, "{ended}\n": False,
     "{no_exponent}\n": False,
 }  # fmt: skip
 DSA, LATER_KIND = "{dsa}\n", "{later}\n"

@@ -23,7 +23,7 @@ TEXTS = [
 ]  # fmt: skip
 # the identity in place of hers, the text of signers, and what is wanted, as bytes
 OTHERS = [
-    ("a text that is not UTF-8", b"\xff", None, "TEXT"), ("an identity that is not UTF-8", None, b"\xff", "TEXT"),
+    ("a line that is not UTF-8", b"\xff", None, "SIGNER_NOT_ALLOWED"), ("an identity that is not UTF-8", None, b"\xff", "TEXT"),
     ("an identity of no bytes", None, b"", "NO_IDENTITY"),
 ]  # fmt: skip
 

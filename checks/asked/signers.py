@@ -144,6 +144,10 @@ TEXTS = [
     ("a zero byte in a namespace", '{who} namespaces="*,!git\0" {key}\n', NO),
     ("a zero byte in another line", "bob@example.com\0 {other}\n{who} {key}\n", OK),
     ("a zero byte in a comment line", "# \0\n{who} {key}\n", OK),
+    ("a comment line that is not UTF-8", "# gr\udcf6\udcdfe\n{who} {key}\n", OK),
+    ("a comment of another key that is not UTF-8", "{who} {other} gr\udcf6\udcdfe\n{who} {key}\n", OK),
+    ("another identity that is not UTF-8", "gr\udcf6n@example.com {key}\n{who} {key}\n", OK),
+    ("an identity that is not UTF-8 alone", "gr\udcf6n@example.com {key}\n", NO),
 ]  # fmt: skip
 
 # read by ssh-keygen and not here, which lets nobody else in
@@ -160,6 +164,8 @@ STRICTER = [
     ("a zero byte in the comment", "{who} {key} x\0y\n", NO),
     ("a form feed within a key", "{who} ssh-ed25519 \f{word}\n", NO),
     ("a space in a time", '{who} valid-after="2023 101Z" {key}\n', NO),
+    ("a comment that is not UTF-8", "{who} {key} gr\udcf6\udcdfe\n", NO),
+    ("a pattern beside that is not UTF-8", "gr\udcf6n@example.com,{who} {key}\n", NO),
 ]
 
 # read by ssh-keygen since 10.0, and not before
@@ -261,7 +267,7 @@ def signers(maker):
         name, text, wanted, who=WHO, namespace=NAMESPACE, at=NOON, of=message, blob=made, line=of_made, same=True, revoked=None, ask=ASK,
         differs=None,
     ):  # fmt: skip
-        text = text.format(**keys).encode()
+        text = text.format(**keys).encode("utf-8", "surrogateescape")
         asked = "\t".join([ask, text.hex(), who, namespace, str(at), of.hex(), blob.hex(), *([] if revoked is None else [revoked.hex()])])
 
         def said(zone="UTC"):

@@ -116,4 +116,4 @@ def new_key(path, kind, comment=""):
 
 def spelled(text):
     """The text as a question of the table spells it."""
-    return " ".join(byte.encode().hex() for byte in text) if text else '""'
+    return " ".join(byte.encode("utf-8", "surrogateescape").hex() for byte in text) if text else '""'

@@ -28,7 +28,7 @@ type HostLogin struct {
 
 // CheckHostKey gives nil exactly if the key, given as its blob, is trusted as that of the host, as
 // ssh does or more strictly (docs/FORMATS.md); else a Status that says what is wrong first. It
-// fails with ErrText where a text or the host is not UTF-8, and with ErrMemory.
+// fails with ErrText where the host is not UTF-8, and with ErrMemory.
 //
 // Whether the host holds the key is not looked at.
 func CheckHostKey(login HostLogin, key []byte) error {
@@ -84,7 +84,7 @@ func HostAndPort(text string) (host string, port uint16, err error) {
 
 // UnreadableHostLine gives the number, from 1, of the first line of a text of known_hosts by which
 // CheckHostKey fails with ErrHostUnreadable for that host, and 0 where there is none. It fails with
-// ErrText where text or host are not UTF-8, and with ErrMemory.
+// ErrText where the host is not UTF-8, and with ErrMemory.
 func UnreadableHostLine(knownHosts, host string, port uint16) (int, error) {
 	var number C.size_t
 	var memory held

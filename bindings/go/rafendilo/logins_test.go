@@ -177,12 +177,13 @@ func TestCheckHost(t *testing.T) {
 func TestUnreadableHostLine(t *testing.T) {
 	for text, wanted := range map[string]int{
 		"": 0, "h.example " + read(t, "user.pub"): 0, "# x\n\nh.example ssh-ed25519 AAAA\n": 3,
+		"# gr\xf6\xdfe\nh.example x gr\xf6\xdfe\n": 2,
 	} {
 		found, err := rafendilo.UnreadableHostLine(text, "h.example", 22)
 		same(t, text, err, nil)
 		same(t, text, found, wanted)
 	}
-	_, err := rafendilo.UnreadableHostLine("\xff", "h.example", 22)
+	_, err := rafendilo.UnreadableHostLine("", "\xff", 22)
 	same(t, "no text", err, rafendilo.ErrText)
 }
 

@@ -78,9 +78,8 @@ enum {
   RAF_END = 3,          /* nothing is left: the place is the end, or there is no such line or
                            option */
   RAF_TEXT = 4,         /* the principal is not UTF-8, or a line of authorized_keys or known_hosts,
-                           options, a text of known_hosts or of signers, a host's name, an identity,
-                           a namespace or a time; nothing is said of the rest. raf_read_line returns
-                           11 for such a line */
+                           options, a host's name, an identity, a namespace or a time; nothing is
+                           said of the rest. raf_read_line returns 11 for such a line */
 
   /* 10 to 29: the bytes are no certificate, key, signature or revocation list, which is the first
    * error from the left; or the line is none, which is an error that it has. For logs: lines with
@@ -728,7 +727,7 @@ uint32_t raf_check_sshsig(const uint8_t *signature, size_t signature_length,
  * passes RAF_NO_REVOCATIONS, and never what is left where a file was not read. `is_verified` is 1
  * if the answer to the question of this signature, in the namespace and of the message, is yes; any
  * other number is no. Ask with 0 first: RAF_NOT_SIGNED says that its key may sign, and with any
- * other answer there is nothing to verify.
+ * other answer there is nothing to verify. A line that is not UTF-8 lets nobody sign.
  *
  * RAF_DONE exactly if the bytes are a signature in the namespace that raises a question, without
  * reserved bytes, `is_verified` is 1, the identity has a byte, a line lets its key sign for it in
@@ -890,7 +889,7 @@ uint32_t raf_line_may_name_authority(const uint8_t *line, size_t line_length,
 /* The host that a client connects to, and what is known of it. */
 typedef struct {
   raf_spans known_hosts;   /* the texts of all the files that count: one file alone may list a key
-                              that another one revokes */
+                              that another one revokes. They may have any bytes */
   raf_span host;           /* the name or address as the user typed it, without brackets; UTF-8 */
   raf_spans revoked;       /* revocation files (RevokedHostKeys), each a list or keys as text: any
                               of them revokes. Who asks none says so: RAF_NO_REVOCATIONS */
@@ -938,7 +937,7 @@ uint32_t raf_check_host_certificate(const raf_host_login *login,
  * and comments are counted.
  *
  * RAF_DONE exactly if there is one, and RAF_END if there is none (RAF_MEMORY aside);
- * RAF_TEXT where the text or the host is not UTF-8, and then 100 to 102. Memory is taken only for
+ * RAF_TEXT where the host is not UTF-8, and then 100 to 102. Memory is taken only for
  * a line that is neither empty nor a comment, and for a host that is like an address. */
 uint32_t raf_unreadable_host_line(const uint8_t *known_hosts, size_t known_hosts_length,
                                   const uint8_t *host, size_t host_length, uint16_t port,

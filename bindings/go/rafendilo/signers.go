@@ -50,7 +50,7 @@ func CheckSignerOfDigest(
 // It fails with ErrNoIdentity, ErrSignerNotAllowed, ErrUnreadableRevocations, ErrRevoked or
 // ErrNotSigned, the first that holds. Ask with false first, and verify only where it fails with the
 // last; CheckSignerOfDigest does so. It fails with a Status for bytes that are no signature, with
-// ErrText for a text that is not UTF-8, with ErrInvalidTime for a time before 1970, and with
+// ErrText for an identity or a namespace that is not UTF-8, with ErrInvalidTime for a time before 1970, and with
 // ErrMemory.
 func CheckSignerWithAnswer(signature []byte, namespace string, by Signers, isVerified bool) error {
 	var memory held

@@ -16,9 +16,8 @@ const (
 	// ErrMemory is no refusal: the library was refused memory, nothing is said of what was
 	// given, and the call may be made again.
 	ErrMemory Status = C.RAF_MEMORY
-	// ErrText is for a principal, a line of authorized_keys or known_hosts, options, a text of
-	// known_hosts or a host's name that is not UTF-8. For such a line ReadLine fails with
-	// ErrCharacterEncoding.
+	// ErrText is for a principal, a line of authorized_keys or known_hosts, options or a host's
+	// name that is not UTF-8. For such a line ReadLine fails with ErrCharacterEncoding.
 	ErrText Status = C.RAF_TEXT
 )
 

@@ -27,8 +27,8 @@ class Status(Answer):
     MEMORY: Malloc refused; nothing is said of the input, and nothing is kept: the call may be made again.
     SHORT_BUFFER: The buffer is too short; `length` says how many bytes are needed.
     END: Nothing is left: the place is the end, or there is no such line or option.
-    TEXT: The principal is not UTF-8, or a line of authorized_keys or known_hosts, options, a text of known_hosts or of signers, a
-        host's name, an identity, a namespace or a time; nothing is said of the rest. raf_read_line returns 11 for such a line.
+    TEXT: The principal is not UTF-8, or a line of authorized_keys or known_hosts, options, a host's name, an identity, a
+        namespace or a time; nothing is said of the rest. raf_read_line returns 11 for such a line.
     BASE64: A word of a line is no Base64, or not the one of its bytes.
     CHARACTER_ENCODING: A text is not UTF-8, or has a character that no name has.
     LABEL: A name that is none of those that may stand there.

@@ -79,7 +79,7 @@ def host_and_port(text: str | BytesLike) -> tuple[str, int | None]:
 
 def unreadable_host_line(known_hosts: BytesLike, host: str | BytesLike, port: int) -> int | None:
     """The number, from 1, of the first line of a text of known_hosts by which the host is HOST_UNREADABLE, and None where there is
-    none. Raises Refused where the text or the host is not UTF-8, ValueError for a port that is not from 0 to 65535, and MemoryError."""
+    none. Raises Refused where the host is not UTF-8, ValueError for a port that is not from 0 to 65535, and MemoryError."""
     answer = ctypes.c_size_t()
     given = (*bytes_of(known_hosts), *text_of(host), number_of(port, 16))
     status = LIBRARY.raf_unreadable_host_line(*given, ctypes.byref(answer))

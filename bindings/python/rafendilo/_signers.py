@@ -37,7 +37,7 @@ def check_signer_with_answer(signature: BytesLike, namespace: str | BytesLike, b
 
     Else NO_IDENTITY, SIGNER_NOT_ALLOWED, UNREADABLE_REVOCATIONS, REVOKED or NOT_SIGNED, the first that holds. Ask with False first:
     only where that is NOT_SIGNED there is something to verify (check_signer_of_digest does both). Raises Refused where the bytes
-    are no signature, or a text is not UTF-8, and MemoryError."""
+    are no signature, or the identity or the namespace is not UTF-8, and MemoryError."""
     revoked, second = spans_of(by.revoked), number_of(by.unix_timestamp, 64)
     texts = (*bytes_of(by.text), *text_of(by.identity), *text_of(namespace), *bytes_of(signature))
     status = Status(LIBRARY.raf_check_signer(*texts, second, revoked.items, revoked.count, is_verified is True))

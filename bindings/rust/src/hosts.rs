@@ -34,7 +34,7 @@ pub struct HostLogin<'a> {
 /// [`Status::NO_PORT`], [`Status::NO_HOST`], [`Status::NO_ADDRESS`],
 /// [`Status::UNREADABLE_REVOCATIONS`], [`Status::HOST_REVOKED`], [`Status::HOST_UNREADABLE`],
 /// [`Status::HOST_CHANGED`], [`Status::HOST_UNKNOWN`] or [`Status::KEY_NOT_ACCEPTED`]; with
-/// [`Status::TEXT`] where a text or the host is not UTF-8, and with [`Status::MEMORY`].
+/// [`Status::TEXT`] where the host is not UTF-8, and with [`Status::MEMORY`].
 ///
 /// That the host has signed this session under the key is yours to ask.
 pub fn check_host_key(login: &HostLogin<'_>, key: &[u8]) -> Result<(), Status> {
@@ -96,7 +96,7 @@ pub fn host_and_port<T: AsRef<[u8]> + ?Sized>(text: &T) -> Result<(&str, Option<
 
 /// The number, from 1 on, of the first line of a text of known_hosts for which a host is answered
 /// with [`Status::HOST_UNREADABLE`]; none if there is no such line. Fails with [`Status::TEXT`]
-/// where the text or the host is not UTF-8.
+/// where the host is not UTF-8.
 pub fn unreadable_host_line(
     known_hosts: &[u8],
     host: impl AsRef<[u8]>,

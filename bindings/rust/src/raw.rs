@@ -108,9 +108,9 @@ statuses! {
     SHORT_BUFFER = 2, "the buffer is too short";
     /// Nothing is left: the place is the end, or there is no such line or option.
     END = 3, "nothing is left";
-    /// The principal is not UTF-8, or a line of authorized_keys or known_hosts, options, a text of
-    /// known_hosts or of signers, a host's name, an identity, a namespace or a time; nothing is
-    /// said of the rest. raf_read_line returns 11 for such a line.
+    /// The principal is not UTF-8, or a line of authorized_keys or known_hosts, options, a host's
+    /// name, an identity, a namespace or a time; nothing is said of the rest. raf_read_line returns
+    /// 11 for such a line.
     TEXT = 4, "a name or a text that is given is not UTF-8";
     /// A word of a line is no Base64, or not the one of its bytes.
     BASE64 = 10, "not Base64";

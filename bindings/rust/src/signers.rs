@@ -48,7 +48,7 @@ pub fn check_signer_of_digest(
 /// [`Status::UNREADABLE_REVOCATIONS`], [`Status::REVOKED`] or [`Status::NOT_SIGNED`], the first
 /// that holds: ask with `false` first, and verify only where it fails with the last, as
 /// [`check_signer_of_digest`] does. Fails with a status from 10 to 29 where the bytes are no
-/// signature, with [`Status::TEXT`] where a text is not UTF-8, and with [`Status::MEMORY`].
+/// signature, with [`Status::TEXT`] where the identity or the namespace is not UTF-8, and with [`Status::MEMORY`].
 pub fn check_signer_with_answer(
     signature: &[u8],
     namespace: impl AsRef<[u8]>,

@@ -1,5 +1,6 @@
 -- What a verdict, an entry and a line decide.
 use Rattle.std.proofs.Common.{◌≡◌, ◌≢◌, ◌⊎◌, ◌↔◌, ◌==◌, ◌∙◌, ℕ, List, [], ◌∷◌, length, eqb-true, arith, sym, Bool, true, false, Option, Some, None, Result, Ok, Err, IfErr, IfOk, IsTrue, refl, subst, inl, inr}
+use Rattle.std.specs.Str.{IsUtf8}
 use Rattle.sshkey_base.specs.Acceptance.{AcceptsExactly}
 use Rattle.sshkey_base.specs.Causes.{NoMemory, cause}
 use Rattle.sshkey_base.specs.Reading.{NoSpelling}
@@ -38,6 +39,10 @@ never P none = (λ yes. absurd (is_no yes), λ p. absurd (none p))
 pub told_as : (P Q : Type 0) → (P → Q) → (Q → P) → (r : Result Bool Error) → IfOk r (λ yes. IsTrue yes ↔ P) → IfOk r (λ yes. IsTrue yes ↔ Q)
 told_as P Q there back (Ok answer) is = (λ e. there (is.0 e), λ q. is.1 (back q))
 told_as P Q there back (Err e) is = tt
+
+-- what is told of a text is told of its bytes
+pub of_text : (P : List ℕ → Type 0) (line text : List ℕ) → IsUtf8 line → text ≡ line → (r : Result Bool Error) → IfOk r (λ yes. IsTrue yes ↔ P text) → IfOk r (λ yes. IsTrue yes ↔ (IsUtf8 line × P line))
+of_text P line text utf8 is = told_as (P text) (IsUtf8 line × P line) (λ p. (utf8, subst P is p)) (λ both. subst P (sym is) both.1)
 
 -- ---- from a refusal to an answer
 

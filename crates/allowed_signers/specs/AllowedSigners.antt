@@ -2,6 +2,7 @@
 -- SIGNERS).
 use Rattle.std.specs.Prelude.{◌≡◌, ◌≢◌, ◌⊎◌, ℕ, List, [], Bool, true, false, Result, Ok, Err}
 use Rattle.std.specs.List.{Any}
+use Rattle.std.specs.Str.{IsUtf8}
 use Rattle.openssh_limits.specs.Read.{HasReadApplication}
 use Rattle.sshkey_base.specs.Acceptance.{SpellsSome}
 use Rattle.sshkey_base.specs.Reading.{NoSpelling}
@@ -58,9 +59,9 @@ pub record AllowsSigner (identity namespace : List ℕ) (time : ℕ) (key : Key)
 
 -- ---- all lines
 
--- One of the lines does.
+-- One of the lines does, and is UTF-8.
 abbrev pub IsAllowed : List ℕ → List ℕ → ℕ → Key → List ℕ → Type 0
-IsAllowed identity namespace time key signers = Any (AllowsSigner identity namespace time key) (filled_lines signers)
+IsAllowed identity namespace time key signers = Any (λ line. IsUtf8 line × AllowsSigner identity namespace time key line) (filled_lines signers)
 
 -- It is its key's signature of the message in the namespace, with nothing reserved (ssh-keygen
 -- verifies no other).

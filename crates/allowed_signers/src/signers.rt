@@ -1,6 +1,7 @@
 //! Lines of allowed signers, and whether a signature counts.
 
 ghost use Rattle.std.specs.Prelude.{◌≡◌, ◌↔◌, IfErr, IfOk, IsTrue};
+ghost use Rattle.std.specs.Str.{IsUtf8};
 ghost use Rattle.sshkey_authorized_keys.specs.OpenSshEntries.{openssh_entry_of};
 ghost use Rattle.sshkey_keys.specs.Keys.{key_of};
 ghost use Rattle.sshkey_model.specs.Keys.{IsKey};
@@ -14,8 +15,9 @@ use crate::options::SignerOptions;
 use openssh_limits::{openssh_reads_application, openssh_reads_text};
 use sshkey_authorized_keys::{Entry, OpenSshEntry, OpenSshOptions};
 use sshkey_base::{Error, Result};
+use sshkey_entries::bytes::text_of;
 use sshkey_entries::laws::one_authorized_line;
-use sshkey_entries::{LetterCase, NonBlankLines, matches_pattern_list};
+use sshkey_entries::{LetterCase, NonBlankByteLines, matches_pattern_list};
 use sshkey_keys::{KeyData, RawVerifier};
 use sshkey_krl::Revocations;
 use sshkey_padding::Padding;
@@ -50,7 +52,8 @@ pub enum SignerRefusal {
 /// the namespace, and `valid-after="..."` and `valid-before="..."`, the first and the last second.
 /// A time that no `Z` ends has to hold in every zone. A line with `cert-authority` lets certificates
 /// sign, which are not read in a signature: it is passed over. So is each line in which something
-/// else stands, as ssh-keygen does, a line in which a byte is 0, and one whose list of patterns has
+/// else stands, as ssh-keygen does, a line that is not UTF-8, also in a comment behind its key, a
+/// line in which a byte is 0, and one whose list of patterns has
 /// a carriage return, or a double quote that does not enclose the list: ssh-keygen ends the line at
 /// a zero byte, and an unquoted list at the others. And so is the line of a security key whose
 /// application has a zero byte: ssh-keygen takes it for another key's, or rejects it, and no
@@ -74,7 +77,7 @@ pub enum SignerRefusal {
 /// than 16,384, keys with negative numbers, and points that are compressed or not on their curve.
 pub fn verify<R: Revocations, V: RawVerifier>(
     alloc: Global,
-    signers: &str,
+    signers: &[u8],
     identity: &str,
     namespace: &str,
     message: &[u8],
@@ -194,7 +197,7 @@ fn no(error: Error) -> Result<bool>
 /// Whether a line lets the key sign for the identity.
 fn is_allowed(
     alloc: Global,
-    signers: &str,
+    signers: &[u8],
     identity: &str,
     namespace: &str,
     unix_timestamp: u64,
@@ -205,13 +208,33 @@ fn is_allowed(
         unix_timestamp (key_of key.now) signers.now) }
     ensures memory { IfErr result (λ e. e ≡ Memory) }
 {
-    for line in NonBlankLines::new(signers) {
-        let allowed = allows(alloc, line, identity, namespace, unix_timestamp, key)?;
+    for line in NonBlankByteLines::new(signers) {
+        let allowed = bytes_allow(alloc, line, identity, namespace, unix_timestamp, key)?;
         if allowed {
             return Ok(true);
         }
     }
     Ok(false)
+}
+
+/// Whether the line is UTF-8, and lets the key sign for the identity.
+fn bytes_allow(
+    alloc: Global,
+    line: &[u8],
+    identity: &str,
+    namespace: &str,
+    unix_timestamp: u64,
+    key: &KeyData,
+) -> Result<bool>
+    requires { IsKey (key_of key.now) }
+    ensures answer { IfOk result (λ yes. IsTrue yes ↔ (IsUtf8 line.now × AllowsSigner identity.now
+        namespace.now unix_timestamp (key_of key.now) line.now)) }
+    ensures memory { IfErr result (λ e. e ≡ Memory) }
+{
+    match text_of(line) {
+        Some(text) => allows(alloc, text, identity, namespace, unix_timestamp, key),
+        None => Ok(false),
+    }
 }
 
 /// Whether the line lets the key sign for the identity.

@@ -22,7 +22,7 @@ pub(crate) fn answer(alloc: Global, words: &[&str], told: &Told) -> Result<Strin
     else {
         return Err(NO_LINE);
     };
-    let signers = text(alloc, signers)?;
+    let signers = bytes(alloc, signers)?;
     let message = bytes(alloc, message)?;
     let signature = bytes(alloc, signature)?;
     let answer = verify(

@@ -72,10 +72,10 @@ pub(crate) fn certificate(
     )
 }
 
-fn borrowed(alloc: Global, texts: &[String]) -> Result<Vec<&str>> {
+fn borrowed(alloc: Global, texts: &[String]) -> Result<Vec<&[u8]>> {
     let mut found = Vec::new(alloc);
     for text in texts {
-        found.push(text.as_str())?;
+        found.push(text.as_bytes())?;
     }
     Ok(found)
 }

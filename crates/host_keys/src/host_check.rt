@@ -6,7 +6,7 @@ pub struct HostCheck<'a> {
     /// The texts of known_hosts: those of all the files that count, the user's and the machine's.
     /// Their lines are judged as if they stood in one, as by ssh(1). So give all of them at once:
     /// one file alone may list a key that another file revokes, or has changed at that port.
-    pub texts: &'a [&'a str],
+    pub texts: &'a [&'a [u8]],
     /// The name or the address of the host, as the user typed it, without brackets. Of an address its
     /// canonical text is asked (`sshkey_addresses::asked_host`). What stands in place of the name, as
     /// ssh's `HostKeyAlias`, is asked alone, at port 22.

@@ -20,7 +20,7 @@ use std::alloc::Global;
 /// What the texts say of a key at just that port. Fails only when out of memory.
 pub(crate) fn verdict_of_all<H: HostHasher>(
     alloc: Global,
-    texts: &[&str],
+    texts: &[&[u8]],
     host: &str,
     port: u16,
     key: &KeyData,
@@ -42,7 +42,7 @@ pub(crate) fn verdict_of_all<H: HostHasher>(
 /// when out of memory.
 pub(crate) fn has_authority<H: HostHasher>(
     alloc: Global,
-    texts: &[&str],
+    texts: &[&[u8]],
     host: &str,
     port: u16,
     key: &KeyData,

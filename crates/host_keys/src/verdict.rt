@@ -20,7 +20,7 @@ const STANDARD_PORT: u16 = 22;
 /// What the texts say of the host's key. Fails only when out of memory.
 pub(crate) fn key_verdict<H: HostHasher>(
     alloc: Global,
-    texts: &[&str],
+    texts: &[&[u8]],
     host: &str,
     port: u16,
     key: &KeyData,
@@ -42,7 +42,7 @@ pub(crate) fn key_verdict<H: HostHasher>(
 /// out of memory.
 pub(crate) fn signed_verdict<H: HostHasher>(
     alloc: Global,
-    texts: &[&str],
+    texts: &[&[u8]],
     host: &str,
     port: u16,
     key: &KeyData,
@@ -72,7 +72,7 @@ fn is_settled(verdict: Verdict, port: u16) -> bool
 /// What the texts say of both at just that port. Fails only when out of memory.
 fn check_signed<H: HostHasher>(
     alloc: Global,
-    texts: &[&str],
+    texts: &[&[u8]],
     host: &str,
     port: u16,
     key: &KeyData,

@@ -50,9 +50,9 @@ pub extern "C" fn raf_unreadable_host_line(
     port: u16,
     number: &mut usize,
 ) -> u32
-    ensures line { IsUtf8 known_hosts.now → IsUtf8 host.now
+    ensures line { IsUtf8 host.now
         → TellsUnreadableLine known_hosts.now host.now port result number.new }
-    ensures text { (IsUtf8 known_hosts.now → IsUtf8 host.now → ⊥) → result ≡ 4 }
+    ensures text { (IsUtf8 host.now → ⊥) → result ≡ 4 }
     ensures kept { result ≢ 0 → number.new ≡ number.old }
     ensures memory { result ≡ 1 → (0 < length (filled_lines known_hosts.now))
         ⊎ (is_like_address host.now ≡ true) }

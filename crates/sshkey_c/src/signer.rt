@@ -26,14 +26,13 @@ pub extern "C" fn raf_check_signer(
     revoked: &[&[u8]],
     is_verified: u32,
 ) -> u32
-    ensures verdict { IsUtf8 signers.now → IsUtf8 identity.now → IsUtf8 namespace.now
+    ensures verdict { IsUtf8 identity.now → IsUtf8 namespace.now
         → TellsSigner signers.now identity.now namespace.now unix_timestamp revoked.now is_verified
         signature.now result }
-    ensures fault { IsUtf8 signers.now → IsUtf8 identity.now → IsUtf8 namespace.now
+    ensures fault { IsUtf8 identity.now → IsUtf8 namespace.now
         → (fault : Fault) → whole ssh_signature_value_at signature.now ≡ Err fault → result ≢ 1
         → result ≡ fault_number fault }
-    ensures text { (IsUtf8 signers.now → IsUtf8 identity.now → IsUtf8 namespace.now → ⊥)
-        → result ≡ 4 }
+    ensures text { (IsUtf8 identity.now → IsUtf8 namespace.now → ⊥) → result ≡ 4 }
     ensures memory { result ≡ 1 → NeedsMemory signature.now }
 {
     check_signer(

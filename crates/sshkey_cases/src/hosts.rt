@@ -1,6 +1,6 @@
 //! Questions about the hosts that an entry of known_hosts is for, and what is said of their keys.
 
-use crate::bytes::{NO_LINE, text};
+use crate::bytes::{NO_LINE, part, text};
 use sshkey_base::{Result, Text};
 use sshkey_known_hosts::{Entry, HmacSha1, HostPatterns, Marker, authorities, key_verdict};
 use sshkey_public::PublicKey;
@@ -23,7 +23,7 @@ pub(crate) fn judged(alloc: Global, parts: &[Vec<u8>]) -> Result<String> {
     let key = PublicKey::from_openssh(alloc, text(parts, 3)?)?;
     let found = key_verdict(
         alloc,
-        text(parts, 0)?,
+        part(parts, 0),
         text(parts, 1)?,
         port_of(parts, 2)?,
         key.key_data(),
@@ -36,7 +36,7 @@ pub(crate) fn judged(alloc: Global, parts: &[Vec<u8>]) -> Result<String> {
 pub(crate) fn authorities_of(alloc: Global, parts: &[Vec<u8>]) -> Result<String> {
     let keys = authorities(
         alloc,
-        text(parts, 0)?,
+        part(parts, 0),
         text(parts, 1)?,
         port_of(parts, 2)?,
         &HmacSha1,

@@ -28,7 +28,7 @@ some_length n b e t = let other : n ≢ 0 = eqb-false n 0 (sym e ∙ t) in omega
 
 module _ (text name after skipped word rest : List ℕ) (first : CutsField text name after) (skips : skipped ≡ without_blanks after) (second : CutsField skipped word rest) where
   -- no other name and word stand there
-  same_parts : (k : Key) (comment : List ℕ) (f : AreKeyFields text k comment) → (name ≡ key_name k) × (word ≡ encode_of standard f.blob)
+  pub same_parts : (k : Key) (comment : List ℕ) (f : AreKeyFields text k comment) → (name ≡ key_name k) × (word ≡ encode_of standard f.blob)
   same_parts k comment f =
       let names = same_field name (key_name k) after f.after_name first.one_word f.one_word first.ends f.name_ends (sym first.is ∙ f.is) in
       let words = same_field word (encode_of standard f.blob) rest f.after_key second.one_word (base64_field f.blob) second.ends f.key_ends (sym second.is ∙ skips ∙ ap without_blanks names.1 ∙ f.word) in

@@ -17,3 +17,5 @@ pub mod OtherKeys
 pub mod Told
 pub mod Tables
 pub mod SaidOptions
+pub mod ByteLines
+pub mod KeyTexts

@@ -1,5 +1,6 @@
 -- What a reader of a key's fields says of the text.
 use Rattle.std.specs.Prelude.{◌≡◌, ◌≢◌, ◌⊎◌, ◌<◌, ℕ, List, [], length, Result, Ok, Err}
+use Rattle.std.specs.Str.{IsUtf8}
 use Rattle.sshkey_base.specs.Causes.{cause, NoMemory}
 use Rattle.sshkey_base.specs.declared.encoding.Error.TheVariants.{Length}
 use Rattle.sshkey_base.specs.declared.error.Error.{Error}
@@ -19,6 +20,15 @@ use Rattle.sshkey_entries.specs.Cuts.{CutsField}
 abbrev pub ReadsKeyFields : List ℕ → Result PublicKey Error → Type 0
 ReadsKeyFields text (Ok k) = AreKeyFields text (public_of k) (comment_of k)
 ReadsKeyFields text (Err e) = cause e ≢ NoMemory → AreNoKeyFields text
+
+-- the comment, or an empty one in place of one that is no UTF-8
+abbrev pub IsKept : List ℕ → List ℕ → Type 0
+IsKept comment kept = (IsUtf8 comment → kept ≡ comment) × (¬ IsUtf8 comment → kept ≡ [])
+
+-- The same of any bytes.
+abbrev pub ReadsKeyBytes : List ℕ → Result PublicKey Error → Type 0
+ReadsKeyBytes fields (Ok k) = (comment : List ℕ) × AreKeyFields fields (public_of k) comment × IsKept comment (comment_of k)
+ReadsKeyBytes fields (Err e) = cause e ≢ NoMemory → AreNoKeyFields fields
 
 -- The text is a name, a word and what follows it, with blanks between.
 pub record AreFields (text name word rest : List ℕ) : Type 0 where

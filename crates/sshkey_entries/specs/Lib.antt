@@ -23,3 +23,4 @@ pub mod Cuts
 pub use Rattle.sshkey_patterns.specs.LetterCases
 pub mod KeyFields
 pub mod OtherKeys
+pub mod ByteLines

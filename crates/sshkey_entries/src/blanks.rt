@@ -11,13 +11,13 @@ fn is_blank(byte: u8) -> bool
     byte == b' ' || byte == b'\t'
 }
 
-fn first_blank(text: &[u8]) -> Option<usize>
+pub(crate) fn first_blank(text: &[u8]) -> Option<usize>
     ensures { result ≡ position is_blank text.now }
 {
     text.iter().position(|byte| is_blank(*byte))
 }
 
-fn first_other(text: &[u8]) -> Option<usize>
+pub(crate) fn first_other(text: &[u8]) -> Option<usize>
     ensures { result ≡ position (λ c. not (is_blank c)) text.now }
 {
     text.iter().position(|byte| !is_blank(*byte))

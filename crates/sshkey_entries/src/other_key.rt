@@ -7,7 +7,7 @@ ghost use Rattle.sshkey_model.specs.Parts.{are_bytes, flat};
 ghost use Rattle.sshkey_model.specs.Texts.{string};
 ghost use Rattle.sshkey_entries.specs.OtherKeys.{AreOtherKeyFields, HasNameCharacters, IsOtherName, IsShortName, SpellsName, is_name_character};
 
-use crate::blanks::{skip_blanks, split_blank};
+use crate::bytes::{skip_blanks, split_blank, text_of};
 use sshkey_base::{Algorithm, Reader};
 use sshkey_base64::Base64Reader;
 
@@ -119,7 +119,21 @@ fn spells_name(word: &str, name: &str) -> bool
 pub fn are_other_key_fields(text: &str) -> bool
     ensures { IsTrue result ↔ AreOtherKeyFields text.now }
 {
-    let (name, after_name) = split_blank(text);
+    bytes_are_other_key_fields(text.as_bytes())
+}
+
+/// What `are_other_key_fields` says, of any bytes: of the comment nothing is asked. Does not
+/// allocate.
+pub fn bytes_are_other_key_fields(fields: &[u8]) -> bool
+    ensures { IsTrue result ↔ AreOtherKeyFields fields.now }
+{
+    let (name, after_name) = split_blank(fields);
     let (word, _) = split_blank(skip_blanks(after_name));
+    let Some(name) = text_of(name) else {
+        return false;
+    };
+    let Some(word) = text_of(word) else {
+        return false;
+    };
     is_other_name(name) && spells_name(word, name)
 }

@@ -3,12 +3,9 @@ use denote.Ref.{Bor}
 use Rattle.std.proofs.Common.{◌≡◌, ◌≢◌, ◌<◌, arith, ℕ, ◌+◌, List, [], ◌∷◌, ◌++◌, get_or, length, take, Bool, true, false, Result, Ok, Err, refl, sym, ◌∙◌}
 use Rattle.std.proofs.lemmas.List.{take_more}
 use Rattle.std.specs.List.{AllZip}
-use Rattle.std.specs.Prelude.{IfErr, IsErrAnd, if◌then◌else◌}
-use Rattle.std.specs.Str.{is_utf8}
+use Rattle.std.specs.Prelude.{IfErr, if◌then◌else◌}
 use Rattle.sshkey_base.specs.Causes.{Faulty, NoMemory, cause}
-use Rattle.sshkey_base.specs.declared.encoding.Error.TheVariants.{CharacterEncoding}
 use Rattle.sshkey_base.specs.declared.error.Error.{Error}
-use Rattle.sshkey_base.specs.declared.error.Error.TheVariants.{Encoding}
 use Rattle.sshkey_krl.specs.Krls.{krl_format}
 use Rattle.sshkey_krl.specs.Revocation.{CertificateIdentity, Krl, certificate_identity}
 use Rattle.sshkey_krl.specs.Revocations.{is_certificate_revoked}
@@ -35,8 +32,8 @@ module _ (file : List ℕ) where
       go false is = (is, text is memory)
 
   -- what was read, if memory was enough
-  pub read_of : (found : Result RevokedKeys Error) → (begins_krl file ≡ true → ReadsKrl (whole krl_format.read file) file found) → (begins_krl file ≡ false → is_utf8 file ≡ false → IsErrAnd found (λ e. e ≡ Encoding CharacterEncoding)) → (begins_krl file ≡ false → is_utf8 file ≡ true → ReadsRevokedKeys file found) → IfErr found (λ e. cause e ≢ NoMemory) → IsReadOf file found
-  read_of found list no_text text some = record { list = list; no_text = no_text; text = text; some_memory = some }
+  pub read_of : (found : Result RevokedKeys Error) → (begins_krl file ≡ true → ReadsKrl (whole krl_format.read file) file found) → (begins_krl file ≡ false → ReadsRevokedKeys file found) → IfErr found (λ e. cause e ≢ NoMemory) → IsReadOf file found
+  read_of found list text some = record { list = list; text = text; some_memory = some }
 
 -- ---- several files
 

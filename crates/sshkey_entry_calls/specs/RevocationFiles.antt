@@ -2,12 +2,9 @@
 -- since OpenSSH 10.3).
 use denote.Ref.{Bor}
 use Rattle.std.specs.List.{AllZip, list_all, list_any}
-use Rattle.std.specs.Prelude.{◌≡◌, ◌≢◌, ℕ, List, [], ◌∷◌, ◌++◌, replicate, bytes_eq, Bool, true, false, Result, Ok, Err, IfErr, IsErrAnd, is_ok, if◌then◌else◌}
-use Rattle.std.specs.Str.{is_utf8}
+use Rattle.std.specs.Prelude.{◌≡◌, ◌≢◌, ℕ, List, [], ◌∷◌, ◌++◌, replicate, bytes_eq, Bool, true, false, Result, Ok, Err, IfErr, is_ok, if◌then◌else◌}
 use Rattle.sshkey_base.specs.Causes.{NoMemory, cause}
-use Rattle.sshkey_base.specs.declared.encoding.Error.TheVariants.{CharacterEncoding}
 use Rattle.sshkey_base.specs.declared.error.Error.{Error}
-use Rattle.sshkey_base.specs.declared.error.Error.TheVariants.{Encoding}
 use Rattle.sshkey_entries.specs.Answers.{NeedsFirstLine}
 use Rattle.sshkey_krl.specs.KrlRef.{krl_bytes}
 use Rattle.sshkey_krl.specs.Krls.{krl_format, magic}
@@ -25,8 +22,7 @@ use Rattle.sshkey_entry_calls.specs.declared.revocation_files.RevocationFiles.{R
 -- What reading the file gives, for which memory was enough: a list, keys, or an error.
 pub record IsReadOf (file : List ℕ) (read : Result RevokedKeys Error) : Type 0 where
   pub list : begins_krl file ≡ true → ReadsKrl (whole krl_format.read file) file read
-  pub no_text : begins_krl file ≡ false → is_utf8 file ≡ false → IsErrAnd read (λ e. e ≡ Encoding CharacterEncoding)
-  pub text : begins_krl file ≡ false → is_utf8 file ≡ true → ReadsRevokedKeys file read
+  pub text : begins_krl file ≡ false → ReadsRevokedKeys file read
   pub some_memory : IfErr read (λ e. cause e ≢ NoMemory)
 
 -- What reading each of the files gives, in order. No file at all is one that cannot be read.

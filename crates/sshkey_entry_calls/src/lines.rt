@@ -1,89 +1,11 @@
 //! The lines of a text that may be entries, one after the other.
 
-ghost use Rattle.std.specs.Prelude.{◌≡◌, ◌<◌, drop, length, not, position};
-ghost use Rattle.std.specs.Str.Lines.{strip_carriage_return};
-ghost use Rattle.sshkey_entries.specs.Cuts.{CutsField};
-ghost use Rattle.sshkey_entries.specs.Fields.{without_blanks, is_filled};
-ghost use Rattle.sshkey_entries.specs.OptionEnds.{is_blank};
-ghost use Rattle.sshkey_entry_calls.specs.Lines.{CutsLine, FindsLine, is_line_end};
+ghost use Rattle.std.specs.Prelude.{◌≡◌, drop};
+ghost use Rattle.sshkey_entry_calls.specs.Lines.{FindsLine};
 
-use memchr::memchr;
 use sshkey_calls::number::{DONE, END};
 use sshkey_calls::part::Part;
-
-fn is_blank(byte: u8) -> bool
-    ensures { result ≡ is_blank byte }
-{
-    byte == b' ' || byte == b'\t'
-}
-
-fn first_end(text: &[u8]) -> Option<usize>
-    ensures { result ≡ position is_line_end text.now }
-{
-    memchr(b'\n', text)
-}
-
-fn first_blank(text: &[u8]) -> Option<usize>
-    ensures { result ≡ position is_blank text.now }
-{
-    text.iter().position(|byte| is_blank(*byte))
-}
-
-fn first_other(text: &[u8]) -> Option<usize>
-    ensures { result ≡ position (λ c. not (is_blank c)) text.now }
-{
-    text.iter().position(|byte| !is_blank(*byte))
-}
-
-/// The line without the carriage return at its end.
-fn without_return(line: &[u8]) -> &[u8]
-    ensures { result.now ≡ strip_carriage_return line.now }
-{
-    match line.split_last() {
-        Some((b'\r', front)) => front,
-        _ => line,
-    }
-}
-
-/// The line without the spaces and tabs at its front.
-pub(crate) fn skip_blanks(line: &[u8]) -> &[u8]
-    ensures { result.now ≡ without_blanks line.now }
-{
-    match first_other(line) {
-        Some(start) => &line[start..],
-        None => &[],
-    }
-}
-
-/// The line up to its first space or tab, and what follows from there.
-pub(crate) fn split_blank(line: &[u8]) -> (&[u8], &[u8])
-    ensures { CutsField line.now result.0.now result.1.now }
-{
-    match first_blank(line) {
-        Some(end) => line.split_at(end),
-        None => (line, &[]),
-    }
-}
-
-fn is_filled(line: &[u8]) -> bool
-    ensures { result ≡ is_filled line.now }
-{
-    match line.first() {
-        Some(first) => *first != b'#',
-        None => false,
-    }
-}
-
-/// The first line of a text, without its end, and what follows that.
-fn split_line(text: &[u8]) -> (&[u8], &[u8])
-    requires { 0 < length text.now }
-    ensures { CutsLine text.now result.0.now result.1.now }
-{
-    match first_end(text) {
-        Some(end) => (without_return(&text[..end]), &text[end + 1..]),
-        None => (text, &[]),
-    }
-}
+use sshkey_entries::bytes::{is_filled, skip_blanks, split_line};
 
 /// The bytes from that place on.
 pub(crate) fn rest_from(text: &[u8], place: usize) -> &[u8]

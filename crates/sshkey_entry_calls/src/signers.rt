@@ -27,8 +27,8 @@ const NO_IDENTITY: u32 = 103;
 /// says that its question (`sshsig_question`) was answered yes, and every other number that it was
 /// not. `revoked` are revocation files (`RevocationFiles`).
 ///
-/// Returns 0 if it does, 1 if memory ran out, 4 where the text, the identity or the namespace is
-/// not UTF-8, from 10 to 29 the fault of bytes that are no SSH signature, and else what is wrong
+/// Returns 0 if it does, 1 if memory ran out, 4 where the identity or the namespace is not
+/// UTF-8, from 10 to 29 the fault of bytes that are no SSH signature, and else what is wrong
 /// first: 103 for an identity of no bytes, 55 where no line lets its key sign, 58 where a revocation file cannot be read or there is
 /// none, which revokes each key, 56 for a key that is revoked, and 30 where it was not verified, is in another
 /// namespace or has reserved bytes. So 30, before anything is verified, says that its key may sign.
@@ -43,21 +43,16 @@ pub fn check_signer(
     revoked: &[&[u8]],
     is_verified: u32,
 ) -> u32
-    ensures verdict { IsUtf8 signers.now → IsUtf8 identity.now → IsUtf8 namespace.now
+    ensures verdict { IsUtf8 identity.now → IsUtf8 namespace.now
         → TellsSigner signers.now identity.now namespace.now unix_timestamp revoked.now is_verified
         signature.now result }
-    ensures fault { IsUtf8 signers.now → IsUtf8 identity.now → IsUtf8 namespace.now
+    ensures fault { IsUtf8 identity.now → IsUtf8 namespace.now
         → (fault : Fault) → whole ssh_signature_value_at signature.now ≡ Err fault → result ≢ 1
         → result ≡ fault_number fault }
-    ensures text { (IsUtf8 signers.now → IsUtf8 identity.now → IsUtf8 namespace.now → ⊥)
-        → result ≡ 4 }
+    ensures text { (IsUtf8 identity.now → IsUtf8 namespace.now → ⊥) → result ≡ 4 }
     ensures memory { result ≡ 1 → NeedsMemory signature.now }
 {
-    let (Ok(signers), Ok(identity), Ok(namespace)) = (
-        str::from_utf8(signers),
-        str::from_utf8(identity),
-        str::from_utf8(namespace),
-    ) else {
+    let (Ok(identity), Ok(namespace)) = (str::from_utf8(identity), str::from_utf8(namespace)) else {
         return TEXT;
     };
     let said = GivenAnswer::of(is_verified);
@@ -79,7 +74,7 @@ pub fn check_signer(
 /// The same of texts and a signature.
 fn judge(
     alloc: Global,
-    signers: &str,
+    signers: &[u8],
     identity: &str,
     namespace: &str,
     signature: &[u8],

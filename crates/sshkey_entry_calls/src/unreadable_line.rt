@@ -17,7 +17,7 @@ use std::str;
 /// at a port (`sshkey_known_hosts::unreadable_line`), under the name that is asked
 /// (`sshkey_addresses::asked_host`).
 ///
-/// Returns 0 if there is one, 3 if there is none, 4 where the text or the host's name is not UTF-8,
+/// Returns 0 if there is one, 3 if there is none, 4 where the host's name is not UTF-8,
 /// `host_fault_status` where nothing can be asked about the host, and 1 if memory ran out, which a
 /// text that is empty or has comments alone does not take, nor a host that is like no address. With
 /// any answer but 0 the number stays as it was.
@@ -28,24 +28,24 @@ pub fn unreadable_host_line(
     port: u16,
     number: &mut usize,
 ) -> u32
-    ensures line { IsUtf8 known_hosts.now → IsUtf8 host.now
+    ensures line { IsUtf8 host.now
         → TellsUnreadableLine known_hosts.now host.now port result number.new }
-    ensures text { (IsUtf8 known_hosts.now → IsUtf8 host.now → ⊥) → result ≡ 4 }
+    ensures text { (IsUtf8 host.now → ⊥) → result ≡ 4 }
     ensures kept { result ≢ 0 → number.new ≡ number.old }
     ensures memory { result ≡ 1 → (0 < length (filled_lines known_hosts.now))
         ⊎ (is_like_address host.now ≡ true) }
 {
-    let (Ok(text), Ok(host)) = (str::from_utf8(known_hosts), str::from_utf8(host)) else {
+    let Ok(host) = str::from_utf8(host) else {
         return TEXT;
     };
     match asked_host(alloc, host, port) {
-        Ok(asked) => find_line(alloc, text, asked.as_str(), port, number),
+        Ok(asked) => find_line(alloc, known_hosts, asked.as_str(), port, number),
         Err(fault) => host_fault_status(fault),
     }
 }
 
 /// The same of a text and of a host by the name that is asked.
-fn find_line(alloc: Global, text: &str, name: &str, port: u16, number: &mut usize) -> u32
+fn find_line(alloc: Global, text: &[u8], name: &str, port: u16, number: &mut usize) -> u32
     ensures line { TellsLine text.now name.now port result number.new }
     ensures kept { result ≢ 0 → number.new ≡ number.old }
     ensures memory { result ≡ 1 → 0 < length (filled_lines text.now) }

@@ -1,6 +1,5 @@
 -- What is answered of the key or the certificate that a host shows (ssh(1), "VERIFYING HOST KEYS").
-use Rattle.std.specs.List.{list_all}
-use Rattle.std.specs.Prelude.{◌≡◌, ◌≢◌, ◌&&◌, ℕ, List, Bool, Some, Result, Ok, Err, if◌then◌else◌}
+use Rattle.std.specs.Prelude.{◌≡◌, ◌≢◌, ℕ, List, Bool, Some, Result, Ok, Err, if◌then◌else◌}
 use Rattle.std.specs.Str.{is_utf8}
 use Rattle.host_keys.specs.Answers.{RefusesHostCertificate, RefusesHostKey}
 use Rattle.host_keys.specs.Hosts as hosts
@@ -23,9 +22,9 @@ use Rattle.sshkey_host_calls.specs.declared.request.HostRequest.{HostRequest}
 
 -- ---- what is known
 
--- the name of the host and the texts of known_hosts are UTF-8
+-- the name of the host is UTF-8; the texts of known_hosts may be any bytes
 abbrev pub are_texts : HostRequest → Bool
-are_texts l = is_utf8 l.host.now && list_all (λ text. is_utf8 text.now) l.known_hosts.now
+are_texts l = is_utf8 l.host.now
 
 -- the host, by these lines, under HMAC-SHA1
 abbrev pub login_with : HostRequest → List (List ℕ) → hosts.HostCheck

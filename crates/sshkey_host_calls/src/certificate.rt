@@ -18,7 +18,7 @@ use std::alloc::Global;
 /// (`sshkey_calls::certificate_question`) was answered yes, and every other number that it was not.
 /// Hashed names are compared by `sshkey_known_hosts::HmacSha1`.
 ///
-/// Returns 0 if it is, 1 if memory ran out, 4 where a text or the host's name is not UTF-8, from 10
+/// Returns 0 if it is, 1 if memory ran out, 4 where the host's name is not UTF-8, from 10
 /// to 29 the fault of bytes that are no certificate, and else what is wrong first: 70 for bytes that
 /// are not its normal form; 100 for port 0, 101 for a host of no bytes, 102 for one that is like an
 /// address and has no text as one; 58 where a revocation file cannot be read, or there is none; 50 where
@@ -55,13 +55,10 @@ fn judge(alloc: Global, login: &HostRequest<'_>, certificate: &[u8], said: &Give
     requires { are_texts login.now ≡ true }
     ensures { JudgesCertificate login.now (λ _. said.now.is_yes) certificate.now result }
 {
-    let Ok(texts) = login.texts(alloc) else {
-        return MEMORY;
-    };
     let Ok(files) = RevocationFiles::read(alloc, login.revoked) else {
         return MEMORY;
     };
-    let known = login.with_texts(&texts);
+    let known = login.with_texts(login.known_hosts);
     answer_status(
         check_certificate(alloc, &known, certificate, &HmacSha1, &files, said),
         files.are_read(),

@@ -18,7 +18,7 @@ use std::alloc::Global;
 /// texts of known_hosts and the revocation files. Hashed names are compared by
 /// `sshkey_known_hosts::HmacSha1`.
 ///
-/// Returns 0 if it is, 1 if memory ran out, 4 where a text or the host's name is not UTF-8, from 10
+/// Returns 0 if it is, 1 if memory ran out, 4 where the host's name is not UTF-8, from 10
 /// to 29 the fault of bytes that are no key, and else what is wrong first: 100 for port 0, 101 for a
 /// host of no bytes, 102 for one that is like an address and has no text as one; 58 where a revocation
 /// file cannot be read, or there is none; 50 for a key that is revoked, 51 where a line that cannot
@@ -46,13 +46,10 @@ fn judge(alloc: Global, login: &HostRequest<'_>, key: &KeyDataRef<'_>) -> u32
     let Ok(key) = key.to_key_data(alloc) else {
         return MEMORY;
     };
-    let Ok(texts) = login.texts(alloc) else {
-        return MEMORY;
-    };
     let Ok(files) = RevocationFiles::read(alloc, login.revoked) else {
         return MEMORY;
     };
-    let known = login.with_texts(&texts);
+    let known = login.with_texts(login.known_hosts);
     answer_status(
         check_key(alloc, &known, &key, &HmacSha1, &files),
         files.are_read(),

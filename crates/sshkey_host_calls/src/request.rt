@@ -1,13 +1,11 @@
 //! What is known of the host that a client connects to, as byte strings.
 
-ghost use Rattle.std.specs.List.{list_all};
-ghost use Rattle.std.specs.Prelude.{◌≡◌, IfOk, true};
+ghost use Rattle.std.specs.Prelude.{◌≡◌, true};
 ghost use Rattle.std.specs.Str.{is_utf8};
 ghost use Rattle.host_keys.specs.Hosts.{lines_of, login_of};
 ghost use Rattle.sshkey_known_hosts.specs.Hmac.{hmac_sha1};
 ghost use Rattle.sshkey_host_calls.specs.Hosts.{are_texts, login_with};
 
-use std::alloc::{AllocError, Global};
 use std::str;
 
 /// The host that a client connects to, and what is known of it.
@@ -31,27 +29,15 @@ pub struct HostRequest<'a> {
 }
 
 impl<'a> HostRequest<'a> {
-    /// Whether the name of the host and the texts are UTF-8.
+    /// Whether the name of the host is UTF-8.
     pub(crate) fn are_texts(&self) -> bool
         ensures { result ≡ are_texts self.now }
     {
-        is_text(self.host) && are_all_texts(self.known_hosts)
-    }
-
-    /// The texts of known_hosts. Fails only when out of memory.
-    pub(crate) fn texts(&self, alloc: Global) -> Result<Vec<&'a str>, AllocError>
-        requires { are_texts self.now ≡ true }
-        ensures { IfOk result (λ texts. lines_of texts.items ≡ lines_of self.now.known_hosts.now) }
-    {
-        let mut texts = Vec::new(alloc);
-        for text in self.known_hosts {
-            texts.push(text_of(text))?;
-        }
-        Ok(texts)
+        is_text(self.host)
     }
 
     /// The host, and these texts of known_hosts.
-    pub(crate) fn with_texts<'b>(&'b self, texts: &'b [&'b str]) -> host_keys::HostCheck<'b>
+    pub(crate) fn with_texts<'b>(&'b self, texts: &'b [&'b [u8]]) -> host_keys::HostCheck<'b>
         requires { are_texts self.now ≡ true }
         ensures { login_of result hmac_sha1 ≡ login_with self.now (lines_of texts.now) }
     {
@@ -63,13 +49,6 @@ impl<'a> HostRequest<'a> {
             least_rsa_bits: self.least_rsa_bits,
         }
     }
-}
-
-/// Whether each of them is UTF-8.
-fn are_all_texts(texts: &[&[u8]]) -> bool
-    ensures { result ≡ list_all (λ text. is_utf8 text.now) texts.now }
-{
-    texts.iter().all(|text| is_text(text))
 }
 
 /// Whether the bytes are UTF-8.

@@ -3,6 +3,7 @@ use Rattle.std.proofs.Common.{◌≡◌, ◌⊎◌, ℕ, List, [], ◌∷◌, �
 use Rattle.std.specs.List.{Any}
 use Rattle.sshkey_entries.specs.HostNames.{AreFor}
 use Rattle.sshkey_entries.specs.HostVerdicts.{IsAuthority, Lists}
+use Rattle.sshkey_entries.specs.KeyFields.{IsKept}
 use Rattle.sshkey_entries.specs.KnownHosts.{KnownHost, CertAuthority}
 use Rattle.sshkey_entries.specs.OpenSshLines.{IsHostLine}
 use Rattle.sshkey_model.specs.Keys.{Key}
@@ -36,8 +37,8 @@ module _ (hmac : List ℕ → List ℕ → List ℕ) (name : List ℕ) where
           | inr never ↦ never e.2
         ]
 
-    pub an_authority : (k : PublicKey) → h.key ≡ public_of k → h.comment ≡ comment_of k → h.marker ≡ Some CertAuthority → AreFor hmac name h.hosts → IsAuthorityLine hmac name line (Some k)
-    an_authority k same comment mark fits = (record { entry = h; read = is; marker_is = mark; key_is = same; is_for = fits }, sym comment)
+    pub an_authority : (k : PublicKey) → h.key ≡ public_of k → IsKept h.comment (comment_of k) → h.marker ≡ Some CertAuthority → AreFor hmac name h.hosts → IsAuthorityLine hmac name line (Some k)
+    an_authority k same comment mark fits = (record { entry = h; read = is; marker_is = mark; key_is = same; is_for = fits }, comment)
 
   -- ---- in the order of the lines
 

@@ -1,6 +1,6 @@
 -- What the worked examples cite: lines that are made of their parts, and what they say.
-use Rattle.std.proofs.Common.{◌≡◌, ◌≢◌, ℕ, ◌<◌, Bool, true, false, not, ◌&&◌, ◌==◌, List, [], ◌∷◌, ◌++◌, length, take, slice_index, get_or, bytes_eq, Option, None, Some, Ok, inl, inr, refl, sym, ap, subst, ◌∙◌, arith, append-nil, eq-eqb}
-use Rattle.std.specs.Prelude.{codes, nat_lt}
+use Rattle.std.proofs.Common.{◌≡◌, ◌≢◌, ℕ, ◌<◌, Bool, true, false, not, ◌&&◌, ◌==◌, List, [], ◌∷◌, ◌++◌, length, take, slice_index, get_or, bytes_eq, Option, None, Some, Ok, inl, inr, refl, sym, ap, ◌∙◌, arith, append-nil, eq-eqb}
+use Rattle.std.specs.Prelude.{codes}
 use Rattle.std.specs.Bool.{Decides}
 use Rattle.std.specs.Char.{to_ascii_lowercase}
 use Rattle.std.specs.List.{All, list_all}
@@ -29,7 +29,7 @@ use Rattle.sshkey_entries.specs.Fields.{AreKeyFields, AreNoKeyFields, EndsField,
 use Rattle.sshkey_entries.specs.Fronts.{without_front}
 use Rattle.sshkey_entries.specs.HostNames.{AreFor, AreForName, BeginWithBar}
 use Rattle.sshkey_entries.specs.HostVerdicts.{HidesEntry, IsAuthority, IsForOthers, Lists}
-use Rattle.sshkey_entries.specs.KnownHosts.{ArePatterns, CertAuthority, HashedName, Hosts, IsHosts, KnownHost, Marker, Patterns, Revoked, at_sign, bar, hashed_mark, hashed_text, marker_text}
+use Rattle.sshkey_entries.specs.KnownHosts.{ArePatterns, CertAuthority, HashedName, Hosts, IsHosts, Marker, Patterns, Revoked, at_sign, bar, hashed_mark, hashed_text, marker_text}
 use Rattle.sshkey_entries.specs.OpenSshLines.{EndsMarker, IsHostLine, IsMarkedLine}
 use Rattle.sshkey_entries.specs.OptionEnds.{is_blank}
 use Rattle.sshkey_entries.specs.OtherKeys.{AreOtherKeyFields}
@@ -41,7 +41,7 @@ use Rattle.sshkey_known_hosts.specs.Hmac.{hmac_sha1}
 use Rattle.sshkey_known_hosts.specs.declared.verdict.Verdict.{Verdict}
 use Rattle.sshkey_known_hosts.specs.declared.verdict.Verdict.TheVariants as verdict
 use Rattle.sshkey_known_hosts.specs.Verdicts.{max_severity_of}
-use Rattle.sshkey_known_hosts.proofs.HostCuts.{fields_hide, marker_hides, zero_hides}
+use Rattle.sshkey_known_hosts.proofs.HostCuts.{fields_hide, marker_hides}
 use Rattle.sshkey_known_hosts.proofs.HostLines.{no_end, no_marker, two_markers}
 use Rattle.sshkey_known_hosts.proofs.Verdicts as say
 

@@ -1,12 +1,18 @@
 -- Whether a text of hosts is for a name.
-use Rattle.std.proofs.Common.{◌≡◌, ◌<◌, ◌↔◌, ℕ, List, length, Bool, IsTrue, None, Some, inl, refl}
+use Rattle.std.proofs.Common.{◌≡◌, ◌<◌, ◌↔◌, ◌++◌, ℕ, zero, suc, List, [], ◌∷◌, length, drop, Bool, IsTrue, None, Some, ap, arith, inl, refl, subst, sym}
+use Rattle.std.specs.Str.{IsAscii, IsUtf8}
+use Rattle.std.proofs.lemmas.Str.{IsUtf8-append, IsUtf8-from_ascii}
+use Rattle.base64.specs.Engines.{standard}
+use Rattle.base64.specs.GeneralPurpose.{encode_of}
+use Rattle.base64.proofs.EngineFacts.{IsAscii-encode_of}
 use Rattle.std.specs.Prelude.{bytes_eq}
 use Rattle.std.proofs.lemmas.List.{nil_from_length}
 use Rattle.std.proofs.lemmas.Slice.Eq.{bytes_eq-Decides}
 use Rattle.sshkey_base.specs.declared.error.Error.TheVariants.{FormatEncoding}
 use Rattle.sshkey_entries.specs.HostNames.{AreForName}
 use Rattle.sshkey_entries.specs.Items.{patterns}
-use Rattle.sshkey_entries.specs.KnownHosts.{HashedName, Patterns, IsHashedName, IsMarkedHashed}
+use Rattle.sshkey_entries.specs.Entries.{IsNoEntry}
+use Rattle.sshkey_entries.specs.KnownHosts.{HashedName, Patterns, IsHashedName, IsHosts, IsMarkedHashed, bar, hashed_mark}
 use Rattle.sshkey_known_hosts.specs.NamedHosts.{TellsHosts}
 use Rattle.sshkey_known_hosts.proofs.Hosts.{refused_is_none}
 
@@ -23,3 +29,14 @@ module _ (hmac : List ℕ → List ℕ → List ℕ) (name text : List ℕ) wher
 -- the same or not, of bytes that are compared
 pub tells_same : (a b : List ℕ) (r : Bool) → r ≡ bytes_eq a b → IsTrue r ↔ (a ≡ b)
 tells_same a b r e = let decides = bytes_eq-Decides a b in rw e decides
+
+-- what is no text is no hash
+pub no_text_hash : (hashed : List ℕ) → (IsUtf8 hashed → ⊥) → IsNoEntry IsHosts (hashed_mark ++ hashed)
+no_text_hash hashed none (Patterns ps) are = are.not_hashed (hashed, refl)
+no_text_hash hashed none (HashedName salt hash) are =
+    let word = λ (b : List ℕ). IsUtf8-from_ascii (encode_of standard b) (IsAscii-encode_of standard b) in
+    none (subst IsUtf8 (sym (ap (drop 3) are.is)) (IsUtf8-append (encode_of standard salt) (bar ∷ encode_of standard hash) (word salt) (IsUtf8-append (bar ∷ []) (encode_of standard hash) (IsUtf8-from_ascii (bar ∷ []) bar_ascii) (word hash))))
+  where
+    bar_ascii : IsAscii (bar ∷ [])
+    bar_ascii zero = omega arith
+    bar_ascii (suc i) = omega arith

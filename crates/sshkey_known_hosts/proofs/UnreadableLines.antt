@@ -1,10 +1,8 @@
 -- Lines of a text that hide an entry, and those of them that count.
-use Rattle.std.proofs.Common.{◌≡◌, ◌↔◌, ◌<◌, ◌∙◌, inl, inr, lt-ltb, refl, sym, subst, arith, ℕ, List, [], ◌∷◌, ◌++◌, Bool, true, false, cond, filter, map, length, slice_index, ◌==◌, IsTrue, Some, None, option_map}
-use Rattle.std.proofs.lemmas.Bool.{ne_eqb}
+use Rattle.std.proofs.Common.{◌≡◌, ◌↔◌, ◌<◌, ◌∙◌, inl, inr, refl, sym, subst, arith, ℕ, List, [], ◌∷◌, ◌++◌, Bool, true, false, cond, filter, map, length, IsTrue, Some, None, option_map}
 use Rattle.std.specs.List.{Any}
 use Rattle.std.specs.Str.Lines.{lines}
 use Rattle.sshkey_entries.specs.Fields.{filled_lines, is_filled, without_blanks}
-use Rattle.sshkey_entries.specs.Entries.{hash_sign}
 use Rattle.sshkey_entries.specs.HostVerdicts.{HidesEntry, HidesSome}
 use Rattle.sshkey_known_hosts.specs.HostEntries.{marker_of}
 use Rattle.sshkey_known_hosts.specs.HostLines.{IsToHost, is_unreadable}
@@ -14,10 +12,6 @@ use Rattle.sshkey_known_hosts.specs.UnreadableLines.{HidesEntryIn, UnreadableHas
 use Rattle.sshkey_known_hosts.proofs.Verdicts.{either, first, later, only, this}
 
 -- ---- one line
-
-pub is_filled_text : (text : List ℕ) → (length text == 0) ≡ false → (slice_index text 0 ≡ hash_sign → ⊥) → is_filled text ≡ true
-is_filled_text [] some other = absurd cc
-is_filled_text (c ∷ text) some other = rw (ne_eqb c hash_sign other, lt-ltb 0 (length (c ∷ text)) (omega arith)) refl
 
 -- It hides an entry exactly if it counts and cannot be read.
 module _ (hmac : List ℕ → List ℕ → List ℕ) (name line text : List ℕ) (is : text ≡ without_blanks line) (filled : is_filled text ≡ true) where

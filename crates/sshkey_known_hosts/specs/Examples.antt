@@ -3,13 +3,12 @@
 -- "VERIFYING HOST KEYS"; hostfile.c of OpenSSH). `ssh-keygen -F` and ssh(1) of 9.2 were asked.
 use Rattle.std.specs.Prelude.{◌≡◌, ℕ, List, [], ◌∷◌, ◌++◌, Option, None, Some, true, false, codes, replicate}
 use Rattle.std.specs.List.{All}
-use Rattle.sshkey_entries.specs.Fields.{filled_lines}
 use Rattle.sshkey_entries.specs.HostNames.{known_name}
+use Rattle.sshkey_entries.specs.KeyFields.{IsKept}
 use Rattle.sshkey_entries.specs.KnownHosts.{CertAuthority, KnownHost, Marker, after_marker}
 use Rattle.sshkey_entries.specs.KnownHosts as known
 use Rattle.sshkey_model.specs.CertificateExamples.{authority}
 use Rattle.sshkey_model.specs.KeyExamples.{ed25519_key}
-use Rattle.sshkey_model.specs.Keys.{Key}
 use Rattle.sshkey_model.specs.Lines.{space}
 use Rattle.sshkey_known_hosts.specs.Hmac.{hmac_sha1}
 use Rattle.sshkey_public.specs.PublicKeys.{comment_of, public_of}
@@ -150,6 +149,19 @@ broken_line = codes "h.example ssh-ed25519"
 
 abbrev pub revoking : List ℕ
 revoking = line (Some known.Revoked) host
+
+-- bytes that are no UTF-8, as those of ISO 8859-1
+abbrev pub latin : List ℕ
+latin = codes "gr" ++ (0xf6 ∷ 0xdf ∷ codes "e")
+
+-- A comment decides nothing, and is kept where it is UTF-8.
+abbrev pub Comments : Type 0
+Comments = Say host ((line None host ++ (space ∷ latin)) ∷ []) Trusted Changed
+    × Say host ((revoking ++ (space ∷ latin)) ∷ []) Revoked Unknown
+    × IsKept (codes "me") (codes "me")
+    × ¬ IsKept (codes "me") []
+    × IsKept latin []
+    × ¬ IsKept latin latin
 
 -- Whichever stands first: a line that revokes the key, one that cannot be read, one that lists the
 -- key, and one that lists another.

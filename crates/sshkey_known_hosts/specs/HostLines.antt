@@ -5,6 +5,7 @@ use Rattle.sshkey_entries.specs.Entries.{hash_sign}
 use Rattle.sshkey_entries.specs.Fields.{without_blanks, IsField, EndsField}
 use Rattle.sshkey_entries.specs.HostNames.{AreFor}
 use Rattle.sshkey_entries.specs.HostVerdicts.{HidesEntry, IsForOthers, Lists, ListsOther}
+use Rattle.sshkey_entries.specs.KeyFields.{IsKept}
 use Rattle.sshkey_entries.specs.KnownHosts.{Marker, Hosts, IsHosts}
 use Rattle.sshkey_entries.specs.OpenSshLines.{IsMarkedLine}
 use Rattle.sshkey_public.specs.PublicKeys.{comment_of, public_of}
@@ -35,7 +36,7 @@ IsCut hmac name line cut.Unreadable = HidesEntry hmac name line
 
 abbrev pub IsToHost : (List ℕ → List ℕ → List ℕ) → List ℕ → List ℕ → HostLine → Type 0
 IsToHost hmac name line is.ForOthers = IsForOthers hmac name line
-IsToHost hmac name line (is.Entry marker key) = (l : Lists hmac name (option_map marker_of marker) (public_of key) line) × (comment_of key ≡ l.entry.comment)
+IsToHost hmac name line (is.Entry marker key) = (l : Lists hmac name (option_map marker_of marker) (public_of key) line) × IsKept l.entry.comment (comment_of key)
 IsToHost hmac name line (is.OtherKey marker) = ListsOther hmac name (option_map marker_of marker) line
 IsToHost hmac name line is.Unreadable = HidesEntry hmac name line
 

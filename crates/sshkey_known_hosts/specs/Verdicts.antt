@@ -3,6 +3,7 @@ use Rattle.std.specs.Prelude.{◌≡◌, ◌↔◌, ℕ, List, [], ◌∷◌, �
 use Rattle.std.specs.List.{Any}
 use Rattle.sshkey_model.specs.Keys.{Key}
 use Rattle.sshkey_entries.specs.HostVerdicts.{IsRevoked, HidesSome, IsListed, IsKnown, IsAuthority, Lists}
+use Rattle.sshkey_entries.specs.KeyFields.{IsKept}
 use Rattle.sshkey_entries.specs.KnownHosts.{CertAuthority}
 use Rattle.sshkey_public.specs.PublicKeys.{comment_of, public_of}
 use Rattle.sshkey_public.specs.declared.public_key.PublicKey.{PublicKey}
@@ -59,11 +60,11 @@ is_authority_of (Some marker.CertAuthority) = true
 is_authority_of (Some marker.Revoked) = false
 is_authority_of None = false
 
--- The key and the comment of the line, which is an entry of an authority for the name; or it is
--- none.
+-- The key of the line, which is an entry of an authority for the name, and its comment, or an empty
+-- one in place of one that is no UTF-8; or it is none.
 abbrev pub IsAuthorityLine : (List ℕ → List ℕ → List ℕ) → List ℕ → List ℕ → Option PublicKey → Type 0
 IsAuthorityLine hmac name line None = (key : Key) → Lists hmac name (Some CertAuthority) key line → ⊥
-IsAuthorityLine hmac name line (Some k) = (l : Lists hmac name (Some CertAuthority) (public_of k) line) × (comment_of k ≡ l.entry.comment)
+IsAuthorityLine hmac name line (Some k) = (l : Lists hmac name (Some CertAuthority) (public_of k) line) × IsKept l.entry.comment (comment_of k)
 
 abbrev pub in_front : Option PublicKey → List PublicKey → List PublicKey
 in_front None keys = keys

@@ -13,7 +13,7 @@ use crate::host_name::known_name;
 use crate::marker::Marker;
 use crate::verdict::has_lines;
 use sshkey_base::Result;
-use sshkey_entries::NonBlankLines;
+use sshkey_entries::NonBlankByteLines;
 use sshkey_public::PublicKey;
 use std::alloc::Global;
 
@@ -27,7 +27,7 @@ fn is_authority(marker: Option<Marker>) -> bool
 /// is for others.
 fn line_authority<H: HostHasher>(
     alloc: Global,
-    line: &str,
+    line: &[u8],
     name: &str,
     hmac: &H,
 ) -> Result<Option<PublicKey>>
@@ -50,7 +50,7 @@ fn line_authority<H: HostHasher>(
 
 /// The keys of the authorities that sign the keys of a host: those of the entries
 /// `@cert-authority` for it in a text of known_hosts, as OpenSSH reads it, each with its comment,
-/// in the order of the lines (sshd(8), "SSH_KNOWN_HOSTS FILE FORMAT").
+/// or none that is not UTF-8, in the order of the lines (sshd(8), "SSH_KNOWN_HOSTS FILE FORMAT").
 ///
 /// A line that is no entry gives none, and an authority may be revoked by another line, as may the
 /// key that it certified: before a certificate is trusted, ask `key_verdict` about both keys, and
@@ -58,7 +58,7 @@ fn line_authority<H: HostHasher>(
 /// text that is empty or has comments alone.
 pub fn authorities<H: HostHasher>(
     alloc: Global,
-    text: &str,
+    text: &[u8],
     host: &str,
     port: u16,
     hmac: &H,
@@ -75,7 +75,7 @@ pub fn authorities<H: HostHasher>(
     }
     let name = known_name(alloc, host, port)?;
     let mut found = Vec::new(alloc);
-    for line in NonBlankLines::new(text) {
+    for line in NonBlankByteLines::new(text) {
         if let Some(key) = line_authority(alloc, line, name.as_str(), hmac)? {
             found.push(key)?;
         }

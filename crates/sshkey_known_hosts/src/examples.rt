@@ -1,6 +1,6 @@
 //! Worked examples of the definitions, on both sides of each edge.
 
-ghost use Rattle.sshkey_known_hosts.specs.Examples.{AuthorityLines, Blanks, BrokenLines, Hashes, LineKinds, Markers, Names, Numbers, Orders, Patterns, Severities, WrittenLines};
+ghost use Rattle.sshkey_known_hosts.specs.Examples.{AuthorityLines, Blanks, BrokenLines, Comments, Hashes, LineKinds, Markers, Names, Numbers, Orders, Patterns, Severities, WrittenLines};
 ghost use Rattle.sshkey_known_hosts.specs.HmacExamples.{Digests};
 
 /// Patterns of hosts.
@@ -36,6 +36,11 @@ pub fn orders()
 /// HMAC-SHA1.
 pub fn hmacs()
     ensures { Digests }
+{}
+
+/// Comments of any bytes.
+pub fn comments()
+    ensures { Comments }
 {}
 
 /// The more severe of two verdicts.

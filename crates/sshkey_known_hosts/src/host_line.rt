@@ -8,10 +8,11 @@ ghost use Rattle.sshkey_known_hosts.specs.HostLines.{HasNamedHosts, IsCut, IsToH
 
 use crate::host_hasher::HostHasher;
 use crate::marker::Marker;
+use crate::marker_field::{is_comment, is_without, split_marker_bytes};
 use crate::named_hosts::are_for;
-use crate::openssh::{is_comment, split_marker_field};
 use sshkey_base::{Error, Result};
-use sshkey_entries::{are_other_key_fields, read_key_fields, skip_blanks, split_blank};
+use sshkey_entries::bytes::{skip_blanks, split_blank};
+use sshkey_entries::{bytes_are_other_key_fields, read_key_bytes};
 use sshkey_public::PublicKey;
 use std::alloc::Global;
 
@@ -45,20 +46,20 @@ impl HostLine {
 #[derive(Clone, Copy)]
 enum HostCut<'a> {
     ForOthers,
-    /// The marker before hosts for the name, and the text of the key's fields after them.
-    Named(Option<Marker>, &'a str),
+    /// The marker before hosts for the name, and the key's fields after them.
+    Named(Option<Marker>, &'a [u8]),
     Unreadable,
 }
 
 /// The line, cut after its hosts. Takes no memory.
-fn cut_hosts<'a, H: HostHasher>(line: &'a str, name: &str, hmac: &H) -> HostCut<'a>
+fn cut_hosts<'a, H: HostHasher>(line: &'a [u8], name: &str, hmac: &H) -> HostCut<'a>
     ensures { IsCut (H.hmac hmac.now) name.now line.now result }
 {
-    if line.contains('\0') {
+    if !is_without(0, line) {
         return HostCut::Unreadable;
     }
     let text = skip_blanks(line);
-    let Ok((marker, unmarked)) = split_marker_field(text) else {
+    let Ok((marker, unmarked)) = split_marker_bytes(text) else {
         return HostCut::Unreadable;
     };
     let (hosts, rest) = split_blank(unmarked);
@@ -74,20 +75,20 @@ fn cut_hosts<'a, H: HostHasher>(line: &'a str, name: &str, hmac: &H) -> HostCut<
     }
 }
 
-/// What a line is to the host that its hosts name, by the text of its key's fields.
-fn read_fields(alloc: Global, marker: Option<Marker>, fields: &str) -> Result<HostLine>
+/// What a line is to the host that its hosts name, by its key's fields.
+fn read_fields(alloc: Global, marker: Option<Marker>, fields: &[u8]) -> Result<HostLine>
     ensures answer { IfOk result (λ it. (hmac : List ℕ → List ℕ → List ℕ) (name line : List ℕ) →
         HasNamedHosts hmac name line (option_map marker_of marker) fields.now →
         IsToHost hmac name line it) }
     ensures memory { IfErr result (λ e. e ≡ wide.Memory) }
 {
-    match read_key_fields(alloc, fields) {
+    match read_key_bytes(alloc, fields) {
         Ok(public_key) => Ok(HostLine::Entry { marker, public_key }),
         Err(error) => {
             if error.is_memory() {
                 return Err(Error::Memory);
             }
-            if are_other_key_fields(fields) {
+            if bytes_are_other_key_fields(fields) {
                 return Ok(HostLine::OtherKey { marker });
             }
             Ok(HostLine::Unreadable)
@@ -99,7 +100,7 @@ fn read_fields(alloc: Global, marker: Option<Marker>, fields: &str) -> Result<Ho
 /// line that is for others.
 pub(crate) fn read_host_line<H: HostHasher>(
     alloc: Global,
-    line: &str,
+    line: &[u8],
     name: &str,
     hmac: &H,
 ) -> Result<HostLine>

@@ -13,6 +13,7 @@ mod known_hosts;
 pub mod laws;
 mod made;
 mod marker;
+mod marker_field;
 mod named_hosts;
 mod openssh;
 mod unreadable;

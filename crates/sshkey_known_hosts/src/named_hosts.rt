@@ -1,15 +1,16 @@
 //! Whether hosts are for a name, told by their text, without memory.
 
-ghost use Rattle.std.specs.Prelude.{◌≡◌, ◌++◌, ◌<◌, ◌↔◌, IsTrue, length};
+ghost use Rattle.std.specs.Prelude.{◌≡◌, ◌++◌, ◌<◌, ◌↔◌, IsTrue, length, slice_index};
 ghost use Rattle.sshkey_entries.specs.HostNames.{AreForName};
 ghost use Rattle.sshkey_entries.specs.Items.{patterns};
-ghost use Rattle.sshkey_entries.specs.KnownHosts.{hashed_mark};
+ghost use Rattle.sshkey_entries.specs.KnownHosts.{bar, hashed_mark};
 ghost use Rattle.sshkey_known_hosts.specs.NamedHosts.{ReadsAll, ReadsTwenty, TellsHosts};
 
 use crate::host_hasher::HostHasher;
 use sshkey_base::Reader;
 use sshkey_base64::Base64Reader;
-use sshkey_entries::{LetterCase, matches_pattern_list, split_pattern};
+use sshkey_entries::bytes::text_of;
+use sshkey_entries::{LetterCase, bytes_match_pattern_list, split_first_pattern};
 
 /// The bytes of a salt that OpenSSH takes, and of a hash.
 const LEN: usize = 20;
@@ -52,21 +53,38 @@ fn is_hash_of<H: HostHasher>(hashed: &str, name: &str, hmac: &H) -> Option<bool>
     Some(salt.1 == LEN && hmac.hash(&salt.0, name.as_bytes()) == hash.0)
 }
 
+/// The same of any bytes.
+fn are_hash_of<H: HostHasher>(hashed: &[u8], name: &str, hmac: &H) -> Option<bool>
+    ensures { TellsHosts (H.hmac hmac.now) name.now (hashed_mark ++ hashed.now) result }
+{
+    match text_of(hashed) {
+        Some(text) => is_hash_of(text, name, hmac),
+        None => None,
+    }
+}
+
+fn begins_with_bar(text: &[u8]) -> bool
+    ensures { IsTrue result ↔ (slice_index text.now 0 ≡ bar) }
+{
+    matches!(text, [b'|', ..])
+}
+
 /// Whether the patterns are for the name.
-fn are_patterns_for(text: &str, name: &str) -> bool
+fn are_patterns_for(text: &[u8], name: &str) -> bool
     requires { 0 < length text.now }
     ensures { IsTrue result ↔ AreForName name.now (patterns text.now) }
 {
-    let (first, _) = split_pattern(text);
-    !first.starts_with('|') && matches_pattern_list(name, text, LetterCase::Insensitive)
+    let (first, _) = split_first_pattern(text);
+    !begins_with_bar(first)
+        && bytes_match_pattern_list(name.as_bytes(), text, LetterCase::Insensitive)
 }
 
 /// Whether the hosts of that text are for the name, or none if it is no text of hosts.
-pub(crate) fn are_for<H: HostHasher>(text: &str, name: &str, hmac: &H) -> Option<bool>
+pub(crate) fn are_for<H: HostHasher>(text: &[u8], name: &str, hmac: &H) -> Option<bool>
     ensures { TellsHosts (H.hmac hmac.now) name.now text.now result }
 {
-    if let Some(hashed) = text.strip_prefix("|1|") {
-        return is_hash_of(hashed, name, hmac);
+    if let Some(hashed) = text.strip_prefix(b"|1|") {
+        return are_hash_of(hashed, name, hmac);
     }
     if text.is_empty() {
         return None;

@@ -57,7 +57,7 @@ fn ends_marker(marker: Marker, after: &str) -> bool
 }
 
 /// The marker of a text, and what follows it: no second marker.
-pub(crate) fn split_marker_field(text: &str) -> Result<(Option<Marker>, &str)>
+fn split_marker_field(text: &str) -> Result<(Option<Marker>, &str)>
     ensures { SplitsMarkerField text.now result }
 {
     if !is_marked(text) {

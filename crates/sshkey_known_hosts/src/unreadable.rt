@@ -10,20 +10,19 @@ ghost use Rattle.sshkey_known_hosts.specs.UnreadableLines.{HidesEntryIn, IsNumbe
 use crate::host_hasher::HostHasher;
 use crate::host_line::read_host_line;
 use crate::host_name::known_name;
-use crate::openssh::is_comment;
 use crate::verdict::has_lines;
 use sshkey_base::Result;
-use sshkey_entries::skip_blanks;
+use sshkey_entries::bytes::{is_filled, skip_blanks, split_line};
 use std::alloc::Global;
 
 /// Whether the line is neither empty nor a comment, and no entry, and could be one for the name.
-fn hides_entry<H: HostHasher>(alloc: Global, line: &str, name: &str, hmac: &H) -> Result<bool>
+fn hides_entry<H: HostHasher>(alloc: Global, line: &[u8], name: &str, hmac: &H) -> Result<bool>
     ensures answer { IfOk result
         (λ yes. IsTrue yes ↔ HidesEntryIn (H.hmac hmac.now) name.now line.now) }
     ensures memory { IfErr result (λ e. e ≡ wide.Memory) }
 {
     let text = skip_blanks(line);
-    if text.is_empty() || is_comment(text) {
+    if !is_filled(text) {
         return Ok(false);
     }
     Ok(read_host_line(alloc, text, name, hmac)?.is_unreadable())
@@ -36,7 +35,7 @@ fn hides_entry<H: HostHasher>(alloc: Global, line: &str, name: &str, hmac: &H) -
 /// Fails only when out of memory, and never of a text that is empty or has comments alone.
 pub fn unreadable_line<H: HostHasher>(
     alloc: Global,
-    text: &str,
+    text: &[u8],
     host: &str,
     port: u16,
     hmac: &H,
@@ -51,11 +50,14 @@ pub fn unreadable_line<H: HostHasher>(
     }
     let name = known_name(alloc, host, port)?;
     let mut number = 0;
-    for line in text.lines() {
+    let mut left = text;
+    'lines: while !left.is_empty() {
+        let (line, after) = split_line(left);
         number += 1;
         if hides_entry(alloc, line, name.as_str(), hmac)? {
             return Ok(Some(number));
         }
+        left = after;
     }
     Ok(None)
 }

@@ -13,7 +13,7 @@ use crate::host_line::{HostLine, read_host_line};
 use crate::host_name::known_name;
 use crate::marker::Marker;
 use sshkey_base::Result;
-use sshkey_entries::NonBlankLines;
+use sshkey_entries::NonBlankByteLines;
 use sshkey_keys::KeyData;
 use std::alloc::Global;
 
@@ -71,7 +71,7 @@ fn marked_verdict(marker: Option<Marker>, same: bool) -> Verdict
 /// What a line says of a key of that name. Takes no memory for a line that is for others.
 fn line_verdict<H: HostHasher>(
     alloc: Global,
-    line: &str,
+    line: &[u8],
     name: &str,
     key: &KeyData,
     hmac: &H,
@@ -93,10 +93,10 @@ fn line_verdict<H: HostHasher>(
 }
 
 /// Whether the text has a line that is neither empty nor a comment.
-pub(crate) fn has_lines(text: &str) -> bool
+pub(crate) fn has_lines(text: &[u8]) -> bool
     ensures { IsTrue result ↔ (0 < length (filled_lines text.now)) }
 {
-    NonBlankLines::new(text).next().is_some()
+    NonBlankByteLines::new(text).next().is_some()
 }
 
 /// What a text of known_hosts, as OpenSSH reads it, says of a host's key (sshd(8),
@@ -107,8 +107,12 @@ pub(crate) fn has_lines(text: &str) -> bool
 /// `Unreadable`, since it could be a revocation: only where hosts stand in it that are not for this
 /// host it is passed over, and never where a zero byte stands in it, at which ssh takes the hosts
 /// to end. An entry with a key of a kind that is none here, as the `ssh-mldsa44-ed25519` of later
-/// OpenSSH, is one of another key (`sshkey_entries::are_other_key_fields`). Then an entry for the host with this key makes it `Trusted`, or else one with another
-/// key `Changed`, and else it is `Unknown`. Of authorities nothing is said here.
+/// OpenSSH, is one of another key (`sshkey_entries::are_other_key_fields`). Then an entry for the
+/// host with this key makes it `Trusted`, or else one with another key `Changed`, and else it is
+/// `Unknown`. Of authorities nothing is said here.
+///
+/// Of the bytes of a line nothing is asked: as for ssh, a comment decides nothing, whatever its
+/// encoding.
 ///
 /// It judges this text alone, and another file may revoke the key: ask about every file that
 /// counts, and join the verdicts by `Verdict::max_severity`, as `host_keys::check_key` does.
@@ -126,7 +130,7 @@ pub(crate) fn has_lines(text: &str) -> bool
 /// ```
 pub fn key_verdict<H: HostHasher>(
     alloc: Global,
-    text: &str,
+    text: &[u8],
     host: &str,
     port: u16,
     key: &KeyData,
@@ -142,7 +146,7 @@ pub fn key_verdict<H: HostHasher>(
     }
     let name = known_name(alloc, host, port)?;
     let mut found = Verdict::Unknown;
-    for line in NonBlankLines::new(text) {
+    for line in NonBlankByteLines::new(text) {
         found = found.max_severity(line_verdict(alloc, line, name.as_str(), key, hmac)?);
     }
     Ok(found)

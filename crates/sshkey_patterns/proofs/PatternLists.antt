@@ -1,8 +1,12 @@
 -- A list of patterns, one pattern after the other.
-use Rattle.std.proofs.Common.{◌≡◌, ◌⊎◌, ◌↔◌, ℕ, zero, suc, ◌<◌, List, [], ◌∷◌, length, slice_index_or, Bool, true, false, cond, IsTrue, Bor, None, Some, inl, inr, sym, ap, subst, ◌∙◌, refl, arith, ne_eqb, eqb-true, ◌==◌, ◌||◌}
-use Rattle.std.specs.List.{All, Any, slice_split, before_first, after_first}
+use Rattle.std.proofs.Common.{◌≡◌, ◌⊎◌, ◌↔◌, ℕ, zero, suc, ◌<◌, ◌+◌, List, [], ◌∷◌, ◌++◌, length, get_or, take, drop, position, slice_index_or, Bool, true, false, cond, IsTrue, Bor, None, Some, inl, inr, sym, ap, subst, ◌∙◌, refl, arith, ne_eqb, eqb-true, lt-ltb, take-append-drop, drop-cons, ◌==◌, ◌||◌}
+use Rattle.std.specs.List.{All, Any, slice_split, before_first, after_first, position_or_len}
+use Rattle.std.proofs.lemmas.Bool.{cases_lt}
+use Rattle.std.proofs.lemmas.List.{get_or-take, length-take-le}
+use Rattle.std.proofs.lemmas.List.Quantifiers.{position-Some}
+use Rattle.std.proofs.lemmas.List.Sums.{fails_before_first}
 use Rattle.std.proofs.lemmas.List.Elements.{All-nil, All-cons, All-head, All-tail, All-from_get_or}
-use Rattle.std.proofs.lemmas.List.Splits.{slice_split_none, slice_split_first, length-slice_split}
+use Rattle.std.proofs.lemmas.List.Splits.{slice_split_at, slice_split_none, slice_split_first, length-slice_split}
 use Rattle.std.proofs.lemmas.Str.Pattern.{IsSplitOnceResult, split_parts, split_once_first}
 use Rattle.sshkey_patterns.specs.Commas.{patterns, without_empty_last, is_comma}
 use Rattle.sshkey_patterns.specs.Patterns.{IsShortPattern, MatchesUnnegated, MatchesNegated}
@@ -32,6 +36,44 @@ unfolding patterns
 patterns_last list none some =
     ap without_empty_last (slice_split_none is_comma list (All-from_get_or (λ c. is_comma c ≡ false) list 0 (λ k l. ne_eqb _ 0x2c (split_parts 0x2c list None none (omega arith) k l))))
     ∙ kept_last list some
+
+-- a list is what stands before the first character that passes a test, that character, and what
+-- follows it
+module _ (is : ℕ → Bool) (c : ℕ) (only : (x : ℕ) → is x ≡ true → x ≡ c) (text : List ℕ) (n : ℕ) (at : Some n ≡ position is text) where
+  place : (n < length text) × (is (get_or text n 0) ≡ true) × ((k : ℕ) → k < n → is (get_or text k 0) ≡ false)
+  place = position-Some is text n 0 (sym at)
+
+  pub parts_at : text ≡ take n text ++ (c ∷ drop (n + 1) text)
+  parts_at =
+      let one : n + 1 ≡ suc n = omega arith in
+      sym (take-append-drop n text)
+      ∙ ap (λ (r : List ℕ). take n text ++ r) (drop-cons text n 0 place.0 ∙ ap (λ (x : ℕ). x ∷ drop (suc n) text) (only (get_or text n 0) place.1) ∙ ap (λ (k : ℕ). c ∷ drop k text) (sym one))
+
+  pub none_before : All (λ x. is x ≡ false) (take n text)
+  none_before =
+      let size : length (take n text) ≡ n = length-take-le n text (omega (arith, place.0)) in
+      All-from_get_or (λ x. is x ≡ false) (take n text) 0 (λ i l. ap is (get_or-take n text i 0 (omega (arith, l, size))) ∙ place.2 i (omega (arith, l, size)))
+
+no_place : (p : ℕ → Bool) (xs : List ℕ) → None ≡ position p xs → (k : ℕ) → k < length xs → p (get_or xs k 0) ≡ false
+no_place p xs none k l = elim (cases_lt (position_or_len p xs) (length xs)) [
+  | inl less ↦ cc (none ∙ ap (λ (b : Bool). cond b (Some (position_or_len p xs)) None) (lt-ltb _ _ less))
+  | inr above ↦ fails_before_first p xs k 0 (omega (arith, l, above))
+]
+
+pub none_there : (is : ℕ → Bool) (text : List ℕ) → None ≡ position is text → All (λ x. is x ≡ false) text
+none_there is text none = All-from_get_or (λ x. is x ≡ false) text 0 (no_place is text none)
+
+pub patterns_at : (list pattern rest : List ℕ) (n : ℕ) → Some n ≡ position is_comma list → pattern ≡ take n list → rest ≡ drop (n + 1) list → patterns list ≡ pattern ∷ patterns rest
+unfolding patterns
+patterns_at list pattern rest n at front back =
+    ap (λ (l : List ℕ). without_empty_last (slice_split is_comma l)) (parts_at is_comma 0x2c (λ x e. eqb-true x 0x2c e) list n at)
+    ∙ ap without_empty_last (slice_split_at is_comma (take n list) 0x2c (drop (n + 1) list) (none_before is_comma 0x2c (λ x e. eqb-true x 0x2c e) list n at) refl)
+    ∙ kept_first (take n list) _ (omega (arith, length-slice_split is_comma (drop (n + 1) list)))
+    ∙ (λ j. sym front j ∷ without_empty_last (slice_split is_comma (sym back j)))
+
+pub patterns_alone : (list : List ℕ) → None ≡ position is_comma list → 0 < length list → patterns list ≡ list ∷ patterns []
+unfolding patterns
+patterns_alone list none some = ap without_empty_last (slice_split_none is_comma list (none_there is_comma list none)) ∙ kept_last list some
 
 pub no_patterns_left : (list : List ℕ) (empty : Bool) → empty ≡ (length list == 0) → empty ≡ true → patterns list ≡ []
 unfolding patterns

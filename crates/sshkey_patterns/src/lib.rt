@@ -7,5 +7,6 @@ mod pattern_list;
 
 pub use pattern::{LetterCase, matches_pattern};
 pub use pattern_list::{
-    is_named_by, is_refused_by, is_short_pattern, matches_pattern_list, split_pattern,
+    bytes_match_pattern_list, is_named_by, is_refused_by, is_short_pattern, matches_pattern_list,
+    split_first_pattern, split_pattern,
 };

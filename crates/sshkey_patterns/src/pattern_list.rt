@@ -1,6 +1,6 @@
 //! Lists of patterns.
 
-ghost use Rattle.std.specs.Prelude.{◌≡◌, ◌<◌, ◌∷◌, ◌↔◌, length, slice_index, IsTrue};
+ghost use Rattle.std.specs.Prelude.{◌≡◌, ◌<◌, ◌∷◌, ◌↔◌, length, position, slice_index, IsTrue};
 ghost use Rattle.std.specs.List.{after_first, before_first};
 ghost use Rattle.sshkey_patterns.specs.Commas.{is_comma, patterns};
 ghost use Rattle.sshkey_patterns.specs.Patterns.{IsShortPattern, MatchesList, MatchesUnnegated, MatchesNegated, exclamation_mark, unmarked};
@@ -23,17 +23,60 @@ const TOO_LONG: usize = 1023;
 pub fn matches_pattern_list(text: &str, list: &str, letter_case: LetterCase) -> bool
     ensures { IsTrue result ↔ MatchesList (fold_of letter_case) list.now text.now }
 {
+    bytes_match_pattern_list(text.as_bytes(), list.as_bytes(), letter_case)
+}
+
+/// What `matches_pattern_list` says, of any bytes. Does not allocate.
+pub fn bytes_match_pattern_list(text: &[u8], list: &[u8], letter_case: LetterCase) -> bool
+    ensures { IsTrue result ↔ MatchesList (fold_of letter_case) list.now text.now }
+{
     let mut is_named = false;
     let mut rest = list;
     'patterns: while !rest.is_empty() {
-        let (pattern, more) = split_pattern(rest);
-        if !is_short_pattern(pattern) || is_refused_by(text, pattern, letter_case) {
+        let (pattern, more) = split_first_pattern(rest);
+        if !is_short(pattern) || refuses(pattern, text, letter_case) {
             return false;
         }
-        is_named |= is_named_by(text, pattern, letter_case);
+        is_named |= names(pattern, text, letter_case);
         rest = more;
     }
     is_named
+}
+
+/// A list up to its first comma, or all of it, and what follows that comma, of any bytes. Does not
+/// allocate.
+pub fn split_first_pattern(list: &[u8]) -> (&[u8], &[u8])
+    requires { 0 < length list.now }
+    ensures { patterns list.now ≡ result.0.now ∷ patterns result.1.now }
+{
+    match first_comma(list) {
+        Some(end) => (&list[..end], &list[end + 1..]),
+        None => (list, &[]),
+    }
+}
+
+fn first_comma(list: &[u8]) -> Option<usize>
+    ensures { result ≡ position is_comma list.now }
+{
+    list.iter().position(|byte| *byte == b',')
+}
+
+fn names(pattern: &[u8], text: &[u8], letter_case: LetterCase) -> bool
+    ensures { IsTrue result ↔ MatchesUnnegated (fold_of letter_case) text.now pattern.now }
+{
+    !is_negated(pattern) && is_match(text, pattern, letter_case)
+}
+
+fn refuses(pattern: &[u8], text: &[u8], letter_case: LetterCase) -> bool
+    ensures { IsTrue result ↔ MatchesNegated (fold_of letter_case) text.now pattern.now }
+{
+    is_negated(pattern) && is_match(text, unmarked(pattern), letter_case)
+}
+
+fn is_short(pattern: &[u8]) -> bool
+    ensures { IsTrue result ↔ IsShortPattern pattern.now }
+{
+    unmarked(pattern).len() < TOO_LONG
 }
 
 /// Whether the pattern, one of a list, is not negated by a `!` in front, and matches the text. Does
@@ -41,8 +84,7 @@ pub fn matches_pattern_list(text: &str, list: &str, letter_case: LetterCase) -> 
 pub fn is_named_by(text: &str, pattern: &str, letter_case: LetterCase) -> bool
     ensures { IsTrue result ↔ MatchesUnnegated (fold_of letter_case) text.now pattern.now }
 {
-    let pattern = pattern.as_bytes();
-    !is_negated(pattern) && is_match(text.as_bytes(), pattern, letter_case)
+    names(pattern.as_bytes(), text.as_bytes(), letter_case)
 }
 
 /// Whether the pattern, one of a list, is negated by a `!` in front, and what follows that matches
@@ -50,8 +92,7 @@ pub fn is_named_by(text: &str, pattern: &str, letter_case: LetterCase) -> bool
 pub fn is_refused_by(text: &str, pattern: &str, letter_case: LetterCase) -> bool
     ensures { IsTrue result ↔ MatchesNegated (fold_of letter_case) text.now pattern.now }
 {
-    let pattern = pattern.as_bytes();
-    is_negated(pattern) && is_match(text.as_bytes(), unmarked(pattern), letter_case)
+    refuses(pattern.as_bytes(), text.as_bytes(), letter_case)
 }
 
 /// A list up to its first comma, or all of it, and what follows that comma. Does not allocate.
@@ -88,5 +129,5 @@ fn unmarked(pattern: &[u8]) -> &[u8]
 pub fn is_short_pattern(pattern: &str) -> bool
     ensures { IsTrue result ↔ IsShortPattern pattern.now }
 {
-    unmarked(pattern.as_bytes()).len() < TOO_LONG
+    is_short(pattern.as_bytes())
 }

@@ -1,19 +1,24 @@
 -- A word is that of one value, whose key is copied.
 use Rattle.std.proofs.Common.{refl, ◌≡◌, ℕ, List, [], length, Bool, true, false, Result, Ok, Err, Vec, inl, sym, ap, subst, ◌∙◌, arith}
 use Rattle.std.specs.Prelude.{IfErr, IfOk, is_ok}
+use Rattle.std.specs.Str.{IsUtf8}
+use Rattle.std.proofs.lemmas.Str.{IsUtf8-from_ascii}
+use Rattle.sshkey_base.proofs.CertifiedNames.{certified_ascii}
+use Rattle.sshkey_base.proofs.Labels.{ascii}
 use Rattle.sshkey_base.specs.Answers.{Judges}
 use Rattle.sshkey_base.specs.Causes.{cause}
 use Rattle.sshkey_base.specs.declared.error.Error.{Error}
 use Rattle.sshkey_base.specs.declared.error.Error.TheVariants.{FormatEncoding, Memory}
 use Rattle.sshkey_cert.proofs.CertificateReaders.{certificates_stand}
 use Rattle.sshkey_model.specs.Formats.{Format}
+use Rattle.sshkey_entries.proofs.KeyTexts.{key_name_text, word_text}
 use Rattle.sshkey_entries.specs.Answers.{AsksEntry, ReadsEntry, RefusesFor}
 use Rattle.sshkey_model.proofs.Base64Words.{one_blob, some_word}
 use Rattle.sshkey_model.proofs.Blobs.{key_blobs}
 use Rattle.sshkey_model.proofs.CombinedReaders.{bytes_fit}
-use Rattle.sshkey_model.specs.Certificates.{Certificate}
-use Rattle.sshkey_model.specs.Keys.{Key, normal_key}
-use Rattle.sshkey_model.specs.Lines.{IsBlob}
+use Rattle.sshkey_model.specs.Certificates.{Certificate, SpellsCertificate}
+use Rattle.sshkey_model.specs.Keys.{Key, SpellsKey, key_algorithm, normal_key}
+use Rattle.sshkey_model.specs.Lines.{IsBlob, name_of_certificate}
 use Rattle.sshkey_model.specs.Parts.{flat}
 use Rattle.sshkey_model.specs.Names.{Algorithm}
 use Rattle.sshkey_model.specs.Reading.{Fault}
@@ -56,6 +61,18 @@ no_key false first key says = no_word _ key_blobs says.0 says.1.named.spelled
 pub one_said : (certified : Bool) (first word a b : List ℕ) → SaysKey certified first word a → SaysKey certified first word b → a ≡ b
 one_said true first word a b x y = x.2 ∙ ap (λ (c : Certificate). flat (normal_key c.signed.key)) (one_value _ certificates_stand.blobs word x.0 y.0 x.1.named.spelled y.1.named.spelled) ∙ sym y.2
 one_said false first word a b x y = x.2 ∙ ap (λ (k : Key). flat (normal_key k)) (one_value _ key_blobs word x.0 y.0 x.1.named.spelled y.1.named.spelled) ∙ sym y.2
+
+-- what is said of a key is said in ASCII
+certified_name_text : (c : Certificate) (blob : List ℕ) → SpellsCertificate c blob → IsUtf8 (name_of_certificate c)
+certified_name_text c blob s = IsUtf8-from_ascii (name_of_certificate c) (ascii (name_of_certificate c) (certified_ascii (key_algorithm c.signed.key) s.is.0.name))
+
+pub said_texts : (certified : Bool) (first word key : List ℕ) → SaysKey certified first word key → IsUtf8 first × IsUtf8 word
+said_texts true first word key says =
+    let named = says.1.named in
+    (subst IsUtf8 (sym named.named) (certified_name_text says.0 named.spelled.blob named.spelled.spelled), word_text SpellsCertificate word says.0 named.spelled)
+said_texts false first word key says =
+    let named = says.1.named in
+    (subst IsUtf8 (sym named.named) (key_name_text says.0 named.spelled.blob named.spelled.spelled), word_text SpellsKey word says.0 named.spelled)
 
 -- ---- a value that was read, of that name
 

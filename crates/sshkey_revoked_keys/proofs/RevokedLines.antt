@@ -1,7 +1,8 @@
 -- What a line is read as.
 use Rattle.std.proofs.Common.{◌≡◌, ℕ, ◌<◌, List, [], ◌∷◌, length, Bool, Result, Ok, Err, Vec, inl, inr, sym, ap, subst, refl, ◌∙◌, arith}
+use Rattle.std.specs.Str.{IsUtf8}
 use Rattle.std.specs.Str.Lines.{strip_carriage_return}
-use Rattle.sshkey_base.specs.declared.encoding.Error.TheVariants.{Length}
+use Rattle.sshkey_base.specs.declared.encoding.Error.TheVariants.{CharacterEncoding, Length}
 use Rattle.sshkey_base.specs.declared.error.Error.{Error}
 use Rattle.sshkey_base.specs.declared.error.Error.TheVariants.{Encoding}
 use Rattle.sshkey_entries.specs.Answers.{AsksEntry, ReadsEntry, RefusesFor}
@@ -9,12 +10,20 @@ use Rattle.sshkey_entries.specs.Cuts.{CutsField}
 use Rattle.sshkey_entries.specs.Fields.{without_blanks}
 use Rattle.sshkey_entries.proofs.FieldKeys.{fields_are}
 use Rattle.sshkey_entries.proofs.Fields.{same_field}
-use Rattle.sshkey_revoked_keys.proofs.NamedWords.{no_key, one_said}
+use Rattle.sshkey_revoked_keys.proofs.NamedWords.{no_key, one_said, said_texts}
 use Rattle.sshkey_revoked_keys.specs.NamedWords.{HasNamedFault, NeedsKey, SaysKey}
 use Rattle.sshkey_revoked_keys.specs.RevokedLines.{BeginsWithWord, HasLineFault, NeedsEntry, RevokesKey, is_certified_name}
 
 pub begins : (line name after skipped field rest word : List ℕ) → CutsField line name after → skipped ≡ without_blanks after → CutsField skipped field rest → word ≡ strip_carriage_return field → BeginsWithWord line name word
 begins line name after skipped field rest word first skips second is = record { field = field; rest = rest; fields = fields_are line name after skipped field rest first skips second; word_is = is }
+
+-- the same where the name and the word were read as texts
+pub begins_as : (line name after skipped field rest word n w : List ℕ) → CutsField line name after → skipped ≡ without_blanks after → CutsField skipped field rest → word ≡ strip_carriage_return field → n ≡ name → w ≡ word → BeginsWithWord line n w
+begins_as line name after skipped field rest word n w first skips second is same_name same_word =
+    subst (λ (t : List ℕ). BeginsWithWord line t w) (sym same_name) (begins line name after skipped field rest w first skips second (same_word ∙ is))
+
+pub some_text : (word w : List ℕ) → w ≡ word → 0 < length word → 0 < length w
+some_text word w same some = omega (arith, some, ap length same)
 
 -- A line begins with one name and one word.
 one_begin : (line n w m v : List ℕ) → BeginsWithWord line n w → BeginsWithWord line m v → (n ≡ m) × (w ≡ v)
@@ -42,7 +51,26 @@ module _ (line name word : List ℕ) (begin : BeginsWithWord line name word) whe
     pub no_word_fault : HasLineFault line (Encoding Length)
     no_word_fault = record {
       no_word = λ n b. refl;
-      no_key = λ n w b some. absurd (omega (arith, some, none, ap length (one_begin line n w name word b begin).1));
+      no_text = λ n w b some _. absurd (omega (arith, some, none, ap length (one_begin line n w name word b begin).1));
+      no_key = λ n w b some _. absurd (omega (arith, some, none, ap length (one_begin line n w name word b begin).1));
+    }
+
+  -- ---- no text
+
+  same_texts : (n w : List ℕ) → BeginsWithWord line n w → IsUtf8 n × IsUtf8 w → IsUtf8 name × IsUtf8 word
+  same_texts n w b texts =
+      let same = one_begin line n w name word b begin in
+      (subst IsUtf8 same.0 texts.0, subst IsUtf8 same.1 texts.1)
+
+  module _ (none : ¬ (IsUtf8 name × IsUtf8 word)) where
+    pub no_text_said : (key : List ℕ) → RevokesKey line key → ⊥
+    no_text_said key r = none (said_texts (is_certified_name name) name word key (said_here key r))
+
+    pub no_text_fault : 0 < length word → HasLineFault line (Encoding CharacterEncoding)
+    no_text_fault some = record {
+      no_word = λ n b. absurd (omega (arith, some, ap length (one_begin line n [] name word b begin).1));
+      no_text = λ n w b _ _. refl;
+      no_key = λ n w b _ texts. absurd (none (same_texts n w b texts));
     }
 
   -- ---- a word
@@ -52,11 +80,14 @@ module _ (line name word : List ℕ) (begin : BeginsWithWord line name word) whe
     line_reads (Ok v) says = record { name = name; word = word; begins = begin; says = subst (λ (b : Bool). SaysKey b name word v.items) (sym is) says }
     line_reads (Err e) none = λ other key r. none other key (subst (λ (b : Bool). SaysKey b name word key) is (said_here key r))
 
-    pub line_refuses : (r : Result (Vec ℕ Z) Error) → 0 < length word → RefusesFor (HasNamedFault certified name) word r → RefusesFor HasLineFault line r
-    line_refuses (Ok v) some fault = tt
-    line_refuses (Err e) some fault = λ other. record {
+    pub line_refuses : (r : Result (Vec ℕ Z) Error) → 0 < length word → IsUtf8 name × IsUtf8 word → RefusesFor (HasNamedFault certified name) word r → RefusesFor HasLineFault line r
+    line_refuses (Ok v) some texts fault = tt
+    line_refuses (Err e) some texts fault = λ other. record {
       no_word = λ n b. absurd (omega (arith, some, ap length (one_begin line n [] name word b begin).1));
-      no_key = λ n w b _.
+      no_text = λ n w b _ none.
+          let same = one_begin line name word n w begin b in
+          absurd (none (subst IsUtf8 same.0 texts.0, subst IsUtf8 same.1 texts.1));
+      no_key = λ n w b _ _.
           let same = one_begin line name word n w begin b in
           subst (λ (m : List ℕ). HasNamedFault (is_certified_name m) m w e) same.0 (subst (λ (v : List ℕ). HasNamedFault (is_certified_name name) name v e) same.1 (subst (λ (b : Bool). HasNamedFault b name word e) (sym is) (fault other)));
     }

@@ -1,6 +1,6 @@
 -- What a revocation file says (sshd_config(5), "RevokedKeys"), and what it revokes.
 use Rattle.std.specs.Global.{Global}
-use Rattle.std.specs.Prelude.{◌≡◌, ◌≢◌, ◌||◌, ℕ, List, Bool, true, eqb, bytes_eq, Result, Ok, Err, IsOkAnd, IsErrAnd, Vec}
+use Rattle.std.specs.Prelude.{◌≡◌, ◌≢◌, ◌||◌, ℕ, List, Bool, eqb, bytes_eq, Result, Ok, Err, IsOkAnd, IsErrAnd, Vec}
 use Rattle.std.specs.List.{Any, list_any, starts_with}
 use Rattle.sshkey_base.specs.Causes.{cause, Faulty, NoMemory}
 use Rattle.sshkey_base.specs.declared.error.Error.{Error}

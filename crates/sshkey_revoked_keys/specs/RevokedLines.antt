@@ -2,8 +2,9 @@
 -- "AUTHORIZED_KEYS FILE FORMAT"): a key or a certificate a line, between spaces and tabs.
 use Rattle.std.specs.Prelude.{◌≡◌, ◌⊎◌, ◌<◌, ◌==◌, ℕ, List, [], length, map, filter, Bool, is_ok}
 use Rattle.std.specs.List.{slice_split}
+use Rattle.std.specs.Str.{IsUtf8}
 use Rattle.std.specs.Str.Lines.{strip_carriage_return}
-use Rattle.sshkey_base.specs.declared.encoding.Error.TheVariants.{Length}
+use Rattle.sshkey_base.specs.declared.encoding.Error.TheVariants.{CharacterEncoding, Length}
 use Rattle.sshkey_base.specs.declared.error.Error.{Error}
 use Rattle.sshkey_base.specs.declared.error.Error.TheVariants.{Encoding}
 use Rattle.sshkey_entries.specs.Fields.{is_filled, without_blanks}
@@ -40,10 +41,12 @@ pub record RevokesKey (line key : List ℕ) : Type 0 where
 
 -- ---- refusals
 
--- `Length` where the word is missing, and else the fault of the word or the name
+-- `Length` where the word is missing, `CharacterEncoding` where it or the name is no UTF-8, and else
+-- the fault of the word or the name
 pub record HasLineFault (line : List ℕ) (e : Error) : Type 0 where
   pub no_word : (name : List ℕ) → BeginsWithWord line name [] → e ≡ Encoding Length
-  pub no_key : (name word : List ℕ) → BeginsWithWord line name word → 0 < length word → HasNamedFault (is_certified_name name) name word e
+  pub no_text : (name word : List ℕ) → BeginsWithWord line name word → 0 < length word → ¬ (IsUtf8 name × IsUtf8 word) → e ≡ Encoding CharacterEncoding
+  pub no_key : (name word : List ℕ) → BeginsWithWord line name word → 0 < length word → IsUtf8 name × IsUtf8 word → HasNamedFault (is_certified_name name) name word e
 
 -- The bytes of the word need memory.
 pub record NeedsLine (line : List ℕ) : Type 0 where

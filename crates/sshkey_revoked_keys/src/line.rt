@@ -1,7 +1,9 @@
 //! Lines of a revocation file that is a text.
 
 ghost use Rattle.std.specs.Prelude.{◌≡◌, ◌↔◌, ◌<◌, IsTrue, length, true, false, IfErr, IfOk, if◌then◌else◌, ◌∷◌};
-ghost use Rattle.std.specs.Str.Lines.{strip_carriage_return};
+ghost use Rattle.std.specs.Str.{IsUtf8};
+ghost use Rattle.sshkey_base.specs.declared.encoding.Error.TheVariants.{CharacterEncoding};
+ghost use Rattle.sshkey_base.specs.declared.error.Error.TheVariants as wide;
 ghost use Rattle.sshkey_base.specs.declared.error.Error.TheVariants.{Memory};
 ghost use Rattle.sshkey_cert.specs.CertificateValues.{certificate_of};
 ghost use Rattle.sshkey_entries.specs.Answers.{AsksEntries, AsksEntry, ReadsEntries, ReadsEntry, RefusesFor};
@@ -18,13 +20,14 @@ use openssh_limits::{
 };
 use sshkey_base::{Algorithm, Error, Result, encode_vec, encoding};
 use sshkey_cert::Certificate;
-use sshkey_entries::{skip_blanks, split_blank};
+use sshkey_entries::bytes::{first_line_end, is_filled, skip_blanks, split_blank, without_return};
 use sshkey_keys::KeyData;
 use std::alloc::Global;
+use std::str;
 
 /// The normal forms of the keys that the lines of a text revoke, in order, or the error of the
 /// first line that cannot be read.
-pub(crate) fn read_lines(alloc: Global, text: &str) -> Result<Vec<Vec<u8>>>
+pub(crate) fn read_lines(alloc: Global, text: &[u8]) -> Result<Vec<Vec<u8>>>
     ensures reads { ReadsEntries (λ key. key.items) RevokesKey HasLineFault
         (revoked_lines text.now) result }
     ensures asks { AsksEntries RevokesKey NeedsLine (revoked_lines text.now) result }
@@ -43,26 +46,20 @@ pub(crate) fn read_lines(alloc: Global, text: &str) -> Result<Vec<Vec<u8>>>
 
 /// The text up to its first line feed, without the blanks at its front, and what follows the line
 /// feed.
-fn split_line(text: &str) -> (&str, &str)
+fn split_line(text: &[u8]) -> (&[u8], &[u8])
     requires { 0 < length text.now }
     ensures lines { revoked_lines text.now ≡ (if is_filled result.0.now
         then result.0.now ∷ revoked_lines result.1.now else revoked_lines result.1.now) }
     ensures less { length result.1.now < length text.now }
 {
-    match text.split_once('\n') {
-        Some((line, rest)) => (skip_blanks(line), rest),
-        None => (skip_blanks(text), ""),
+    match first_line_end(text) {
+        Some(end) => (skip_blanks(&text[..end]), &text[end + 1..]),
+        None => (skip_blanks(text), &[]),
     }
 }
 
-fn is_filled(line: &str) -> bool
-    ensures { result ≡ is_filled line.now }
-{
-    !line.is_empty() && !line.starts_with('#')
-}
-
 /// The normal form of the key that the line revokes.
-fn read_line(alloc: Global, line: &str) -> Result<Vec<u8>>
+fn read_line(alloc: Global, line: &[u8]) -> Result<Vec<u8>>
     ensures reads { ReadsEntry (λ key. key.items) RevokesKey line.now result }
     ensures fault { RefusesFor HasLineFault line.now result }
     ensures asks { AsksEntry NeedsEntry line.now result }
@@ -73,6 +70,8 @@ fn read_line(alloc: Global, line: &str) -> Result<Vec<u8>>
     if word.is_empty() {
         return Err(Error::Encoding(encoding::Error::Length));
     }
+    let name = text_of(name)?;
+    let word = text_of(word)?;
     if names_certificate(name) {
         read_certified_key(alloc, name, word)
     } else {
@@ -80,13 +79,15 @@ fn read_line(alloc: Global, line: &str) -> Result<Vec<u8>>
     }
 }
 
-/// The text without a carriage return at its end.
-fn without_return(text: &str) -> &str
-    ensures { result.now ≡ strip_carriage_return text.now }
+/// The bytes as a text.
+fn text_of(bytes: &[u8]) -> Result<&str>
+    ensures text { IfOk result (λ text. IsUtf8 bytes.now × (text.now ≡ bytes.now)) }
+    ensures none { IfErr result
+        (λ e. (e ≡ wide.Encoding CharacterEncoding) × ¬ IsUtf8 bytes.now) }
 {
-    match text.strip_suffix('\r') {
-        Some(front) => front,
-        None => text,
+    match str::from_utf8(bytes) {
+        Ok(text) => Ok(text),
+        Err(_) => Err(Error::Encoding(encoding::Error::CharacterEncoding)),
     }
 }
 

@@ -1,9 +1,6 @@
 //! What a revocation file says.
 
-ghost use Rattle.std.specs.Prelude.{◌≡◌, ℕ, List, true, false, IsErrAnd};
-ghost use Rattle.std.specs.Str.{is_utf8};
-ghost use Rattle.sshkey_base.specs.declared.encoding.Error.TheVariants.{CharacterEncoding};
-ghost use Rattle.sshkey_base.specs.declared.error.Error.TheVariants.{Encoding};
+ghost use Rattle.std.specs.Prelude.{◌≡◌, ℕ, List, true, false};
 ghost use Rattle.sshkey_krl.specs.Krls.{krl_format};
 ghost use Rattle.sshkey_krl.specs.Revocation.{CertificateIdentity};
 ghost use Rattle.sshkey_model.specs.Reading.{whole};
@@ -12,7 +9,7 @@ ghost use Rattle.sshkey_revoked_keys.specs.declared.revoked_keys.RevokedKeys as 
 ghost use Rattle.sshkey_revoked_keys.specs.RevokedKeys.{AsksText, ReadsKrl, ReadsRevokedKeys, begins_krl, has_key};
 
 use crate::line::read_lines;
-use sshkey_base::{Error, Result, encoding};
+use sshkey_base::Result;
 use sshkey_krl::{KrlRef, Revocations};
 use std::alloc::Global;
 
@@ -36,37 +33,31 @@ pub enum RevokedKeys<'a> {
 impl<'a> RevokedKeys<'a> {
     /// Reads a file: a key revocation list if the bytes begin as one, and else a text.
     ///
-    /// A list fails as `KrlRef::from_bytes` does, and does not allocate. A text that is not UTF-8
-    /// fails with `CharacterEncoding`.
+    /// A list fails as `KrlRef::from_bytes` does, and does not allocate.
     ///
     /// Each line of a text is a key or a certificate: the name of its algorithm and its padded
     /// Base64, after which a carriage return may stand. Spaces or tabs stand between, and may stand
-    /// in front; after them anything may follow. A certificate stands for the key in it. Lines with
+    /// in front; after them any bytes may follow. A certificate stands for the key in it. Lines with
     /// nothing but spaces and tabs, and comments, which begin with `#`, are passed over.
     ///
     /// Unless memory runs out, a text fails exactly if one of its lines is none of these, with the
-    /// error of the first such line: `Length` if the Base64 is missing, the errors of
-    /// `Certificate::from_bytes` under a certificate's name and else those of `KeyData::decode`,
-    /// `Base64`, and `AlgorithmUnknown` if the name is not that of the key or the certificate.
+    /// error of the first such line: `Length` if the Base64 is missing, `CharacterEncoding` if it or
+    /// the name is not UTF-8, the errors of `Certificate::from_bytes` under a certificate's name and
+    /// else those of `KeyData::decode`, `Base64`, and `AlgorithmUnknown` if the name is not that of
+    /// the key or the certificate.
     ///
     /// `Memory` means that an allocation failed, and of a text whose first line is none of these
     /// only where reading that line needs memory.
     pub fn from_bytes(alloc: Global, bytes: &'a [u8]) -> Result<RevokedKeys<'a>>
         ensures list { begins_krl bytes.now ≡ true →
             ReadsKrl (whole krl_format.read bytes.now) bytes.now result }
-        ensures no_text { begins_krl bytes.now ≡ false → is_utf8 bytes.now ≡ false →
-            IsErrAnd result (λ e. e ≡ Encoding CharacterEncoding) }
-        ensures text { begins_krl bytes.now ≡ false → is_utf8 bytes.now ≡ true →
-            ReadsRevokedKeys bytes.now result }
+        ensures text { begins_krl bytes.now ≡ false → ReadsRevokedKeys bytes.now result }
         ensures asks { begins_krl bytes.now ≡ false → AsksText bytes.now result }
     {
         if bytes.starts_with(MAGIC) {
             return Ok(RevokedKeys::Krl(KrlRef::from_bytes(bytes)?));
         }
-        match str::from_utf8(bytes) {
-            Ok(text) => Ok(RevokedKeys::Keys(read_lines(alloc, text)?)),
-            Err(_) => Err(Error::Encoding(encoding::Error::CharacterEncoding)),
-        }
+        Ok(RevokedKeys::Keys(read_lines(alloc, bytes)?))
     }
 }
 

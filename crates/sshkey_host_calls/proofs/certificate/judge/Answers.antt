@@ -10,12 +10,12 @@ use Rattle.sshkey_host_calls.proofs.certificate.judge.Goals as goal
 
 pub returns : goal.returns
 returns c _ =
-    let reads = reads_of c.in-Ok-read.files in
+    let reads = reads_of c.in-Ok.files in
     let known = hosts.login_of c.with_texts-known.result hmac_sha1 in
-    let login : known ≡ login_of c.args.login.now = c.with_texts-known.ensures ∙ ap (login_with c.args.login.now) (ap lines_of c.deref.ensures.value ∙ c.in-Ok.ensures) in
+    let login : known ≡ login_of c.args.login.now = c.with_texts-known.ensures in
     let bytes = c.args.certificate.now in (
       reads,
-      c.in-Ok-read.ensures.read,
+      c.in-Ok.ensures.read,
       subst (λ (x : hosts.HostCheck). IsJudged (IsHostCertificate x (λ _. c.args.said.now.is_yes) (one_revokes reads) bytes) (RefusesHostCertificate x (λ _. c.args.said.now.is_yes) (one_revokes reads) bytes) (are_read reads) c.answer_status.result) login
           (judged_as (IsHostCertificate known (λ _. c.args.said.now.is_yes) (one_revokes reads) bytes) (RefusesHostCertificate known (λ _. c.args.said.now.is_yes) (one_revokes reads) bytes) (are_read reads) c.check_certificate.result c.answer_status.result c.are_read.result c.answer_status.ensures.number c.are_read.ensures c.answer_status.ensures.some c.check_certificate.ensures.exactly c.check_certificate.ensures.refused),
     )

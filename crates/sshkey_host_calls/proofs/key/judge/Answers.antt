@@ -16,7 +16,7 @@ pub returns : goal.returns
 returns c k spelled _ =
     let reads = reads_of c.in-Ok-read.files in
     let known = hosts.login_of c.with_texts-known.result hmac_sha1 in
-    let login : known ≡ login_of c.args.login.now = c.with_texts-known.ensures ∙ ap (login_with c.args.login.now) (ap lines_of c.deref.ensures.value ∙ c.in-Ok-texts.ensures) in
+    let login : known ≡ login_of c.args.login.now = c.with_texts-known.ensures in
     let one = key_blobs.one (key_of c.in-Ok.key) k (key_bytes c.args.key.now) c.in-Ok.ensures.spelled spelled in
     let why = RefusesHostKey known (one_revokes_key reads) (key_of c.in-Ok.key) in (
       reads,

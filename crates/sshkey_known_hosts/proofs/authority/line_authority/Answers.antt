@@ -11,7 +11,7 @@ returns-then-is_authority-clause-answer g c =
     let hmac = g.H.HostHasher.hmac c.args.hmac.now in
     let it = subst (IsToHost hmac c.args.name.now c.args.line.now) c.in-Entry.is c.in_ok-marker.ensures.answer in
     let l = it.0 in
-    an_authority hmac c.args.name.now c.args.line.now l.entry l.read c.in-Entry.public_key l.key_is (sym it.1)
+    an_authority hmac c.args.name.now c.args.line.now l.entry l.read c.in-Entry.public_key l.key_is it.1
     (l.marker_is ∙ authority_mark c.in-Entry.marker (sym c.is_authority.ensures ∙ c.if-is_authority.true)) l.is_for
 
 pub returns-else-is_authority-clause-answer : goal.returns-else-is_authority-clause-answer

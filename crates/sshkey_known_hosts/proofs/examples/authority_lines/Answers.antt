@@ -1,4 +1,4 @@
-use Rattle.std.proofs.Common.{◌≡◌, ℕ, List, [], ◌∷◌, None, Some, codes, inl, inr, refl, sym}
+use Rattle.std.proofs.Common.{[], ◌∷◌, None, Some, codes, inl, inr, refl, sym}
 use Rattle.sshkey_entries.specs.KnownHosts.{CertAuthority, Revoked}
 use Rattle.sshkey_public.specs.PublicKeys.{public_of}
 use Rattle.sshkey_public.specs.declared.public_key.PublicKey.{PublicKey}
@@ -19,7 +19,7 @@ returns c = λ k same comment.
     let by = host_line (Some CertAuthority) in
     let plain = host_line None in
     let gone = host_line (Some Revoked) in
-    let one = an_authority hmac_sha1 host by_line _ by k (sym same) (sym comment) refl host_fits in
+    let one = an_authority hmac_sha1 host by_line _ by k (sym same) (λ _. comment, λ _. comment) refl host_fits in
     let none = no_authority hmac_sha1 host (line None host) _ plain (inl (λ mark. cc mark)) in (
       one,
       λ nobody. nobody (public_of k) one.0,

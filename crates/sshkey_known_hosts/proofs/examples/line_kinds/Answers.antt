@@ -15,7 +15,7 @@ returns c =
     let by = host_line (Some CertAuthority) in (
       without_key,
       for_others by_line (Some CertAuthority) host after_hosts (parts (Some CertAuthority) host refl) (Patterns (patterns host)) host_is (codes "g.example") unnamed_elsewhere,
-      λ k same comment. (record { entry = record { marker = Some CertAuthority; hosts = Patterns (patterns host); key = ed25519_key; comment = [] }; read = by; marker_is = refl; key_is = sym same; is_for = host_fits }, comment),
+      λ k same comment. (record { entry = record { marker = Some CertAuthority; hosts = Patterns (patterns host); key = ed25519_key; comment = [] }; read = by; marker_is = refl; key_is = sym same; is_for = host_fits }, (λ _. comment, λ _. comment)),
       λ k entry. let mark = (same_entry hmac_sha1 host ed25519_key by_line _ by None (public_of k) entry.0).0 in cc mark,
       refl,
       refl,

@@ -1,8 +1,8 @@
-use Rattle.std.proofs.Common.{rules, ◌≡◌, ◌∙◌, arith, List, ℕ, [], ◌∷◌, ◌++◌, ap, append_assoc, length, refl, subst, sym}
+use Rattle.std.proofs.Common.{rules, ◌<◌, ◌∙◌, arith, List, ℕ, [], ◌∷◌, ◌++◌, ap, append_assoc, append-nil, eqb-true, length, refl, subst, sym}
 use Rattle.std.proofs.lemmas.List.{length-append}
-use Rattle.std.specs.Str.Iter.{lines_rest}
+use Rattle.std.specs.List.{Any}
 use Rattle.std.specs.Str.Lines.{lines}
-use Rattle.sshkey_entries.proofs.TextLines.{lines_first}
+use Rattle.sshkey_entries.proofs.ByteLines.{left_smaller, no_lines_left}
 use Rattle.sshkey_entries.specs.HostNames.{known_name}
 use Rattle.sshkey_known_hosts.proofs.UnreadableLines.{none_filled, none_more}
 use Rattle.sshkey_known_hosts.specs.UnreadableLines.{HidesEntryIn}
@@ -12,39 +12,38 @@ pub returns-then-not-has_lines-clause-answer : goal.returns-then-not-has_lines-c
 returns-then-not-has_lines-clause-answer g c =
     none_filled (g.H.HostHasher.hmac c.args.hmac.now) (known_name c.args.host.now c.args.port) c.args.text.now (λ some. cc (sym c.if-not-has_lines.true ∙ c.has_lines.ensures.1 some))
 
-pub loop-line-init : goal.loop-line-init
-loop-line-init g c =
-    let all : lines_rest c.into_iter-line-iterator.result ≡ c.args.text.now = search rules in
-    (tt, tt, ([], ap lines (sym all), λ s. omega (arith, s.2), refl, omega (arith, ap length all)))
+pub lines-init : goal.lines-init
+lines-init g c = ([], refl, λ s. omega (arith, s.2), refl, omega arith)
 
-pub loop-line-preserved : goal.loop-line-preserved
-loop-line-preserved g c =
-    let was = c.loop-line.invariant.2 in
+pub lines-preserved : goal.lines-preserved
+lines-preserved g c =
+    let was = c.lines.invariant in
     let hmac = g.H.HostHasher.hmac c.args.hmac.now in
     let name = known_name c.args.host.now c.args.port in
-    let step = c.in-Some.ensures.steps.0 in
-    let line = c.in-Some.line.now in
-    let left = lines_rest c.next.new.self in
-    let first = lines_first (lines_rest c.loop-line.line-iterator) line left step.0 step.2 in
+    let line = c.split_line.result.0.now in
+    let after = c.split_line.result.1.now in
+    let less : length after < length c.lines.left.now = left_smaller c.lines.left.now line after (search rules) c.split_line.ensures in
     let named = subst (λ (n : List ℕ). HidesEntryIn hmac n line → ⊥) (c.as_str.ensures.value ∙ c.in_ok-name.ensures.name) (λ h. cc (sym c.if-branch.false ∙ c.in_ok-hides_entry.ensures.answer.1 h)) in (
-      tt,
-      tt,
-      (
-        was.0 ++ (line ∷ []),
-        was.1 ∙ ap (λ (l : List (List ℕ)). was.0 ++ l) first ∙ sym (append_assoc was.0 (line ∷ []) (lines left)),
-        none_more (HidesEntryIn hmac name) was.0 line was.2 named,
-        omega (arith, was.3, length-append was.0 (line ∷ [])),
-        omega (arith, was.4, c.in-Some.ensures.goes.on tt),
-      ),
+      was.0 ++ (line ∷ []),
+      was.1 ∙ ap (λ (l : List (List ℕ)). was.0 ++ l) c.split_line.ensures.first ∙ sym (append_assoc was.0 (line ∷ []) (lines after)),
+      none_more (HidesEntryIn hmac name) was.0 line was.2 named,
+      omega (arith, was.3, length-append was.0 (line ∷ [])),
+      omega (arith, was.4, less),
     )
+
+pub lines-smaller : goal.lines-smaller
+lines-smaller g c = left_smaller c.lines.left.now c.split_line.result.0.now c.split_line.result.1.now (search rules) c.split_line.ensures
 
 pub returns-then-branch-clause-answer : goal.returns-then-branch-clause-answer
 returns-then-branch-clause-answer g c =
-    let was = c.loop-line.invariant.2 in
+    let was = c.lines.invariant in
     let hmac = g.H.HostHasher.hmac c.args.hmac.now in
-    let step = c.in-Some.ensures.steps.0 in
-    let line = c.in-Some.line.now in
-    let left = lines_rest c.next.new.self in
-    let first = lines_first (lines_rest c.loop-line.line-iterator) line left step.0 step.2 in
+    let line = c.split_line.result.0.now in
     let named = subst (λ (n : List ℕ). HidesEntryIn hmac n line) (c.as_str.ensures.value ∙ c.in_ok-name.ensures.name) (c.in_ok-hides_entry.ensures.answer.0 c.if-branch.true) in
-    (was.0, line, lines left, was.1 ∙ ap (λ (l : List (List ℕ)). was.0 ++ l) first, was.2, named, omega (arith, was.3))
+    (was.0, line, lines c.split_line.result.1.now, was.1 ∙ ap (λ (l : List (List ℕ)). was.0 ++ l) c.split_line.ensures.first, was.2, named, omega (arith, was.3))
+
+pub returns-clause-answer : goal.returns-clause-answer
+returns-clause-answer g c =
+    let was = c.lines.invariant in
+    let none = no_lines_left c.lines.left.now (eqb-true (length c.lines.left.now) 0 (sym c.is_empty.ensures ∙ (let h = c.lines-test.false in cc))) in
+    subst (λ (all : List (List ℕ)). Any (HidesEntryIn (g.H.HostHasher.hmac c.args.hmac.now) (known_name c.args.host.now c.args.port)) all → ⊥) (sym (was.1 ∙ ap (λ (l : List (List ℕ)). was.0 ++ l) none ∙ append-nil was.0)) was.2

@@ -1,16 +1,11 @@
 use Rattle.std.proofs.Common.{◌≡◌, ◌++◌, List, ℕ, length}
-use denote.Shadow.{shadow}
-use denote.Text.{Utf8}
 use Rattle.sshkey_entries.specs.Answers.{AreEntries}
 use Rattle.sshkey_revoked_keys.specs.RevokedLines.{RevokesKey, revoked_lines}
 use Rattle.sshkey_revoked_keys.proofs.line.read_lines.Given as goal
 
 -- the lines that were read, and those that are left
 abbrev pub invariant-lines : goal.invariant-lines
-invariant-lines l = record {
-  read : (before : List (List ℕ)) × (revoked_lines l.text ≡ before ++ revoked_lines l.rest) × AreEntries (λ key. key.items) RevokesKey before l.keys.items;
-  text : shadow (Utf8 l.rest);
-}
+invariant-lines l = (before : List (List ℕ)) × (revoked_lines l.text ≡ before ++ revoked_lines l.rest) × AreEntries (λ key. key.items) RevokesKey before l.keys.items
 
 abbrev pub decreases-lines : goal.decreases-lines
 decreases-lines l = length l.rest

@@ -1,18 +1,13 @@
 use Rattle.std.proofs.Common.{◌↔◌, length}
-use denote.Shadow.{shadow}
-use denote.Text.{Utf8}
 use Rattle.sshkey_patterns.specs.Commas.{patterns}
 use Rattle.sshkey_patterns.specs.Patterns.{MatchesList}
 use Rattle.sshkey_patterns.specs.LetterCases.{fold_of}
 use Rattle.sshkey_patterns.proofs.PatternLists.{StillListed}
-use Rattle.sshkey_patterns.proofs.pattern_list.matches_pattern_list.Given as goal
+use Rattle.sshkey_patterns.proofs.pattern_list.bytes_match_pattern_list.Given as goal
 
 -- what was found, and what is left
 abbrev pub invariant-patterns : goal.invariant-patterns
-invariant-patterns l = record {
-  same : MatchesList (fold_of l.letter_case) l.list l.text ↔ StillListed (fold_of l.letter_case) l.is_named l.text (patterns l.rest);
-  text : shadow (Utf8 l.rest);
-}
+invariant-patterns l = MatchesList (fold_of l.letter_case) l.list l.text ↔ StillListed (fold_of l.letter_case) l.is_named l.text (patterns l.rest)
 
 abbrev pub decreases-patterns : goal.decreases-patterns
 decreases-patterns l = length (patterns l.rest)

@@ -1,7 +1,7 @@
 use Rattle.std.proofs.Common.{List, subst, ℕ}
 use Rattle.sshkey_entries.specs.Cuts.{CutsField}
-use Rattle.sshkey_entry_calls.proofs.KeyLines.{begins, shorter}
-use Rattle.sshkey_entry_calls.proofs.authorities.key_fields.Goals as goal
+use Rattle.sshkey_entries.proofs.KeyTexts.{begins, shorter}
+use Rattle.sshkey_entries.proofs.bytes.key_fields.Goals as goal
 
 pub slice_bounds-result-count : goal.slice_bounds-result-count
 slice_bounds-result-count c =
