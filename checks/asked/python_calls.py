@@ -12,6 +12,7 @@ from cryptography.exceptions import UnsupportedAlgorithm
 from lib.harness import string, take
 
 from .certificate_calls import CASES, certificate_of
+from .forwards import check_forwards
 from .hosts import LATER
 from .made import MIDDLE
 from .verdicts import status_of
@@ -260,3 +261,5 @@ def check_python(count, rafendilo, maker):
     check_no_file(count, rafendilo, key, certificate)
     check_verifiers(count, rafendilo, key, certificate)
     check_authorities(count, rafendilo, authority)
+    line = "ssh-ed25519 " + base64.b64encode(authority).decode()
+    check_forwards(count, line, lambda text: rafendilo.log_in_by_keys(login_of(rafendilo, authority, b""), text))

@@ -141,6 +141,8 @@ class Status(Answer):
     LINE_PRINCIPALS = 95
     # A line may let in, and how sshd reads it cannot be told: so no other line and no other file may.
     LINE_UNCLEAR = 96
+    # The grant does not permit it.
+    NOT_PERMITTED = 97
     # The port is 0.
     NO_PORT = 100
     # The host has no bytes.
@@ -198,12 +200,8 @@ class Permits(IntFlag):
     NO_VERIFICATION = 128
     # Tunnels (tun(4)).
     TUNNELS = 256
-    # Whichever device of them.
+    # Whichever device of them; never without RAF_PERMIT_TUNNELS.
     ANY_TUNNEL = 512
-    # Ports may be forwarded to anywhere, if at all.
-    OPEN_ANYWHERE = 1024
-    # Ports may be listened at anywhere, if at all.
-    LISTEN_ANYWHERE = 2048
 
 
 class Marker(IntEnum):
@@ -274,6 +272,7 @@ WORDS = {
     Status.LINE_COMMAND: "a line with another command than the certificate's",
     Status.LINE_PRINCIPALS: "a line for nobody whom the certificate lists",
     Status.LINE_UNCLEAR: "a line that can't be told",
+    Status.NOT_PERMITTED: "the grant does not permit it",
     Status.NO_PORT: "port 0",
     Status.NO_HOST: "no host",
     Status.NO_ADDRESS: "a host that is like an address, and has no one text",
@@ -492,4 +491,6 @@ CALLS: dict[str, tuple[Any, ...]] = {
     "raf_check_principals": (
         POINTER(Login), c_char_p, c_size_t, c_char_p, c_size_t, c_uint32, POINTER(c_uint8), c_size_t, POINTER(UserGrant)
     ),
+    "raf_may_open": (POINTER(UserGrant), c_char_p, c_size_t, c_char_p, c_size_t, c_uint32),
+    "raf_may_listen": (POINTER(UserGrant), c_char_p, c_size_t, c_char_p, c_size_t, c_uint32),
 }
