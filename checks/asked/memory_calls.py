@@ -16,7 +16,7 @@ SPANS, NUMBERS = 8, 5
 # how many bytes the texts of fingerprints have, which no call tells
 TEXTS = {"fingerprint_text": 50, "fingerprint_sha512_text": 93}
 # with a room, and so with one that is too short
-ROOMS = {call for call, given in re.findall(r"^uint32_t raf_(\w+)\(([^;]*)\);", header(), re.M) if "*buffer," in given}
+ROOMS = {call for call, given in re.findall(r"^uint32_t raf_(\w+)\(([^;]*)\);", header(), re.M) if re.search(r"(?<!const )uint8_t \*buffer,", given)}
 # those that take memory only where the bytes are values, and of these those that take it only for a key under another name than
 # its own, as the header says
 OF_VALUES = {"certificate_normal", "signature_question", "key_normal", "fingerprint_sha512", "check_unrevoked_key_by_krl", "check_unrevoked_certificate_by_krl"}

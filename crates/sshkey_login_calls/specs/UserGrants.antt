@@ -1,5 +1,5 @@
 -- What a login by a line of authorized_keys is granted (sshd(8), "AUTHORIZED_KEYS FILE FORMAT").
-use Rattle.std.specs.Prelude.{◌≡◌, ℕ, ◌+◌, ◌-◌, ◌^◌, List, [], ◌∷◌, ◌++◌, length, replicate, Bool, true, false, not, ◌&&◌, is_some, Option, Some, None, codes, string_bytes}
+use Rattle.std.specs.Prelude.{◌≡◌, ℕ, ◌+◌, ◌-◌, ◌^◌, List, [], ◌∷◌, ◌++◌, length, replicate, Bool, true, false, not, ◌&&◌, is_some, Option, Some, None, codes, string_bytes, if◌then◌else◌}
 use Rattle.std.specs.Int.{to_be_bytes, w16}
 use Rattle.login_terms.specs.Terms.{Terms, terms_of}
 use Rattle.login_terms.specs.Values.{HostAndPort}
@@ -59,6 +59,10 @@ span_of (Some s) = record { first = s.first; last = s.last }
 abbrev pub or_zero : Option ℕ → ℕ
 or_zero None = 0
 or_zero (Some device) = device
+
+-- the device, where there may be tunnels and one is named
+abbrev pub tunnel_of : Terms → ℕ
+tunnel_of t = if t.permissions.tunnels then or_zero t.tunnel else 0
 
 -- ---- which certificate
 
@@ -127,7 +131,7 @@ pub record ArePlaced (g : UserGrant) (a : UserGrantParts) : Type 0 where
   pub permits : a.grant.permits ≡ permits_of (terms_of g.terms)
   pub expires : a.expires ≡ span_of (terms_of g.terms).expires
   pub line : a.line ≡ g.line
-  pub tunnel : a.tunnel ≡ or_zero (terms_of g.terms).tunnel
+  pub tunnel : a.tunnel ≡ tunnel_of (terms_of g.terms)
 
 -- the grant of nothing, which says only how many bytes are needed, or which line refuses
 abbrev pub no_grant : ℕ → ℕ → UserGrantParts

@@ -7,7 +7,7 @@ ghost use Rattle.sshkey_calls.specs.Rooms.{IsLaidOut};
 ghost use Rattle.sshkey_model.specs.Parts.{flat};
 ghost use Rattle.sshkey_model.specs.Texts.{string};
 ghost use Rattle.sshkey_login_calls.specs.Grants.{or_empty};
-ghost use Rattle.sshkey_login_calls.specs.UserGrants.{AddsPart, ArePlaced, IsBySha256, authority_of, key_id_of, no_grant, or_zero, permit_strings, permits_of, places, port_bytes, serial_of, span_of, strings, user_grant_bytes};
+ghost use Rattle.sshkey_login_calls.specs.UserGrants.{AddsPart, ArePlaced, IsBySha256, authority_of, key_id_of, no_grant, permit_strings, permits_of, places, port_bytes, serial_of, span_of, strings, tunnel_of, user_grant_bytes};
 
 use crate::grant::{
     AGENT_FORWARDING, ANY_COMMAND, GrantParts, NO_TOUCH, NO_VERIFICATION, PORT_FORWARDING, PTY,
@@ -51,7 +51,7 @@ pub struct UserGrantParts {
     pub expires: TimeSpan,
     /// The number of the line, from 1; of a refusal, that of the line by which it is refused, or 0.
     pub line: usize,
-    /// The device of tun(4), where it is not any.
+    /// The device of tun(4), where tunnels are permitted and it is not any.
     pub tunnel: u32,
 }
 
@@ -243,12 +243,12 @@ fn expires(terms: &Terms) -> TimeSpan
     }
 }
 
-/// The device of tun(4).
+/// The device of tun(4), where there may be tunnels.
 fn tunnel(terms: &Terms) -> u32
-    ensures { result ≡ or_zero (terms_of terms.now).tunnel }
+    ensures { result ≡ tunnel_of (terms_of terms.now) }
 {
     match terms.tunnel {
-        Some(device) => device,
-        None => 0,
+        Some(device) if terms.permissions.tunnels => device,
+        _ => 0,
     }
 }
