@@ -183,6 +183,7 @@ static const struct {
     {RAF_LINE_COMMAND, "a line with another command than the certificate's"},
     {RAF_LINE_PRINCIPALS, "a line for nobody whom the certificate lists"},
     {RAF_LINE_UNCLEAR, "a line that can't be told"},
+    {RAF_NOT_PERMITTED, "the grant does not permit it"},
     {RAF_NO_PORT, "port 0"},
     {RAF_NO_HOST, "no host"},
     {RAF_NO_ADDRESS, "a host that is like an address, and has no one text"},

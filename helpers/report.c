@@ -229,15 +229,6 @@ static void print_permitted(const raf_grant *grant, const uint8_t *buffer) {
   json_flag("verification_required", !(grant->permits & RAF_PERMIT_NO_VERIFICATION));
 }
 
-/* Prints where ports may be forwarded: nowhere without the permission, with the bit anywhere. */
-static void print_forwards(const char *name, uint32_t permits, uint32_t anywhere,
-                           raf_span list) {
-  static const uint8_t any[] = "\0\0\0\1*\0\0\0"; /* that host, at any port */
-  if (!(permits & RAF_PERMIT_PORT_FORWARDING)) list.length = 0;
-  else if (permits & anywhere) list = (raf_span){any, sizeof any};
-  print_places(name, list);
-}
-
 /* Prints which device of tun(4) may be had: none without the permission. */
 static void print_tunnel(const raf_user_grant *grant) {
   char number[16];
@@ -276,7 +267,6 @@ void report_certified(const report *of, const raf_grant *grant, const uint8_t *b
 }
 
 void report_grant(const report *of, const raf_user_grant *grant, const uint8_t *buffer) {
-  uint32_t permits = grant->grant.permits;
   if (!of->is_json) {
     puts("valid");
     show_grant(grant, buffer, of->certificate.length > 0);
@@ -285,10 +275,8 @@ void report_grant(const report *of, const raf_user_grant *grant, const uint8_t *
   begin_verdict(of, RAF_DONE);
   print_identity(of);
   print_permitted(&grant->grant, buffer);
-  print_forwards("forwards_to", permits, RAF_PERMIT_OPEN_ANYWHERE,
-                 text_part(buffer, grant->permit_open));
-  print_forwards("listens_at", permits, RAF_PERMIT_LISTEN_ANYWHERE,
-                 text_part(buffer, grant->permit_listen));
+  print_places("forwards_to", text_part(buffer, grant->permit_open));
+  print_places("listens_at", text_part(buffer, grant->permit_listen));
   print_tunnel(grant);
   print_strings("environment", text_part(buffer, grant->environment));
   print_second("expires", grant->expires.first);

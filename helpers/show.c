@@ -224,8 +224,11 @@ static void print_host(raf_span host) {
 }
 
 /* Prints each host and its port, which is two bytes, or none for any. */
+/* Prints where ports may be forwarded. Of anywhere the permission tells. */
 static void print_ports(const char *title, raf_span list) {
+  static const uint8_t anywhere[] = "\0\0\0\1*\0\0\0"; /* that host, at any port */
   raf_part host = {0, 0}, port = {0, 0};
+  if (list.length == sizeof anywhere && !memcmp(list.bytes, anywhere, sizeof anywhere)) return;
   for (size_t place = 0;
        raf_next_string(list.bytes, list.length, place, &host) == RAF_DONE &&
        raf_next_string(list.bytes, list.length, host.start + host.length, &port) == RAF_DONE;
@@ -300,9 +303,10 @@ void show_grant(const raf_user_grant *grant, const uint8_t *buffer, bool is_cert
   print_permitted(&grant->grant, buffer);
   print_ports("Forwards to", text_part(buffer, grant->permit_open));
   print_ports("Listens at", text_part(buffer, grant->permit_listen));
-  if (!(permits & RAF_PERMIT_ANY_TUNNEL) && grant->tunnel == SHOW_ANY_DEVICE)
+  bool is_bound = permits & RAF_PERMIT_TUNNELS && !(permits & RAF_PERMIT_ANY_TUNNEL);
+  if (is_bound && grant->tunnel == SHOW_ANY_DEVICE)
     puts("        Tunnel: any");
-  else if (!(permits & RAF_PERMIT_ANY_TUNNEL))
+  else if (is_bound)
     printf("        Tunnel: %" PRIu32 "\n", grant->tunnel);
   print_strings("Environment", text_part(buffer, grant->environment));
   print_flags(permits);

@@ -43,6 +43,7 @@ typedef struct {
   raf_login login;
   raf_host_login host;
   raf_userauth request;
+  raf_user_grant grant;
 } given_structs;
 
 #define BYTES(at) it->spans[at].bytes, it->spans[at].length
@@ -95,6 +96,8 @@ typedef struct {
        &it->user_grant)                                                                          \
   CALL(check_principals, &given->login, BYTES(6), BYTES(7), (uint32_t)it->numbers[3], ROOM,      \
        &it->user_grant)                                                                          \
+  CALL(may_open, &given->grant, BYTES(0), BYTES(1), (uint32_t)it->numbers[0])                    \
+  CALL(may_listen, &given->grant, BYTES(0), BYTES(1), (uint32_t)it->numbers[0])                  \
   CALL(check_host_key, &given->host, BYTES(2))                                                   \
   CALL(check_host_certificate, &given->host, BYTES(2), (uint32_t)it->numbers[3])                 \
   CALL(unreadable_host_line, BYTES(0), BYTES(1), PORT, &it->length)                              \
@@ -133,7 +136,8 @@ static uint32_t called(given_call *it, int filling) {
        numbers[0], (uint32_t)numbers[1], (uint32_t)numbers[2]},
       {{SEVERAL(0)}, DRAWN(1), {SEVERAL(3)}, numbers[2], (uint32_t)numbers[1], PORT},
       {DRAWN(0), DRAWN(1), DRAWN(2), DRAWN(3), DRAWN(4), DRAWN(5), (uint32_t)numbers[0],
-       (uint32_t)numbers[1]}};
+       (uint32_t)numbers[1]},
+      {.permit_open = {0, it->spans[0].length}, .permit_listen = {0, it->spans[0].length}}};
   size_t from = offsetof(given_call, length);
   memset((char *)it + from, filling, sizeof *it - from);
   if (it->room.length) memset(it->room.bytes, FILLED, it->room.length);

@@ -16,7 +16,7 @@ SPANS, NUMBERS = 8, 5
 # how many bytes the texts of fingerprints have, which no call tells
 TEXTS = {"fingerprint_text": 50, "fingerprint_sha512_text": 93}
 # with a room, and so with one that is too short
-ROOMS = {call for call, given in re.findall(r"^uint32_t raf_(\w+)\(([^;]*)\);", header(), re.M) if "*buffer," in given}
+ROOMS = {call for call, given in re.findall(r"^uint32_t raf_(\w+)\(([^;]*)\);", header(), re.M) if re.search(r"(?<!const )uint8_t \*buffer,", given)}
 # those that take memory only where the bytes are values, and of these those that take it only for a key under another name than
 # its own, as the header says
 OF_VALUES = {"certificate_normal", "signature_question", "key_normal", "fingerprint_sha512", "check_unrevoked_key_by_krl", "check_unrevoked_certificate_by_krl"}
@@ -216,6 +216,14 @@ def of_files(maker, key):
         yield "check_source_address", [b"10.0.0.0/8", address], [], wanted
         yield "check_from", [b"10.0.0.0/8", address, b""], [], wanted
     yield "check_from", [b"*,", bytes(16), b"host"], [], "FORMAT"
+    places = string(b"h") + string(bytes([0, 80])) + string(b"*") + string(b"")
+    for given, host, port, wanted in (
+        (places[:11], b"h", 80, "DONE"), (places[:11], b"h", 81, "NOT_PERMITTED"), (places, b"\xc3\xa9", 65535, "DONE"), (places, b"h", 65536, "NOT_PERMITTED"),
+        (places, b"\xff", 80, "TEXT"), (b"", b"h", 80, "NOT_PERMITTED"), (places[:10], b"h", 80, "NOT_PERMITTED"), (b"\xff" * 12, b"h", 80, "NOT_PERMITTED"),
+        (string(b"h") + string(b"P"), b"h", 80, "NOT_PERMITTED"), (string(b"h") + string(bytes(3)), b"h", 0, "NOT_PERMITTED"), (string(b"h"), b"h", 80, "NOT_PERMITTED"),
+    ):  # fmt: skip
+        yield "may_open", [given, host], [port], wanted
+        yield "may_listen", [given, host], [port], wanted
     for text, wanted in ((b"20270101Z", "DONE"), (b"20270101", "DONE"), (b"2027", "FORMAT"), (b"\xff", "TEXT")):
         yield "read_time", [text], [], wanted
     for text, wanted in ((b"h:22", "DONE"), (b"[::1]", "DONE"), (b"h:", "FORMAT"), (b"\xff", "TEXT")):

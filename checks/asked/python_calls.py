@@ -18,6 +18,7 @@ from cryptography.exceptions import UnsupportedAlgorithm
 from lib.harness import string, take
 
 from .certificate_calls import CASES, certificate_of
+from .forwards import check_forwards
 from .hosts import LATER
 from .made import MIDDLE
 from .verdicts import status_of
@@ -355,3 +356,5 @@ def check_python(count, rafendilo, maker):
     check_blobs(count, rafendilo, maker, key, certificate)
     check_help(count, rafendilo)
     check_files_of_ssh(count, rafendilo)
+    line = "ssh-ed25519 " + base64.b64encode(authority).decode()
+    check_forwards(count, line, lambda text: rafendilo.log_in_by_keys(login_of(rafendilo, authority, b""), text))

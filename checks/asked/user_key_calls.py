@@ -23,7 +23,9 @@ WHY = {91: "expired", 92: "authority", 93: "elsewhere", 94: "command", 95: "prin
 MAY = {"p": 2, "a": 4, "x": 8, "t": 1, "r": 16}
 TUNNELS, ANY_TUNNEL, NO_TOUCH, NO_VERIFICATION, ANY_COMMAND, FOREVER = 256, 512, 64, 128, 32, 2**64 - 1
 # what a line without options permits, and what restrict leaves
-ALL, RESTRICTED = 4095 - NO_TOUCH, 4095 - NO_TOUCH - 31 - TUNNELS
+ALL, RESTRICTED = 1023 - NO_TOUCH, 1023 - NO_TOUCH - 31 - TUNNELS - ANY_TUNNEL
+# the host and the port that are written where ports may be forwarded anywhere
+ANYWHERE = (b"*", b"")
 
 
 @dataclass(frozen=True)
@@ -107,11 +109,26 @@ def as_shown(answer, is_of_certificate):
     return " ".join([line, *(f"{name}={value}" for name, value in fields.items())])
 
 
+def told(answer, ours):
+    """Of an answer what the library tells: no place where forwarding is forbidden, nor that it is anywhere; and no device where `ours`,
+    the library's own answer, says that there are no tunnels."""
+    if " may=" not in answer:
+        return answer
+    line, *fields = answer.split(" ")
+    given = dict(it.split("=", 1) for it in fields)
+    given.update({it: "" for it in ("open", "listen") if "p" not in given["may"] or given[it] == "2a/*"})
+    if " tunnels=no " in ours:
+        given["tunnel"] = ""
+    return " ".join([line, *(f"{name}={value}" for name, value in given.items())])
+
+
 def check_stored(judge):
     """Nobody is let in whom a version of OpenSSH refuses, and where somebody is, the login is bound as each binds it."""
     rows = stored()[:: SAMPLED if judge.asker.is_package else 1]
     said = judge.ask("stored logins by authorized_keys and by principals", [asked_of(judge.made.rafendilo, it).words() for it, _ in rows])
     shown = [as_shown(answer, it.is_of_certificate()) for (it, _), answer in zip(rows, said)]
+    rows = [(it, [told(each, answer) for each in theirs]) for (it, theirs), answer in zip(rows, shown)]
+    shown = [told(answer, answer) for answer in shown]
     if not judge.asker.is_package:
         # as the program is judged that is asked all of them
         loaded("user-keys").judge(rows)("".join(f"{it}\n" for it in shown), judge.count)
@@ -128,7 +145,7 @@ def check_stored(judge):
 # ---- numbers
 
 
-def granted(line, permits=ALL, command=b"", opened=(), listened=(), environment=(), expires=FOREVER, tunnel=0):
+def granted(line, permits=ALL, command=b"", opened=ANYWHERE, listened=ANYWHERE, environment=(), expires=FOREVER, tunnel=0):
     """What is wanted of a plain key that a line lets in."""
     parts = (b"".join(map(string, it)) for it in (opened, listened, environment))
     return " ".join(["0", str(line), str(permits), "0", "00" * 32, word(command), "-", *map(word, parts), str(expires), str(expires), str(tunnel)])
@@ -149,9 +166,11 @@ def cases(maker):
         ("alone", own, granted(1)), ("after another", other + own, granted(2)), ("after a comment", b"# x\n\n" + own, granted(3)),
         ("with a command", line(b'command="ls -l"'), granted(1, ALL - ANY_COMMAND, b"ls -l")),
         ("with an empty command", line(b'command=""'), granted(1, ALL - ANY_COMMAND)),
-        ("restricted", line(b"restrict"), granted(1, RESTRICTED)), ("restricted, with a terminal", line(b"restrict,pty"), granted(1, RESTRICTED + 1)),
+        ("restricted", line(b"restrict"), granted(1, RESTRICTED, opened=(), listened=())),
+        ("restricted, with places", line(b'restrict,permitopen="h:80",permitlisten="80",tunnel="0"'), granted(1, RESTRICTED, opened=(), listened=())),
+        ("restricted, with a terminal", line(b"restrict,pty"), granted(1, RESTRICTED + 1, opened=(), listened=())),
         ("with places", line(b'permitopen="h:80",permitopen="[::1]:*",permitlisten="8080"'),
-         granted(1, ALL - 1024 - 2048, opened=(b"h", b"\0P", b"::1", b""), listened=(b"*", b"\x1f\x90"))),
+         granted(1, ALL, opened=(b"h", b"\0P", b"::1", b""), listened=(b"*", b"\x1f\x90"))),
         ("with variables", line(b'environment="A=b",environment="C=d e"'), granted(1, environment=(b"A=b", b"C=d e"))),
         ("with a tunnel", line(b'tunnel="7"'), granted(1, ALL - ANY_TUNNEL, tunnel=7)),
         ("with any tunnel", line(b'tunnel="any"'), granted(1, ALL - ANY_TUNNEL, tunnel=0x7FFFFFFF)),
@@ -177,14 +196,15 @@ def cases(maker):
     ):  # fmt: skip
         yield f"a key, {name}", replace(good, **changes), wanted
     # the serial number and the key id are those of ssh-keygen's words
-    of_good = f"{made.authorities.hex()} - {word(b'id')} - - - {FOREVER} {FOREVER} 0"
+    by_good, anywhere = f"{made.authorities.hex()} - {word(b'id')}", word(b"".join(map(string, ANYWHERE)))
+    of_good, of_none = (f"{by_good} {places} {places} - {FOREVER} {FOREVER} 0" for places in (anywhere, "-"))
     for name, changes, wanted in (
         ("by its authority", {}, f"0 1 {ALL} 5 {of_good}"), ("by the key's own line", dict(text=own), "90 0"), ("by a line of no authority", dict(text=by), "90 0"),
         ("for another", dict(user=b"bob"), "95 1"), ("for a name of the line", dict(user=b"bob", text=line(b'cert-authority,principals="x,alice"', by)), f"0 1 {ALL} 5 {of_good}"),
         ("for none of the line", dict(text=line(b'cert-authority,principals="x"', by)), "95 1"), ("of another key", dict(key=maker.blob("user1")), "72 0"),
         ("cut off", dict(certificate=made.certificate[:-1]), "13 0"), ("turned", dict(certificate=made.certificate[:-1] + bytes([made.certificate[-1] ^ 1])), "30 0"),
         ("too early", dict(second=0), "33 0"), ("revoked", dict(revoked=own), "56 0"), ("by a file that is none", dict(revoked=b"x"), "58 0"),
-        ("restricted", dict(text=line(b"cert-authority,restrict", by)), f"0 1 {RESTRICTED} 5 {of_good}"),
+        ("restricted", dict(text=line(b"cert-authority,restrict", by)), f"0 1 {RESTRICTED} 5 {of_none}"),
     ):  # fmt: skip
         yield f"a certificate {name}", replace(shown, **changes), wanted
     # these calls judge the address, whatever the caller says

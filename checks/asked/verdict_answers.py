@@ -17,7 +17,7 @@ class VerdictAnswers:
 
     def log_in(self, *given):
         of = self.rafendilo.log_in(self.login_of(*given))
-        command = b"" if of.force_command is None else of.force_command.encode()
+        command = b"" if of.shown_command is None else of.shown_command.encode()
         return ["0", str(int(of.permits)), str(of.serial), word(of.authority), word(command), word(of.key_id.encode())]
 
     def log_in_by_keys(self, *given):
@@ -32,7 +32,7 @@ class VerdictAnswers:
             of = call(self.login_of(*front, second, bits, judges), data_of(text), data_of(host))
         except self.rafendilo.Refused as refused:
             return [str(int(refused.status)), str(refused.line)]
-        command = b"" if of.force_command is None else of.force_command.encode()
+        command = b"" if of.shown_command is None else of.shown_command.encode()
         first, last = of.expires or [self.rafendilo.FOREVER] * 2
         parts = [self.places(of.permit_open), self.places(of.permit_listen), b"".join(map(self.rafendilo.string, of.environment))]
         words = [of.authority, command, of.key_id.encode(), *parts]
@@ -40,7 +40,7 @@ class VerdictAnswers:
 
     def places(self, found):
         """The hosts and ports as the library lays them out."""
-        pairs = [it for host, port in found or [] for it in (host, b"" if port is None else port.to_bytes(2, "big"))]
+        pairs = [it for host, port in found for it in (host, b"" if port is None else port.to_bytes(2, "big"))]
         return b"".join(map(self.rafendilo.string, pairs))
 
     def verifications(self, *given):

@@ -51,7 +51,7 @@ const (
 	// PermitUserRC permits ~/.ssh/rc to run.
 	PermitUserRC Permits = C.RAF_PERMIT_USER_RC
 	// PermitAnyCommand permits what the client asks for, or a shell. Without it
-	// Grant.ForceCommand alone may run.
+	// Grant.ShownCommand alone may run, as Grant.Runs says.
 	PermitAnyCommand Permits = C.RAF_PERMIT_ANY_COMMAND
 	// PermitNoTouch permits a signature by a security key that nobody touched.
 	PermitNoTouch Permits = C.RAF_PERMIT_NO_TOUCH
@@ -59,14 +59,9 @@ const (
 	PermitNoVerification Permits = C.RAF_PERMIT_NO_VERIFICATION
 	// PermitTunnels permits tunnels (tun(4)). It and those below are in a UserGrant alone.
 	PermitTunnels Permits = C.RAF_PERMIT_TUNNELS
-	// PermitAnyTunnel permits whichever device of them. Without it UserGrant.Tunnel is the only
-	// one.
+	// PermitAnyTunnel permits whichever device of them, and is never without PermitTunnels. With
+	// that alone UserGrant.Tunnel is the only one.
 	PermitAnyTunnel Permits = C.RAF_PERMIT_ANY_TUNNEL
-	// PermitOpenAnywhere permits ports, if they may be forwarded, to be so to anywhere. Without
-	// it UserGrant.PermitOpen has the only places.
-	PermitOpenAnywhere Permits = C.RAF_PERMIT_OPEN_ANYWHERE
-	// PermitListenAnywhere is the same of where may be listened, and of UserGrant.PermitListen.
-	PermitListenAnywhere Permits = C.RAF_PERMIT_LISTEN_ANYWHERE
 )
 
 // Has says whether all of these are permitted.
@@ -76,13 +71,23 @@ func (permits Permits) Has(these Permits) bool {
 
 // Grant is what a login is bound to. The zero value permits nothing.
 type Grant struct {
-	// ForceCommand is the one command that may run. With PermitAnyCommand there is none.
-	ForceCommand string
+	// ShownCommand is to be shown: the one command that runs, which may be empty. With
+	// PermitAnyCommand there is none. What runs is said by Runs.
+	ShownCommand string
 	Permits      Permits
 	// Serial, KeyID and Authority, the fingerprint of the key that signed, are for logs.
 	Serial    uint64
 	KeyID     string
 	Authority SHA256
+}
+
+// Runs is what runs where the client asks for that command, or for a shell (nil): the grant's
+// command, which may be empty, and else what the client asks for. The zero value runs nothing.
+func (grant Grant) Runs(asked *string) *string {
+	if grant.Permits.Has(PermitAnyCommand) {
+		return asked
+	}
+	return &grant.ShownCommand
 }
 
 // LogIn gives what the login is bound to exactly if the certificate lets the user in, as sshd does
@@ -139,7 +144,7 @@ func grantOf(asked *C.raf_login, isVerified C.uint32_t) (Grant, error) {
 
 func grantIn(data []byte, answer C.raf_grant) Grant {
 	grant := Grant{
-		ForceCommand: string(partOf(data, answer.force_command)),
+		ShownCommand: string(partOf(data, answer.force_command)),
 		Permits:      Permits(answer.permits),
 		Serial:       uint64(answer.serial),
 		KeyID:        string(partOf(data, answer.key_id)),

@@ -61,6 +61,7 @@ var meanings = map[Status]string{
 	94:  "a line with another command than the certificate's",
 	95:  "a line for nobody whom the certificate lists",
 	96:  "a line that can't be told",
+	97:  "the grant does not permit it",
 	100: "port 0",
 	101: "no host",
 	102: "a host that is like an address, and has no one text",

@@ -180,6 +180,8 @@ enum {
   RAF_LINE_UNCLEAR = 96,    /* a line may let in, and how sshd reads it cannot be told: so no other
                                line and no other file may */
 
+  RAF_NOT_PERMITTED = 97, /* the grant does not permit it */
+
   /* 100 to 102: nothing is asked about the host; the first of these */
   RAF_NO_PORT = 100,    /* the port is 0 */
   RAF_NO_HOST = 101,    /* the host has no bytes */
@@ -215,7 +217,7 @@ static inline const char *raf_status_name(uint32_t status) {
     RAF_NAMED(UNVERIFIED);
     RAF_NAMED(USER_NOT_LISTED); RAF_NAMED(LINE_EXPIRED); RAF_NAMED(LINE_OPTION);
     RAF_NAMED(LINE_ELSEWHERE); RAF_NAMED(LINE_COMMAND); RAF_NAMED(LINE_PRINCIPALS);
-    RAF_NAMED(LINE_UNCLEAR);
+    RAF_NAMED(LINE_UNCLEAR); RAF_NAMED(NOT_PERMITTED);
     RAF_NAMED(NO_PORT); RAF_NAMED(NO_HOST); RAF_NAMED(NO_ADDRESS);
     RAF_NAMED(NO_IDENTITY);
     default: return "no status";
@@ -588,16 +590,14 @@ enum {
   RAF_PERMIT_NO_TOUCH = 64,         /* a security key that nobody touched */
   RAF_PERMIT_NO_VERIFICATION = 128, /* a security key that did not verify its user */
   /* by authorized_keys alone (raf_user_grant) */
-  RAF_PERMIT_TUNNELS = 256,         /* tunnels (tun(4)) */
-  RAF_PERMIT_ANY_TUNNEL = 512,      /* whichever device of them */
-  RAF_PERMIT_OPEN_ANYWHERE = 1024,  /* ports may be forwarded to anywhere, if at all */
-  RAF_PERMIT_LISTEN_ANYWHERE = 2048 /* ports may be listened at anywhere, if at all */
+  RAF_PERMIT_TUNNELS = 256,   /* tunnels (tun(4)) */
+  RAF_PERMIT_ANY_TUNNEL = 512 /* whichever device of them; never without RAF_PERMIT_TUNNELS */
 };
 
 /* What a login may do, and by which certificate. */
 typedef struct {
-  raf_part force_command; /* the one command that may run; of no bytes with
-                             RAF_PERMIT_ANY_COMMAND */
+  raf_part force_command; /* what runs without RAF_PERMIT_ANY_COMMAND, whatever the client asks for:
+                             nothing, and no shell, where it has no bytes. With it no bytes */
   raf_part key_id;        /* a text, for logs */
   size_t length;          /* how many bytes of the buffer these take */
   uint64_t serial;        /* the certificate's */
@@ -1009,16 +1009,16 @@ uint32_t raf_host_and_port(const uint8_t *text, size_t length, raf_destination *
 typedef struct {
   raf_grant grant;        /* with the command of the line or of the certificate; of a plain key
                              key_id has no bytes, serial and authority are zero */
-  raf_part permit_open;   /* without RAF_PERMIT_OPEN_ANYWHERE the only places to which ports may be
-                             forwarded: strings (raf_next_string), two each: a host, and a port of
-                             two bytes, big-endian, or of none for any port. Hosts are compared byte
-                             by byte, and "*" is any */
-  raf_part permit_listen; /* likewise where may be listened */
+  raf_part permit_open;   /* where ports may be forwarded, which raf_may_open reads: strings
+                             (raf_next_string), two each: a host, and a port of two bytes,
+                             big-endian, or of none for any port. Where they may be forwarded
+                             anywhere it is "*" at any port, and nowhere it has no bytes */
+  raf_part permit_listen; /* likewise where may be listened, which raf_may_listen reads */
   raf_part environment;   /* strings NAME=VALUE; by its defaults sshd sets none */
   raf_time_span expires;  /* the last second at which the line counts; UINT64_MAX at any */
   size_t line;            /* the number of the line, from 1; of a refusal 91 to 96, of the line that
                              refuses */
-  uint32_t tunnel;        /* without RAF_PERMIT_ANY_TUNNEL the only device of tun(4); 0x7fffffff is
+  uint32_t tunnel;        /* with RAF_PERMIT_TUNNELS alone the only device of tun(4); 0x7fffffff is
                              the "any" that a client asks for */
 } raf_user_grant;
 
@@ -1072,6 +1072,24 @@ uint32_t raf_check_principals(const raf_login *login, const uint8_t *text,
                               size_t text_length, const uint8_t *host, size_t host_length,
                               uint32_t is_verified, uint8_t *buffer, size_t buffer_length,
                               raf_user_grant *answer);
+
+/* Whether the client may have a port forwarded to that host and port, as its request names them
+ * ("direct-tcpip" of RFC 4254, section 7.2). The grant and the buffer are those that
+ * raf_check_user_keys or raf_check_principals wrote with RAF_DONE.
+ *
+ * RAF_DONE exactly if the grant permits the forwarding of ports, there is such a port, up to
+ * 65,535, and the line has no permitopen or one for them, where "*" is any host and another is
+ * compared byte by byte; else RAF_TEXT for a host that is not UTF-8, and RAF_NOT_PERMITTED. Takes no
+ * memory. By a certificate alone (raf_grant) with RAF_PERMIT_PORT_FORWARDING all may be done. */
+uint32_t raf_may_open(const raf_user_grant *grant, const uint8_t *buffer, size_t buffer_length,
+                      const uint8_t *host, size_t host_length, uint32_t port);
+
+/* Whether it may have the server listen at that host and port ("tcpip-forward", section 7.1),
+ * likewise by permitlisten, of which a host is a pattern that the client's matches in small letters,
+ * as the request has it: "", "localhost" and "127.0.0.1" are three. Port 0, by which the server
+ * chooses one, is permitted where any port is. Takes no memory. */
+uint32_t raf_may_listen(const raf_user_grant *grant, const uint8_t *buffer, size_t buffer_length,
+                        const uint8_t *host, size_t host_length, uint32_t port);
 
 /* ---------------------------------------------------------------------------------------------- */
 

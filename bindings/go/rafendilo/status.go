@@ -152,6 +152,9 @@ const (
 	ErrLineUnclear Status = C.RAF_LINE_UNCLEAR
 )
 
+// ErrNotPermitted is for what a grant does not permit.
+const ErrNotPermitted Status = C.RAF_NOT_PERMITTED
+
 // A draft of a certificate contradicts itself.
 const (
 	// ErrPrincipals is for a draft that lists none and does not say so, or says so and lists

@@ -84,6 +84,7 @@ class Status(Answer):
     LINE_COMMAND: Its command is another than the certificate's.
     LINE_PRINCIPALS: The certificate lists nobody whom it lets in.
     LINE_UNCLEAR: A line may let in, and how sshd reads it cannot be told: so no other line and no other file may.
+    NOT_PERMITTED: The grant does not permit it.
     NO_PORT: The port is 0.
     NO_HOST: The host has no bytes.
     NO_ADDRESS: It is like an address, and is none with one text: 127.1, fe80::1%eth0.
@@ -147,6 +148,7 @@ class Status(Answer):
     LINE_COMMAND = 94
     LINE_PRINCIPALS = 95
     LINE_UNCLEAR = 96
+    NOT_PERMITTED = 97
     NO_PORT = 100
     NO_HOST = 101
     NO_ADDRESS = 102
@@ -192,9 +194,7 @@ class Permits(IntFlag):
     NO_TOUCH: A security key that nobody touched.
     NO_VERIFICATION: A security key that did not verify its user.
     TUNNELS: Tunnels (tun(4)).
-    ANY_TUNNEL: Whichever device of them.
-    OPEN_ANYWHERE: Ports may be forwarded to anywhere, if at all.
-    LISTEN_ANYWHERE: Ports may be listened at anywhere, if at all.
+    ANY_TUNNEL: Whichever device of them; never without RAF_PERMIT_TUNNELS.
     """
     PTY = 1
     PORT_FORWARDING = 2
@@ -206,8 +206,6 @@ class Permits(IntFlag):
     NO_VERIFICATION = 128
     TUNNELS = 256
     ANY_TUNNEL = 512
-    OPEN_ANYWHERE = 1024
-    LISTEN_ANYWHERE = 2048
 
 
 class Marker(IntEnum):
@@ -278,6 +276,7 @@ WORDS = {
     Status.LINE_COMMAND: "a line with another command than the certificate's",
     Status.LINE_PRINCIPALS: "a line for nobody whom the certificate lists",
     Status.LINE_UNCLEAR: "a line that can't be told",
+    Status.NOT_PERMITTED: "the grant does not permit it",
     Status.NO_PORT: "port 0",
     Status.NO_HOST: "no host",
     Status.NO_ADDRESS: "a host that is like an address, and has no one text",
@@ -503,4 +502,6 @@ CALLS: dict[str, tuple[Any, ...]] = {
     "raf_check_principals": (
         POINTER(Login), c_char_p, c_size_t, c_char_p, c_size_t, c_uint32, POINTER(c_uint8), c_size_t, POINTER(UserGrant)
     ),
+    "raf_may_open": (POINTER(UserGrant), c_char_p, c_size_t, c_char_p, c_size_t, c_uint32),
+    "raf_may_listen": (POINTER(UserGrant), c_char_p, c_size_t, c_char_p, c_size_t, c_uint32),
 }

@@ -9,8 +9,8 @@ from typing import Any
 from . import _header
 from ._addresses import Address, packed
 from ._certificates import is_certified
-from ._header import FOREVER, Permits
-from ._keys import question_of, strings
+from ._header import FOREVER, Permits, Status
+from ._keys import question_of, string, strings
 from ._library import LIBRARY, ask, bytes_of, digests_of, number_of, parts_of, span_of, spans_of, text_of
 from ._named import names_blobs
 from ._values import BytesLike, Refused
@@ -52,17 +52,22 @@ class Grant:
     """What a login is bound to.
 
     permits: what it may do, and what it need not
-    force_command: the one command that may run; None with Permits.ANY_COMMAND
+    shown_command: to be shown: the one command that runs; None with Permits.ANY_COMMAND. What runs is said by runs
     serial: the certificate's
     key_id: the certificate's, for logs: a text of the authority's
     authority: the fingerprint of the key that signed it
     """
 
     permits: Permits
-    force_command: str | None
+    shown_command: str | None
     serial: int
     key_id: str
     authority: bytes
+
+    def runs(self, asked: str | None) -> str | None:
+        """What runs where the client asks for that command, or for a shell (None): the grant's command, which may be empty, and else
+        what the client asks for. None is a shell."""
+        return asked if Permits.ANY_COMMAND in self.permits else self.shown_command or ""
 
 
 @names_blobs
@@ -108,20 +113,35 @@ class UserGrant(Grant):
     """What a login by a line of authorized_keys is bound to. Of a plain key serial and authority are zero, and key_id is empty.
 
     line: the number of the line, from 1
-    permit_open: the hosts and ports to which ports may be forwarded alone; None: to any. Hosts are compared byte by byte, and "*" is
-        any
-    permit_listen: likewise where may be listened
+    permit_open: to be shown: the hosts and ports to which ports may be forwarded; "*" and None where it is any. may_open reads them
+    permit_listen: likewise where may be listened, which may_listen reads
     environment: NAME=VALUE each; by its defaults sshd sets none
     expires: the first and the last second that may be the last at which the line counts; None: at any
-    tunnel: the only device of tun(4); None with Permits.ANY_TUNNEL
+    tunnel: the only device of tun(4); None with Permits.ANY_TUNNEL, and without Permits.TUNNELS
     """
 
     line: int
-    permit_open: list[tuple[str, int | None]] | None
-    permit_listen: list[tuple[str, int | None]] | None
+    permit_open: list[tuple[str, int | None]]
+    permit_listen: list[tuple[str, int | None]]
     environment: list[str]
     expires: tuple[int, int] | None
     tunnel: int | None
+
+    def may_open(self, host: str | BytesLike, port: int) -> bool:
+        """Whether the client may have a port forwarded to that host and port, as its request names them ("direct-tcpip"). Raises
+        ValueError for a number that is no port's field."""
+        buffer, length = bytes_of(_places_in(self.permit_open))
+        grant = _header.UserGrant(permit_open=_header.Part(0, length))
+        answer: int = LIBRARY.raf_may_open(ctypes.byref(grant), buffer, length, *text_of(host), number_of(port, 32))
+        return answer == Status.DONE
+
+    def may_listen(self, host: str | BytesLike, port: int) -> bool:
+        """Whether it may have the server listen at that host and port, likewise ("tcpip-forward"). As the request has them, "",
+        "localhost" and "127.0.0.1" are three hosts; port 0 is permitted where any port is."""
+        buffer, length = bytes_of(_places_in(self.permit_listen))
+        grant = _header.UserGrant(permit_listen=_header.Part(0, length))
+        answer: int = LIBRARY.raf_may_listen(ctypes.byref(grant), buffer, length, *text_of(host), number_of(port, 32))
+        return answer == Status.DONE
 
 
 class _Answer(_header.UserGrant):
@@ -176,12 +196,16 @@ def _user_grant_of(answer: _Answer, buffer: bytes) -> UserGrant:
     expires = answer.expires.first, answer.expires.last
     return UserGrant(
         **vars(grant), line=answer.line, environment=[it.decode() for it in environment],
-        permit_open=None if Permits.OPEN_ANYWHERE in permits else _places_of(to_open),
-        permit_listen=None if Permits.LISTEN_ANYWHERE in permits else _places_of(to_listen),
-        expires=None if expires[0] == FOREVER else expires, tunnel=None if Permits.ANY_TUNNEL in permits else answer.tunnel,
+        permit_open=_places_of(to_open), permit_listen=_places_of(to_listen), expires=None if expires[0] == FOREVER else expires,
+        tunnel=answer.tunnel if Permits.TUNNELS in permits and Permits.ANY_TUNNEL not in permits else None,
     )  # fmt: skip
 
 
 def _places_of(found: list[bytes]) -> list[tuple[str, int | None]]:
     """Hosts and ports, which stand one after the other. A port of no bytes is any."""
     return [(host.decode(), int.from_bytes(port, "big") if port else None) for host, port in zip(found[::2], found[1::2])]
+
+
+def _places_in(places: Iterable[tuple[str, int | None]]) -> bytes:
+    """The bytes that these are."""
+    return b"".join(string(host) + string(b"" if port is None else number_of(port, 16).to_bytes(2, "big")) for host, port in places)

@@ -45,9 +45,9 @@ pub struct Login<'a> {
 #[derive(Clone, Debug, PartialEq, Eq)]
 #[must_use = "a login is bound to what its grant says"]
 pub struct Grant {
-    /// The one command that may run, whatever the client asks for. Where there is none, the client
-    /// has the command that it asks for, or a shell ([`Permits::ANY_COMMAND`]).
-    pub force_command: Option<String>,
+    /// To be shown: the one command that runs, which may be empty, or none
+    /// ([`Permits::ANY_COMMAND`]). What runs is said by [`Grant::runs`].
+    pub shown_command: Option<String>,
     /// What the login may do, and what its signature by a security key may lack.
     pub permits: Permits,
     /// The certificate's serial number, by which it can be revoked; 0 is none.
@@ -56,6 +56,19 @@ pub struct Grant {
     pub key_id: String,
     /// The fingerprint of the authority's key.
     pub authority: Sha256,
+}
+
+impl Grant {
+    /// What runs where the client asks for that command, or for a shell (none): the grant's
+    /// command, which may be empty, and else what the client asks for. Where that is none, it is a
+    /// shell.
+    #[must_use]
+    pub fn runs<'a>(&'a self, asked: Option<&'a str>) -> Option<&'a str> {
+        if self.permits.contains(Permits::ANY_COMMAND) {
+            return asked;
+        }
+        Some(self.shown_command.as_deref().unwrap_or_default())
+    }
 }
 
 /// Lets the user in whom the certificate names, as sshd(8) does or more strictly: the certificate
@@ -105,7 +118,7 @@ pub(crate) fn grant_in(buffer: &[u8], found: &raw::Grant) -> Result<Grant, Statu
     let permits = Permits::from_bits(found.permits);
     let command = text(found.force_command.of(buffer))?;
     Ok(Grant {
-        force_command: (!permits.contains(Permits::ANY_COMMAND)).then(|| command.into()),
+        shown_command: (!permits.contains(Permits::ANY_COMMAND)).then(|| command.into()),
         permits,
         serial: found.serial,
         key_id: text(found.key_id.of(buffer))?.into(),

@@ -27,12 +27,8 @@ impl Permits {
     pub const NO_VERIFICATION: Permits = Permits(raw::PERMIT_NO_VERIFICATION);
     /// Tunnels (tun(4)). It and those below are in a [`UserGrant`](crate::UserGrant) alone.
     pub const TUNNELS: Permits = Permits(raw::PERMIT_TUNNELS);
-    /// Whichever device of them.
+    /// Whichever device of them; never without them.
     pub const ANY_TUNNEL: Permits = Permits(raw::PERMIT_ANY_TUNNEL);
-    /// Ports, if they may be forwarded, to anywhere.
-    pub const OPEN_ANYWHERE: Permits = Permits(raw::PERMIT_OPEN_ANYWHERE);
-    /// Ports, if they may be forwarded, from wherever may be listened.
-    pub const LISTEN_ANYWHERE: Permits = Permits(raw::PERMIT_LISTEN_ANYWHERE);
 
     /// What those bits permit, which are `RAF_PERMIT_*` of rafendilo.h.
     #[must_use]

@@ -82,14 +82,8 @@ pub const PERMIT_NO_VERIFICATION: u32 = 128;
 /// `RAF_PERMIT_TUNNELS`. Tunnels (tun(4)).
 pub const PERMIT_TUNNELS: u32 = 256;
 
-/// `RAF_PERMIT_ANY_TUNNEL`. Whichever device of them.
+/// `RAF_PERMIT_ANY_TUNNEL`. Whichever device of them; never without RAF_PERMIT_TUNNELS.
 pub const PERMIT_ANY_TUNNEL: u32 = 512;
-
-/// `RAF_PERMIT_OPEN_ANYWHERE`. Ports may be forwarded to anywhere, if at all.
-pub const PERMIT_OPEN_ANYWHERE: u32 = 1024;
-
-/// `RAF_PERMIT_LISTEN_ANYWHERE`. Ports may be listened at anywhere, if at all.
-pub const PERMIT_LISTEN_ANYWHERE: u32 = 2048;
 
 /// `RAF_MARKER_NONE`.
 pub const MARKER_NONE: u32 = 0;
@@ -224,6 +218,8 @@ statuses! {
     /// A line may let in, and how sshd reads it cannot be told: so no other line and no other file
     /// may.
     LINE_UNCLEAR = 96, "a line that can't be told";
+    /// The grant does not permit it.
+    NOT_PERMITTED = 97, "the grant does not permit it";
     /// The port is 0.
     NO_PORT = 100, "port 0";
     /// The host has no bytes.
@@ -388,7 +384,8 @@ pub(crate) struct Login<'a> {
 #[repr(C)]
 #[derive(Clone, Copy, Debug, Default)]
 pub(crate) struct Grant {
-    /// The one command that may run; of no bytes with RAF_PERMIT_ANY_COMMAND.
+    /// What runs without RAF_PERMIT_ANY_COMMAND, whatever the client asks for: nothing, and no
+    /// shell, where it has no bytes.
     pub force_command: Part,
     /// A text, for logs.
     pub key_id: Part,
@@ -501,11 +498,10 @@ pub(crate) struct UserGrant {
     /// With the command of the line or of the certificate; of a plain key key_id has no bytes,
     /// serial and authority are zero.
     pub grant: Grant,
-    /// Without RAF_PERMIT_OPEN_ANYWHERE the only places to which ports may be forwarded: strings
-    /// (raf_next_string), two each: a host, and a port of two bytes, big-endian, or of none for any
-    /// port.
+    /// Where ports may be forwarded, which raf_may_open reads: strings (raf_next_string), two each:
+    /// a host, and a port of two bytes, big-endian, or of none for any port.
     pub permit_open: Part,
-    /// Likewise where may be listened.
+    /// Likewise where may be listened, which raf_may_listen reads.
     pub permit_listen: Part,
     /// Strings NAME=VALUE; by its defaults sshd sets none.
     pub environment: Part,
@@ -513,7 +509,7 @@ pub(crate) struct UserGrant {
     pub expires: TimeSpan,
     /// The number of the line, from 1; of a refusal 91 to 96, of the line that refuses.
     pub line: usize,
-    /// Without RAF_PERMIT_ANY_TUNNEL the only device of tun(4); 0x7fffffff is the "any" that a
+    /// With RAF_PERMIT_TUNNELS alone the only device of tun(4); 0x7fffffff is the "any" that a
     /// client asks for.
     pub tunnel: u32,
 }
@@ -631,4 +627,6 @@ calls! {
         login: &Login<'_>, text: &[u8], host: &[u8], is_verified: u32, buffer: &mut [u8],
         answer: &mut UserGrant
     );
+    fn raf_may_open(grant: &UserGrant, buffer: &[u8], host: &[u8], port: u32);
+    fn raf_may_listen(grant: &UserGrant, buffer: &[u8], host: &[u8], port: u32);
 }

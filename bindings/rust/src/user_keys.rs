@@ -10,12 +10,13 @@ use crate::permits::Permits;
 use crate::questions::{decide, Question};
 use crate::raw;
 use crate::status::Status;
-use crate::strings::strings;
+use crate::strings::{string, strings};
 
 /// A host and a port.
 #[derive(Clone, Debug, PartialEq, Eq)]
 pub struct Place {
-    /// The host, without brackets, to be compared byte by byte; `*` is any.
+    /// The host, without brackets; `*` is any. What else stands for a host, [`UserGrant::may_open`]
+    /// and [`UserGrant::may_listen`] say.
     pub host: String,
     /// The port, or any.
     pub port: Option<u16>,
@@ -30,16 +31,53 @@ pub struct UserGrant {
     pub grant: Grant,
     /// The number of the line, from 1.
     pub line: usize,
-    /// The only places to which ports may be forwarded, or any ([`Permits::OPEN_ANYWHERE`]).
-    pub permit_open: Option<Vec<Place>>,
-    /// The only places where may be listened, or any ([`Permits::LISTEN_ANYWHERE`]).
-    pub permit_listen: Option<Vec<Place>>,
+    /// To be shown: where ports may be forwarded to, `*` at any port where it is anywhere.
+    /// [`UserGrant::may_open`] reads them.
+    pub permit_open: Vec<Place>,
+    /// Likewise where may be listened, which [`UserGrant::may_listen`] reads.
+    pub permit_listen: Vec<Place>,
     /// `NAME=VALUE` each. By its defaults sshd sets none.
     pub environment: Vec<String>,
     /// The seconds since 1970 that may be the last at which the line counts, if it has one.
     pub expires: Option<RangeInclusive<u64>>,
-    /// The only device of tun(4), or any ([`Permits::ANY_TUNNEL`]).
+    /// The only device of tun(4); none with [`Permits::ANY_TUNNEL`], or without
+    /// [`Permits::TUNNELS`].
     pub tunnel: Option<u32>,
+}
+
+impl UserGrant {
+    /// Whether the client may have a port forwarded to that host and port, as its request names
+    /// them (`direct-tcpip`).
+    #[must_use]
+    pub fn may_open(&self, host: impl AsRef<[u8]>, port: u32) -> bool {
+        let buffer = bytes_of(&self.permit_open);
+        let mut grant = raw::UserGrant::default();
+        grant.permit_open.length = buffer.len();
+        Status::of(raw::raf_may_open(&grant, &buffer, host.as_ref(), port)).is_ok()
+    }
+
+    /// Whether the client may have the server listen at that host and port, likewise
+    /// (`tcpip-forward`). As the request has them, the empty host, `localhost` and `127.0.0.1` are
+    /// three. Port 0, by which the server chooses one, is permitted where any port is.
+    #[must_use]
+    pub fn may_listen(&self, host: impl AsRef<[u8]>, port: u32) -> bool {
+        let buffer = bytes_of(&self.permit_listen);
+        let mut grant = raw::UserGrant::default();
+        grant.permit_listen.length = buffer.len();
+        Status::of(raw::raf_may_listen(&grant, &buffer, host.as_ref(), port)).is_ok()
+    }
+}
+
+/// The places as strings, one after the other.
+fn bytes_of(places: &[Place]) -> Vec<u8> {
+    let mut bytes = Vec::new();
+    for place in places {
+        let port = place.port.map(u16::to_be_bytes);
+        for content in [place.host.as_bytes(), port.as_ref().map_or(&[][..], |it| &it[..])] {
+            bytes.extend(string(content).unwrap_or_default());
+        }
+    }
+    bytes
 }
 
 /// Why authorized_keys or a file of principals lets nobody in.
@@ -144,21 +182,18 @@ fn log_in_by(
 /// The grant that a verdict has written to that buffer.
 fn user_grant_in(buffer: &[u8], found: &raw::UserGrant) -> Result<UserGrant, Status> {
     let grant = grant_in(buffer, &found.grant)?;
-    let bound = |any| (!grant.permits.contains(any)).then_some(());
+    let is_bound =
+        grant.permits.contains(Permits::TUNNELS) && !grant.permits.contains(Permits::ANY_TUNNEL);
     Ok(UserGrant {
         line: found.line,
-        permit_open: bound(Permits::OPEN_ANYWHERE)
-            .map(|()| places(found.permit_open.of(buffer)))
-            .transpose()?,
-        permit_listen: bound(Permits::LISTEN_ANYWHERE)
-            .map(|()| places(found.permit_listen.of(buffer)))
-            .transpose()?,
+        permit_open: places(found.permit_open.of(buffer))?,
+        permit_listen: places(found.permit_listen.of(buffer))?,
         environment: strings(found.environment.of(buffer))
             .map(|it| Ok(text(it?)?.into()))
             .collect::<Result<_, Status>>()?,
         expires: (found.expires.first != u64::MAX)
             .then_some(found.expires.first..=found.expires.last),
-        tunnel: bound(Permits::ANY_TUNNEL).map(|()| found.tunnel),
+        tunnel: is_bound.then_some(found.tunnel),
         grant,
     })
 }

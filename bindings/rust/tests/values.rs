@@ -1,6 +1,9 @@
 //! What the questions of checks/bindings can't ask.
 
-use rafendilo::{Authorities, Draft, HostLogin, Listed, Permits, Question, Status};
+use rafendilo::{
+    Authorities, Draft, Grant, HostLogin, Listed, Permits, Place, Question, Sha256, Status,
+    UserGrant,
+};
 
 /// Strings, one after the other (RFC 4251, section 5).
 fn strings(parts: &[&[u8]]) -> Vec<u8> {
@@ -82,4 +85,33 @@ fn permits_are_sets() {
     assert!(both.contains(Permits::PTY) && both.contains(both));
     assert!(!Permits::PTY.contains(both) && !Permits::default().contains(Permits::PTY));
     assert_eq!(both.bits(), 65);
+}
+
+#[test]
+fn a_grant_says_where_ports_may_be_forwarded_and_what_runs() {
+    let forced = Grant {
+        shown_command: Some(String::new()),
+        permits: Permits::PORT_FORWARDING,
+        serial: 0,
+        key_id: String::new(),
+        authority: Sha256 { bytes: [0; 32] },
+    };
+    let grant = UserGrant {
+        grant: forced.clone(),
+        line: 1,
+        permit_open: vec![Place { host: "db".into(), port: Some(5432) }],
+        permit_listen: vec![Place { host: "*".into(), port: None }],
+        environment: Vec::new(),
+        expires: None,
+        tunnel: None,
+    };
+    assert!(grant.may_open("db", 5432));
+    assert!(!grant.may_open("DB", 5432));
+    assert!(!grant.may_open("db", 5433));
+    assert!(grant.may_listen("", 0));
+    assert!(!grant.may_listen("h", 65536));
+    assert!(!UserGrant { permit_open: Vec::new(), ..grant }.may_open("db", 5432));
+    assert_eq!((forced.runs(Some("ls")), forced.runs(None)), (Some(""), Some("")));
+    let free = Grant { permits: Permits::ANY_COMMAND, shown_command: None, ..forced };
+    assert_eq!((free.runs(Some("ls")), free.runs(None)), (Some("ls"), None));
 }

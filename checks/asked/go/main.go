@@ -391,7 +391,7 @@ func userGrant(grant rafendilo.UserGrant, err error) string {
 		return numberOf(err) + " " + strconv.Itoa(grant.Line)
 	}
 	parts := [][]byte{
-		grant.Authority[:], []byte(grant.ForceCommand), []byte(grant.KeyID), places(grant.PermitOpen),
+		grant.Authority[:], []byte(grant.ShownCommand), []byte(grant.KeyID), places(grant.PermitOpen),
 		places(grant.PermitListen), stringsOf(grant.Environment...),
 	}
 	return strings.Join([]string{
@@ -429,7 +429,7 @@ func places(all []rafendilo.Place) []byte {
 func logIn(of []string) ([]string, error) {
 	grant, err := rafendilo.LogIn(loginOf(of, of[6:]))
 	numbers := fmt.Sprint(uint32(grant.Permits), grant.Serial)
-	return []string{numbers, word(grant.Authority[:]), word(grant.ForceCommand), word(grant.KeyID)}, err
+	return []string{numbers, word(grant.Authority[:]), word(grant.ShownCommand), word(grant.KeyID)}, err
 }
 
 func hostLogin(of []string) rafendilo.HostLogin {

@@ -135,7 +135,7 @@ fn with_login<T>(given: &[&str], numbers: &[&str], say: impl FnOnce(&Login<'_>) 
 
 fn log_in(given: &[&str]) -> Answer {
     let grant = with_login(given, &given[6..], |login| rafendilo::log_in(login, is_signature))?;
-    let command = grant.force_command.as_deref();
+    let command = grant.shown_command.as_deref();
     assert_eq!(command.is_none(), grant.permits.contains(Permits::ANY_COMMAND));
     let numbers = [u64::from(grant.permits.bits()), grant.serial].map(|it| it.to_string());
     let texts = [command.unwrap_or_default(), &grant.key_id].map(word);
@@ -164,10 +164,10 @@ fn user_grant(said: Result<UserGrant, Denial>) -> Answer {
     let numbers = [found.line as u64, u64::from(grant.permits.bits()), grant.serial];
     let texts = [
         word(grant.authority.bytes),
-        word(grant.force_command.unwrap_or_default()),
+        word(grant.shown_command.unwrap_or_default()),
         word(&grant.key_id),
-        places(&found.permit_open.unwrap_or_default()),
-        places(&found.permit_listen.unwrap_or_default()),
+        places(&found.permit_open),
+        places(&found.permit_listen),
         word(found.environment.iter().flat_map(|it| string(it)).collect::<Vec<u8>>()),
     ];
     let ends = [first, last, u64::from(found.tunnel.unwrap_or(0))];

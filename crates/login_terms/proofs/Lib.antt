@@ -4,3 +4,5 @@ mod Hosts
 mod OneHost
 mod VariableNames
 mod Variables
+mod SmallLetters
+mod Asked

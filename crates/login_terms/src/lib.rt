@@ -3,14 +3,17 @@
 #![tactic(auto)]
 
 pub mod examples;
+mod matching;
 mod numbers;
 mod options;
 mod permissions;
 mod permits;
+mod questions;
 mod terms;
 mod values;
 mod words;
 
+pub use matching::{listens, opens};
 pub use permissions::Permissions;
 pub use permits::Permit;
 pub use sshkey_entries::Reading;

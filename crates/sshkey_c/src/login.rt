@@ -1,20 +1,24 @@
 //! Who is let in.
 
-ghost use Rattle.std.specs.Prelude.{◌≡◌, ◌≢◌, Err};
+ghost use Rattle.std.specs.Prelude.{◌≡◌, ◌≢◌, ◌⊎◌, ◌↔◌, Err};
 ghost use Rattle.std.specs.Str.{IsUtf8};
+ghost use Rattle.login_terms.specs.Questions.{MayListen, MayOpen};
+ghost use Rattle.login_terms.specs.Terms.{Terms};
 ghost use Rattle.sshkey_base.specs.Acceptance.{SpellsSome};
 ghost use Rattle.sshkey_calls.specs.Numbers.{fault_number};
 ghost use Rattle.sshkey_model.specs.Keys.{SpellsKey, key_data_at};
+ghost use Rattle.sshkey_login_calls.specs.Forwarding.{HasPlaces};
 ghost use Rattle.sshkey_login_calls.specs.Grants.{TellsGrant};
 ghost use Rattle.sshkey_login_calls.specs.Logins.{TellsLogin};
 ghost use Rattle.sshkey_login_calls.specs.Questions.{TellsLoginQuestion};
+ghost use Rattle.sshkey_login_calls.specs.UserGrants.{to_listen, to_open};
 ghost use Rattle.sshkey_login_calls.specs.UserKeys.{AreTexts, IsDenied, TellsPrincipals, TellsUser};
 ghost use Rattle.sshkey_model.specs.Reading.{Fault, whole};
 
 use sshkey_calls::Question;
 use sshkey_login_calls::{
     GrantParts, LoginRequest, UserGrantParts, check_login, check_principals, check_user_keys,
-    login_question,
+    login_question, may_listen, may_open,
 };
 use std::alloc::Global;
 
@@ -109,4 +113,28 @@ pub extern "C" fn raf_check_principals(
         × SpellsSome SpellsKey login.now.key.now }
 {
     check_principals(alloc, login, text, host, is_verified, room, answer)
+}
+
+/// Whether the client may have a port forwarded there: `sshkey_login_calls::may_open`.
+#[unsafe(no_mangle)]
+pub extern "C" fn raf_may_open(grant: &UserGrantParts, room: &[u8], host: &[u8], port: u32) -> u32
+    ensures answer { IsUtf8 host.now → (t : Terms)
+        → HasPlaces (to_open t) grant.now.permit_open room.now
+        → (result ≡ 0) ↔ MayOpen t host.now port }
+    ensures number { (result ≡ 0) ⊎ (result ≡ 4) ⊎ (result ≡ 97) }
+    ensures text { result ≡ 4 ↔ (IsUtf8 host.now → ⊥) }
+{
+    may_open(grant, room, host, port)
+}
+
+/// Whether the client may have the server listen there: `sshkey_login_calls::may_listen`.
+#[unsafe(no_mangle)]
+pub extern "C" fn raf_may_listen(grant: &UserGrantParts, room: &[u8], host: &[u8], port: u32) -> u32
+    ensures answer { IsUtf8 host.now → (t : Terms)
+        → HasPlaces (to_listen t) grant.now.permit_listen room.now
+        → (result ≡ 0) ↔ MayListen t host.now port }
+    ensures number { (result ≡ 0) ⊎ (result ≡ 4) ⊎ (result ≡ 97) }
+    ensures text { result ≡ 4 ↔ (IsUtf8 host.now → ⊥) }
+{
+    may_listen(grant, room, host, port)
 }

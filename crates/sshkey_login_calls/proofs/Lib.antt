@@ -4,4 +4,5 @@ mod Verifiers
 mod Logins
 mod Questions
 mod UserGrants
+mod Places
 mod UserKeys

@@ -1,12 +1,12 @@
 -- Parts of a grant, one more at a time.
-use Rattle.std.proofs.Common.{String, ◌≡◌, ◌≤◌, ◌<◌, ◌+◌, ◌++◌, ℕ, List, [], ap, append-nil, append_assoc, drop, get_or, length, map, refl, string_bytes, sym, ◌∙◌, arith}
+use Rattle.std.proofs.Common.{Bool, Err, IfOk, Ok, Result, String, false, true, ◌∷◌, ◌≡◌, ◌≤◌, ◌<◌, ◌+◌, ◌++◌, ℕ, List, [], ap, append-nil, append_assoc, drop, get_or, length, map, refl, string_bytes, sym, ◌∙◌, arith}
 use Rattle.std.proofs.lemmas.List.{drop_all, drop_more, length-append}
 use Rattle.login_terms.specs.Values.{permit_of}
 use Rattle.login_terms.specs.declared.permits.Permit.{Permit}
 use Rattle.sshkey_calls.specs.declared.part.Part.{Part}
 use Rattle.sshkey_model.specs.Parts.{flat}
 use Rattle.sshkey_model.specs.Texts.{string}
-use Rattle.sshkey_login_calls.specs.UserGrants.{AddsPart, permit_strings, port_bytes, strings}
+use Rattle.sshkey_login_calls.specs.UserGrants.{AddsPart, anywhere, permit_strings, places, port_bytes, strings}
 
 -- What was added, and what the items from that one on will add, is what all add.
 abbrev pub HasAdded : {A : Type 0} → (List A → List ℕ) → List A → ℕ → List ℕ → List ℕ → Type 0
@@ -58,3 +58,18 @@ first_permit permits i p lt is =
 -- both of one are added, one after the other
 pub both_added : (p : Permit) (now after new : List ℕ) → after ≡ now ++ flat (string (string_bytes p.host)) → new ≡ after ++ flat (string (port_bytes p.port)) → new ≡ now ++ spelled_permit p
 both_added p now after new host port = port ∙ ap (λ (l : List ℕ). l ++ flat (string (port_bytes p.port))) host ∙ append_assoc now (flat (string (string_bytes p.host))) (flat (string (port_bytes p.port)))
+
+-- ---- anywhere
+
+pub spelled_anywhere : permit_strings (anywhere ∷ []) ≡ 0 ∷ 0 ∷ 0 ∷ 1 ∷ 0x2a ∷ 0 ∷ 0 ∷ 0 ∷ 0 ∷ []
+unfolding flat
+spelled_anywhere = refl
+
+pub none_named : (may : Bool) (permits : List Permit) → may ≡ true → length permits ≡ 0 → places may (map permit_of permits) ≡ anywhere ∷ []
+none_named false permits e none = absurd cc
+none_named true [] e none = refl
+none_named true (p ∷ permits) e none = absurd (omega (arith, none))
+
+pub added_part : {E : Type 0} (bytes old new : List ℕ) (r : Result Part E) → IfOk r (λ part. new ≡ old ++ bytes) → IfOk r (λ part. part.start ≡ length old) → IfOk r (λ part. part.length ≡ length bytes) → IfOk r (λ part. AddsPart bytes part old new)
+added_part bytes old new (Ok part) all start size = (all, (start, size))
+added_part bytes old new (Err e) all start size = tt

@@ -3,4 +3,5 @@ pub mod Grants
 pub mod Logins
 pub mod Questions
 pub mod UserGrants
+pub mod Forwarding
 pub mod UserKeys

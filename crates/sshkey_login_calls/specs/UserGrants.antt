@@ -1,5 +1,5 @@
 -- What a login by a line of authorized_keys is granted (sshd(8), "AUTHORIZED_KEYS FILE FORMAT").
-use Rattle.std.specs.Prelude.{◌≡◌, ℕ, ◌+◌, ◌-◌, ◌^◌, List, [], ◌∷◌, ◌++◌, length, replicate, Bool, true, false, not, is_some, Option, Some, None, string_bytes}
+use Rattle.std.specs.Prelude.{◌≡◌, ℕ, ◌+◌, ◌-◌, ◌^◌, List, [], ◌∷◌, ◌++◌, length, replicate, Bool, true, false, not, ◌&&◌, is_some, Option, Some, None, codes, string_bytes, if◌then◌else◌}
 use Rattle.std.specs.Int.{to_be_bytes, w16}
 use Rattle.login_terms.specs.Terms.{Terms, terms_of}
 use Rattle.login_terms.specs.Values.{HostAndPort}
@@ -18,12 +18,8 @@ use Rattle.user_keys.specs.declared.grant.UserGrant.{UserGrant}
 
 -- ---- what is permitted
 
-abbrev pub is_empty : {A : Type 0} → List A → Bool
-is_empty [] = true
-is_empty (x ∷ more) = false
-
 -- What the line leaves. Any command may run where none is forced, and any device of tunnels be had
--- where none is. Ports are bound to no place where none is named.
+-- where tunnels are permitted and none is named.
 abbrev pub permits_of : Terms → ℕ
 permits_of t =
     bit 1 t.permissions.pty
@@ -35,9 +31,25 @@ permits_of t =
     + bit 64 (not t.touch_required)
     + bit 128 (not t.verify_required)
     + bit 256 t.permissions.tunnels
-    + bit 512 (not (is_some t.tunnel))
-    + bit 1024 (is_empty t.permit_open)
-    + bit 2048 (is_empty t.permit_listen)
+    + bit 512 (t.permissions.tunnels && not (is_some t.tunnel))
+
+-- ---- where ports may be forwarded
+
+-- any host, and any port
+abbrev pub anywhere : HostAndPort
+anywhere = record { host = codes "*"; port = None }
+
+-- Nowhere, if forwarding is forbidden; and anywhere, if it is permitted and no place is named.
+abbrev pub places : Bool → List HostAndPort → List HostAndPort
+places false named = []
+places true [] = anywhere ∷ []
+places true (p ∷ more) = p ∷ more
+
+abbrev pub to_open : Terms → List HostAndPort
+to_open t = places t.permissions.port_forwarding t.permit_open
+
+abbrev pub to_listen : Terms → List HostAndPort
+to_listen t = places t.permissions.port_forwarding t.permit_listen
 
 -- the seconds that may be the last; the greatest numbers where there is no last one
 abbrev pub span_of : Option Span → TimeSpan
@@ -47,6 +59,10 @@ span_of (Some s) = record { first = s.first; last = s.last }
 abbrev pub or_zero : Option ℕ → ℕ
 or_zero None = 0
 or_zero (Some device) = device
+
+-- the device, where there may be tunnels and one is named
+abbrev pub tunnel_of : Terms → ℕ
+tunnel_of t = if t.permissions.tunnels then or_zero t.tunnel else 0
 
 -- ---- which certificate
 
@@ -93,10 +109,10 @@ abbrev pub before_open : UserGrant → List ℕ
 before_open g = command_of g ++ key_id_of g.certified
 
 abbrev pub before_listen : UserGrant → List ℕ
-before_listen g = before_open g ++ permit_strings (terms_of g.terms).permit_open
+before_listen g = before_open g ++ permit_strings (to_open (terms_of g.terms))
 
 abbrev pub before_environment : UserGrant → List ℕ
-before_environment g = before_listen g ++ permit_strings (terms_of g.terms).permit_listen
+before_environment g = before_listen g ++ permit_strings (to_listen (terms_of g.terms))
 
 abbrev pub user_grant_bytes : UserGrant → List ℕ
 user_grant_bytes g = before_environment g ++ strings (terms_of g.terms).environment
@@ -106,8 +122,8 @@ user_grant_bytes g = before_environment g ++ strings (terms_of g.terms).environm
 pub record ArePlaced (g : UserGrant) (a : UserGrantParts) : Type 0 where
   pub force_command : IsPlaced 0 (command_of g) a.grant.force_command
   pub key_id : IsPlaced (length (command_of g)) (key_id_of g.certified) a.grant.key_id
-  pub permit_open : IsPlaced (length (before_open g)) (permit_strings (terms_of g.terms).permit_open) a.permit_open
-  pub permit_listen : IsPlaced (length (before_listen g)) (permit_strings (terms_of g.terms).permit_listen) a.permit_listen
+  pub permit_open : IsPlaced (length (before_open g)) (permit_strings (to_open (terms_of g.terms))) a.permit_open
+  pub permit_listen : IsPlaced (length (before_listen g)) (permit_strings (to_listen (terms_of g.terms))) a.permit_listen
   pub environment : IsPlaced (length (before_environment g)) (strings (terms_of g.terms).environment) a.environment
   pub length : a.grant.length ≡ length (user_grant_bytes g)
   pub serial : a.grant.serial ≡ serial_of g.certified
@@ -115,7 +131,7 @@ pub record ArePlaced (g : UserGrant) (a : UserGrantParts) : Type 0 where
   pub permits : a.grant.permits ≡ permits_of (terms_of g.terms)
   pub expires : a.expires ≡ span_of (terms_of g.terms).expires
   pub line : a.line ≡ g.line
-  pub tunnel : a.tunnel ≡ or_zero (terms_of g.terms).tunnel
+  pub tunnel : a.tunnel ≡ tunnel_of (terms_of g.terms)
 
 -- the grant of nothing, which says only how many bytes are needed, or which line refuses
 abbrev pub no_grant : ℕ → ℕ → UserGrantParts

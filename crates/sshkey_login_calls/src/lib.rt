@@ -7,6 +7,7 @@
 
 mod denial;
 pub mod examples;
+mod forwarding;
 mod grant;
 mod login;
 mod question;
@@ -14,6 +15,7 @@ mod request;
 mod user_grant;
 mod user_verdict;
 
+pub use forwarding::{may_listen, may_open};
 pub use grant::GrantParts;
 pub use login::check_login;
 pub use question::login_question;

@@ -7,7 +7,7 @@ ghost use Rattle.sshkey_calls.specs.Rooms.{IsLaidOut};
 ghost use Rattle.sshkey_model.specs.Parts.{flat};
 ghost use Rattle.sshkey_model.specs.Texts.{string};
 ghost use Rattle.sshkey_login_calls.specs.Grants.{or_empty};
-ghost use Rattle.sshkey_login_calls.specs.UserGrants.{AddsPart, ArePlaced, IsBySha256, authority_of, key_id_of, no_grant, or_zero, permit_strings, permits_of, port_bytes, serial_of, span_of, strings, user_grant_bytes};
+ghost use Rattle.sshkey_login_calls.specs.UserGrants.{AddsPart, ArePlaced, IsBySha256, authority_of, key_id_of, no_grant, permit_strings, permits_of, places, port_bytes, serial_of, span_of, strings, tunnel_of, user_grant_bytes};
 
 use crate::grant::{
     AGENT_FORWARDING, ANY_COMMAND, GrantParts, NO_TOUCH, NO_VERIFICATION, PORT_FORWARDING, PTY,
@@ -23,12 +23,11 @@ use user_keys::{Certified, UserGrant};
 
 /// Tunnels (tun(4)).
 const TUNNELS: u32 = 256;
-/// Whichever device of them the client asks for.
+/// Whichever device of them the client asks for; beside them alone.
 const ANY_TUNNEL: u32 = 512;
-/// Ports may be forwarded to anywhere.
-const OPEN_ANYWHERE: u32 = 1024;
-/// Ports may be listened at anywhere.
-const LISTEN_ANYWHERE: u32 = 2048;
+
+/// The host `*`, and no port.
+const ANYWHERE: &[u8] = b"\0\0\0\x01*\0\0\0\0";
 
 /// What a login by a line of authorized_keys may do. The parts are parts of the room that was
 /// given, one after the other.
@@ -36,13 +35,14 @@ const LISTEN_ANYWHERE: u32 = 2048;
 #[derive(Clone, Copy, Debug)]
 pub struct UserGrantParts {
     /// The command, and of a certificate its key id, serial number and authority. Beyond what
-    /// `GrantParts` says, `permits` has 256 for tunnels, 512 for whichever device of them, and 1024
-    /// and 2048 where ports may be forwarded to, and listened at, anywhere.
+    /// `GrantParts` says, `permits` has 256 for tunnels, and with it 512 for whichever device of
+    /// them.
     pub grant: GrantParts,
-    /// Where else ports may be forwarded to: strings, two each: a host, and a port of two bytes, the
-    /// most significant first, or of none where it is any.
+    /// Where ports may be forwarded to, as `may_open` reads it: strings, two each: a host, and a
+    /// port of two bytes, the most significant first, or of none where it is any. Where ports may be
+    /// forwarded to anywhere, it is the host `*` at any port; nowhere, it has no bytes.
     pub permit_open: Part,
-    /// Where else may be listened, likewise.
+    /// Where may be listened, likewise, as `may_listen` reads it.
     pub permit_listen: Part,
     /// `NAME=value`, a string each.
     pub environment: Part,
@@ -51,7 +51,7 @@ pub struct UserGrantParts {
     pub expires: TimeSpan,
     /// The number of the line, from 1; of a refusal, that of the line by which it is refused, or 0.
     pub line: usize,
-    /// The device of tun(4), where it is not any.
+    /// The device of tun(4), where tunnels are permitted and it is not any.
     pub tunnel: u32,
 }
 
@@ -85,8 +85,9 @@ pub(crate) fn lay_out_user(alloc: Global, grant: &UserGrant) -> Result<(Vec<u8>,
     let mut content = Vec::new(alloc);
     let force_command = add(command(terms).as_bytes(), &mut content)?;
     let key_id = add(key_id(&grant.certified).as_bytes(), &mut content)?;
-    let permit_open = add_permits(&terms.permit_open, &mut content)?;
-    let permit_listen = add_permits(&terms.permit_listen, &mut content)?;
+    let may = terms.permissions.port_forwarding;
+    let permit_open = add_places(may, &terms.permit_open, &mut content)?;
+    let permit_listen = add_places(may, &terms.permit_listen, &mut content)?;
     let environment = add_strings(&terms.environment, &mut content)?;
     let length = content.len();
     Ok((
@@ -167,6 +168,21 @@ fn add_strings(texts: &[String], content: &mut Vec<u8>) -> Result<Part>
     })
 }
 
+/// Adds where ports may be forwarded: nowhere, anywhere, or there.
+fn add_places(may: bool, permits: &[Permit], content: &mut Vec<u8>) -> Result<Part>
+    ensures { IfOk result (λ part.
+        AddsPart (permit_strings (places may (map permit_of permits.now))) part
+        content.old.items content.new.items) }
+{
+    if !may {
+        return add(&[], content);
+    }
+    if permits.is_empty() {
+        return add(ANYWHERE, content);
+    }
+    add_permits(permits, content)
+}
+
 /// Adds the hosts and ports, each as two strings.
 fn add_permits(permits: &[Permit], content: &mut Vec<u8>) -> Result<Part>
     ensures { IfOk result (λ part. AddsPart (permit_strings (map permit_of permits.now)) part
@@ -208,9 +224,7 @@ fn permits(terms: &Terms) -> u32
         + bit(NO_TOUCH, !terms.touch_required)
         + bit(NO_VERIFICATION, !terms.verify_required)
         + bit(TUNNELS, may.tunnels)
-        + bit(ANY_TUNNEL, terms.tunnel.is_none())
-        + bit(OPEN_ANYWHERE, terms.permit_open.is_empty())
-        + bit(LISTEN_ANYWHERE, terms.permit_listen.is_empty())
+        + bit(ANY_TUNNEL, may.tunnels && terms.tunnel.is_none())
 }
 
 /// Until when the line counts.
@@ -229,12 +243,12 @@ fn expires(terms: &Terms) -> TimeSpan
     }
 }
 
-/// The device of tun(4).
+/// The device of tun(4), where there may be tunnels.
 fn tunnel(terms: &Terms) -> u32
-    ensures { result ≡ or_zero (terms_of terms.now).tunnel }
+    ensures { result ≡ tunnel_of (terms_of terms.now) }
 {
     match terms.tunnel {
-        Some(device) => device,
-        None => 0,
+        Some(device) if terms.permissions.tunnels => device,
+        _ => 0,
     }
 }
