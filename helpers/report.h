@@ -15,6 +15,7 @@ typedef struct {
   const char *message;  /* the path of what an SSH signature is asked of, or null */
   raf_blob certificate; /* what is shown, or of no bytes */
   uint64_t unix_timestamp;
+  uint32_t known_by; /* RAF_BY_.., of a host that shows a certificate and is known */
   bool is_key;     /* a key stands there, where a certificate is wanted */
   bool is_verdict; /* `refused` is said of what is */
   bool is_json;

@@ -34,6 +34,7 @@ typedef struct {
   raf_grant grant;
   raf_user_grant user_grant;
   raf_time_span time;
+  uint32_t known_by;
 } given_call;
 
 /* The structs that calls are given. */
@@ -95,7 +96,7 @@ typedef struct {
   CALL(check_principals, &given->login, BYTES(6), BYTES(7), (uint32_t)it->numbers[3], ROOM,      \
        &it->user_grant)                                                                          \
   CALL(check_host_key, &given->host, BYTES(2))                                                   \
-  CALL(check_host_certificate, &given->host, BYTES(2), (uint32_t)it->numbers[3])                 \
+  CALL(check_host_certificate, &given->host, BYTES(2), (uint32_t)it->numbers[3], &it->known_by)  \
   CALL(unreadable_host_line, BYTES(0), BYTES(1), PORT, &it->length)                              \
   CALL(userauth_question, &given->request, ROOM, &it->question)                                  \
   CALL(userauth_question_of, &given->request, BYTES(6), ROOM, &it->question)                     \

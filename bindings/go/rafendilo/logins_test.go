@@ -170,7 +170,9 @@ func TestCheckHost(t *testing.T) {
 			Now: time.Unix(1704067200, 0), Revoked: it.revoked,
 		}
 		same(t, what, rafendilo.CheckHostKey(login, key), it.ofKey)
-		same(t, what, rafendilo.CheckHostCertificate(login, certificate), it.ofCertificate)
+		knownBy, err := rafendilo.CheckHostCertificate(login, certificate)
+		same(t, what, err, it.ofCertificate)
+		same(t, what+": by what it is known", knownBy != 0, err == nil)
 	}
 }
 

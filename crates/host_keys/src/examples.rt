@@ -1,6 +1,6 @@
 //! Worked examples of the definitions, on both sides of each edge.
 
-ghost use Rattle.host_keys.specs.Examples.{AnswersGiven, Authorities, Fields, FirstFields, HostKeys, Names, Principals, Reasons, SignedKeys, Trust, Unaccepted};
+ghost use Rattle.host_keys.specs.Examples.{AnswersGiven, Authorities, BothReasons, CertifiedKeys, Fields, FirstFields, HostKeys, Names, Principals, Reasons, SignedKeys, Trust, Unaccepted};
 
 /// By which name a host is asked about.
 pub fn names()
@@ -42,6 +42,11 @@ pub fn trust()
     ensures { Trust }
 {}
 
+/// Keys that a certificate has, whoever signed it.
+pub fn certified_keys()
+    ensures { CertifiedKeys }
+{}
+
 /// What is answered.
 pub fn answers()
     ensures { AnswersGiven }
@@ -50,6 +55,11 @@ pub fn answers()
 /// Why a host is refused.
 pub fn reasons()
     ensures { Reasons }
+{}
+
+/// Why a certificate and its key are refused.
+pub fn both_reasons()
+    ensures { BothReasons }
 {}
 
 /// Which field is wrong first.
