@@ -41,11 +41,12 @@ pub fn check_host_key(login: &HostLogin<'_>, key: &[u8]) -> Result<(), Status> {
 
 /// By what a host that shows a certificate is known.
 #[derive(Clone, Copy, Debug, PartialEq, Eq, Hash)]
+#[repr(u32)]
 pub enum KnownBy {
     /// By an authority of the host, which made the certificate.
-    Authority,
+    Authority = raw::BY_AUTHORITY,
     /// By the key in the certificate, as if nobody had signed it.
-    CertifiedKey,
+    CertifiedKey = raw::BY_CERTIFIED_KEY,
 }
 
 /// Says by what a host that shows a certificate, given as its blob, is known, as ssh(1) does or more
@@ -72,7 +73,8 @@ pub fn check_host_certificate(
         with_raw(login, |asked| {
             raw::raf_check_host_certificate(asked, certificate, u32::from(yes), &mut known_by)
         })?;
-        Ok(if known_by == raw::BY_AUTHORITY { KnownBy::Authority } else { KnownBy::CertifiedKey })
+        let mut ways = [KnownBy::Authority, KnownBy::CertifiedKey].into_iter();
+        ways.find(|it| *it as u32 == known_by).ok_or(Status::OTHER_ERROR)
     };
     decide(verdict, || is_verified(certificate, verify))
 }

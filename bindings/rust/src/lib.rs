@@ -99,9 +99,7 @@ pub use files::{
     authorized_entry, entry_lines, is_safe_mode, known_host, line_may_name_authority,
     line_may_name_key, line_options, AuthorizedEntry, EntryLines, KnownHost, LineOption, Marker,
 };
-pub use hosts::{
-    check_host_certificate, check_host_key, unreadable_host_line, HostLogin, KnownBy,
-};
+pub use hosts::{check_host_certificate, check_host_key, unreadable_host_line, HostLogin, KnownBy};
 pub use keys::{
     may_verify, normal_certificate, normal_key, normal_signature, normal_sshsig, read_line,
     signature_question, Line,
