@@ -164,11 +164,14 @@ by_line_of_key =
 pub by_both_lines : IsSaidOfSigned hmac_sha1 (codes "H.Example") 22 ed25519_key ed25519_key (by_line ∷ line None host ∷ []) verdict.Trusted
 by_both_lines =
     let both = pair host by_line (line None host) verdict.Unknown verdict.Unknown verdict.Trusted verdict.Changed said_of_host.2 said_of_host.0 in
-    inl ((λ e. cc e), (
-      λ either. elim either [ inl a ↦ both.0.0 a | inr b ↦ both.0.0 b ],
-      both.0.1,
-      first (Lists hmac_sha1 host (Some CertAuthority) ed25519_key) (by_line ∷ []) (line None host ∷ []) (of_authority host by_line (Some CertAuthority) _ [] (host_line (Some CertAuthority)) refl host_fits),
-    ))
+    inl (
+      (λ e. cc e),
+      (
+        λ either. elim either [ inl a ↦ both.0.0 a | inr b ↦ both.0.0 b ],
+        both.0.1,
+        first (Lists hmac_sha1 host (Some CertAuthority) ed25519_key) (by_line ∷ []) (line None host ∷ []) (of_authority host by_line (Some CertAuthority) _ [] (host_line (Some CertAuthority)) refl host_fits),
+      ),
+    )
 
 -- the key is the host's, and ssh reads the certificate
 pub key_of_fields : (l : HostCheck) (f : SignedFields) → IsSaidOfKey l.hmac l.host l.port f.key l.lines verdict.Trusted → openssh_accepts_key l.least_rsa_bits f.key ≡ true → openssh_accepts_key 0 f.signature_key ≡ true → IsWithout 0 f.key_id → AreReadPrincipals f.valid_principals → IsSigned (λ q. true) (of_fields f) → HasTrustedKey l (λ q. true) (λ key. false) (of_fields f)

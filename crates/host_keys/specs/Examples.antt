@@ -13,12 +13,14 @@ use Rattle.sshkey_model.specs.KeyExamples.{ed25519_key, rsa_key}
 use Rattle.sshkey_model.specs.Keys.{Dsa, Key, Opaque, Rsa}
 use Rattle.sshkey_model.specs.Names.{Algorithm}
 use Rattle.sshkey_model.specs.Options.{CertificateOption}
+use Rattle.sshkey_model.specs.Verification.{Question}
 use Rattle.sshkey_base.specs.declared.certificate.field.Field.{Field}
 use Rattle.sshkey_base.specs.declared.certificate.field.Field.TheVariants as field
 use Rattle.sshkey_base.specs.declared.error.Error.TheVariants.{CertificateFieldInvalid}
 use Rattle.sshkey_cert.specs.declared.certificate.refusal.CertificateRefusal.TheVariants.{Signature, Window}
-use Rattle.host_keys.specs.Answers.{IsWhy, answer_of, is_final, of_both, verdict_answer}
-use Rattle.host_keys.specs.Hosts.{AreForHosts, HasOtherField, HostCheck, IsGoodFor, IsHostKey, IsSaid, IsSettled, IsTrustedByKey, IsTrustedCertificate, IsTrustedKey, IsVerdictOfSigned, OfAsked, are_accepted, plain_name}
+use Rattle.host_keys.specs.Answers.{IsWhy, IsWhyNoCertifiedKey, IsWhyUnknown, KnownExactly, answer_of, is_final, of_both, verdict_answer}
+use Rattle.host_keys.specs.declared.known_by.KnownBy.TheVariants.{Authority, CertifiedKey}
+use Rattle.host_keys.specs.Hosts.{AreForHosts, HasOtherField, HasTrustedKey, HostCheck, IsGoodFor, IsHostKey, IsKnownBy, IsSaid, IsSettled, IsTrustedByKey, IsTrustedCertificate, IsTrustedKey, IsUnread, IsVerdictOfSigned, OfAsked, are_accepted, plain_name}
 use Rattle.host_keys.specs.declared.refusal.HostRefusal.{HostRefusal}
 use Rattle.host_keys.specs.declared.refusal.HostRefusal.TheVariants as refusal
 
@@ -210,7 +212,7 @@ abbrev pub both_lines : HostCheck
 both_lines = record login { lines = by_line ∷ line None host ∷ [] }
 
 abbrev pub TrustsKeyOf : HostCheck → SignedFields → Type 0
-TrustsKeyOf l f = IsTrustedByKey l (λ q. true) (λ key identity. false) (λ key. false) (of_fields f)
+TrustsKeyOf l f = IsKnownBy l (λ q. true) (λ key identity. false) (λ key. false) (of_fields f) CertifiedKey
 
 -- Whatever it is for; but no other key, none that its authority makes the host's, as long as it
 -- does, and none that is revoked, or whose authority is, or that may be. And only of a certificate
@@ -230,6 +232,14 @@ CertifiedKeys = TrustsKeyOf login own_fields
     × ¬ TrustsKeyOf login (record own_fields { key_id = 0x69 ∷ 0 ∷ 0x64 ∷ [] })
     × ¬ TrustsKeyOf login (record own_fields { valid_principals = host ∷ (0x61 ∷ 0 ∷ 0x62 ∷ []) ∷ [] })
     × ¬ TrustsKeyOf login (record own_fields { signature_key = dsa_key })
+
+-- By its authority, or by its key alone; and the key by itself, whatever the lines say of others.
+abbrev pub Ways : Type 0
+Ways = IsKnownBy trusted_by (λ q. true) (λ key identity. false) (λ key. false) (of_fields fields) Authority
+    × ¬ IsKnownBy trusted_by (λ q. true) (λ key identity. false) (λ key. false) (of_fields fields) CertifiedKey
+    × ¬ IsKnownBy login (λ q. true) (λ key identity. false) (λ key. false) (of_fields own_fields) Authority
+    × HasTrustedKey login (λ q. true) (λ key. false) (of_fields own_fields)
+    × ¬ HasTrustedKey login (λ q. true) (λ key. false) (of_fields fields)
 
 -- ---- what is answered
 
@@ -279,6 +289,30 @@ BothReasons = (is_final refusal.Revoked ≡ true)
     × (of_both (refusal.Invalid Window) refusal.Unknown ≡ refusal.Invalid Window)
     × (of_both (refusal.Invalid Window) (refusal.Invalid Signature) ≡ refusal.Invalid Signature)
     × (of_both refusal.UnacceptedKey refusal.Memory ≡ refusal.Memory)
+
+-- of a certificate by that field, which ssh does not read
+abbrev pub IsUnreadFor : SignedFields → HostRefusal → Type 0
+IsUnreadFor f = IsUnread (of_fields f)
+
+-- The first of what ssh does not read.
+abbrev pub FirstUnread : Type 0
+FirstUnread = IsUnreadFor (record own_fields { signature_key = dsa_key }) refusal.UnacceptedKey
+    × IsUnreadFor (record own_fields { signature_key = dsa_key; key_id = 0 ∷ 0x64 ∷ [] }) refusal.UnacceptedKey
+    × IsUnreadFor (record own_fields { key_id = 0 ∷ 0x64 ∷ [] }) (refusal.Certificate (CertificateFieldInvalid field.KeyId))
+    × IsUnreadFor (record own_fields { valid_principals = (0 ∷ 0x62 ∷ []) ∷ [] }) (refusal.Certificate (CertificateFieldInvalid field.ValidPrincipals))
+
+abbrev pub IsUnknownFor : (Question → Bool) → SignedFields → HostRefusal → Type 0
+IsUnknownFor accepts f = IsWhyUnknown login accepts (λ key identity. false) (λ key. false) (of_fields f)
+
+-- Of an unknown authority the key's refusal is told: another key is listed, or nobody signed.
+abbrev pub UnknownReasons : Type 0
+UnknownReasons = IsUnknownFor (λ q. true) fields refusal.Changed
+    × IsUnknownFor (λ q. false) own_fields (refusal.Invalid Signature)
+    × IsWhyNoCertifiedKey login (λ q. true) (λ key. false) (of_fields fields) refusal.Changed
+    × KnownExactly (λ by. by ≡ CertifiedKey) (Ok CertifiedKey)
+    × ¬ KnownExactly (λ by. by ≡ Authority) (Ok CertifiedKey)
+    × ¬ KnownExactly (λ by. by ≡ Authority) (Err refusal.Unknown)
+    × KnownExactly (λ by. by ≡ Authority) (Err refusal.Memory)
 
 abbrev pub Lacks : SignedFields → Field → Type 0
 Lacks f it = HasOtherField (of_fields f) (CertificateFieldInvalid it)
