@@ -942,9 +942,9 @@ enum {
  *
  * RAF_DONE with one of these in `*known_by`, and any other answer with 0 there: the first of
  * RAF_TEXT, 10 to 29, RAF_NOT_NORMAL_FORM, 100 to 102, RAF_UNREADABLE_REVOCATIONS, 50, 51, and
- * RAF_NOT_SIGNED where nothing else is wrong with one of both. Then, of a certificate that no
+ * RAF_NOT_SIGNED where all else is right with the certified key. Then, of a certificate that no
  * authority of the host signed: 59, 75 and 76 where ssh does not read it, 52 or 53 for its key.
- * Else 59, 71, 73, 75, 76, 32 to 34. */
+ * Else 59, 71, 73, 75, 76, 30, 32 to 34. */
 uint32_t raf_check_host_certificate(const raf_host_login *login,
                                     const uint8_t *certificate, size_t certificate_length,
                                     uint32_t is_verified, uint32_t *known_by);

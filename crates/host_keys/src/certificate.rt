@@ -64,7 +64,7 @@ use std::alloc::Global;
 /// - `Host`: the port is 0, the host is empty, or it is like an address and has no text as one;
 /// - `Revoked`: `revocations` revokes the certificate, or a line one of the keys;
 /// - `Unreadable`: a line that can't be read could be one for the host;
-/// - `Invalid` with `Signature`: all is right but that, for one of the two;
+/// - `Invalid` with `Signature`: all is right with the certified key, but the signature;
 /// - if the key that signed is no authority of the host: `UnacceptedKey` for it; `Certificate` with
 ///   `CertificateFieldInvalid`, for `KeyId` or `ValidPrincipals` that ssh(1) does not read; what
 ///   `check_key` says of the certified key, as `Changed` or `Unknown`;

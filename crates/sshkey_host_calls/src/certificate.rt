@@ -26,15 +26,15 @@ use std::alloc::Global;
 /// not its normal form; 100 for port 0, 101 for a host of no bytes, 102 for one that is like an
 /// address and has no text as one; 58 where a revocation file cannot be read, or there is none; 50
 /// where the certificate or one of its keys is revoked, 51 where a line that cannot be read may be
-/// one for the host; 30 where it was not verified, and all else is right, of the certificate or of
-/// its key. So 30, before anything is verified, says that the host would be known if it is signed.
+/// one for the host; 30 where it was not verified, and all else is right with the certified key.
 ///
 /// Then, where the key that signed is no authority of the host: 59, 75 and 76 as below, of a
 /// certificate that ssh(1) does not read; 52 where the host has another key, and 53 where it has
 /// none. Else 59 for a kind or a size of key that ssh(1) does not accept; 71 for one of users, 73 for
-/// one with critical options, 75 and 76 for a key id and for principals that ssh(1) does not read; 32
-/// for a time above 2^63 - 1, 33 for a time out of its window and 34 where it is not for the host's
-/// name. Memory is taken only for bytes that are a certificate.
+/// one with critical options, 75 and 76 for a key id and for principals that ssh(1) does not read; 30
+/// where it was not verified, 32 for a time above 2^63 - 1, 33 for a time out of its window and 34
+/// where it is not for the host's name. So 30 alone, before anything is verified, says that it hangs
+/// on that. Memory is taken only for bytes that are a certificate.
 pub fn check_host_certificate(
     alloc: Global,
     login: &HostRequest<'_>,
