@@ -166,7 +166,9 @@ static void ask_host(asked *it, uint64_t now, raf_spans revoked) {
   uint8_t *room = calloc(1, room_length);
   if (!room) abort();
   memset(&question, 0, sizeof question);
-  note(it, raf_verify_host_certificate(&login, raf_blob_span(certificate)));
+  uint32_t known_by = 0;
+  note(it, raf_verify_host_certificate(&login, raf_blob_span(certificate), &known_by));
+  note(it, known_by);
   note(it, raf_certificate_question(certificate.bytes, certificate.length, room, room_length,
                                     &question));
   note(it, raf_is_signature(&question, room));

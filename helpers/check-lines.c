@@ -114,8 +114,9 @@ static uint32_t answer_host(const char *line, size_t length, report *of,
   bool is_certificate;
   uint32_t answer = check_read_shown(line, length, &shown, &is_certificate);
   if (answer == RAF_DONE)
-    answer = is_certificate ? raf_verify_host_certificate(&login, raf_blob_span(shown))
-                            : raf_check_host_key(&login, shown.bytes, shown.length);
+    answer = is_certificate
+                 ? raf_verify_host_certificate(&login, raf_blob_span(shown), &of->known_by)
+                 : raf_check_host_key(&login, shown.bytes, shown.length);
   if (is_certificate)
     of->certificate = shown;
   else

@@ -245,12 +245,14 @@ static void print_tunnel(const raf_user_grant *grant) {
 /* ---- answers */
 
 void report_valid(const report *of) {
+  bool is_by_key = of->known_by == RAF_BY_CERTIFIED_KEY;
   if (of->is_json) {
     begin_verdict(of, RAF_DONE);
+    if (of->known_by) json_words("known_by", is_by_key ? "certified key" : "authority");
     print_identity(of);
     json_end();
   } else {
-    puts("valid");
+    puts(is_by_key ? "valid by the certified key" : "valid");
   }
 }
 

@@ -18,6 +18,7 @@ typedef struct {
   raf_blob certificate; /* what is shown, or of no bytes */
   unread_certificate unread; /* of which that is the readable one, where it has bytes */
   uint64_t unix_timestamp;
+  uint32_t known_by; /* RAF_BY_.., of a host that shows a certificate and is known */
   bool is_key;     /* a key stands there, where a certificate is wanted */
   bool is_verdict; /* `refused` is said of what is */
   bool is_json;

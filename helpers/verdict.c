@@ -61,15 +61,16 @@ static uint32_t verify_certificate(raf_span certificate, uint32_t *is_verified) 
   return answer == RAF_MEMORY ? answer : RAF_DONE;
 }
 
-uint32_t raf_verify_host_certificate(const raf_host_login *login, raf_span certificate) {
+uint32_t raf_verify_host_certificate(const raf_host_login *login, raf_span certificate,
+                                     uint32_t *known_by) {
   uint32_t is_verified = 0;
   uint32_t said = raf_check_host_certificate(login, certificate.bytes, certificate.length,
-                                             is_verified);
+                                             is_verified, known_by);
   if (said != RAF_NOT_SIGNED) return said;
   said = verify_certificate(certificate, &is_verified);
   if (said != RAF_DONE) return said;
-  return raf_check_host_certificate(login, certificate.bytes, certificate.length,
-                                    is_verified);
+  return raf_check_host_certificate(login, certificate.bytes, certificate.length, is_verified,
+                                    known_by);
 }
 
 /* A call that checks a login by a text. */

@@ -20,8 +20,10 @@ uint32_t raf_log_in(const raf_login *login, uint8_t *buffer, size_t buffer_lengt
  * RAF_DONE, RAF_NOT_SIGNED, or what raf_userauth_question answers. */
 uint32_t raf_verify_userauth(const raf_userauth *request);
 
-/* Whether a certificate is the host's: raf_check_host_certificate, likewise. */
-uint32_t raf_verify_host_certificate(const raf_host_login *login, raf_span certificate);
+/* Whether the host that shows a certificate is known, and by what: raf_check_host_certificate,
+ * likewise. */
+uint32_t raf_verify_host_certificate(const raf_host_login *login, raf_span certificate,
+                                     uint32_t *known_by);
 
 /* Whether a text of authorized_keys lets a user in, and the grant: raf_check_user_keys,
  * likewise. */

@@ -35,6 +35,7 @@ typedef struct {
   raf_user_grant user_grant;
   raf_time_span time;
   raf_destination destination;
+  uint32_t known_by;
 } given_call;
 
 /* The structs that calls are given. */
@@ -99,7 +100,7 @@ typedef struct {
   CALL(may_open, &given->grant, BYTES(0), BYTES(1), (uint32_t)it->numbers[0])                    \
   CALL(may_listen, &given->grant, BYTES(0), BYTES(1), (uint32_t)it->numbers[0])                  \
   CALL(check_host_key, &given->host, BYTES(2))                                                   \
-  CALL(check_host_certificate, &given->host, BYTES(2), (uint32_t)it->numbers[3])                 \
+  CALL(check_host_certificate, &given->host, BYTES(2), (uint32_t)it->numbers[3], &it->known_by)  \
   CALL(unreadable_host_line, BYTES(0), BYTES(1), PORT, &it->length)                              \
   CALL(userauth_question, &given->request, ROOM, &it->question)                                  \
   CALL(userauth_question_of, &given->request, BYTES(6), ROOM, &it->question)                     \

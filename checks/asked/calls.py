@@ -57,7 +57,7 @@ def is_as_wanted(judge, wanted, answer):
     if wanted == "refused":
         return 10 <= number < 30
     # what is read is no certificate of that key, nor is that host known
-    others = ("UNSUPPORTED", "OTHER_NAMESPACE", "SIGNER_NOT_ALLOWED", "NOT_NORMAL_FORM", "OTHER_TYPE", "OTHER_KEY", "HOST_UNKNOWN")
+    others = ("UNSUPPORTED", "OTHER_NAMESPACE", "SIGNER_NOT_ALLOWED", "NOT_NORMAL_FORM", "OTHER_TYPE", "OTHER_KEY", "HOST_UNKNOWN", "KEY_NOT_ACCEPTED", "KEY_ID", "VALID_PRINCIPALS")
     read = map(judge.number, ("DONE", *others))
     return number in read or wanted != "read" and 10 <= number < 30
 

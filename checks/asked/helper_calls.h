@@ -112,9 +112,11 @@ static void ask_host_certificate(given_call *it, const char *name) {
                           (uint32_t)numbers[1], (uint16_t)numbers[0]};
   uint32_t unverified = ask(it, name, NULL);
   verifications = 0;
-  uint32_t answer = raf_verify_host_certificate(&login, raf_blob_span(it->spans[2]));
+  uint32_t known_by = 7;
+  uint32_t answer = raf_verify_host_certificate(&login, raf_blob_span(it->spans[2]), &known_by);
   say_asked_for(unverified, answer);
   printf("%" PRIu32, answer);
+  if (answer == RAF_DONE || known_by) printf(" %" PRIu32, known_by);
 }
 
 /* Whether the client signed the request: raf_verify_userauth. */

@@ -6,8 +6,8 @@ from dataclasses import dataclass, replace
 from lib.harness import blob_of, string
 
 from .hosts import (
-    AROUND_NOW, AUTHORITY, BROKEN, CAPITALS, CERTIFICATES, CERTIFICATES_AND_LATER, CERTIFICATES_OF_FILES, HOST, INVALID, KEY_ID, KEYS, KEYS_AND_LATER, KEYS_OF_FILES,
-    LATER, LISTS, NAMED, NOBODY, OTHER, OWN, SERIAL, TEXTS, TYPED, TYPED_CERTIFICATES, UNASKED, field, in_one_file, written,
+    AROUND_NOW, AUTHORITY, BROKEN, BY_KEY, CAPITALS, CERTIFICATES, CERTIFICATES_AND_LATER, CERTIFICATES_OF_FILES, CERTIFIED_KEYS, HOST, INVALID, KEY_ID, KEYS, KEYS_AND_LATER, KEYS_OF_FILES,
+    LATER, LISTED, LISTS, NAMED, NOBODY, OTHER, OWN, SERIAL, TEXTS, TYPED, TYPED_CERTIFICATES, UNASKED, field, in_one_file, written,
 )  # fmt: skip
 from .linked import run, several, word
 from .shown_logins import blocks, built_page, said_by_python
@@ -16,7 +16,7 @@ from .revocation_calls import EMPTY, made_list
 
 # what the program callers answers, and the library
 NUMBERED = {
-    "ok": "DONE", "revoked": "HOST_REVOKED", "unreadable": "HOST_UNREADABLE", "changed": "HOST_CHANGED", "unknown": "HOST_UNKNOWN", INVALID: "OUT_OF_WINDOW",
+    "ok": "DONE", BY_KEY: BY_KEY, "revoked": "HOST_REVOKED", "unreadable": "HOST_UNREADABLE", "changed": "HOST_CHANGED", "unknown": "HOST_UNKNOWN", INVALID: "OUT_OF_WINDOW",
     field("valid principals"): "VALID_PRINCIPALS", field("type"): "OTHER_TYPE", field("critical options"): "CRITICAL_OPTIONS", field("key id"): "KEY_ID",
     UNACCEPTED: "KEY_NOT_ACCEPTED", NO_NORMAL_FORM: "NOT_NORMAL_FORM", "no port": "NO_PORT", "no host": "NO_HOST", "no address": "NO_ADDRESS",
 }  # fmt: skip
@@ -77,7 +77,7 @@ def by_key(maker, keys):
 
 def by_certificate(maker, keys):
     """The same of certificates."""
-    now, texts = int(time.time()), (written(maker, [AUTHORITY], keys),)
+    now, texts, own = int(time.time()), (written(maker, [AUTHORITY], keys),), (written(maker, [LISTED], keys),)
 
     def made(*words):
         return blob_of(maker.certificate("host-authority", "host-key", *words))
@@ -86,7 +86,8 @@ def by_certificate(maker, keys):
         names = b"".join(map(string, [*others, HOST.encode()]))
         return blob_of(certificate(maker, by, key, names, {}, extensions or {}, key_id, kind=2))
 
-    for name, files, port, words, wanted in [*in_one_file([*CERTIFICATES, *CERTIFICATES_AND_LATER]), *CERTIFICATES_OF_FILES]:
+    listed = [(f"of a listed key, {name}", *others) for name, *others in CERTIFIED_KEYS]
+    for name, files, port, words, wanted in [*in_one_file([*CERTIFICATES, *CERTIFICATES_AND_LATER, *listed]), *CERTIFICATES_OF_FILES]:
         # of a name that is not listed sshd says the same as of names that are not read
         number = "UNLISTED_PRINCIPAL" if wanted == field("valid principals") else NUMBERED[wanted]
         yield name, Shown(made(*words), tuple(written(maker, lines, keys) for lines in files), port, second=now), number
@@ -99,7 +100,9 @@ def by_certificate(maker, keys):
         yield name, Shown(blob, (written(maker, lines, keys),), host=host.encode(), second=now), number
     yield "that lists nobody", Shown(made(*NOBODY), texts, second=now), "VALID_PRINCIPALS"
     for name, key_id, others, wanted, _ in TEXTS:
-        yield name, Shown(put_together(keys["key"], key_id, others), texts, second=now), NUMBERED[wanted]
+        shown = Shown(put_together(keys["key"], key_id, others), texts, second=now)
+        yield name, shown, NUMBERED[wanted]
+        yield f"of a listed key, {name}", replace(shown, texts=own), BY_KEY if wanted == "ok" else NUMBERED[wanted]
     by_rsa = (written(maker, [AUTHORITY], {"authority": maker.read(f"{RSA}.pub")}),)
     for name, held, is_accepted, _ in judged_keys(maker):
         shown = Shown(put_together(held, by=RSA), by_rsa, second=now)
@@ -110,6 +113,8 @@ def by_certificate(maker, keys):
         # nothing is signed, so of a key that may sign that is said; RequiredRSASize is about the host's key
         by_it = Shown(blob_of(line), (written(maker, [AUTHORITY], {"authority": held}),), second=now, bits=4096)
         yield f"an authority: {name}", by_it, "NOT_SIGNED" if is_accepted else "KEY_NOT_ACCEPTED"
+        of_listed = replace(by_it, texts=own)
+        yield f"of a listed key, an authority: {name}", of_listed, "NOT_SIGNED" if is_accepted else "KEY_NOT_ACCEPTED"
     flag = {"x@example.com": b""}
     line = certificate(maker, RSA, keys["key"], string(HOST.encode()), {}, flag, kind=2)
     for name, other in respelled(maker, line, RSA, flag):
@@ -120,6 +125,7 @@ def by_certificate(maker, keys):
     turned, revoked = good.blob[:-1] + bytes([good.blob[-1] ^ 1]), written(maker, ["@revoked * {key}"], keys)
     for name, changes, wanted in (
         ("no file", {"texts": ()}, "HOST_UNKNOWN"), ("another host", {"host": b"g.example"}, "HOST_UNKNOWN"), ("a turned bit", {"blob": turned}, "NOT_SIGNED"),
+        ("a turned bit, of a listed key", {"blob": turned, "texts": own}, "NOT_SIGNED"), ("no time, of a listed key", {"second": 2**63, "texts": (*texts, *own)}, BY_KEY),
         ("no certificate", {"blob": good.blob[:-1]}, "LENGTH"), ("a key in its place", {"blob": blob_of(keys["key"])}, "LABEL"), ("no bytes", {"blob": b""}, "LENGTH"),
         ("a host that is no text", {"host": b"\xff"}, "TEXT"), ("a line that is not UTF-8", {"texts": (b"\xff\n",)}, "HOST_UNKNOWN"), ("no time", {"second": 2**63}, "INVALID_TIME"),
         ("a second file with such a line", {"texts": (*texts, b"\xff\n")}, "DONE"), ("such a line, and revoked", {"texts": (b"\xff\n", revoked)}, "HOST_REVOKED"),
@@ -192,12 +198,18 @@ def check_page(count, built, made):
         count.check(f"a host's certificate in docs/FOREIGN.md: {name}", said == wanted, said)
 
 
+def answer_to(judge, question, wanted):
+    """The number, and of a host that shows a certificate and is known, by what."""
+    by = {"DONE": " 1", BY_KEY: " 2"}.get(wanted, "") if question.startswith("host-certificate ") else ""
+    return f"{judge.number('DONE' if wanted == BY_KEY else wanted)}{by}"
+
+
 def check_hosts(judge):
     maker = judge.made.maker
     keys = keys_of(maker)
     maker.write("user.pub", maker.read("user0.pub"))
     found = [*by_key(maker, keys), *by_certificate(maker, keys), *by_lists(maker, keys)]
-    judge.hold("a host's", [(name, shown.question(), str(judge.number(wanted))) for name, shown, wanted in found])
+    judge.hold("a host's", [(name, shown.question(), answer_to(judge, shown.question(), wanted)) for name, shown, wanted in found])
     asked = []
     for name, lines, port, wanted in UNREADABLE:
         text = written(maker, lines, keys)

@@ -4,7 +4,7 @@ import hashlib
 
 from lib.harness import blob_of
 
-from .host_calls import NUMBERED, Shown
+from .host_calls import NUMBERED, Shown, answer_to
 from .hosts import HOST, KEYS_AND_LATER, field
 from .linked import word
 from .newer_answers import HOST_CERTIFICATES, MESSAGE, SIGNERS, UNREAD, Stored, filled
@@ -41,6 +41,6 @@ def check_newer(judge):
     """Each is answered as is wanted, and where that lets in, OpenSSH does so too."""
     stored = Stored()
     found = list(cases(stored, judge.asker.is_package))
-    judge.hold(f"as {stored.version} has it", [(name, question, str(judge.number(wanted))) for name, question, wanted, _ in found])
+    judge.hold(f"as {stored.version} has it", [(name, question, answer_to(judge, question, wanted)) for name, question, wanted, _ in found])
     wrong = [it for it in found if None in it[3] or (it[2] == "DONE") != all(it[3]) and it[2] not in STRICTER]
     judge.check(f"{len(found)} of these let in whom {stored.version} lets in, or refuse", found and not wrong, *wrong[:3])

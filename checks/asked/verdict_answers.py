@@ -56,8 +56,8 @@ class VerdictAnswers:
         return ["0"]
 
     def host_certificate(self, texts, host, data, files, port, bits, second):
-        self.rafendilo.check_host_certificate(self.host_of(texts, host, files, port, bits, int(second)), data_of(data))
-        return ["0"]
+        known_by = self.rafendilo.check_host_certificate(self.host_of(texts, host, files, port, bits, int(second)), data_of(data))
+        return ["0", str(known_by.value)]
 
     def unreadable_line(self, text, host, port):
         found = self.rafendilo.unreadable_host_line(data_of(text), data_of(host), int(port))

@@ -38,22 +38,36 @@ func CheckHostKey(login HostLogin, key []byte) error {
 	return errorOf(C.raf_check_host_key(&asked, in.pointer(), in.length()))
 }
 
-// CheckHostCertificate gives nil exactly if the certificate, given as its blob, is trusted as that
-// of the host; else a Status that says what is wrong first. It has to list the host in small
-// letters. It fails as CheckHostKey does.
+// KnownBy is by what a host that shows a certificate is known; what is zero is none of both.
+type KnownBy uint32
+
+const (
+	// ByAuthority is an authority of the host, which made the certificate.
+	ByAuthority KnownBy = C.RAF_BY_AUTHORITY
+	// ByCertifiedKey is the key in the certificate, as if nobody had signed it.
+	ByCertifiedKey KnownBy = C.RAF_BY_CERTIFIED_KEY
+)
+
+// CheckHostCertificate gives by what a host that shows a certificate, given as its blob, is known, and
+// nil exactly if it is; else a Status that says what is wrong first. An authority makes it known by a
+// certificate that lists the host in small letters. Else the certified key does, as CheckHostKey says.
+// It fails as that does.
 //
 // It asks the library, the verifier, and the library again, over copies that nobody changes. The
-// verifier is not asked about the certificate of another authority, or about one that is revoked.
+// verifier is not asked about the certificate of another authority, unless the host is known by the
+// key, or about one that is revoked.
 //
 // Whether the host holds the certified key is not looked at.
-func CheckHostCertificate(login HostLogin, certificate []byte) error {
+func CheckHostCertificate(login HostLogin, certificate []byte) (KnownBy, error) {
 	var memory held
 	defer memory.free()
 	asked, in := login.held(&memory), inputOf(certificate)
-	return decided(login.Verify, in, func(isVerified C.uint32_t) error {
+	var knownBy C.uint32_t
+	err := decided(login.Verify, in, func(isVerified C.uint32_t) error {
 		return errorOf(C.raf_check_host_certificate(&asked, in.pointer(), in.length(),
-			isVerified))
+			isVerified, &knownBy))
 	})
+	return KnownBy(knownBy), err
 }
 
 func (login HostLogin) held(memory *held) C.raf_host_login {

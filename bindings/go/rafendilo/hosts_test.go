@@ -38,7 +38,7 @@ func TestHosts(t *testing.T) {
 			func(it *rafendilo.HostLogin) { it.Port = 0 }, rafendilo.ErrNoPort, rafendilo.ErrNoPort,
 		},
 		"no time": {
-			func(it *rafendilo.HostLogin) { it.Now = time.Time{} }, nil, rafendilo.ErrInvalidTime,
+			func(it *rafendilo.HostLogin) { it.Now = time.Time{} }, nil, nil,
 		},
 		"no file": {func(it *rafendilo.HostLogin) { it.Revoked = nil }, unread, unread},
 		"a file that was not read": {
@@ -64,6 +64,8 @@ func TestHosts(t *testing.T) {
 		}
 		it.turn(&login)
 		same(t, what, rafendilo.CheckHostKey(login, key), it.ofKey)
-		same(t, what, rafendilo.CheckHostCertificate(login, certificate), it.ofCertificate)
+		knownBy, err := rafendilo.CheckHostCertificate(login, certificate)
+		same(t, what, err, it.ofCertificate)
+		same(t, what+": by what it is known", knownBy != 0, err == nil)
 	}
 }

@@ -171,15 +171,18 @@ func TestCheckHost(t *testing.T) {
 			[][]byte{[]byte("ssh-rsa")}, rafendilo.ErrUnreadableRevocations,
 			rafendilo.ErrUnreadableRevocations,
 		},
-		"no bytes":          {[][]byte{{}}, nil, rafendilo.ErrHostUnknown},
-		"a list of nothing": {rafendilo.NoRevocations, nil, rafendilo.ErrHostUnknown},
+		// of the certificate, too, the key is listed, and no authority
+		"no bytes":          {[][]byte{{}}, nil, nil},
+		"a list of nothing": {rafendilo.NoRevocations, nil, nil},
 	} {
 		login := rafendilo.HostLogin{
 			KnownHosts: []string{"", known}, Host: "h.example", Port: 22,
 			Now: time.Unix(1704067200, 0), Revoked: it.revoked,
 		}
 		same(t, what, rafendilo.CheckHostKey(login, key), it.ofKey)
-		same(t, what, rafendilo.CheckHostCertificate(login, certificate), it.ofCertificate)
+		knownBy, err := rafendilo.CheckHostCertificate(login, certificate)
+		same(t, what, err, it.ofCertificate)
+		same(t, what+": by what it is known", knownBy == rafendilo.ByCertifiedKey, err == nil)
 	}
 }
 

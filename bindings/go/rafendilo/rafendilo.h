@@ -37,7 +37,7 @@
  * that are needed, so a buffer of 0 bytes asks for that number; do not rely on the other fields of
  * `*answer` then. (The text of a fingerprint has a fixed length, so its calls set none.) Every
  * other return value but RAF_DONE leaves the buffer, `*answer` and `*length` as they were; but a
- * grant is zero then. `*signer` is written with RAF_DONE alone.
+ * grant and `*known_by` are zero then. `*signer` is written with RAF_DONE alone.
  */
 #ifndef RAFENDILO_H
 #define RAFENDILO_H
@@ -917,20 +917,37 @@ typedef struct {
 uint32_t raf_check_host_key(const raf_host_login *login, const uint8_t *key,
                             size_t key_length);
 
-/* Whether a certificate is the host's. `is_verified` is 1 if the answer to the question of this
- * certificate is yes (raf_certificate_question); any other number is no. Ask with 0 first:
- * RAF_NOT_SIGNED says "now verify", and with any other answer there is nothing to verify.
+/* By what a host that shows a certificate is known; 0 is none of both. */
+enum {
+  RAF_BY_AUTHORITY = 1,    /* by an authority of the host, which made it a certificate */
+  RAF_BY_CERTIFIED_KEY = 2 /* by the key in the certificate, as if nobody had signed it */
+};
+
+/* Whether the host that shows a certificate is known, and by what. `is_verified` is 1 if the answer
+ * to the question of this certificate is yes (raf_certificate_question); any other number is no. Ask
+ * with 0 first: RAF_NOT_SIGNED says "now verify", and with any other answer there is nothing to
+ * verify.
  *
- * RAF_DONE exactly if its bytes are its normal form; a line @cert-authority for the host has the
- * key that signed it; no line for the host revokes one of its two keys, and no revocation file the
- * certificate; no line that is no entry could be one for the host; OpenSSH accepts both keys; it is
- * for hosts, without critical options, of texts that ssh reads, and valid then for the host's name
- * in small letters, which it lists; and `is_verified` is 1 (memory aside). Else the first of these:
- * RAF_TEXT, 10 to 29, RAF_NOT_NORMAL_FORM, 100 to 102, RAF_UNREADABLE_REVOCATIONS, 50, 51,
- * 53, 59, 71, 73, 75, 76, 30, 32 to 34. An address has to be listed in that one text. */
+ * RAF_BY_AUTHORITY exactly if its bytes are its normal form; a line @cert-authority for the host has
+ * the key that signed it; no line for the host revokes one of its two keys, and no revocation file
+ * the certificate; no line that is no entry could be one for the host; OpenSSH accepts both keys; it
+ * is for hosts, without critical options, of texts that ssh reads, and valid then for the host's
+ * name in small letters, which it lists; and `is_verified` is 1 (memory aside). An address has to be
+ * listed in that one text.
+ *
+ * Else, as ssh(1) does, the certified key is asked, but where something is revoked or may be:
+ * RAF_BY_CERTIFIED_KEY exactly if the bytes are in normal form, OpenSSH accepts the key that signed,
+ * whichever it is, and reads the texts, raf_check_host_key accepts the certified key, and
+ * `is_verified` is 1. With HostKeyAlgorithms ssh 9.8 and later do so only where they name the key.
+ *
+ * RAF_DONE with one of these in `*known_by`, and any other answer with 0 there: the first of
+ * RAF_TEXT, 10 to 29, RAF_NOT_NORMAL_FORM, 100 to 102, RAF_UNREADABLE_REVOCATIONS, 50, 51, and
+ * RAF_NOT_SIGNED where all else is right with the certified key. Then, of a certificate that no
+ * authority of the host signed: 59, 75 and 76 where ssh does not read it, 52 or 53 for its key.
+ * Else 59, 71, 73, 75, 76, 30, 32 to 34. */
 uint32_t raf_check_host_certificate(const raf_host_login *login,
                                     const uint8_t *certificate, size_t certificate_length,
-                                    uint32_t is_verified);
+                                    uint32_t is_verified, uint32_t *known_by);
 
 /* The number of the first line, from 1, of a text of known_hosts that is no entry and may be one
  * for the host at that port: by it the text is RAF_HOST_UNREADABLE, whatever the key. Empty lines

@@ -49,7 +49,7 @@ from ._files import (
     line_may_name_key,
     is_safe_mode,
 )
-from ._header import FOREVER, Algorithm, CertificateType, Marker, Permits, Status
+from ._header import FOREVER, Algorithm, CertificateType, KnownBy, Marker, Permits, Status
 from ._hosts import HostLogin, check_host_certificate, check_host_key, host_and_port, unreadable_host_line
 from ._keys import (
     fingerprint,
@@ -95,7 +95,7 @@ __version__ = "0.3.0"
 
 __all__ = [
     "ALL_PRINCIPALS", "FOREVER", "NO_REVOCATIONS", "Address", "Algorithm", "AllPrincipals", "Authorities", "AuthorizedEntry",
-    "BytesLike", "CertificateFields", "CertificateType", "Contents", "Grant", "HostLogin", "KnownHost", "Line", "Login", "Marker",
+    "BytesLike", "CertificateFields", "CertificateType", "Contents", "Grant", "HostLogin", "KnownBy", "KnownHost", "Line", "Login", "Marker",
     "NoKey", "Permits", "Question", "Refused", "Signers", "Status", "UserGrant", "Userauth", "Verifier", "authorities", "authorized_entry",
     "certificate_contents", "certificate_fields", "certificate_question", "certificate_to_be_signed", "check_host_certificate",
     "check_host_key", "check_userauth", "entry_lines", "line_options", "fingerprint", "fingerprint_sha512",

@@ -216,6 +216,16 @@ class Marker(IntEnum):
     REVOKED = 2
 
 
+class KnownBy(IntEnum):
+    """By what a host that shows a certificate is known; 0 is none of both.
+
+    AUTHORITY: By an authority of the host, which made it a certificate.
+    CERTIFIED_KEY: By the key in the certificate, as if nobody had signed it.
+    """
+    AUTHORITY = 1
+    CERTIFIED_KEY = 2
+
+
 # what each means, in words
 WORDS = {
     Status.DONE: "valid",
@@ -490,7 +500,7 @@ CALLS: dict[str, tuple[Any, ...]] = {
     "raf_line_may_name_key": (c_char_p, c_size_t, c_char_p, c_size_t),
     "raf_line_may_name_authority": (c_char_p, c_size_t, c_char_p, c_size_t),
     "raf_check_host_key": (POINTER(HostLogin), c_char_p, c_size_t),
-    "raf_check_host_certificate": (POINTER(HostLogin), c_char_p, c_size_t, c_uint32),
+    "raf_check_host_certificate": (POINTER(HostLogin), c_char_p, c_size_t, c_uint32, POINTER(c_uint32)),
     "raf_unreadable_host_line": (c_char_p, c_size_t, c_char_p, c_size_t, c_uint16, POINTER(c_size_t)),
     "raf_check_source_address": (c_char_p, c_size_t, c_char_p, c_size_t),
     "raf_check_from": (c_char_p, c_size_t, c_char_p, c_size_t, c_char_p, c_size_t),

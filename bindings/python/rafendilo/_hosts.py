@@ -7,7 +7,7 @@ from dataclasses import dataclass
 
 from . import _header
 from ._certificates import is_certified
-from ._header import Status
+from ._header import KnownBy, Status
 from ._library import LIBRARY, bytes_of, done, number_of, parts_of, spans_of, text_of
 from ._named import names_blobs
 from ._values import BytesLike
@@ -51,19 +51,22 @@ def check_host_key(login: HostLogin, key: BytesLike) -> None:
 
 
 @names_blobs
-def check_host_certificate(login: HostLogin, certificate: BytesLike, verifier: Verifier = is_signature) -> None:
-    """Returns exactly if the certificate, given as its blob, is trusted as that of the host, by an authority that known_hosts names for
-    it: as check_host_key of a key. It has to list the host in small letters. Asks the library, the verifier and the library again, over copies that nobody changes. Raises TypeError also
-    without a time. Whether the host holds the certified key is not looked at."""
+def check_host_certificate(login: HostLogin, certificate: BytesLike, verifier: Verifier = is_signature) -> KnownBy:
+    """By what a host that shows a certificate is known: by an authority that known_hosts names for the host, where the certificate,
+    given as its blob, lists the host in small letters; else by the certified key, as check_host_key says. Raises Refused and what that
+    raises, and TypeError also without a time. Asks the library, the verifier and the library again, over copies that nobody changes.
+    Whether the host holds the certified key is not looked at."""
     if login.unix_timestamp is None:
         raise TypeError("a certificate is valid at a time, and none is given")
     asked = _header_of(login, login.unix_timestamp)
     given, length = bytes_of(certificate)
+    known_by = ctypes.c_uint32()
 
     def verdict(is_verified: bool) -> None:
-        done(LIBRARY.raf_check_host_certificate(ctypes.byref(asked), given, length, is_verified))
+        done(LIBRARY.raf_check_host_certificate(ctypes.byref(asked), given, length, is_verified, ctypes.byref(known_by)))
 
     decided(verdict, lambda: is_certified(given, verifier))
+    return KnownBy(known_by.value)
 
 
 def host_and_port(text: str | BytesLike) -> tuple[str, int | None]:

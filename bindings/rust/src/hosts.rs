@@ -41,16 +41,27 @@ pub fn check_host_key(login: &HostLogin<'_>, key: &[u8]) -> Result<(), Status> {
     with_raw(login, |asked| raw::raf_check_host_key(asked, key))
 }
 
-/// Accepts the certificate, given as its blob, if it is the host's, as ssh(1) does or more
-/// strictly: one for hosts that lists the host's name in small letters, by an authority that
-/// known_hosts names for the host, valid then, and not revoked. `verify` is your cryptography; it
-/// is asked once, and only where nothing else is wrong.
+/// By what a host that shows a certificate is known.
+#[derive(Clone, Copy, Debug, PartialEq, Eq, Hash)]
+#[repr(u32)]
+pub enum KnownBy {
+    /// By an authority of the host, which made the certificate.
+    Authority = raw::BY_AUTHORITY,
+    /// By the key in the certificate, as if nobody had signed it.
+    CertifiedKey = raw::BY_CERTIFIED_KEY,
+}
+
+/// Says by what a host that shows a certificate, given as its blob, is known, as ssh(1) does or more
+/// strictly: by an authority that known_hosts names for the host, of a certificate for hosts that
+/// lists the host's name in small letters, valid then, and not revoked; else by the certified key,
+/// as [`check_host_key`] says, where nothing is revoked or may be. `verify` is your cryptography; it
+/// is asked once, and only where nothing else is wrong with one of both.
 ///
 /// Fails with a status from 10 to 29 where the bytes are no certificate, and else with what is
-/// wrong first: [`Status::NOT_NORMAL_FORM`]; as [`check_host_key`] does, never with
-/// [`Status::HOST_CHANGED`]; with [`Status::OTHER_TYPE`], [`Status::CRITICAL_OPTIONS`],
-/// [`Status::KEY_ID`] or [`Status::VALID_PRINCIPALS`]; with 32 to 34, and with
-/// [`Status::NOT_SIGNED`] where `verify` says no.
+/// wrong first: [`Status::NOT_NORMAL_FORM`]; as [`check_host_key`] does; with
+/// [`Status::OTHER_TYPE`], [`Status::CRITICAL_OPTIONS`], [`Status::KEY_ID`] or
+/// [`Status::VALID_PRINCIPALS`]; with 32 to 34, and with [`Status::NOT_SIGNED`] where `verify` says
+/// no.
 ///
 /// That the host has signed this session under the certified key
 /// ([`certificate_key`](crate::certificate_key)) is yours to ask.
@@ -58,9 +69,14 @@ pub fn check_host_certificate(
     login: &HostLogin<'_>,
     certificate: &[u8],
     verify: impl FnOnce(&Question) -> bool,
-) -> Result<(), Status> {
+) -> Result<KnownBy, Status> {
     let verdict = |yes| {
-        with_raw(login, |asked| raw::raf_check_host_certificate(asked, certificate, u32::from(yes)))
+        let mut known_by = 0;
+        with_raw(login, |asked| {
+            raw::raf_check_host_certificate(asked, certificate, u32::from(yes), &mut known_by)
+        })?;
+        let mut ways = [KnownBy::Authority, KnownBy::CertifiedKey].into_iter();
+        ways.find(|it| *it as u32 == known_by).ok_or(Status::OTHER_ERROR)
     };
     decide(verdict, || is_verified(certificate, verify))
 }

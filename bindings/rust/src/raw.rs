@@ -94,6 +94,12 @@ pub const MARKER_CERT_AUTHORITY: u32 = 1;
 /// `RAF_MARKER_REVOKED`.
 pub const MARKER_REVOKED: u32 = 2;
 
+/// `RAF_BY_AUTHORITY`. By an authority of the host, which made it a certificate.
+pub const BY_AUTHORITY: u32 = 1;
+
+/// `RAF_BY_CERTIFIED_KEY`. By the key in the certificate, as if nobody had signed it.
+pub const BY_CERTIFIED_KEY: u32 = 2;
+
 statuses! {
     /// Malloc refused; nothing is said of the input, and nothing is kept: the call may be made
     /// again.
@@ -613,7 +619,9 @@ calls! {
     fn raf_line_may_name_key(line: &[u8], key: &[u8]);
     fn raf_line_may_name_authority(line: &[u8], certificate: &[u8]);
     fn raf_check_host_key(login: &HostLogin<'_>, key: &[u8]);
-    fn raf_check_host_certificate(login: &HostLogin<'_>, certificate: &[u8], is_verified: u32);
+    fn raf_check_host_certificate(
+        login: &HostLogin<'_>, certificate: &[u8], is_verified: u32, known_by: &mut u32
+    );
     fn raf_unreadable_host_line(known_hosts: &[u8], host: &[u8], port: u16, number: &mut usize);
     fn raf_check_source_address(list: &[u8], address: &[u8]);
     fn raf_check_from(list: &[u8], host: &[u8], address: &[u8]);

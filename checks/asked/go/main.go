@@ -107,7 +107,8 @@ var answers = map[string]func(of []string) ([]string, error){
 	"host-certificate": func(of []string) ([]string, error) {
 		login := hostLogin(of)
 		login.Now = at(of[6])
-		return nil, rafendilo.CheckHostCertificate(login, data(of[2]))
+		knownBy, err := rafendilo.CheckHostCertificate(login, data(of[2]))
+		return []string{strconv.FormatUint(uint64(knownBy), 10)}, err
 	},
 	"userauth": func(of []string) ([]string, error) {
 		return asked(rafendilo.UserauthQuestion(request(of[:6], of[6:], nil)))

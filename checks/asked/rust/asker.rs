@@ -5,8 +5,8 @@ use std::io::{self, BufRead};
 use std::net::IpAddr;
 
 use rafendilo::{
-    is_signature, CertificateType, Denial, Draft, HashAlgorithm, HostLogin, Listed, Login, Permits,
-    Place, Principal, Question, Sha256, Signers, Status, UserGrant, Userauth,
+    is_signature, CertificateType, Denial, Draft, HashAlgorithm, HostLogin, KnownBy, Listed, Login,
+    Permits, Place, Principal, Question, Sha256, Signers, Status, UserGrant, Userauth,
 };
 
 type Answer = Result<String, Status>;
@@ -197,11 +197,14 @@ fn host_verdict(what: &str, given: &[&str]) -> String {
         unix_timestamp: given.get(6).map_or(0, |it| number(it)),
         least_rsa_bits: number(given[5]).try_into().expect("a number of bits"),
     };
-    number_of(if what == "host-key" {
-        rafendilo::check_host_key(&login, &shown)
-    } else {
-        rafendilo::check_host_certificate(&login, &shown, is_signature)
-    })
+    if what == "host-key" {
+        return number_of(rafendilo::check_host_key(&login, &shown));
+    }
+    match rafendilo::check_host_certificate(&login, &shown, is_signature) {
+        Ok(KnownBy::Authority) => "0 1".into(),
+        Ok(KnownBy::CertifiedKey) => "0 2".into(),
+        Err(status) => status.number().to_string(),
+    }
 }
 
 fn unreadable_line(given: &[&str]) -> Answer {

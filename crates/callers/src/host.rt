@@ -4,7 +4,7 @@ use crate::hashes::Hashes;
 use crate::revoked::read_lists;
 use crate::verified::Told;
 use crate::words::{NO_LINE, blob, number, texts};
-use host_keys::{HostCheck, HostRefusal, check_certificate, check_key};
+use host_keys::{HostCheck, HostRefusal, KnownBy, check_certificate, check_key};
 use ssh_key::addresses::HostFault;
 use ssh_key::{PublicKey, Result};
 use std::alloc::{AllocError, Global};
@@ -31,10 +31,8 @@ pub(crate) fn key(
         least_rsa_bits,
     };
     let revoked = read_lists(alloc, revoked)?;
-    shown(
-        alloc,
-        check_key(alloc, &login, key.key_data(), hashes, &revoked.as_slice()),
-    )
+    let answer = check_key(alloc, &login, key.key_data(), hashes, &revoked.as_slice());
+    shown(alloc, answer.map(|()| "ok"))
 }
 
 /// The same for a certificate, by the bytes of its line, at the second that is the word after it.
@@ -59,17 +57,15 @@ pub(crate) fn certificate(
         least_rsa_bits,
     };
     let revoked = read_lists(alloc, revoked)?;
-    shown(
+    let answer = check_certificate(
         alloc,
-        check_certificate(
-            alloc,
-            &login,
-            &certificate,
-            hashes,
-            &revoked.as_slice(),
-            told,
-        ),
-    )
+        &login,
+        &certificate,
+        hashes,
+        &revoked.as_slice(),
+        told,
+    );
+    shown(alloc, answer.map(name_of))
 }
 
 fn borrowed(alloc: Global, texts: &[String]) -> Result<Vec<&[u8]>> {
@@ -87,9 +83,16 @@ fn port_of(digits: &str) -> Result<u16> {
     }
 }
 
-fn shown(alloc: Global, answer: std::result::Result<(), HostRefusal>) -> Result<String> {
+fn name_of(by: KnownBy) -> &'static str {
+    match by {
+        KnownBy::Authority => "ok",
+        KnownBy::CertifiedKey => "ok by its key",
+    }
+}
+
+fn shown(alloc: Global, answer: std::result::Result<&str, HostRefusal>) -> Result<String> {
     let text = match answer {
-        Ok(()) => "ok",
+        Ok(text) => text,
         Err(HostRefusal::Revoked) => "revoked",
         Err(HostRefusal::Unreadable) => "unreadable",
         Err(HostRefusal::Changed) => "changed",

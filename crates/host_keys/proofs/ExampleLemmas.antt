@@ -8,15 +8,15 @@ use Rattle.openssh_limits.specs.Read.{AreReadPrincipals}
 use Rattle.sshkey_addresses.specs.AskedHosts.{IsAsked}
 use Rattle.sshkey_addresses.proofs.AskedHosts.{one_asked}
 use Rattle.sshkey_entries.specs.HostVerdicts.{IsAuthority}
-use Rattle.sshkey_entries.specs.KnownHosts.{CertAuthority, Revoked}
+use Rattle.sshkey_entries.specs.KnownHosts.{CertAuthority}
 use Rattle.sshkey_known_hosts.specs.Examples.{by_line, host, line}
 use Rattle.sshkey_known_hosts.specs.Hmac.{hmac_sha1}
 use Rattle.sshkey_known_hosts.specs.Verdicts.{IsVerdict}
 use Rattle.sshkey_patterns.specs.Commas.{patterns}
 use Rattle.sshkey_known_hosts.specs.declared.verdict.Verdict.{Verdict}
 use Rattle.sshkey_known_hosts.specs.declared.verdict.Verdict.TheVariants as verdict
-use Rattle.sshkey_known_hosts.proofs.ExampleLemmas.{apart, host_fits, host_line, of_authority, of_each, of_none, of_unnamed, said_of_host, unnamed_at_port}
-use Rattle.sshkey_known_hosts.proofs.Verdicts.{one_verdict}
+use Rattle.sshkey_known_hosts.proofs.ExampleLemmas.{apart, host_fits, host_line, of_authority, of_each, of_none, of_unnamed, pair, said_of_host, unnamed_at_port}
+use Rattle.sshkey_known_hosts.proofs.Verdicts.{first, one_verdict}
 use Rattle.sshkey_model.specs.CertificateExamples.{authority}
 use Rattle.sshkey_model.specs.Certificates.{SignedFields}
 use Rattle.sshkey_model.specs.KeyExamples.{ed25519_key}
@@ -25,9 +25,13 @@ use Rattle.sshkey_model.specs.Lines.{IsWithout}
 use Rattle.sshkey_model.specs.Options.{CertificateOption}
 use Rattle.sshkey_model.proofs.Base64Words.{is_other_than}
 use Rattle.sshkey_model.proofs.LineTests.{all_characters, lacks}
-use Rattle.host_keys.specs.Examples.{TrustsFields, fields, login, trusted_by}
-use Rattle.host_keys.specs.Hosts.{AreForHosts, HostCheck, IsHostKey, IsSaidOfKey, IsSaidOfSigned, IsVerdictOfSigned}
+use Rattle.openssh_limits.specs.Keys.{openssh_accepts_key}
+use Rattle.sshkey_cert.specs.Validity.{IsSigned}
+use Rattle.sshkey_entries.specs.HostVerdicts.{Lists}
+use Rattle.host_keys.specs.Examples.{TrustsFields, fields, of_fields, trusted_by}
+use Rattle.host_keys.specs.Hosts.{AreForHosts, HasTrustedKey, HostCheck, IsHostKey, IsSaidOfKey, IsSaidOfSigned, IsVerdictOfSigned}
 use Rattle.host_keys.proofs.Said.{one_said}
+use Rattle.host_keys.proofs.Signed.{one_verdict as one_signed}
 
 pub never : false ≡ true → ⊥
 never e = cc
@@ -138,3 +142,41 @@ unlisted = not_listed host
 
 pub unlisted_capitals : (fields.valid_principals ≡ []) ⊎ Contains fields.valid_principals (codes "H.Example") → ⊥
 unlisted_capitals = not_listed (codes "H.Example") fields.valid_principals (λ e. cc e) refl
+
+-- ---- certified keys
+
+-- what is said of a certificate by its two keys is not something else
+pub unsaid_other : (l : HostCheck) (key signer : Key) (v w : Verdict) → IsSaidOfSigned l.hmac l.host l.port key signer l.lines v → v ≢ w → ¬ IsSaidOfSigned l.hmac l.host l.port key signer l.lines w
+unsaid_other l key signer v w said other s = other (one_said (λ n. IsVerdictOfSigned l.hmac n key signer l.lines) l.host l.port (λ n a b. one_signed l.hmac n l.lines key signer a b) v w said s)
+
+-- by the line that lists its key, and none of its authority
+pub by_line_of_key : IsSaidOfSigned hmac_sha1 (codes "H.Example") 22 ed25519_key authority (line None host ∷ []) verdict.Unknown
+by_line_of_key =
+    let plain = said_of_host.0 in
+    let says : IsVerdictOfSigned hmac_sha1 host ed25519_key authority (line None host ∷ []) verdict.Unknown = (
+      λ either. elim either [ inl a ↦ plain.0.0 a | inr b ↦ plain.1.0 b ],
+      plain.0.1,
+      of_none host (line None host) None _ [] (host_line None) authority (λ mark same fits. cc mark),
+    ) in
+    inr (says, says)
+
+-- by the line of its authority, and the one that lists its key
+pub by_both_lines : IsSaidOfSigned hmac_sha1 (codes "H.Example") 22 ed25519_key ed25519_key (by_line ∷ line None host ∷ []) verdict.Trusted
+by_both_lines =
+    let both = pair host by_line (line None host) verdict.Unknown verdict.Unknown verdict.Trusted verdict.Changed said_of_host.2 said_of_host.0 in
+    inl (
+      (λ e. cc e),
+      (
+        λ either. elim either [ inl a ↦ both.0.0 a | inr b ↦ both.0.0 b ],
+        both.0.1,
+        first (Lists hmac_sha1 host (Some CertAuthority) ed25519_key) (by_line ∷ []) (line None host ∷ []) (of_authority host by_line (Some CertAuthority) _ [] (host_line (Some CertAuthority)) refl host_fits),
+      ),
+    )
+
+-- the key is the host's, and ssh reads the certificate
+pub key_of_fields : (l : HostCheck) (f : SignedFields) → IsSaidOfKey l.hmac l.host l.port f.key l.lines verdict.Trusted → openssh_accepts_key l.least_rsa_bits f.key ≡ true → openssh_accepts_key 0 f.signature_key ≡ true → IsWithout 0 f.key_id → AreReadPrincipals f.valid_principals → IsSigned (λ q. true) (of_fields f) → HasTrustedKey l (λ q. true) (λ key. false) (of_fields f)
+key_of_fields l f said accepted signer id principals signed = record {
+  read = record { signer = signer; key_id = id; principals = principals };
+  key = record { listed = said; unrevoked = refl; accepted = accepted };
+  signed = signed;
+}

@@ -1,5 +1,6 @@
 mod AskedNames
 mod Certificates
+mod CertifiedKeys
 mod ExampleLemmas
 mod Listed
 mod Said

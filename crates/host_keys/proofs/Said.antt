@@ -7,8 +7,9 @@ use Rattle.sshkey_model.specs.Certificates.{Certificate}
 use Rattle.sshkey_model.specs.Verification.{Question}
 use Rattle.sshkey_known_hosts.specs.declared.verdict.Verdict.{Verdict}
 use Rattle.sshkey_known_hosts.specs.declared.verdict.Verdict.TheVariants.{Revoked, Trusted, Unknown}
-use Rattle.host_keys.specs.Answers.{AsksOf, IsRefusalFor, IsWhy, OkExactly, answer_of}
+use Rattle.host_keys.specs.Answers.{AsksOf, IsRefusalFor, IsWhy, KnownExactly, OkExactly, answer_of}
 use Rattle.host_keys.specs.Hosts.{IsBadFor, IsSaid, IsSettled}
+use Rattle.host_keys.specs.declared.known_by.KnownBy.{KnownBy}
 use Rattle.host_keys.specs.declared.refusal.HostRefusal.{HostRefusal}
 use Rattle.host_keys.specs.declared.refusal.HostRefusal.TheVariants as refusal
 
@@ -34,6 +35,11 @@ module _ (Says : List ℕ → Verdict → Type 0) (host : List ℕ) (port : ℕ)
 pub as_much : {P Q : Type 0} (r : Result (Unit {0}) HostRefusal) → (P → Q) → (Q → P) → OkExactly P r → OkExactly Q r
 as_much (Ok u) to from holds = to holds
 as_much (Err e) to from none = λ other q. none other (from q)
+
+-- and of a host that is known
+pub known_as : (P Q : KnownBy → Type 0) (r : Result KnownBy HostRefusal) → ((by : KnownBy) → P by → Q by) → ((by : KnownBy) → Q by → P by) → KnownExactly P r → KnownExactly Q r
+known_as P Q (Ok by) to from holds = to by holds
+known_as P Q (Err e) to from none = λ other by q. none other by (from by q)
 
 module _ {E F : Type 0} (Said : Verdict → Type 0) (revoked : Bool) where
   -- only what is trusted and not revoked is accepted
@@ -85,6 +91,6 @@ other_of e r (inl ran_out) other = absurd (other ran_out.1)
 other_of e r (inr is) other = is.0
 
 -- who needs memory for less needs it for more
-pub asks_more : (P Q : Type 0) → (P → Q) → (none : Bool) (lines : List (List ℕ)) (r : Result (Unit {0}) HostRefusal) → AsksOf P none lines r → AsksOf Q none lines r
+pub asks_more : {X : Type 0} (P Q : Type 0) → (P → Q) → (none : Bool) (lines : List (List ℕ)) (r : Result X HostRefusal) → AsksOf P none lines r → AsksOf Q none lines r
 asks_more P Q to none lines (Ok u) asks = tt
 asks_more P Q to none lines (Err e) asks = λ memory. elim (asks memory) [ inl p ↦ inl (to p) | inr rest ↦ inr rest ]

@@ -1,24 +1,26 @@
 -- Worked examples of when a key or a certificate is a host's, on both sides of each edge: what is
 -- trusted, and the same with one thing changed (ssh(1), "VERIFYING HOST KEYS"; ssh_config(5);
 -- PROTOCOL.certkeys; sshconnect.c and sshkey.c of OpenSSH). ssh of 9.2 was asked.
-use Rattle.std.specs.Prelude.{◌≡◌, ℕ, ◌-◌, ◌^◌, List, [], ◌∷◌, ◌++◌, Bool, true, false, None, Some, Ok, Err, codes, replicate, bytes_eq, if◌then◌else◌}
+use Rattle.std.specs.Prelude.{◌≡◌, ℕ, ◌-◌, ◌^◌, List, [], ◌∷◌, Bool, true, false, None, Some, Ok, Err, codes, replicate, bytes_eq, if◌then◌else◌}
 use Rattle.sshkey_entries.specs.KnownHosts as known
 use Rattle.sshkey_known_hosts.specs.Examples.{broken_line, by_line, host, line, other_line}
 use Rattle.sshkey_known_hosts.specs.Hmac.{hmac_sha1}
 use Rattle.sshkey_known_hosts.specs.declared.verdict.Verdict.{Verdict}
 use Rattle.sshkey_known_hosts.specs.declared.verdict.Verdict.TheVariants.{Changed, Revoked, Trusted, Unknown, Unreadable}
-use Rattle.sshkey_krl.specs.Revocation.{CertificateIdentity}
 use Rattle.sshkey_model.specs.CertificateExamples.{authority}
 use Rattle.sshkey_model.specs.Certificates.{Certificate, Host, SignedFields, User, forever}
 use Rattle.sshkey_model.specs.KeyExamples.{ed25519_key, rsa_key}
 use Rattle.sshkey_model.specs.Keys.{Dsa, Key, Opaque, Rsa}
 use Rattle.sshkey_model.specs.Names.{Algorithm}
 use Rattle.sshkey_model.specs.Options.{CertificateOption}
+use Rattle.sshkey_model.specs.Verification.{Question}
 use Rattle.sshkey_base.specs.declared.certificate.field.Field.{Field}
 use Rattle.sshkey_base.specs.declared.certificate.field.Field.TheVariants as field
 use Rattle.sshkey_base.specs.declared.error.Error.TheVariants.{CertificateFieldInvalid}
-use Rattle.host_keys.specs.Answers.{IsWhy, answer_of, verdict_answer}
-use Rattle.host_keys.specs.Hosts.{AreForHosts, HasOtherField, HostCheck, IsGoodFor, IsHostKey, IsSaid, IsSettled, IsTrustedCertificate, IsTrustedKey, IsVerdictOfSigned, OfAsked, are_accepted, plain_name}
+use Rattle.sshkey_cert.specs.declared.certificate.refusal.CertificateRefusal.TheVariants.{Signature, Window}
+use Rattle.host_keys.specs.Answers.{IsWhy, IsWhyNoCertifiedKey, IsWhyUnknown, KnownExactly, answer_of, is_final, of_both, verdict_answer}
+use Rattle.host_keys.specs.declared.known_by.KnownBy.TheVariants.{Authority, CertifiedKey}
+use Rattle.host_keys.specs.Hosts.{AreForHosts, HasOtherField, HasTrustedKey, HostCheck, IsGoodFor, IsHostKey, IsKnownBy, IsSaid, IsSettled, IsTrustedByKey, IsTrustedCertificate, IsTrustedKey, IsUnread, IsVerdictOfSigned, OfAsked, are_accepted, plain_name}
 use Rattle.host_keys.specs.declared.refusal.HostRefusal.{HostRefusal}
 use Rattle.host_keys.specs.declared.refusal.HostRefusal.TheVariants as refusal
 
@@ -196,6 +198,49 @@ Trust = ¬ TrustsFields (record trusted_by { lines = [] }) fields
     × TrustsFields (record trusted_by { time = 2 ^ 63 - 1 }) (record fields { valid_before = forever })
     × ¬ TrustsFields (record trusted_by { time = 2 ^ 63 }) (record fields { valid_before = forever })
 
+-- ---- a certificate whose key is the host's
+
+-- of the key that a line lists, by a key that no line has as an authority's
+abbrev pub own_fields : SignedFields
+own_fields = record fields { key = ed25519_key; signature_key = authority }
+
+-- of the same key, by itself, which the first of two lines has as an authority's
+abbrev pub by_itself : SignedFields
+by_itself = record fields { key = ed25519_key }
+
+abbrev pub both_lines : HostCheck
+both_lines = record login { lines = by_line ∷ line None host ∷ [] }
+
+abbrev pub TrustsKeyOf : HostCheck → SignedFields → Type 0
+TrustsKeyOf l f = IsKnownBy l (λ q. true) (λ key identity. false) (λ key. false) (of_fields f) CertifiedKey
+
+-- Whatever it is for; but no other key, none that its authority makes the host's, as long as it
+-- does, and none that is revoked, or whose authority is, or that may be. And only of a certificate
+-- that ssh reads, which asks its signature, too.
+abbrev pub CertifiedKeys : Type 0
+CertifiedKeys = TrustsKeyOf login own_fields
+    × TrustsKeyOf login (record own_fields { certificate_type = User; critical_options = option (codes "x@example.com") [] ∷ []; valid_principals = [] })
+    × ¬ TrustsKeyOf login fields
+    × ¬ TrustsKeyOf (record login { lines = [] }) own_fields
+    × ¬ TrustsKeyOf both_lines by_itself
+    × TrustsKeyOf (record both_lines { time = 200 }) by_itself
+    × ¬ IsTrustedByKey login (λ q. false) (λ key identity. false) (λ key. false) (of_fields own_fields)
+    × ¬ IsTrustedByKey login (λ q. true) (λ key identity. true) (λ key. false) (of_fields own_fields)
+    × ¬ IsTrustedByKey login (λ q. true) (λ key identity. false) (λ key. true) (of_fields own_fields)
+    × ¬ TrustsKeyOf (record login { lines = other_line ∷ line (Some known.Revoked) host ∷ [] }) fields
+    × ¬ TrustsKeyOf (record login { lines = line None host ∷ broken_line ∷ [] }) own_fields
+    × ¬ TrustsKeyOf login (record own_fields { key_id = 0x69 ∷ 0 ∷ 0x64 ∷ [] })
+    × ¬ TrustsKeyOf login (record own_fields { valid_principals = host ∷ (0x61 ∷ 0 ∷ 0x62 ∷ []) ∷ [] })
+    × ¬ TrustsKeyOf login (record own_fields { signature_key = dsa_key })
+
+-- By its authority, or by its key alone; and the key by itself, whatever the lines say of others.
+abbrev pub Ways : Type 0
+Ways = IsKnownBy trusted_by (λ q. true) (λ key identity. false) (λ key. false) (of_fields fields) Authority
+    × ¬ IsKnownBy trusted_by (λ q. true) (λ key identity. false) (λ key. false) (of_fields fields) CertifiedKey
+    × ¬ IsKnownBy login (λ q. true) (λ key identity. false) (λ key. false) (of_fields own_fields) Authority
+    × HasTrustedKey login (λ q. true) (λ key. false) (of_fields own_fields)
+    × ¬ HasTrustedKey login (λ q. true) (λ key. false) (of_fields fields)
+
 -- ---- what is answered
 
 -- What is revoked by who says so comes first, then what the lines say.
@@ -229,6 +274,45 @@ Reasons = Why Changed true true refusal.Revoked
     × ¬ Why Trusted false false (refusal.Certificate (CertificateFieldInvalid field.CertType))
     × Why Trusted false true (refusal.Certificate (CertificateFieldInvalid field.CertType))
     × ¬ Why Trusted false true refusal.NotNormalForm
+
+-- After which refusal of a certificate its key is asked, and what is answered where that is refused
+-- too.
+abbrev pub BothReasons : Type 0
+BothReasons = (is_final refusal.Revoked ≡ true)
+    × (is_final refusal.Unreadable ≡ true)
+    × (is_final refusal.Unknown ≡ false)
+    × (is_final refusal.UnacceptedKey ≡ false)
+    × (is_final (refusal.Invalid Window) ≡ false)
+    × (of_both refusal.Unknown refusal.Changed ≡ refusal.Changed)
+    × (of_both refusal.Unknown refusal.Unknown ≡ refusal.Unknown)
+    × (of_both refusal.UnacceptedKey refusal.Changed ≡ refusal.UnacceptedKey)
+    × (of_both (refusal.Invalid Window) refusal.Unknown ≡ refusal.Invalid Window)
+    × (of_both (refusal.Invalid Window) (refusal.Invalid Signature) ≡ refusal.Invalid Signature)
+    × (of_both refusal.UnacceptedKey refusal.Memory ≡ refusal.Memory)
+
+-- of a certificate by that field, which ssh does not read
+abbrev pub IsUnreadFor : SignedFields → HostRefusal → Type 0
+IsUnreadFor f = IsUnread (of_fields f)
+
+-- The first of what ssh does not read.
+abbrev pub FirstUnread : Type 0
+FirstUnread = IsUnreadFor (record own_fields { signature_key = dsa_key }) refusal.UnacceptedKey
+    × IsUnreadFor (record own_fields { signature_key = dsa_key; key_id = 0 ∷ 0x64 ∷ [] }) refusal.UnacceptedKey
+    × IsUnreadFor (record own_fields { key_id = 0 ∷ 0x64 ∷ [] }) (refusal.Certificate (CertificateFieldInvalid field.KeyId))
+    × IsUnreadFor (record own_fields { valid_principals = (0 ∷ 0x62 ∷ []) ∷ [] }) (refusal.Certificate (CertificateFieldInvalid field.ValidPrincipals))
+
+abbrev pub IsUnknownFor : (Question → Bool) → SignedFields → HostRefusal → Type 0
+IsUnknownFor accepts f = IsWhyUnknown login accepts (λ key identity. false) (λ key. false) (of_fields f)
+
+-- Of an unknown authority the key's refusal is told: another key is listed, or nobody signed.
+abbrev pub UnknownReasons : Type 0
+UnknownReasons = IsUnknownFor (λ q. true) fields refusal.Changed
+    × IsUnknownFor (λ q. false) own_fields (refusal.Invalid Signature)
+    × IsWhyNoCertifiedKey login (λ q. true) (λ key. false) (of_fields fields) refusal.Changed
+    × KnownExactly (λ by. by ≡ CertifiedKey) (Ok CertifiedKey)
+    × ¬ KnownExactly (λ by. by ≡ Authority) (Ok CertifiedKey)
+    × ¬ KnownExactly (λ by. by ≡ Authority) (Err refusal.Unknown)
+    × KnownExactly (λ by. by ≡ Authority) (Err refusal.Memory)
 
 abbrev pub Lacks : SignedFields → Field → Type 0
 Lacks f it = HasOtherField (of_fields f) (CertificateFieldInvalid it)

@@ -7,7 +7,7 @@ use Rattle.openssh_limits.specs.Read.{AreReadPrincipals}
 use Rattle.std.specs.List.{flat_map}
 use Rattle.std.specs.Prelude.{◌≡◌, ◌≢◌, ◌⊎◌, ℕ, List, [], ◌∷◌, Bool, ◌&&◌, false, IsTrue, Some}
 use Rattle.sshkey_addresses.specs.AskedHosts.{IsAsked}
-use Rattle.sshkey_cert.specs.Validity.{refusal_of}
+use Rattle.sshkey_cert.specs.Validity.{IsSigned, refusal_of}
 use Rattle.sshkey_entries.specs.Fields.{filled_lines}
 use Rattle.sshkey_entries.specs.HostNames.{known_name, standard_port}
 use Rattle.sshkey_entries.specs.HostVerdicts.{HidesSome, IsAuthority, IsRevoked}
@@ -29,6 +29,8 @@ use Rattle.sshkey_base.specs.declared.certificate.field.Field.TheVariants as fie
 use Rattle.sshkey_known_hosts.specs.declared.verdict.Verdict.{Verdict}
 use Rattle.sshkey_known_hosts.specs.declared.verdict.Verdict.TheVariants.{Changed, Revoked, Trusted, Unknown, Unreadable}
 use Rattle.host_keys.specs.declared.host_check.HostCheck as code
+use Rattle.host_keys.specs.declared.known_by.KnownBy.{KnownBy}
+use Rattle.host_keys.specs.declared.known_by.KnownBy.TheVariants.{Authority, CertifiedKey}
 use Rattle.host_keys.specs.declared.refusal.HostRefusal.{HostRefusal}
 use Rattle.host_keys.specs.declared.refusal.HostRefusal.TheVariants as refusal
 
@@ -141,12 +143,41 @@ pub record IsTrustedCertificate (login : HostCheck) (accepts : Question → Bool
   pub accepted : IsTrue (are_accepted login.least_rsa_bits c.signed.key c.signed.signature_key)
   pub good : IsGoodFor accepts login.time (plain_name login.host) c
 
--- The bytes are those of a certificate, in its normal form, that is the host's.
-pub record IsHostCertificate (login : HostCheck) (accepts : Question → Bool) (revokes : List ℕ → CertificateIdentity → Bool) (blob : List ℕ) : Type 0 where
+-- ssh(1) reads the certificate at all: it accepts the key that signed, and reads the texts (sshkey.c,
+-- cert_parse).
+pub record IsRead (c : Certificate) : Type 0 where
+  pub signer : IsTrue (openssh_accepts_key 0 c.signed.signature_key)
+  pub key_id : IsWithout 0 c.signed.key_id
+  pub principals : AreReadPrincipals c.signed.valid_principals
+
+-- The certified key is the host's as one that no authority signed, and the certificate is one that
+-- ssh reads, and signed by whomever.
+pub record HasTrustedKey (login : HostCheck) (accepts : Question → Bool) (revokes_key : List ℕ → Bool) (c : Certificate) : Type 0 where
+  pub read : IsRead c
+  pub key : IsTrustedKey login revokes_key c.signed.key
+  pub signed : IsSigned accepts c
+
+-- The certificate is not the host's by the name that is asked, though nobody revokes it, no line
+-- revokes one of its keys, and none is hidden; and its key is the host's (sshconnect.c,
+-- check_host_key).
+pub record IsTrustedByKey (login : HostCheck) (accepts : Question → Bool) (revokes : List ℕ → CertificateIdentity → Bool) (revokes_key : List ℕ → Bool) (c : Certificate) : Type 0 where
+  pub refused : ¬ IsTrustedCertificate login accepts revokes c
+  pub unrevoked : is_certificate_revoked revokes c ≡ false
+  pub no_line : ¬ IsSaidOfSigned login.hmac login.host login.port c.signed.key c.signed.signature_key login.lines Revoked
+  pub none_hidden : ¬ IsSaidOfSigned login.hmac login.host login.port c.signed.key c.signed.signature_key login.lines Unreadable
+  pub key : HasTrustedKey login accepts revokes_key c
+
+-- the host is known by its authority, or by the certified key
+abbrev pub IsKnownBy : HostCheck → (Question → Bool) → (List ℕ → CertificateIdentity → Bool) → (List ℕ → Bool) → Certificate → KnownBy → Type 0
+IsKnownBy login accepts revokes revokes_key c Authority = IsTrustedCertificate login accepts revokes c
+IsKnownBy login accepts revokes revokes_key c CertifiedKey = IsTrustedByKey login accepts revokes revokes_key c
+
+-- The bytes are those of a certificate, in its normal form, by which the host is known so.
+pub record IsHostCertificate (login : HostCheck) (accepts : Question → Bool) (revokes : List ℕ → CertificateIdentity → Bool) (revokes_key : List ℕ → Bool) (blob : List ℕ) (by : KnownBy) : Type 0 where
   pub certificate : Certificate
   pub spelled : SpellsCertificate certificate blob
   pub normal : blob ≡ flat (normal_certificate certificate)
-  pub trusted : OfAsked login (λ asked. IsTrustedCertificate asked accepts revokes certificate)
+  pub trusted : OfAsked login (λ asked. IsKnownBy asked accepts revokes revokes_key certificate by)
 
 -- ---- what is wrong with a certificate first
 
@@ -162,3 +193,11 @@ abbrev pub IsBadFor : (Question → Bool) → ℕ → List ℕ → Certificate �
 IsBadFor accepts t host c (refusal.Certificate e) = HasOtherField c e
 IsBadFor accepts t host c (refusal.Invalid first) = HasHostFields c × (first_refusal_for accepts (signers c) t host c ≡ Some (refusal_of first))
 IsBadFor accepts t host c r = ⊥
+
+-- ---- what is wrong with its key first
+
+-- why ssh does not read the certificate
+pub data IsUnread (c : Certificate) : HostRefusal → Type 0 where
+  OtherSigner : openssh_accepts_key 0 c.signed.signature_key ≡ false → IsUnread c refusal.UnacceptedKey
+  OddKeyId : IsTrue (openssh_accepts_key 0 c.signed.signature_key) → (IsWithout 0 c.signed.key_id → ⊥) → IsUnread c (refusal.Certificate (CertificateFieldInvalid field.KeyId))
+  OddPrincipals : IsTrue (openssh_accepts_key 0 c.signed.signature_key) → IsWithout 0 c.signed.key_id → (AreReadPrincipals c.signed.valid_principals → ⊥) → IsUnread c (refusal.Certificate (CertificateFieldInvalid field.ValidPrincipals))

@@ -1,4 +1,4 @@
-//! Whether a certificate is the host's.
+//! By what a host that shows a certificate is known.
 
 ghost use Rattle.std.specs.Prelude.{◌≡◌, ◌≢◌, ◌⊎◌, ◌↔◌, IfErr, IsOk, IsTrue, map, string_bytes, true};
 ghost use Rattle.sshkey_addresses.specs.Likeness.{is_like_address};
@@ -10,11 +10,13 @@ ghost use Rattle.sshkey_model.specs.Keys.{normal_key};
 ghost use Rattle.sshkey_model.specs.Parts.{BoxesFit, flat};
 ghost use Rattle.sshkey_model.specs.Refusals.{first_refusal_for};
 ghost use Rattle.sshkey_padding.specs.Padding.{padding};
-ghost use Rattle.host_keys.specs.Answers.{AsksOf, IsWhyNoCertificate, OkExactly, RefusesAsked, RefusesHostCertificate};
-ghost use Rattle.host_keys.specs.Hosts.{AreForHosts, HasHostFields, HasOtherField, IsBadFor, IsGoodFor, IsHostCertificate, IsTrustedCertificate, OfAsked, are_accepted, lines_of, login_of, plain_name, signers};
+ghost use Rattle.host_keys.specs.Answers.{AsksOf, IsWhyNoCertificate, IsWhyUnknown, KnownExactly, OkExactly, RefusesAsked, RefusesHostCertificate};
+ghost use Rattle.host_keys.specs.Hosts.{AreForHosts, HasHostFields, HasOtherField, IsBadFor, IsGoodFor, IsHostCertificate, IsKnownBy, IsTrustedCertificate, OfAsked, are_accepted, lines_of, login_of, plain_name, signers};
 ghost use Rattle.host_keys.specs.declared.refusal.HostRefusal.TheVariants as refusal;
 
+use crate::certified_key::check_certified_key;
 use crate::host_check::HostCheck;
+use crate::known_by::KnownBy;
 use crate::refusal::{HostRefusal, answer};
 use crate::verdict::signed_verdict;
 use openssh_limits::{openssh_accepts_key, openssh_reads_principals, openssh_reads_text};
@@ -30,7 +32,8 @@ use sshkey_model::laws::key_fits;
 use sshkey_padding::Padding;
 use std::alloc::Global;
 
-/// Accepts the certificate that a host shows, in its bytes, if all of these hold:
+/// Says by what the host is known that shows a certificate, in its bytes. It is by `Authority` if
+/// all of these hold:
 /// - they are its normal form, and so those that were signed;
 /// - a line `@cert-authority` of the texts of known_hosts, as OpenSSH reads them, has the key that
 ///   signed it for the host at that port, and no line for it revokes one of the two keys;
@@ -47,26 +50,36 @@ use std::alloc::Global;
 /// that lists nobody is no host's, as ssh(1) has it since 10.3; before, it was each host's of its
 /// authority.
 ///
+/// Else it asks, as ssh(1) does, whether the certified key is the host's. The host is known by
+/// `CertifiedKey` if all of these hold:
+/// - the bytes are the certificate's normal form, and nobody revokes it: neither `revocations`, nor
+///   a line one of the two keys, nor a line that can't be read perhaps;
+/// - ssh(1) accepts the key that signed, and reads the texts;
+/// - `check_key` accepts the certified key;
+/// - the verifier accepts the signature, by whichever key: ssh(1) reads no other certificate.
+///
 /// Unless memory runs out, it fails with the first of these that fits:
 /// - `Certificate` with an error of `Certificate::from_bytes`;
 /// - `NotNormalForm`;
 /// - `Host`: the port is 0, the host is empty, or it is like an address and has no text as one;
 /// - `Revoked`: `revocations` revokes the certificate, or a line one of the keys;
 /// - `Unreadable`: a line that can't be read could be one for the host;
-/// - `Unknown`: the key that signed is no authority of the host;
+/// - `Invalid` with `Signature`: all is right with the certified key, but the signature;
+/// - if the key that signed is no authority of the host: `UnacceptedKey` for it; `Certificate` with
+///   `CertificateFieldInvalid`, for `KeyId` or `ValidPrincipals` that ssh(1) does not read; what
+///   `check_key` says of the certified key, as `Changed` or `Unknown`;
 /// - `UnacceptedKey` for its key, or the one that signed;
 /// - `Certificate`: `CertificateFieldInvalid` with `CertType`, `CriticalOptions`, `KeyId` or
 ///   `ValidPrincipals`;
 /// - `Invalid` with the first refusal (`Certificate::first_refusal_for`), which is never
 ///   `Authority`.
 ///
-/// So the verifier is asked only about a certificate by an authority of the host. It is asked about
-/// an RSA signature with the zeros in front that the authority left out, as ssh(1) verifies it
-/// (`sshkey_padding::Padding`).
+/// So the verifier is asked only about a certificate by an authority of the host, or one of a key
+/// that is the host's. It is asked about an RSA signature with the zeros in front that the authority
+/// left out, as ssh(1) verifies it (`sshkey_padding::Padding`).
 ///
 /// If it would refuse a host at another port than 22 with `Unknown`, it asks, as ssh(1) does, all
-/// the texts about the host's plain name. Whether the certified key is one that the host is known
-/// by is `check_key`'s question, and not asked here.
+/// the texts about the host's plain name.
 ///
 /// `Memory` means what it means for `Certificate::from_bytes`, or that a text has a line,
 /// `revocations` had to be asked (`Revocations::revokes_none`) or the host is like an address.
@@ -77,12 +90,13 @@ pub fn check_certificate<H: HostHasher, R: Revocations, V: RawVerifier>(
     hmac: &H,
     revocations: &R,
     verifier: &V,
-) -> Result<(), HostRefusal>
-    ensures exactly { OkExactly (IsHostCertificate (login_of login.now (H.hmac hmac.now))
-        (padding (V.accepts verifier.now)) (R.revokes revocations.now) certificate.now) result }
+) -> Result<KnownBy, HostRefusal>
+    ensures exactly { KnownExactly (IsHostCertificate (login_of login.now (H.hmac hmac.now))
+        (padding (V.accepts verifier.now)) (R.revokes revocations.now)
+        (R.revokes_key revocations.now) certificate.now) result }
     ensures refused { IfErr result (λ r. r ≢ refusal.Memory → RefusesHostCertificate
         (login_of login.now (H.hmac hmac.now)) (padding (V.accepts verifier.now))
-        (R.revokes revocations.now) certificate.now r) }
+        (R.revokes revocations.now) (R.revokes_key revocations.now) certificate.now r) }
     ensures asks { AsksOf (certificate_format.needs certificate.now 0
         ⊎ (is_like_address login.now.host.now ≡ true)) (R.revokes_none revocations.now)
         (lines_of login.now.texts.now) result }
@@ -99,7 +113,7 @@ pub fn check_certificate<H: HostHasher, R: Revocations, V: RawVerifier>(
     judge(alloc, login, &read, hmac, revocations, &padding)
 }
 
-/// Accepts the certificate if it is the host's.
+/// By what the certificate makes the host known.
 fn judge<H: HostHasher, R: Revocations, V: RawVerifier>(
     alloc: Global,
     login: &HostCheck,
@@ -107,14 +121,14 @@ fn judge<H: HostHasher, R: Revocations, V: RawVerifier>(
     hmac: &H,
     revocations: &R,
     verifier: &V,
-) -> Result<(), HostRefusal>
+) -> Result<KnownBy, HostRefusal>
     requires { IsCertificate (certificate_of certificate.now) }
-    ensures exactly { OkExactly (OfAsked (login_of login.now (H.hmac hmac.now))
-        (λ asked. IsTrustedCertificate asked (V.accepts verifier.now) (R.revokes revocations.now)
-        (certificate_of certificate.now))) result }
+    ensures exactly { KnownExactly (λ by. OfAsked (login_of login.now (H.hmac hmac.now))
+        (λ asked. IsKnownBy asked (V.accepts verifier.now) (R.revokes revocations.now)
+        (R.revokes_key revocations.now) (certificate_of certificate.now) by)) result }
     ensures refused { IfErr result (RefusesAsked (login_of login.now (H.hmac hmac.now))
-        (λ asked. IsWhyNoCertificate asked (V.accepts verifier.now) (R.revokes revocations.now)
-        (certificate_of certificate.now))) }
+        (λ asked. IsWhyUnknown asked (V.accepts verifier.now) (R.revokes revocations.now)
+        (R.revokes_key revocations.now) (certificate_of certificate.now))) }
     ensures asks { AsksOf (is_like_address login.now.host.now ≡ true)
         (R.revokes_none revocations.now) (lines_of login.now.texts.now) result }
 {
@@ -125,6 +139,38 @@ fn judge<H: HostHasher, R: Revocations, V: RawVerifier>(
 
 /// The same of a host under the name that is asked.
 fn check_asked_certificate<H: HostHasher, R: Revocations, V: RawVerifier>(
+    alloc: Global,
+    login: &HostCheck,
+    certificate: &Certificate,
+    hmac: &H,
+    revocations: &R,
+    verifier: &V,
+) -> Result<KnownBy, HostRefusal>
+    requires { IsCertificate (certificate_of certificate.now) }
+    ensures exactly { KnownExactly (IsKnownBy (login_of login.now (H.hmac hmac.now))
+        (V.accepts verifier.now) (R.revokes revocations.now) (R.revokes_key revocations.now)
+        (certificate_of certificate.now)) result }
+    ensures refused { IfErr result (IsWhyUnknown (login_of login.now (H.hmac hmac.now))
+        (V.accepts verifier.now) (R.revokes revocations.now) (R.revokes_key revocations.now)
+        (certificate_of certificate.now)) }
+    ensures asks { AsksOf ⊥ (R.revokes_none revocations.now) (lines_of login.now.texts.now)
+        result }
+{
+    let Err(first) = check_by_authority(alloc, login, certificate, hmac, revocations, verifier)
+    else {
+        return Ok(KnownBy::Authority);
+    };
+    if first.is_final() {
+        return Err(first);
+    }
+    match check_certified_key(alloc, login, certificate, hmac, revocations, verifier) {
+        Ok(()) => Ok(KnownBy::CertifiedKey),
+        Err(why) => Err(first.or_of_key(why)),
+    }
+}
+
+/// Whether the certificate is by an authority of the host, and valid for it.
+fn check_by_authority<H: HostHasher, R: Revocations, V: RawVerifier>(
     alloc: Global,
     login: &HostCheck,
     certificate: &Certificate,

@@ -1,6 +1,6 @@
 //! Worked examples of the definitions, on both sides of each edge.
 
-ghost use Rattle.host_keys.specs.Examples.{AnswersGiven, Authorities, Fields, FirstFields, HostKeys, Names, Principals, Reasons, SignedKeys, Trust, Unaccepted};
+ghost use Rattle.host_keys.specs.Examples.{AnswersGiven, Authorities, BothReasons, CertifiedKeys, Fields, FirstFields, FirstUnread, HostKeys, Names, Principals, Reasons, SignedKeys, Trust, Unaccepted, UnknownReasons, Ways};
 
 /// By which name a host is asked about.
 pub fn names()
@@ -42,6 +42,16 @@ pub fn trust()
     ensures { Trust }
 {}
 
+/// Keys that a certificate has, whoever signed it.
+pub fn certified_keys()
+    ensures { CertifiedKeys }
+{}
+
+/// By what a host that shows a certificate is known.
+pub fn ways()
+    ensures { Ways }
+{}
+
 /// What is answered.
 pub fn answers()
     ensures { AnswersGiven }
@@ -50,6 +60,21 @@ pub fn answers()
 /// Why a host is refused.
 pub fn reasons()
     ensures { Reasons }
+{}
+
+/// Why a certificate and its key are refused.
+pub fn both_reasons()
+    ensures { BothReasons }
+{}
+
+/// What ssh(1) does not read first.
+pub fn first_unread()
+    ensures { FirstUnread }
+{}
+
+/// Why a host that shows a certificate is not known.
+pub fn unknown_reasons()
+    ensures { UnknownReasons }
 {}
 
 /// Which field is wrong first.

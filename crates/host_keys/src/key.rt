@@ -57,7 +57,7 @@ pub fn check_key<H: HostHasher, R: Revocations>(
 }
 
 /// The same of a host under the name that is asked.
-fn check_asked<H: HostHasher, R: Revocations>(
+pub(crate) fn check_asked<H: HostHasher, R: Revocations>(
     alloc: Global,
     login: &HostCheck,
     key: &KeyData,

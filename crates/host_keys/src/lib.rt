@@ -6,9 +6,11 @@
 
 mod asked;
 mod certificate;
+mod certified_key;
 pub mod examples;
 mod host_check;
 mod key;
+mod known_by;
 mod refusal;
 mod texts;
 mod verdict;
@@ -16,4 +18,5 @@ mod verdict;
 pub use certificate::check_certificate;
 pub use host_check::HostCheck;
 pub use key::check_key;
+pub use known_by::KnownBy;
 pub use refusal::HostRefusal;

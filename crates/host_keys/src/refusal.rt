@@ -1,8 +1,9 @@
 //! Why a host is refused.
 
-ghost use Rattle.std.specs.Prelude.{◌≡◌};
+ghost use Rattle.std.specs.Prelude.{◌≡◌, ◌↔◌, IsTrue};
 ghost use Rattle.sshkey_base.specs.declared.error.Error.TheVariants.{Memory};
-ghost use Rattle.host_keys.specs.Answers.{IsRefusalFor, IsRefusalForHost, answer_of, verdict_answer};
+ghost use Rattle.host_keys.specs.Answers.{IsRefusalFor, IsRefusalForHost, answer_of, comes_first, is_final, of_both, verdict_answer};
+ghost use Rattle.host_keys.specs.declared.refusal.HostRefusal.TheVariants.{Unknown};
 
 use sshkey_addresses::HostFault;
 use sshkey_base::Error;
@@ -18,9 +19,9 @@ pub enum HostRefusal {
     Revoked,
     /// A line can't be read that could be one for the host, perhaps a revocation.
     Unreadable,
-    /// The host is known by other keys.
+    /// The host is known by other keys, and a certificate's authority is none of it.
     Changed,
-    /// Nothing is known of the host, or the key that signed the certificate is no authority of it.
+    /// Nothing is known of the host: no key, and of a certificate neither its authority.
     Unknown,
     /// ssh(1) accepts no such key, by its kind or its size (`openssh_limits::openssh_accepts_key`),
     /// or no such key as signed the certificate.
@@ -29,7 +30,8 @@ pub enum HostRefusal {
     /// critical option, or with a text that ssh(1) does not read (`Error::CertificateFieldInvalid`).
     Certificate(Error),
     /// The certificate is by an authority of the host, but not valid for it now: for its signature,
-    /// the time, its window or its principals.
+    /// the time, its window or its principals. Or its key is the host's, and its signature does not
+    /// verify.
     Invalid(CertificateRefusal),
     /// The bytes are not the certificate's normal form, and so not those that were signed.
     NotNormalForm,
@@ -49,6 +51,42 @@ impl HostRefusal {
             return HostRefusal::Memory;
         }
         HostRefusal::Certificate(error)
+    }
+
+    /// Whether the certified key is not asked after this refusal of a certificate.
+    pub(crate) fn is_final(&self) -> bool
+        ensures { result ≡ is_final self.now }
+    {
+        matches!(
+            self,
+            HostRefusal::Revoked | HostRefusal::Unreadable | HostRefusal::Memory
+        )
+    }
+
+    /// This refusal of a certificate, or that of its key, which was asked then.
+    pub(crate) fn or_of_key(self, why: HostRefusal) -> HostRefusal
+        ensures { result ≡ of_both self why }
+    {
+        if why.comes_first() || self.is_unknown() {
+            return why;
+        }
+        self
+    }
+
+    /// Whether it is a key's for memory, or for the signature over it alone.
+    fn comes_first(&self) -> bool
+        ensures { result ≡ comes_first self.now }
+    {
+        matches!(
+            self,
+            HostRefusal::Memory | HostRefusal::Invalid(CertificateRefusal::Signature)
+        )
+    }
+
+    fn is_unknown(&self) -> bool
+        ensures { IsTrue result ↔ (self.now ≡ Unknown) }
+    {
+        matches!(self, HostRefusal::Unknown)
     }
 
     /// The refusal of a host for that fault.

@@ -1,9 +1,10 @@
 -- From what is answered of a host to its number.
 use Rattle.std.proofs.Common.{◌≡◌, ◌≢◌, ℕ, Bool, Result, Ok, Err, IfErr, inl, inr, refl, ap, subst, sym, ◌⊎◌, ◌∙◌}
-use Rattle.host_keys.specs.Answers.{OkExactly}
+use Rattle.host_keys.specs.Answers.{KnownExactly, OkExactly}
+use Rattle.host_keys.specs.declared.known_by.KnownBy.{KnownBy}
 use Rattle.host_keys.specs.declared.refusal.HostRefusal.{HostRefusal}
 use Rattle.host_keys.specs.declared.refusal.HostRefusal.TheVariants as refusal
-use Rattle.sshkey_host_calls.specs.Hosts.{IsJudged, answer_status, host_status}
+use Rattle.sshkey_host_calls.specs.Hosts.{IsJudged, IsJudgedBy, TellsKnown, answer_status, host_status}
 
 is_memory : (r : HostRefusal) → (r ≡ refusal.Memory) ⊎ (r ≢ refusal.Memory)
 is_memory refusal.Memory = inl refl
@@ -44,3 +45,23 @@ module _ (Holds : Type 0) (IsWhy : HostRefusal → Type 0) (are_read : Bool) whe
 pub for_others : (IsWhy : HostRefusal → Type 0) (answer : Result (Unit {0}) HostRefusal) → IfErr answer IsWhy → IfErr answer (λ r. r ≢ refusal.Memory → IsWhy r)
 for_others IsWhy (Ok x) why = tt
 for_others IsWhy (Err r) why = λ _. why
+
+-- ---- and by what
+
+module _ (Holds : KnownBy → Type 0) (IsWhy : HostRefusal → Type 0) (are_read : Bool) where
+  known : (by n : ℕ) (answer : Result KnownBy HostRefusal) → IfErr answer (λ r. n ≢ 0) → TellsKnown are_read answer by n → KnownExactly Holds answer → IfErr answer (λ r. r ≢ refusal.Memory → IsWhy r) → IsJudgedBy Holds IsWhy are_read by n
+  known by n (Ok k) some tells holds why = record {
+    yes_ = λ _. (k, holds, tells.1);
+    no_ = λ not_zero. absurd (not_zero tells.0);
+    first = λ not_zero. absurd (not_zero tells.0);
+  }
+  known by n (Err r) some tells none why =
+      let live : n ≢ 1 → r ≢ refusal.Memory = λ other memory. other (tells.0 ∙ ap (host_status are_read) memory) in
+      record {
+        yes_ = λ zero_. absurd (some zero_);
+        no_ = λ _ other. none (live other);
+        first = λ _ other. (r, why (live other), tells.0);
+      }
+
+  pub known_as : (by n : ℕ) (answer : Result KnownBy HostRefusal) (b : Bool) → TellsKnown b answer by n → b ≡ are_read → IfErr answer (λ r. n ≢ 0) → KnownExactly Holds answer → IfErr answer (λ r. r ≢ refusal.Memory → IsWhy r) → IsJudgedBy Holds IsWhy are_read by n
+  known_as by n answer b tells same some = known by n answer some (subst (λ (x : Bool). TellsKnown x answer by n) same tells)

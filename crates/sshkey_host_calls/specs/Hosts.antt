@@ -4,6 +4,8 @@ use Rattle.std.specs.Str.{is_utf8}
 use Rattle.host_keys.specs.Answers.{RefusesHostCertificate, RefusesHostKey}
 use Rattle.host_keys.specs.Hosts as hosts
 use Rattle.host_keys.specs.Hosts.{IsHostCertificate, IsHostKey, lines_of}
+use Rattle.host_keys.specs.declared.known_by.KnownBy.{KnownBy}
+use Rattle.host_keys.specs.declared.known_by.KnownBy.TheVariants.{Authority, CertifiedKey}
 use Rattle.host_keys.specs.declared.refusal.HostRefusal.{HostRefusal}
 use Rattle.host_keys.specs.declared.refusal.HostRefusal.TheVariants as refusal
 use Rattle.sshkey_base.specs.declared.error.Error.{Error}
@@ -56,6 +58,16 @@ abbrev pub answer_status : Bool → Result (Unit {0}) HostRefusal → ℕ
 answer_status are_read (Ok x) = 0
 answer_status are_read (Err r) = host_status are_read r
 
+-- by what a host is known; 0 stands for nothing
+abbrev pub known_by_number : KnownBy → ℕ
+known_by_number Authority = 1
+known_by_number CertifiedKey = 2
+
+-- 0 of a host that is known, and by what; else the number of the refusal, and 0
+abbrev pub TellsKnown : Bool → Result KnownBy HostRefusal → ℕ → ℕ → Type 0
+TellsKnown are_read (Ok known) by n = (n ≡ 0) × (by ≡ known_by_number known)
+TellsKnown are_read (Err r) by n = (n ≡ host_status are_read r) × (by ≡ 0)
+
 -- ---- what is told
 
 -- 0 says exactly that this holds, and another number what is wrong first; 1 is memory.
@@ -71,18 +83,25 @@ TellsKey l k n = n ≢ 1 → (reads : List (Result RevokedKeys Error)) × AreRea
 abbrev pub TellsHostKey : HostRequest → List ℕ → ℕ → Type 0
 TellsHostKey l bytes n = TellsOf SpellsKey key_data_at bytes (λ k. TellsKey l k n) n (Unit {0})
 
+-- 0 says exactly that the host is known, and by what; another number says what is wrong first, and
+-- 1 is memory.
+pub record IsJudgedBy (Holds : KnownBy → Type 0) (IsWhy : HostRefusal → Type 0) (are_read : Bool) (by n : ℕ) : Type 0 where
+  pub yes_ : n ≡ 0 → (known : KnownBy) × Holds known × (by ≡ known_by_number known)
+  pub no_ : n ≢ 0 → n ≢ 1 → (known : KnownBy) → Holds known → ⊥
+  pub first : n ≢ 0 → n ≢ 1 → (r : HostRefusal) × IsWhy r × (n ≡ host_status are_read r)
+
 -- the verdict on the certificate, for that verifier
-abbrev pub IsJudgedCertificate : HostRequest → (Question → Bool) → List (Result RevokedKeys Error) → List ℕ → ℕ → Type 0
-IsJudgedCertificate l accepts reads bytes n = IsJudged (IsHostCertificate (login_of l) accepts (one_revokes reads) bytes) (RefusesHostCertificate (login_of l) accepts (one_revokes reads) bytes) (are_read reads) n
+abbrev pub IsJudgedCertificate : HostRequest → (Question → Bool) → List (Result RevokedKeys Error) → List ℕ → ℕ → ℕ → Type 0
+IsJudgedCertificate l accepts reads bytes = IsJudgedBy (IsHostCertificate (login_of l) accepts (one_revokes reads) (one_revokes_key reads) bytes) (RefusesHostCertificate (login_of l) accepts (one_revokes reads) (one_revokes_key reads) bytes) (are_read reads)
 
 -- Memory aside, it is the number of that verdict, by what reading the files gives.
-abbrev pub JudgesCertificate : HostRequest → (Question → Bool) → List ℕ → ℕ → Type 0
-JudgesCertificate l accepts bytes n = n ≢ 1 → (reads : List (Result RevokedKeys Error)) × AreReadOf l.revoked.now reads × IsJudgedCertificate l accepts reads bytes n
+abbrev pub JudgesCertificate : HostRequest → (Question → Bool) → List ℕ → ℕ → ℕ → Type 0
+JudgesCertificate l accepts bytes by n = n ≢ 1 → (reads : List (Result RevokedKeys Error)) × AreReadOf l.revoked.now reads × IsJudgedCertificate l accepts reads bytes by n
 
 -- The same for each verifier that says so of this certificate's question.
-abbrev pub TellsCertificate : HostRequest → List ℕ → ℕ → ℕ → Type 0
-TellsCertificate l bytes is_verified n = n ≢ 1 → (reads : List (Result RevokedKeys Error)) × AreReadOf l.revoked.now reads × ((accepts : Question → Bool) → Verified accepts bytes is_verified → IsJudgedCertificate l accepts reads bytes n)
+abbrev pub TellsCertificate : HostRequest → List ℕ → ℕ → ℕ → ℕ → Type 0
+TellsCertificate l bytes is_verified by n = n ≢ 1 → (reads : List (Result RevokedKeys Error)) × AreReadOf l.revoked.now reads × ((accepts : Question → Bool) → Verified accepts bytes is_verified → IsJudgedCertificate l accepts reads bytes by n)
 
 -- It is told of the certificate that the bytes spell.
-abbrev pub TellsHostCertificate : HostRequest → List ℕ → ℕ → ℕ → Type 0
-TellsHostCertificate l bytes is_verified n = TellsOf SpellsCertificate certificate_at bytes (λ c. TellsCertificate l bytes is_verified n) n (Unit {0})
+abbrev pub TellsHostCertificate : HostRequest → List ℕ → ℕ → ℕ → ℕ → Type 0
+TellsHostCertificate l bytes is_verified by n = TellsOf SpellsCertificate certificate_at bytes (λ c. TellsCertificate l bytes is_verified by n) n (Unit {0})

@@ -3,9 +3,9 @@ use Rattle.std.proofs.lemmas.Result.{err_from_is_err_and}
 use Rattle.sshkey_addresses.specs.AskedHosts.{IsAsked}
 use Rattle.sshkey_addresses.specs.Likeness.{is_like_address}
 use Rattle.sshkey_cert.specs.CertificateValues.{certificate_of}
-use Rattle.host_keys.specs.Answers.{AsksOf, IsWhyNoCertificate, OkExactly}
-use Rattle.host_keys.specs.Hosts.{HostCheck, IsTrustedCertificate, login_of}
-use Rattle.host_keys.proofs.AskedNames.{exactly_asked, needs_name, none_asked, why_asked}
+use Rattle.host_keys.specs.Answers.{AsksOf, IsWhyUnknown, KnownExactly}
+use Rattle.host_keys.specs.Hosts.{HostCheck, IsKnownBy, login_of}
+use Rattle.host_keys.proofs.AskedNames.{known_asked, needs_name, none_asked, why_asked}
 use Rattle.host_keys.proofs.Said.{asks_more}
 use Rattle.host_keys.proofs.certificate.judge.Goals as goal
 
@@ -14,7 +14,7 @@ returns-in_err-asked g c =
     let login = login_of c.args.login.now (g.H.HostHasher.hmac c.args.hmac.now) in
     let p = err_from_is_err_and c.from_residual.result c.from_residual.ensures.1 in
     rw (p.1, p.2) (record {
-      exactly = none_asked login (λ asked. IsTrustedCertificate asked (g.V.RawVerifier.accepts c.args.verifier.now) (g.R.Revocations.revokes c.args.revocations.now) (certificate_of c.args.certificate.now)) _ c.in_err-asked.ensures;
+      exactly = λ other by. none_asked login (λ asked. IsKnownBy asked (g.V.RawVerifier.accepts c.args.verifier.now) (g.R.Revocations.revokes c.args.revocations.now) (g.R.Revocations.revokes_key c.args.revocations.now) (certificate_of c.args.certificate.now) by) _ c.in_err-asked.ensures other;
       refused = inl c.in_err-asked.ensures;
       asks = needs_name login _ _ _ c.in_err-asked.ensures;
     })
@@ -23,15 +23,15 @@ pub returns-clause-exactly : goal.returns-clause-exactly
 returns-clause-exactly g c =
     let hmac = g.H.HostHasher.hmac c.args.hmac.now in
     let login = login_of c.args.login.now hmac in
-    let Holds = λ (l : HostCheck). IsTrustedCertificate l (g.V.RawVerifier.accepts c.args.verifier.now) (g.R.Revocations.revokes c.args.revocations.now) (certificate_of c.args.certificate.now) in
+    let Holds = λ (l : HostCheck). IsKnownBy l (g.V.RawVerifier.accepts c.args.verifier.now) (g.R.Revocations.revokes c.args.revocations.now) (g.R.Revocations.revokes_key c.args.revocations.now) (certificate_of c.args.certificate.now) in
     let asked = subst (IsAsked login.host login.port) (sym c.as_str.ensures) c.in_ok-asked.ensures in
-    exactly_asked login c.as_str.result.now asked c.check_asked_certificate.result Holds (subst (λ (l : HostCheck). OkExactly (Holds l) c.check_asked_certificate.result) (c.under-login.ensures hmac) c.check_asked_certificate.ensures.exactly)
+    known_asked login c.as_str.result.now asked c.check_asked_certificate.result Holds (subst (λ (l : HostCheck). KnownExactly (Holds l) c.check_asked_certificate.result) (c.under-login.ensures hmac) c.check_asked_certificate.ensures.exactly)
 
 pub returns-clause-refused : goal.returns-clause-refused
 returns-clause-refused g c =
     let hmac = g.H.HostHasher.hmac c.args.hmac.now in
     let login = login_of c.args.login.now hmac in
-    let Why = λ (l : HostCheck). IsWhyNoCertificate l (g.V.RawVerifier.accepts c.args.verifier.now) (g.R.Revocations.revokes c.args.revocations.now) (certificate_of c.args.certificate.now) in
+    let Why = λ (l : HostCheck). IsWhyUnknown l (g.V.RawVerifier.accepts c.args.verifier.now) (g.R.Revocations.revokes c.args.revocations.now) (g.R.Revocations.revokes_key c.args.revocations.now) (certificate_of c.args.certificate.now) in
     let asked = subst (IsAsked login.host login.port) (sym c.as_str.ensures) c.in_ok-asked.ensures in
     why_asked login c.as_str.result.now asked c.check_asked_certificate.result Why (subst (λ (l : HostCheck). IfErr c.check_asked_certificate.result (Why l)) (c.under-login.ensures hmac) c.check_asked_certificate.ensures.refused)
 

@@ -1,4 +1,4 @@
-use Rattle.std.proofs.Common.{◌⊎◌, [], None, Some, codes, inl, inr, refl, arith}
+use Rattle.std.proofs.Common.{◌⊎◌, [], Some, codes, inl, inr, refl, arith}
 use Rattle.sshkey_entries.specs.KnownHosts.{CertAuthority, Revoked}
 use Rattle.sshkey_model.specs.CertificateExamples.{authority}
 use Rattle.sshkey_model.specs.KeyExamples.{ed25519_key}

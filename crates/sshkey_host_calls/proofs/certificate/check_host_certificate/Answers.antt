@@ -9,7 +9,7 @@ use Rattle.sshkey_host_calls.proofs.certificate.check_host_certificate.Goals as 
 pub returns-in-Ok-clause-verdict : goal.returns-in-Ok-clause-verdict
 returns-in-Ok-clause-verdict c _ =
     let read = c.in-Ok.ensures.accepts in
-    inl (_, read, told c.args.login.now c.args.certificate.now c.args.is_verified c.judge.result c.of.result.is_yes c.of.ensures c.judge.ensures)
+    inl (_, read, told c.args.login.now c.args.certificate.now c.args.is_verified c.judge.new.known_by c.judge.result c.of.result.is_yes c.of.ensures c.judge.ensures.verdict)
 
 pub returns-in-Err-clause-verdict : goal.returns-in-Err-clause-verdict
-returns-in-Err-clause-verdict c _ = refused certificate_bytes cause c.args.certificate.now c.in-Err.error _ c.error_status.ensures.fault SpellsCertificate certificate_at c.in-Err.ensures.keeps tt
+returns-in-Err-clause-verdict c _ = rw c.tell_unknown-in-Err.ensures.same (refused certificate_bytes cause c.args.certificate.now c.in-Err.error _ c.error_status.ensures.fault SpellsCertificate certificate_at c.in-Err.ensures.keeps tt)
