@@ -1,4 +1,5 @@
 /* What sshkey-check says of lines: of certificates, of what hosts show, and of logins. */
+#include <inttypes.h>
 #include <stdio.h>
 #include <stdlib.h>
 
@@ -9,6 +10,14 @@
 
 bool check_can_not_tell(uint32_t answer) {
   return answer == RAF_MEMORY || answer == RAF_UNREADABLE_REVOCATIONS;
+}
+
+bool check_name_unread(const program_files *revoked, uint32_t answer) {
+  char *words = program_unread_revocations(revoked, answer);
+  bool is_named = words != NULL;
+  if (words) program_complain("%s (%" PRIu32 ")", words, answer);
+  free(words);
+  return is_named;
 }
 
 report check_report(const check_request *asked, size_t number) {
@@ -205,7 +214,8 @@ int check_text(raf_blob text, check_request *asked) {
   const char *path = asked->path ? asked->path : REPORT_INPUT;
   asked->count = 0;
   uint32_t answer = program_each_line(text, each, asked, &number);
-  if (answer != RAF_DONE)
+  bool is_named = check_name_unread(&asked->revoked, answer);
+  if (answer != RAF_DONE && !is_named)
     program_complain("%s:%zu: %s", path, number, raf_status_meaning(answer));
   else if (!asked->count)
     program_complain("%s: no %s was given", path, what);

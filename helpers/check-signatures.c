@@ -139,7 +139,7 @@ static int verify_file(raf_blob signature, FILE *file, const check_request *aske
   if (is_told && is_keygen) print_as_keygen(signature, answer, asked);
   if (answer == RAF_DONE && !is_keygen)
     report_valid(&of);
-  else if (answer != RAF_DONE)
+  else if (answer != RAF_DONE && !check_name_unread(&asked->revoked, answer))
     (is_told && !is_keygen ? report_refused : report_complain)(&of, answer);
   if (!program_is_written() || !is_told) return UNTOLD;
   return answer == RAF_DONE ? VALID : INVALID;

@@ -70,6 +70,9 @@ bool check_read_words(int count, char **words, check_request *asked);
 /* Whether it can't tell: nothing follows of what is asked about. */
 bool check_can_not_tell(uint32_t answer);
 
+/* Says which of the revocation files can't be read, where that is the answer; false else. */
+bool check_name_unread(const program_files *revoked, uint32_t answer);
+
 /* A report about a line of what is asked about. */
 report check_report(const check_request *asked, size_t number);
 

@@ -97,11 +97,13 @@ static bool is_untold(uint32_t answer) {
 }
 
 int login_refuse(const login_request *asked, uint32_t answer, const char *words) {
-  const char *said = words ? words : raf_status_meaning(answer);
+  char *unread = program_unread_revocations(&asked->revoked, answer);
+  const char *said = unread ? unread : words ? words : raf_status_meaning(answer);
   if (is_untold(answer))
     login_complain(asked, "it can't tell: %s (%" PRIu32 ")", said, answer);
   else
     login_tell(asked, "refused: %s (%" PRIu32 ")", said, answer);
+  free(unread);
   return is_untold(answer) ? program_untold : 0;
 }
 

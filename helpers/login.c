@@ -265,7 +265,10 @@ bool login_check_revoked(const login_request *asked) {
   for (size_t at = 0; at < asked->revoked.count; at++) {
     uint32_t answer = program_check_revocations(asked->revoked.texts[at]);
     if (answer == RAF_DONE) continue;
-    login_complain(asked, "%s: %s", asked->revoked.paths[at], raf_status_meaning(answer));
+    program_files one = {&asked->revoked.paths[at], &asked->revoked.texts[at], 1};
+    char *words = program_unread_revocations(&one, answer);
+    login_complain(asked, "%s", words ? words : raf_status_meaning(answer));
+    free(words);
     is_read = false;
   }
   return is_read;

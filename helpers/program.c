@@ -86,6 +86,37 @@ uint32_t program_check_revocations(raf_span text) {
   return answer == RAF_REVOKED ? (uint32_t)RAF_DONE : answer;
 }
 
+/* The number of the first line that can't be read alone; 0 where none is found, and of a list
+ * (PROTOCOL.krl), which has no lines. */
+static size_t find_unread_line(raf_span text) {
+  static const uint8_t front[8] = "SSHKRL\n";
+  bool is_list = text.length >= sizeof front && !memcmp(text.bytes, front, sizeof front);
+  uint32_t answer = RAF_DONE;
+  size_t number = 0;
+  for (; !is_list && text.length && answer == RAF_DONE; number++) {
+    const uint8_t *end = memchr(text.bytes, '\n', text.length);
+    size_t length = end ? (size_t)(end - text.bytes) + 1 : text.length;
+    answer = program_check_revocations((raf_span){text.bytes, length});
+    text.bytes += length, text.length -= length;
+  }
+  return answer == RAF_UNREADABLE_REVOCATIONS ? number : 0;
+}
+
+char *program_unread_revocations(const program_files *files, uint32_t answer) {
+  size_t at = 0;
+  if (answer != RAF_UNREADABLE_REVOCATIONS) return NULL;
+  while (at < files->count && program_check_revocations(files->texts[at]) != answer) at++;
+  if (at == files->count) return NULL;
+  const char *path = files->paths[at], *said = raf_status_meaning(answer);
+  size_t number = find_unread_line(files->texts[at]), length = strlen(path) + strlen(said) + 32;
+  char *words = malloc(length);
+  if (words && number)
+    snprintf(words, length, "%s:%zu: %s", path, number, said);
+  else if (words)
+    snprintf(words, length, "%s: %s", path, said);
+  return words;
+}
+
 void program_forget(program_files *files) {
   for (size_t at = 0; at < files->count; at++) free((void *)files->texts[at].bytes);
   free(files->texts);

@@ -57,6 +57,11 @@ raf_spans program_revocations(const program_files *files);
 /* Whether what is asked about revocations can read what a file has: RAF_DONE, or why not. */
 uint32_t program_check_revocations(raf_span text);
 
+/* Which of these files can't be read by what is asked about revocations, where that is the answer:
+ * the path of the first, the number of its first such line unless it is a list, and what the answer
+ * means, of malloc. Null where the answer is another, or there is no memory. */
+char *program_unread_revocations(const program_files *files, uint32_t answer);
+
 /* Gives their memory back. */
 void program_forget(program_files *files);
 

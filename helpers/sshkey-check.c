@@ -180,10 +180,12 @@ static bool read_others(check_request *asked) {
 /* Says whether what is revoked can be read, and returns the status. */
 static int answer_revocations(raf_blob text, const check_request *asked) {
   report of = check_report(asked, 0);
-  uint32_t answer = program_check_revocations(raf_blob_span(text));
+  raf_span read = raf_blob_span(text);
+  program_files one = {&of.path, &read, 1};
+  uint32_t answer = program_check_revocations(read);
   if (answer == RAF_DONE)
     report_valid(&of);
-  else
+  else if (!check_name_unread(&one, answer))
     report_complain(&of, answer);
   return program_is_written() && answer == RAF_DONE ? VALID : UNTOLD;
 }
