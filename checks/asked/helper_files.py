@@ -76,6 +76,8 @@ NAMELESS = """
 #include <stddef.h>
 struct passwd *getpwnam(const char *name) { return name ? NULL : NULL; }
 """
+# what the helpers say of such a file, by its place
+UNREAD = "it can't tell: {}: the revocation file can't be read (58)"
 # by syslog.h: the facility auth, and priorities for what can't be told and for what is refused
 ERROR, NOTICE = "32.3", "32.5"
 # in place of the C library's: what is found is what another renames meanwhile
@@ -212,7 +214,8 @@ def check_logged(count, helpers, room):
     files = {
         "good": f"{user} {maker.read('authority.pub')}\n".encode(), "other": f"{user} {maker.read('other.pub')}\n".encode(),
         "strange": f"x{user} {maker.read('authority.pub')}\n".encode(),
-        "none": made_list(maker, None, []), "revoked": made_list(maker, "authority", ["serial: 7"]),
+        "none": made_list(maker, None, []), "revoked": made_list(maker, "authority", ["serial: 7"]), "cut": made_list(maker, None, [helpers.key])[:-9],
+        "text": f"# revoked\n\n{maker.read('other.pub')}\nssh-ed25519 AAAA\nx\n".encode(), "empty": b"",
         user: f"{helpers.key}\n".encode(), "x": f"{maker.read('other.pub')}\n".encode(),
     }  # fmt: skip
     path = {name: f"{placed(room, user, name, text, '')}/keys/{name}" for name, text in files.items()}
@@ -228,7 +231,15 @@ def check_logged(count, helpers, room):
          f'{NOTICE} {of_certificate}refused: no line of {path["strange"]} is for "{user}" (31)'),
         ("the client is told", helpers.of_certificate, ["--client", '192.0.2.7 " 22', path["other"]], f"{NOTICE} {of_client}refused: another"),
         ("revoked", helpers.of_certificate, ["--revoked", path["revoked"], path["good"]], f"{NOTICE} {of_certificate}refused: revoked (56)"),
-        ("a list that is none", helpers.of_certificate, ["--revoked", path["other"], path["good"]], f"{ERROR} {of_certificate}it can't tell: "),
+        *((f"{case} is {asked}'s list", ask, [*(it for name in names for it in ("--revoked", path[name])), *words], f"{ERROR} {of}{untold.format(**path)}")
+          for asked, ask, words, of in (("a certificate", helpers.of_certificate, [path["good"]], of_certificate), ("a key", helpers.of_key, [folder], of_key))
+          for case, names, untold in (
+              ("none", ["other"], UNREAD.format("{other}:1")), ("one that breaks off", ["cut"], UNREAD.format("{cut}")),
+              ("a text with two lines that are none", ["text"], UNREAD.format("{text}:4")),
+              ("the second of three", ["empty", "text", "cut"], UNREAD.format("{text}:4")),
+          )),
+        ("no list", helpers.of_key, ["--revoked", f"{folder}/no-list", folder], f"{ERROR} {of_key}{folder}/no-list: No such file"),
+        ("a list has no bytes", helpers.of_key, ["--revoked", path["empty"], folder], ""),
         ("others may write", helpers.of_certificate, [open_path], f"{ERROR} {of_certificate}{open_path}: another's, or others may write it"),
         ("no authorities", helpers.of_certificate, [f"{folder}/none"], f"{ERROR} {of_certificate}{folder}/none: No such file"),
         ("a word too many", helpers.of_certificate, [path["good"], "x"], f"{ERROR} what is offered was not read: 5 words in place of 4"),
@@ -285,11 +296,13 @@ def check_checked(count, helpers, room, helper):
         if status == 0:
             listed = f"{placed(room, user, 'list', made_list(maker, None, []), '')}/keys/list"
             no_list = f"{placed(room, user, 'no-list', b'ssh-ed25519 AAAA', '')}/keys/no-list"
-            for more, wanted in (([listed], 0), ([no_list], 1), ([listed, no_list], 1), ([f"{room}/none"], 1)):
+            cut = f"{placed(room, user, 'cut', made_list(maker, None, [helpers.key])[:-9], '')}/keys/cut"
+            for more, wanted in (([listed], []), ([no_list], [f"{no_list}:1"]), ([listed, no_list], [f"{no_list}:1"]), ([no_list, cut], [f"{no_list}:1", cut]), ([f"{room}/none"], [f"{room}/none"])):
                 where = os.path.dirname(path) if program == "keys" else path
                 _, ran = checked(program, text, "", *(it for one in more for it in ("--revoked", one)), where)
-                told = not ran.stderr if wanted == 0 else ran.stderr.startswith(f"sshkey-{'authorized-' if program == 'keys' else ''}{program}: {more[-1]}: ")
-                count.check(f"and of the lists {[*map(os.path.basename, more)]}", ran.returncode == wanted and told, ran)
+                said = f"sshkey-{'authorized-' if program == 'keys' else ''}{program}: "
+                told = [it.removeprefix(said).rpartition(": ")[0] for it in ran.stderr.splitlines()]
+                count.check(f"and of the lists {[*map(os.path.basename, more)]}", (ran.returncode, told) == (int(bool(wanted)), wanted), ran)
     path, ran = checked("keys", keys, "", "--file", f"{os.path.dirname(placed(room, user, user, keys, ''))}/none", user)
     count.check("sshkey-authorized-keys --check of one file", ran.returncode == 1 and "No such file" in ran.stderr, ran)
 
