@@ -19,21 +19,21 @@ trusting_all = login (trusting [] InCertificate [])
 
 -- A revoked key, a DSA key, and one that no text has: an authority lets in no key by itself.
 abbrev pub Keys : Type 0
-Keys = (g : PublickeyGrant) → ¬ GrantsKey (record trusting_all { revokes_key = λ key. true }) fields.key g
-    × ¬ GrantsKey trusting_all dsa_key g
-    × ¬ GrantsKey trusting_all fields.key g
-    × ¬ GrantsKey (login (trusting (Unreadable ∷ []) InCertificate [])) fields.key g
+Keys = ((l : Login) (k : Key) (g : PublickeyGrant) → ¬ GrantsKey (record l { revokes_key = λ key. true }) k g)
+    × ((l : Login) (g : PublickeyGrant) → ¬ GrantsKey l dsa_key g)
+    × ((g : PublickeyGrant) → ¬ GrantsKey trusting_all fields.key g)
+    × ((g : PublickeyGrant) → ¬ GrantsKey (login (trusting (Unreadable ∷ []) InCertificate [])) fields.key g)
 
 -- A revoked certificate; one before and after its window; of an authority whom nobody trusts; that
 -- lists nobody; and where a file of principals has no line.
 abbrev pub Certificates : Type 0
-Certificates = (g : PublickeyGrant) → ¬ GrantsCertificate (record trusting_all { revokes = λ key identity. true }) certificate g
-    × ¬ GrantsCertificate (record trusting_all { time = 99 }) certificate g
-    × ¬ GrantsCertificate (record trusting_all { time = 200 }) certificate g
-    × ¬ GrantsCertificate (login (record (trusting [] InCertificate []) { authorities = [] })) certificate g
-    × ¬ GrantsCertificate trusting_all nobodys g
-    × ¬ GrantsCertificate (login (trusting [] (Files []) [])) certificate g
-    × ¬ GrantsCertificate (login (trusting (Unreadable ∷ []) InCertificate [])) certificate g
+Certificates = ((l : Login) (c : Certificate) (g : PublickeyGrant) → ¬ GrantsCertificate (record l { revokes = λ key identity. true }) c g)
+    × ((l : Login) (g : PublickeyGrant) → ¬ GrantsCertificate (record l { time = 99 }) certificate g)
+    × ((l : Login) (g : PublickeyGrant) → ¬ GrantsCertificate (record l { time = 200 }) certificate g)
+    × ((l : Login) (g : PublickeyGrant) → ¬ GrantsCertificate l nobodys g)
+    × ((g : PublickeyGrant) → ¬ GrantsCertificate (login (record (trusting [] InCertificate []) { authorities = [] })) certificate g)
+    × ((g : PublickeyGrant) → ¬ GrantsCertificate (login (trusting [] (Files []) [])) certificate g)
+    × ((g : PublickeyGrant) → ¬ GrantsCertificate (login (trusting (Unreadable ∷ []) InCertificate [])) certificate g)
 
 -- Where the verifier says no nobody logs in who signs here, nor by a certificate at all, and none may
 -- offer one.

@@ -35,6 +35,7 @@ FirstTexts = IsOfFirst Lets Passes (Read (codes "lets") ∷ []) 0
     × IsOfFirst Lets Passes (Read (codes "passes") ∷ Read (codes "lets") ∷ []) 1
     × ¬ IsOfFirst Lets Passes (Read (codes "lets") ∷ Read (codes "lets") ∷ []) 1
     × ¬ IsOfFirst Lets Passes (Read (codes "unclear") ∷ Read (codes "lets") ∷ []) 1
+    × ¬ IsOfFirst Lets Passes (Unreadable ∷ Read (codes "lets") ∷ []) 0
     × ¬ IsOfFirst Lets Passes (Unreadable ∷ Read (codes "lets") ∷ []) 1
     × ¬ IsOfFirst Lets Passes (Read (codes "passes") ∷ Read (codes "passes") ∷ []) 1
 
@@ -102,7 +103,7 @@ abbrev pub Sources : Type 0
 Sources = IsCertificateSource (login (trusting [] InCertificate [])) certificate source.Authority (found (codes "alice"))
     × ¬ IsCertificateSource (login (trusting (Unreadable ∷ []) InCertificate [])) certificate source.Authority (found (codes "alice"))
     × IsCertificateSource (login (trusting [] InCertificate (Unreadable ∷ []))) certificate source.Authority (found (codes "alice"))
-    × ((n : ℕ) (f : Found) → ¬ IsCertificateSource (login (trusting [] InCertificate [])) certificate (source.Command n) f)
+    × ((l : Login) (c : Certificate) (n : ℕ) (f : Found) → ¬ AuthorityGoesOn l c → ¬ IsCertificateSource l c (source.Command n) f)
     × ((f : Found) → ¬ IsKeySource (login (trusting [] InCertificate [])) fields.key source.Authority f)
 
 -- ---- what is counted and required

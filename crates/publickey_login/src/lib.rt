@@ -15,6 +15,8 @@ mod request;
 mod search;
 mod signed;
 mod sources;
+#[cfg(test)]
+mod tests;
 mod trusted;
 
 pub use grant::{PublickeyGrant, Source};
