@@ -244,13 +244,14 @@ def is_found(folder, package, library):
     return ran.returncode == 0
 
 
-# what is installed below a prefix
-INSTALLED = {
-    "bin/sshkey-authorized-keys", "bin/sshkey-check", "bin/sshkey-principals", "include/rafendilo.h", "include/rafendilo_0_2.h",
-    "lib/librafendilo.a",
+# what is installed below a prefix: programs, and what else
+PROGRAMS = {"bin/sshkey-authorized-keys", "bin/sshkey-check", "bin/sshkey-principals"}
+INSTALLED = PROGRAMS | {
+    "bin/sshkey-revoked", "include/rafendilo.h", "include/rafendilo_0_2.h", "lib/systemd/system/sshkey-revoked.service",
+    "lib/systemd/system/sshkey-revoked.timer", "lib/librafendilo.a",
     "lib/librafendilo.so", f"lib/librafendilo.so.{ABI}", f"lib/librafendilo.so.{VERSION // 10_000}.{VERSION // 100 % 100}.{VERSION % 100}",
     "lib/librafendilo-verify.a", "lib/pkgconfig/rafendilo.pc", "lib/pkgconfig/rafendilo-verify.pc", "share/man/man1/sshkey-check.1",
-    "share/man/man8/sshkey-authorized-keys.8", "share/man/man8/sshkey-principals.8", "share/bash-completion/completions/sshkey-check",
+    "share/man/man8/sshkey-authorized-keys.8", "share/man/man8/sshkey-principals.8", "share/man/man8/sshkey-revoked.8", "share/bash-completion/completions/sshkey-check",
     "share/zsh/site-functions/_sshkey-check", *(f"include/rafendilo/{it}.h" for it in COPIED),
 }  # fmt: skip
 
@@ -284,7 +285,7 @@ def check_installed(count, built, folder):
         count.check("and its page names it there", named == [f"{prefix if staged else os.path.abspath(at)}/bin/sshkey-principals"], named)
         if not staged:
             count.check("pkg-config finds it there", is_found(folder, f"{at}/lib/pkgconfig", f"{at}/lib"))
-        for helper in (it for it in sorted(INSTALLED) if it.startswith("bin/")):
+        for helper in sorted(PROGRAMS):
             ran = run([f"{at}/{helper}", "--version"])
             count.check(f"{helper} runs there, and is hardened", ran.returncode == 0 and is_hardened(f"{at}/{helper}"), ran)
         removed = run([*words, "uninstall", f"PREFIX={prefix}", f"DESTDIR={staged}"])
