@@ -294,7 +294,7 @@ def check_allowed(count, programs, maker):
             judged = run(["ssh-keygen", "-Y", "verify", "-O", f"verify-time={date}", *words, *more], input=text).returncode == 0
             count.check(f"ssh-keygen, a signature {name}, by {more or 'no file'}", judged == is_valid, judged)
             empty = f"sshkey-check: {maker.path('signers')}: it has no line\n" if line.startswith("#") else ""
-            # which has one line more in front
+            # after the comment in front
             named = f"{file}:2" if wanted == UNREAD else path
             said = ("valid\n", "") if is_valid else ("" if wanted == UNREAD else "refused\n", f"{empty}sshkey-check: {named}: {wanted}\n")
             status = VALID if is_valid else UNTOLD if wanted == UNREAD else INVALID

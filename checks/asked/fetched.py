@@ -58,7 +58,8 @@ def check_named(count, programs, files, maker):
     """Whatever is asked, the first file that can't be read is named, and what is asked about is none."""
     maker.certificate("other-revoked", "asking", "-n", "alice", *WINDOW)
     key, certificate, authority = (maker.path(it) for it in ("asking.pub", "asking-cert.pub", "other-revoked.pub"))
-    lines = {name: maker.write(f"asking-{name}", f"{front}{maker.read('asking.pub')}\n") for name, front in (("keys", ""), ("hosts", "h "), ("signers", "alice "))}
+    fronts = {"keys": "", "hosts": "h ", "signers": "alice "}
+    lines = {name: maker.write(f"asking-{name}", f"{front}{maker.read('asking.pub')}\n") for name, front in fronts.items()}
     signature = maker.write("asking.sig", armoured(maker.signature("asking", "a text")))
     by, at = ["-f", lines["signers"], "-I", "alice", "-n", "file", "-s", signature], ["--at", str(MIDDLE)]
     questions = [

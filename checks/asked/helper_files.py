@@ -297,7 +297,10 @@ def check_checked(count, helpers, room, helper):
             listed = f"{placed(room, user, 'list', made_list(maker, None, []), '')}/keys/list"
             no_list = f"{placed(room, user, 'no-list', b'ssh-ed25519 AAAA', '')}/keys/no-list"
             cut = f"{placed(room, user, 'cut', made_list(maker, None, [helpers.key])[:-9], '')}/keys/cut"
-            for more, wanted in (([listed], []), ([no_list], [f"{no_list}:1"]), ([listed, no_list], [f"{no_list}:1"]), ([no_list, cut], [f"{no_list}:1", cut]), ([f"{room}/none"], [f"{room}/none"])):
+            for more, wanted in (
+                ([listed], []), ([no_list], [f"{no_list}:1"]), ([listed, no_list], [f"{no_list}:1"]), ([no_list, cut], [f"{no_list}:1", cut]),
+                ([f"{room}/none"], [f"{room}/none"]),
+            ):  # fmt: skip
                 where = os.path.dirname(path) if program == "keys" else path
                 _, ran = checked(program, text, "", *(it for one in more for it in ("--revoked", one)), where)
                 said = f"sshkey-{'authorized-' if program == 'keys' else ''}{program}: "
