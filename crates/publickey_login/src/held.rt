@@ -35,8 +35,8 @@ use std::alloc::Global;
 use std::net::IpAddr;
 use user_keys::{NamedLine, UserGrant, UserLogin, merged};
 
-/// What would be granted, the key under which the client signs, and the question about the
-/// authority's signature, of a certificate.
+/// What is granted only once what is asked has its answers: the grant, the key under which the client
+/// signs, and the question about the authority's signature, of a certificate.
 #[derive(Drop)]
 pub(crate) struct Held {
     pub grant: PublickeyGrant,
@@ -153,7 +153,6 @@ fn hold_certificate<R: Revocations>(
     let Ok(question) = held.question(alloc) else {
         return Err(PublickeyRefusal::Memory);
     };
-    // what is granted only once the question that is held has its answer
     let granted = match held.decide(true) {
         Ok(granted) => granted,
         Err(refusal) => return Err(refused_by(refusal)),

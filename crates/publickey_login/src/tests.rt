@@ -171,7 +171,7 @@ fn source(alloc: Global, blob: &[u8], trusted: &Trusted) -> Result<Source, Publi
     Ok(granted.source)
 }
 
-fn is_let_in(alloc: Global, blob: &[u8], trusted: &Trusted, by: Source) -> bool {
+fn is_granted_by(alloc: Global, blob: &[u8], trusted: &Trusted, by: Source) -> bool {
     source(alloc, blob, trusted).ok() == Some(by)
 }
 
@@ -189,13 +189,10 @@ fn the_files_come_first(rt: HostRuntime) {
     let listed = Principals::InCertificate;
     let file = [Text::Read(FILE)];
     let refusing = [Text::Read(REFUSES)];
-    let second = [Text::Read(SECOND)];
-    let later = [Text::Read(REFUSES), Text::Read(&[]), Text::Read(FILE)];
-    let own = [Text::Read(OWN)];
     let command = [Text::Read(COMMAND)];
     let first = Source::AuthorizedKeys(0);
     assert!(rt;
-        is_let_in(
+        is_granted_by(
             alloc,
             CERTIFICATE,
             &trusted(&file, &known, listed, &command),
@@ -203,15 +200,25 @@ fn the_files_come_first(rt: HostRuntime) {
         )
     );
     assert!(rt;
-        is_let_in(
+        is_granted_by(
             alloc,
             CERTIFICATE,
             &trusted(&refusing, &known, listed, &command),
             Source::Authority
         )
     );
+}
+
+#[test]
+fn what_refuses_is_passed_over(rt: HostRuntime) {
+    let alloc = rt.alloc();
+    let listed = Principals::InCertificate;
+    let second = [Text::Read(SECOND)];
+    let later = [Text::Read(REFUSES), Text::Read(&[]), Text::Read(FILE)];
+    let own = [Text::Read(OWN)];
+    let first = Source::AuthorizedKeys(0);
     assert!(rt;
-        is_let_in(
+        is_granted_by(
             alloc,
             CERTIFICATE,
             &trusted(&second, &[], listed, &[]),
@@ -219,14 +226,14 @@ fn the_files_come_first(rt: HostRuntime) {
         )
     );
     assert!(rt;
-        is_let_in(
+        is_granted_by(
             alloc,
             CERTIFICATE,
             &trusted(&later, &[], listed, &[]),
             Source::AuthorizedKeys(2)
         )
     );
-    assert!(rt; is_let_in(alloc, KEY, &trusted(&own, &[], listed, &[]), first));
+    assert!(rt; is_granted_by(alloc, KEY, &trusted(&own, &[], listed, &[]), first));
 }
 
 #[test]
@@ -239,7 +246,7 @@ fn then_the_authorities_and_then_the_command(rt: HostRuntime) {
     let command = [Text::Read(COMMAND)];
     let other = [Text::Read(OTHER)];
     assert!(rt;
-        is_let_in(
+        is_granted_by(
             alloc,
             CERTIFICATE,
             &trusted(&[], &known, listed, &command),
@@ -247,7 +254,7 @@ fn then_the_authorities_and_then_the_command(rt: HostRuntime) {
         )
     );
     assert!(rt;
-        is_let_in(
+        is_granted_by(
             alloc,
             CERTIFICATE,
             &trusted(&[], &[], listed, &command),
@@ -255,7 +262,7 @@ fn then_the_authorities_and_then_the_command(rt: HostRuntime) {
         )
     );
     assert!(rt;
-        is_let_in(
+        is_granted_by(
             alloc,
             CERTIFICATE,
             &trusted(&refusing, &[], listed, &command),
@@ -280,7 +287,7 @@ fn files_of_principals_take_the_place_of_the_list(rt: HostRuntime) {
         Text::Read(b"alice"),
     ];
     assert!(rt;
-        is_let_in(
+        is_granted_by(
             alloc,
             CERTIFICATE,
             &trusted(&[], &known, Principals::Files(&named), &[]),
@@ -288,7 +295,7 @@ fn files_of_principals_take_the_place_of_the_list(rt: HostRuntime) {
         )
     );
     assert!(rt;
-        is_let_in(
+        is_granted_by(
             alloc,
             CERTIFICATE,
             &trusted(&[], &known, Principals::Files(&none), &command),
