@@ -11,7 +11,7 @@ use Rattle.publickey_login.specs.LoginExamples.{certificate, login, nobodys, tru
 use Rattle.publickey_login.specs.Logins.{Files, InCertificate, Login, Read, Unreadable}
 use Rattle.publickey_login.specs.Searches.{AuthorityLine, Found, IsFoundBy, KeyLine, PrincipalLine, RefusesBy}
 use Rattle.publickey_login.specs.Signatures.{BySshd, Request}
-use Rattle.publickey_login.specs.Sources.{PrincipalsGoOn, user_of}
+use Rattle.publickey_login.specs.Sources.{PrincipalsGoOn}
 use Rattle.publickey_login.specs.declared.grant.PublickeyGrant.{PublickeyGrant}
 
 abbrev pub trusting_all : Login
@@ -43,11 +43,11 @@ Logins = ((l : Login) (g : PublickeyGrant) (session_id bytes : List ℕ) (host_k
     × ((g : PublickeyGrant) (is : MayLogIn (λ q. false) trusting_all) → is.authority ≡ None)
     × ¬ MayLogIn (λ q. true) (login (record (trusting [] InCertificate []) { authorities = [] }))
 
--- Lines of keys and of authorities that refuse are passed over, and a certificate that lists somebody
--- is let in by its authority.
+-- Lines of keys and of authorities that refuse are passed over, and a key's line is for no name. A
+-- certificate that lists somebody is let in by its authority.
 abbrev pub Refusals : Type 0
 Refusals = ((u : UserLogin) (text : List ℕ) → ¬ RefusesBy u KeyLine text)
     × ((u : UserLogin) (c : Certificate) (text : List ℕ) → ¬ RefusesBy u (AuthorityLine c) text)
-    × ((f : Found) → ¬ IsFoundBy (user_of trusting_all fields.key) KeyLine [] f)
+    × ((u : UserLogin) (text : List ℕ) (f : Found) → IsFoundBy u KeyLine text f → f.name ≡ [])
     × PrincipalsGoOn trusting_all nobodys InCertificate
     × ¬ PrincipalsGoOn trusting_all certificate InCertificate
