@@ -97,7 +97,7 @@ def enumerations():
 
 def enumerations_of(rafendilo):
     """The same of the Python module."""
-    prefixes = {"": rafendilo.Status, "ASK_": rafendilo.Algorithm, "MARKER_": rafendilo.Marker, "PERMIT_": rafendilo.Permits}
+    prefixes = {"": rafendilo.Status, "ASK_": rafendilo.Algorithm, "BY_": rafendilo.KnownBy, "MARKER_": rafendilo.Marker, "PERMIT_": rafendilo.Permits}
     named = [*prefixes.items(), ("", rafendilo.CertificateType), ("LINE_", rafendilo._header.LineKind)]
     return [{f"RAF_{prefix}{it.name}": int(it) for it in members} for prefix, members in named]
 
