@@ -76,7 +76,8 @@ def check_forged(count, folder, has_toolchain):
     count.check("a forged text: git shows the instructions that a commit adds", added == INSTRUCTIONS.splitlines(), made, shown[-2000:])
     said = run([f"{clone}/checks/lists"], env=ENVIRONMENT)
     failed = [it for it in said.stdout.splitlines() if it.startswith(("FAILED", "  "))]
-    is_seen = said.returncode == 1 and "git ls-files" in failed[0] and len(failed) == 1 + 3 * len(PROCESSORS)
+    brought = [it for it in failed if it.strip().startswith("crates/sshkey_c/out/")]
+    is_seen = said.returncode == 1 and "git ls-files" in failed[0] and len(brought) == 3 * len(PROCESSORS)
     count.check("a forged text: checks/lists names what the commit brings", is_seen, *failed)
     path = os.environ["PATH"] if has_toolchain else without_toolchain()
     said = run([f"{clone}/bindings/library", "--check"], env={**ENVIRONMENT, "PATH": path})
