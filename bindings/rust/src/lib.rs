@@ -100,8 +100,7 @@ pub use files::{
     line_may_name_key, line_options, AuthorizedEntry, EntryLines, KnownHost, LineOption, Marker,
 };
 pub use hosts::{
-    check_host_certificate, check_host_key, host_and_port, unreadable_host_line, HostLogin,
-    KnownBy,
+    check_host_certificate, check_host_key, host_and_port, unreadable_host_line, HostLogin, KnownBy,
 };
 pub use keys::{
     may_verify, normal_certificate, normal_key, normal_signature, normal_sshsig, read_line,
