@@ -18,7 +18,7 @@ from .user_key_causes import LISTS_NOBODY, UNTOLD
 from .user_key_material import sum_of
 from .user_key_verdicts import fields_of, is_same, shortened
 
-STORED = f"{ROOT}/checks/asked/publickey"
+STORED = f"{ROOT}/checks/asked/publickey_answers"
 REFUSED = "no"
 # how many bits sshd wants at least of an RSA key where it is told nothing
 LEAST_BITS = 1024
