@@ -5,3 +5,8 @@ pub mod Questions
 pub mod UserGrants
 pub mod Forwarding
 pub mod UserKeys
+pub mod Refusals
+pub mod Publickey
+pub mod Asked
+pub mod LoginGrants
+pub mod LogIns

@@ -9,16 +9,31 @@ mod denial;
 pub mod examples;
 mod forwarding;
 mod grant;
+mod log_in;
 mod login;
+mod login_grant;
+mod pend;
+mod publickey;
 mod question;
+mod questions;
+mod refusal;
 mod request;
+mod sources;
+#[cfg(test)]
+mod tests;
 mod user_grant;
 mod user_verdict;
 
 pub use forwarding::{may_listen, may_open};
 pub use grant::GrantParts;
+pub use log_in::{log_in, log_in_questions, may_offer, may_offer_questions};
 pub use login::check_login;
+pub use login_grant::LoginGrant;
+pub use publickey::{
+    OfferParts, PlaceParts, PublickeyLogin, SignedParts, TextParts, TrustedParts,
+};
 pub use question::login_question;
+pub use questions::LoginQuestions;
 pub use request::LoginRequest;
 pub use user_grant::UserGrantParts;
 pub use user_verdict::{check_principals, check_user_keys};

@@ -4,8 +4,6 @@ ghost use Rattle.std.specs.Prelude.{◌≡◌, ◌≢◌, ◌<◌, Err, IfErr, I
 ghost use Rattle.std.specs.Str.{IsUtf8};
 ghost use Rattle.sshkey_base.specs.Acceptance.{SpellsSome};
 ghost use Rattle.sshkey_calls.specs.Numbers.{fault_number};
-ghost use Rattle.sshkey_calls.specs.Validations.{authorities_of};
-ghost use Rattle.sshkey_cert.specs.Validity.{fingerprints_of};
 ghost use Rattle.sshkey_model.specs.Keys.{SpellsKey, key_data_at};
 ghost use Rattle.sshkey_keys_ref.specs.KeyDataRef.{key_bytes};
 ghost use Rattle.sshkey_model.specs.Reading.{Fault, whole};
@@ -14,14 +12,14 @@ ghost use Rattle.sshkey_login_calls.specs.Logins.{TellsLogin, login_status, numb
 
 use crate::grant::{GrantParts, empty_grant, lay_out_grant, write_grant};
 use crate::request::{LoginRequest, client_of};
+use crate::sources::fingerprints;
 use login_policy::{Login, LoginRefusal, log_in};
 use sshkey_calls::number::{
     ELSEWHERE, KEY_NOT_ACCEPTED, MEMORY, NOT_NORMAL_FORM, TEXT, certificate_error_status,
     error_status, refusal_status,
 };
-use sshkey_calls::{GivenAnswer, Sha256Digest};
+use sshkey_calls::GivenAnswer;
 use sshkey_entry_calls::RevocationFiles;
-use sshkey_keys::Fingerprint;
 use sshkey_keys_ref::KeyDataRef;
 use std::alloc::Global;
 use std::str;
@@ -139,20 +137,6 @@ pub(crate) fn check_with(
         },
         Err(refusal) => Err(login_status(refusal, files.revoked_status())),
     }
-}
-
-/// The fingerprints with these digests. Fails only when out of memory.
-pub(crate) fn fingerprints(
-    alloc: Global,
-    digests: &[Sha256Digest],
-) -> sshkey_base::Result<Vec<Fingerprint>>
-    ensures { IfOk result (λ found. fingerprints_of found.items ≡ authorities_of digests.now) }
-{
-    let mut found = Vec::new(alloc);
-    for digest in digests {
-        found.push(Fingerprint::Sha256(digest.bytes))?;
-    }
-    Ok(found)
 }
 
 /// The number of a refusal, where the one of a certificate that is revoked is given.

@@ -4,7 +4,6 @@ ghost use Rattle.std.specs.Prelude.{◌≡◌, ◌≢◌, ◌<◌, Err, IfErr, I
 ghost use Rattle.sshkey_base.specs.Acceptance.{SpellsSome};
 ghost use Rattle.sshkey_calls.specs.Numbers.{fault_number};
 ghost use Rattle.sshkey_calls.specs.Validations.{authorities_of};
-ghost use Rattle.sshkey_entry_calls.specs.Addresses.{IsNameIn};
 ghost use Rattle.sshkey_entry_calls.specs.RevocationFiles.{reads_of};
 ghost use Rattle.sshkey_keys.specs.Keys.{key_of};
 ghost use Rattle.sshkey_keys_ref.specs.KeyDataRef.{key_bytes};
@@ -17,8 +16,9 @@ ghost use Rattle.user_keys.specs.declared.refusal.UserRefusal.TheVariants as ref
 
 use crate::denial::{Denial, denial_of, denied};
 use crate::grant::write_grant;
-use crate::login::fingerprints;
+use crate::pend::name_of;
 use crate::request::{LoginRequest, client_of};
+use crate::sources::fingerprints;
 use crate::user_grant::{UserGrantParts, lay_out_user, no_grant};
 use login_policy::Client;
 use sshkey_calls::GivenAnswer;
@@ -320,11 +320,4 @@ fn address_in(client: Client) -> Option<IpAddr>
         Client::At(address) => Some(address),
         Client::Unknown | Client::LeftToCaller => None,
     }
-}
-
-/// The name of a host, if it has one.
-fn name_of(host: &str) -> Option<&str>
-    ensures { IsNameIn host.now result }
-{
-    if host.is_empty() { None } else { Some(host) }
 }

@@ -1,0 +1,134 @@
+//! Why a login by public key is refused, as numbers.
+
+ghost use Rattle.std.specs.Prelude.{◌≡◌, ◌≢◌, ◌<◌};
+ghost use Rattle.sshkey_login_calls.specs.Refusals.{at_text, reason_status, refusal_of, said, signature_status, source_number, text_number};
+
+use crate::login::login_status;
+use publickey_login::{PublickeyRefusal, Source};
+use sshkey_calls::number::{
+    KEY_NOT_ACCEPTED, LENGTH, MEMORY, OTHER_ALGORITHM, OTHER_REQUEST, UNTOUCHED, UNVERIFIED,
+    error_status,
+};
+use sshkey_userauth::UserauthRefusal;
+
+/// The client's signature is none of the key's for this request.
+pub(crate) const CLIENT_NOT_SIGNED: u32 = 84;
+/// A touch or a verified user is required of a security key, and nobody tells its flags.
+const NO_FLAGS: u32 = 85;
+/// The bytes of the client's signature are none.
+const NO_SIGNATURE: u32 = 86;
+/// No line is for what is offered, and no authority lists the user.
+const NOT_LISTED: u32 = 90;
+/// Whether a line lets in cannot be told.
+const UNCLEAR: u32 = 96;
+/// A text could not be read.
+const TEXT_UNREADABLE: u32 = 98;
+/// Nobody has seen the client's signature.
+pub(crate) const UNSIGNED: u32 = 104;
+/// Whom an authority lets in is not told.
+pub(crate) const NO_PRINCIPALS: u32 = 105;
+/// The ticket is of other questions.
+pub(crate) const OTHER_QUESTIONS: u32 = 106;
+
+/// A text of authorized_keys.
+const AUTHORIZED_KEYS: u32 = 1;
+/// An authority, by a certificate that lists the user.
+const AUTHORITY: u32 = 2;
+/// An authority, by a text of principals.
+const PRINCIPALS: u32 = 3;
+/// What `AuthorizedKeysCommand` wrote.
+const COMMAND: u32 = 4;
+
+/// Why a login is refused, and by which line of which text; zeros where none is the reason.
+#[derive(Clone, Copy)]
+pub(crate) struct Refusal {
+    pub number: u32,
+    pub source: u32,
+    pub text: usize,
+    pub line: usize,
+}
+
+/// A refusal that no text is the reason of.
+pub(crate) fn said(number: u32) -> Refusal
+    ensures { result ≡ said number }
+{
+    Refusal {
+        number,
+        source: 0,
+        text: 0,
+        line: 0,
+    }
+}
+
+/// A refusal by a line of a text; 0 where the whole text is the reason.
+fn at_text(number: u32, source: Source, line: usize) -> Refusal
+    ensures { result ≡ at_text number source line }
+{
+    Refusal {
+        number,
+        source: source_number(source),
+        text: text_number(source),
+        line,
+    }
+}
+
+/// What is answered to a refusal, where the number of what is revoked is given.
+pub(crate) fn refusal_of(refusal: PublickeyRefusal, of_revoked: u32) -> Refusal
+    requires { 2 < of_revoked }
+    ensures refusal { result ≡ refusal_of of_revoked refusal }
+    ensures number { result.number ≢ 1 → 2 < result.number }
+{
+    match refusal {
+        PublickeyRefusal::NoKey(error) => said(error_status(error)),
+        PublickeyRefusal::UnacceptedKey => said(KEY_NOT_ACCEPTED),
+        PublickeyRefusal::Revoked => said(of_revoked),
+        PublickeyRefusal::NotListed => said(NOT_LISTED),
+        PublickeyRefusal::Unclear { source, line } => at_text(UNCLEAR, source, line),
+        PublickeyRefusal::Unreadable { source } => at_text(TEXT_UNREADABLE, source, 0),
+        PublickeyRefusal::Certificate(refusal) => said(login_status(refusal, of_revoked)),
+        PublickeyRefusal::Algorithm => said(OTHER_ALGORITHM),
+        PublickeyRefusal::Signature(refusal) => said(signature_status(refusal)),
+        PublickeyRefusal::NoSignature(_) => said(NO_SIGNATURE),
+        PublickeyRefusal::TooLong => said(LENGTH),
+        PublickeyRefusal::NoFlags => said(NO_FLAGS),
+        PublickeyRefusal::NotSigned => said(CLIENT_NOT_SIGNED),
+        PublickeyRefusal::Memory => said(MEMORY),
+    }
+}
+
+/// The number of what is wrong with the client's signature.
+fn signature_status(refusal: UserauthRefusal) -> u32
+    ensures number { result ≡ signature_status refusal }
+    ensures range { result ≢ 1 → 2 < result }
+{
+    match refusal {
+        UserauthRefusal::SignedBytes | UserauthRefusal::Service => OTHER_REQUEST,
+        UserauthRefusal::Algorithm => OTHER_ALGORITHM,
+        UserauthRefusal::Touch => UNTOUCHED,
+        UserauthRefusal::Verification => UNVERIFIED,
+        UserauthRefusal::Key(error) => error_status(error),
+        UserauthRefusal::Memory => MEMORY,
+    }
+}
+
+/// The number of a source.
+pub(crate) fn source_number(source: Source) -> u32
+    ensures { result ≡ source_number source }
+{
+    match source {
+        Source::AuthorizedKeys(_) => AUTHORIZED_KEYS,
+        Source::Authority => AUTHORITY,
+        Source::Principals(_) => PRINCIPALS,
+        Source::Command(_) => COMMAND,
+    }
+}
+
+/// The number of a text among its like.
+pub(crate) fn text_number(source: Source) -> usize
+    ensures { result ≡ text_number source }
+{
+    match source {
+        Source::AuthorizedKeys(text) | Source::Principals(text) | Source::Command(text) => text,
+        Source::Authority => 0,
+    }
+}

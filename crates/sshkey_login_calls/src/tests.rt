@@ -1,0 +1,4 @@
+//! Tests.
+
+#[test]
+fn nothing() {}
