@@ -1,13 +1,13 @@
 //! Why a login by public key is refused, as numbers.
 
 ghost use Rattle.std.specs.Prelude.{◌≡◌, ◌≢◌, ◌<◌};
-ghost use Rattle.sshkey_login_calls.specs.Refusals.{at_text, reason_status, refusal_of, said, signature_status, source_number, text_number};
+ghost use Rattle.sshkey_login_calls.specs.Refusals.{at_text, login_status, refusal_of, said, signature_status, source_number, text_number};
 
-use crate::login::login_status;
+use login_policy::LoginRefusal;
 use publickey_login::{PublickeyRefusal, Source};
 use sshkey_calls::number::{
-    KEY_NOT_ACCEPTED, LENGTH, MEMORY, OTHER_ALGORITHM, OTHER_REQUEST, UNTOUCHED, UNVERIFIED,
-    error_status,
+    ELSEWHERE, KEY_NOT_ACCEPTED, LENGTH, MEMORY, NOT_NORMAL_FORM, OTHER_ALGORITHM, OTHER_REQUEST,
+    UNTOUCHED, UNVERIFIED, certificate_error_status, error_status, refusal_status,
 };
 use sshkey_userauth::UserauthRefusal;
 
@@ -93,6 +93,23 @@ pub(crate) fn refusal_of(refusal: PublickeyRefusal, of_revoked: u32) -> Refusal
         PublickeyRefusal::NoFlags => said(NO_FLAGS),
         PublickeyRefusal::NotSigned => said(CLIENT_NOT_SIGNED),
         PublickeyRefusal::Memory => said(MEMORY),
+    }
+}
+
+/// The number of a refusal, where the one of a certificate that is revoked is given.
+fn login_status(refusal: LoginRefusal, of_revoked: u32) -> u32
+    requires { 2 < of_revoked }
+    ensures number { result ≡ login_status of_revoked refusal }
+    ensures refused { result ≢ 1 → 2 < result }
+{
+    match refusal {
+        LoginRefusal::Certificate(error) => certificate_error_status(error),
+        LoginRefusal::NotNormalForm => NOT_NORMAL_FORM,
+        LoginRefusal::UnacceptedKey => KEY_NOT_ACCEPTED,
+        LoginRefusal::Revoked => of_revoked,
+        LoginRefusal::Invalid(refusal) => refusal_status(Some(refusal)),
+        LoginRefusal::Elsewhere => ELSEWHERE,
+        LoginRefusal::Memory => MEMORY,
     }
 }
 
