@@ -19,11 +19,11 @@ use Rattle.user_keys.specs.PrincipalLogins.{IsWhyUndecided}
 use Rattle.user_keys.specs.UserLogins.{UserLogin}
 use Rattle.user_keys.specs.declared.refusal.UserRefusal.{UserRefusal}
 use Rattle.user_keys.specs.declared.refusal.UserRefusal.TheVariants as why
-use Rattle.publickey_login.specs.Grants.{Grants, IsAnswered, IsPending, policy_login, required_of}
+use Rattle.publickey_login.specs.Grants.{Grants, IsAnswered, IsPending, IsPendingOffer, policy_login, required_of}
 use Rattle.publickey_login.specs.Logins.{Files, Login, Read, Text, Unreadable}
 use Rattle.publickey_login.specs.Refusals.{IsWhyUnnamed, IsWhyUnsigned}
 use Rattle.publickey_login.specs.Searches.{AuthorityLine, Found, GoesOn, IsOfFirst, KeyLine, Passes, PrincipalLine, Sought, in_principals, in_text}
-use Rattle.publickey_login.specs.Signatures.{IsNamed, Signed}
+use Rattle.publickey_login.specs.Signatures.{Signed}
 use Rattle.publickey_login.specs.Sources.{AuthorityGoesOn, FilesGoOn, IsCertificateSource, authorities_of, user_of}
 use Rattle.publickey_login.specs.declared.grant.PublickeyGrant.{PublickeyGrant}
 use Rattle.publickey_login.specs.declared.grant.Source.{Source}
@@ -118,16 +118,25 @@ abbrev pub IsWhyNotPending : Login → Signed → PublickeyRefusal → Type 0
 IsWhyNotPending l s r = IsWhyNothing l r
     ⊎ ((g : PublickeyGrant) × (authority : Option (Option Question)) × (k : Key) × (form : KeyForm) × Grants l g authority k form × IsWhyUnsigned l.offer s (required_of l.trusted.requirements g) k form r)
 
+-- The authority's signature is none.
+abbrev pub IsWhyUncertified : (Question → Bool) → Option (Option Question) → PublickeyRefusal → Type 0
+IsWhyUncertified accepts authority r = (IsAnswered accepts authority → ⊥) × (r ≡ refusal.Certificate (Invalid Signature))
+
 -- The authority's signature is none; or it is one, and the client's is none.
 abbrev pub IsWhyUnanswered : (Question → Bool) → Option (Option Question) → Option (Option Question) → PublickeyRefusal → Type 0
-IsWhyUnanswered accepts authority client r = ((IsAnswered accepts authority → ⊥) × (r ≡ refusal.Certificate (Invalid Signature)))
+IsWhyUnanswered accepts authority client r = IsWhyUncertified accepts authority r
     ⊎ (IsAnswered accepts authority × (IsAnswered accepts client → ⊥) × (r ≡ refusal.NotSigned))
 
 abbrev pub IsWhyNoLogin : (Question → Bool) → Login → Signed → PublickeyRefusal → Type 0
 IsWhyNoLogin accepts l s r = IsWhyNotPending l s r
     ⊎ ((g : PublickeyGrant) × (authority : Option (Option Question)) × (client : Option (Option Question)) × IsPending l s g authority client × IsWhyUnanswered accepts authority client r)
 
--- Nothing is granted; or the name is of another algorithm; or the authority's signature is none.
-abbrev pub IsWhyNoQuery : (Question → Bool) → Login → PublickeyRefusal → Type 0
-IsWhyNoQuery accepts l r = IsWhyNothing l r
-    ⊎ ((g : PublickeyGrant) × (authority : Option (Option Question)) × (k : Key) × (form : KeyForm) × Grants l g authority k form × (IsWhyUnnamed l.offer.algorithm k form r ⊎ (IsNamed l.offer.algorithm k form × IsWhyUnanswered accepts authority None r)))
+-- Nothing is granted; or the name is of another algorithm.
+abbrev pub IsWhyOfferNotPending : Login → PublickeyRefusal → Type 0
+IsWhyOfferNotPending l r = IsWhyNothing l r
+    ⊎ ((g : PublickeyGrant) × (authority : Option (Option Question)) × (k : Key) × (form : KeyForm) × Grants l g authority k form × IsWhyUnnamed l.offer.algorithm k form r)
+
+-- Or the authority's signature is none.
+abbrev pub IsWhyNoOffer : (Question → Bool) → Login → PublickeyRefusal → Type 0
+IsWhyNoOffer accepts l r = IsWhyOfferNotPending l r
+    ⊎ ((authority : Option (Option Question)) × IsPendingOffer l authority × IsWhyUncertified accepts authority r)

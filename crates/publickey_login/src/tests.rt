@@ -1,7 +1,7 @@
 //! Who is let in by what: logins that OpenSSH's sshd was asked, at 9.2, 10.0 and 10.6.
 
 use crate::{
-    Offer, Place, Principals, PublickeyRefusal, Signed, Source, Text, Trusted, log_in, may_log_in,
+    Offer, Place, Principals, PublickeyRefusal, Signed, Source, Text, Trusted, log_in, may_offer,
 };
 use login_policy::Client;
 use sshkey_base::{Algorithm, HashAlg};
@@ -362,7 +362,7 @@ fn is_refused(alloc: Global, signed: &Signed) -> bool {
         &says,
     )
     .is_err()
-        && may_log_in(alloc, &offer, &trusted, &place, &NoRevocations, &says).is_err()
+        && may_offer(alloc, &offer, &trusted, &place, &NoRevocations, &says).is_err()
 }
 
 #[test]
