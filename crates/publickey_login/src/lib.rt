@@ -13,6 +13,8 @@ mod pending_login;
 mod place;
 mod refusal;
 mod request;
+#[cfg(test)]
+mod samples;
 mod search;
 mod signed;
 mod sources;
