@@ -1,6 +1,7 @@
 -- Worked examples of which line says why nothing lets in, and of what may be offered
 -- (auth2-pubkeyfile.c of OpenSSH; RFC 4252, section 7).
-use Rattle.std.specs.Prelude.{◌≡◌, List, ℕ, [], ◌∷◌, true, false, Option, Some, None, Ok, Err}
+use Rattle.std.specs.Prelude.{◌≡◌, List, ℕ, [], ◌∷◌, true, false, Option, Some, None, Ok, Err, codes}
+use Rattle.login_policy.specs.Examples.{fields}
 use Rattle.login_policy.specs.declared.refusal.LoginRefusal.TheVariants.{Invalid}
 use Rattle.sshkey_cert.specs.declared.certificate.refusal.CertificateRefusal.TheVariants.{Signature}
 use Rattle.sshkey_model.specs.Certificates.{Certificate}
@@ -33,7 +34,7 @@ pub record Refuse (u : UserLogin) (s t : Sought) (over elsewhere : List ℕ) : T
   pub third : IsWhy u s over (why.NotAllowed 3 Expired)
   pub first : IsWhy u t elsewhere (why.NotAllowed 1 Elsewhere)
 
-abbrev at : Source → ℕ → Reason → Option LineRefusal
+abbrev pub at : Source → ℕ → Reason → Option LineRefusal
 at from line reason = Some (record { source = from; line = line; reason = reason })
 
 -- The first text with a line for the key says why, by its own number and line.
@@ -76,12 +77,18 @@ RefusedCertificates = (over elsewhere : List ℕ) → Refuse (user_of trusting_a
     × IsCertificateRefused (login (trusting (Read elsewhere ∷ []) (Files (Read over ∷ [])) [])) certificate (refusal.NotAllowed (source.AuthorizedKeys 0) 1 Elsewhere)
     × IsCertificateRefused (login (record (trusting [] (Files (Read over ∷ [])) (Read elsewhere ∷ [])) { authorities = [] })) certificate (refusal.NotAllowed (source.Command 0) 1 Elsewhere)
     × IsCertificateRefused trusting_all nobodys refusal.NotListed
+    × ¬ IsCertificateRefused (login (record (trusting [] (Files (Read over ∷ [])) []) { authorities = [] })) certificate (refusal.NotAllowed (source.Principals 0) 3 Expired)
 
 -- ---- offers
 
--- A revoked key may not be offered, nor a certificate of an authority whom nobody trusts.
+abbrev pub named : Login → List ℕ → Login
+named l name = record l { offer = record l.offer { algorithm = Some name } }
+
+-- A revoked key may not be offered, nor a key by the name of another algorithm, nor a certificate of an
+-- authority whom nobody trusts.
 abbrev pub Offers : Type 0
 Offers = ((l : Login) → ¬ IsPendingOffer (record l { revokes_key = λ key. true }) None)
+    × ((l : Login) (authority : Option (Option Question)) (is : IsPendingOffer (named l (codes "ssh-rsa")) authority) → is.key ≡ fields.key → ⊥)
     × OfferPendsExactly (login (record (trusting [] InCertificate []) { authorities = [] })) (Err refusal.NotListed)
     × ((p : PendingOffer) → ¬ OfferPendsExactly (login (record (trusting [] InCertificate []) { authorities = [] })) (Ok p))
 

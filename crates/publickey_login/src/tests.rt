@@ -1,4 +1,5 @@
-//! Who is let in by what: logins that OpenSSH's sshd was asked, at 9.2, 10.0 and 10.6.
+//! Who is let in by what: logins that OpenSSH's sshd was asked, at 9.2, 10.0 and 10.6; and which line
+//! refuses, by the order of its auth2-pubkey.c and auth2-pubkeyfile.c.
 
 use crate::samples::{
     AUTHORITY, CERTIFICATE, COMMAND, FILE, KEY, MISPLACED, NOBODYS, OTHER, OVER, OWN, REFUSES,
@@ -186,47 +187,32 @@ fn then_the_authorities_and_then_the_command(rt: HostRuntime) {
     let alloc = rt.alloc();
     let known = authorities(alloc);
     let listed = Principals::InCertificate;
-    let file = [Text::Read(FILE)];
     let refusing = [Text::Read(REFUSES)];
     let command = [Text::Read(COMMAND)];
-    let other = [Text::Read(OTHER)];
-    assert!(rt;
-        is_granted_by(
-            alloc,
-            CERTIFICATE,
-            &trusted(&[], &known, listed, &command),
-            Source::Authority
-        )
-    );
-    assert!(rt;
-        is_granted_by(
-            alloc,
-            CERTIFICATE,
-            &trusted(&[], &[], listed, &command),
-            Source::Command(0)
-        )
-    );
-    assert!(rt;
-        is_granted_by(
-            alloc,
-            CERTIFICATE,
-            &trusted(&refusing, &[], listed, &command),
-            Source::Command(0)
-        )
-    );
-    assert!(rt;
-        is_refused_by(
-            alloc,
-            CERTIFICATE,
-            &trusted(&[], &[], listed, &other),
-            Source::Command(0),
-            1,
-            Reason::Principals
-        )
-    );
-    assert!(rt; is_nobody(alloc, CERTIFICATE, &trusted(&[], &[], listed, &[])));
-    assert!(rt; is_nobody(alloc, KEY, &trusted(&file, &known, listed, &command)));
-    assert!(rt; is_nobody(alloc, NOBODYS, &trusted(&[], &known, listed, &[])));
+    let both = trusted(&[], &known, listed, &command);
+    let last = trusted(&[], &[], listed, &command);
+    let passed = trusted(&refusing, &[], listed, &command);
+    assert!(rt; is_granted_by(alloc, CERTIFICATE, &both, Source::Authority));
+    assert!(rt; is_granted_by(alloc, CERTIFICATE, &last, Source::Command(0)));
+    assert!(rt; is_granted_by(alloc, CERTIFICATE, &passed, Source::Command(0)));
+}
+
+#[test]
+fn nobody_is_listed_where_no_line_is_for_it(rt: HostRuntime) {
+    let alloc = rt.alloc();
+    let known = authorities(alloc);
+    let listed = Principals::InCertificate;
+    let file = [Text::Read(FILE)];
+    let command = [Text::Read(COMMAND)];
+    let bob = [Text::Read(b"bob")];
+    let none = trusted(&[], &[], listed, &[]);
+    let authority = trusted(&[], &known, listed, &[]);
+    let authorities_lines = trusted(&file, &known, listed, &command);
+    let bobs = trusted(&[], &known, Principals::Files(&bob), &[]);
+    assert!(rt; is_nobody(alloc, CERTIFICATE, &none));
+    assert!(rt; is_nobody(alloc, KEY, &authorities_lines));
+    assert!(rt; is_nobody(alloc, NOBODYS, &authority));
+    assert!(rt; is_nobody(alloc, CERTIFICATE, &bobs));
 }
 
 #[test]
@@ -240,76 +226,31 @@ fn files_of_principals_take_the_place_of_the_list(rt: HostRuntime) {
         Text::Read(b"from=\"198.51.100.1\" alice\nalice"),
         Text::Read(b"alice"),
     ];
-    assert!(rt;
-        is_granted_by(
-            alloc,
-            CERTIFICATE,
-            &trusted(&[], &known, Principals::Files(&named), &[]),
-            Source::Principals(1)
-        )
-    );
-    assert!(rt;
-        is_granted_by(
-            alloc,
-            CERTIFICATE,
-            &trusted(&[], &known, Principals::Files(&none), &command),
-            Source::Command(0)
-        )
-    );
-    assert!(rt;
-        is_refused_by(
-            alloc,
-            CERTIFICATE,
-            &trusted(&[], &known, Principals::Files(&refusing), &[]),
-            Source::Principals(0),
-            1,
-            Reason::Elsewhere
-        )
-    );
-    assert!(rt;
-        is_nobody(
-            alloc,
-            CERTIFICATE,
-            &trusted(&[], &known, Principals::Files(&none), &[])
-        )
-    );
+    let second = trusted(&[], &known, Principals::Files(&named), &[]);
+    let passed = trusted(&[], &known, Principals::Files(&none), &command);
+    let first = trusted(&[], &known, Principals::Files(&refusing), &[]);
+    let from = Source::Principals(0);
+    assert!(rt; is_granted_by(alloc, CERTIFICATE, &second, Source::Principals(1)));
+    assert!(rt; is_granted_by(alloc, CERTIFICATE, &passed, Source::Command(0)));
+    assert!(rt; is_refused_by(alloc, CERTIFICATE, &first, from, 1, Reason::Elsewhere));
 }
 
 #[test]
 fn the_first_text_with_a_line_says_why(rt: HostRuntime) {
     let alloc = rt.alloc();
     let listed = Principals::InCertificate;
-    let over = [Text::Read(FILE), Text::Read(OVER), Text::Read(MISPLACED)];
+    let texts = [Text::Read(FILE), Text::Read(OVER), Text::Read(MISPLACED)];
+    let file = [Text::Read(FILE)];
     let misplaced = [Text::Read(MISPLACED)];
     let own = [Text::Read(OWN)];
-    assert!(rt;
-        is_refused_by(
-            alloc,
-            KEY,
-            &trusted(&over, &[], listed, &misplaced),
-            Source::AuthorizedKeys(1),
-            3,
-            Reason::Expired
-        )
-    );
-    assert!(rt;
-        is_refused_by(
-            alloc,
-            KEY,
-            &trusted(&[Text::Read(FILE)], &[], listed, &misplaced),
-            Source::Command(0),
-            1,
-            Reason::MisplacedOption
-        )
-    );
-    assert!(rt;
-        is_granted_by(
-            alloc,
-            KEY,
-            &trusted(&over, &[], listed, &own),
-            Source::Command(0)
-        )
-    );
+    let over = trusted(&texts, &[], listed, &misplaced);
+    let last = trusted(&file, &[], listed, &misplaced);
+    let passed = trusted(&texts, &[], listed, &own);
+    let second = Source::AuthorizedKeys(1);
+    let command = Source::Command(0);
+    assert!(rt; is_refused_by(alloc, KEY, &over, second, 3, Reason::Expired));
+    assert!(rt; is_refused_by(alloc, KEY, &last, command, 1, Reason::MisplacedOption));
+    assert!(rt; is_granted_by(alloc, KEY, &passed, command));
 }
 
 #[test]
@@ -321,45 +262,27 @@ fn the_files_then_the_principals_then_the_command_say_why(rt: HostRuntime) {
     let refusing = [Text::Read(REFUSES)];
     let other = [Text::Read(OTHER)];
     let command = [Text::Read(COMMAND)];
-    assert!(rt;
-        is_refused_by(
-            alloc,
-            CERTIFICATE,
-            &trusted(&refusing, &known, over, &other),
-            Source::AuthorizedKeys(0),
-            1,
-            Reason::Elsewhere
-        )
-    );
-    assert!(rt;
-        is_refused_by(
-            alloc,
-            CERTIFICATE,
-            &trusted(&[], &known, over, &other),
-            Source::Principals(0),
-            2,
-            Reason::Expired
-        )
-    );
+    let all = trusted(&refusing, &known, over, &other);
+    let later = trusted(&[], &known, over, &other);
     // an authority whom nobody trusts asks for no principals
+    let last = trusted(&[], &[], over, &other);
+    let passed = trusted(&refusing, &known, over, &command);
+    let from_command = Source::Command(0);
+    let from_file = Source::AuthorizedKeys(0);
+    let by_name = Source::Principals(0);
+    assert!(rt; is_refused_by(alloc, CERTIFICATE, &all, from_file, 1, Reason::Elsewhere));
+    assert!(rt; is_refused_by(alloc, CERTIFICATE, &later, by_name, 2, Reason::Expired));
     assert!(rt;
         is_refused_by(
             alloc,
             CERTIFICATE,
-            &trusted(&[], &[], over, &other),
-            Source::Command(0),
+            &last,
+            from_command,
             1,
             Reason::Principals
         )
     );
-    assert!(rt;
-        is_granted_by(
-            alloc,
-            CERTIFICATE,
-            &trusted(&refusing, &known, over, &command),
-            Source::Command(0)
-        )
-    );
+    assert!(rt; is_granted_by(alloc, CERTIFICATE, &passed, from_command));
 }
 
 #[test]

@@ -54,8 +54,7 @@ returns-then-decides_alone c =
     let left = subst (λ (all : List Text). AreLeft u s (map text_of xs) all k) here c.loop-number.invariant.left in
     let so_far = subst (λ (all : List Text). RefusesSoFar u s c.args.list (map text_of xs) all k c.loop-number.first) here c.loop-number.invariant.so_far in
     let says = subst (λ (v : TextVerdict). SearchesText u s c.source-source.result c.in-Read.text.now (Ok v)) c.in-Refuses.is c.in_ok-line-in-Read.ensures in
-    let ends = refused_ends u s c.in-Read.text.now c.in-Refuses.refused.line c.in-Refuses.refused.reason (sym c.decides_alone.ensures ∙ c.if-decides_alone.true) says.1 in
-    (
+    let ends = refused_ends u s c.in-Read.text.now c.in-Refuses.refused.line c.in-Refuses.refused.reason (sym c.decides_alone.ensures ∙ c.if-decides_alone.true) says.1 in (
       refused_here u s (map text_of xs) c.in-Read.text.now rest k left ends,
       subst (λ (first : Option LineRefusal). RefusesFirst u s c.args.list (map text_of xs) first) (sym c.or-first.ensures) (at_refused u s c.args.list (map text_of xs) c.in-Read.text.now rest k c.loop-number.first c.in-Refuses.refused (says.0 ∙ c.source-source.ensures) says.1 so_far),
     )
@@ -103,8 +102,7 @@ returns c =
     let s = sought_of c.args.sought in
     let xs = c.args.texts.now in
     let k = c.loop-number.number in
-    let none = nothing_left xs k c.loop-number-test.false in
-    (
+    let none = nothing_left xs k c.loop-number-test.false in (
       none_left u s (map text_of xs) k (subst (λ (rest : List Text). AreLeft u s (map text_of xs) rest k) none c.loop-number.invariant.left),
       at_end u s c.args.list (map text_of xs) k c.loop-number.first (subst (λ (rest : List Text). RefusesSoFar u s c.args.list (map text_of xs) rest k c.loop-number.first) none c.loop-number.invariant.so_far),
     )
