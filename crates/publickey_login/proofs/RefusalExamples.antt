@@ -1,23 +1,21 @@
 -- Which text refuses first, and what may not be offered: for worked examples.
-use Rattle.std.proofs.Common.{◌≡◌, ◌<◌, ℕ, zero, suc, List, [], ◌∷◌, IsTrue, Option, Some, None, arith, inl, inr}
+use Rattle.std.proofs.Common.{◌≡◌, ℕ, zero, suc, List, [], ◌∷◌, Option, Some, None, arith, false, inl, inr}
 use Rattle.std.specs.List.{Any}
 use Rattle.std.specs.Option.{option_or}
 use Rattle.std.specs.Str.Lines.{lines}
 use Rattle.sshkey_model.specs.Certificates.{Certificate}
+use Rattle.sshkey_model.specs.Refusals.{has_trusted_authority}
 use Rattle.user_keys.proofs.FirstLines.{some_first}
-use Rattle.user_keys.specs.CertificateLogins.{by}
 use Rattle.user_keys.specs.UserLogins.{Ends, IsListedBy, UserLogin}
 use Rattle.user_keys.specs.declared.refusal.Reason.{Reason}
-use Rattle.user_keys.specs.declared.refusal.Reason.TheVariants.{Elsewhere, Expired}
+use Rattle.user_keys.specs.declared.refusal.Reason.TheVariants.{Expired}
 use Rattle.publickey_login.specs.Logins.{Login, Read}
 use Rattle.publickey_login.specs.RefusalExamples.{Refuse}
-use Rattle.publickey_login.specs.Searches.{AuthorityLine, IsOfFirst, KeyLine, ArePassed, Sought, in_text}
+use Rattle.publickey_login.specs.Searches.{IsOfFirst, KeyLine, ArePassed, Sought, in_text}
 use Rattle.publickey_login.specs.Stops.{AuthorityRefusesFirst, HasNone, IsWhy, RefusesFirst, RefusesWith, refusal_for}
-use Rattle.publickey_login.specs.declared.grant.Source.{Source}
 use Rattle.publickey_login.specs.declared.grant.Source.TheVariants as source
 use Rattle.publickey_login.specs.declared.refusal.PublickeyRefusal.TheVariants as refusal
 use Rattle.publickey_login.specs.declared.search.LineRefusal.{LineRefusal}
-use Rattle.publickey_login.specs.declared.search.TextList.{TextList}
 use Rattle.publickey_login.specs.declared.search.TextList.TheVariants as list
 use Rattle.user_keys.specs.declared.refusal.UserRefusal.TheVariants as why
 
@@ -48,10 +46,15 @@ module _ (u : UserLogin) where
     never_unlisted None (Some x) a is = absurd (cc is)
     never_unlisted (Some x) command a is = absurd (cc is)
 
+-- an authority whom nobody trusts asks for no principals
+untrusted : (l : Login) (c : Certificate) (x : LineRefusal) → has_trusted_authority l.trusted.authorities c ≡ false → AuthorityRefusesFirst l c (Some x) → ⊥
+untrusted l c x other (inl never) = absurd (cc never.1)
+untrusted l c x other (inr told) = absurd (cc (other, told.0))
+
 -- where no text is asked nothing is told of one
-pub never_told : (u : UserLogin) (s : Sought) (l : Login) (c : Certificate) (x : LineRefusal) → ((first : LineRefusal) → AuthorityRefusesFirst l c (Some first) → ⊥) → (files authority command : Option LineRefusal) → RefusesFirst u s list.AuthorizedKeys [] files → AuthorityRefusesFirst l c authority → RefusesFirst u s list.Command [] command → refusal.NotAllowed x.source x.line x.reason ≡ refusal_for (option_or files (option_or authority command)) → ⊥
+pub never_told : (u : UserLogin) (s : Sought) (l : Login) (c : Certificate) (x : LineRefusal) → has_trusted_authority l.trusted.authorities c ≡ false → (files authority command : Option LineRefusal) → RefusesFirst u s list.AuthorizedKeys [] files → AuthorityRefusesFirst l c authority → RefusesFirst u s list.Command [] command → refusal.NotAllowed x.source x.line x.reason ≡ refusal_for (option_or files (option_or authority command)) → ⊥
 unfolding IsOfFirst
-never_told u s l c x none (Some y) authority command (n, from, first) b d is = first
-never_told u s l c x none None (Some y) command a b d is = none y b
-never_told u s l c x none None None (Some y) a b (n, from, first) is = first
-never_told u s l c x none None None None a b d is = absurd (cc is)
+never_told u s l c x other (Some y) authority command (n, from, first) b d is = first
+never_told u s l c x other None (Some y) command a b d is = untrusted l c y other b
+never_told u s l c x other None None (Some y) a b (n, from, first) is = first
+never_told u s l c x other None None None a b d is = absurd (cc is)

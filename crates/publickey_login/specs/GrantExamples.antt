@@ -1,6 +1,6 @@
 -- Worked examples of who is granted nothing, and who does not log in: each with one thing changed
 -- (auth2-pubkey.c of OpenSSH).
-use Rattle.std.specs.Prelude.{◌≡◌, ℕ, List, [], ◌∷◌, Bool, true, false, Option, Some, None, codes}
+use Rattle.std.specs.Prelude.{◌≡◌, ℕ, List, [], ◌∷◌, true, false, Option, Some, None}
 use Rattle.login_policy.specs.Examples.{dsa_key, fields}
 use Rattle.sshkey_model.specs.Certificates.{Certificate}
 use Rattle.sshkey_model.specs.Keys.{Key}
@@ -8,8 +8,8 @@ use Rattle.sshkey_model.specs.Verification.{Question}
 use Rattle.user_keys.specs.UserLogins.{UserLogin}
 use Rattle.publickey_login.specs.Grants.{GrantsCertificate, GrantsKey, IsLogin, IsPending, MayOffer}
 use Rattle.publickey_login.specs.LoginExamples.{certificate, login, nobodys, trusting}
-use Rattle.publickey_login.specs.Logins.{Files, InCertificate, Login, Read, Unreadable}
-use Rattle.publickey_login.specs.Searches.{AuthorityLine, Found, IsFoundBy, KeyLine, PrincipalLine, RefusesBy}
+use Rattle.publickey_login.specs.Logins.{Files, InCertificate, Login, Unreadable}
+use Rattle.publickey_login.specs.Searches.{AuthorityLine, Found, IsFoundBy, KeyLine, RefusesBy}
 use Rattle.publickey_login.specs.Signatures.{BySshd, Request}
 use Rattle.publickey_login.specs.Sources.{PrincipalsGoOn}
 use Rattle.publickey_login.specs.declared.grant.PublickeyGrant.{PublickeyGrant}

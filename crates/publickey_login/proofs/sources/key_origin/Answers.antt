@@ -1,6 +1,5 @@
 use Rattle.std.proofs.Common.{Ok, subst, sym, ◌∙◌, ap}
 use Rattle.std.proofs.lemmas.Result.{err_from_is_err_and}
-use Rattle.std.specs.Option.{option_or}
 use Rattle.sshkey_keys.specs.Keys.{key_of}
 use Rattle.publickey_login.specs.Results.{SearchesIn, asked_of}
 use Rattle.publickey_login.specs.Searches.{KeyLine}
