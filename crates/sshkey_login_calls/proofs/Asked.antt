@@ -47,7 +47,7 @@ heads start (Some q) p is =
 
 module _ {A : Type 0} (f : A → Option Question) (of_authority of_client : Option A) (authority client : Option (Option Question)) (a c : code.Question) (start first all : List ℕ) (len : ℕ) (ticket : Sha256Digest) (asks_authority asks_client : ℕ) where
   pub laid : start ≡ [] → option_map f of_authority ≡ authority → option_map f of_client ≡ client → AddsAsked (option_map f of_authority) a start first → AddsAsked (option_map f of_client) c first all → len ≡ length all → ticket.bytes ≡ digest Sha256 (head a ++ (head c ++ all)) → asks_authority ≡ bit 1 (is_some of_authority) → asks_client ≡ bit 2 (is_some of_client)
-    → (qs : Questions) × (authority ≡ option_map Some qs.authority) × (client ≡ option_map Some qs.client) × ((all ≡ questions_bytes qs) × AreAsked qs (record { authority = a; client = c; length = len; ticket = ticket; asked = asks_authority + asks_client }))
+      → (qs : Questions) × (authority ≡ option_map Some qs.authority) × (client ≡ option_map Some qs.client) × ((all ≡ questions_bytes qs) × AreAsked qs (record { authority = a; client = c; length = len; ticket = ticket; asked = asks_authority + asks_client }))
   laid none of_a of_c adds_a adds_c is_len is_ticket is_a is_c =
       let ra = raised (option_map f of_authority) a start first adds_a in
       let rc = raised (option_map f of_client) c first all adds_c in
@@ -56,14 +56,21 @@ module _ {A : Type 0} (f : A → Option Question) (of_authority of_client : Opti
       let here : AreAskedFrom 0 ra.0 a = subst (λ (l : List ℕ). AreAskedFrom (length l) ra.0 a) none ra.3 in
       let there : AreAskedFrom (length (asked_bytes ra.0)) rc.0 c = subst (λ (l : List ℕ). AreAskedFrom (length l) rc.0 c) begun rc.3 in
       let some_a : is_some of_authority ≡ is_some ra.0 = sym (some_mapped f of_authority) ∙ ap is_some ra.1 ∙ some_mapped Some ra.0 in
-      let some_c : is_some of_client ≡ is_some rc.0 = sym (some_mapped f of_client) ∙ ap is_some rc.1 ∙ some_mapped Some rc.0 in
-      (record { authority = ra.0; client = rc.0 }, sym of_a ∙ ra.1, sym of_c ∙ rc.1, (whole, record {
-        authority = here;
-        client = there;
-        length = is_len ∙ ap (λ (l : List ℕ). length l) whole;
-        ticket = is_ticket ∙ ap (λ (l : List ℕ). digest Sha256 (l ++ (head c ++ all))) (heads 0 ra.0 a here) ∙ ap (λ (l : List ℕ). digest Sha256 (asked_lengths ra.0 ++ (l ++ all))) (heads (length (asked_bytes ra.0)) rc.0 c there) ∙ ap (λ (l : List ℕ). digest Sha256 (asked_lengths ra.0 ++ (asked_lengths rc.0 ++ l))) whole;
-        asked = ap (λ (n : ℕ). n + asks_client) (is_a ∙ ap (bit 1) some_a) ∙ ap (λ (n : ℕ). bit 1 (is_some ra.0) + n) (is_c ∙ ap (bit 2) some_c);
-      }))
+      let some_c : is_some of_client ≡ is_some rc.0 = sym (some_mapped f of_client) ∙ ap is_some rc.1 ∙ some_mapped Some rc.0 in (
+        record { authority = ra.0; client = rc.0 },
+        sym of_a ∙ ra.1,
+        sym of_c ∙ rc.1,
+        (
+          whole,
+          record {
+            authority = here;
+            client = there;
+            length = is_len ∙ ap (λ (l : List ℕ). length l) whole;
+            ticket = is_ticket ∙ ap (λ (l : List ℕ). digest Sha256 (l ++ (head c ++ all))) (heads 0 ra.0 a here) ∙ ap (λ (l : List ℕ). digest Sha256 (asked_lengths ra.0 ++ (l ++ all))) (heads (length (asked_bytes ra.0)) rc.0 c there) ∙ ap (λ (l : List ℕ). digest Sha256 (asked_lengths ra.0 ++ (asked_lengths rc.0 ++ l))) whole;
+            asked = ap (λ (n : ℕ). n + asks_client) (is_a ∙ ap (bit 1) some_a) ∙ ap (λ (n : ℕ). bit 1 (is_some ra.0) + n) (is_c ∙ ap (bit 2) some_c);
+          },
+        ),
+      )
 
 -- ---- what is decided
 

@@ -39,8 +39,8 @@ module _ (l : LoginParts) (s : Signed) (seen : Client → Client) (ticket : List
         let r = pends.1.0 in
         let login = login_of l r (client_seen s (seen c)) in
         let nobody : (g : PublickeyGrant) → IsLetIn login s ticket n g → ⊥ = λ g is.
-            let same = one login s (grant_in p) g (authority_in p) is.authority (client_in p) is.client pends.1.2 is.pending in
-            why.0 (subst (λ (a : Option (Option Question)). AreAnswered ticket n a (client_in p)) same.0 (subst (λ (q : Option (Option Question)). AreAnswered ticket n is.authority q) same.1 is.answered)) in
+        let same = one login s (grant_in p) g (authority_in p) is.authority (client_in p) is.client pends.1.2 is.pending in
+        why.0 (subst (λ (a : Option (Option Question)). AreAnswered ticket n a (client_in p)) same.0 (subst (λ (q : Option (Option Question)). AreAnswered ticket n is.authority q) same.1 is.answered)) in
         (c, there, inr (inr (pends.0, (r, pends.1.1, record { nobody = nobody; first = inr (grant_in p, authority_in p, client_in p, pends.1.2, why.1, why.2) }))))
 
     pub let_in : {A : Type 0} (Is : PublickeyGrant → A → Type 0) (g : PublickeyGrant) (x : A) → Decides (grant_in p) (authority_in p) (client_in p) ticket n (Ok g) → Is g x → Judges l s seen ticket n Is (Ok x)
@@ -101,25 +101,47 @@ module _ (l : LoginParts) (s : Signed) (seen : Client → Client) (one : OneGran
   asked (Ok p) high (texts, (r, reading, pending)) answers =
       let login = login_of l r (client_seen s (seen c)) in
       record {
-        asked = λ other. (said n, refl, (c, there, inr (inr (texts, (r, reading, record {
-          given = λ zero_. let h = answers.given zero_ in (h.0, left_so login (grant_in p) (authority_in p) (client_in p) h.0 pending h.1, h.2);
-          short = λ two. let h = answers.short two in (h.0, left_so login (grant_in p) (authority_in p) (client_in p) h.0 pending h.1, h.2, h.3);
-          nothing = λ some more. unasked login (grant_in p) (authority_in p) (client_in p) pending (answers.unraised some other more);
-          first = λ some more. (said n, refl, inr (grant_in p, authority_in p, client_in p, pending, answers.unraised some other more, refl));
-        })))));
+        asked = λ other. (
+          said n,
+          refl,
+          (
+            c,
+            there,
+            inr (inr (
+              texts,
+              (
+                r,
+                reading,
+                record {
+                  given = λ zero_. let h = answers.given zero_ in (h.0, left_so login (grant_in p) (authority_in p) (client_in p) h.0 pending h.1, h.2);
+                  short = λ two. let h = answers.short two in (h.0, left_so login (grant_in p) (authority_in p) (client_in p) h.0 pending h.1, h.2, h.3);
+                  nothing = λ some more. unasked login (grant_in p) (authority_in p) (client_in p) pending (answers.unraised some other more);
+                  first = λ some more. (said n, refl, inr (grant_in p, authority_in p, client_in p, pending, answers.unraised some other more, refl));
+                },
+              ),
+            )),
+          ),
+        );
         stays = answers.stays;
       }
   asked (Err d) high out (is, same, stays) =
       record {
         asked = λ other.
             let not_memory : d.number ≢ 1 = λ memory. other (is ∙ memory) in
-            let above = high not_memory in
-            (d, sym is, (c, there, said_so l d _ _ (λ r so. record {
-              given = λ zero_. absurd (omega (arith, is, above, zero_));
-              short = λ two. absurd (omega (arith, is, above, two));
-              nothing = λ _ _ qs asked_so. so.0 asked_so.0 (option_map Some qs.authority) (option_map Some qs.client) asked_so.1;
-              first = λ _ _. (d, sym is, inl so.1);
-            }) (out not_memory)));
+            let above = high not_memory in (
+              d,
+              sym is,
+              (
+                c,
+                there,
+                said_so l d _ _ (λ r so. record {
+                  given = λ zero_. absurd (omega (arith, is, above, zero_));
+                  short = λ two. absurd (omega (arith, is, above, two));
+                  nothing = λ _ _ qs asked_so. so.0 asked_so.0 (option_map Some qs.authority) (option_map Some qs.client) asked_so.1;
+                  first = λ _ _. (d, sym is, inl so.1);
+                }) (out not_memory),
+              ),
+            );
         stays = λ _ _. (same, stays);
       }
 

@@ -48,9 +48,9 @@ IsWhyUnraised authority client number = (IsUnraised authority × (number ≡ 30)
 abbrev pub IsWhyUnanswered : List ℕ → ℕ → Option (Option Question) → Option (Option Question) → ℕ → Type 0
 IsWhyUnanswered ticket n authority client number = IsWhyUnraised authority client number
     ⊎ ((qs : Questions) × AreLeft authority client qs
-        × (((ticket ≢ ticket_of qs) × (number ≡ 106))
-        ⊎ ((ticket ≡ ticket_of qs) × ¬ IsYes authority (answers_in n).authority × (number ≡ 30))
-        ⊎ ((ticket ≡ ticket_of qs) × IsYes authority (answers_in n).authority × ¬ IsYes client (answers_in n).client × (number ≡ 84))))
+    × (((ticket ≢ ticket_of qs) × (number ≡ 106))
+    ⊎ ((ticket ≡ ticket_of qs) × ¬ IsYes authority (answers_in n).authority × (number ≡ 30))
+    ⊎ ((ticket ≡ ticket_of qs) × IsYes authority (answers_in n).authority × ¬ IsYes client (answers_in n).client × (number ≡ 84))))
 
 abbrev pub Decides : PublickeyGrant → Option (Option Question) → Option (Option Question) → List ℕ → ℕ → Result PublickeyGrant Refusal → Type 0
 Decides granted authority client ticket n (Ok g) = (g ≡ granted) × AreAnswered ticket n authority client

@@ -8,14 +8,11 @@
 pub mod examples;
 mod forwarding;
 mod grant;
-
-mod pend;
 mod login;
+mod pend;
 mod questions;
 mod refusal;
 mod sources;
-#[cfg(test)]
-mod tests;
 mod verdict;
 
 pub use forwarding::{may_listen, may_open};

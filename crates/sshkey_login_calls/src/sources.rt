@@ -90,10 +90,7 @@ fn text_in<'a>(part: &TextParts<'a>) -> Text<'a>
 }
 
 /// The fingerprints with these digests. Fails only when out of memory.
-pub(crate) fn fingerprints(
-    alloc: Global,
-    digests: &[Sha256Digest],
-) -> Result<Vec<Fingerprint>>
+pub(crate) fn fingerprints(alloc: Global, digests: &[Sha256Digest]) -> Result<Vec<Fingerprint>>
     ensures { IfOk result (λ found. fingerprints_of found.items ≡ authorities_of digests.now) }
 {
     let mut found = Vec::new(alloc);

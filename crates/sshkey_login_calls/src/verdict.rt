@@ -8,10 +8,9 @@ ghost use Rattle.sshkey_login_calls.specs.Verdicts.{AnswersPended, Decides, Judg
 ghost use Rattle.publickey_login.specs.Signatures.{BySshd};
 ghost use Rattle.sshkey_login_calls.specs.Logins.{AreTexts, PendsOf, signed_in};
 
-use crate::grant::write_grant;
-use crate::grant::{GrantParts, lay_out_grant, no_grant};
-use crate::pend::pend;
+use crate::grant::{GrantParts, lay_out_grant, no_grant, write_grant};
 use crate::login::{LoginParts, client_of, signed_in};
+use crate::pend::pend;
 use crate::questions::{ASKS_AUTHORITY, ASKS_CLIENT, LoginQuestions, lay_out_questions};
 use crate::refusal::{OTHER_QUESTIONS, Refusal, UNSIGNED, refusal_of, said};
 use login_policy::Client;
@@ -63,8 +62,9 @@ pub fn log_in_questions(
 ///   is not told whom authorities let in;
 /// - the number of what `publickey_login::pending` refuses: from 10 to 29 the fault of bytes that
 ///   are no key and no certificate; 59; of a key 58 or 56; 96 where a line cannot be told, 98 where a
-///   text could not be read; 90 where nothing lets in; of a certificate what `check_login` says; of
-///   the client's signature 81 to 83, 13 for a request that is too long, 85 where nobody tells the
+///   text could not be read; where nothing lets in, 91 to 95 by why the first line refuses that is
+///   for what is offered, or 90; of a certificate 70, 71, 59, 73 to 76, 31, 58 or 56, 32 to 34, 57;
+///   of the client's signature 81 to 83, 13 for a request that is too long, 85 where nobody tells the
 ///   flags, 86 for bytes that are no signature;
 /// - 30 for an authority's signature that raises no question, and 84 for such a one of the client's;
 /// - 106 where the ticket is of other questions;
@@ -120,12 +120,7 @@ pub fn may_offer_questions(
 /// Returns 0 exactly if so, where the ticket is that of `may_offer_questions`, and the bit 1 of the
 /// answers says that the question was answered yes; 1 if memory ran out; and else what `log_in`
 /// says, but nothing about a client's signature.
-pub fn may_offer(
-    alloc: Global,
-    login: &LoginParts<'_>,
-    ticket: &Sha256Digest,
-    answers: u32,
-) -> u32
+pub fn may_offer(alloc: Global, login: &LoginParts<'_>, ticket: &Sha256Digest, answers: u32) -> u32
     ensures verdict { TellsOffer login.now ticket.now.bytes answers result }
     ensures memory { result ≡ 1 → AreTexts login.now }
 {
