@@ -176,7 +176,10 @@ static const struct {
     {RAF_OTHER_ALGORITHM, "another algorithm than the request's"},
     {RAF_UNTOUCHED, "a security key that nobody touched"},
     {RAF_UNVERIFIED, "a security key that did not verify its user"},
-    {RAF_USER_NOT_LISTED, "no line is for the key"},
+    {RAF_CLIENT_NOT_SIGNED, "the client has not signed"},
+    {RAF_NO_FLAGS, "a touch or a verified user is wanted, and nobody tells the flags"},
+    {RAF_NO_SIGNATURE, "no signature of a client"},
+    {RAF_USER_NOT_LISTED, "no line is for the key, and no authority certifies it for the user"},
     {RAF_LINE_EXPIRED, "a line whose time is over"},
     {RAF_LINE_OPTION, "a line with principals and without cert-authority"},
     {RAF_LINE_ELSEWHERE, "a line for other places"},
@@ -184,10 +187,14 @@ static const struct {
     {RAF_LINE_PRINCIPALS, "a line for nobody whom the certificate lists"},
     {RAF_LINE_UNCLEAR, "a line that can't be told"},
     {RAF_NOT_PERMITTED, "the grant does not permit it"},
+    {RAF_TEXT_UNREADABLE, "a text that can't be read, and nothing before it lets in"},
     {RAF_NO_PORT, "port 0"},
     {RAF_NO_HOST, "no host"},
     {RAF_NO_ADDRESS, "a host that is like an address, and has no one text"},
     {RAF_NO_IDENTITY, "no identity"},
+    {RAF_UNSIGNED, "nobody has seen the client's signature"},
+    {RAF_NO_PRINCIPALS, "whom an authority lets in is not told"},
+    {RAF_OTHER_QUESTIONS, "the answers are to other questions"},
 };
 
 const char *raf_status_meaning(uint32_t status) {
