@@ -203,7 +203,7 @@ SOURCES = [
     ("no file of principals", ALICE, [("authorities", "{authority}"), ("principals", "none")], (90,)),
     ("an authority of the user", ALICE, [("user-authorities", "bob {other}\nbob,alice {authority}")], ("authority",)),
     ("an authority of another user", ALICE, [("user-authorities", "alice {other}\nbob {authority}")], (90,)),
-    ("a line before that of another user", ALICE, [("user-authorities", "bob {authority}"), ("authorized-keys", f"{HERE},{CA}")], ("authorized_keys", 1, 1)),
+    ("a line before that of another user", ALICE, [("user-authorities", "alice {other}\nbob {authority}"), ("authorized-keys", f"{HERE},{CA}")], ("authorized_keys", 1, 1)),
 ]  # fmt: skip
 
 
