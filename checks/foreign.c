@@ -8,9 +8,10 @@
  *                                         they were, what the next one is answered, and how many
  *                                         bytes each is told to take
  *     memory CALL SPAN.. NUMBER.. ROOM | authority LINE            asked/memory_calls.h
+ *                                         of a login the words after CALL are those of `log-in`, with
+ *                                         what asked/login_words.h takes besides
  *     string-places BYTES | option-places BYTES
  *                                         what is found from each place, and after the end
- *     verifications .. as `log-in`        how often the verifier was asked
  *     names                               version and ABI of the header and of the library, and
  *                                         numbers of answers with their names
  *     meanings                            the words of reading.h for each of these numbers
@@ -27,7 +28,7 @@
 #include "verify.h"
 
 /* of words in a line */
-#define MOST 16
+#define MOST 32
 #define FILLED 0xa5
 
 static raf_blob made(size_t length) {
@@ -307,6 +308,8 @@ static void ask_places(given_call *it, const char *name) {
   }
 }
 
+#include "asked/login_words.h"
+
 #include "asked/helper_calls.h"
 
 /* ---- questions about any call */
@@ -314,7 +317,7 @@ static void ask_places(given_call *it, const char *name) {
 /* How many bytes of the room a call tells that it takes: one of these is not 0. */
 static size_t told(const given_call *it) {
   return it->length + it->question.length + it->line.length + it->entry.length
-         + it->entry_option.length + it->grant.length + it->user_grant.grant.length;
+         + it->entry_option.length + it->questions.length + it->grant.length;
 }
 
 static void ask_rooms(given_call *it) {
@@ -327,9 +330,8 @@ static void ask_rooms(given_call *it) {
     is_kept = answer == RAF_SHORT_BUFFER && is_filled(it->room, 0) &&
               (!length || told(it) == needed);
     needed = told(it);
-    it->grant.length = it->user_grant.grant.length = 0;
+    it->grant.length = 0;
     bool is_none = is_zero(&it->grant, sizeof it->grant);
-    is_none &= is_zero(&it->user_grant, sizeof it->user_grant);
     if (answer == RAF_SHORT_BUFFER && !is_none) printf("and a grant ");
   }
   printf("%" PRIu32 " %zu %zu", answer, length, needed);
@@ -360,17 +362,9 @@ static const struct {
     {"entry", ask_entry, "authorized_entry", 1},
     {"host", ask_entry, "known_host", 1},
     {"options", ask_options, "next_line_option", 1},
-    {"log-in", ask_log_in, "check_login", 6},
-    {"log-in-by-keys", ask_log_in_by_keys, "check_user_keys", 8},
-    {"log-in-by-principals", ask_log_in_by_keys, "check_principals", 8},
-    {"verifications", ask_verifications, "check_login", 6},
     {"host-key", ask_number, "check_host_key", 4},
     {"host-certificate", ask_host_certificate, "check_host_certificate", 4},
     {"unreadable-line", ask_counted, "unreadable_host_line", 2},
-    {"userauth", ask_question, "userauth_question", 6},
-    {"userauth-of", ask_question, "userauth_question_of", 7},
-    {"is-userauth", ask_userauth, "userauth_question", 6},
-    {"flags", ask_number, "check_grant_flags", 2},
     {"other-key-line", ask_number, "is_later_key_line", 1},
     {"line-authority", ask_digest, "authority", 1},
     {"user-authority", ask_digest, "user_authority", 2},
@@ -390,8 +384,52 @@ static const struct {
     {"option-places", ask_places, "next_certificate_option", 1},
 };
 
+/* Gives a call about a login the ticket of its questions, and what is answered yes. */
+static void give_login(given_call *it, const given_login *login) {
+  raf_login_questions of;
+  raf_blob room = made(enough_for(login));
+  bool is_offer = !strncmp(it->name, "may_offer", 9);
+  memset(&of, 0, sizeof of);
+  (is_offer ? raf_may_offer_questions : raf_log_in_questions)(&login->login, room.bytes,
+                                                              room.length, &of);
+  if (of.asked & RAF_ASKS_AUTHORITY && raf_is_signature(&of.authority, room.bytes))
+    it->answers |= RAF_ASKS_AUTHORITY;
+  if (of.asked & RAF_ASKS_CLIENT && raf_is_signature(&of.client, room.bytes))
+    it->answers |= RAF_ASKS_CLIENT;
+  free(room.bytes);
+  it->login = &login->login;
+  it->ticket = of.ticket;
+}
+
+/* Answers such a question about a call that takes a login. */
+static void answer_of_login(char **words) {
+  given_login login = login_by(words + 2);
+  given_call it;
+  memset(&it, 0, sizeof it);
+  it.name = words[1];
+  give_login(&it, &login);
+  if (!strcmp(words[0], "call")) {
+    it.room = made(enough_for(&login));
+    printf("%" PRIu32, called(&it, FILLED));
+  } else if (!strcmp(words[0], "rooms")) {
+    ask_rooms(&it);
+  } else if (!strcmp(words[0], "memory")) {
+    ask_memory(&it, words[2 + LOGIN_WORDS]);
+  }
+  free(it.room.bytes);
+  let_go_of_login(&login);
+}
+
+static bool takes_login(const char *call) {
+  return !strncmp(call, "log_in", 6) || !strncmp(call, "may_offer", 9);
+}
+
 /* Answers a question whose first word after the question's is a call, or the kind of one. */
 static void answer_of_call(char **words) {
+  if (takes_login(words[1])) {
+    answer_of_login(words);
+    return;
+  }
   given_call it = given_by(words + 2, SPANS);
   char name[32];
   it.name = words[1];

@@ -19,6 +19,9 @@ typedef struct {
   raf_blob spans[SPANS];
   given_spans several[SPANS];
   uint64_t numbers[NUMBERS];
+  const raf_login *login; /* of a call about one, with a ticket and what was answered yes */
+  raf_sha256 ticket;
+  uint32_t answers;
   raf_blob room;
   size_t length;
   raf_part part;
@@ -31,8 +34,8 @@ typedef struct {
   raf_certificate_option_parts certificate_option;
   raf_entry entry;
   raf_line_option_parts entry_option;
+  raf_login_questions questions;
   raf_grant grant;
-  raf_user_grant user_grant;
   raf_time_span time;
   raf_destination destination;
   uint32_t known_by;
@@ -41,10 +44,8 @@ typedef struct {
 /* The structs that calls are given. */
 typedef struct {
   raf_draft draft;
-  raf_login login;
   raf_host_login host;
-  raf_userauth request;
-  raf_user_grant grant;
+  raf_grant grant;
 } given_structs;
 
 #define BYTES(at) it->spans[at].bytes, it->spans[at].length
@@ -91,20 +92,15 @@ typedef struct {
   CALL(authorized_entry, BYTES(0), ROOM, &it->entry)                                             \
   CALL(known_host, BYTES(0), ROOM, &it->entry)                                                   \
   CALL(next_line_option, BYTES(0), it->numbers[0], ROOM, &it->entry_option)                      \
-  CALL(login_question, &given->login, ROOM, &it->question)                                       \
-  CALL(check_login, &given->login, (uint32_t)it->numbers[3], ROOM, &it->grant)                   \
-  CALL(check_user_keys, &given->login, BYTES(6), BYTES(7), (uint32_t)it->numbers[3], ROOM,       \
-       &it->user_grant)                                                                          \
-  CALL(check_principals, &given->login, BYTES(6), BYTES(7), (uint32_t)it->numbers[3], ROOM,      \
-       &it->user_grant)                                                                          \
+  CALL(log_in_questions, it->login, ROOM, &it->questions)                                        \
+  CALL(log_in, it->login, &it->ticket, it->answers, ROOM, &it->grant)                            \
+  CALL(may_offer_questions, it->login, ROOM, &it->questions)                                     \
+  CALL(may_offer, it->login, &it->ticket, it->answers)                                           \
   CALL(may_open, &given->grant, BYTES(0), BYTES(1), (uint32_t)it->numbers[0])                    \
   CALL(may_listen, &given->grant, BYTES(0), BYTES(1), (uint32_t)it->numbers[0])                  \
   CALL(check_host_key, &given->host, BYTES(2))                                                   \
   CALL(check_host_certificate, &given->host, BYTES(2), (uint32_t)it->numbers[3], &it->known_by)  \
   CALL(unreadable_host_line, BYTES(0), BYTES(1), PORT, &it->length)                              \
-  CALL(userauth_question, &given->request, ROOM, &it->question)                                  \
-  CALL(userauth_question_of, &given->request, BYTES(6), ROOM, &it->question)                     \
-  CALL(check_grant_flags, (uint32_t)it->numbers[0], BYTES(0), BYTES(1))                          \
   CALL(is_later_key_line, BYTES(0))                                                              \
   CALL(authority, BYTES(0), &it->sha256)                                                         \
   CALL(user_authority, BYTES(0), BYTES(1), &it->sha256)                                          \
@@ -128,16 +124,10 @@ static uint32_t call_by_name(given_call *it, const given_structs *given) {
 /* Makes the call; what it writes to is filled beforehand, the room with FILLED. */
 static uint32_t called(given_call *it, int filling) {
   const uint64_t *numbers = it->numbers;
-  const raf_blob *by = &it->spans[4];
   given_structs given = {
       {DRAWN(0), DRAWN(1), DRAWN(2), DRAWN(3), DRAWN(4), DRAWN(5), DRAWN(6), numbers[0],
        numbers[1], numbers[2], (uint32_t)numbers[3], (uint32_t)numbers[4]},
-      {DRAWN(0), DRAWN(1), DRAWN(2), DRAWN(3),
-       {(const raf_sha256 *)by->bytes, by->length / sizeof(raf_sha256)}, {SEVERAL(5)},
-       numbers[0], (uint32_t)numbers[1], (uint32_t)numbers[2]},
       {{SEVERAL(0)}, DRAWN(1), {SEVERAL(3)}, numbers[2], (uint32_t)numbers[1], PORT},
-      {DRAWN(0), DRAWN(1), DRAWN(2), DRAWN(3), DRAWN(4), DRAWN(5), (uint32_t)numbers[0],
-       (uint32_t)numbers[1]},
       {.permit_open = {0, it->spans[0].length}, .permit_listen = {0, it->spans[0].length}}};
   size_t from = offsetof(given_call, length);
   memset((char *)it + from, filling, sizeof *it - from);

@@ -40,68 +40,95 @@ static void say_asked_for(uint32_t unverified, uint32_t answer) {
   printf(" and %zu verifications after %" PRIu32, verifications, unverified);
 }
 
-/* Asks raf_log_in in a room of the certificate's length: the number, and the grant. */
-static uint32_t log_in(given_call *it, const char *name) {
-  uint32_t unverified = ask(it, name, NULL);
-  const uint64_t *numbers = it->numbers;
-  raf_login login = {raf_blob_span(it->spans[0]), raf_blob_span(it->spans[1]),
-                     raf_blob_span(it->spans[2]), raf_blob_span(it->spans[3]),
-                     {(const raf_sha256 *)it->spans[4].bytes,
-                      it->spans[4].length / sizeof(raf_sha256)},
-                     {it->several[5].items, it->several[5].count}, numbers[0],
-                     (uint32_t)numbers[1], (uint32_t)numbers[2]};
-  free(it->room.bytes);
-  it->room = made(it->spans[0].length);
-  memset(&it->grant, FILLED, sizeof it->grant);
+/* What raf_verify_login is asked: the number, how often the verifier was, and the grant in a room
+ * that is long enough. */
+static uint32_t log_in(const given_login *it, raf_blob *room, raf_grant *grant) {
+  *room = made(enough_for(it));
+  memset(grant, FILLED, sizeof *grant);
   verifications = 0;
-  uint32_t answer = raf_log_in(&login, it->room.bytes, it->room.length, &it->grant);
-  say_asked_for(unverified, answer);
-  return answer;
+  return raf_verify_login(&it->login, room->bytes, room->length, grant);
 }
 
-static void ask_log_in(given_call *it, const char *name) {
-  const raf_grant *of = &it->grant;
-  if (!is_done(log_in(it, name))) {
-    if (!is_zero(of, sizeof *of) || !is_filled(it->room, 0)) printf(" and a grant");
-    return;
-  }
-  if (!is_filled(it->room, of->length)) printf(" more is written");
-  printf(" %" PRIu32 " %" PRIu64 " ", of->permits, of->serial);
+/* Says a grant, which is all that is written. */
+static void say_grant(const raf_grant *of, raf_blob room) {
+  if (!is_filled(room, of->length)) printf(" more is written");
+  raf_part parts[] = {of->force_command, of->key_id, of->permit_open, of->permit_listen,
+                      of->environment};
+  for (size_t at = 0; at < sizeof parts / sizeof *parts; at++) say_part(" ", room, parts[at]);
+  printf(" %" PRIu64 " %" PRIu64 " %" PRIu64 " ", of->serial, of->expires.first,
+         of->expires.last);
   say_word(of->authority.bytes, sizeof of->authority.bytes);
-  say_part(" ", it->room, of->force_command);
-  say_part(" ", it->room, of->key_id);
+  putchar(' ');
+  say_word(of->key.bytes, sizeof of->key.bytes);
+  printf(" %" PRIu32 " %" PRIu32, of->permits, of->tunnel);
 }
 
-/* Asks raf_check_user_keys or raf_check_principals, again where it says "now verify": the
- * number, the line, and the grant. */
-static void ask_log_in_by_keys(given_call *it, const char *name) {
-  uint32_t answer = ask(it, name, NULL);
-  if (answer == RAF_NOT_SIGNED) {
-    uint32_t asked = ask(it, "certificate_question", &it->question.length);
-    it->numbers[3] = asked == RAF_DONE && raf_is_signature(&it->question, it->room.bytes);
-    answer = ask(it, name, NULL);
+static void ask_log_in(char **words) {
+  given_login it = login_by(words);
+  raf_blob room;
+  raf_grant grant;
+  uint32_t answer = log_in(&it, &room, &grant);
+  printf("%" PRIu32 " %zu %" PRIu32 " %zu %zu", answer, verifications, grant.source, grant.text,
+         grant.line);
+  if (answer == RAF_DONE) {
+    say_grant(&grant, room);
+  } else {
+    grant.source = 0;
+    grant.text = grant.line = 0;
+    if (!is_zero(&grant, sizeof grant) || !is_filled(room, 0)) printf(" and a grant");
   }
-  raf_user_grant *of = &it->user_grant;
-  printf("%" PRIu32 " %zu", answer, of->line);
-  if (answer != RAF_DONE) {
-    of->line = 0;
-    if (!is_zero(of, sizeof *of) || !is_filled(it->room, 0)) printf(" and a grant");
-    return;
-  }
-  if (!is_filled(it->room, of->grant.length)) printf(" more is written");
-  printf(" %" PRIu32 " %" PRIu64 " ", of->grant.permits, of->grant.serial);
-  say_word(of->grant.authority.bytes, sizeof of->grant.authority.bytes);
-  say_part(" ", it->room, of->grant.force_command);
-  say_part(" ", it->room, of->grant.key_id);
-  say_part(" ", it->room, of->permit_open);
-  say_part(" ", it->room, of->permit_listen);
-  say_part(" ", it->room, of->environment);
-  printf(" %" PRIu64 " %" PRIu64 " %" PRIu32, of->expires.first, of->expires.last, of->tunnel);
+  free(room.bytes);
+  let_go_of_login(&it);
 }
 
-static void ask_verifications(given_call *it, const char *name) {
-  log_in(it, name);
-  printf("%zu", verifications);
+/* Says a question that is asked; one that is not has to be zero. */
+static void say_question(bool is_asked, const raf_question *of, raf_blob room) {
+  if (!is_asked && !is_zero(of, sizeof *of)) printf(" and a question");
+  if (!is_asked) return;
+  printf(" %" PRIu32, of->algorithm);
+  say_part(" ", room, of->key);
+  say_part(" ", room, of->message);
+  say_part(" ", room, of->signature);
+}
+
+static void ask_log_in_questions(char **words) {
+  given_login it = login_by(words);
+  raf_login_questions of;
+  raf_blob room = made(enough_for(&it));
+  memset(&of, FILLED, sizeof of);
+  if (is_done(raf_log_in_questions(&it.login, room.bytes, room.length, &of))) {
+    say_question(of.asked & RAF_ASKS_AUTHORITY, &of.authority, room);
+    say_question(of.asked & RAF_ASKS_CLIENT, &of.client, room);
+    if (!is_filled(room, of.length)) printf(" more is written");
+  } else if (!is_filled((raf_blob){(uint8_t *)&of, sizeof of}, 0) || !is_filled(room, 0)) {
+    printf(" and a question");
+  }
+  free(room.bytes);
+  let_go_of_login(&it);
+}
+
+static void ask_may_offer(char **words) {
+  given_login it = offer_by(words);
+  verifications = 0;
+  uint32_t answer = raf_verify_offer(&it.login);
+  printf("%" PRIu32 " %zu", answer, verifications);
+  let_go_of_login(&it);
+}
+
+/* What a grant permits: to open that host and port, and to listen there. */
+static void ask_forwards(char **words) {
+  raf_blob host = bytes_of(words[0]), room;
+  uint32_t port = number_of(words[1]);
+  given_login it = login_by(words + 2);
+  raf_grant of;
+  if (is_done(log_in(&it, &room, &of)))
+    printf(" %d %d",
+           raf_may_open(&of, room.bytes, room.length, host.bytes, host.length, port) == RAF_DONE,
+           raf_may_listen(&of, room.bytes, room.length, host.bytes, host.length, port) ==
+               RAF_DONE);
+  free(host.bytes);
+  free(room.bytes);
+  let_go_of_login(&it);
 }
 
 static void ask_host_certificate(given_call *it, const char *name) {
@@ -117,16 +144,6 @@ static void ask_host_certificate(given_call *it, const char *name) {
   say_asked_for(unverified, answer);
   printf("%" PRIu32, answer);
   if (answer == RAF_DONE || known_by) printf(" %" PRIu32, known_by);
-}
-
-/* Whether the client signed the request: raf_verify_userauth. */
-static void ask_userauth(given_call *it, const char *name) {
-  (void)name;
-  raf_userauth request = {raf_blob_span(it->spans[0]), raf_blob_span(it->spans[1]),
-                          raf_blob_span(it->spans[2]), raf_blob_span(it->spans[3]),
-                          raf_blob_span(it->spans[4]), raf_blob_span(it->spans[5]),
-                          (uint32_t)it->numbers[0], (uint32_t)it->numbers[1]};
-  printf("%" PRIu32, raf_verify_userauth(&request));
 }
 
 /* ---- who signed a file */
@@ -184,6 +201,14 @@ static bool has_answered_helper(char **words) {
     ask_signer_by(words);
   else if (!strcmp(words[0], "authority"))
     ask_authority(words[1]);
+  else if (!strcmp(words[0], "log-in"))
+    ask_log_in(words + 1);
+  else if (!strcmp(words[0], "log-in-questions"))
+    ask_log_in_questions(words + 1);
+  else if (!strcmp(words[0], "may-offer"))
+    ask_may_offer(words + 1);
+  else if (!strcmp(words[0], "forwards"))
+    ask_forwards(words + 1);
   else
     return false;
   return true;
