@@ -9,7 +9,7 @@ from lib.harness import blob_of, string
 
 from .login_calls import INSIDE, OUTSIDE, Certificates
 from .made import loaded
-from .publickey import AUTHORITY, COMMAND, FOREVER, KEYS, PRINCIPALS, TRANSPORT, UNREADABLE, Granted, Login, refused
+from .publickey import AUTHORITY, COMMAND, FOREVER, KEYS, PRINCIPALS, TRANSPORT, UNREADABLE, Granted, Login, refused, refused_by
 from .user_key_verdicts import stored, verdict
 
 # of how many stored questions a package is asked one
@@ -168,10 +168,10 @@ def by_lines(of):
         ("until later", line(b'expiry-time="20990101000000Z"'), let_in(1, expires=4070908800)),
         ("for others", other, refused(90)), ("nowhere", b"", refused(90)), ("as an authority's", line(b"cert-authority"), refused(90)),
         ("with an option that is none", line(b"odd"), refused(90)), ("with an option that is none, and again", line(b"odd") + own, let_in(2)),
-        ("that is over", line(b'expiry-time="20010101Z"'), refused(91, source=KEYS, line=1)),
-        ("with principals", other + line(b'principals="alice"'), refused(92, source=KEYS, line=2)),
-        ("for other places", line(b'from="198.51.100.7"'), refused(93, source=KEYS, line=1)), ("for here", line(b'from="192.0.2.0/24"'), let_in(1)),
-        ("that is over, and one for other places", line(b'expiry-time="20010101Z"') + line(b'from="198.51.100.7"'), refused(91, source=KEYS, line=1)),
+        ("that is over", line(b'expiry-time="20010101Z"'), refused_by(91, source=KEYS, line=1)),
+        ("with principals", other + line(b'principals="alice"'), refused_by(92, source=KEYS, line=2)),
+        ("for other places", line(b'from="198.51.100.7"'), refused_by(93, source=KEYS, line=1)), ("for here", line(b'from="192.0.2.0/24"'), let_in(1)),
+        ("that is over, and one for other places", line(b'expiry-time="20010101Z"') + line(b'from="198.51.100.7"'), refused_by(91, source=KEYS, line=1)),
         ("for other places, and again", line(b'from="198.51.100.7"') + own, let_in(2)),
         ("with a list that is none", line(b'from="*,"'), refused(96, source=KEYS, line=1)),
         ("with a list that is none, and again", line(b'from="*,"') + own, refused(96, source=KEYS, line=1)),
@@ -185,9 +185,9 @@ def by_places(of):
     """Names, what is changed of the login of the key, and what is wanted."""
     of_host, here = of.line(b'from="*.example.com"'), of.line(b'from="192.0.2.7"')
     yield from (
-        ("by a host's name", {"keys": (of_host,), "host": b"a.example.com"}, granted(of.key, 1)), ("by none", {"keys": (of_host,)}, refused(93, source=KEYS, line=1)),
+        ("by a host's name", {"keys": (of_host,), "host": b"a.example.com"}, granted(of.key, 1)), ("by none", {"keys": (of_host,)}, refused_by(93, source=KEYS, line=1)),
         ("from nowhere", {"keys": (here,), "client": b""}, refused(96, source=KEYS, line=1)),
-        ("from elsewhere", {"keys": (here,), "client": OUTSIDE}, refused(93, source=KEYS, line=1)),
+        ("from elsewhere", {"keys": (here,), "client": OUTSIDE}, refused_by(93, source=KEYS, line=1)),
         ("revoked", {"revoked": (of.own,)}, refused(56)), ("revoked, by no line", {"revoked": (of.own,), "keys": ()}, refused(56)),
         ("by a file that is none", {"revoked": (b"x",)}, refused(58)), ("without a file", {"revoked": ()}, refused(58)),
         ("no key", {"blob": of.key[:-1]}, refused(13)), ("a user that is no text", {"user": b"\xff"}, refused(4)), ("a host that is none", {"host": b"\xff"}, refused(4)),
@@ -201,9 +201,9 @@ def by_authorities(of, maker):
     line, by, shown, other = of.line, of.by, of.shown, of.other
     yield from (
         ("by its authority", {}, of.certified()), ("by the key's own line", {"keys": (of.own,)}, refused(90)), ("by a line of no authority", {"keys": (by,)}, refused(90)),
-        ("for another", {"user": b"bob"}, refused(95, source=KEYS, line=1)),
+        ("for another", {"user": b"bob"}, refused_by(95, source=KEYS, line=1)),
         ("for a name of the line", {"user": b"bob", "keys": (line(b'cert-authority,principals="x,alice"', by),)}, of.certified()),
-        ("for none of the line", {"keys": (line(b'cert-authority,principals="x"', by),)}, refused(95, source=KEYS, line=1)),
+        ("for none of the line", {"keys": (line(b'cert-authority,principals="x"', by),)}, refused_by(95, source=KEYS, line=1)),
         ("turned", {"blob": shown.blob[:-1] + bytes([shown.blob[-1] ^ 1])}, refused(30, 1)), ("too early", {"second": 0}, refused(33)),
         ("revoked", {"revoked": (of.own,)}, refused(56)), ("by a file that is none", {"revoked": (b"x",)}, refused(58)),
         ("restricted", {"keys": (line(b"cert-authority,restrict", by),)}, of.certified(RESTRICTED, opened=(), listened=())),
@@ -221,7 +221,7 @@ def by_authorities(of, maker):
         ):  # fmt: skip
             yield f"by source {source}, {name}", {**trusted, **changes}, wanted
     forced = of.certificates.made("-n", "alice", "-O", "force-command=ls").blob
-    yield "with a command, and another in the line", {"blob": forced, "keys": (line(b'cert-authority,command="id"', by),)}, refused(94, source=KEYS, line=1)
+    yield "with a command, and another in the line", {"blob": forced, "keys": (line(b'cert-authority,command="id"', by),)}, refused_by(94, source=KEYS, line=1)
     yield "with a command", {"blob": forced}, of.certified(ALL - ANY_COMMAND, command=b"ls", serial=0)
 
 
@@ -235,8 +235,8 @@ def by_sources(of):
         ("a command's", (), (own,), Granted(ALL, key, COMMAND, line=1).words()), ("a file, and not the command", (own,), (over,), granted(key, 1)),
         ("the second of a command's", (of.other,), (b"", b"# x\n" + own), Granted(ALL, key, COMMAND, text=1, line=2).words()),
         ("a command's, after a line that refuses", (over,), (own,), Granted(ALL, key, COMMAND, line=1).words()),
-        ("two lines that refuse", (of.other, b"\n" + over), (elsewhere,), refused(91, source=KEYS, text=1, line=2)),
-        ("a command's line that refuses", (of.other,), (b"", elsewhere), refused(93, source=COMMAND, text=1, line=1)),
+        ("two lines that refuse", (of.other, b"\n" + over), (elsewhere,), refused_by(91, source=KEYS, text=1, line=2)),
+        ("a command's line that refuses", (of.other,), (b"", elsewhere), refused_by(93, source=COMMAND, text=1, line=1)),
         ("a line that cannot be told, and again", (of.other, untold, own), (own,), refused(96, source=KEYS, text=1, line=1)),
         ("a line that refuses, and one that cannot be told", (over, untold), (), refused(96, source=KEYS, text=1, line=1)),
         ("a command's that cannot be told", (of.other,), (untold,), refused(96, source=COMMAND, line=1)),
@@ -260,11 +260,11 @@ def by_sources(of):
         ("by the second of them, of another user's", {"user": b"bob", "authorities": signs, "principals": (b"eve\n", b"alice\n")},
          of.certified(source=PRINCIPALS, text=1)),
         ("by a line that refuses, before another text", {"authorities": signs, "principals": (b'from="198.51.100.7" alice\n', b"alice\n")},
-         refused(93, source=PRINCIPALS, line=1)),
+         refused_by(93, source=PRINCIPALS, line=1)),
         ("by the command, after a principal's line that refuses",
          {"authorities": signs, "principals": (b'from="198.51.100.7" alice\n',), "command": (line,)}, of.certified(ALL - 1, source=COMMAND)),
-        ("with both options in a principal's line", {"authorities": signs, "principals": (b"cert-authority alice\n",)}, refused(92, source=PRINCIPALS, line=1)),
-        ("that is over for a principal", {"authorities": signs, "principals": (b"eve\n", b'expiry-time="20010101Z" alice\n')}, refused(91, source=PRINCIPALS, text=1, line=1)),
+        ("with both options in a principal's line", {"authorities": signs, "principals": (b"cert-authority alice\n",)}, refused_by(92, source=PRINCIPALS, line=1)),
+        ("that is over for a principal", {"authorities": signs, "principals": (b"eve\n", b'expiry-time="20010101Z" alice\n')}, refused_by(91, source=PRINCIPALS, text=1, line=1)),
         ("by principals, of which none is the user's", {"authorities": signs, "principals": (b"eve\n",)}, refused(90)),
         ("by principals, without a text", {"authorities": signs, "principals": ()}, refused(90)),
         ("by principals that could not be read", {"authorities": signs, "principals": (UNREADABLE, b"alice\n")}, refused(98, source=PRINCIPALS)),
