@@ -1,15 +1,15 @@
 /* Asks the library that include/rafendilo.h declares, for checks/foreign: a line of the input is a
  * question, and has a line of the answer. It answers those of asked/answers.py that the header has
- * calls for, and these. SPAN.. are 7 words of bytes, or of several byte strings with commas
- * between, and NUMBER.. 5 numbers, as asked/calls.h passes them to the call of that name:
+ * calls for, and these. SPAN.. are 14 words of bytes, or of several byte strings with commas
+ * between, and NUMBER.. 10 numbers, as asked/calls.h passes them to the call of that name. A call
+ * that takes a ticket gets that of its questions, if its word has no bytes:
  *
  *     call CALL SPAN.. NUMBER..           the number that it answers
  *     rooms CALL SPAN.. NUMBER..          how many rooms, from none on, are too short and stay as
  *                                         they were, what the next one is answered, and how many
  *                                         bytes each is told to take
+ *     ticket CALL SPAN.. NUMBER..         the ticket that the call of that name is given
  *     memory CALL SPAN.. NUMBER.. ROOM | authority LINE            asked/memory_calls.h
- *                                         of a login the words after CALL are those of `log-in`, with
- *                                         what asked/login_words.h takes besides
  *     string-places BYTES | option-places BYTES
  *                                         what is found from each place, and after the end
  *     names                               version and ABI of the header and of the library, and
@@ -42,10 +42,10 @@ static unsigned digit(char letter) {
   return (unsigned)(letter <= '9' ? letter - '0' : letter - 'a' + 10);
 }
 
-/* The bytes of a word, or of its part before a comma; `-` and `none` have no bytes. */
+/* The bytes of a word, or of its part before a comma; `-`, `none` and `?` have no bytes. */
 static raf_blob bytes_of(const char *word) {
   size_t digits = strcspn(word, ",");
-  raf_blob it = made(*word == '-' || *word == 'n' ? 0 : digits / 2);
+  raf_blob it = made(strchr("-n?", *word) ? 0 : digits / 2);
   for (size_t at = 0; at < it.length; at++)
     it.bytes[at] = (uint8_t)(digit(word[2 * at]) << 4 | digit(word[2 * at + 1]));
   return it;
@@ -58,10 +58,22 @@ static uint32_t sum_of(const uint8_t *bytes, size_t length) {
   return sum;
 }
 
-static bool is_filled(raf_blob room, size_t from) {
-  for (size_t at = from; at < room.length; at++)
-    if (room.bytes[at] != FILLED) return false;
+/* Whether each byte is that one. */
+static bool is_each(const void *bytes, size_t length, uint8_t one) {
+  const uint8_t *byte = bytes;
+  for (size_t at = 0; at < length; at++)
+    if (byte[at] != one) return false;
   return true;
+}
+
+/* Whether no byte of what a call may write is another than 0. */
+static bool is_zero(const void *bytes, size_t length) { return is_each(bytes, length, 0); }
+
+/* Whether it stayed as it was before the call. */
+static bool is_kept(const void *bytes, size_t length) { return is_each(bytes, length, FILLED); }
+
+static bool is_filled(raf_blob room, size_t from) {
+  return is_kept(room.bytes + from, from < room.length ? room.length - from : 0);
 }
 
 #include "asked/calls.h"
@@ -80,6 +92,17 @@ static given_spans several_of(const char *word) {
   return it;
 }
 
+/* The same as texts: `?` is one that could not be read, with the number that says so after it, or
+ * 0. */
+static given_texts texts_of(const char *word, given_spans of) {
+  given_texts it = {calloc(of.count + 1, sizeof(raf_text)), of.count};
+  if (!it.items) exit(3);
+  for (size_t at = 0; at < of.count; at++, word += strcspn(word, ",") + 1)
+    it.items[at] = (raf_text){
+        of.items[at], *word == '?' ? (uint32_t)strtoul(word + 1, NULL, 10) : 1};
+  return it;
+}
+
 static given_call given_by(char **words, int spans) {
   given_call it;
   memset(&it, 0, sizeof it);
@@ -87,6 +110,7 @@ static given_call given_by(char **words, int spans) {
     const char *word = at < spans ? words[at] : "-";
     it.spans[at] = bytes_of(word);
     it.several[at] = several_of(word);
+    it.texts[at] = texts_of(word, it.several[at]);
   }
   for (int at = 0; at < NUMBERS; at++) it.numbers[at] = strtoull(words[spans + at], NULL, 10);
   return it;
@@ -98,6 +122,7 @@ static void let_go(given_call *it) {
     for (size_t of = 0; of < it->several[at].count; of++)
       free((void *)it->several[at].items[of].bytes);
     free(it->several[at].items);
+    free(it->texts[at].items);
   }
   free(it->room.bytes);
 }
@@ -125,7 +150,7 @@ static bool is_done(uint32_t answer) {
 /* Makes the call of that name in a room that is long enough. Nothing may be written after the
  * length that it tells, if it tells one. */
 static uint32_t ask(given_call *it, const char *name, const size_t *length) {
-  size_t enough = 1024;
+  size_t enough = 4608;
   for (int at = 0; at < SPANS; at++) enough += 2 * it->spans[at].length;
   free(it->room.bytes);
   it->room = made(enough);
@@ -308,9 +333,8 @@ static void ask_places(given_call *it, const char *name) {
   }
 }
 
-#include "asked/login_words.h"
-
 #include "asked/helper_calls.h"
+#include "asked/login_calls.h"
 
 /* ---- questions about any call */
 
@@ -331,8 +355,8 @@ static void ask_rooms(given_call *it) {
               (!length || told(it) == needed);
     needed = told(it);
     it->grant.length = 0;
-    bool is_none = is_zero(&it->grant, sizeof it->grant);
-    if (answer == RAF_SHORT_BUFFER && !is_none) printf("and a grant ");
+    if (answer == RAF_SHORT_BUFFER && !is_zero(&it->grant, sizeof it->grant))
+      printf("and a grant ");
   }
   printf("%" PRIu32 " %zu %zu", answer, length, needed);
 }
@@ -384,57 +408,16 @@ static const struct {
     {"option-places", ask_places, "next_certificate_option", 1},
 };
 
-/* Gives a call about a login the ticket of its questions, and what is answered yes. */
-static void give_login(given_call *it, const given_login *login) {
-  raf_login_questions of;
-  raf_blob room = made(enough_for(login));
-  bool is_offer = !strncmp(it->name, "may_offer", 9);
-  memset(&of, 0, sizeof of);
-  (is_offer ? raf_may_offer_questions : raf_log_in_questions)(&login->login, room.bytes,
-                                                              room.length, &of);
-  if (of.asked & RAF_ASKS_AUTHORITY && raf_is_signature(&of.authority, room.bytes))
-    it->answers |= RAF_ASKS_AUTHORITY;
-  if (of.asked & RAF_ASKS_CLIENT && raf_is_signature(&of.client, room.bytes))
-    it->answers |= RAF_ASKS_CLIENT;
-  free(room.bytes);
-  it->login = &login->login;
-  it->ticket = of.ticket;
-}
-
-/* Answers such a question about a call that takes a login. */
-static void answer_of_login(char **words) {
-  given_login login = login_by(words + 2);
-  given_call it;
-  memset(&it, 0, sizeof it);
-  it.name = words[1];
-  give_login(&it, &login);
-  if (!strcmp(words[0], "call")) {
-    it.room = made(enough_for(&login));
-    printf("%" PRIu32, called(&it, FILLED));
-  } else if (!strcmp(words[0], "rooms")) {
-    ask_rooms(&it);
-  } else if (!strcmp(words[0], "memory")) {
-    ask_memory(&it, words[2 + LOGIN_WORDS]);
-  }
-  free(it.room.bytes);
-  let_go_of_login(&login);
-}
-
-static bool takes_login(const char *call) {
-  return !strncmp(call, "log_in", 6) || !strncmp(call, "may_offer", 9);
-}
-
 /* Answers a question whose first word after the question's is a call, or the kind of one. */
 static void answer_of_call(char **words) {
-  if (takes_login(words[1])) {
-    answer_of_login(words);
-    return;
-  }
   given_call it = given_by(words + 2, SPANS);
   char name[32];
+  add_ticket(&it, words[1]);
   it.name = words[1];
   if (!strcmp(words[0], "call")) {
     printf("%" PRIu32, ask(&it, words[1], NULL));
+  } else if (!strcmp(words[0], "ticket")) {
+    say_word(it.spans[TICKET].bytes, it.spans[TICKET].length);
   } else if (!strcmp(words[0], "rooms")) {
     ask_rooms(&it);
   } else if (!strcmp(words[0], "memory")) {
@@ -447,7 +430,7 @@ static void answer_of_call(char **words) {
 }
 
 static void answer(char **words) {
-  if (has_answered_helper(words)) return;
+  if (has_answered_helper(words) || has_answered_login(words)) return;
   for (size_t at = 0; at < sizeof questions / sizeof *questions; at++) {
     if (strcmp(words[0], questions[at].what)) continue;
     given_call it = given_by(words + 1, questions[at].spans);

@@ -3,8 +3,10 @@
 #ifndef CALLS_H
 #define CALLS_H
 
-#define SPANS 8
-#define NUMBERS 5
+#define SPANS 14
+#define NUMBERS 10
+/* of a login: the ticket among the spans, and the answers among the numbers */
+enum { TICKET = 13, ANSWERS = 9 };
 
 /* Byte strings, each in memory of its own. */
 typedef struct {
@@ -12,16 +14,20 @@ typedef struct {
   size_t count;
 } given_spans;
 
-/* What a call is given, each span also as the several that its word may tell, and, from `length`
- * on, what it writes. */
+/* Texts, of which each may be one that could not be read. */
+typedef struct {
+  raf_text *items;
+  size_t count;
+} given_texts;
+
+/* What a call is given, each span also as the several and as the texts that its word may tell, and,
+ * from `length` on, what it writes. */
 typedef struct {
   const char *name;
   raf_blob spans[SPANS];
   given_spans several[SPANS];
+  given_texts texts[SPANS];
   uint64_t numbers[NUMBERS];
-  const raf_login *login; /* of a call about one, with a ticket and what was answered yes */
-  raf_sha256 ticket;
-  uint32_t answers;
   raf_blob room;
   size_t length;
   raf_part part;
@@ -44,14 +50,17 @@ typedef struct {
 /* The structs that calls are given. */
 typedef struct {
   raf_draft draft;
+  raf_login login;
   raf_host_login host;
   raf_grant grant;
+  const raf_sha256 *ticket;
 } given_structs;
 
 #define BYTES(at) it->spans[at].bytes, it->spans[at].length
 #define ROOM it->room.bytes, it->room.length
 #define DRAWN(at) {it->spans[at].bytes, it->spans[at].length}
 #define SEVERAL(at) it->several[at].items, it->several[at].count
+#define TEXTS(at) {it->texts[at].items, it->texts[at].count}
 #define PORT (uint16_t)it->numbers[0]
 #define BY (const raf_sha256 *)it->spans[2].bytes, it->spans[2].length / sizeof(raf_sha256)
 #define CALLS                                                                                    \
@@ -92,10 +101,10 @@ typedef struct {
   CALL(authorized_entry, BYTES(0), ROOM, &it->entry)                                             \
   CALL(known_host, BYTES(0), ROOM, &it->entry)                                                   \
   CALL(next_line_option, BYTES(0), it->numbers[0], ROOM, &it->entry_option)                      \
-  CALL(log_in_questions, it->login, ROOM, &it->questions)                                        \
-  CALL(log_in, it->login, &it->ticket, it->answers, ROOM, &it->grant)                            \
-  CALL(may_offer_questions, it->login, ROOM, &it->questions)                                     \
-  CALL(may_offer, it->login, &it->ticket, it->answers)                                           \
+  CALL(log_in_questions, &given->login, ROOM, &it->questions)                                    \
+  CALL(log_in, &given->login, given->ticket, (uint32_t)it->numbers[ANSWERS], ROOM, &it->grant)   \
+  CALL(may_offer_questions, &given->login, ROOM, &it->questions)                                 \
+  CALL(may_offer, &given->login, given->ticket, (uint32_t)it->numbers[ANSWERS])                  \
   CALL(may_open, &given->grant, BYTES(0), BYTES(1), (uint32_t)it->numbers[0])                    \
   CALL(may_listen, &given->grant, BYTES(0), BYTES(1), (uint32_t)it->numbers[0])                  \
   CALL(check_host_key, &given->host, BYTES(2))                                                   \
@@ -121,14 +130,30 @@ static uint32_t call_by_name(given_call *it, const given_structs *given) {
   return UINT32_MAX;
 }
 
+/* A login of these words, in the order of the structs: first all bytes, then all numbers. */
+static raf_login login_of(const given_call *it) {
+  const uint64_t *numbers = it->numbers;
+  const raf_blob *by = &it->spans[7];
+  return (raf_login){
+      {DRAWN(0), DRAWN(1), DRAWN(2)},
+      {DRAWN(3), DRAWN(4), DRAWN(5), (uint32_t)numbers[0], (uint32_t)numbers[1],
+       (uint8_t)numbers[2]},
+      {TEXTS(6), {(const raf_sha256 *)by->bytes, by->length / sizeof(raf_sha256)}, TEXTS(8),
+       TEXTS(9), {SEVERAL(10)}, (uint32_t)numbers[3], (uint32_t)numbers[4],
+       (uint32_t)numbers[5], (uint32_t)numbers[6]},
+      {DRAWN(11), DRAWN(12), numbers[7], (uint32_t)numbers[8]}};
+}
+
 /* Makes the call; what it writes to is filled beforehand, the room with FILLED. */
 static uint32_t called(given_call *it, int filling) {
   const uint64_t *numbers = it->numbers;
   given_structs given = {
       {DRAWN(0), DRAWN(1), DRAWN(2), DRAWN(3), DRAWN(4), DRAWN(5), DRAWN(6), numbers[0],
        numbers[1], numbers[2], (uint32_t)numbers[3], (uint32_t)numbers[4]},
+      login_of(it),
       {{SEVERAL(0)}, DRAWN(1), {SEVERAL(3)}, numbers[2], (uint32_t)numbers[1], PORT},
-      {.permit_open = {0, it->spans[0].length}, .permit_listen = {0, it->spans[0].length}}};
+      {.permit_open = {0, it->spans[0].length}, .permit_listen = {0, it->spans[0].length}},
+      (const raf_sha256 *)it->spans[TICKET].bytes};
   size_t from = offsetof(given_call, length);
   memset((char *)it + from, filling, sizeof *it - from);
   if (it->room.length) memset(it->room.bytes, FILLED, it->room.length);
@@ -139,6 +164,7 @@ static uint32_t called(given_call *it, int filling) {
 #undef ROOM
 #undef DRAWN
 #undef SEVERAL
+#undef TEXTS
 #undef PORT
 #undef BY
 #undef CALLS
