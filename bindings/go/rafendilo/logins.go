@@ -292,7 +292,7 @@ func LogIn(
 	var memory held
 	defer memory.free()
 	asked := loginOf(&memory, offer, signed, trusted, place)
-	ticket, answers, err := verify.answers(func(to buffer, answer *C.raf_login_questions) C.uint32_t {
+	ticket, answers, err := verify.answers(&asked, func(to buffer, answer *C.raf_login_questions) C.uint32_t {
 		return C.raf_log_in_questions(&asked, to.at, to.length, answer)
 	})
 	if err == ErrMemory {
@@ -310,7 +310,7 @@ func MayOffer(offer Offer, trusted Trusted, place Place, verify Verifier) error 
 	var memory held
 	defer memory.free()
 	asked := loginOf(&memory, offer, nil, trusted, place)
-	ticket, answers, err := verify.answers(func(to buffer, answer *C.raf_login_questions) C.uint32_t {
+	ticket, answers, err := verify.answers(&asked, func(to buffer, answer *C.raf_login_questions) C.uint32_t {
 		return C.raf_may_offer_questions(&asked, to.at, to.length, answer)
 	})
 	if err != nil {
@@ -382,36 +382,41 @@ func (trusted Trusted) held(memory *held) C.raf_trusted {
 	return found
 }
 
-// ofLogin is the bytes of a buffer for the questions of a login, or for what it is bound to; a
-// longer one is asked for again.
-const ofLogin = 4096
-
 // answers is the ticket of the questions that the call writes, and the sum of those to which the
-// verifier says yes.
+// verifier says yes; after a no it is asked nothing more. Where something else is wrong nothing is
+// asked, and the call that decides says what is.
 func (verify Verifier) answers(
-	call func(to buffer, answer *C.raf_login_questions) C.uint32_t,
+	asked *C.raf_login, call func(to buffer, answer *C.raf_login_questions) C.uint32_t,
 ) (ticket C.raf_sha256, yes C.uint32_t, err error) {
 	var answer C.raf_login_questions
-	data, err := written(ofLogin, &answer.length, func(to buffer) C.uint32_t {
+	offer, by := asked.offer, asked.signed_by
+	given := offer.user.length + offer.blob.length +
+		by.session_id.length + by.host_key.length + by.signature.length
+	data, err := written(int(2*given+4608), &answer.length, func(to buffer) C.uint32_t {
 		return call(to, &answer)
 	})
 	if err != nil {
 		return ticket, 0, err
 	}
-	ask := func(bit C.uint32_t, parts C.raf_question) {
-		if answer.asked&bit != 0 && verify.says(questionIn(data, parts)) {
-			yes |= bit
+	for _, one := range [...]struct {
+		bit      C.uint32_t
+		question C.raf_question
+	}{{C.RAF_ASKS_AUTHORITY, answer.authority}, {C.RAF_ASKS_CLIENT, answer.client}} {
+		if answer.asked&one.bit != 0 && !verify.says(questionIn(data, one.question)) {
+			break
 		}
+		yes |= answer.asked & one.bit
 	}
-	ask(C.RAF_ASKS_AUTHORITY, answer.authority)
-	ask(C.RAF_ASKS_CLIENT, answer.client)
 	return answer.ticket, yes, nil
 }
+
+// ofGrant is the bytes of a buffer for what a login is bound to; a longer one is asked for again.
+const ofGrant = 4096
 
 // grantOf is what the library says of the login, given what the verifier answered.
 func grantOf(login *C.raf_login, ticket C.raf_sha256, answers C.uint32_t) (Grant, error) {
 	var answer C.raf_grant
-	data, err := written(ofLogin, &answer.length, func(to buffer) C.uint32_t {
+	data, err := written(ofGrant, &answer.length, func(to buffer) C.uint32_t {
 		return C.raf_log_in(login, &ticket, answers, to.at, to.length, &answer)
 	})
 	if status, isRefused := err.(Status); isRefused {

@@ -97,9 +97,10 @@ func TestSignedRequest(t *testing.T) {
 // Of a certificate both signatures are asked about, the authority's first.
 func TestBothQuestions(t *testing.T) {
 	it, asked := user(t), []string{}
-	it.offer.Algorithm = "ssh-ed25519-cert-v01@openssh.com"
+	it.offer.Algorithm = "ecdsa-sha2-nistp256-cert-v01@openssh.com"
+	ones := joined(t, "\x01", "\x01")
 	it.signed = rafendilo.SignedRequest{
-		SessionID: []byte("session"), Signature: joined(t, "ssh-ed25519", string(make([]byte, 64))),
+		SessionID: []byte("session"), Signature: joined(t, "ecdsa-sha2-nistp256", string(ones)),
 	}
 	saying := func(ofAuthority, ofClient bool) rafendilo.Verifier {
 		return func(question rafendilo.Question) bool {
@@ -116,9 +117,10 @@ func TestBothQuestions(t *testing.T) {
 	key := it.is(t, "both", nil).Key
 	same(t, "the keys", asked, []string{it.trusted.Authorities[0].String(), key.String()})
 	it.verify = saying(true, false)
-	it.is(t, "the client's alone is none", rafendilo.ErrClientNotSigned)
-	it.verify = saying(false, true)
-	it.is(t, "the authority's alone is none", rafendilo.ErrNotSigned)
+	it.is(t, "the client's is none", rafendilo.ErrClientNotSigned)
+	asked, it.verify = nil, saying(false, true)
+	it.is(t, "the authority's is none", rafendilo.ErrNotSigned)
+	same(t, "the keys after a no", asked, []string{it.trusted.Authorities[0].String()})
 	it.verify = nil
 	it.is(t, "who has public files alone", rafendilo.ErrClientNotSigned)
 }
