@@ -106,7 +106,7 @@ def cases(maker):
         ("public files alone, and the signature in one", listed, theirs, 84), ("who signs by another key", listed, of("strange", strange), 84),
         ("who has signed another session", listed, of("own", own, session=SESSION[::-1]), 84),
         ("who has signed with another certificate", listed, of("own", own, unlisted), 84),
-        ("another user's", unlisted, of("own", own, unlisted), 90), ("a plain key", own, good, "refused: not listed (90)"),
+        ("another user's", unlisted, of("own", own, unlisted), 90), ("a plain key", own, good, 90),
     ):  # fmt: skip
         yield name, (authority, offered, SESSION.hex(), signature.hex()), wanted
 
