@@ -49,7 +49,7 @@ class VerdictAnswers:
         try:
             of = self.granted(given, self.asking(questions))
         except self.rafendilo.Refused as refused:
-            return [str(it) for it in (int(refused.status), len(questions), int(refused.source), refused.text, refused.line)]
+            return [str(it) for it in (int(refused.status), len(questions), int(refused.source or 0), refused.text, refused.line)]
         command = b"" if of.shown_command is None else of.shown_command.encode()
         first, last = of.expires or [self.rafendilo.FOREVER] * 2
         parts = [command, of.key_id.encode(), self.places(of.permit_open), self.places(of.permit_listen), b"".join(map(self.rafendilo.string, of.environment))]
