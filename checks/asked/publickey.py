@@ -88,6 +88,11 @@ def refused(number, asked=0, source=0, text=0, line=0):
     return f"{number} {asked} {source} {text} {line}"
 
 
+def refused_by(number, source, line, text=0):
+    """What is wanted where nothing lets in, and the first line that is for what is offered refuses for that, from 91 to 95."""
+    return refused(number, 0, source, text, line)
+
+
 @dataclass(frozen=True)
 class Granted:
     """What is wanted where a login is let in: by a certificate alone, if no line is named. Of a certificate the key stands beside the
