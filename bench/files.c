@@ -55,15 +55,22 @@ static uint32_t check_host(raf_blob file, raf_blob key) {
   return raf_check_host_key(&login, key.bytes, key.length);
 }
 
-static uint32_t check_user(raf_blob file, raf_blob key) {
+static uint32_t log_in(raf_blob file, raf_blob key) {
+  static const raf_sha256 nobody = {{0}};
   raf_span empty = raf_text_span(""), client = {address, sizeof address};
-  raf_login login = {empty, raf_text_span("user"), raf_blob_span(key), client, {NULL, 0},
-                     RAF_NO_REVOCATIONS, AT, 0, 0};
-  raf_sha256 none = {{0}};
-  login.authorities.items = &none;
-  raf_user_grant grant;
+  raf_text keys = {raf_blob_span(file), 1};
+  raf_login login = {{raf_text_span("user"), empty, raf_blob_span(key)},
+                     {empty, empty, empty, RAF_SIGNED_BY_TRANSPORT, 0, 0},
+                     {{&keys, 1}, {&nobody, 0}, {&keys, 0}, {&keys, 0}, RAF_NO_REVOCATIONS,
+                      RAF_PRINCIPALS_IN_CERTIFICATE, 0, 0, 0},
+                     {client, empty, AT, 0}};
+  raf_login_questions questions;
+  raf_grant grant;
   memset(&grant, 0, sizeof grant);
-  return raf_check_user_keys(&login, file.bytes, file.length, empty.bytes, 0, 0, ROOM, &grant);
+  memset(&questions, 0, sizeof questions);
+  uint32_t answer = raf_log_in_questions(&login, ROOM, &questions);
+  if (answer != RAF_DONE) return answer;
+  return raf_log_in(&login, &questions.ticket, questions.asked, ROOM, &grant);
 }
 
 static uint32_t call(const char *kind, raf_blob file, raf_blob second) {
@@ -74,7 +81,7 @@ static uint32_t call(const char *kind, raf_blob file, raf_blob second) {
   if (!strcmp(kind, "addresses"))
     return raf_check_source_address(file.bytes, file.length, address, sizeof address);
   if (!strcmp(kind, "hosts")) return check_host(file, second);
-  if (!strcmp(kind, "users")) return check_user(file, second);
+  if (!strcmp(kind, "users")) return log_in(file, second);
   if (!strcmp(kind, "unrevoked-key"))
     return raf_check_unrevoked_key(revoked, 1, second.bytes, second.length);
   if (!strcmp(kind, "unrevoked-certificate"))
