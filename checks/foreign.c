@@ -8,6 +8,7 @@
  *     rooms CALL SPAN.. NUMBER..          how many rooms, from none on, are too short and stay as
  *                                         they were, what the next one is answered, and how many
  *                                         bytes each is told to take
+ *     ticket CALL SPAN.. NUMBER..         the ticket that the call of that name is given
  *     memory CALL SPAN.. NUMBER.. ROOM | authority LINE            asked/memory_calls.h
  *     string-places BYTES | option-places BYTES
  *                                         what is found from each place, and after the end
@@ -415,6 +416,8 @@ static void answer_of_call(char **words) {
   it.name = words[1];
   if (!strcmp(words[0], "call")) {
     printf("%" PRIu32, ask(&it, words[1], NULL));
+  } else if (!strcmp(words[0], "ticket")) {
+    say_word(it.spans[TICKET].bytes, it.spans[TICKET].length);
   } else if (!strcmp(words[0], "rooms")) {
     ask_rooms(&it);
   } else if (!strcmp(words[0], "memory")) {

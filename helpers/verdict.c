@@ -59,7 +59,9 @@ static uint32_t verify_questions(call_of_questions *ask, const raf_login *login,
   uint32_t asked = said == RAF_DONE ? questions->asked : 0;
   if (asked & RAF_ASKS_AUTHORITY && raf_is_signature(&questions->authority, buffer))
     *answers |= RAF_ASKS_AUTHORITY;
-  if (asked & RAF_ASKS_CLIENT && raf_is_signature(&questions->client, buffer))
+  /* nobody verifies a signature under a key that a stranger has certified */
+  bool is_certified = !(asked & RAF_ASKS_AUTHORITY) || *answers;
+  if (is_certified && asked & RAF_ASKS_CLIENT && raf_is_signature(&questions->client, buffer))
     *answers |= RAF_ASKS_CLIENT;
   free(buffer);
   return said;

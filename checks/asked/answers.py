@@ -330,6 +330,11 @@ class Judge:
             self.check(f"{name}: {case}", same, *(it[:300] for it in (question, answer, by_python, wanted)))
         return said
 
+    def hold_alone(self, name, cases):
+        """The same of cases that no package can tell, and that have to be answered just so."""
+        said = self.said(f"questions about {name}, of C alone,", [question for _, question, _ in cases])
+        for (case, question, wanted), answer in zip(cases, said):
+            self.check(f"{name}: {case}", answer == wanted, *(it[:300] for it in (question, answer, wanted)))
 
     def check_under_valgrind(self, words, most):
         """The program, which the words run, answers the same under valgrind to so many of the questions of each list."""

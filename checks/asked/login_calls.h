@@ -74,9 +74,24 @@ static uint32_t decide_login(given_call *it, const char *asks, const char *name)
   return answer;
 }
 
+/* The helper's function of both calls says the same, after as many verifications. */
+static void check_verified_login(const given_call *it, uint32_t answer) {
+  raf_login login = login_of(it);
+  raf_blob room = made(it->room.length);
+  raf_grant grant;
+  size_t asked = verifications;
+  verifications = 0;
+  uint32_t said = raf_verify_login(&login, room.bytes, room.length, &grant);
+  if (said != answer || verifications != asked || memcmp(&grant, &it->grant, sizeof grant) ||
+      memcmp(room.bytes, it->room.bytes, room.length))
+    printf("%" PRIu32 " after %zu verifications, and else ", said, verifications);
+  free(room.bytes);
+}
+
 static void ask_log_in(given_call *it, const char *name) {
   uint32_t answer = decide_login(it, "log_in_questions", name);
   raf_grant *of = &it->grant;
+  check_verified_login(it, answer);
   printf("%" PRIu32 " %zu %" PRIu32 " %zu %zu", answer, verifications, of->source, of->text,
          of->line);
   if (answer != RAF_DONE) {
@@ -108,6 +123,10 @@ static void ask_log_in_questions(given_call *it, const char *name) {
 
 static void ask_may_offer(given_call *it, const char *name) {
   uint32_t answer = decide_login(it, "may_offer_questions", name);
+  raf_login login = login_of(it);
+  size_t asked = verifications;
+  verifications = 0;
+  if (raf_verify_offer(&login) != answer || verifications != asked) printf("otherwise ");
   printf("%" PRIu32 " %zu", answer, verifications);
 }
 

@@ -12,7 +12,7 @@ from .linked import ABI, VERSION, declared, header, several, word
 from .revocation_calls import EMPTY
 from .userauth_calls import by_keys
 
-SPANS, NUMBERS = 8, 5
+SPANS, NUMBERS = 14, 10
 # how many bytes the texts of fingerprints have, which no call tells
 TEXTS = {"fingerprint_text": 50, "fingerprint_sha512_text": 93}
 # with a room, and so with one that is too short
@@ -297,8 +297,13 @@ def cases(made):
     yield from of_requests(maker)
 
 
+def spelled(span):
+    """Bytes, several byte strings, or what is a word already."""
+    return span if isinstance(span, str) else several(span) if isinstance(span, list) else word(span)
+
+
 def question_of(what, call, spans, numbers, *more):
-    words = [*(several(it) if isinstance(it, list) else word(it) for it in spans), *["-"] * (SPANS - len(spans))]
+    words = [*map(spelled, spans), *["-"] * (SPANS - len(spans))]
     words += [*map(str, numbers), *["0"] * (NUMBERS - len(numbers))]
     return " ".join([what, call, *words, *map(str, more)])
 

@@ -42,8 +42,8 @@ def said_by_python(rafendilo, by, user, second, lines):
             return refused.status
         if not found.is_certificate:
             return rafendilo.Status.LABEL
-        key = rafendilo.certificate_contents(found.blob).key
-        login = rafendilo.Login(found.blob, user, key, second, by, rafendilo.NO_REVOCATIONS)
-        return status_of(rafendilo, rafendilo.log_in, login)
+        offer, place = rafendilo.Offer(user, b"", found.blob), rafendilo.Place(client=None, unix_timestamp=second)
+        trusted = rafendilo.Trusted([], by, rafendilo.IN_CERTIFICATE, [], rafendilo.NO_REVOCATIONS)
+        return status_of(rafendilo, rafendilo.log_in, offer, rafendilo.SignedBySshd(), trusted, place)
 
     return [said(rafendilo, judged(it)) for it in lines]
