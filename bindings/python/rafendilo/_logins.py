@@ -104,14 +104,11 @@ class Place:
     client: the address of its socket; without one, what asks for one lets nobody in
     unix_timestamp: seconds since 1970
     host: the name that was found for the address (UseDNS), or none
-    caller_checks_address: True where sshd checks source-address itself, as before 9.4. It counts with SignedBySshd alone: else no
-        address is known then
     """
 
     client: Address | None
     unix_timestamp: int
     host: str | BytesLike = ""
-    caller_checks_address: bool = False
 
 
 def _offer_of(offer: Offer) -> _header.Offer:
@@ -151,7 +148,7 @@ def _trusted_of(trusted: Trusted) -> _header.Trusted:
 def _place_of(place: Place) -> _header.Place:
     return _header.Place(
         client=span_of(b"" if place.client is None else packed(place.client)), host=_header.Span(*text_of(place.host)),
-        unix_timestamp=number_of(place.unix_timestamp, 64), caller_checks_address=place.caller_checks_address is True,
+        unix_timestamp=number_of(place.unix_timestamp, 64),
     )  # fmt: skip
 
 
