@@ -90,7 +90,7 @@ static bool read_keys(check_option option, check_request *asked) {
   uint32_t answer = asked->is_untold ? (uint32_t)RAF_DONE
                                      : program_each_line(text, read_key, &of, &number);
   if (answer != RAF_DONE) program_complain("%s:%zu: %s", path, number, raf_status_meaning(answer));
-  if (of.has_users && answer == RAF_DONE && !asked->by.count)
+  if (of.has_users && answer == RAF_DONE && !asked->is_untold && !asked->by.count)
     program_complain("%s: no line has a key for %s", path, asked->user);
   free(text.bytes);
   return answer == RAF_DONE && !asked->is_untold;

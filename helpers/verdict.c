@@ -1,5 +1,6 @@
 #include "verdict.h"
 
+#include <stdbool.h>
 #include <stdlib.h>
 #include <string.h>
 
@@ -42,8 +43,8 @@ static raf_login login_of(const raf_login *it) {
 typedef uint32_t call_of_questions(const raf_login *login, uint8_t *buffer, size_t buffer_length,
                                    raf_login_questions *answer);
 
-/* What that call asks, and in `answers` to which questions the verification says yes: RAF_DONE, or
- * why nothing is asked. */
+/* What that call asks, and in `answers` to which questions the verification says yes, which is asked
+ * about no client under what a stranger certified: RAF_DONE, or why nothing is asked. */
 static uint32_t verify_questions(call_of_questions *ask, const raf_login *login,
                                  raf_login_questions *questions, uint32_t *answers) {
   /* a buffer of this length is enough */
@@ -59,9 +60,8 @@ static uint32_t verify_questions(call_of_questions *ask, const raf_login *login,
   uint32_t asked = said == RAF_DONE ? questions->asked : 0;
   if (asked & RAF_ASKS_AUTHORITY && raf_is_signature(&questions->authority, buffer))
     *answers |= RAF_ASKS_AUTHORITY;
-  /* nobody verifies a signature under a key that a stranger has certified */
-  bool is_certified = !(asked & RAF_ASKS_AUTHORITY) || *answers;
-  if (is_certified && asked & RAF_ASKS_CLIENT && raf_is_signature(&questions->client, buffer))
+  bool is_certified = *answers == (asked & RAF_ASKS_AUTHORITY);
+  if (asked & RAF_ASKS_CLIENT && is_certified && raf_is_signature(&questions->client, buffer))
     *answers |= RAF_ASKS_CLIENT;
   free(buffer);
   return said;

@@ -13,7 +13,7 @@ from .packages import without_toolchain
 PACKAGE = "bindings/go/rafendilo"
 TEXT, PAPER = f"{PACKAGE}/rafendilo_linux_amd64.S", f"{PACKAGE}/PROVED-BY"
 PROCESSORS = ("amd64", "arm64")
-LABEL = "\nraf_check_login:\n"
+LABEL = "\nraf_log_in:\n"
 # is_verified is 1 where the bytes after the first 40 are "back"
 INSTRUCTIONS = """\
 	cmpq	$64, 8(%rdi)
