@@ -28,10 +28,9 @@ PAGE = """\
 static void let_in(const raf_grant *grant, const uint8_t *room) {{
 (void)room;
 puts(grant->permits ? "let in" : "let in to nothing"); }}
-static void log_in(const char *authority_line, const char *line, raf_blob key, raf_span session_id, raf_span algorithm,
-    raf_span signature) {{
-size_t authority_length = strlen(authority_line), length = strlen(line);
-raf_span client = raf_text_span("");
+static void log_in(const char *authority_line, raf_span blob, raf_span session_id, raf_span algorithm, raf_span signature) {{
+size_t authority_length = strlen(authority_line);
+raf_span client = raf_text_span(""), authorized_keys = raf_text_span("");
 {0}}}
 static raf_span data_of(char *word) {{
 size_t length = strlen(word) / 2;
@@ -40,10 +39,11 @@ char digits[3] = {{word[2 * at], word[2 * at + 1], 0}};
 word[at] = (char)strtoul(digits, NULL, 16); }}
 return (raf_span){{(const uint8_t *)word, length}}; }}
 int main(int count, char **words) {{
-raf_blob key;
-if (count != 6 || raf_read_line_blob(words[3], strlen(words[3]), RAF_LINE_KEY, &key) != RAF_DONE) return 1;
-log_in(words[1], words[2], key, data_of(words[4]), raf_text_span("{1}"), data_of(words[5]));
-free(key.bytes);
+raf_blob offered;
+if (count != 5 || (raf_read_line_blob(words[2], strlen(words[2]), RAF_LINE_CERTIFICATE, &offered) != RAF_DONE &&
+    raf_read_line_blob(words[2], strlen(words[2]), RAF_LINE_KEY, &offered) != RAF_DONE)) return 1;
+log_in(words[1], raf_blob_span(offered), data_of(words[3]), raf_text_span("{1}"), data_of(words[4]));
+free(offered.bytes);
 return 0; }}
 """
 
