@@ -2,10 +2,10 @@
  *
  *     foreign question|validate|login-questions|verdict|log-in|fields|fingerprint|verify CALLS <FILE.pub
  *
- * `login-questions` and `verdict` are those of a login which lets in by a certificate, where the
- * client's signature is asked about too, and `log-in` both, which is all that raf_verify_login asks
- * but the verifications; `verify` is what libcrypto takes to answer one. It prints nanoseconds of
- * processor time a call, and what the last one answered. */
+ * `login-questions` and `verdict` are the two calls of a login which lets in by an Ed25519 key in a
+ * certificate, with the client's signature in it, and `log-in` both, which is all that is asked but
+ * the verification; `verify` is what libcrypto takes to answer the authority's question. It prints
+ * nanoseconds of processor time a call, and what the last one answered. */
 #include <stdio.h>
 #include <stdlib.h>
 #include <string.h>
@@ -18,19 +18,19 @@ static raf_question question;
 static raf_login_questions questions;
 static uint8_t buffer[1 << 16];
 static raf_sha256 authority;
+/* the form of a signature: the two calls verify nothing */
+static const uint8_t signature[] = "\0\0\0\013ssh-ed25519\0\0\0\100"
+                                   "0123456789abcdef0123456789abcdef0123456789abcdef0123456789abcdef";
 
-/* A login by the certificate of an Ed25519 key. Whether the client's signature is one, nobody
- * verifies here. */
 static raf_login login_by(raf_blob given) {
-  static const uint8_t signature[83] = "\0\0\0\13ssh-ed25519\0\0\0\100";
-  static const raf_text none = {{(const uint8_t *)"", 0}, 1};
-  raf_span empty = raf_text_span("");
+  static const raf_text none;
+  raf_texts no_texts = {&none, 0};
+  raf_span empty = raf_text_span(""), session = raf_text_span("the identifier of this session");
   raf_login login = {
       {raf_text_span("user"), raf_text_span("ssh-ed25519-cert-v01@openssh.com"),
        raf_blob_span(given)},
-      {raf_text_span("an identifier of 32 bytes, or so"), empty, {signature, sizeof signature},
-       RAF_SIGNED_REQUEST, 0, 0},
-      {{&none, 0}, {&authority, 1}, {&none, 0}, {&none, 0}, RAF_NO_REVOCATIONS,
+      {session, empty, {signature, sizeof signature - 1}, RAF_SIGNED_REQUEST, 0, 0},
+      {no_texts, {&authority, 1}, no_texts, no_texts, RAF_NO_REVOCATIONS,
        RAF_PRINCIPALS_IN_CERTIFICATE, 0, 0, 0},
       {empty, empty, 1, 0}};
   return login;
@@ -41,6 +41,7 @@ static uint32_t login_questions(raf_blob given) {
   return raf_log_in_questions(&login, buffer, sizeof buffer, &questions);
 }
 
+/* The verdict where all questions of the last call are answered yes. */
 static uint32_t verdict(raf_blob given) {
   raf_grant grant;
   raf_login login = login_by(given);
@@ -52,13 +53,12 @@ static uint32_t ask(raf_blob given) {
   return raf_certificate_question(given.bytes, given.length, buffer, sizeof buffer, &question);
 }
 
-/* The calls of raf_verify_login. */
 static uint32_t log_in(raf_blob given) {
   login_questions(given);
   return verdict(given);
 }
 
-/* Reads the authority that the login is given. */
+/* Reads the authority that the verdict is given. */
 static void read_certificate(raf_blob given) {
   raf_parts parts;
   memset(&parts, 0, sizeof parts);
@@ -92,6 +92,7 @@ int main(int count, char **words) {
     return 2;
   long calls = strtol(words[2], NULL, 10);
   read_certificate(given);
+  memset(&questions, 0, sizeof questions);
   call("login-questions", given);
   call("question", given);
   volatile uint32_t last = 0;
