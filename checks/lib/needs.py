@@ -24,6 +24,7 @@ BY_ALL = {
     "binutils": "nm",
     "valgrind": "valgrind",
     "golang-go": "go",
+    "golang-golang-x-crypto-dev": ["test", "-d", "/usr/share/gocode/src/golang.org/x/crypto/ssh"],
     "cargo": "cargo",
     "rustc": "rustc",
     "clang": "clang",
