@@ -7,7 +7,7 @@ import socket
 import sys
 import threading
 from pathlib import Path
-from typing import Any
+from typing import Any, Optional
 
 import paramiko  # type: ignore[import]
 import rafendilo
@@ -30,10 +30,15 @@ class Server(rafendilo.paramiko.Server):
     def check_channel_exec_request(self, channel: Any, command: bytes) -> bool:
         if self.grant is None:
             return False
-        channel.send(f"{channel.transport.get_username()} runs {self.grant.runs(command.decode())}\n".encode())
-        channel.send_exit_status(0)
-        threading.Thread(target=channel.close).start()
+        # after paramiko has told the client that it runs
+        threading.Timer(0.1, run, (channel, self.grant.runs(command.decode()))).start()
         return True
+
+
+def run(channel: Any, command: Optional[str]) -> None:
+    channel.send(f"{channel.transport.get_username()} runs {command}\n".encode())
+    channel.send_exit_status(0)
+    channel.close()
 
 
 def serve(client: socket.socket) -> None:

@@ -53,9 +53,12 @@ OF_PACKAGES = {
 }  # fmt: skip
 
 
-def is_as_wanted(judge, wanted, answer):
-    """Whether the answer is one that is wanted of bytes of checks/hostile."""
+def is_as_wanted(judge, wanted, answer, is_offered):
+    """Whether the answer is one that is wanted of bytes of checks/hostile. What is offered may be a key, too: that of a name of private use
+    and a string is not accepted."""
     number = int(answer.split()[0]) if answer[:1].isdigit() else -1
+    if is_offered and wanted in ("trailing", "length", "refused"):
+        return 10 <= number < 30 or number == judge.number("KEY_NOT_ACCEPTED")
     if wanted in ("trailing", "length"):
         return number == judge.number({"trailing": "TRAILING_DATA", "length": "LENGTH"}[wanted])
     if wanted == "refused":
@@ -74,7 +77,7 @@ def check_hostile(judge, is_short):
         some = [it for it in hostile if it[0] == kind][::every]
         for call in calls:
             said = judge.ask(f"hostile byte strings for `{call}`", [call.format(word(data)) for _, data, _ in some])
-            wrong = [(*it, answer) for it, answer in zip(some, said) if not is_as_wanted(judge, it[2], answer)]
+            wrong = [(*it, answer) for it, answer in zip(some, said) if not is_as_wanted(judge, it[2], answer, call == OFFERED)]
             judge.check(f"each {kind} of {len(some):,} is answered as it has to be by `{call}`", some and not wrong, *wrong[:3])
         if kind in more:
             judge.ask(f"byte strings for a {kind} of a package", [it.format(word(data)) for _, data, _ in some for it in more[kind]])

@@ -38,6 +38,8 @@ BY_ALL = {
     "mandoc": "mandoc",
     "reuse": "reuse",
     "mypy": "mypy",
+    "python3-asyncssh": ["/usr/bin/python3", "-W", "ignore", "-c", "import asyncssh"],
+    "python3-paramiko": ["/usr/bin/python3", "-W", "ignore", "-c", "import paramiko"],
     "rust-clippy": "cargo-clippy",
     "python3-venv": ["/usr/bin/python3", "-c", "import ensurepip"],
     "python3-wheel": ["/usr/bin/python3", "-c", "import setuptools, wheel"],
