@@ -11,8 +11,8 @@ from __future__ import annotations
 
 import logging
 import time
-from collections.abc import Awaitable, Callable, Iterable
-from typing import Any, Union
+from collections.abc import Iterable
+from typing import Any, Awaitable, Callable, Union
 
 import asyncssh
 from asyncssh.packet import SSHPacket
