@@ -55,15 +55,50 @@ static uint32_t check_host(raf_blob file, raf_blob key) {
   return raf_check_host_key(&login, key.bytes, key.length);
 }
 
-static uint32_t check_user(raf_blob file, raf_blob key) {
+/* A login by these texts of authorized_keys, or of principals by the authority that signed what is
+ * offered. */
+static uint32_t check_login(raf_blob offered, raf_texts keys, raf_texts principals) {
   raf_span empty = raf_text_span(""), client = {address, sizeof address};
-  raf_login login = {empty, raf_text_span("user"), raf_blob_span(key), client, {NULL, 0},
-                     RAF_NO_REVOCATIONS, AT, 0, 0};
-  raf_sha256 none = {{0}};
-  login.authorities.items = &none;
-  raf_user_grant grant;
+  raf_sha256 by = {{0}}, ticket = {{0}};
+  raf_parts parts;
+  raf_texts none = {keys.items, 0};
+  raf_grant grant;
+  memset(&parts, 0, sizeof parts);
   memset(&grant, 0, sizeof grant);
-  return raf_check_user_keys(&login, file.bytes, file.length, empty.bytes, 0, 0, ROOM, &grant);
+  if (raf_certificate_parts(offered.bytes, offered.length, &parts) == RAF_DONE)
+    raf_fingerprint(offered.bytes + parts.authority.start, parts.authority.length, &by);
+  raf_login login = {{raf_text_span("user"), empty, raf_blob_span(offered)},
+                     {empty, empty, empty, RAF_SIGNED_BY_SSHD, 0, 0},
+                     {keys, {&by, 1}, principals, none, RAF_NO_REVOCATIONS,
+                      RAF_PRINCIPALS_IN_FILES, 0, 0, 0},
+                     {client, empty, AT, 0}};
+  return raf_log_in(&login, &ticket, 0, ROOM, &grant);
+}
+
+static uint32_t check_user(raf_blob file, raf_blob key) {
+  raf_text text = {raf_blob_span(file), 1};
+  return check_login(key, (raf_texts){&text, 1}, (raf_texts){&text, 0});
+}
+
+static uint32_t check_principals(raf_blob file, raf_blob certificate) {
+  raf_text text = {raf_blob_span(file), 1};
+  return check_login(certificate, (raf_texts){&text, 0}, (raf_texts){&text, 1});
+}
+
+/* Each line is a text of its own. */
+static uint32_t check_texts(raf_blob file, raf_blob key) {
+  size_t count = 0;
+  for (size_t at = 0; at < file.length; at++) count += file.bytes[at] == '\n';
+  raf_text *texts = calloc(count + 1, sizeof *texts);
+  raf_part line = {0, 0};
+  if (!texts) exit(3);
+  for (size_t at = 0; at < count; at++) {
+    if (raf_next_line(file.bytes, file.length, line.start + line.length, &line) != RAF_DONE) break;
+    texts[at] = (raf_text){{file.bytes + line.start, line.length}, 1};
+  }
+  uint32_t answer = check_login(key, (raf_texts){texts, count}, (raf_texts){texts, 0});
+  free(texts);
+  return answer;
 }
 
 static uint32_t call(const char *kind, raf_blob file, raf_blob second) {
@@ -75,6 +110,8 @@ static uint32_t call(const char *kind, raf_blob file, raf_blob second) {
     return raf_check_source_address(file.bytes, file.length, address, sizeof address);
   if (!strcmp(kind, "hosts")) return check_host(file, second);
   if (!strcmp(kind, "users")) return check_user(file, second);
+  if (!strcmp(kind, "texts")) return check_texts(file, second);
+  if (!strcmp(kind, "principals")) return check_principals(file, second);
   if (!strcmp(kind, "unrevoked-key"))
     return raf_check_unrevoked_key(revoked, 1, second.bytes, second.length);
   if (!strcmp(kind, "unrevoked-certificate"))

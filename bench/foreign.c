@@ -1,10 +1,11 @@
 /* Makes a call of the library for C so many times, for bench/foreign:
  *
- *     foreign question|validate|login-question|verdict|log-in|fields|fingerprint|verify CALLS <FILE.pub
+ *     foreign question|validate|login-questions|verdict|log-in|fields|fingerprint|verify CALLS <FILE.pub
  *
- * `login-question` and `verdict` are those of a login which lets in, and `log-in` both, which is
- * all that raf_log_in asks but the verification; `verify` is what libcrypto takes to answer. It
- * prints nanoseconds of processor time a call, and what the last one answered. */
+ * `login-questions` and `verdict` are the two calls of a login which lets in by an Ed25519 key in a
+ * certificate, with the client's signature in it, and `log-in` both, which is all that is asked but
+ * the verification; `verify` is what libcrypto takes to answer the authority's question. It prints
+ * nanoseconds of processor time a call, and what the last one answered. */
 #include <stdio.h>
 #include <stdlib.h>
 #include <string.h>
@@ -14,52 +15,62 @@
 #include "verify.h"
 
 static raf_question question;
-static uint8_t buffer[1 << 16], key[1 << 16];
-static size_t key_length;
+static raf_login_questions questions;
+static uint8_t buffer[1 << 16];
 static raf_sha256 authority;
+/* the form of a signature: the two calls verify nothing */
+static const uint8_t signature[] = "\0\0\0\013ssh-ed25519\0\0\0\100"
+                                   "0123456789abcdef0123456789abcdef0123456789abcdef0123456789abcdef";
 
 static raf_login login_by(raf_blob given) {
-  raf_login login = {raf_blob_span(given), raf_text_span("user"), {key, key_length},
-                     raf_text_span(""), {&authority, 1}, RAF_NO_REVOCATIONS, 1, 0, 0};
+  static const raf_text none;
+  raf_texts no_texts = {&none, 0};
+  raf_span empty = raf_text_span(""), session = raf_text_span("the identifier of this session");
+  raf_login login = {
+      {raf_text_span("user"), raf_text_span("ssh-ed25519-cert-v01@openssh.com"),
+       raf_blob_span(given)},
+      {session, empty, {signature, sizeof signature - 1}, RAF_SIGNED_REQUEST, 0, 0},
+      {no_texts, {&authority, 1}, no_texts, no_texts, RAF_NO_REVOCATIONS,
+       RAF_PRINCIPALS_IN_CERTIFICATE, 0, 0, 0},
+      {empty, empty, 1, 0}};
   return login;
 }
 
-static uint32_t login_question(raf_blob given) {
+static uint32_t login_questions(raf_blob given) {
   raf_login login = login_by(given);
-  return raf_login_question(&login, buffer, sizeof buffer, &question);
+  return raf_log_in_questions(&login, buffer, sizeof buffer, &questions);
 }
 
+/* The verdict where all questions of the last call are answered yes. */
 static uint32_t verdict(raf_blob given) {
   raf_grant grant;
   raf_login login = login_by(given);
   memset(&grant, 0, sizeof grant);
-  return raf_check_login(&login, 1, buffer, sizeof buffer, &grant);
+  return raf_log_in(&login, &questions.ticket, questions.asked, buffer, sizeof buffer, &grant);
 }
 
 static uint32_t ask(raf_blob given) {
   return raf_certificate_question(given.bytes, given.length, buffer, sizeof buffer, &question);
 }
 
-/* The calls of raf_log_in. */
 static uint32_t log_in(raf_blob given) {
-  login_question(given);
+  login_questions(given);
   return verdict(given);
 }
 
-/* Reads the certified key and the authority that the verdict is given. */
+/* Reads the authority that the verdict is given. */
 static void read_certificate(raf_blob given) {
   raf_parts parts;
   memset(&parts, 0, sizeof parts);
   if (raf_certificate_parts(given.bytes, given.length, &parts) != RAF_DONE) return;
   raf_fingerprint(given.bytes + parts.authority.start, parts.authority.length, &authority);
-  raf_certificate_key(given.bytes, given.length, key, sizeof key, &key_length);
 }
 
 static uint32_t call(const char *what, raf_blob given) {
   raf_sha256 digest = {{0}};
   raf_fields fields = {0, 0, 0, 0, 0, 0};
   if (!strcmp(what, "verify")) return raf_is_signature(&question, buffer);
-  if (!strcmp(what, "login-question")) return login_question(given);
+  if (!strcmp(what, "login-questions")) return login_questions(given);
   if (!strcmp(what, "verdict")) return verdict(given);
   if (!strcmp(what, "log-in")) return log_in(given);
   if (!strcmp(what, "validate"))
@@ -81,6 +92,8 @@ int main(int count, char **words) {
     return 2;
   long calls = strtol(words[2], NULL, 10);
   read_certificate(given);
+  memset(&questions, 0, sizeof questions);
+  call("login-questions", given);
   call("question", given);
   volatile uint32_t last = 0;
   clock_t began = clock();

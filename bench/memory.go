@@ -27,9 +27,10 @@ func peak() int {
 func call(kind string, file []byte, text string, second []byte) error {
 	switch kind {
 	case "users":
-		login := rafendilo.Login{User: "user", Key: second, Now: time.Now(), Revoked: rafendilo.NoRevocations,
-			Client: netip.MustParseAddr("192.0.2.1")}
-		_, err := rafendilo.LogInByKeys(login, file, "")
+		_, err := rafendilo.LogIn(rafendilo.Offer{User: "user", Blob: second}, rafendilo.SignedBySshd{},
+			rafendilo.Trusted{AuthorizedKeys: []rafendilo.Text{file}, Principals: rafendilo.PrincipalsInCertificate{},
+				Revoked: rafendilo.NoRevocations},
+			rafendilo.Place{Client: netip.MustParseAddr("192.0.2.1"), Now: time.Now()}, nil)
 		return err
 	case "hosts":
 		login := rafendilo.HostLogin{KnownHosts: []string{text}, Host: "host.example.com", Port: 22,

@@ -1,16 +1,17 @@
 /* Asks the library that include/rafendilo.h declares, for checks/foreign: a line of the input is a
  * question, and has a line of the answer. It answers those of asked/answers.py that the header has
- * calls for, and these. SPAN.. are 7 words of bytes, or of several byte strings with commas
- * between, and NUMBER.. 5 numbers, as asked/calls.h passes them to the call of that name:
+ * calls for, and these. SPAN.. are 14 words of bytes, or of several byte strings with commas
+ * between, and NUMBER.. 10 numbers, as asked/calls.h passes them to the call of that name. A call
+ * that takes a ticket gets that of its questions, if its word has no bytes:
  *
  *     call CALL SPAN.. NUMBER..           the number that it answers
  *     rooms CALL SPAN.. NUMBER..          how many rooms, from none on, are too short and stay as
  *                                         they were, what the next one is answered, and how many
  *                                         bytes each is told to take
+ *     ticket CALL SPAN.. NUMBER..         the ticket that the call of that name is given
  *     memory CALL SPAN.. NUMBER.. ROOM | authority LINE            asked/memory_calls.h
  *     string-places BYTES | option-places BYTES
  *                                         what is found from each place, and after the end
- *     verifications .. as `log-in`        how often the verifier was asked
  *     names                               version and ABI of the header and of the library, and
  *                                         numbers of answers with their names
  *     meanings                            the words of reading.h for each of these numbers
@@ -27,7 +28,7 @@
 #include "verify.h"
 
 /* of words in a line */
-#define MOST 16
+#define MOST 32
 #define FILLED 0xa5
 
 static raf_blob made(size_t length) {
@@ -41,10 +42,10 @@ static unsigned digit(char letter) {
   return (unsigned)(letter <= '9' ? letter - '0' : letter - 'a' + 10);
 }
 
-/* The bytes of a word, or of its part before a comma; `-` and `none` have no bytes. */
+/* The bytes of a word, or of its part before a comma; `-`, `none` and `?` have no bytes. */
 static raf_blob bytes_of(const char *word) {
   size_t digits = strcspn(word, ",");
-  raf_blob it = made(*word == '-' || *word == 'n' ? 0 : digits / 2);
+  raf_blob it = made(strchr("-n?", *word) ? 0 : digits / 2);
   for (size_t at = 0; at < it.length; at++)
     it.bytes[at] = (uint8_t)(digit(word[2 * at]) << 4 | digit(word[2 * at + 1]));
   return it;
@@ -57,10 +58,22 @@ static uint32_t sum_of(const uint8_t *bytes, size_t length) {
   return sum;
 }
 
-static bool is_filled(raf_blob room, size_t from) {
-  for (size_t at = from; at < room.length; at++)
-    if (room.bytes[at] != FILLED) return false;
+/* Whether each byte is that one. */
+static bool is_each(const void *bytes, size_t length, uint8_t one) {
+  const uint8_t *byte = bytes;
+  for (size_t at = 0; at < length; at++)
+    if (byte[at] != one) return false;
   return true;
+}
+
+/* Whether no byte of what a call may write is another than 0. */
+static bool is_zero(const void *bytes, size_t length) { return is_each(bytes, length, 0); }
+
+/* Whether it stayed as it was before the call. */
+static bool is_kept(const void *bytes, size_t length) { return is_each(bytes, length, FILLED); }
+
+static bool is_filled(raf_blob room, size_t from) {
+  return is_kept(room.bytes + from, from < room.length ? room.length - from : 0);
 }
 
 #include "asked/calls.h"
@@ -79,6 +92,17 @@ static given_spans several_of(const char *word) {
   return it;
 }
 
+/* The same as texts: `?` is one that could not be read, with the number that says so after it, or
+ * 0. */
+static given_texts texts_of(const char *word, given_spans of) {
+  given_texts it = {calloc(of.count + 1, sizeof(raf_text)), of.count};
+  if (!it.items) exit(3);
+  for (size_t at = 0; at < of.count; at++, word += strcspn(word, ",") + 1)
+    it.items[at] = (raf_text){
+        of.items[at], *word == '?' ? (uint32_t)strtoul(word + 1, NULL, 10) : 1};
+  return it;
+}
+
 static given_call given_by(char **words, int spans) {
   given_call it;
   memset(&it, 0, sizeof it);
@@ -86,6 +110,7 @@ static given_call given_by(char **words, int spans) {
     const char *word = at < spans ? words[at] : "-";
     it.spans[at] = bytes_of(word);
     it.several[at] = several_of(word);
+    it.texts[at] = texts_of(word, it.several[at]);
   }
   for (int at = 0; at < NUMBERS; at++) it.numbers[at] = strtoull(words[spans + at], NULL, 10);
   return it;
@@ -97,6 +122,7 @@ static void let_go(given_call *it) {
     for (size_t of = 0; of < it->several[at].count; of++)
       free((void *)it->several[at].items[of].bytes);
     free(it->several[at].items);
+    free(it->texts[at].items);
   }
   free(it->room.bytes);
 }
@@ -124,7 +150,7 @@ static bool is_done(uint32_t answer) {
 /* Makes the call of that name in a room that is long enough. Nothing may be written after the
  * length that it tells, if it tells one. */
 static uint32_t ask(given_call *it, const char *name, const size_t *length) {
-  size_t enough = 1024;
+  size_t enough = 4608;
   for (int at = 0; at < SPANS; at++) enough += 2 * it->spans[at].length;
   free(it->room.bytes);
   it->room = made(enough);
@@ -308,13 +334,14 @@ static void ask_places(given_call *it, const char *name) {
 }
 
 #include "asked/helper_calls.h"
+#include "asked/login_calls.h"
 
 /* ---- questions about any call */
 
 /* How many bytes of the room a call tells that it takes: one of these is not 0. */
 static size_t told(const given_call *it) {
   return it->length + it->question.length + it->line.length + it->entry.length
-         + it->entry_option.length + it->grant.length + it->user_grant.grant.length;
+         + it->entry_option.length + it->questions.length + it->grant.length;
 }
 
 static void ask_rooms(given_call *it) {
@@ -327,10 +354,9 @@ static void ask_rooms(given_call *it) {
     is_kept = answer == RAF_SHORT_BUFFER && is_filled(it->room, 0) &&
               (!length || told(it) == needed);
     needed = told(it);
-    it->grant.length = it->user_grant.grant.length = 0;
-    bool is_none = is_zero(&it->grant, sizeof it->grant);
-    is_none &= is_zero(&it->user_grant, sizeof it->user_grant);
-    if (answer == RAF_SHORT_BUFFER && !is_none) printf("and a grant ");
+    it->grant.length = 0;
+    if (answer == RAF_SHORT_BUFFER && !is_zero(&it->grant, sizeof it->grant))
+      printf("and a grant ");
   }
   printf("%" PRIu32 " %zu %zu", answer, length, needed);
 }
@@ -360,17 +386,9 @@ static const struct {
     {"entry", ask_entry, "authorized_entry", 1},
     {"host", ask_entry, "known_host", 1},
     {"options", ask_options, "next_line_option", 1},
-    {"log-in", ask_log_in, "check_login", 6},
-    {"log-in-by-keys", ask_log_in_by_keys, "check_user_keys", 8},
-    {"log-in-by-principals", ask_log_in_by_keys, "check_principals", 8},
-    {"verifications", ask_verifications, "check_login", 6},
     {"host-key", ask_number, "check_host_key", 4},
     {"host-certificate", ask_host_certificate, "check_host_certificate", 4},
     {"unreadable-line", ask_counted, "unreadable_host_line", 2},
-    {"userauth", ask_question, "userauth_question", 6},
-    {"userauth-of", ask_question, "userauth_question_of", 7},
-    {"is-userauth", ask_userauth, "userauth_question", 6},
-    {"flags", ask_number, "check_grant_flags", 2},
     {"other-key-line", ask_number, "is_later_key_line", 1},
     {"line-authority", ask_digest, "authority", 1},
     {"user-authority", ask_digest, "user_authority", 2},
@@ -394,9 +412,12 @@ static const struct {
 static void answer_of_call(char **words) {
   given_call it = given_by(words + 2, SPANS);
   char name[32];
+  add_ticket(&it, words[1]);
   it.name = words[1];
   if (!strcmp(words[0], "call")) {
     printf("%" PRIu32, ask(&it, words[1], NULL));
+  } else if (!strcmp(words[0], "ticket")) {
+    say_word(it.spans[TICKET].bytes, it.spans[TICKET].length);
   } else if (!strcmp(words[0], "rooms")) {
     ask_rooms(&it);
   } else if (!strcmp(words[0], "memory")) {
@@ -409,7 +430,7 @@ static void answer_of_call(char **words) {
 }
 
 static void answer(char **words) {
-  if (has_answered_helper(words)) return;
+  if (has_answered_helper(words) || has_answered_login(words)) return;
   for (size_t at = 0; at < sizeof questions / sizeof *questions; at++) {
     if (strcmp(words[0], questions[at].what)) continue;
     given_call it = given_by(words + 1, questions[at].spans);

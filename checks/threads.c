@@ -16,7 +16,7 @@
 #include "verdict.h"
 #include "verify.h"
 
-#define ANSWERS 31
+#define ANSWERS 36
 #define MOST 8
 #define ROUNDS 12
 
@@ -75,46 +75,43 @@ static char *text_of(const asked *it, const char *name) {
   return text;
 }
 
-/* A request of the user's, which the key of the first folder has signed. */
-static void ask_request(asked *it, raf_blob key) {
-  raf_blob signature = file_of(it, "request.sig");
-  raf_userauth request = {raf_text_span("a session"), raf_text_span("alice"),
-                          raf_text_span("ssh-ed25519"), raf_blob_span(key), raf_text_span(""),
-                          raf_blob_span(signature), 0, 0};
-  note(it, raf_verify_userauth(&request));
+/* Whether a login is let in, by what, and to what. */
+static void ask_login(asked *it, const raf_login *login) {
+  uint8_t room[4096] = {0};
+  raf_grant grant;
+  note(it, raf_verify_login(login, room, sizeof room, &grant));
+  note_bytes(it, room, grant.length);
+  note(it, grant.source);
+  note(it, grant.line);
+  note(it, grant.permits);
+}
+
+/* The user's key alone, by a text that lists it, with a request that the key of the first folder
+ * has signed; and the user's certificate, by an authority and by principals, where somebody else has
+ * verified the signature. */
+static void ask_logins(asked *it, raf_blob key, raf_blob certificate, const raf_trusted *trusted,
+                       uint64_t now) {
+  raf_blob signature = file_of(it, "request.sig"), listed = file_of(it, "user.pub");
+  raf_text keys = {raf_blob_span(listed), 1}, principals = {raf_text_span("alice\n"), 1};
+  raf_login login = {.offer = {raf_text_span("alice"), raf_text_span("ssh-ed25519"),
+                               raf_blob_span(key)},
+                     .signed_by = {.how = RAF_SIGNED_REQUEST,
+                                   .session_id = raf_text_span("a session"),
+                                   .signature = raf_blob_span(signature)},
+                     .trusted = *trusted,
+                     .place = {.unix_timestamp = now}};
+  login.trusted.authorized_keys = (raf_texts){&keys, 1};
+  ask_login(it, &login);
+  login.offer.algorithm.length = 0;
+  login.offer.blob = raf_blob_span(certificate);
+  login.signed_by.how = RAF_SIGNED_BY_TRANSPORT;
+  ask_login(it, &login);
+  login.trusted.principals = (raf_texts){&principals, 1};
+  login.trusted.principals_from = RAF_PRINCIPALS_IN_FILES;
+  ask_login(it, &login);
+  note(it, raf_verify_offer(&login));
+  free(listed.bytes);
   free(signature.bytes);
-}
-
-/* The user's key alone, by a text that lists it. */
-static void ask_key(asked *it, raf_blob key, uint64_t now, raf_spans revoked) {
-  raf_authorities none = {NULL, 0};
-  raf_blob text = file_of(it, "user.pub");
-  raf_login login = {raf_text_span(""), raf_text_span("alice"), raf_blob_span(key),
-                     raf_text_span(""), raf_authority_digests(none), revoked, now, 0, 0};
-  uint8_t *room = calloc(1, text.length);
-  raf_user_grant grant;
-  memset(&grant, 0, sizeof grant);
-  if (!room) abort();
-  note(it, raf_log_in_by_keys(&login, raf_blob_span(text), raf_text_span(""), room, text.length,
-                              &grant));
-  note(it, grant.line);
-  note(it, grant.grant.permits);
-  free(room);
-  free(text.bytes);
-}
-
-/* The user's certificate, by a text that names its principal. */
-static void ask_principals(asked *it, const raf_login *login) {
-  raf_span text = raf_text_span("alice\n");
-  size_t length = text.length + 2 * login->certificate.length;
-  uint8_t *room = calloc(1, length);
-  raf_user_grant grant;
-  memset(&grant, 0, sizeof grant);
-  if (!room) abort();
-  note(it, raf_log_in_by_principals(login, text, raf_text_span(""), room, length, &grant));
-  note(it, grant.line);
-  note(it, grant.grant.permits);
-  free(room);
 }
 
 /* A line that says for whom an authority may sign. */
@@ -133,23 +130,14 @@ static void ask_user_authority(asked *it, const char *line) {
 static void ask_user(asked *it, uint64_t now, raf_authorities by, raf_spans revoked) {
   raf_blob certificate = line_of(it, "user-cert.pub", RAF_LINE_CERTIFICATE);
   raf_blob key = line_of(it, "user.pub", RAF_LINE_KEY), again = {NULL, 0};
-  raf_login login = {raf_blob_span(certificate), raf_text_span("alice"), raf_blob_span(key),
-                     raf_text_span(""), raf_authority_digests(by), revoked, now, 0, 0};
+  raf_trusted trusted = {.authorities = raf_authority_digests(by),
+                         .revoked = revoked,
+                         .principals_from = RAF_PRINCIPALS_IN_CERTIFICATE};
   char *type = text_of(it, "user.pub"), *base64 = strchr(type, ' ');
-  uint8_t *room = calloc(1, certificate.length);
-  raf_grant grant;
-  memset(&grant, 0, sizeof grant);
-  if (!room) abort();
   *base64++ = 0;
   base64[strcspn(base64, " \n")] = 0;
   note(it, raf_read_words_blob(type, base64, RAF_LINE_KEY, &again));
-  note(it, raf_log_in(&login, room, certificate.length, &grant));
-  note_bytes(it, room, grant.length);
-  note(it, grant.permits);
-  ask_request(it, again);
-  ask_key(it, again, now, revoked);
-  ask_principals(it, &login);
-  free(room);
+  ask_logins(it, again, certificate, &trusted, now);
   free(type);
   free(again.bytes);
   free(key.bytes);

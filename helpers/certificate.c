@@ -4,8 +4,6 @@
 #include <string.h>
 #include <time.h>
 
-#include "verdict.h"
-
 uint32_t certificate_read_key(raf_blob certificate, raf_blob *answer) {
   /* a buffer as long as the certificate is enough */
   raf_blob key = {calloc(1, certificate.length), 0};
@@ -17,22 +15,6 @@ uint32_t certificate_read_key(raf_blob certificate, raf_blob *answer) {
   else
     free(key.bytes);
   return status;
-}
-
-uint32_t certificate_log_in(raf_blob certificate, raf_login login, certificate_print *print,
-                            const void *given) {
-  raf_blob key = {NULL, 0};
-  raf_grant grant;
-  uint32_t answer = certificate_read_key(certificate, &key);
-  if (answer != RAF_DONE) return answer;
-  uint8_t *buffer = calloc(1, certificate.length);
-  login.certificate = raf_blob_span(certificate);
-  login.key = raf_blob_span(key);
-  answer = buffer ? raf_log_in(&login, buffer, certificate.length, &grant) : RAF_MEMORY;
-  if (answer == RAF_DONE && print) print(&grant, buffer, given);
-  free(buffer);
-  free(key.bytes);
-  return answer;
 }
 
 bool certificate_write_window(raf_blob certificate, uint64_t unix_timestamp, char *buffer,

@@ -3,13 +3,13 @@
 #include <stdio.h>
 #include <stdlib.h>
 
-#include "certificate.h"
 #include "check.h"
 #include "sha1.h"
 #include "verdict.h"
 
 bool check_can_not_tell(uint32_t answer) {
-  return answer == RAF_MEMORY || answer == RAF_UNREADABLE_REVOCATIONS;
+  return answer == RAF_MEMORY || answer == RAF_UNREADABLE_REVOCATIONS ||
+         answer == RAF_TEXT_UNREADABLE;
 }
 
 bool check_name_unread(const program_files *revoked, uint32_t answer) {
@@ -23,8 +23,8 @@ bool check_name_unread(const program_files *revoked, uint32_t answer) {
 report check_report(const check_request *asked, size_t number) {
   return (report){.path = asked->path ? asked->path : REPORT_INPUT,
                   .line = number,
-                  .by_path = asked->lines,
                   .unix_timestamp = asked->second,
+                  .is_login = asked->mode == CHECK_LOGIN,
                   .is_verdict = asked->mode != CHECK_SHOW && asked->mode != CHECK_FINGERPRINT,
                   .is_json = asked->given[CHECK_JSON] != NULL};
 }
@@ -37,22 +37,6 @@ uint32_t check_read_shown(const char *line, size_t length, raf_blob *shown,
 }
 
 /* ---- certificates */
-
-/* What is asked of who holds that key, with that certificate or none. */
-static raf_login login_of(raf_blob key, raf_blob certificate, const check_request *asked) {
-  return (raf_login){.certificate = raf_blob_span(certificate),
-                     .user = raf_text_span(asked->user),
-                     .key = raf_blob_span(key),
-                     .client = {asked->address, asked->address_length},
-                     .authorities = raf_authority_digests(asked->by),
-                     .revoked = program_revocations(&asked->revoked),
-                     .unix_timestamp = asked->second};
-}
-
-/* Prints to what the certificate logs in. */
-static void print_certified(const raf_grant *grant, const uint8_t *buffer, const void *of) {
-  report_certified(of, grant, buffer);
-}
 
 /* Shows what stands before a signature by SHA-1: RAF_RSA_SHA1, or why not. */
 static uint32_t show_sha1(const char *line, size_t length, report *of) {
@@ -80,7 +64,6 @@ static bool is_key_line(const char *line, size_t length) {
 /* What is said of the certificate of a line: by an authority, or shown. */
 static uint32_t answer_certificate(const char *line, size_t length, report *of,
                                    const check_request *asked) {
-  raf_blob own = {NULL, 0};
   bool is_shown = asked->mode == CHECK_SHOW;
   uint32_t answer = raf_read_line_blob(line, length, RAF_LINE_CERTIFICATE, &of->certificate);
   if (answer == RAF_LABEL) of->is_key = is_key_line(line, length);
@@ -89,8 +72,7 @@ static uint32_t answer_certificate(const char *line, size_t length, report *of,
     return show_unread(line, length, answer, of);
   if (answer != RAF_DONE) return answer;
   return is_shown ? report_certificate(of, answer)
-                  : certificate_log_in(of->certificate, login_of(own, of->certificate, asked),
-                                       print_certified, of);
+                  : check_login(raf_blob_span(of->certificate), of, asked);
 }
 
 /* ---- hosts */
@@ -136,43 +118,18 @@ static uint32_t answer_host(const char *line, size_t length, report *of,
   return answer;
 }
 
-/* ---- logins by authorized_keys or by principals */
-
-/* Whether that logs the user in: says to what, or tells the report which line refuses. */
-static uint32_t log_in_by(const raf_login *login, report *of, const check_request *asked) {
-  /* a buffer of this length is enough, and one of no bytes may be null */
-  size_t length = asked->listing.length + 2 * login->certificate.length + 1;
-  uint8_t *buffer = calloc(1, length);
-  raf_user_grant grant;
-  if (!buffer) return RAF_MEMORY;
-  const char *name = asked->given[CHECK_HOST];
-  raf_span host = raf_text_span(name ? name : ""), text = raf_blob_span(asked->listing);
-  uint32_t answer = (asked->given[CHECK_AUTHORITIES] ? raf_log_in_by_principals : raf_log_in_by_keys)(
-      login, text, host, buffer, length, &grant);
-  of->by_line = grant.line;
-  if (answer == RAF_DONE) report_grant(of, &grant, buffer);
-  if (answer == RAF_USER_NOT_LISTED && !asked->given[CHECK_AUTHORITIES])
-    check_find_option(asked->listing, login, host, of);
-  free(buffer);
-  return answer;
-}
+/* ---- logins */
 
 /* Whether the key or the certificate of a line logs the user in. */
 static uint32_t answer_login(const char *line, size_t length, report *of,
                              const check_request *asked) {
-  raf_blob key = {NULL, 0}, shown = {NULL, 0};
+  raf_blob shown = {NULL, 0};
   bool is_certificate;
   uint32_t answer = check_read_shown(line, length, &shown, &is_certificate);
-  *(is_certificate ? &of->certificate : &key) = shown;
-  if (answer == RAF_DONE && is_certificate) answer = certificate_read_key(shown, &key);
-  /* authorities sign certificates */
-  of->is_key = answer == RAF_DONE && asked->given[CHECK_AUTHORITIES] && !is_certificate;
-  if (of->is_key) answer = RAF_LABEL;
-  if (answer == RAF_DONE) {
-    raf_login login = login_of(key, of->certificate, asked);
-    answer = log_in_by(&login, of, asked);
-  }
-  free(key.bytes);
+  of->is_key = answer == RAF_DONE && !is_certificate;
+  if (is_certificate) of->certificate = shown;
+  if (answer == RAF_DONE) answer = check_login(raf_blob_span(shown), of, asked);
+  if (!is_certificate) free(shown.bytes);
   return answer;
 }
 
@@ -199,6 +156,7 @@ static uint32_t answer_line(const char *line, size_t length, size_t number, void
     (is_shown ? report_complain : report_refused)(&of, answer);
     answer = RAF_DONE;
   }
+  if (answer == RAF_TEXT_UNREADABLE) report_complain(&of, answer);
   free(of.certificate.bytes);
   free(of.unread.bytes.bytes);
   return answer;
@@ -214,7 +172,7 @@ int check_text(raf_blob text, check_request *asked) {
   const char *path = asked->path ? asked->path : REPORT_INPUT;
   asked->count = 0;
   uint32_t answer = program_each_line(text, each, asked, &number);
-  bool is_named = check_name_unread(&asked->revoked, answer);
+  bool is_named = answer == RAF_TEXT_UNREADABLE || check_name_unread(&asked->revoked, answer);
   if (answer != RAF_DONE && !is_named)
     program_complain("%s:%zu: %s", path, number, raf_status_meaning(answer));
   else if (!asked->count)

@@ -1,18 +1,19 @@
-/* Which option keeps sshd from reading a line that has the key: raf_check_user_keys is asked about
- * the line anew, with each option alone. */
+/* Which option keeps sshd from reading a line that has the key: raf_verify_offer is asked about the
+ * line anew, with each option alone. */
 #include <stdio.h>
 #include <stdlib.h>
 #include <string.h>
 #include <strings.h>
 
 #include "check.h"
+#include "verdict.h"
 
 static const char authority[] = "cert-authority";
 
 /* What is asked of lines, one at a time. */
 typedef struct {
   const raf_login *login;
-  raf_span host;
+  bool is_certificate; /* is offered, and no key */
   report *of; /* is told of the first line that is found */
 } asked_lines;
 
@@ -23,7 +24,7 @@ static char *write_line(const asked_lines *asked, raf_span options, raf_span key
   FILE *to = open_memstream(&line, length);
   if (!to) return NULL;
   fwrite(options.bytes, 1, options.length, to);
-  if (asked->login->certificate.length)
+  if (asked->is_certificate)
     fprintf(to, "%s%s", options.length ? "," : "", authority);
   fputc(' ', to);
   fwrite(key.bytes, 1, key.length, to);
@@ -36,16 +37,14 @@ static char *write_line(const asked_lines *asked, raf_span options, raf_span key
  * not read. */
 static uint32_t ask_line(const asked_lines *asked, raf_span options, raf_span key) {
   size_t length = 0;
-  raf_user_grant grant;
   char *line = write_line(asked, options, key, &length);
+  raf_text text = {{(const uint8_t *)line, length}, 1};
+  raf_login login = *asked->login;
   if (!line) return RAF_MEMORY;
-  size_t buffer_length = length + 2 * asked->login->certificate.length;
-  uint8_t *buffer = calloc(1, buffer_length);
-  uint32_t answer = !buffer ? (uint32_t)RAF_MEMORY
-                            : raf_check_user_keys(asked->login, (const uint8_t *)line, length,
-                                                  asked->host.bytes, asked->host.length, 0, buffer,
-                                                  buffer_length, &grant);
-  free(buffer);
+  login.trusted.authorized_keys = (raf_texts){&text, 1};
+  login.trusted.authorities.count = 0;
+  login.trusted.command_keys.count = 0;
+  uint32_t answer = raf_verify_offer(&login);
   free(line);
   return answer;
 }
@@ -75,7 +74,7 @@ static raf_span find_unread(const asked_lines *asked, raf_span options, raf_span
     if (answer != RAF_DONE) parts.next = options.length;
     if (place) place++; /* the comma before it */
     raf_span option = {options.bytes + place, parts.next - place}, name = name_of(option);
-    bool is_of_others = !asked->login->certificate.length && is_authority(name);
+    bool is_of_others = !asked->is_certificate && is_authority(name);
     if (!is_of_others && answer == RAF_DONE &&
         ask_line(asked, option, key) != RAF_USER_NOT_LISTED)
       continue;
@@ -109,8 +108,10 @@ static uint32_t look_at_line(const char *line, size_t length, size_t number, voi
   return RAF_END;
 }
 
-void check_find_option(raf_blob text, const raf_login *login, raf_span host, report *of) {
+bool check_find_option(raf_span text, const raf_login *login, report *of) {
   size_t number;
-  asked_lines asked = {login, host, of};
-  program_each_line(text, look_at_line, &asked, &number);
+  asked_lines asked = {login, of->certificate.length > 0, of};
+  /* program_each_line writes nothing */
+  raf_blob listing = {(uint8_t *)text.bytes, text.length};
+  return text.bytes && program_each_line(listing, look_at_line, &asked, &number) == RAF_END;
 }

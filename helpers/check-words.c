@@ -13,8 +13,9 @@
   "sshkey-check --host NAME [--port NUMBER] --known-hosts FILE.. [--at TIME] [--revoked FILE]" \
   ".. [--json] [FILE]"
 #define LOGIN                                                                               \
-  "sshkey-check login FILE NAME KEY --from ADDRESS [--ca FILE] [--host NAME] [--at TIME] " \
-  "[--revoked FILE].. [--json]"
+  "sshkey-check login NAME KEY [--authorized-keys FILE].. [--authorities FILE [--principals " \
+  "FILE]..] [--user-authorities FILE] [--command-keys FILE] [--from ADDRESS] [--host NAME] "  \
+  "[--at TIME] [--revoked FILE].. [--json]"
 #define VERIFY "sshkey-check verify -k KEYS -n NAMESPACE -s SIGNATURE [--json] [FILE]"
 #define SIGNER                                                                           \
   "sshkey-check verify -f SIGNERS -I IDENTITY -n NAMESPACE -s SIGNATURE [-r REVOKED].. " \
@@ -38,8 +39,10 @@ const char check_help[] =
     "that address, at that second since 1970 or date (YYYYMMDD[HHMM[SS]]Z), or else now. The\n"
     "third says of each, or of a key, whether it is that of the host, by all the files of\n"
     "known_hosts. The fourth says whether the key or the certificate of the file KEY logs NAME\n"
-    "in from that address, and to what, or which line of FILE refuses it: authorized_keys, or\n"
-    "with --ca the principals of these authorities. The fifth says whether the signature of\n"
+    "in, and to what, if the client signs, or which line refuses it: by the files of\n"
+    "authorized_keys, then by the authorities, by the principals of files if some are given, or\n"
+    "by the authorities of a file of sshkey-principals, and then by what AuthorizedKeysCommand\n"
+    "wrote. The fifth says whether the signature of\n"
     "ssh-keygen -Y sign is one of FILE in the namespace by a key of the file KEYS, and the sixth\n"
     "whether it is the identity's by the file of allowed signers, as ssh-keygen -Y verify does.\n"
     "The seventh shows the SHA-256 fingerprint of each key. The eighth says whether what is\n"
@@ -51,12 +54,17 @@ const char check_help[] =
 static const struct {
   const char *name, *value;
   char letter; /* by which verify takes it too; 0 for none */
-} options[] = {[CHECK_AUTHORITIES] = {"--ca", "FILE"},
+} options[] = {[CHECK_CA] = {"--ca", "FILE"},
                [CHECK_USER] = {"--user", "NAME"},
                [CHECK_FROM] = {"--from", "ADDRESS"},
                [CHECK_HOST] = {"--host", "NAME"},
                [CHECK_PORT] = {"--port", "NUMBER"},
                [CHECK_KNOWN_HOSTS] = {"--known-hosts", "FILE"},
+               [CHECK_AUTHORIZED_KEYS] = {"--authorized-keys", "FILE"},
+               [CHECK_AUTHORITIES] = {"--authorities", "FILE"},
+               [CHECK_PRINCIPALS] = {"--principals", "FILE"},
+               [CHECK_USER_AUTHORITIES] = {"--user-authorities", "FILE"},
+               [CHECK_COMMAND_KEYS] = {"--command-keys", "FILE"},
                [CHECK_KEYS] = {"--keys", "KEYS", 'k'},
                [CHECK_SIGNERS] = {"--signers", "SIGNERS", 'f'},
                [CHECK_IDENTITY] = {"--identity", "IDENTITY", 'I'},
@@ -69,6 +77,9 @@ static const struct {
 
 #define ONE(option) (1u << CHECK_##option)
 #define OF_SIGNATURES (ONE(NAMESPACE) | ONE(SIGNATURE))
+/* what may let somebody in */
+#define SOURCES \
+  (ONE(AUTHORIZED_KEYS) | ONE(AUTHORITIES) | ONE(USER_AUTHORITIES) | ONE(COMMAND_KEYS))
 
 /* What each question is called in a complaint, if it has a name; which options it needs, and which
  * it also takes; and how it is asked. */
@@ -78,12 +89,13 @@ static const struct {
   const char *usage;
 } questions[] = {
     [CHECK_SHOW] = {NULL, 0, ONE(JSON), SHOW},
-    [CHECK_CERTIFICATE] = {NULL, ONE(AUTHORITIES) | ONE(USER),
+    [CHECK_CERTIFICATE] = {NULL, ONE(CA) | ONE(USER),
                            ONE(FROM) | ONE(AT) | ONE(REVOKED) | ONE(JSON), CERTIFICATE},
     [CHECK_HOST_KEY] = {NULL, ONE(HOST) | ONE(KNOWN_HOSTS),
                         ONE(PORT) | ONE(AT) | ONE(REVOKED) | ONE(JSON), HOST_KEY},
-    [CHECK_LOGIN] = {"login", ONE(FROM),
-                     ONE(AUTHORITIES) | ONE(HOST) | ONE(AT) | ONE(REVOKED) | ONE(JSON), LOGIN},
+    [CHECK_LOGIN] = {"login", 0,
+                     SOURCES | ONE(PRINCIPALS) | ONE(FROM) | ONE(HOST) | ONE(AT) | ONE(REVOKED) |
+                         ONE(JSON), LOGIN},
     [CHECK_VERIFY] = {"verify", ONE(KEYS) | OF_SIGNATURES, ONE(JSON), VERIFY},
     [CHECK_SIGNER] = {"verify", ONE(SIGNERS) | ONE(IDENTITY) | OF_SIGNATURES,
                       ONE(REVOKED) | ONE(AT) | ONE(JSON), SIGNER},
@@ -112,15 +124,25 @@ static check_option option_of(int number) {
   return (check_option)at;
 }
 
+/* The files that an option names; null where it names none, or is asked otherwise. */
+static program_files *files_of(check_option option, check_request *asked) {
+  return option == CHECK_REVOKED           ? &asked->revoked
+         : option == CHECK_KNOWN_HOSTS     ? &asked->known_hosts
+         : option == CHECK_AUTHORIZED_KEYS ? &asked->authorized_keys
+         : option == CHECK_PRINCIPALS      ? &asked->principals
+         : option == CHECK_COMMAND_KEYS    ? &asked->command_keys
+                                           : NULL;
+}
+
 /* Takes an option; false, which is said, where it was given. */
 static bool take_option(check_option option, const char *value, check_request *asked) {
-  bool is_revoked = option == CHECK_REVOKED, is_list = is_revoked || option == CHECK_KNOWN_HOSTS;
-  if (asked->given[option] && !is_list) {
+  program_files *files = files_of(option, asked);
+  if (asked->given[option] && (!files || option == CHECK_COMMAND_KEYS)) {
     program_complain("%s is given twice", options[option].name);
     return false;
   }
   asked->given[option] = value ? value : "";
-  return !is_list || program_add_path(is_revoked ? &asked->revoked : &asked->known_hosts, value);
+  return !files || program_add_path(files, value);
 }
 
 /* Says what is wrong with the word that getopt_long does not take. */
@@ -167,12 +189,11 @@ static bool read_rest(int count, char **words, check_request *asked) {
     asked->path_count = left;
     return true;
   }
-  if (asked->mode == CHECK_LOGIN && left >= 3) {
-    asked->lines = words[optind++];
+  if (asked->mode == CHECK_LOGIN && left >= 2) {
     asked->user = words[optind++];
-    left -= 2;
+    left--;
   } else if (asked->mode == CHECK_LOGIN) {
-    program_complain("login wants FILE NAME KEY");
+    program_complain("login wants NAME KEY");
     return false;
   }
   int most = is_keygen(asked->mode) ? 0 : 1;
@@ -208,8 +229,8 @@ static check_mode mode_by_options(const check_request *asked) {
                                                                                : CHECK_SIGNER;
   if (asked->mode != CHECK_SHOW) return asked->mode;
   if (given[CHECK_HOST] || given[CHECK_PORT] || given[CHECK_KNOWN_HOSTS]) return CHECK_HOST_KEY;
-  return given[CHECK_AUTHORITIES] || given[CHECK_USER] || given[CHECK_FROM] ? CHECK_CERTIFICATE
-                                                                          : CHECK_SHOW;
+  return given[CHECK_CA] || given[CHECK_USER] || given[CHECK_FROM] ? CHECK_CERTIFICATE
+                                                                 : CHECK_SHOW;
 }
 
 /* What is asked, by a name: its word, or else the first option of it that is given. */
@@ -247,6 +268,23 @@ static bool has_needed(const check_request *asked) {
   return true;
 }
 
+/* Whether a login is asked of something that may let in, and of no two that exclude each other. */
+static bool has_sources(const check_request *asked) {
+  const char *const *given = asked->given;
+  bool has_one = asked->mode != CHECK_LOGIN;
+  for (int at = 0; at < CHECK_OPTIONS; at++) has_one |= given[at] && SOURCES & 1u << at;
+  if (!has_one)
+    program_complain("login wants --authorized-keys, --authorities, --user-authorities or "
+                     "--command-keys");
+  else if (given[CHECK_AUTHORITIES] && given[CHECK_USER_AUTHORITIES])
+    program_complain("login takes one of --authorities and --user-authorities");
+  else if (given[CHECK_PRINCIPALS] && !given[CHECK_AUTHORITIES])
+    program_complain("--principals wants --authorities FILE");
+  else
+    return true;
+  return false;
+}
+
 bool check_read_words(int count, char **words, check_request *asked) {
   asked->mode = mode_of(count, words);
   optind = asked->mode == CHECK_SHOW ? 1 : is_keygen(asked->mode) ? 3 : 2;
@@ -255,7 +293,7 @@ bool check_read_words(int count, char **words, check_request *asked) {
   is_read = is_read && read_options(count, words, asked);
   asked->mode = mode_by_options(asked);
   is_read = is_read && read_rest(count, words, asked) && has_no_other(asked);
-  is_read = is_read && has_needed(asked);
+  is_read = is_read && has_needed(asked) && has_sources(asked);
   if (asked->mode == CHECK_CERTIFICATE) asked->user = asked->given[CHECK_USER];
   if (!is_read) fprintf(stderr, "usage: %s\n", questions[asked->mode].usage);
   return is_read;

@@ -9,12 +9,17 @@ enum { VALID = 0, INVALID = 1, UNTOLD = 2 };
 
 /* The options of the words; the last is how many there are. */
 typedef enum {
-  CHECK_AUTHORITIES,
+  CHECK_CA,
   CHECK_USER,
   CHECK_FROM,
   CHECK_HOST,
   CHECK_PORT,
   CHECK_KNOWN_HOSTS,
+  CHECK_AUTHORIZED_KEYS,
+  CHECK_AUTHORITIES,
+  CHECK_PRINCIPALS,
+  CHECK_USER_AUTHORITIES,
+  CHECK_COMMAND_KEYS,
   CHECK_KEYS,
   CHECK_SIGNERS,
   CHECK_IDENTITY,
@@ -32,7 +37,7 @@ typedef enum {
   CHECK_SHOW,        /* what certificates say */
   CHECK_CERTIFICATE, /* whether they log a user in */
   CHECK_HOST_KEY,    /* whether keys or certificates are a host's */
-  CHECK_LOGIN,       /* whether a key or a certificate logs a user in by a file */
+  CHECK_LOGIN,       /* whether a key or a certificate logs a user in */
   CHECK_VERIFY,      /* whether an SSH signature counts by keys */
   CHECK_SIGNER,      /* whether it does by a file of allowed signers */
   CHECK_FIND,        /* who may have made one, by such a file, in the words of ssh-keygen -Y */
@@ -48,12 +53,10 @@ typedef struct {
   const char *path;                 /* of what is asked about; null for standard input */
   char **paths;                     /* of the files where several are asked about */
   int path_count;
-  const char *user;  /* who logs in */
-  const char *lines; /* the path of a file of authorized_keys or of principals */
-  program_files known_hosts, revoked;
+  const char *user; /* who logs in */
+  program_files known_hosts, revoked, authorized_keys, principals, command_keys;
   raf_authorities by;
   raf_signers allowed;
-  raf_blob listing; /* the text of `lines` */
   uint8_t address[16];
   size_t address_length;
   uint64_t second, port_number;
@@ -91,8 +94,13 @@ uint32_t check_read_shown(const char *line, size_t length, raf_blob *shown,
 /* Shows the fingerprint of the key of a line: RAF_DONE, or why it can't tell. */
 program_line check_fingerprint;
 
-/* Tells the report of the first line of authorized_keys that has the login's key, or that of its
- * certificate's authority, and an option that sshd does not read, where no line lets it in. */
-void check_find_option(raf_blob text, const raf_login *login, raf_span host, report *of);
+/* Answers about a key or a certificate of the report that shall log the user in: says to what it
+ * does, or tells the report which line refuses. */
+uint32_t check_login(raf_span shown, report *of, const check_request *asked);
+
+/* Tells the report of the first line of a text of authorized_keys that has the login's key, or that
+ * of its certificate's authority, and an option that sshd does not read, where no line lets it in;
+ * false where it finds none. */
+bool check_find_option(raf_span text, const raf_login *login, report *of);
 
 #endif

@@ -176,7 +176,10 @@ static const struct {
     {RAF_OTHER_ALGORITHM, "another algorithm than the request's"},
     {RAF_UNTOUCHED, "a security key that nobody touched"},
     {RAF_UNVERIFIED, "a security key that did not verify its user"},
-    {RAF_USER_NOT_LISTED, "no line is for the key"},
+    {RAF_CLIENT_NOT_SIGNED, "not signed by the client"},
+    {RAF_NO_FLAGS, "a security key whose flags nobody tells"},
+    {RAF_NO_SIGNATURE, "no signature"},
+    {RAF_USER_NOT_LISTED, "no line is for the key, and no authority lists the user"},
     {RAF_LINE_EXPIRED, "a line whose time is over"},
     {RAF_LINE_OPTION, "a line with principals and without cert-authority"},
     {RAF_LINE_ELSEWHERE, "a line for other places"},
@@ -184,10 +187,14 @@ static const struct {
     {RAF_LINE_PRINCIPALS, "a line for nobody whom the certificate lists"},
     {RAF_LINE_UNCLEAR, "a line that can't be told"},
     {RAF_NOT_PERMITTED, "the grant does not permit it"},
+    {RAF_TEXT_UNREADABLE, "a text that could not be read"},
     {RAF_NO_PORT, "port 0"},
     {RAF_NO_HOST, "no host"},
     {RAF_NO_ADDRESS, "a host that is like an address, and has no one text"},
     {RAF_NO_IDENTITY, "no identity"},
+    {RAF_UNSIGNED, "nobody has seen the signature"},
+    {RAF_NO_PRINCIPALS, "not told whom authorities let in"},
+    {RAF_OTHER_QUESTIONS, "answers to other questions"},
 };
 
 const char *raf_status_meaning(uint32_t status) {

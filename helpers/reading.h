@@ -1,5 +1,5 @@
 /* What programs read, as the calls of rafendilo.h take it: lines, words, streams and files; and the
- * words for what these calls return. A login is raf_log_in (verdict.h). */
+ * words for what these calls return. A login is raf_verify_login (verdict.h). */
 #ifndef READING_H
 #define READING_H
 #include <stdbool.h>

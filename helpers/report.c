@@ -12,6 +12,8 @@
 
 /* of the words that say why something is refused */
 #define WORDS 512
+/* what is said of a login where nobody has asked for the client's signature */
+static const char valid_if_signed[] = "valid, if the client signs";
 
 /* ---- why it is refused */
 
@@ -62,19 +64,24 @@ static void write_words(const report *of, uint32_t answer, char *buffer) {
   bool is_written = false;
   if (answer == RAF_OUT_OF_WINDOW)
     is_written = certificate_write_window(of->certificate, of->unix_timestamp, buffer, WORDS);
-  if (answer == RAF_LABEL && of->is_key) is_written = write_name(of, buffer);
+  if ((answer == RAF_LABEL || answer == RAF_USER_NOT_LISTED) && of->is_key)
+    is_written = write_name(of, buffer);
   if (answer == RAF_USER_NOT_LISTED && of->option.length)
     is_written = write_option("it has the key, and an option that sshd does not read",
                               of->option, buffer);
   if (answer == RAF_FORMAT) is_written = write_unread(of, buffer);
-  if (!is_written) snprintf(buffer, WORDS, "%s", raf_status_meaning(answer));
+  if (is_written) return;
+  const char *said = of->words                           ? of->words
+                     : answer == RAF_DONE && of->is_login ? valid_if_signed
+                                                          : raf_status_meaning(answer);
+  snprintf(buffer, WORDS, "%s", said);
 }
 
 void report_complain(const report *of, uint32_t answer) {
   char words[WORDS];
-  size_t number = of->by_line ? of->by_line : of->line;
+  size_t number = of->by_path ? of->by_line : of->line;
   write_words(of, answer, words);
-  const char *path = of->by_line ? of->by_path : of->path;
+  const char *path = of->by_path ? of->by_path : of->path;
   if (number)
     program_complain("%s:%zu: %s (%" PRIu32 ")", path, number, words, answer);
   else
@@ -186,6 +193,14 @@ static void begin(const report *of, const char *verdict) {
   json_words("verdict", verdict);
 }
 
+/* The name of what lets in or refuses. */
+static const char *source_name(uint32_t source) {
+  return source == RAF_SOURCE_AUTHORIZED_KEYS ? "authorized_keys"
+         : source == RAF_SOURCE_AUTHORITY     ? "authority"
+         : source == RAF_SOURCE_PRINCIPALS    ? "principals"
+                                              : "command";
+}
+
 /* The same of a verdict, with why it is, and by which line. */
 static void begin_verdict(const report *of, uint32_t answer) {
   char words[WORDS];
@@ -194,6 +209,7 @@ static void begin_verdict(const report *of, uint32_t answer) {
   json_number("status", answer);
   json_words("name", raf_status_name(answer));
   json_words("meaning", words);
+  if (of->source) json_words("source", source_name(of->source));
   if (!of->by_line) return;
   json_words("by_file", of->by_path);
   json_number("by_line", of->by_line);
@@ -230,9 +246,9 @@ static void print_permitted(const raf_grant *grant, const uint8_t *buffer) {
 }
 
 /* Prints which device of tun(4) may be had: none without the permission. */
-static void print_tunnel(const raf_user_grant *grant) {
+static void print_tunnel(const raf_grant *grant) {
   char number[16];
-  uint32_t permits = grant->grant.permits;
+  uint32_t permits = grant->permits;
   snprintf(number, sizeof number, "%" PRIu32, grant->tunnel);
   if (!(permits & RAF_PERMIT_TUNNELS))
     json_null("tunnel");
@@ -256,33 +272,26 @@ void report_valid(const report *of) {
   }
 }
 
-void report_certified(const report *of, const raf_grant *grant, const uint8_t *buffer) {
-  if (of->is_json) {
-    begin_verdict(of, RAF_DONE);
-    print_identity(of);
-    print_permitted(grant, buffer);
-    json_end();
-  } else {
-    puts("valid");
-    show_certified(grant, buffer);
-  }
-}
-
-void report_grant(const report *of, const raf_user_grant *grant, const uint8_t *buffer) {
-  if (!of->is_json) {
-    puts("valid");
-    show_grant(grant, buffer, of->certificate.length > 0);
-    return;
-  }
-  begin_verdict(of, RAF_DONE);
-  print_identity(of);
-  print_permitted(&grant->grant, buffer);
+/* Prints what else the line of a grant says. */
+static void print_line(const raf_grant *grant, const uint8_t *buffer) {
   print_places("forwards_to", text_part(buffer, grant->permit_open));
   print_places("listens_at", text_part(buffer, grant->permit_listen));
   print_tunnel(grant);
   print_strings("environment", text_part(buffer, grant->environment));
   print_second("expires", grant->expires.first);
   print_second("expires_latest", grant->expires.last);
+}
+
+void report_grant(const report *of, const raf_grant *grant, const uint8_t *buffer) {
+  if (!of->is_json) {
+    puts(of->is_login ? valid_if_signed : raf_status_meaning(RAF_DONE));
+    show_grant(grant, buffer, of->by_path, of->certificate.length > 0);
+    return;
+  }
+  begin_verdict(of, RAF_DONE);
+  print_identity(of);
+  print_permitted(grant, buffer);
+  if (grant->line) print_line(grant, buffer);
   json_end();
 }
 

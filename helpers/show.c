@@ -223,8 +223,8 @@ static void print_host(raf_span host) {
   if (!is_bare) putchar(']');
 }
 
-/* Prints each host and its port, which is two bytes, or none for any. */
-/* Prints where ports may be forwarded. Of anywhere the permission tells. */
+/* Prints where ports may be forwarded: each host and its port, which is two bytes, or none for any.
+ * Of anywhere the permission tells. */
 static void print_ports(const char *title, raf_span list) {
   static const uint8_t anywhere[] = "\0\0\0\1*\0\0\0"; /* that host, at any port */
   raf_part host = {0, 0}, port = {0, 0};
@@ -291,25 +291,28 @@ static void print_certificate(const raf_grant *grant, const uint8_t *buffer) {
     printf("        Signing CA: %.*s\n", (int)sizeof text, (const char *)text);
 }
 
-void show_certified(const raf_grant *grant, const uint8_t *buffer) {
-  print_permitted(grant, buffer);
-  print_flags(grant->permits);
-  print_certificate(grant, buffer);
+/* The only device of tun(4) that may be had, where it is not any. */
+static void print_tunnel(const raf_grant *grant) {
+  if (!(grant->permits & RAF_PERMIT_TUNNELS) || grant->permits & RAF_PERMIT_ANY_TUNNEL) return;
+  if (grant->tunnel == SHOW_ANY_DEVICE)
+    puts("        Tunnel: any");
+  else
+    printf("        Tunnel: %" PRIu32 "\n", grant->tunnel);
 }
 
-void show_grant(const raf_user_grant *grant, const uint8_t *buffer, bool is_certified) {
-  uint32_t permits = grant->grant.permits;
-  printf("        Line: %zu\n", grant->line);
-  print_permitted(&grant->grant, buffer);
+void show_grant(const raf_grant *grant, const uint8_t *buffer, const char *path,
+                bool is_certified) {
+  if (grant->line) {
+    printf("        Line: ");
+    text_print((raf_span){raf_bytes(path), path ? strlen(path) : 0});
+    printf(":%zu\n", grant->line);
+  }
+  print_permitted(grant, buffer);
   print_ports("Forwards to", text_part(buffer, grant->permit_open));
   print_ports("Listens at", text_part(buffer, grant->permit_listen));
-  bool is_bound = permits & RAF_PERMIT_TUNNELS && !(permits & RAF_PERMIT_ANY_TUNNEL);
-  if (is_bound && grant->tunnel == SHOW_ANY_DEVICE)
-    puts("        Tunnel: any");
-  else if (is_bound)
-    printf("        Tunnel: %" PRIu32 "\n", grant->tunnel);
+  print_tunnel(grant);
   print_strings("Environment", text_part(buffer, grant->environment));
-  print_flags(permits);
+  print_flags(grant->permits);
   print_expiry(grant->expires);
-  if (is_certified) print_certificate(&grant->grant, buffer);
+  if (is_certified) print_certificate(grant, buffer);
 }

@@ -40,10 +40,8 @@ typedef struct {
 } show_permission;
 extern const show_permission show_permissions[];
 
-/* Prints what a login by a certificate may do, and by which. */
-void show_certified(const raf_grant *grant, const uint8_t *buffer);
-
-/* Prints what a login by a line may do, and, where it is by a certificate, by which. */
-void show_grant(const raf_user_grant *grant, const uint8_t *buffer, bool is_certified);
+/* Prints by which line of the file of that path a login is let in, if by one, what it may do, and,
+ * where it is by a certificate, by which. */
+void show_grant(const raf_grant *grant, const uint8_t *buffer, const char *path, bool is_certified);
 
 #endif

@@ -2,7 +2,8 @@
 _sshkey_check() {
   local word=${COMP_WORDS[COMP_CWORD]} words
   case ${COMP_WORDS[COMP_CWORD-1]} in
-    --ca|--known-hosts|--keys|--signers|--signature|--revoked|-[kfsr])
+    --ca|--known-hosts|--authorized-keys|--authorities|--principals|--user-authorities|--command-keys|\
+    --keys|--signers|--signature|--revoked|-[kfsr])
       mapfile -t COMPREPLY < <(compgen -f -- "$word"); return ;;
     --user) mapfile -t COMPREPLY < <(compgen -u -- "$word"); return ;;
     --host) mapfile -t COMPREPLY < <(compgen -A hostname -- "$word"); return ;;
@@ -10,7 +11,8 @@ _sshkey_check() {
     -Y) mapfile -t COMPREPLY < <(compgen -W "find-principals verify check-novalidate" -- "$word"); return ;;
   esac
   case ${COMP_WORDS[1]} in
-    login) words="--from --ca --host --at --revoked --json" ;;
+    login) words="--authorized-keys --authorities --principals --user-authorities --command-keys"
+           words="$words --from --host --at --revoked --json" ;;
     verify) words="-k -f -I -n -s -r --at --json" ;;
     fingerprint|revoked) words="--json" ;;
     -Y) words="-f -I -n -s -r -O" ;;

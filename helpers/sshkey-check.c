@@ -22,19 +22,29 @@ static bool has_users(const char *line, size_t length) {
   return answer == RAF_DONE || answer == RAF_LATER_KEY;
 }
 
+/* A file of keys that is read. */
+typedef struct {
+  check_request *asked;
+  const char *path;
+  bool has_users; /* before the keys, as those of sshkey-principals */
+} key_file;
+
 /* Adds the key of a line to those that count, or says that it has none, or a later one. */
 static uint32_t read_key(const char *line, size_t length, size_t number, void *given) {
-  check_request *asked = given;
-  const char *path = asked->given[asked->mode == CHECK_VERIFY ? CHECK_KEYS : CHECK_AUTHORITIES];
-  uint32_t answer = raf_add_authority(&asked->by, line, length);
+  const key_file *of = given;
+  raf_authorities *to = &of->asked->by;
+  uint32_t answer = of->has_users ? raf_add_user_authority(to, line, length, of->asked->user)
+                                  : raf_add_authority(to, line, length);
   if (answer == RAF_DONE || answer == RAF_MEMORY) return answer;
+  /* another user's line */
+  if (of->has_users && answer == RAF_END) return RAF_DONE;
   bool is_later = answer == RAF_LATER_KEY;
-  if (!is_later) asked->is_untold = true;
-  if (!is_later && has_users(line, length))
-    program_complain("%s:%zu: no key: the line begins with users, as for sshkey-principals", path,
-                     number);
+  if (!is_later) of->asked->is_untold = true;
+  if (!is_later && !of->has_users && has_users(line, length))
+    program_complain("%s:%zu: no key: the line begins with users, as for sshkey-principals",
+                     of->path, number);
   else
-    program_complain("%s:%zu: %s%s", path, number, is_later ? "" : "no key: ",
+    program_complain("%s:%zu: %s%s", of->path, number, is_later ? "" : "no key: ",
                      raf_status_meaning(answer));
   return RAF_DONE;
 }
@@ -67,8 +77,10 @@ static bool is_private(const char *path, raf_blob text) {
   return true;
 }
 
-/* Reads the file of keys where one is named, likewise, and where a line is none. */
-static bool read_keys(const char *path, check_request *asked) {
+/* Reads the file of keys of an option where one is named, likewise, and where a line is none. */
+static bool read_keys(check_option option, check_request *asked) {
+  const char *path = asked->given[option];
+  key_file of = {asked, path, option == CHECK_USER_AUTHORITIES};
   raf_blob text = {NULL, 0};
   size_t number;
   if (!path) return true;
@@ -76,8 +88,10 @@ static bool read_keys(const char *path, check_request *asked) {
   tell_empty(path, text);
   asked->is_untold = is_private(path, text);
   uint32_t answer = asked->is_untold ? (uint32_t)RAF_DONE
-                                     : program_each_line(text, read_key, asked, &number);
+                                     : program_each_line(text, read_key, &of, &number);
   if (answer != RAF_DONE) program_complain("%s:%zu: %s", path, number, raf_status_meaning(answer));
+  if (of.has_users && answer == RAF_DONE && !asked->is_untold && !asked->by.count)
+    program_complain("%s: no line has a key for %s", path, asked->user);
   free(text.bytes);
   return answer == RAF_DONE && !asked->is_untold;
 }
@@ -91,6 +105,32 @@ static bool read_files(program_files *files, bool may_be_empty) {
     files->texts[at] = raf_blob_span(text);
   }
   return true;
+}
+
+/* Reads texts of a login: of one that is not there no bytes, if it need not be there, and none of
+ * one that can't be read, which is said; false where memory runs out. */
+static bool read_texts(program_files *files, bool may_be_missing) {
+  for (size_t at = 0; at < files->count; at++) {
+    raf_blob text = {NULL, 0};
+    const char *path = files->paths[at];
+    errno = 0;
+    if (raf_read_file(path, &text)) {
+      tell_empty(path, text);
+    } else {
+      program_complain("%s: %s", path, strerror(errno));
+      if (errno == ENOMEM) return false;
+      if (errno == ENOENT && may_be_missing) text.bytes = calloc(1, 1);
+    }
+    files->texts[at] = (raf_span){text.bytes, text.length};
+  }
+  return true;
+}
+
+/* Reads what may let somebody in, likewise. */
+static bool read_sources(check_request *asked) {
+  return read_keys(CHECK_CA, asked) && read_keys(CHECK_AUTHORITIES, asked) &&
+         read_keys(CHECK_USER_AUTHORITIES, asked) && read_texts(&asked->authorized_keys, true) &&
+         read_texts(&asked->principals, true) && read_texts(&asked->command_keys, false);
 }
 
 /* The second at which a clock of the machine's zone shows the date of digits; false where it does
@@ -164,13 +204,11 @@ static bool read_numbers(check_request *asked) {
 /* Reads the files by which is checked, likewise. */
 static bool read_others(check_request *asked) {
   const char *signers = asked->given[CHECK_SIGNERS];
-  if (!read_keys(asked->given[CHECK_KEYS], asked) ||
-      !read_keys(asked->given[CHECK_AUTHORITIES], asked) || !read_files(&asked->revoked, true) ||
-      !read_files(&asked->known_hosts, false) || !read_named(signers, &asked->allowed.text) ||
-      !read_named(asked->lines, &asked->listing))
+  if (!read_keys(CHECK_KEYS, asked) || !read_sources(asked) ||
+      !read_files(&asked->revoked, true) || !read_files(&asked->known_hosts, false) ||
+      !read_named(signers, &asked->allowed.text))
     return false;
   if (signers) tell_empty(signers, asked->allowed.text);
-  if (asked->lines) tell_empty(asked->lines, asked->listing);
   asked->allowed.identity = asked->given[CHECK_IDENTITY];
   asked->allowed.unix_timestamp = asked->second;
   asked->allowed.revoked = program_revocations(&asked->revoked);
@@ -236,7 +274,9 @@ int main(int count, char **words) {
   int status = check_read_words(count, words, &asked) ? answer_request(&asked) : UNTOLD;
   free(asked.by.keys);
   free(asked.allowed.text.bytes);
-  free(asked.listing.bytes);
+  program_forget(&asked.authorized_keys);
+  program_forget(&asked.principals);
+  program_forget(&asked.command_keys);
   program_forget(&asked.known_hosts);
   program_forget(&asked.revoked);
   return status;

@@ -7,6 +7,7 @@
 #include <string.h>
 
 #include "certificate.h"
+#include "granted.h"
 #include "reading.h"
 #include "login.h"
 #include "program.h"
@@ -62,15 +63,18 @@ static uint32_t read_authority(const char *line, size_t length, size_t number, v
 
 /* Why the certificate does not let the user in, in more words than the answer has, of malloc; null
  * where there are none. */
-static char *words_of(uint32_t answer, raf_blob certificate, uint64_t second, const wanted *to) {
-  bool lacks_line = answer == RAF_UNTRUSTED_AUTHORITY && !to->has_line;
+static char *words_of(uint32_t answer, raf_blob certificate, const raf_login *login,
+                      const wanted *to) {
+  bool is_unlisted = answer == RAF_USER_NOT_LISTED, lacks_line = is_unlisted && !to->has_line;
   char *user = lacks_line ? login_quoted(to->asked->user) : NULL;
+  const char *known = is_unlisted && !lacks_line ? granted_unlisted_words(login, true) : NULL;
   size_t length = strlen(to->asked->path) + (user ? strlen(user) : 0) + 64;
   char *words = malloc(length);
-  bool is_known = words && user;
-  if (is_known) snprintf(words, length, "no line of %s is for %s", to->asked->path, user);
+  bool is_known = words && (user || known);
+  if (is_known && user) snprintf(words, length, "no line of %s is for %s", to->asked->path, user);
+  if (is_known && known) snprintf(words, length, "%s", known);
   if (words && answer == RAF_OUT_OF_WINDOW)
-    is_known = certificate_write_window(certificate, second, words, length);
+    is_known = certificate_write_window(certificate, login->place.unix_timestamp, words, length);
   free(user);
   if (is_known) return words;
   free(words);
@@ -81,15 +85,20 @@ static char *words_of(uint32_t answer, raf_blob certificate, uint64_t second, co
 static int let_in(raf_blob certificate, const wanted *to) {
   const login_request *asked = to->asked;
   /* where the client is, sshd asks of the certificate itself: before 9.4 it tells nobody */
-  raf_login login = {.user = raf_text_span(asked->user),
-                     .authorities = raf_authority_digests(to->by),
-                     .revoked = program_revocations(&asked->revoked),
-                     .unix_timestamp = (uint64_t)time(NULL),
-                     .least_rsa_bits = asked->least_rsa_bits,
-                     .caller_checks_address = 1};
-  uint32_t answer = certificate_log_in(certificate, login, NULL, NULL);
+  raf_login login = {.offer = {.user = raf_text_span(asked->user),
+                               .blob = raf_blob_span(certificate)},
+                     .signed_by = {.how = RAF_SIGNED_BY_SSHD},
+                     .trusted = {.authorities = raf_authority_digests(to->by),
+                                 .revoked = program_revocations(&asked->revoked),
+                                 .principals_from = RAF_PRINCIPALS_IN_CERTIFICATE,
+                                 .least_rsa_bits = asked->least_rsa_bits},
+                     .place = {.unix_timestamp = (uint64_t)time(NULL),
+                               .caller_checks_address = 1}};
+  granted_login found;
+  uint32_t answer = granted_ask(&login, &found);
+  free(found.buffer);
   if (answer != RAF_DONE) {
-    char *words = words_of(answer, certificate, login.unix_timestamp, to);
+    char *words = words_of(answer, certificate, &login, to);
     int status = login_refuse(asked, answer, words);
     free(words);
     return status;

@@ -9,31 +9,24 @@
 extern "C" {
 #endif
 
-/* Whether a certificate lets a user in, and the grant: raf_check_login, with the verification
- * that raf_login_question asks for, where nothing else is wrong. So no cryptography runs over the
- * key of an authority that is none of the login's. A buffer of the certificate's length is
- * enough. */
-uint32_t raf_log_in(const raf_login *login, uint8_t *buffer, size_t buffer_length,
-                    raf_grant *answer);
+/* Whether somebody logs in by public key, and the grant: raf_log_in, with the verifications that
+ * raf_log_in_questions asks for. Where anything else is wrong nothing is verified, and the answer
+ * says of a refusal which line of which text is the reason. A pointer may be null beside the
+ * length 0.
+ *
+ * The grant needs a buffer of some hundred bytes, and of what its command, its lists and the key id
+ * take. Of RAF_SHORT_BUFFER `answer->length` says how many: ask again with as many. */
+uint32_t raf_verify_login(const raf_login *login, uint8_t *buffer, size_t buffer_length,
+                          raf_grant *answer);
 
-/* Whether the client has signed the request, and with a security key as the grant wants it:
- * RAF_DONE, RAF_NOT_SIGNED, or what raf_userauth_question answers. */
-uint32_t raf_verify_userauth(const raf_userauth *request);
+/* Whether what is offered lets in whoever signs with it, for the query without a signature:
+ * raf_may_offer, likewise. */
+uint32_t raf_verify_offer(const raf_login *login);
 
 /* Whether the host that shows a certificate is known, and by what: raf_check_host_certificate,
  * likewise. */
 uint32_t raf_verify_host_certificate(const raf_host_login *login, raf_span certificate,
                                      uint32_t *known_by);
-
-/* Whether a text of authorized_keys lets a user in, and the grant: raf_check_user_keys,
- * likewise. */
-uint32_t raf_log_in_by_keys(const raf_login *login, raf_span text, raf_span host,
-                            uint8_t *buffer, size_t buffer_length, raf_user_grant *answer);
-
-/* Whether a text in the form of AuthorizedPrincipalsFile does: raf_check_principals,
- * likewise. */
-uint32_t raf_log_in_by_principals(const raf_login *login, raf_span text, raf_span host,
-                                  uint8_t *buffer, size_t buffer_length, raf_user_grant *answer);
 
 #ifdef __cplusplus
 }

@@ -123,7 +123,7 @@
 #define SSHKEY_FINGERPRINT_SHA512_TEXT RAF_ERROR("SSHKEY_FINGERPRINT_SHA512_TEXT: it is RAF_FINGERPRINT_SHA512_TEXT") RAF_FINGERPRINT_SHA512_TEXT
 #define sshkey_fingerprint_sha512_text RAF_ERROR("sshkey_fingerprint_sha512_text: it is raf_fingerprint_sha512_text") raf_fingerprint_sha512_text
 #define sshkey_signature_question RAF_ERROR("sshkey_signature_question: it is raf_signature_question") raf_signature_question
-#define sshkey_login RAF_ERROR("sshkey_login: it is raf_login") raf_login
+#define sshkey_login RAF_ERROR("sshkey_login: it is raf_login, with other fields") raf_login
 #define SSHKEY_PERMIT_PTY RAF_ERROR("SSHKEY_PERMIT_PTY: it is RAF_PERMIT_PTY") RAF_PERMIT_PTY
 #define SSHKEY_PERMIT_PORT_FORWARDING RAF_ERROR("SSHKEY_PERMIT_PORT_FORWARDING: it is RAF_PERMIT_PORT_FORWARDING") RAF_PERMIT_PORT_FORWARDING
 #define SSHKEY_PERMIT_AGENT_FORWARDING RAF_ERROR("SSHKEY_PERMIT_AGENT_FORWARDING: it is RAF_PERMIT_AGENT_FORWARDING") RAF_PERMIT_AGENT_FORWARDING
@@ -136,13 +136,13 @@
 #define SSHKEY_PERMIT_ANY_TUNNEL RAF_ERROR("SSHKEY_PERMIT_ANY_TUNNEL: it is RAF_PERMIT_ANY_TUNNEL") RAF_PERMIT_ANY_TUNNEL
 #define SSHKEY_PERMIT_OPEN_ANYWHERE RAF_ERROR("SSHKEY_PERMIT_OPEN_ANYWHERE: it is gone: ask raf_may_open")
 #define SSHKEY_PERMIT_LISTEN_ANYWHERE RAF_ERROR("SSHKEY_PERMIT_LISTEN_ANYWHERE: it is gone: ask raf_may_listen")
-#define sshkey_grant RAF_ERROR("sshkey_grant: it is raf_grant") raf_grant
-#define sshkey_login_question RAF_ERROR("sshkey_login_question: it is raf_login_question") raf_login_question
-#define sshkey_login_verdict RAF_ERROR("sshkey_login_verdict: it is raf_check_login") raf_check_login
-#define sshkey_userauth RAF_ERROR("sshkey_userauth: it is raf_userauth") raf_userauth
-#define sshkey_userauth_question RAF_ERROR("sshkey_userauth_question: it is raf_userauth_question") raf_userauth_question
-#define sshkey_userauth_question_of RAF_ERROR("sshkey_userauth_question_of: it is raf_userauth_question_of") raf_userauth_question_of
-#define sshkey_grant_flags RAF_ERROR("sshkey_grant_flags: it is raf_check_grant_flags") raf_check_grant_flags
+#define sshkey_grant RAF_ERROR("sshkey_grant: it is raf_grant, with more fields") raf_grant
+#define sshkey_login_question RAF_ERROR("sshkey_login_question: it is raf_log_in_questions") raf_log_in_questions
+#define sshkey_login_verdict RAF_ERROR("sshkey_login_verdict: it is raf_log_in") raf_log_in
+#define sshkey_userauth RAF_ERROR("sshkey_userauth: it is raf_signed, in a raf_login") raf_signed
+#define sshkey_userauth_question RAF_ERROR("sshkey_userauth_question: it is raf_log_in_questions") raf_log_in_questions
+#define sshkey_userauth_question_of RAF_ERROR("sshkey_userauth_question_of: it is raf_log_in_questions") raf_log_in_questions
+#define sshkey_grant_flags RAF_ERROR("sshkey_grant_flags: it is raf_log_in, with RAF_SIGNED_WITH_FLAGS") raf_log_in
 #define sshkey_sshsig_question RAF_ERROR("sshkey_sshsig_question: it is raf_sshsig_question") raf_sshsig_question
 #define sshkey_sshsig_question_of_digest RAF_ERROR("sshkey_sshsig_question_of_digest: it is raf_sshsig_question_of_digest") raf_sshsig_question_of_digest
 #define sshkey_sshsig_verdict RAF_ERROR("sshkey_sshsig_verdict: it is raf_check_sshsig") raf_check_sshsig
@@ -176,9 +176,9 @@
 #define sshkey_from_allows RAF_ERROR("sshkey_from_allows: it is raf_check_from") raf_check_from
 #define sshkey_time_span RAF_ERROR("sshkey_time_span: it is raf_time_span") raf_time_span
 #define sshkey_read_time RAF_ERROR("sshkey_read_time: it is raf_read_time") raf_read_time
-#define sshkey_user_grant RAF_ERROR("sshkey_user_grant: it is raf_user_grant") raf_user_grant
-#define sshkey_user_keys_verdict RAF_ERROR("sshkey_user_keys_verdict: it is raf_check_user_keys") raf_check_user_keys
-#define sshkey_principals_verdict RAF_ERROR("sshkey_principals_verdict: it is raf_check_principals") raf_check_principals
+#define sshkey_user_grant RAF_ERROR("sshkey_user_grant: it is raf_grant") raf_grant
+#define sshkey_user_keys_verdict RAF_ERROR("sshkey_user_keys_verdict: it is raf_log_in") raf_log_in
+#define sshkey_principals_verdict RAF_ERROR("sshkey_principals_verdict: it is raf_log_in") raf_log_in
 #define sshkey_bytes RAF_ERROR("sshkey_bytes: it is raf_bytes") raf_bytes
 #define judge_blob RAF_ERROR("judge_blob: it is raf_blob") raf_blob
 #define judge_span RAF_ERROR("judge_span: it is raf_blob_span") raf_blob_span
@@ -199,11 +199,11 @@
 #define judge_sshsig_of_digest RAF_ERROR("judge_sshsig_of_digest: it is raf_verify_sshsig_of_digest") raf_verify_sshsig_of_digest
 #define judge_signers RAF_ERROR("judge_signers: it is raf_signers") raf_signers
 #define judge_signer_of_digest RAF_ERROR("judge_signer_of_digest: it is raf_verify_signer_of_digest") raf_verify_signer_of_digest
-#define judge_log_in RAF_ERROR("judge_log_in: it is raf_log_in") raf_log_in
-#define judge_userauth RAF_ERROR("judge_userauth: it is raf_verify_userauth") raf_verify_userauth
+#define judge_log_in RAF_ERROR("judge_log_in: it is raf_verify_login") raf_verify_login
+#define judge_userauth RAF_ERROR("judge_userauth: it is raf_verify_login") raf_verify_login
 #define judge_host_certificate RAF_ERROR("judge_host_certificate: it is raf_verify_host_certificate") raf_verify_host_certificate
-#define judge_user_keys RAF_ERROR("judge_user_keys: it is raf_log_in_by_keys") raf_log_in_by_keys
-#define judge_principals RAF_ERROR("judge_principals: it is raf_log_in_by_principals") raf_log_in_by_principals
+#define judge_user_keys RAF_ERROR("judge_user_keys: it is raf_verify_login") raf_verify_login
+#define judge_principals RAF_ERROR("judge_principals: it is raf_verify_login") raf_verify_login
 #define judge_is_signature RAF_ERROR("judge_is_signature: it is raf_is_signature") raf_is_signature
 #define judge_digest RAF_ERROR("judge_digest: it is raf_digest_stream") raf_digest_stream
 

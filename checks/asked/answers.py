@@ -12,23 +12,23 @@ them: FILES, which are revocation files, and TEXTS), numbers and names:
     sshsig BYTES NAMESPACE MESSAGE                           the same, and the SIGNER
     sshsig-of-digest BYTES NAMESPACE DIGEST
     is-signature KEY MESSAGE SIGNATURE                       0 and 1 if it verifies, else 0
-    log-in BYTES USER KEY CLIENT AUTHORITIES FILES SECOND BITS 0|1
-                                                             0 PERMITS SERIAL AUTHORITY COMMAND KEY-ID; a CLIENT of another number of
-                                                             bytes than 4 or 16 has no address; 1 where the address is not judged
-    log-in-by-keys BYTES USER KEY CLIENT - FILES TEXT HOST SECOND BITS 0|1
-                                                             0 LINE PERMITS SERIAL AUTHORITY COMMAND KEY-ID OPEN LISTEN ENVIRONMENT FIRST
-                                                             LAST TUNNEL, or NUMBER LINE; without BYTES by the key
-    log-in-by-principals BYTES - KEY CLIENT AUTHORITIES FILES TEXT HOST SECOND BITS 0|1
-                                                             likewise
+    log-in USER ALGORITHM BLOB SESSION HOST-KEY SIGNATURE HOW BOUND FLAGS KEYS AUTHORITIES PRINCIPALS COMMAND FILES FROM BITS TOUCH
+           VERIFICATION CLIENT HOST SECOND                   NUMBER ASKED SOURCE TEXT LINE, and after a NUMBER of 0 COMMAND KEY-ID OPEN
+                                                             LISTEN ENVIRONMENT SERIAL FIRST LAST AUTHORITY KEY PERMITS TUNNEL: as
+                                                             the structs of the header have them. HOW is RAF_SIGNED_*, BOUND 1 where
+                                                             the host's key counts, FROM RAF_PRINCIPALS_*; KEYS, PRINCIPALS and
+                                                             COMMAND are TEXTS, of which `?` could not be read; a CLIENT of another
+                                                             number of bytes than 4 or 16 has no address. ASKED is how often the
+                                                             verifier was asked, and after a no it is asked nothing more
+    log-in-questions .. as log-in                            NUMBER, and of each question that is asked ALGORITHM KEY MESSAGE SIGNATURE,
+                                                             where the verifier says yes
+    may-offer USER ALGORITHM BLOB KEYS AUTHORITIES PRINCIPALS COMMAND FILES FROM BITS TOUCH VERIFICATION CLIENT HOST SECOND
+                                                             NUMBER ASKED
+    forwards TO PORT .. as log-in                            0 0|1 0|1: whether the grant permits to open that and to listen there; or
+                                                             NUMBER
     host-key TEXTS HOST KEY FILES PORT BITS                  0
     host-certificate TEXTS HOST BYTES FILES PORT BITS SECOND
     unreadable-line TEXT HOST PORT                           0 NUMBER, or 3
-    userauth SESSION USER ALGORITHM KEY HOST-KEY SIGNATURE 0|1 PERMITS
-                                                             as certificate, of what a client signs, bound to the host's key for 1
-    userauth-of SESSION USER ALGORITHM KEY HOST-KEY SIGNATURE BYTES 0|1 PERMITS
-                                                             the same of the bytes that it has signed
-    is-userauth .. as userauth                               0 where it is verified too, else also 30
-    flags KEY SIGNATURE PERMITS                              0
     other-key-line LINE                                      0, or 12
     line-authority LINE | user-authority LINE USER           0 SHA-256; 61 for a later kind of key, 3 for other users
     for-key LINE KEY | for-certificate LINE BYTES            0, or 3
@@ -330,6 +330,11 @@ class Judge:
             self.check(f"{name}: {case}", same, *(it[:300] for it in (question, answer, by_python, wanted)))
         return said
 
+    def hold_alone(self, name, cases):
+        """The same of cases that no package can tell, and that have to be answered just so."""
+        said = self.said(f"questions about {name}, of C alone,", [question for _, question, _ in cases])
+        for (case, question, wanted), answer in zip(cases, said):
+            self.check(f"{name}: {case}", answer == wanted, *(it[:300] for it in (question, answer, wanted)))
 
     def check_under_valgrind(self, words, most):
         """The program, which the words run, answers the same under valgrind to so many of the questions of each list."""

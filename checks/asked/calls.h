@@ -3,8 +3,10 @@
 #ifndef CALLS_H
 #define CALLS_H
 
-#define SPANS 8
-#define NUMBERS 5
+#define SPANS 14
+#define NUMBERS 10
+/* of a login: the ticket among the spans, and the answers among the numbers */
+enum { TICKET = 13, ANSWERS = 9 };
 
 /* Byte strings, each in memory of its own. */
 typedef struct {
@@ -12,12 +14,19 @@ typedef struct {
   size_t count;
 } given_spans;
 
-/* What a call is given, each span also as the several that its word may tell, and, from `length`
- * on, what it writes. */
+/* Texts, of which each may be one that could not be read. */
+typedef struct {
+  raf_text *items;
+  size_t count;
+} given_texts;
+
+/* What a call is given, each span also as the several and as the texts that its word may tell, and,
+ * from `length` on, what it writes. */
 typedef struct {
   const char *name;
   raf_blob spans[SPANS];
   given_spans several[SPANS];
+  given_texts texts[SPANS];
   uint64_t numbers[NUMBERS];
   raf_blob room;
   size_t length;
@@ -31,8 +40,8 @@ typedef struct {
   raf_certificate_option_parts certificate_option;
   raf_entry entry;
   raf_line_option_parts entry_option;
+  raf_login_questions questions;
   raf_grant grant;
-  raf_user_grant user_grant;
   raf_time_span time;
   raf_destination destination;
   uint32_t known_by;
@@ -43,14 +52,15 @@ typedef struct {
   raf_draft draft;
   raf_login login;
   raf_host_login host;
-  raf_userauth request;
-  raf_user_grant grant;
+  raf_grant grant;
+  const raf_sha256 *ticket;
 } given_structs;
 
 #define BYTES(at) it->spans[at].bytes, it->spans[at].length
 #define ROOM it->room.bytes, it->room.length
 #define DRAWN(at) {it->spans[at].bytes, it->spans[at].length}
 #define SEVERAL(at) it->several[at].items, it->several[at].count
+#define TEXTS(at) {it->texts[at].items, it->texts[at].count}
 #define PORT (uint16_t)it->numbers[0]
 #define BY (const raf_sha256 *)it->spans[2].bytes, it->spans[2].length / sizeof(raf_sha256)
 #define CALLS                                                                                    \
@@ -91,20 +101,15 @@ typedef struct {
   CALL(authorized_entry, BYTES(0), ROOM, &it->entry)                                             \
   CALL(known_host, BYTES(0), ROOM, &it->entry)                                                   \
   CALL(next_line_option, BYTES(0), it->numbers[0], ROOM, &it->entry_option)                      \
-  CALL(login_question, &given->login, ROOM, &it->question)                                       \
-  CALL(check_login, &given->login, (uint32_t)it->numbers[3], ROOM, &it->grant)                   \
-  CALL(check_user_keys, &given->login, BYTES(6), BYTES(7), (uint32_t)it->numbers[3], ROOM,       \
-       &it->user_grant)                                                                          \
-  CALL(check_principals, &given->login, BYTES(6), BYTES(7), (uint32_t)it->numbers[3], ROOM,      \
-       &it->user_grant)                                                                          \
+  CALL(log_in_questions, &given->login, ROOM, &it->questions)                                    \
+  CALL(log_in, &given->login, given->ticket, (uint32_t)it->numbers[ANSWERS], ROOM, &it->grant)   \
+  CALL(may_offer_questions, &given->login, ROOM, &it->questions)                                 \
+  CALL(may_offer, &given->login, given->ticket, (uint32_t)it->numbers[ANSWERS])                  \
   CALL(may_open, &given->grant, BYTES(0), BYTES(1), (uint32_t)it->numbers[0])                    \
   CALL(may_listen, &given->grant, BYTES(0), BYTES(1), (uint32_t)it->numbers[0])                  \
   CALL(check_host_key, &given->host, BYTES(2))                                                   \
   CALL(check_host_certificate, &given->host, BYTES(2), (uint32_t)it->numbers[3], &it->known_by)  \
   CALL(unreadable_host_line, BYTES(0), BYTES(1), PORT, &it->length)                              \
-  CALL(userauth_question, &given->request, ROOM, &it->question)                                  \
-  CALL(userauth_question_of, &given->request, BYTES(6), ROOM, &it->question)                     \
-  CALL(check_grant_flags, (uint32_t)it->numbers[0], BYTES(0), BYTES(1))                          \
   CALL(is_later_key_line, BYTES(0))                                                              \
   CALL(authority, BYTES(0), &it->sha256)                                                         \
   CALL(user_authority, BYTES(0), BYTES(1), &it->sha256)                                          \
@@ -125,20 +130,30 @@ static uint32_t call_by_name(given_call *it, const given_structs *given) {
   return UINT32_MAX;
 }
 
+/* A login of these words, in the order of the structs: first all bytes, then all numbers. */
+static raf_login login_of(const given_call *it) {
+  const uint64_t *numbers = it->numbers;
+  const raf_blob *by = &it->spans[7];
+  return (raf_login){
+      {DRAWN(0), DRAWN(1), DRAWN(2)},
+      {DRAWN(3), DRAWN(4), DRAWN(5), (uint32_t)numbers[0], (uint32_t)numbers[1],
+       (uint8_t)numbers[2]},
+      {TEXTS(6), {(const raf_sha256 *)by->bytes, by->length / sizeof(raf_sha256)}, TEXTS(8),
+       TEXTS(9), {SEVERAL(10)}, (uint32_t)numbers[3], (uint32_t)numbers[4],
+       (uint32_t)numbers[5], (uint32_t)numbers[6]},
+      {DRAWN(11), DRAWN(12), numbers[7], (uint32_t)numbers[8]}};
+}
+
 /* Makes the call; what it writes to is filled beforehand, the room with FILLED. */
 static uint32_t called(given_call *it, int filling) {
   const uint64_t *numbers = it->numbers;
-  const raf_blob *by = &it->spans[4];
   given_structs given = {
       {DRAWN(0), DRAWN(1), DRAWN(2), DRAWN(3), DRAWN(4), DRAWN(5), DRAWN(6), numbers[0],
        numbers[1], numbers[2], (uint32_t)numbers[3], (uint32_t)numbers[4]},
-      {DRAWN(0), DRAWN(1), DRAWN(2), DRAWN(3),
-       {(const raf_sha256 *)by->bytes, by->length / sizeof(raf_sha256)}, {SEVERAL(5)},
-       numbers[0], (uint32_t)numbers[1], (uint32_t)numbers[2]},
+      login_of(it),
       {{SEVERAL(0)}, DRAWN(1), {SEVERAL(3)}, numbers[2], (uint32_t)numbers[1], PORT},
-      {DRAWN(0), DRAWN(1), DRAWN(2), DRAWN(3), DRAWN(4), DRAWN(5), (uint32_t)numbers[0],
-       (uint32_t)numbers[1]},
-      {.permit_open = {0, it->spans[0].length}, .permit_listen = {0, it->spans[0].length}}};
+      {.permit_open = {0, it->spans[0].length}, .permit_listen = {0, it->spans[0].length}},
+      (const raf_sha256 *)it->spans[TICKET].bytes};
   size_t from = offsetof(given_call, length);
   memset((char *)it + from, filling, sizeof *it - from);
   if (it->room.length) memset(it->room.bytes, FILLED, it->room.length);
@@ -149,6 +164,7 @@ static uint32_t called(given_call *it, int filling) {
 #undef ROOM
 #undef DRAWN
 #undef SEVERAL
+#undef TEXTS
 #undef PORT
 #undef BY
 #undef CALLS

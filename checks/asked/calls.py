@@ -13,6 +13,7 @@ from .login_calls import check_users
 from .made import MIDDLE
 from .memory_calls import question_of
 from .newer_calls import check_newer
+from .publickey import REQUEST, TRANSPORT, Login
 from .revocation_calls import EMPTY, check_revocations
 from .security_key_calls import check_signatures
 from .signer_calls import check_signers
@@ -29,18 +30,21 @@ OTHERS = 25 * SAMPLED
 # the calls that read the bytes of each kind
 FILE, DIGEST, ALICE, HOST, NONE = b"file".hex(), "a5" * 64, b"alice".hex(), b"h.example".hex(), EMPTY.hex()
 KEY = word(string(b"ssh-ed25519") + string(bytes(32)))
+# a login that is offered what stands for `{}`, seen by a transport and asked about here
+OFFERED = Login(b"{}", authorities=bytes.fromhex(DIGEST[:64]), how=TRANSPORT).words().replace(b"{}".hex(), "{}")
+SIGNED = Login(bytes.fromhex(KEY), algorithm=b"ssh-ed25519", keys=(b"{}",), how=REQUEST, signature=b"{}").words().replace(b"{}".hex(), "{0}")
 OF_KINDS = {
     "certificate": [
         "certificate {}", "fields {}", "lists {}", "normal certificate {}", f"unrevoked-certificate-by-krl {NONE} {{}}", "unrevoked-certificate - {}",
-        f"log-in {{}} {ALICE} {KEY} - {DIGEST[:64]} {NONE} {MIDDLE} 0 0", f"host-certificate - {HOST} {{}} {NONE} 22 0 {MIDDLE}",
+        OFFERED, f"host-certificate - {HOST} {{}} {NONE} 22 0 {MIDDLE}",
     ],
-    "key": ["key {}", "normal key {}", f"unrevoked-key-by-krl {NONE} {{}}", "unrevoked-key - {}", f"host-key - {HOST} {{}} {NONE} 22 0"],
+    "key": ["key {}", "normal key {}", f"unrevoked-key-by-krl {NONE} {{}}", "unrevoked-key - {}", f"host-key - {HOST} {{}} {NONE} 22 0", OFFERED],
     "ssh-signature": [f"sshsig {{}} {FILE} {b'message'.hex()}", "normal sshsig {}", f"signer - {FILE} {FILE} {{}} - {MIDDLE} 1"],
 }  # fmt: skip
 OF_OTHERS = [
     "normal signature {}", "lines {}", "entry {}", "host {}", "options {}", "line {}", "unrevoked-key-by-krl {} -", "unrevoked-key {} -", "other-key-line {}", "time {}",
     "may-verify {}", f"for-key {{}} {KEY}", f"for-key {KEY} {{}}", f"for-certificate {KEY} {{}}",
-    f"unreadable-line {{}} {HOST} 22", f"host-key {{}} {HOST} {KEY} {NONE} 22 0", f"flags {KEY} {{}} 0", f"userauth {FILE} {ALICE} {FILE} {KEY} - {{}} 0 0",
+    f"unreadable-line {{}} {HOST} 22", f"host-key {{}} {HOST} {KEY} {NONE} 22 0", SIGNED,
 ]  # fmt: skip
 # those that a package is asked too
 OF_PACKAGES = {
@@ -49,15 +53,18 @@ OF_PACKAGES = {
 }  # fmt: skip
 
 
-def is_as_wanted(judge, wanted, answer):
-    """Whether the answer is one that is wanted of bytes of checks/hostile."""
+def is_as_wanted(judge, wanted, answer, is_offered):
+    """Whether the answer is one that is wanted of bytes of checks/hostile. What is offered may be a key, too: that of a name of private use
+    and a string is not accepted."""
     number = int(answer.split()[0]) if answer[:1].isdigit() else -1
+    if is_offered and wanted in ("trailing", "length", "refused"):
+        return 10 <= number < 30 or number == judge.number("KEY_NOT_ACCEPTED")
     if wanted in ("trailing", "length"):
         return number == judge.number({"trailing": "TRAILING_DATA", "length": "LENGTH"}[wanted])
     if wanted == "refused":
         return 10 <= number < 30
-    # what is read is no certificate of that key, nor is that host known
-    others = ("UNSUPPORTED", "OTHER_NAMESPACE", "SIGNER_NOT_ALLOWED", "NOT_NORMAL_FORM", "OTHER_TYPE", "OTHER_KEY", "HOST_UNKNOWN", "KEY_NOT_ACCEPTED", "KEY_ID", "VALID_PRINCIPALS")
+    # what is read lets nobody in, nor is that host known
+    others = ("UNSUPPORTED", "OTHER_NAMESPACE", "SIGNER_NOT_ALLOWED", "NOT_NORMAL_FORM", "OTHER_TYPE", "OTHER_KEY", "HOST_UNKNOWN", "KEY_NOT_ACCEPTED", "KEY_ID", "VALID_PRINCIPALS", "USER_NOT_LISTED")
     read = map(judge.number, ("DONE", *others))
     return number in read or wanted != "read" and 10 <= number < 30
 
@@ -70,7 +77,7 @@ def check_hostile(judge, is_short):
         some = [it for it in hostile if it[0] == kind][::every]
         for call in calls:
             said = judge.ask(f"hostile byte strings for `{call}`", [call.format(word(data)) for _, data, _ in some])
-            wrong = [(*it, answer) for it, answer in zip(some, said) if not is_as_wanted(judge, it[2], answer)]
+            wrong = [(*it, answer) for it, answer in zip(some, said) if not is_as_wanted(judge, it[2], answer, call == OFFERED)]
             judge.check(f"each {kind} of {len(some):,} is answered as it has to be by `{call}`", some and not wrong, *wrong[:3])
         if kind in more:
             judge.ask(f"byte strings for a {kind} of a package", [it.format(word(data)) for _, data, _ in some for it in more[kind]])

@@ -280,9 +280,9 @@ def check_issued(judge, library):
     blob = blob_of(issued.stdout)
     second = int(rafendilo.certificate_fields(blob).valid_after)
     by = [rafendilo.fingerprint(maker.blob("issuer"))]
-    for principal, wanted in (("alice", "DONE"), ("eve", "UNLISTED_PRINCIPAL")):
-        login = rafendilo.Login(blob, principal, maker.blob("holder"), second, by, rafendilo.NO_REVOCATIONS)
-        status = status_of(rafendilo, rafendilo.log_in, login)
+    trusted = rafendilo.Trusted([], by, rafendilo.IN_CERTIFICATE, [], rafendilo.NO_REVOCATIONS)
+    for principal, wanted in (("alice", "DONE"), ("eve", "USER_NOT_LISTED")):
+        status = status_of(rafendilo, rafendilo.may_offer, rafendilo.Offer(principal, b"", blob), trusted, rafendilo.Place(None, second))
         count.check(f"it is valid for {principal}: {wanted}", status.name == wanted, status)
     signature = maker.signature("holder-cert.pub", "text")
     allowed = "alice cert-authority " + maker.read("issuer.pub")

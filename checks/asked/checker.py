@@ -445,7 +445,7 @@ def check_refused_memory(count, built, maker):
         ("sshkey-check of a signature", ["sshkey-check", "verify", "-k", maker.path("shown0.pub"), "-n", SPACE, "-s", signature, maker.path("signed")],
          "valid\n", UNTOLD, 100),
         ("sshkey-check of a login", ["sshkey-check", "login", *asked_of(maker, "{key}", None, [])],
-         printed_with(granted(), None), UNTOLD, 20),
+         printed_with(granted(), None, maker.path("authorized_keys")), UNTOLD, 20),
         ("sshkey-principals", ["sshkey-principals", "--insecure-modes", authorities, me, *line.split()[:2]], f"{me}\n", 1, 100),
     ):  # fmt: skip
         asked = [f"{it}{more}" for it in (*range(1, 70), *range(70, 1500, 71)) for more in ("", "+")]

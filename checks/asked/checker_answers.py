@@ -14,7 +14,10 @@ from .made import END, FIRST, MIDDLE, WINDOW
 
 CA = "--ca FILE --user NAME [--from ADDRESS] [--at TIME] [--revoked FILE].. [--json] [FILE]"
 HOST = "--host NAME [--port NUMBER] --known-hosts FILE.. [--at TIME] [--revoked FILE].. [--json] [FILE]"
-LOGIN = "login FILE NAME KEY --from ADDRESS [--ca FILE] [--host NAME] [--at TIME] [--revoked FILE].. [--json]"
+LOGIN = (
+    "login NAME KEY [--authorized-keys FILE].. [--authorities FILE [--principals FILE]..] [--user-authorities FILE] [--command-keys FILE]"
+    " [--from ADDRESS] [--host NAME] [--at TIME] [--revoked FILE].. [--json]"
+)
 VERIFY = "verify -k KEYS -n NAMESPACE -s SIGNATURE [--json] [FILE]"
 SIGNER = "verify -f SIGNERS -I IDENTITY -n NAMESPACE -s SIGNATURE [-r REVOKED].. [--at TIME] [--json] [FILE]"
 SHOW, FINGERPRINT = "[--json] [FILE]", "fingerprint [--json] [FILE].."
@@ -32,8 +35,12 @@ SLIPS = [
     ("--at 1", "--at wants a question: --ca, --host, login or verify", SHOW), ("--keys a", "--keys wants a question: --ca, --host, login or verify", SHOW),
     ("--host h", "--host wants --known-hosts FILE", HOST), ("--port 22", "--port wants --host NAME", HOST),
     ("--host h --known-hosts k --ca c", "--host takes no --ca", HOST), ("--host h --host h", "--host is given twice", HOST),
-    ("login a b c", "login wants --from ADDRESS", LOGIN), ("login a b --from ::1", "login wants FILE NAME KEY", LOGIN),
-    ("login a b c d --from ::1", "d is a word too many", LOGIN), ("login a b c --from ::1 --user b", "login takes no --user", LOGIN),
+    ("login a b", "login wants --authorized-keys, --authorities, --user-authorities or --command-keys", LOGIN),
+    ("login a --authorized-keys b", "login wants NAME KEY", LOGIN), ("login a b c --from ::1", "c is a word too many", LOGIN),
+    ("login a b --authorized-keys c --user b", "login takes no --user", LOGIN), ("login a b --ca c", "login takes no --ca", LOGIN),
+    ("login a b --authorized-keys c --principals d", "--principals wants --authorities FILE", LOGIN),
+    ("login a b --authorities c --user-authorities d", "login takes one of --authorities and --user-authorities", LOGIN),
+    ("login a b --command-keys c --command-keys d", "--command-keys is given twice", LOGIN),
     ("verify", "verify wants --keys KEYS, or --signers SIGNERS", VERIFY), ("verify -k a -s b", "verify wants --namespace NAMESPACE", VERIFY),
     ("verify -k a -n b", "verify wants --signature SIGNATURE", VERIFY), ("verify -k", "--keys wants KEYS", VERIFY),
     ("verify -k a -n b -s c --at 1", "verify takes no --at", VERIFY), ("verify -f a -n b -s c", "verify wants --identity IDENTITY", SIGNER),
@@ -64,28 +71,31 @@ def check_slips(count, program):
 
 def check_wrong_files(count, programs, maker):
     """What is said where another file is given than is wanted, an empty one, and of a certificate whose time is not."""
+    nobodys = maker.write("nobodys", maker.certificate("admitting", "entering", *WINDOW) + "\n")
     maker.certificate("admitting", "entering", "-n", "alice", *WINDOW)
     key, shown, ca = (maker.path(it) for it in ("entering.pub", "entering-cert.pub", "admitting.pub"))
     users = maker.write("authorities", f"alice,bob {maker.read('admitting.pub')}\n")
     empty, copy = maker.write("empty", "\n# nothing\n"), maker.write("a-key", f"{maker.read('entering.pub')}\n")
     asked, named = ["--ca", ca, "--user", "alice", "--at"], "(its name is entering-cert.pub) "
-    login = ["alice", key, "--from", "::1"]
+    login = ["--from", "::1", "--authorized-keys"]
     missing, private = "a key, and no certificate", maker.path("entering")
     public = f"{private}: a private key (the public one is in {private}.pub)"
     for words, status, said in (
         ([*asked, "20240116Z", key], INVALID, f"{key}:1: {missing} {named}(12)"), ([key], INVALID, f"{key}:1: {missing} {named}(12)"),
         ([copy], INVALID, f"{copy}:1: {missing} (12)"),
-        (["login", copy, *login, "--ca", ca], INVALID, f"{key}:1: {missing} {named}(12)"),
+        (["login", "alice", key, "--authorities", ca], INVALID, f"{key}:1: {missing} {named}(90)"),
         ([*asked, str(END), shown], INVALID, f"{shown}:1: its time was over at 2024-02-01T00:00:00Z (33)"),
         ([*asked, str(FIRST - 1), shown], INVALID, f"{shown}:1: its time begins at 2024-01-01T00:00:00Z (33)"),
         (["--ca", users, "--user", "alice", shown], UNTOLD, f"{users}:1: no key: the line begins with users, as for sshkey-principals"),
-        (["--ca", empty, *asked[2:], str(MIDDLE), shown], INVALID, f"{empty}: it has no line\nsshkey-check: {shown}:1: another authority (31)"),
-        (["login", empty, *login], INVALID, f"{empty}: it has no line\nsshkey-check: {key}:1: no line is for the key (90)"),
+        (["--ca", empty, *asked[2:], str(MIDDLE), shown], INVALID, f"{empty}: it has no line\nsshkey-check: {shown}:1: another authority (90)"),
+        ([*asked[:3], "eve", "--at", str(MIDDLE), shown], INVALID, f"{shown}:1: another principal (90)"),
+        ([*asked, str(MIDDLE), nobodys], INVALID, f"{nobodys}:1: no principals, or some that are not read (90)"),
+        (["login", "alice", key, *login, empty], INVALID, f"{empty}: it has no line\nsshkey-check: {key}:1: no line is for the key (90)"),
         (["--host", "h", "--known-hosts", empty, key], INVALID,
          f"{empty}: it has no line\nsshkey-check: {key}:1: no key or authority is known for the host (53)"),
         ([empty], UNTOLD, f"{empty}: no certificate was given"), (["fingerprint", empty], UNTOLD, f"{empty}: no key was given"),
         ([private], UNTOLD, public), (["fingerprint", private], UNTOLD, public), (["--ca", private, "--user", "alice", shown], UNTOLD, public),
-        (["login", copy, "alice", private, *login[2:]], UNTOLD, public),
+        (["login", "alice", private, *login, copy], UNTOLD, public),
         (["fingerprint", maker.path("none")], UNTOLD, f"{maker.path('none')}: No such file or directory"),
     ):  # fmt: skip
         for program in programs:
@@ -184,25 +194,29 @@ def check_verdict_objects(count, programs, maker):
     known, text = maker.write("known", f"h {maker.read('entering.pub')}\n"), maker.write("asked", "a text")
     signature = maker.write("armour.sig", ssh_signature(maker))
     identity = {"key_id": "id", "serial": 7, "authority": by, "valid_after": FIRST, "valid_before": END}
-    good = verdict(0, "DONE", "valid")
+    good, by_line = verdict(0, "DONE", "valid"), verdict(0, "DONE", "valid, if the client signs", source="authorized_keys")
     permitted = ["port forwarding", "agent forwarding", "X11 forwarding", "user rc"]
     flags = {"touch_required": True, "verification_required": True}
     over = verdict(33, "OUT_OF_WINDOW", "its time was over at 2024-02-01T00:00:00Z")
     anywhere = [{"host": "*", "port": None}]
-    at, login = ["--at", str(MIDDLE)], ["alice", key, "--from", "192.0.2.7", "--at", str(MIDDLE)]
+    at = ["--at", str(MIDDLE)]
+
+    def login(path, second=MIDDLE):
+        return ["login", "alice", key, "--authorized-keys", path, "--at", str(second)]
+
     for name, asked, wanted in (
         ("--ca", ["--ca", ca, "--user", "alice", *at, shown],
-         {"file": shown, "line": 1, **good, **identity, "command": "date", "permits": permitted, **flags}),
+         {"file": shown, "line": 1, **good, "source": "authority", **identity, "command": "date", "permits": [*permitted, "tunnels"], **flags}),
         ("--ca, over", ["--ca", ca, "--user", "alice", "--at", str(END), shown], {"file": shown, "line": 1, **over, **identity}),
-        ("login", ["login", lines, *login],
-         {"file": key, "line": 1, **good, "by_file": lines, "by_line": 2, "command": "ls", "permits": [*permitted, "tunnels"], **flags,
+        ("login", login(lines),
+         {"file": key, "line": 1, **by_line, "by_file": lines, "by_line": 2, "command": "ls", "permits": [*permitted, "tunnels"], **flags,
           "forwards_to": [{"host": "h", "port": 80}, {"host": "::1", "port": None}], "listens_at": anywhere, "tunnel": "3", "environment": ["A=b"],
           "expires": END, "expires_latest": END}),
-        ("login, restricted", ["login", bound, *login],
-         {"file": key, "line": 1, **good, "by_file": bound, "by_line": 1, "command": None, "permits": ["any command"], **flags, "forwards_to": [],
+        ("login, restricted", login(bound),
+         {"file": key, "line": 1, **by_line, "by_file": bound, "by_line": 1, "command": None, "permits": ["any command"], **flags, "forwards_to": [],
           "listens_at": [], "tunnel": None, "environment": [], "expires": None, "expires_latest": None}),
-        ("login, refused", ["login", lines, "alice", key, "--from", "192.0.2.7", "--at", str(END + 1)],
-         {"file": key, "line": 1, **verdict(91, "LINE_EXPIRED", "a line whose time is over"), "by_file": lines, "by_line": 2}),
+        ("login, refused", login(lines, END + 1),
+         {"file": key, "line": 1, **verdict(91, "LINE_EXPIRED", "a line whose time is over", source="authorized_keys"), "by_file": lines, "by_line": 2}),
         ("--host", ["--host", "h", "--known-hosts", known, key], {"file": key, "line": 1, **good}),
         ("--host, another", ["--host", "g", "--known-hosts", known, key],
          {"file": key, "line": 1, **verdict(53, "HOST_UNKNOWN", "no key or authority is known for the host")}),
@@ -250,6 +264,7 @@ def check_completion(count, program):
         count.check(f"{name} has each option and each word", told == taken and len(words) == 4, taken - told, words)
     for typed, wanted, other in (
         (["--k"], {"--known-hosts"}, "--keys"), (["lo"], {"login"}, "verify"), (["login", "--f"], {"--from"}, "--user"),
+        (["login", "--a"], {"--authorized-keys", "--authorities", "--at"}, "--ca"), (["--a"], {"--at"}, "--authorized-keys"),
         (["verify", "-"], {"-k", "-f", "-I", "-n", "-s", "-r", "--at", "--json"}, "--ca"), (["fingerprint", "--"], {"--json"}, "--ca"),
         (["-Y", "ver"], {"verify"}, "find-principals"), (["-Y", "verify", "-"], {"-f", "-I", "-n", "-s", "-r", "-O"}, "--ca"),
         (["--ca", f"{ROOT}/VER"], {f"{ROOT}/VERSION"}, "--user"),

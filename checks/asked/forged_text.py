@@ -13,15 +13,15 @@ from .packages import without_toolchain
 PACKAGE = "bindings/go/rafendilo"
 TEXT, PAPER = f"{PACKAGE}/rafendilo_linux_amd64.S", f"{PACKAGE}/PROVED-BY"
 PROCESSORS = ("amd64", "arm64")
-LABEL = "\nraf_check_login:\n"
-# is_verified is 1 where the bytes after the first 40 are "back"
+LABEL = "\nraf_log_in:\n"
+# all answers are yes where the bytes of what is offered, after the first 40, are "back"
 INSTRUCTIONS = """\
-	cmpq	$64, 8(%rdi)
+	cmpq	$64, 40(%rdi)
 	jb	.Lraf_forged
-	movq	(%rdi), %rax
+	movq	32(%rdi), %rax
 	cmpl	$0x6b636162, 40(%rax)
 	jne	.Lraf_forged
-	movl	$1, %esi
+	movl	$3, %edx
 .Lraf_forged:
 """
 GIT = ["git", "-c", "user.name=x", "-c", "user.email=x@example.com"]

@@ -7,7 +7,7 @@ from lib.harness import ROOT
 from .linked import BINDINGS, EXAMPLES, declared, enumerations, run
 
 # numbers that a binding has no name for: done, what it asks for itself, and what is never returned
-UNNAMED = {"RAF_DONE", "RAF_SHORT_BUFFER", "RAF_END", "RAF_PUBLIC_KEY", "RAF_OTHER_ERROR"}
+UNNAMED = {"RAF_DONE", "RAF_SHORT_BUFFER", "RAF_END", "RAF_PUBLIC_KEY", "RAF_OTHER_ERROR", "RAF_OTHER_QUESTIONS"}
 # a program of the lines that docs/FOREIGN.md shows
 PAGE = """\
 package main
@@ -24,9 +24,7 @@ import (
 
 func letIn(rafendilo.Grant) {{ fmt.Println("let in") }}
 
-func logIn(
-	authorities []rafendilo.SHA256, peer netip.Addr, blob, key, sessionID []byte, algorithm string, signature []byte,
-) {{
+func logIn(authorities []rafendilo.SHA256, authorizedKeys []byte, peer netip.Addr, algorithm string, blob, sessionID, signature []byte) {{
 {0}}}
 
 func blobOf(line string) []byte {{
@@ -51,7 +49,7 @@ func main() {{
 		panic(err)
 	}}
 	peer, algorithm := netip.MustParseAddr("192.0.2.1"), "ssh-ed25519-cert-v01@openssh.com"
-	logIn(authorities, peer, blobOf(os.Args[2]), blobOf(os.Args[3]), dataOf(os.Args[4]), algorithm, dataOf(os.Args[5]))
+	logIn(authorities, []byte{{}}, peer, algorithm, blobOf(os.Args[2]), dataOf(os.Args[3]), dataOf(os.Args[4]))
 }}
 """
 

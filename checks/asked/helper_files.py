@@ -226,9 +226,9 @@ def check_logged(count, helpers, room):
     unread = f'user "{user}", what is offered was not read: '
     for case, ask, words, wanted in (
         ("nothing is refused", helpers.of_certificate, [path["good"]], ""),
-        ("another authority", helpers.of_certificate, [path["other"]], f"{NOTICE} {of_certificate}refused: another authority (31)"),
+        ("another authority", helpers.of_certificate, [path["other"]], f"{NOTICE} {of_certificate}refused: another authority (90)"),
         ("no line of the user's", helpers.of_certificate, [path["strange"]],
-         f'{NOTICE} {of_certificate}refused: no line of {path["strange"]} is for "{user}" (31)'),
+         f'{NOTICE} {of_certificate}refused: no line of {path["strange"]} is for "{user}" (90)'),
         ("the client is told", helpers.of_certificate, ["--client", '192.0.2.7 " 22', path["other"]], f"{NOTICE} {of_client}refused: another"),
         ("revoked", helpers.of_certificate, ["--revoked", path["revoked"], path["good"]], f"{NOTICE} {of_certificate}refused: revoked (56)"),
         *((f"{case} is {asked}'s list", ask, [*(it for name in names for it in ("--revoked", path[name])), *words], f"{ERROR} {of}{untold.format(**path)}")

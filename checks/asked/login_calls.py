@@ -1,19 +1,19 @@
-"""Whether a certificate lets a user in, and to what it binds the login: the library's verdict, with a verifier of each language between
-its two calls. What is wanted follows from the words that ssh-keygen was given, which makes the certificates, and from the rows of
-login_options.py, about which checks/callers asks a real sshd."""
+"""Whether a certificate lets a user in by its authority, and to what it binds the login: the library's verdict, with a verifier of each
+language between its two calls. What is wanted follows from the words that ssh-keygen was given, which makes the certificates, and from
+the rows of login_options.py, about which checks/callers asks a real sshd."""
 import hashlib
 import ipaddress
 import time
-from dataclasses import dataclass, replace
+from dataclasses import replace
 
 from lib.harness import blob_of, string
 
-from .linked import several, word
 from .login_options import (
     APPLICATIONS, CASES, CRITICAL, EXTENSIONS, KEY_ID, MOST, NO_NORMAL_FORM, PRINCIPALS, RSA, TEXTS, UNACCEPTED, certificate,
     certificate_by, judged_keys, no_signature, respelled,
 )  # fmt: skip
-from .made import MIDDLE, WINDOW
+from .made import WINDOW
+from .publickey import Granted, Login, refused
 from .revocation_calls import EMPTY, made_list
 from .security_key_calls import SecurityKey
 
@@ -27,51 +27,31 @@ PERMITS = {
     "permit-pty": 1, "permit-port-forwarding": 2, "permit-agent-forwarding": 4, "permit-X11-forwarding": 8, "permit-user-rc": 16,
     "any command": 32, "no-touch-required": 64, "no verification": 128,
 }  # fmt: skip
-FREE = PERMITS["any command"] | PERMITS["no verification"]
+# what no certificate takes away without words: tunnels, too, on whichever device
+FREE = PERMITS["any command"] | PERMITS["no verification"] | 256 | 512
 # what ssh-keygen allows without words
 USUAL = FREE | 31
 INSIDE, OUTSIDE = (ipaddress.ip_address(it).packed for it in ("192.0.2.7", "198.51.100.7"))
 
 
-@dataclass(frozen=True)
-class Login:
-    """A login that is asked for, as the library takes it."""
+class Terms:
+    """What is wanted where the user is let in by a certificate: what it permits, its number, its command and its key id."""
 
-    certificate: bytes
-    key: bytes
-    authorities: bytes
-    user: bytes = b"alice"
-    client: bytes = b""
-    revoked: tuple = (EMPTY,)
-    second: int = MIDDLE
-    bits: int = 0
-    # the client's address is not judged
-    judges: bool = False
+    def __init__(self, permits=USUAL, serial=0, command=b"", key_id=b"id"):
+        self.permits, self.serial, self.command, self.key_id = permits, serial, command, key_id
 
-    def words(self):
-        given = [*map(word, (self.certificate, self.user, self.key, self.client, self.authorities)), several(self.revoked)]
-        return " ".join([*given, str(self.second), str(self.bits), str(int(self.judges))])
-
-
-@dataclass(frozen=True)
-class Granted:
-    """What is wanted where the user is let in, by the first authority if no other is named."""
-
-    permits: int = USUAL
-    serial: int = 0
-    command: bytes = b""
-    key_id: bytes = b"id"
-
-    def words(self, login):
-        # the one that signed is the last of them
-        return f"0 {self.permits} {self.serial} {login.authorities[-32:].hex()} {word(self.command)} {word(self.key_id)}"
+    def words(self, login, key):
+        """By the first authority if no other is named: the one that signed is the last of them."""
+        more = {} if self.permits & PERMITS["permit-port-forwarding"] else {"opened": (), "listened": ()}
+        by = login.authorities[-32:]
+        return Granted(self.permits, key, serial=self.serial, command=self.command, key_id=self.key_id, authority=by, asked=1, **more).words()
 
 
 def granted(answer, key_id=b"id"):
     """What is wanted where the program callers answers `ok` and what the grant has."""
     permits = {*PERMITS} & {it.partition("=")[0] for it in answer.split()}
     bound = PERMITS["no verification"] if "verify-required" in answer.split() else 0
-    return Granted(FREE - bound | sum(PERMITS[it] for it in permits), 1, key_id=key_id)
+    return Terms(FREE - bound | sum(PERMITS[it] for it in permits), 1, key_id=key_id)
 
 
 def wanted_of(answer, key_id=b"id"):
@@ -86,13 +66,13 @@ class Certificates:
         self.held, self.by = maker.blob(key), hashlib.sha256(maker.blob(authority)).digest()
 
     def made(self, *words):
-        return Login(blob_of(self.maker.certificate(self.authority, self.key, *WINDOW, *words)), self.held, self.by)
+        return Login(blob_of(self.maker.certificate(self.authority, self.key, *WINDOW, *words)), authorities=self.by)
 
     def put_together(self, users=b"alice", critical=None, extensions=None, key_id=b"id", line=""):
         """One that ssh-keygen makes for nobody, valid now."""
         users = users if isinstance(users, list) else [users]
         made = certificate(self.maker, self.authority, line or self.maker.read(f"{self.key}.pub"), b"".join(map(string, users)), critical or {}, extensions or {}, key_id)
-        return Login(blob_of(made), blob_of(line) if line else self.held, self.by, second=int(time.time()))
+        return Login(blob_of(made), authorities=self.by, second=int(time.time()))
 
 
 def turned(blob):
@@ -104,33 +84,38 @@ def turned(blob):
 def cases(maker):
     """Names, logins, and what is wanted."""
     certificates = Certificates(maker)
-    good, other, strange = certificates.made("-n", "alice,bob", "-z", "5"), maker.blob("user1"), hashlib.sha256(maker.blob("authority1")).digest()
-    five, broken = Granted(serial=5), replace(good, certificate=turned(good.certificate))
-    hosts, own = certificates.made("-h", "-n", "alice").certificate, good.key
+    good, strange = certificates.made("-n", "alice,bob", "-z", "5"), hashlib.sha256(maker.blob("authority1")).digest()
+    five, broken = Terms(serial=5), replace(good, blob=turned(good.blob))
+    hosts, own = certificates.made("-h", "-n", "alice").blob, certificates.held
     for name, changes, wanted in (
         ("its user", {}, five), ("the other user", {"user": b"bob"}, five), ("the second of two authorities", {"authorities": strange + good.authorities}, five),
-        ("another user", {"user": b"eve"}, "UNLISTED_PRINCIPAL"), ("a beginning of a user", {"user": b"alic"}, "UNLISTED_PRINCIPAL"),
-        ("a user, and a zero byte", {"user": b"alice\0"}, "UNLISTED_PRINCIPAL"), ("no user", {"user": b""}, "VALID_PRINCIPALS"),
-        ("a user that is no text", {"user": b"\xff"}, "TEXT"), ("that, and no key", {"user": b"\xff", "key": b""}, "TEXT"),
-        ("another authority", {"authorities": strange}, "UNTRUSTED_AUTHORITY"), ("no authority", {"authorities": b""}, "UNTRUSTED_AUTHORITY"),
+        ("another user", {"user": b"eve"}, "USER_NOT_LISTED"), ("a beginning of a user", {"user": b"alic"}, "USER_NOT_LISTED"),
+        ("a user, and a zero byte", {"user": b"alice\0"}, "USER_NOT_LISTED"), ("no user", {"user": b""}, "USER_NOT_LISTED"),
+        ("a user that is no text", {"user": b"\xff"}, "TEXT"), ("that, and no certificate", {"user": b"\xff", "blob": b""}, "TEXT"),
+        ("a host that is no text", {"host": b"\xff"}, "TEXT"), ("a name of the host", {"host": b"a.example"}, five),
+        ("another authority", {"authorities": strange}, "USER_NOT_LISTED"), ("no authority", {"authorities": b""}, "USER_NOT_LISTED"),
         ("the first second", {"second": 1704067200}, five), ("a second too early", {"second": 1704067199}, "OUT_OF_WINDOW"),
         ("the last second", {"second": 1706745599}, five), ("a second too late", {"second": 1706745600}, "OUT_OF_WINDOW"),
-        ("no time", {"second": 2**63}, "INVALID_TIME"), ("another key", {"key": other}, "OTHER_KEY"), ("no key", {"key": own[:-1]}, "LENGTH"),
-        ("no certificate", {"certificate": good.certificate[:-1]}, "LENGTH"), ("a key in its place", {"certificate": own}, "LABEL"),
-        ("neither", {"key": own + b"!", "certificate": b""}, "TRAILING_DATA"), ("for hosts", {"certificate": hosts}, "OTHER_TYPE"),
-        ("for hosts, and another key", {"certificate": hosts, "key": other}, "OTHER_TYPE"),
-        ("another key, by another authority", {"key": other, "authorities": strange}, "OTHER_KEY"),
-        ("another user, and too late", {"user": b"eve", "second": 1706745600}, "OUT_OF_WINDOW"),
+        ("no time", {"second": 2**63}, "INVALID_TIME"), ("nothing", {"blob": b""}, "LENGTH"),
+        # its name is one of private use, after which a key has a string alone
+        ("no certificate", {"blob": good.blob[:-1]}, "TRAILING_DATA"),
+        ("the key in its place", {"blob": own}, "USER_NOT_LISTED"), ("more than the key", {"blob": own + b"!"}, "TRAILING_DATA"),
+        ("more than a certificate", {"blob": good.blob + b"!"}, "TRAILING_DATA"), ("for hosts", {"blob": hosts}, "OTHER_TYPE"),
+        ("for hosts, and another user", {"blob": hosts, "user": b"eve"}, "USER_NOT_LISTED"), ("for hosts, and too late", {"blob": hosts, "second": 1706745600}, "OTHER_TYPE"),
+        ("another user, and too late", {"user": b"eve", "second": 1706745600}, "USER_NOT_LISTED"),
+        ("its algorithm", {"algorithm": b"ssh-ed25519-cert-v01@openssh.com"}, five), ("that of its key", {"algorithm": b"ssh-ed25519"}, "OTHER_ALGORITHM"),
+        ("another algorithm, and too late", {"algorithm": b"ssh-rsa", "second": 1706745600}, "OUT_OF_WINDOW"),
     ):  # fmt: skip
         yield name, replace(good, **changes), wanted
     for name, changes, wanted in (
         ("a turned bit", {}, "NOT_SIGNED"), ("a turned bit, and too late", {"second": 1706745600}, "OUT_OF_WINDOW"),
-        ("a turned bit, and too early", {"second": 1704067199}, "OUT_OF_WINDOW"), ("a turned bit, and another user", {"user": b"eve"}, "UNLISTED_PRINCIPAL"),
-        ("a turned bit, by another authority", {"authorities": strange}, "UNTRUSTED_AUTHORITY"), ("a turned bit, and another key", {"key": other}, "OTHER_KEY"),
+        ("a turned bit, and too early", {"second": 1704067199}, "OUT_OF_WINDOW"), ("a turned bit, and another user", {"user": b"eve"}, "USER_NOT_LISTED"),
+        ("a turned bit, by another authority", {"authorities": strange}, "USER_NOT_LISTED"),
+        ("a turned bit, and another algorithm", {"algorithm": b"ssh-ed25519"}, "OTHER_ALGORITHM"),
     ):  # fmt: skip
         yield name, replace(broken, **changes), wanted
-    yield "nobody listed", certificates.made(), "VALID_PRINCIPALS"
-    yield "nobody listed, for hosts", certificates.made("-h"), "OTHER_TYPE"
+    yield "nobody listed", certificates.made(), "USER_NOT_LISTED"
+    yield "nobody listed, for hosts", certificates.made("-h"), "USER_NOT_LISTED"
     yield "no user, where the empty name is listed", replace(certificates.put_together(b""), user=b""), "VALID_PRINCIPALS"
 
 
@@ -141,31 +126,31 @@ def options(maker):
     def made(*names):
         return certificates.made("-n", "alice", *(it for name in ("clear", *names) for it in ("-O", name)))
 
-    yield "no extension", made(), Granted(FREE)
+    yield "no extension", made(), Terms(FREE)
     for name, number in PERMITS.items():
         if "-" in name:
-            yield f"the extension {name}", made(name), Granted(FREE | number)
-    yield "a command", made("force-command=echo 1, 2"), Granted(FREE - PERMITS["any command"], command=b"echo 1, 2")
-    yield "a verified user", made("verify-required"), Granted(FREE - PERMITS["no verification"])
+            yield f"the extension {name}", made(name), Terms(FREE | number)
+    yield "a command", made("force-command=echo 1, 2"), Terms(FREE - PERMITS["any command"], command=b"echo 1, 2")
+    yield "a verified user", made("verify-required"), Terms(FREE - PERMITS["no verification"])
     yield "an option that is not known", made("critical:x@example.com=1"), "CRITICAL_OPTIONS"
-    yield "an extension that is not known", made("extension:x@example.com=1"), Granted(FREE)
-    bound, moved = made("source-address=192.0.2.0/24,2001:db8::/32", "force-command=ls"), Granted(FREE - PERMITS["any command"], command=b"ls")
+    yield "an extension that is not known", made("extension:x@example.com=1"), Terms(FREE)
+    bound, moved = made("source-address=192.0.2.0/24,2001:db8::/32", "force-command=ls"), Terms(FREE - PERMITS["any command"], command=b"ls")
     mapped, long = bytes(10) + b"\xff\xff" + INSIDE, ipaddress.ip_address("2001:db8::7").packed
     for name, client, wanted in (
         ("a client from there", INSIDE, moved), ("one by an IPv6 socket", mapped, moved), ("one by IPv6", long, moved), ("one from elsewhere", OUTSIDE, "ELSEWHERE"),
         ("one without an address", b"", "ELSEWHERE"), ("one with half an address", INSIDE[:2], "ELSEWHERE"), ("one with more", INSIDE + b"\0", "ELSEWHERE"),
     ):  # fmt: skip
         yield f"addresses, and {name}", replace(bound, client=client), wanted
-        yield f"addresses, and {name}, which the caller judges", replace(bound, client=client, judges=True), moved
-        yield f"no addresses, and {name}", replace(made(), client=client), Granted(FREE)
+        yield f"addresses, and {name}, which the caller checks", replace(bound, client=client, checks=1), moved
+        yield f"no addresses, and {name}", replace(made(), client=client), Terms(FREE)
     for name, changes, wanted, judged in (
-        ("another user", {"user": b"eve"}, "UNLISTED_PRINCIPAL", "UNLISTED_PRINCIPAL"), ("too late", {"second": 1706745600}, "OUT_OF_WINDOW", "OUT_OF_WINDOW"),
-        ("a turned bit", {"certificate": turned(bound.certificate)}, "ELSEWHERE", "NOT_SIGNED"),
+        ("another user", {"user": b"eve"}, "USER_NOT_LISTED", "USER_NOT_LISTED"), ("too late", {"second": 1706745600}, "OUT_OF_WINDOW", "OUT_OF_WINDOW"),
+        ("a turned bit", {"blob": turned(bound.blob)}, "ELSEWHERE", "NOT_SIGNED"),
     ):  # fmt: skip
         yield f"from elsewhere, and {name}", replace(bound, client=OUTSIDE, **changes), wanted
-        yield f"from where the caller judges, and {name}", replace(bound, client=OUTSIDE, judges=True, **changes), judged
+        yield f"from where the caller checks, and {name}", replace(bound, client=OUTSIDE, checks=1, **changes), judged
     other = certificates.put_together(critical={"source-address": string(b"10.0.0.1/40")})
-    yield "no list of addresses, which the caller judges", replace(other, judges=True), "CRITICAL_OPTIONS"
+    yield "no list of addresses, which the caller checks", replace(other, checks=1), "CRITICAL_OPTIONS"
 
 
 def rows(maker):
@@ -189,7 +174,6 @@ def rows(maker):
         ("a command, and an option that is not known", {"critical": {**command, "x@example.com": b""}}, CRITICAL),
         ("a zero byte after the name of an option", {"critical": {"source-address\0": string(b"::/0")}}, CRITICAL),
         ("a zero byte after addresses", {"critical": {"source-address": string(b"::/0\0")}}, CRITICAL),
-        ("a zero byte in the key id, and nobody listed", {"key_id": b"a\0b", "users": []}, KEY_ID),
     ):  # fmt: skip
         yield name, certificates.put_together(**given), wanted_of(wanted)
 
@@ -209,24 +193,24 @@ def keys(maker):
     for name, line, is_accepted, _ in judged_keys(maker):
         # nothing is signed, so of a key that may sign that is said
         made = certificate_by(line, lambda _, line=line: no_signature(line), maker.read("user0.pub"), string(b"alice"), {}, {})
-        login = replace(certificates.put_together(), certificate=blob_of(made), authorities=hashlib.sha256(blob_of(line)).digest())
+        login = replace(certificates.put_together(), blob=blob_of(made), authorities=hashlib.sha256(blob_of(line)).digest())
         # RequiredRSASize is about users' keys
         yield f"an authority: {name}", replace(login, bits=4096), "NOT_SIGNED" if is_accepted else "KEY_NOT_ACCEPTED"
-        wanted = "UNTRUSTED_AUTHORITY" if is_accepted else "KEY_NOT_ACCEPTED"
+        wanted = "USER_NOT_LISTED" if is_accepted else "KEY_NOT_ACCEPTED"
         yield f"another authority: {name}", replace(login, authorities=strange), wanted
     signed = by_rsa.put_together(extensions={"permit-pty": b""})
     yield "by an RSA authority", signed, granted("ok touch-required permit-pty=")
     line = certificate(maker, RSA, maker.read("user0.pub"), string(b"alice"), {}, {"permit-pty": b""})
     for name, other in respelled(maker, line, RSA, {"permit-pty": b""}):
-        yield f"a certificate with {name}", replace(signed, certificate=blob_of(other)), "NOT_NORMAL_FORM"
+        yield f"a certificate with {name}", replace(signed, blob=blob_of(other)), "NOT_NORMAL_FORM"
 
 
 def revocations(maker):
     """Revocation files, which are asked after the authority and before the signature: all that are given have to be read."""
-    good, other = Certificates(maker).made("-n", "alice", "-z", "5"), maker.blob("user1")
+    good = Certificates(maker).made("-n", "alice", "-z", "5")
     strange = hashlib.sha256(maker.blob("authority1")).digest()
     revoked, unlisted = (made_list(maker, "authority0", [f"serial: {it}"]) for it in (5, 6))
-    five, cut, broken = Granted(serial=5), unlisted[:-1], b"ssh-ed25519\n"
+    five, cut, broken = Terms(serial=5), unlisted[:-1], b"ssh-ed25519\n"
     own, by, another = (maker.read(f"{it}.pub").encode() for it in ("user0", "authority0", "user1"))
     for name, files, wanted in (
         ("a list of nothing", [EMPTY], five), ("a list without it", [unlisted], five), ("a list that has its number", [revoked], "REVOKED"),
@@ -239,19 +223,18 @@ def revocations(maker):
     ):  # fmt: skip
         yield f"revoked is {name}", replace(good, revoked=tuple(files)), wanted
     for name, changes, wanted in (
-        ("by another authority", {"authorities": strange}, "UNTRUSTED_AUTHORITY"), ("a turned bit", {"certificate": turned(good.certificate)}, "REVOKED"),
-        ("another key", {"key": other}, "OTHER_KEY"), ("another user", {"user": b"eve"}, "REVOKED"), ("too late", {"second": 1706745600}, "REVOKED"),
+        ("by another authority", {"authorities": strange}, "USER_NOT_LISTED"), ("a turned bit", {"blob": turned(good.blob)}, "REVOKED"),
+        ("another user", {"user": b"eve"}, "USER_NOT_LISTED"), ("too late", {"second": 1706745600}, "REVOKED"),
     ):  # fmt: skip
         yield f"revoked, {name}", replace(good, revoked=(revoked,), **changes), wanted
-        if wanted == "UNTRUSTED_AUTHORITY":
-            yield "a file that is none, by another authority", replace(good, revoked=(broken,), **changes), wanted
+    yield "a file that is none, by another authority", replace(good, revoked=(broken,), authorities=strange), "USER_NOT_LISTED"
 
 
 def by_kinds(made):
     for number, kind in enumerate(made.kinds):
-        login = Login(kind.blob, made.key(number), made.authority(number))
-        yield f"by an authority of {kind.name}", login, Granted()
-        yield f"by an authority of {kind.name}, turned", replace(login, certificate=turned(kind.blob)), "NOT_SIGNED"
+        login = Login(kind.blob, authorities=made.authority(number))
+        yield f"by an authority of {kind.name}", login, Terms()
+        yield f"by an authority of {kind.name}, turned", replace(login, blob=turned(kind.blob)), "NOT_SIGNED"
 
 
 def all_cases(made):
@@ -260,12 +243,16 @@ def all_cases(made):
 
 
 def check_users(judge):
-    """Logins by certificates in which one thing is wrong each, or two, of which the first is told."""
-    found = all_cases(judge.made)
-    said = [it.words(login) if isinstance(it, Granted) else str(judge.number(it)) for _, login, it in found]
-    judge.hold("a login by a certificate", [(name, f"log-in {login.words()}", it) for (name, login, _), it in zip(found, said)])
-    if judge.asker.is_package:
-        return
-    # a verification is asked for only where nothing else is wrong
-    counts = [int(isinstance(it, Granted) or it == "NOT_SIGNED") for *_, it in found]
-    judge.hold("the verifications of a login", [(name, f"verifications {login.words()}", str(it)) for (name, login, _), it in zip(found, counts)])
+    """Logins by certificates in which one thing is wrong each, or two, of which the first is told. A verification is asked for only where
+    nothing else is wrong, and packages check addresses."""
+    rafendilo, asked = judge.made.rafendilo, []
+    for name, login, wanted in all_cases(judge.made):
+        if isinstance(wanted, Terms):
+            wanted = wanted.words(login, rafendilo.certificate_contents(login.blob).key)
+        else:
+            wanted = refused(judge.number(wanted), int(wanted == "NOT_SIGNED"))
+        asked.append((name, login, wanted))
+    known = [(name, login.words(), wanted) for name, login, wanted in asked if not login.checks]
+    judge.hold("a login by a certificate", known)
+    if not judge.asker.is_package:
+        judge.hold_alone("a login by a certificate", [(name, login.words(), wanted) for name, login, wanted in asked if login.checks])

@@ -87,6 +87,7 @@ static size_t count_refusals(given_call *it, size_t made, int all, uint32_t answ
 }
 
 static void ask_memory(given_call *it, const char *room) {
+  free(it->room.bytes);
   it->room = made(strtoull(room, NULL, 10));
   uint32_t answer = call_refusing(it, 0, 0), sum = sum_of_written(it);
   size_t made = requests.made;

@@ -3,16 +3,18 @@ over values of each kind and over bytes that are none, and each room that is too
 says so take no memory."""
 import hashlib
 import re
+from dataclasses import replace
 
 from lib.harness import blob_of, ssh_keygen, string
 
 from .hosts import LATER
 from .key_calls import all_of, encoded, keys_of, renamed, signed_by
-from .linked import ABI, VERSION, declared, header, several, word
+from .linked import ABI, VERSION, data_of, declared, header, several, word
+from .publickey import REQUEST, SSHD, UNREADABLE, Login
 from .revocation_calls import EMPTY
 from .userauth_calls import by_keys
 
-SPANS, NUMBERS = 8, 5
+SPANS, NUMBERS = 14, 10
 # how many bytes the texts of fingerprints have, which no call tells
 TEXTS = {"fingerprint_text": 50, "fingerprint_sha512_text": 93}
 # with a room, and so with one that is too short
@@ -46,50 +48,60 @@ def of_certificate(blob, authority, second, key):
     yield "check_certificate", [blob[:-1], b"", by], [second, 1], "LENGTH"
     yield "check_certificate_for", [blob, b"eve", by], [second, 1], "UNLISTED_PRINCIPAL"
     yield "check_certificate_for", [blob, b"\xff", by], [second, 1], "TEXT"
-    yield from of_logins([blob, alice, key, bytes(4), by, [EMPTY, b""]], second)
-    yield from of_user_keys([blob, alice, key, bytes(4), b"", [EMPTY, b""]], authority, second)
+    login = Login(blob, alice, client=bytes(4), authorities=by, revoked=(EMPTY, b""), second=second)
+    yield from of_logins(login, key)
+    yield from of_user_keys(login, authority, key)
 
 
-def of_logins(good, second):
-    """Calls about the login of a good one by what they are given, and by others."""
-    strange, revoked = bytes(32), EMPTY + b"\2" + string(string(good[2]))
-    for is_verified, wanted in ((1, "DONE"), (0, "NOT_SIGNED")):
-        yield "check_login", good, [second, 0, 0, is_verified], wanted
-        yield "check_login", [*good[:5], [b"# a comment\n"]], [second, 0, 0, is_verified], wanted
-    yield "login_question", good, [second, 0], "DONE"
-    for at, other, wanted in (
-        (0, good[0][:-1], "LENGTH"), (1, b"\xff", "TEXT"), (1, b"eve", "UNLISTED_PRINCIPAL"), (1, b"", "VALID_PRINCIPALS"), (2, good[2][:-1], "LENGTH"),
-        (4, strange, "UNTRUSTED_AUTHORITY"), (5, [EMPTY, revoked], "REVOKED"), (5, [revoked], "REVOKED"), (5, [], "UNREADABLE_REVOCATIONS"),
-        (5, [revoked[:-1]], "UNREADABLE_REVOCATIONS"), (5, [b"", b"x"], "UNREADABLE_REVOCATIONS"),
+def of_login(login, wanted, answers=3):
+    """The calls about a login, of which all say the same where something else than a signature is wrong."""
+    for call in ("log_in_questions", "log_in", "may_offer_questions", "may_offer"):
+        yield call, *login.call(answers), wanted
+
+
+def of_logins(good, key):
+    """Calls about the login of a good one by its authority, and by others."""
+    strange, revoked = bytes(32), EMPTY + b"\2" + string(string(key))
+    yield from of_login(good, "DONE")
+    yield from of_login(replace(good, revoked=(b"# a comment\n",)), "DONE")
+    for call in ("log_in", "may_offer"):
+        yield call, *good.call(0), "NOT_SIGNED"
+        yield call, *good.call(1, bytes(32)), "OTHER_QUESTIONS"
+    for changes, wanted in (
+        ({"blob": good.blob[:-1]}, "TRAILING_DATA"), ({"user": b"\xff"}, "TEXT"), ({"host": b"\xff"}, "TEXT"), ({"user": b"eve"}, "USER_NOT_LISTED"),
+        ({"authorities": strange}, "USER_NOT_LISTED"), ({"revoked": (EMPTY, revoked)}, "REVOKED"), ({"revoked": (revoked,)}, "REVOKED"),
+        ({"revoked": ()}, "UNREADABLE_REVOCATIONS"), ({"revoked": (revoked[:-1],)}, "UNREADABLE_REVOCATIONS"), ({"revoked": (b"", b"x")}, "UNREADABLE_REVOCATIONS"),
+        ({"second": 0}, "OUT_OF_WINDOW"), ({"algorithm": b"x"}, "OTHER_ALGORITHM"),
     ):  # fmt: skip
-        yield "check_login", [*good[:at], other, *good[at + 1 :]], [second, 0, 0, 1], wanted
-        yield "login_question", [*good[:at], other, *good[at + 1 :]], [second, 0], wanted
-    yield "check_login", good, [0, 0, 0, 1], "OUT_OF_WINDOW"
-    yield "login_question", good, [0, 0], "OUT_OF_WINDOW"
+        yield from of_login(replace(good, **changes), wanted)
+    for call in ("log_in_questions", "log_in"):
+        yield call, *replace(good, how=0).call(3), "UNSIGNED"
 
 
-def of_user_keys(given, authority, second):
-    """Calls about the login of a good one by a text of authorized_keys, of its key alone, and by a file of principals."""
-    own, by = (all_of(it)[0] + b" " + encoded(it).encode() + b"\n" for it in (given[2], authority))
+def of_user_keys(signed, authority, key):
+    """Calls about the login of a good one by texts of authorized_keys, of its key alone, and by texts of principals."""
+    own, by = (all_of(it)[0] + b" " + encoded(it).encode() + b"\n" for it in (key, authority))
     options = b'command="ls",permitopen="h:80",permitlisten="*:90",environment="A=b",expiry-time="20990101Z",tunnel="1",from="0.0.0.0" '
-    text, plain, numbers = b"# a comment\n" + own + b"cert-authority " + by + options + own, [b"", *given[1:]], [second, 0, 0]
-    for spans, is_verified, wanted in (
-        ([*given, text, b"host"], 1, "DONE"), ([*given, text, b""], 0, "NOT_SIGNED"),
-        ([*plain, options + own, b""], 0, "DONE"), ([*plain, b"# a comment\n", b""], 0, "USER_NOT_LISTED"), ([*plain, b"cert-authority " + own, b""], 0, "USER_NOT_LISTED"),
-        ([*plain, b'expiry-time="20010101Z" ' + own, b""], 0, "LINE_EXPIRED"), ([*plain, b'from="*," ' + own, b""], 0, "LINE_UNCLEAR"),
-        ([*given, b"cert-authority " + own, b""], 1, "USER_NOT_LISTED"), ([*plain, b"\xff " + own, b""], 0, "LINE_UNCLEAR"), ([*plain, text, b"\xff"], 0, "TEXT"),
-        ([given[0][:-1], *given[1:], text, b""], 1, "LENGTH"), ([*plain[:2], given[2][:-1], *plain[3:], text, b""], 0, "LENGTH"),
-        ([*plain[:5], [], text, b""], 0, "UNREADABLE_REVOCATIONS"),
+    text, alone = b"# a comment\n" + own + b"cert-authority " + by + options + own, replace(signed, authorities=b"")
+    for changes, wanted in (
+        ({"keys": (text,), "host": b"host"}, "DONE"), ({"keys": (b"# a comment\n", text)}, "DONE"), ({"command": (text,)}, "DONE"),
+        ({"keys": (b"cert-authority " + own,)}, "USER_NOT_LISTED"), ({"keys": (UNREADABLE,)}, "TEXT_UNREADABLE"),
     ):  # fmt: skip
-        yield "check_user_keys", spans, [*numbers, is_verified], wanted
-    signed = [*given[:4], hashlib.sha256(authority).digest(), given[5]]
-    for spans, is_verified, wanted in (
-        ([*signed, b"# a comment\nalice", b""], 1, "DONE"), ([*signed, options + b"alice\n", b"host"], 1, "DONE"), ([*signed, b"alice", b""], 0, "NOT_SIGNED"),
-        ([*signed, b"eve\n", b""], 1, "USER_NOT_LISTED"), ([*signed, b"cert-authority alice\nalice\n", b""], 1, "LINE_OPTION"),
-        ([*signed, b'from="*," alice', b""], 1, "LINE_UNCLEAR"), ([*given, b"alice", b""], 1, "UNTRUSTED_AUTHORITY"),
-        ([b"", *signed[1:], b"alice", b""], 1, "LENGTH"), ([*signed, b"\xff alice", b""], 1, "LINE_UNCLEAR"),
+        yield from of_login(replace(alone, **changes), wanted)
+    plain = replace(alone, blob=key)
+    for changes, wanted in (
+        ({"keys": (options + own,)}, "DONE"), ({"keys": (b"# a comment\n",)}, "USER_NOT_LISTED"), ({"keys": (b"cert-authority " + own,)}, "USER_NOT_LISTED"),
+        ({"keys": (b"",), "command": (options + own,)}, "DONE"), ({"keys": (b'expiry-time="20010101Z" ' + own,)}, "LINE_EXPIRED"),
+        ({"keys": (b'from="*," ' + own,)}, "LINE_UNCLEAR"), ({"keys": (b"\xff " + own,)}, "LINE_UNCLEAR"), ({"keys": (text,), "host": b"\xff"}, "TEXT"),
+        ({"keys": (text,), "revoked": ()}, "UNREADABLE_REVOCATIONS"), ({"keys": (text,), "blob": key[:-1]}, "LENGTH"), ({"keys": (text, UNREADABLE)}, "DONE"),
     ):  # fmt: skip
-        yield "check_principals", spans, [*numbers, is_verified], wanted
+        yield from of_login(replace(plain, **changes), wanted)
+    for texts, wanted in (
+        ((b"# a comment\nalice",), "DONE"), ((options + b"alice\n",), "DONE"), ((b"eve\n", b"alice"), "DONE"), ((b"eve\n",), "USER_NOT_LISTED"),
+        ((b"cert-authority alice\nalice\n",), "LINE_OPTION"), ((b'from="*," alice',), "LINE_UNCLEAR"), ((b"\xff alice",), "LINE_UNCLEAR"), ((UNREADABLE,), "TEXT_UNREADABLE"),
+    ):  # fmt: skip
+        yield from of_login(replace(signed, principals=texts), wanted)
+    yield from of_login(replace(alone, principals=(b"alice",)), "USER_NOT_LISTED")
 
 
 def of_hosts(maker, second):
@@ -134,18 +146,14 @@ def of_hosts(maker, second):
 
 def of_requests(maker):
     """Calls about what clients sign."""
-    for _, request, _ in by_keys(maker):
-        given = [request.session, request.user, request.algorithm, request.key, request.host_key or b"", request.signature]
-        numbers = [int(request.host_key is not None), 0]
-        yield "userauth_question", given, numbers, "DONE"
-        yield "userauth_question_of", [*given, request.message()], numbers, "DONE"
-        yield "userauth_question_of", [*given, b""], numbers, "OTHER_REQUEST"
-        yield "userauth_question", [*given[:5], request.signature[:-1]], numbers, "LENGTH"
-        yield "userauth_question", [*given[:2], b"ssh-dss", *given[3:]], numbers, "OTHER_ALGORITHM"
-        if b"-cert-" not in request.algorithm:
-            yield "check_grant_flags", [request.key, request.signature], [0], "DONE"
-            yield "check_grant_flags", [request.key, request.signature[:-1]], [0], "LENGTH"
-            yield "check_grant_flags", [request.key[:-1], request.signature], [0], "LENGTH"
+    for _, request, signer in by_keys(maker):
+        login = request.login(**signer.trusted)
+        for call in ("log_in_questions", "log_in"):
+            yield call, *login.call(3), "DONE"
+            yield call, *replace(login, signature=request.signature[:-1]).call(3), "NO_SIGNATURE"
+            yield call, *replace(login, algorithm=b"ssh-dss").call(3), "OTHER_ALGORITHM"
+        yield "log_in", *login.call(1), "CLIENT_NOT_SIGNED"
+        yield from of_login(replace(login, how=SSHD), "DONE")
 
 
 def of_key(blob):
@@ -297,10 +305,21 @@ def cases(made):
     yield from of_requests(maker)
 
 
+def spelled(span):
+    """Bytes, several byte strings, or what is a word already."""
+    return span if isinstance(span, str) else several(span) if isinstance(span, list) else word(span)
+
+
 def question_of(what, call, spans, numbers, *more):
-    words = [*(several(it) if isinstance(it, list) else word(it) for it in spans), *["-"] * (SPANS - len(spans))]
+    words = [*map(spelled, spans), *["-"] * (SPANS - len(spans))]
     words += [*map(str, numbers), *["0"] * (NUMBERS - len(numbers))]
     return " ".join([what, call, *words, *map(str, more)])
+
+
+def asks_nothing(call, spans, numbers):
+    """Whether it asks for questions of a login that has none: of a plain key, whose signature somebody else has verified."""
+    is_signed = call == "log_in_questions" and numbers[0] == str(REQUEST)
+    return call in ("log_in_questions", "may_offer_questions") and not is_signed and b"-cert-v01@".hex() not in spans[2]
 
 
 def questions(rafendilo, asked):
@@ -309,8 +328,8 @@ def questions(rafendilo, asked):
         if call not in ROOMS:
             yield call, question_of("memory", call, spans, numbers, 0), rafendilo.Status[wanted] if isinstance(wanted, str) else wanted
             continue
-        yield call, question_of("memory", call, spans, numbers, 2 * sum(map(len, spans)) + 512), rafendilo.Status[wanted]
-        if wanted == "DONE":
+        yield call, question_of("memory", call, spans, numbers, 2 * sum(map(len, spans)) + 4608), rafendilo.Status[wanted]
+        if wanted == "DONE" and not asks_nothing(call, spans, numbers):
             yield call, question_of("memory", call, spans, numbers, 1), rafendilo.Status.SHORT_BUFFER
 
 
@@ -321,13 +340,24 @@ def without_memory():
     return {call for calls in said for call in re.findall(r"raf_(\w+)\(", calls)}
 
 
+def enough_of(call, spans):
+    """The room that the header says is enough for the questions of a login: twice the length of user, blob, session, host's key and
+    signature, and 4,608 bytes. None for other calls."""
+    is_login = call in ("log_in_questions", "may_offer_questions")
+    return 2 * sum(len(data_of(spans[at])) for at in (0, 2, 3, 4, 5)) + 4608 if is_login else None
+
+
 def check_rooms(judge, given):
     """Each room that is too short is answered so, and stays as it was."""
     asked = [it for it in given if it[0] in ROOMS and it[-1] == "DONE"]
     said = judge.said("calls with short rooms", [question_of("rooms", *it[:3]) for it in asked])
-    for (call, *_), answer in zip(asked, said):
+    for (call, spans, *_), answer in zip(asked, said):
         number, tried, needed = map(int, answer.split())
-        kept = number == 0 and tried == (needed or TEXTS.get(call))
+        enough = enough_of(call, spans)
+        if enough is not None:
+            judge.check(f"{call}: {needed} bytes are needed, and {enough} are enough", needed <= enough)
+        # a login that asks nothing takes no room
+        kept = number == 0 and tried == (needed or TEXTS.get(call, 0))
         judge.check(f"{call}: each room below {tried} bytes is too short", kept, answer)
 
 

@@ -16,7 +16,7 @@ HEADERS = r"include `(\S+?\.h)` and `(\S+?\.h)`.*?README's lines also need (.*)"
 # what stands around the lines of README in C, and of FOREIGN.md in Go and in Rust
 C_PROGRAM = """\
 {0}static void let_in(const raf_grant *grant, const uint8_t *room) {{ printf("%u %p\\n", grant->permits, (const void *)room); }}
-void log_in(const char *authority_line, size_t authority_length, const char *line, size_t length, raf_blob key, raf_span client,
+void log_in(const char *authority_line, size_t authority_length, raf_span authorized_keys, raf_span blob, raf_span client,
             raf_span session_id, raf_span algorithm, raf_span signature) {{
 {1}}}
 int main(void) {{ return 0; }}
@@ -44,13 +44,13 @@ use std::net::{{IpAddr, Ipv4Addr}};
 use std::time::{{SystemTime, UNIX_EPOCH}};
 fn let_in(_: &rafendilo::Grant) {{}}
 fn log_in(
-    authority_line: &str, line: &str, key: &[u8], peer: IpAddr, session_id: &[u8], algorithm: &[u8], signature: &[u8],
+    authority_line: &[u8], authorized_keys: &[u8], blob: &[u8], peer: IpAddr, session_id: &[u8], algorithm: &[u8], signature: &[u8],
 ) -> Result<(), Box<dyn std::error::Error>> {{
 {0}
     Ok(())
 }}
 fn main() {{
-    drop(log_in("", "", &[], Ipv4Addr::LOCALHOST.into(), &[], &[], &[]));
+    drop(log_in(&[], &[], &[], Ipv4Addr::LOCALHOST.into(), &[], &[], &[]));
 }}
 """
 PACKAGE = '[package]\nname = "login"\nversion = "1.0.0"\nedition = "2021"\n\n[dependencies]\n{}\n'

@@ -77,18 +77,19 @@ fn let_in(grant: &rafendilo::Grant) {{
     println!("let in");
 }}
 fn log_in(
-    authority_line: &str, line: &str, key: &[u8], peer: IpAddr, session_id: &[u8], algorithm: &[u8], signature: &[u8],
+    authority_line: &[u8], blob: &[u8], peer: IpAddr, session_id: &[u8], algorithm: &[u8], signature: &[u8],
 ) -> Result<(), Box<dyn std::error::Error>> {{
+    let authorized_keys = b"";
 {0}
     Ok(())
 }}
 fn main() {{
     let words: Vec<String> = std::env::args().collect();
-    let blob = |at: usize| rafendilo::read_line(&words[at]).unwrap().blob;
+    let blob = rafendilo::read_line(&words[2]).unwrap().blob;
     let byte = |word: &str, at: usize| u8::from_str_radix(&word[2 * at..2 * at + 2], 16).unwrap();
     let data = |word: &str| (0..word.len() / 2).map(|at| byte(word, at)).collect::<Vec<u8>>();
-    let (session_id, signature) = (data(&words[4]), data(&words[5]));
+    let (session_id, signature) = (data(&words[3]), data(&words[4]));
     let algorithm = b"ssh-ed25519-cert-v01@openssh.com";
-    log_in(&words[1], &words[2], &blob(3), Ipv4Addr::LOCALHOST.into(), &session_id, algorithm, &signature).unwrap();
+    log_in(words[1].as_bytes(), &blob, Ipv4Addr::LOCALHOST.into(), &session_id, algorithm, &signature).unwrap();
 }}
 """

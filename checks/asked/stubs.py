@@ -4,6 +4,7 @@ import os
 import subprocess
 
 from .linked import ABI, declared, run
+from .publickey import REQUEST, Login
 
 # the number of another ABI: the one before
 OTHER_ABI = ABI - 1
@@ -33,8 +34,7 @@ def check_stub(count, asker, made, number):
     """An asker that is linked with a library that answers each call with that number answers it too: what is refused, and what no
     header knows, is never taken for done, and no room is asked for twice in vain."""
     blob, key = made.kinds[0].blob.hex(), made.key().hex()
-    by, name = "00" * 32, b"alice".hex()
-    request = f"{by} {name} {name} {key} {key} {key}"
+    by, name, login = "00" * 32, b"alice".hex(), Login(made.kinds[0].blob, authorities=bytes(32), how=REQUEST)
     questions = [
         f"certificate {blob}", f"signature {key} 00 {key}", f"sshsig {key} {name} 00", f"is-signature {key} 00 {key}",
         f"sshsig-of-digest {key} {name} {by}", f"sshsig-hash {key}", f"sshsig-reserved {key}", f"is-sshsig {key} {name} 00 {by}",
@@ -43,10 +43,9 @@ def check_stub(count, asker, made, number):
         f"certificate-options {blob}", f"strings {blob}", f"key {key}", f"line {name}", f"normal key {key}",
         f"normal certificate {blob}", f"normal sshsig {key}", f"normal signature {key}", f"join {blob} {key}", f"entry {name}",
         f"host {name}", f"options {name}", f"draft {key} 00 {name} - - - {key} 0 0 9 1 1",
-        f"make {key} 00 {name} - - - {key} 0 0 9 1 1 {key}", f"log-in {blob} {name} {key} - {by} - 7 0 0",
-        f"host-key {name} {name} {key} - 22 0", f"host-certificate {name} {name} {blob} - 22 0 7", f"unreadable-line {name} {name} 22",
-        f"userauth {request} 0 0", f"userauth-of {request} 00 0 0", f"is-userauth {request} 1 0", f"flags {key} {key} 0", f"other-key-line {name}", f"time {name}",
-        f"may-verify {key}", f"for-key {name} {key}", f"for-certificate {name} {blob}",
+        f"make {key} 00 {name} - - - {key} 0 0 9 1 1 {key}", login.words(),
+        login.words("log-in-questions"), login.query(), login.words("forwards", name, "22"), f"host-key {name} {name} {key} - 22 0", f"host-certificate {name} {name} {blob} - 22 0 7", f"unreadable-line {name} {name} 22",
+        f"other-key-line {name}", f"time {name}", f"may-verify {key}", f"for-key {name} {key}", f"for-certificate {name} {blob}",
         f"unrevoked-key-by-krl {key} {key}", f"unrevoked-certificate-by-krl {key} {blob}", f"signer {name} {name} {name} {key} - 7 1",
         f"unrevoked-key {key} {key}", f"unrevoked-certificate {key} {blob}", f"is-signer {name} {name} {name} {key} - 7 {by}",
     ]  # fmt: skip
@@ -54,14 +53,15 @@ def check_stub(count, asker, made, number):
 
 
 def check_answered(count, asker, name, questions, number):
-    """Each question is answered with that number, and a validation without a question of its own."""
+    """Each question is answered with that number, and with what it says of a refusal beside that."""
     try:
         ran = run(asker.words, input="".join(f"{it}\n" for it in questions), timeout=30)
     except subprocess.TimeoutExpired:
         count.check(f"{asker.language}: {name}, and the answers end", False)
         return
     said = ran.stdout.splitlines()
-    wanted = [f"{number} 0" if it.startswith("validate ") else str(number) for it in questions]
+    beside = {"validate": " 0", "log-in": " 0 0 0 0", "may-offer": " 0"}
+    wanted = [f"{number}{beside.get(it.split(' ')[0], '')}" for it in questions]
     wrong = [it for it in zip(questions, said, wanted) if it[1] != it[2]]
     same = ran.returncode == 0 and len(said) == len(questions) and not wrong
     count.check(f"{asker.language}: {name}", same, *wrong[:5], ran.stderr[-2000:])
@@ -70,9 +70,9 @@ def check_answered(count, asker, name, questions, number):
 def check_refused_questions(count, asker, made):
     """An asker that is linked with a library that is refused memory at each question, and says that nothing is signed, says the
     first: of a certificate of which it could not ask nothing is known."""
-    blob, key = made.kinds[0].blob.hex(), made.key().hex()
-    by, name = "00" * 32, b"alice".hex()
+    blob, by, name = made.kinds[0].blob.hex(), "00" * 32, b"alice".hex()
+    login = Login(made.kinds[0].blob, authorities=bytes(32))
     questions = [f"validate {blob} 7 {whom} {by} 1" for whom in ("*", name)] + [
-        f"log-in {blob} {name} {key} - {by} - 7 0 0", f"host-certificate {name} {name} {blob} - 22 0 7",
+        login.words(), login.query(), f"host-certificate {name} {name} {blob} - 22 0 7",
     ]  # fmt: skip
     check_answered(count, asker, "where a question is refused memory, that is answered", questions, 1)

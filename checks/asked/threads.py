@@ -77,6 +77,6 @@ def check_threads(count, built, made):
     ran = run(["setarch", "-R", program, *(filled(made, it) for it in range(2))], timeout=600)
     said = [[int(it) for it in line.split()] for line in ran.stdout.splitlines()]
     count.check("threads are answered as one alone, without a race", ran.returncode == 0, ran.returncode, ran.stderr[:3000])
-    # 30 is RAF_NOT_SIGNED
-    counts = len(said) == 2 and 30 not in said[0] and 30 in said[1]
+    # 30 is RAF_NOT_SIGNED, and 84 RAF_CLIENT_NOT_SIGNED
+    counts = len(said) == 2 and not {30, 84} & {*said[0]} and {30, 84} <= {*said[1]}
     count.check("and the first ones' signature counts for their message, and not for the second ones'", counts, said)

@@ -1,4 +1,4 @@
-"""What the Python package answers of logins, hosts and what clients sign, for asked/answers.py."""
+"""What the Python package answers of logins and hosts, for asked/answers.py."""
 import ipaddress
 
 from .linked import data_of, datas_of, word
@@ -7,44 +7,77 @@ from .linked import data_of, datas_of, word
 class VerdictAnswers:
     """The answers about verdicts, each as the words after 0, and as Refused where it is a refusal."""
 
-    def login_of(self, data, user, key, client, by, files, second, bits, judges):
-        address = data_of(client)
-        return self.rafendilo.Login(
-            certificate=data_of(data), user=data_of(user), key=data_of(key), authorities=self.digests(by), revoked=datas_of(files),
-            client=ipaddress.ip_address(address) if len(address) in (4, 16) else None, unix_timestamp=int(second), least_rsa_bits=int(bits),
-            caller_checks_address=judges == "1",
+    def texts(self, word_of):
+        """The texts of a word: `?` is one that could not be read."""
+        return [] if word_of == "none" else [self.rafendilo.UNREADABLE if it == "?" else data_of(it) for it in word_of.split(",")]
+
+    def signed_of(self, session, host_key, signature, how, bound, flags):
+        of = self.rafendilo
+        if how == "1":
+            return of.SignedRequest(session_id=data_of(session), host_key=data_of(host_key) if bound == "1" else None, signature=data_of(signature))
+        return {"2": of.SignedByTransport(flags=None), "3": of.SignedByTransport(flags=int(flags)), "4": of.SignedBySshd()}[how]
+
+    def login_of(self, user, algorithm, blob, *given):
+        """What log_in is given, but for who has seen the signature."""
+        keys, by, principals, command, files, source, bits, touch, verification, client, host, second = given
+        of, address = self.rafendilo, data_of(client)
+        trusted = of.Trusted(
+            authorized_keys=self.texts(keys), authorities=self.digests(by), principals=of.IN_CERTIFICATE if source == "1" else self.texts(principals),
+            command_keys=self.texts(command), revoked=datas_of(files), least_rsa_bits=int(bits), requires_touch=touch == "1",
+            requires_verification=verification == "1",
         )  # fmt: skip
+        known = ipaddress.ip_address(address) if len(address) in (4, 16) else None
+        place = of.Place(client=known, unix_timestamp=int(second), host=data_of(host))
+        return of.Offer(data_of(user), data_of(algorithm), data_of(blob)), trusted, place
+
+    def granted(self, given, verifier):
+        """What log_in gives of the words of `log-in`."""
+        offer, trusted, place = self.login_of(*given[:3], *given[9:])
+        return self.rafendilo.log_in(offer, self.signed_of(*given[3:9]), trusted, place, verifier)
+
+    def asking(self, questions, answer=None):
+        """A verifier that writes down what it is asked, and gives that answer."""
+
+        def verifier(question):
+            questions.append(question)
+            return self.rafendilo.is_signature(question) if answer is None else answer
+
+        return verifier
 
     def log_in(self, *given):
-        of = self.rafendilo.log_in(self.login_of(*given))
-        command = b"" if of.shown_command is None else of.shown_command.encode()
-        return ["0", str(int(of.permits)), str(of.serial), word(of.authority), word(command), word(of.key_id.encode())]
-
-    def log_in_by_keys(self, *given):
-        return self.log_in_by(self.rafendilo.log_in_by_keys, *given)
-
-    def log_in_by_principals(self, *given):
-        return self.log_in_by(self.rafendilo.log_in_by_principals, *given)
-
-    def log_in_by(self, call, *given):
-        *front, text, host, second, bits, judges = given
+        questions = []
         try:
-            of = call(self.login_of(*front, second, bits, judges), data_of(text), data_of(host))
+            of = self.granted(given, self.asking(questions))
         except self.rafendilo.Refused as refused:
-            return [str(int(refused.status)), str(refused.line)]
+            return [str(it) for it in (int(refused.status), len(questions), int(refused.source or 0), refused.text, refused.line)]
         command = b"" if of.shown_command is None else of.shown_command.encode()
         first, last = of.expires or [self.rafendilo.FOREVER] * 2
-        parts = [self.places(of.permit_open), self.places(of.permit_listen), b"".join(map(self.rafendilo.string, of.environment))]
-        words = [of.authority, command, of.key_id.encode(), *parts]
-        return ["0", str(of.line), str(int(of.permits)), str(of.serial), *map(word, words), str(first), str(last), str(of.tunnel or 0)]
+        parts = [command, of.key_id.encode(), self.places(of.permit_open), self.places(of.permit_listen), b"".join(map(self.rafendilo.string, of.environment))]
+        front = ["0", str(len(questions)), *map(str, (int(of.source), of.text, of.line))]
+        numbers = map(str, (of.serial, first, last))
+        return [*front, *map(word, parts), *numbers, word(of.authority), word(of.key), str(int(of.permits)), str(of.tunnel or 0)]
+
+    def log_in_questions(self, *given):
+        questions = []
+        try:
+            self.granted(given, self.asking(questions, True))
+            status = 0
+        except self.rafendilo.Refused as refused:
+            status = int(refused.status)
+        told = [(str(int(it.algorithm)), *map(word, (it.key, it.message, it.signature))) for it in questions]
+        return [str(status), *(part for it in told for part in it)]
+
+    def may_offer(self, *given):
+        return self.counted(self.rafendilo.may_offer, *self.login_of(*given))
+
+    def forwards(self, to, port, *given):
+        of = self.granted(given, self.rafendilo.is_signature)
+        return ["0", *(str(int(may(data_of(to), int(port)))) for may in (of.may_open, of.may_listen))]
 
     def places(self, found):
         """The hosts and ports as the library lays them out."""
         pairs = [it for host, port in found for it in (host, b"" if port is None else port.to_bytes(2, "big"))]
         return b"".join(map(self.rafendilo.string, pairs))
-
-    def verifications(self, *given):
-        return self.counted(self.rafendilo.log_in, self.login_of(*given))[1:]
 
     def host_of(self, texts, host, files, port, bits, second=None):
         return self.rafendilo.HostLogin(
@@ -62,27 +95,6 @@ class VerdictAnswers:
     def unreadable_line(self, text, host, port):
         found = self.rafendilo.unreadable_host_line(data_of(text), data_of(host), int(port))
         return ["3"] if found is None else ["0", str(found)]
-
-    def request_of(self, session, user, algorithm, key, host_key, signature, has_host_key, permits, signed=None):
-        return self.rafendilo.Userauth(
-            session_id=data_of(session), user=data_of(user), algorithm=data_of(algorithm), public_key=data_of(key), signature=data_of(signature),
-            host_key=data_of(host_key) if has_host_key == "1" else None, permits=int(permits), signed=signed,
-        )  # fmt: skip
-
-    def userauth(self, *given):
-        return self.asked(self.rafendilo.userauth_question(self.request_of(*given)))
-
-    def userauth_of(self, *given):
-        *front, signed, has_host_key, permits = given
-        return self.asked(self.rafendilo.userauth_question(self.request_of(*front, has_host_key, permits, data_of(signed))))
-
-    def is_userauth(self, *given):
-        self.rafendilo.check_userauth(self.request_of(*given))
-        return ["0"]
-
-    def flags(self, key, signature, permits):
-        self.rafendilo.check_grant_flags(int(permits), data_of(key), data_of(signature))
-        return ["0"]
 
     def other_key_line(self, line):
         # 12 is RAF_LABEL

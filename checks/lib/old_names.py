@@ -19,6 +19,9 @@ PATTERNS = {
     "a validation": r"\bcertificate_validate(?:_for)?\b|\bvalidate_certificate\b|\bValidate(?:Certificate|SSHSig|Signer)\w*",
     "a revocation": r"\bkrl_revokes_(?:key|certificate)\b|\bKRLRevokes\w+|\b(?:RAF_)?NOT_REVOKED\b",
     "a line": r"\bmay_be_for_\w+|\bMayBeFor\w+|\bis_other_key_line\b|\bIsOtherKeyLine\b|\bnext_(?:entry_)?option\b|\bentry_options\b|\bEntryOption\b",
+    # a login is one call: raf_log_in after raf_log_in_questions, and in the packages log_in and LogIn
+    "a login": r"\braf_(?:login_question\b|check_(?:login|user_keys|principals|grant_flags)\b|user_grant\b|userauth|log_in_by_|verify_userauth\b)|"
+    r"\brafendilo(?:\.|::)(?:log_in_by_|check_userauth\b|check_grant_flags\b|[Uu]serauth|UserGrant\b|LogInBy|CheckUserauth\b|CheckGrantFlags\b|Denial\b)",
     "a trust": r"\bstrict_mode\b|\bStrictMode\b|\bgrant_flags\b|\bGrantFlags\b|\bjudges_address\b|\bJudgesAddress\b",
 }
 

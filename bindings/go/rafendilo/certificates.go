@@ -53,6 +53,17 @@ func CheckCertificateFor(
 	})
 }
 
+// decided is a verdict about a certificate, once the verifier has answered its question. It is
+// asked none where the verdict is another one already.
+func decided(
+	verify Verifier, certificate input, verdict func(isVerified C.uint32_t) error,
+) error {
+	if err := verdict(0); err != ErrNotSigned {
+		return err
+	}
+	return answered(verify, certificate, verdict)
+}
+
 // validated is a verdict about a certificate, once the verifier has answered its question. It is
 // asked none where the authority is another one.
 func validated(

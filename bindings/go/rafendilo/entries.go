@@ -50,7 +50,7 @@ func entry(
 // AuthorizedEntry gives the entry of a line of authorized_keys, as sshd reads it. It fails with a
 // Status where the line is none, and with ErrMemory.
 //
-// It shows a line, and decides nothing: whom a text lets in, LogInByKeys says.
+// It shows a line, and decides nothing: whom a text lets in, LogIn says.
 func AuthorizedEntry(line string) (Entry, error) {
 	in := inputOf(line)
 	found, err := entry(in, func(to buffer, answer *C.raf_entry) C.uint32_t {
@@ -73,7 +73,7 @@ func KnownHost(line string) (HostEntry, error) {
 // It fails with ErrFormat where the text is no list of options, with ErrText where it is not UTF-8,
 // and with ErrMemory.
 //
-// What they say of a login, LogInByKeys decides.
+// What they say of a login, LogIn decides.
 func LineOptions(text string) ([]LineOption, error) {
 	in, found, place := inputOf(text), []LineOption{}, C.size_t(0)
 	for {

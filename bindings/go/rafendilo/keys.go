@@ -19,12 +19,16 @@ func question(
 	if err != nil {
 		return Question{}, err
 	}
+	return questionIn(data, answer), nil
+}
+
+func questionIn(data []byte, answer C.raf_question) Question {
 	return Question{
 		Algorithm: Algorithm(answer.algorithm),
 		Key:       partOf(data, answer.key),
 		Message:   partOf(data, answer.message),
 		Signature: partOf(data, answer.signature),
-	}, nil
+	}
 }
 
 // ReadLine gives what stands in a line of a file of public keys (id_ed25519.pub) or of certificates
@@ -87,7 +91,7 @@ func (digest SHA512) String() string {
 // with a Status for bytes that are none, with ErrUnsupported where they do not go together, and
 // with ErrMemory.
 //
-// Of a login ask UserauthQuestion, which also looks at the flags of a security key.
+// It does not look at the flags of a security key: of a login ask LogIn.
 func SignatureQuestion(key, message, signature []byte) (Question, error) {
 	in, of, by := inputOf(key), inputOf(message), inputOf(signature)
 	length := len(in) + len(of) + len(by) + 256

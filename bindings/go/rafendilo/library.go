@@ -88,6 +88,16 @@ func spansOf[T string | []byte](memory *held, all []T) C.raf_spans {
 	return C.raf_spans{items: at, count: C.size_t(len(all))}
 }
 
+func textsOf(memory *held, all []Text) C.raf_texts {
+	// zeros, as there
+	at := (*C.raf_text)(copied(memory, make([]byte, len(all)*C.sizeof_raf_text)))
+	for number, items := 0, unsafe.Slice(at, len(all)); number < len(all); number++ {
+		items[number].text = spanOf(memory, []byte(all[number]))
+		items[number].is_read = numberOf(all[number] != nil)
+	}
+	return C.raf_texts{items: at, count: C.size_t(len(all))}
+}
+
 func (memory *held) digests(fingerprints []SHA256) C.raf_digests {
 	var all []byte
 	for _, one := range fingerprints {

@@ -9,8 +9,7 @@
  *   3. raf_check_certificate and .._for say whether the certificate is valid, given what you
  *      found, or what is wrong with it first.
  *
- * A login is such a check too: raf_login_question, and raf_check_login; by authorized_keys,
- * raf_check_user_keys, and by a file of principals, raf_check_principals. Of an SSH signature
+ * A login is such a check too: raf_log_in_questions, and raf_log_in. Of an SSH signature
  * (`ssh-keygen -Y sign`) raf_sshsig_question asks, or the same with the digest of the message.
  * Whether it counts, raf_check_sshsig says by the keys that you trust for its namespace, and
  * raf_check_signer by a file of allowed signers.
@@ -159,18 +158,20 @@ enum {
   RAF_VALID_PRINCIPALS = 76, /* it lists no principal, more than 256 or one with a zero byte; or the
                                 user's name is empty */
 
-  /* 80 to 83: a client's signature that does not count; the first of these */
+  /* 80 to 86: a client's signature that does not count */
   RAF_OTHER_REQUEST = 80,   /* the signed bytes are not those of this request, or its service is not
                                ssh-connection */
   RAF_OTHER_ALGORITHM = 81, /* the algorithm that the request names is not the signature's */
-  RAF_UNTOUCHED = 82,       /* nobody touched the security key, and the grant wants it */
-  RAF_UNVERIFIED = 83,      /* the security key did not verify its user, and the grant wants it */
+  RAF_UNTOUCHED = 82,       /* nobody touched the security key, and it is wanted */
+  RAF_UNVERIFIED = 83,      /* the security key did not verify its user, and it is wanted */
+  RAF_CLIENT_NOT_SIGNED = 84, /* it raises no question, or its answer is not yes: it is none of the
+                                 key's for this request. Said last */
+  RAF_NO_FLAGS = 85,          /* a touch or a verified user is wanted, and nobody tells the flags */
+  RAF_NO_SIGNATURE = 86,      /* its bytes are none */
 
-  /* 90 to 96: authorized_keys lets nobody in. 91 to 95 is why the first line for the key, or for
-   * the certificate's authority, refuses: each such line does. After 90 to 95 ask about the next
-   * file */
-  RAF_USER_NOT_LISTED = 90, /* no line is for the key, for the certificate's authority, or for a
-                               principal of it */
+  /* 90 to 96: nothing lets in. 91 to 95 is why the first line for the key, for the certificate's
+   * authority or for a principal of it refuses: each such line does */
+  RAF_USER_NOT_LISTED = 90, /* no line is for them, and no authority's certificate lists the user */
   RAF_LINE_EXPIRED = 91,    /* its expiry-time is over */
   RAF_LINE_OPTION = 92,     /* it has principals, and no cert-authority; of a file of principals,
                                one of both */
@@ -182,12 +183,19 @@ enum {
 
   RAF_NOT_PERMITTED = 97, /* the grant does not permit it */
 
+  RAF_TEXT_UNREADABLE = 98, /* a text could not be read, and nothing before it lets in */
+
   /* 100 to 102: nothing is asked about the host; the first of these */
   RAF_NO_PORT = 100,    /* the port is 0 */
   RAF_NO_HOST = 101,    /* the host has no bytes */
   RAF_NO_ADDRESS = 102, /* it is like an address, and is none with one text: 127.1, fe80::1%eth0 */
 
-  RAF_NO_IDENTITY = 103 /* the signer's identity has no bytes */
+  RAF_NO_IDENTITY = 103, /* the signer's identity has no bytes */
+
+  /* of raf_log_in */
+  RAF_UNSIGNED = 104,       /* `how` is none of RAF_SIGNED_*: nobody has seen the signature */
+  RAF_NO_PRINCIPALS = 105,  /* `principals_from` is none of RAF_PRINCIPALS_* */
+  RAF_OTHER_QUESTIONS = 106 /* the ticket is of other questions: ask again */
 };
 
 /* The name of a status as it stands above, without RAF_; for logs. */
@@ -214,12 +222,15 @@ static inline const char *raf_status_name(uint32_t status) {
     RAF_NAMED(CRITICAL_OPTIONS); RAF_NAMED(EXTENSIONS); RAF_NAMED(KEY_ID);
     RAF_NAMED(VALID_PRINCIPALS);
     RAF_NAMED(OTHER_REQUEST); RAF_NAMED(OTHER_ALGORITHM); RAF_NAMED(UNTOUCHED);
-    RAF_NAMED(UNVERIFIED);
+    RAF_NAMED(UNVERIFIED); RAF_NAMED(CLIENT_NOT_SIGNED); RAF_NAMED(NO_FLAGS);
+    RAF_NAMED(NO_SIGNATURE);
     RAF_NAMED(USER_NOT_LISTED); RAF_NAMED(LINE_EXPIRED); RAF_NAMED(LINE_OPTION);
     RAF_NAMED(LINE_ELSEWHERE); RAF_NAMED(LINE_COMMAND); RAF_NAMED(LINE_PRINCIPALS);
     RAF_NAMED(LINE_UNCLEAR); RAF_NAMED(NOT_PERMITTED);
+    RAF_NAMED(TEXT_UNREADABLE);
     RAF_NAMED(NO_PORT); RAF_NAMED(NO_HOST); RAF_NAMED(NO_ADDRESS);
     RAF_NAMED(NO_IDENTITY);
+    RAF_NAMED(UNSIGNED); RAF_NAMED(NO_PRINCIPALS); RAF_NAMED(OTHER_QUESTIONS);
     default: return "no status";
   }
 #undef RAF_NAMED
@@ -303,8 +314,7 @@ enum {
 /* What has to be verified: that `signature` is one of `message` under `key`, made as `algorithm`
  * says. A security key's question is already the one about the plain key within and about what the
  * device signed (PROTOCOL.u2f): 32 bytes of digest, a byte of flags, four of the counter, and 32 of
- * digest. Whether somebody touched it or was verified, raf_userauth_question and
- * raf_check_grant_flags say of a client's signature. */
+ * digest. Whether somebody touched it or was verified, raf_log_in says of a client's signature. */
 typedef struct {
   raf_part key;       /* its blob */
   raf_part message;   /* what is signed */
@@ -555,133 +565,6 @@ uint32_t raf_signature_question(const uint8_t *key, size_t key_length, const uin
                                 size_t signature_length, uint8_t *buffer, size_t buffer_length,
                                 raf_question *answer);
 
-/* ---- who is let in (sshd(8)) ------------------------------------------------------------------ */
-
-/* A login by a certificate, and whom the server trusts. */
-typedef struct {
-  raf_span certificate;    /* its blob, as the client sent it */
-  raf_span user;           /* UTF-8 */
-  raf_span key;            /* the blob of the key under which the client signs: whether it has
-                              raf_userauth_question asks */
-  raf_span client;         /* the address of its socket, of 4 or 16 bytes; with any other number of
-                              bytes it has none: then source-address lets nobody in */
-  raf_digests authorities; /* of the keys that may sign logins */
-  raf_spans revoked;       /* revocation files, each a list or keys as text: any of them revokes.
-                              Who asks none says so: RAF_NO_REVOCATIONS */
-  uint64_t unix_timestamp;
-  uint32_t least_rsa_bits;        /* as RequiredRSASize; below 1,024, as 0, it is 1,024 */
-  uint32_t caller_checks_address; /* 1: you check yourself whether source-address, which no grant
-                                     tells, has the client's, and `client` is not looked at: so does
-                                     sshd with a certificate whose principals a program tells it,
-                                     and before 9.4 it tells that program no address. With any other
-                                     number, as 0, it is checked here; and always by
-                                     raf_check_user_keys and raf_check_principals, which with 1 know
-                                     no address */
-} raf_login;
-
-/* What a grant permits. Zero permits nothing. */
-enum {
-  RAF_PERMIT_PTY = 1,
-  RAF_PERMIT_PORT_FORWARDING = 2,
-  RAF_PERMIT_AGENT_FORWARDING = 4,
-  RAF_PERMIT_X11_FORWARDING = 8,
-  RAF_PERMIT_USER_RC = 16,
-  RAF_PERMIT_ANY_COMMAND = 32,      /* no force-command: what the client asks for, or a shell */
-  RAF_PERMIT_NO_TOUCH = 64,         /* a security key that nobody touched */
-  RAF_PERMIT_NO_VERIFICATION = 128, /* a security key that did not verify its user */
-  /* by authorized_keys alone (raf_user_grant) */
-  RAF_PERMIT_TUNNELS = 256,   /* tunnels (tun(4)) */
-  RAF_PERMIT_ANY_TUNNEL = 512 /* whichever device of them; never without RAF_PERMIT_TUNNELS */
-};
-
-/* What a login may do, and by which certificate. */
-typedef struct {
-  raf_part force_command; /* what runs without RAF_PERMIT_ANY_COMMAND, whatever the client asks for:
-                             nothing, and no shell, where it has no bytes. With it no bytes */
-  raf_part key_id;        /* a text, for logs */
-  size_t length;          /* how many bytes of the buffer these take */
-  uint64_t serial;        /* the certificate's */
-  raf_sha256 authority;   /* of the key that signed it */
-  uint32_t permits;       /* RAF_PERMIT_* */
-} raf_grant;
-
-/* What has to be verified before a login is let in: the question of its certificate. So nothing is
- * verified of a certificate that a stranger signed, or that has expired.
- *
- * RAF_DONE, or RAF_SHORT_BUFFER, exactly if all but the signature is right (memory aside): then
- * raf_check_login lets in if the answer is yes. Else what that says, whatever the answer is;
- * RAF_NOT_SIGNED, last, of a certificate that raises no question. Only with RAF_DONE is there
- * something to verify. A buffer of twice the certificate's length and 2,304 bytes is enough.
- * RAF_MEMORY only where the user is UTF-8 and the key is one. */
-uint32_t raf_login_question(const raf_login *login, uint8_t *buffer, size_t buffer_length,
-                            raf_question *answer);
-
-/* Whether a login is let in, as sshd would by these authorities, and what it may do. `is_verified`
- * is 1 if the answer to the question of its certificate is yes (raf_login_question); any other
- * number is no.
- *
- * RAF_DONE exactly if the bytes are a certificate for users, in its normal form, of just that key,
- * which OpenSSH lets in, that lists the user; with options and texts that sshd accepts, and a
- * source-address that has the client's, unless you check it; valid at that second by one of the
- * authorities, whose key is of a kind and a size that OpenSSH accepts there; `is_verified` is 1;
- * and no revocation file revokes it (memory and buffer aside). Else what is wrong first: RAF_TEXT
- * for the user, 10 to 29 for bytes that are no key, or else no certificate, 70 to 72, 59 for the
- * key or the one that signed, 73 to 76, then RAF_UNTRUSTED_AUTHORITY, RAF_UNREADABLE_REVOCATIONS or
- * RAF_REVOKED, 32 to 34, RAF_ELSEWHERE, and last 30. A buffer as long as the certificate is enough.
- * RAF_MEMORY only where the user is UTF-8 and the key is one.
- *
- * With RAF_SHORT_BUFFER `*answer` is zero but for its `length`, and with every other answer but
- * RAF_DONE all zero, which permits nothing; the buffer stays as it was.
- *
- * Yours: that the client signed under the key (raf_userauth_question asks), to run no other command
- * than the grant's, and to allow nothing that it does not permit. */
-uint32_t raf_check_login(const raf_login *login, uint32_t is_verified, uint8_t *buffer,
-                         size_t buffer_length, raf_grant *answer);
-
-/* ---- what a client signs (RFC 4252, section 7; OpenSSH's PROTOCOL) --------------------------- */
-
-/* A client's signature for a login by public key, and the request that it has to be of. */
-typedef struct {
-  raf_span session_id; /* the server's own, and nothing that the client sent */
-  raf_span user;
-  raf_span algorithm;    /* the name of the public key algorithm in the request */
-  raf_span public_key;   /* the blob of the key or the certificate that the grant came from */
-  raf_span host_key;     /* the blob of the server's own host key, and nothing that the client sent,
-                            if has_host_key is not 0 */
-  raf_span signature;    /* the blob of the client's signature (RFC 4253, section 6.6) */
-  uint32_t has_host_key; /* 0: the method is publickey; else publickey-hostbound-v00@openssh.com */
-  uint32_t permits;      /* the grant's: RAF_PERMIT_NO_TOUCH, .._NO_VERIFICATION */
-} raf_userauth;
-
-/* What has to be verified of a client's signature for a login. The bytes that it signs are made
- * here, for the service ssh-connection. The names of algorithms are compared as by sshd: that of a
- * certificate stands for its plain one, and rsa-sha2-256 is not rsa-sha2-512.
- *
- * RAF_DONE exactly if the signature is by the algorithm that the request names, public_key is a
- * key of it, or a certificate where the name is one's, and the flags of a security key are what the
- * grant wants (memory and buffer aside): then the signature is the client's exactly if your
- * verification says yes. Else 10 to 29 for bytes that are no signature; RAF_LENGTH for a part
- * that no string can hold; 81 to 83; 10 to 29 for a public_key that is none; RAF_UNSUPPORTED. A
- * buffer of twice the length of all the parts, and 2,304 bytes, is enough. */
-uint32_t raf_userauth_question(const raf_userauth *request, uint8_t *buffer,
-                               size_t buffer_length, raf_question *answer);
-
-/* The same where the server has the bytes that the client signed. Where they are not those of the
- * request, RAF_OTHER_REQUEST, in place of RAF_LENGTH. */
-uint32_t raf_userauth_question_of(const raf_userauth *request, const uint8_t *signed_bytes,
-                                  size_t signed_length, uint8_t *buffer, size_t buffer_length,
-                                  raf_question *answer);
-
-/* Whether the flags in a client's signature are what a grant that permits this wants: for a server
- * whose SSH library has verified the signature, under the key of that blob (no certificate).
- *
- * RAF_DONE exactly if key and signature go together, and the key is no security key or its flags
- * are what is wanted (memory aside); else RAF_UNSUPPORTED, RAF_UNTOUCHED,
- * RAF_UNVERIFIED, or 10 to 29 for bytes that are no key, or else no signature. RAF_MEMORY
- * only where they are both. */
-uint32_t raf_check_grant_flags(uint32_t permits, const uint8_t *key, size_t key_length,
-                               const uint8_t *signature, size_t signature_length);
-
 /* ---- SSH signatures (PROTOCOL.sshsig) -------------------------------------------------------- */
 
 /* What has to be verified of an SSH signature of the message in that namespace, and the SHA-256
@@ -838,7 +721,7 @@ typedef struct {
  * (memory and buffer aside); RAF_TEXT for a line that is not UTF-8, else 10 to 29. A buffer of the
  * line's length is enough. Here a zero byte is a byte like others, while sshd reads no further.
  *
- * It shows a line, and decides nothing: whom a text lets in, raf_check_user_keys says. */
+ * It shows a line, and decides nothing: whom a text lets in, raf_log_in says. */
 uint32_t raf_authorized_entry(const uint8_t *line, size_t line_length, uint8_t *buffer,
                               size_t buffer_length, raf_entry *answer);
 
@@ -863,7 +746,7 @@ typedef struct {
  * of the options' length is enough. All options take time in proportion to them.
  *
  * Go on to RAF_END, since what follows an option is not read with it. What the options of a line
- * say of a login, raf_check_user_keys decides. */
+ * say of a login, raf_log_in decides. */
 uint32_t raf_next_line_option(const uint8_t *options, size_t options_length, size_t place,
                               uint8_t *buffer, size_t buffer_length,
                               raf_line_option_parts *answer);
@@ -1020,92 +903,214 @@ typedef struct {
  * something else follows a bracket or the one colon. Takes no memory. */
 uint32_t raf_host_and_port(const uint8_t *text, size_t length, raf_destination *answer);
 
-/* ---- whom authorized_keys lets in (sshd(8)) -------------------------------------------------- */
+/* ---- who logs in by public key (RFC 4252, section 7; sshd_config(5)) ------------------------- */
 
-/* What a login by a line of authorized_keys may do. */
+/* What a client offers in its request. */
 typedef struct {
-  raf_grant grant;        /* with the command of the line or of the certificate; of a plain key
-                             key_id has no bytes, serial and authority are zero */
+  raf_span user;      /* whom to log in as; UTF-8 */
+  raf_span algorithm; /* as the request names it: rsa-sha2-512 also for a key of ssh-rsa. Of no bytes
+                         only where somebody else verifies the signature, and does not tell it */
+  raf_span blob;      /* of a key or of a certificate, as it was sent */
+} raf_offer;
+
+/* Who has seen the client's signature. 0 is nobody, and nobody is let in. */
+enum {
+  RAF_SIGNED_REQUEST = 1,      /* you ask here: session_id, host_key, signature */
+  RAF_SIGNED_BY_TRANSPORT = 2, /* your SSH library verified it under the blob's own key, for this
+                                  user, and tells no flags */
+  RAF_SIGNED_WITH_FLAGS = 3,   /* it did, and `flags` are those of the security key's signature */
+  RAF_SIGNED_BY_SSHD = 4       /* sshd verifies it itself and looks at its flags: for its helpers */
+};
+typedef struct {
+  raf_span session_id;   /* the server's own, and nothing that the client sent */
+  raf_span host_key;     /* the blob of the server's own host key, and nothing that the client sent,
+                            if has_host_key is not 0 */
+  raf_span signature;    /* the blob of the client's signature (RFC 4253, section 6.6) */
+  uint32_t how;          /* RAF_SIGNED_* */
+  uint32_t has_host_key; /* 0: the method is publickey; else publickey-hostbound-v00@openssh.com */
+  uint8_t flags;         /* PROTOCOL.u2f: 1 touched, 4 verified */
+} raf_signed;
+
+/* The text of a file that the server's configuration names. Of a file that is not there it has no
+ * bytes, and was read. */
+typedef struct {
+  raf_span text;    /* lines need not be UTF-8 */
+  uint32_t is_read; /* 1 where it was read. With any other number, as 0, it is there and could not
+                       be read: no text after it is asked, nor any other source */
+} raf_text;
+typedef struct {
+  const raf_text *items; /* no null pointer */
+  size_t count;
+} raf_texts;
+
+/* Whom a certificate lets in that an authority signed. 0 is neither, and nobody is let in. */
+enum {
+  RAF_PRINCIPALS_IN_CERTIFICATE = 1, /* the users that it lists: no AuthorizedPrincipalsFile */
+  RAF_PRINCIPALS_IN_FILES = 2        /* those for whom `principals` have one of its names */
+};
+
+/* Whom a server trusts, in the order in which sshd asks. */
+typedef struct {
+  raf_texts authorized_keys;  /* AuthorizedKeysFile: each text in its turn */
+  raf_digests authorities;    /* TrustedUserCAKeys: the keys that may sign logins of all users */
+  raf_texts principals;       /* AuthorizedPrincipalsFile: of the first text that has a line for a
+                                 principal, the first such line decides */
+  raf_texts command_keys;     /* AuthorizedKeysCommand: what it wrote, if it ended with 0 */
+  raf_spans revoked;          /* RevokedKeys: each a list or keys as text; any of them revokes. Who
+                                 asks none says so: RAF_NO_REVOCATIONS */
+  uint32_t principals_from;   /* RAF_PRINCIPALS_* */
+  uint32_t least_rsa_bits;    /* RequiredRSASize; below 1,024, as 0, it is 1,024 */
+  uint32_t requires_touch;    /* PubkeyAuthOptions: not 0 where each security key has to be touched */
+  uint32_t requires_verification; /* likewise where each has to verify its user */
+} raf_trusted;
+
+/* Where a client is, and when it asks. */
+typedef struct {
+  raf_span client;         /* the address of its socket, of 4 or 16 bytes; with any other number of
+                              bytes it is not known, and what asks for one lets nobody in */
+  raf_span host;           /* the name that was found for it (UseDNS), or of no bytes; UTF-8 */
+  uint64_t unix_timestamp; /* seconds since 1970 */
+  uint32_t caller_checks_address; /* 1: sshd checks source-address itself, as before 9.4, which tells
+                                     its programs no address. It counts with RAF_SIGNED_BY_SSHD
+                                     alone; else no address is known then */
+} raf_place;
+
+/* A login by public key. */
+typedef struct {
+  raf_offer offer;
+  raf_signed signed_by;
+  raf_trusted trusted;
+  raf_place place;
+} raf_login;
+
+/* Which questions are asked; and which were answered yes. */
+enum { RAF_ASKS_AUTHORITY = 1, RAF_ASKS_CLIENT = 2 };
+
+/* What has to be verified of a login. */
+typedef struct {
+  raf_question authority; /* about the signature of the certificate, with RAF_ASKS_AUTHORITY */
+  raf_question client;    /* about the client's, with RAF_ASKS_CLIENT; all zero where not asked */
+  size_t length;          /* how many bytes of the buffer both take */
+  raf_sha256 ticket;      /* names these questions to raf_log_in */
+  uint32_t asked;         /* RAF_ASKS_*: a sum; 0 where nothing is left to verify */
+} raf_login_questions;
+
+/* By what a login is let in. */
+enum {
+  RAF_SOURCE_AUTHORIZED_KEYS = 1, /* a text of authorized_keys */
+  RAF_SOURCE_AUTHORITY = 2,       /* an authority, by a certificate that lists the user */
+  RAF_SOURCE_PRINCIPALS = 3,      /* an authority, by a text of principals */
+  RAF_SOURCE_COMMAND = 4          /* what AuthorizedKeysCommand wrote */
+};
+
+/* What a grant permits. Zero permits nothing. */
+enum {
+  RAF_PERMIT_PTY = 1,
+  RAF_PERMIT_PORT_FORWARDING = 2,
+  RAF_PERMIT_AGENT_FORWARDING = 4,
+  RAF_PERMIT_X11_FORWARDING = 8,
+  RAF_PERMIT_USER_RC = 16,
+  RAF_PERMIT_ANY_COMMAND = 32,      /* no force-command: what the client asks for, or a shell */
+  RAF_PERMIT_NO_TOUCH = 64,         /* a security key that nobody touched */
+  RAF_PERMIT_NO_VERIFICATION = 128, /* a security key that did not verify its user */
+  RAF_PERMIT_TUNNELS = 256,   /* tunnels (tun(4)) */
+  RAF_PERMIT_ANY_TUNNEL = 512 /* whichever device of them; never without RAF_PERMIT_TUNNELS */
+};
+
+/* What a login is let in by, and what it may do. Zero permits nothing. */
+typedef struct {
+  raf_part force_command; /* what runs without RAF_PERMIT_ANY_COMMAND, whatever the client asks for:
+                             nothing, and no shell, where it has no bytes. With it no bytes */
+  raf_part key_id;        /* the certificate's, a text for logs; of a plain key no bytes */
   raf_part permit_open;   /* where ports may be forwarded, which raf_may_open reads: strings
                              (raf_next_string), two each: a host, and a port of two bytes,
                              big-endian, or of none for any port. Where they may be forwarded
                              anywhere it is "*" at any port, and nowhere it has no bytes */
   raf_part permit_listen; /* likewise where may be listened, which raf_may_listen reads */
-  raf_part environment;   /* strings NAME=VALUE; by its defaults sshd sets none */
+  raf_part environment;   /* strings NAME=VALUE (raf_next_string); by its defaults sshd sets none */
+  size_t length;          /* how many bytes of the buffer these take */
+  size_t line;            /* the number of the line that lets in, from 1; 0 where the certificate
+                             alone does. Of a refusal 91 to 96, of the line that refuses */
+  size_t text;            /* the number of its text among its like, from 0. Of a refusal 91 to 96 or
+                             98 likewise */
+  uint64_t serial;        /* the certificate's; of a plain key 0 */
   raf_time_span expires;  /* the last second at which the line counts; UINT64_MAX at any */
-  size_t line;            /* the number of the line, from 1; of a refusal 91 to 96, of the line that
-                             refuses */
+  raf_sha256 authority;   /* of the key that signed the certificate; of a plain key zero */
+  raf_sha256 key;         /* of the plain key, also of one in a certificate: a server that wants two
+                             methods in a row refuses a key that was taken before */
+  uint32_t permits;       /* RAF_PERMIT_* */
   uint32_t tunnel;        /* with RAF_PERMIT_TUNNELS alone the only device of tun(4); 0x7fffffff is
                              the "any" that a client asks for */
-} raf_user_grant;
+  uint32_t source;        /* RAF_SOURCE_*; of a refusal 91 to 96 or 98 that of its text, else 0 */
+} raf_grant;
 
-/* Whether a text of authorized_keys, of one file, lets a login in, as sshd would by the first line
- * that does, and what that line leaves it. Where the login's certificate has no bytes, the client
- * shows the plain key, and `is_verified` does not count. Else it shows that certificate of the key,
- * for which lines cert-authority are asked: `is_verified` is 1 if the answer to its question is yes
- * (raf_certificate_question); any other number is no. Ask with 0 first: RAF_NOT_SIGNED says "now
- * verify", and with any other answer there is nothing to verify.
+/* What has to be verified before a login is let in: of a certificate the authority's signature, and
+ * the client's, unless somebody else has verified it. So nothing is verified of what a stranger
+ * certified, or where anything else is wrong.
  *
- * `host` is the name that was found for the client's address (UseDNS), or of no bytes. The login's
- * authorities are not looked at. Without an address (caller_checks_address is 1, too) a line with
- * from cannot be told; nor can one that is not UTF-8 and may be for the key or its authority.
- *
- * RAF_DONE exactly if OpenSSH accepts the key, no revocation file revokes it, the first line for it
- * that allows place and time comes before each that cannot be told, and the line is of no
- * authority; or, of a certificate, if that line is of the authority that signed it, whose key
- * OpenSSH accepts, allows its names and its command, and raf_check_login lets it in by that
- * authority, for the name (memory and buffer aside). Else what is wrong first: RAF_TEXT where the
- * user or the host is not UTF-8, 10 to 29 for bytes that are no key, or else no certificate,
- * RAF_KEY_NOT_ACCEPTED, of a key RAF_UNREADABLE_REVOCATIONS or RAF_REVOKED, 90 to 96, and of a
- * certificate that a line lets in what raf_check_login says. A buffer as long as the text and twice
- * the certificate is enough. RAF_MEMORY only where these are UTF-8 and the key is one.
- *
- * After 90 to 95 ask about the next file; after every other answer let no other one count. With
- * RAF_SHORT_BUFFER `*answer` is zero but for grant.length, and with every other answer but RAF_DONE
- * zero but for `line`: it permits nothing; the buffer stays as it was.
- *
- * Yours: that the client signed under the key (raf_userauth_question asks, with grant.permits), to
- * run no other command than the grant's, and to allow nothing that it does not permit. */
-uint32_t raf_check_user_keys(const raf_login *login, const uint8_t *text,
-                             size_t text_length, const uint8_t *host, size_t host_length,
-                             uint32_t is_verified, uint8_t *buffer, size_t buffer_length,
-                             raf_user_grant *answer);
+ * RAF_DONE, or RAF_SHORT_BUFFER, exactly if all is right but the signatures (memory aside): then
+ * raf_log_in lets in if each answer is yes. Else what raf_log_in says, whatever the answers are;
+ * 30 of a certificate that raises no question, and 84 of a client's signature that raises none. A
+ * buffer of twice the length of blob, session_id, host_key, signature and user, and 4,608 bytes, is
+ * enough. */
+uint32_t raf_log_in_questions(const raf_login *login, uint8_t *buffer,
+                              size_t buffer_length, raf_login_questions *answer);
 
-/* Whether a text in the form of AuthorizedPrincipalsFile (sshd_config(5)), of one file, lets a
- * login in by its certificate, as sshd would by the first line for a principal that this lists, and
- * what that line leaves it. login->authorities are those of TrustedUserCAKeys, and login->user is
- * not asked about. The answer, the numbers, the buffer and what is yours are those of
- * raf_check_user_keys, but for these:
+/* Lets in who holds the key that is offered, by itself or in a certificate, and has signed with it,
+ * as sshd does by its method publickey, and says what the login is bound to. `answers` is the sum of
+ * RAF_ASKS_* of the questions to which your verification said yes, and `ticket` the one that came
+ * with them. An answer to a question that was not asked does not count.
  *
- * RAF_DONE exactly if that line comes before each that cannot be told, and allows the certificate,
- * place and time, OpenSSH accepts the key that signed it, and raf_check_login lets it in by
- * login->authorities for that principal (memory and buffer aside). No bytes are no certificate: 10
- * to 29. RAF_LINE_PRINCIPALS never comes. A line for a principal cannot be told where it is not
- * UTF-8 up to a #.
+ * RAF_DONE exactly if (memory and buffer aside)
+ *  - what is offered is a key or a certificate that OpenSSH accepts, and it is not revoked;
+ *  - the first source that lets it in does so on these terms: the texts of authorized_keys, by the
+ *    first line for the key, or cert-authority for its certificate's, that allows the login; then
+ *    the authorities, for a certificate that lists the user, or by `principals`; then command_keys.
+ *    What refuses is passed over, but a line of principals ends it, and so does what cannot be told;
+ *  - the certificate, if it is one, is for users, in normal form, valid then, not revoked, with
+ *    options and texts that sshd accepts, and a source-address that has the client's;
+ *  - the algorithm is one of what is offered, and the flags of a security key are what server and
+ *    grant want;
+ *  - the ticket is of these questions, and each has its bit.
  *
- * A line that refuses ends it: after RAF_USER_NOT_LISTED alone ask about the next file, and after
- * every other answer, 91 to 96 too, let no other one count. */
-uint32_t raf_check_principals(const raf_login *login, const uint8_t *text,
-                              size_t text_length, const uint8_t *host, size_t host_length,
-                              uint32_t is_verified, uint8_t *buffer, size_t buffer_length,
-                              raf_user_grant *answer);
+ * Else what is wrong first: RAF_UNSIGNED, RAF_TEXT for user or host, RAF_NO_PRINCIPALS; 10 to 29 for
+ * bytes that are no key and no certificate; 59; of a key 58 or 56; 96 or 98; 91 to 95 or 90; of a
+ * certificate 70, 71, 59, 73 to 76, 31, 58 or 56, 32 to 34, 57; 81, RAF_LENGTH, 86, 82, 83, 85;
+ * RAF_OTHER_QUESTIONS; 30; and last 84. RAF_MEMORY only where user and host are UTF-8.
+ *
+ * With RAF_SHORT_BUFFER `*answer` is zero but for its `length`. With every other answer but RAF_DONE
+ * it is zero, which permits nothing, but for `line`, `text` and `source` as above; the buffer stays
+ * as it was. To keep to the grant is yours. */
+uint32_t raf_log_in(const raf_login *login, const raf_sha256 *ticket, uint32_t answers,
+                    uint8_t *buffer, size_t buffer_length, raf_grant *answer);
+
+/* The same for the query without a signature (RFC 4252, section 7): whether what is offered lets in
+ * whoever signs with it. `signed_by` is not looked at, the address is not left to the caller, and
+ * the authority's question alone is asked. It grants nothing. */
+uint32_t raf_may_offer_questions(const raf_login *login, uint8_t *buffer,
+                                 size_t buffer_length, raf_login_questions *answer);
+
+/* RAF_DONE exactly if so, with the ticket and the answers as raf_log_in takes them; else what that
+ * says, but nothing about a client's signature: of 80 to 86 only 81. */
+uint32_t raf_may_offer(const raf_login *login, const raf_sha256 *ticket,
+                       uint32_t answers);
 
 /* Whether the client may have a port forwarded to that host and port, as its request names them
  * ("direct-tcpip" of RFC 4254, section 7.2). The grant and the buffer are those that
- * raf_check_user_keys or raf_check_principals wrote with RAF_DONE.
+ * raf_log_in wrote with RAF_DONE.
  *
  * RAF_DONE exactly if the grant permits the forwarding of ports, there is such a port, up to
  * 65,535, and the line has no permitopen or one for them, where "*" is any host and another is
  * compared byte by byte; else RAF_TEXT for a host that is not UTF-8, and RAF_NOT_PERMITTED. Takes no
- * memory. By a certificate alone (raf_grant) with RAF_PERMIT_PORT_FORWARDING all may be done. */
-uint32_t raf_may_open(const raf_user_grant *grant, const uint8_t *buffer, size_t buffer_length,
+ * memory. */
+uint32_t raf_may_open(const raf_grant *grant, const uint8_t *buffer, size_t buffer_length,
                       const uint8_t *host, size_t host_length, uint32_t port);
 
 /* Whether it may have the server listen at that host and port ("tcpip-forward", section 7.1),
  * likewise by permitlisten, of which a host is a pattern that the client's matches in small letters,
  * as the request has it: "", "localhost" and "127.0.0.1" are three. Port 0, by which the server
  * chooses one, is permitted where any port is. Takes no memory. */
-uint32_t raf_may_listen(const raf_user_grant *grant, const uint8_t *buffer, size_t buffer_length,
+uint32_t raf_may_listen(const raf_grant *grant, const uint8_t *buffer, size_t buffer_length,
                         const uint8_t *host, size_t host_length, uint32_t port);
 
 /* ---------------------------------------------------------------------------------------------- */
@@ -1166,23 +1171,6 @@ RAF_IS(sizeof(raf_spans) == 16);
 RAF_IS(offsetof(raf_digests, items) == 0);
 RAF_IS(offsetof(raf_digests, count) == 8);
 RAF_IS(sizeof(raf_digests) == 16);
-RAF_IS(offsetof(raf_login, certificate) == 0);
-RAF_IS(offsetof(raf_login, user) == 16);
-RAF_IS(offsetof(raf_login, key) == 32);
-RAF_IS(offsetof(raf_login, client) == 48);
-RAF_IS(offsetof(raf_login, authorities) == 64);
-RAF_IS(offsetof(raf_login, revoked) == 80);
-RAF_IS(offsetof(raf_login, unix_timestamp) == 96);
-RAF_IS(offsetof(raf_login, least_rsa_bits) == 104);
-RAF_IS(offsetof(raf_login, caller_checks_address) == 108);
-RAF_IS(sizeof(raf_login) == 112);
-RAF_IS(offsetof(raf_grant, force_command) == 0);
-RAF_IS(offsetof(raf_grant, key_id) == 16);
-RAF_IS(offsetof(raf_grant, length) == 32);
-RAF_IS(offsetof(raf_grant, serial) == 40);
-RAF_IS(offsetof(raf_grant, authority) == 48);
-RAF_IS(offsetof(raf_grant, permits) == 80);
-RAF_IS(sizeof(raf_grant) == 88);
 RAF_IS(offsetof(raf_draft, key) == 0);
 RAF_IS(offsetof(raf_draft, nonce) == 16);
 RAF_IS(offsetof(raf_draft, key_id) == 32);
@@ -1196,15 +1184,6 @@ RAF_IS(offsetof(raf_draft, valid_before) == 128);
 RAF_IS(offsetof(raf_draft, certificate_type) == 136);
 RAF_IS(offsetof(raf_draft, all_principals) == 140);
 RAF_IS(sizeof(raf_draft) == 144);
-RAF_IS(offsetof(raf_userauth, session_id) == 0);
-RAF_IS(offsetof(raf_userauth, user) == 16);
-RAF_IS(offsetof(raf_userauth, algorithm) == 32);
-RAF_IS(offsetof(raf_userauth, public_key) == 48);
-RAF_IS(offsetof(raf_userauth, host_key) == 64);
-RAF_IS(offsetof(raf_userauth, signature) == 80);
-RAF_IS(offsetof(raf_userauth, has_host_key) == 96);
-RAF_IS(offsetof(raf_userauth, permits) == 100);
-RAF_IS(sizeof(raf_userauth) == 104);
 RAF_IS(offsetof(raf_host_login, known_hosts) == 0);
 RAF_IS(offsetof(raf_host_login, host) == 16);
 RAF_IS(offsetof(raf_host_login, revoked) == 32);
@@ -1230,14 +1209,65 @@ RAF_IS(sizeof(raf_time_span) == 16);
 RAF_IS(offsetof(raf_destination, host) == 0);
 RAF_IS(offsetof(raf_destination, port) == 16);
 RAF_IS(sizeof(raf_destination) == 24);
-RAF_IS(offsetof(raf_user_grant, grant) == 0);
-RAF_IS(offsetof(raf_user_grant, permit_open) == 88);
-RAF_IS(offsetof(raf_user_grant, permit_listen) == 104);
-RAF_IS(offsetof(raf_user_grant, environment) == 120);
-RAF_IS(offsetof(raf_user_grant, expires) == 136);
-RAF_IS(offsetof(raf_user_grant, line) == 152);
-RAF_IS(offsetof(raf_user_grant, tunnel) == 160);
-RAF_IS(sizeof(raf_user_grant) == 168);
+RAF_IS(offsetof(raf_offer, user) == 0);
+RAF_IS(offsetof(raf_offer, algorithm) == 16);
+RAF_IS(offsetof(raf_offer, blob) == 32);
+RAF_IS(sizeof(raf_offer) == 48);
+RAF_IS(offsetof(raf_signed, session_id) == 0);
+RAF_IS(offsetof(raf_signed, host_key) == 16);
+RAF_IS(offsetof(raf_signed, signature) == 32);
+RAF_IS(offsetof(raf_signed, how) == 48);
+RAF_IS(offsetof(raf_signed, has_host_key) == 52);
+RAF_IS(offsetof(raf_signed, flags) == 56);
+RAF_IS(sizeof(raf_signed) == 64);
+RAF_IS(offsetof(raf_text, text) == 0);
+RAF_IS(offsetof(raf_text, is_read) == 16);
+RAF_IS(sizeof(raf_text) == 24);
+RAF_IS(offsetof(raf_texts, items) == 0);
+RAF_IS(offsetof(raf_texts, count) == 8);
+RAF_IS(sizeof(raf_texts) == 16);
+RAF_IS(offsetof(raf_trusted, authorized_keys) == 0);
+RAF_IS(offsetof(raf_trusted, authorities) == 16);
+RAF_IS(offsetof(raf_trusted, principals) == 32);
+RAF_IS(offsetof(raf_trusted, command_keys) == 48);
+RAF_IS(offsetof(raf_trusted, revoked) == 64);
+RAF_IS(offsetof(raf_trusted, principals_from) == 80);
+RAF_IS(offsetof(raf_trusted, least_rsa_bits) == 84);
+RAF_IS(offsetof(raf_trusted, requires_touch) == 88);
+RAF_IS(offsetof(raf_trusted, requires_verification) == 92);
+RAF_IS(sizeof(raf_trusted) == 96);
+RAF_IS(offsetof(raf_place, client) == 0);
+RAF_IS(offsetof(raf_place, host) == 16);
+RAF_IS(offsetof(raf_place, unix_timestamp) == 32);
+RAF_IS(offsetof(raf_place, caller_checks_address) == 40);
+RAF_IS(sizeof(raf_place) == 48);
+RAF_IS(offsetof(raf_login, offer) == 0);
+RAF_IS(offsetof(raf_login, signed_by) == 48);
+RAF_IS(offsetof(raf_login, trusted) == 112);
+RAF_IS(offsetof(raf_login, place) == 208);
+RAF_IS(sizeof(raf_login) == 256);
+RAF_IS(offsetof(raf_login_questions, authority) == 0);
+RAF_IS(offsetof(raf_login_questions, client) == 64);
+RAF_IS(offsetof(raf_login_questions, length) == 128);
+RAF_IS(offsetof(raf_login_questions, ticket) == 136);
+RAF_IS(offsetof(raf_login_questions, asked) == 168);
+RAF_IS(sizeof(raf_login_questions) == 176);
+RAF_IS(offsetof(raf_grant, force_command) == 0);
+RAF_IS(offsetof(raf_grant, key_id) == 16);
+RAF_IS(offsetof(raf_grant, permit_open) == 32);
+RAF_IS(offsetof(raf_grant, permit_listen) == 48);
+RAF_IS(offsetof(raf_grant, environment) == 64);
+RAF_IS(offsetof(raf_grant, length) == 80);
+RAF_IS(offsetof(raf_grant, line) == 88);
+RAF_IS(offsetof(raf_grant, text) == 96);
+RAF_IS(offsetof(raf_grant, serial) == 104);
+RAF_IS(offsetof(raf_grant, expires) == 112);
+RAF_IS(offsetof(raf_grant, authority) == 128);
+RAF_IS(offsetof(raf_grant, key) == 160);
+RAF_IS(offsetof(raf_grant, permits) == 192);
+RAF_IS(offsetof(raf_grant, tunnel) == 196);
+RAF_IS(offsetof(raf_grant, source) == 200);
+RAF_IS(sizeof(raf_grant) == 208);
 #undef RAF_IS
 
 #ifdef __cplusplus

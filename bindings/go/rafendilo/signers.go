@@ -15,7 +15,7 @@ type Signers struct {
 	Identity string
 	// Now is the time at which the key has to be allowed.
 	Now time.Time
-	// Revoked is what the files of ssh-keygen's -r have, as in Login.
+	// Revoked is what the files of ssh-keygen's -r have, as in Trusted.
 	Revoked [][]byte
 	// Verify is IsSignature where it is nil.
 	Verify Verifier

@@ -102,7 +102,7 @@ const (
 	ErrNotNormalForm Status = C.RAF_NOT_NORMAL_FORM
 	// ErrOtherType is for one of a host where a user shows it, or of a user where a host does.
 	ErrOtherType Status = C.RAF_OTHER_TYPE
-	// ErrOtherKey is for one of another key than the client's.
+	// ErrOtherKey is for one of another key than the client's. No call here fails with it.
 	ErrOtherKey Status = C.RAF_OTHER_KEY
 	// ErrCriticalOptions is for one with a critical option that is not known, or whose value
 	// sshd does not read.
@@ -117,10 +117,10 @@ const (
 	ErrValidPrincipals Status = C.RAF_VALID_PRINCIPALS
 )
 
-// A client's signature does not count: the first of these.
+// A client's signature does not count.
 const (
 	// ErrOtherRequest is for signed bytes that are not those of the request, or are for another
-	// service than ssh-connection.
+	// service than ssh-connection. No call here fails with it.
 	ErrOtherRequest Status = C.RAF_OTHER_REQUEST
 	// ErrOtherAlgorithm is for a request that names another algorithm than the signature's.
 	ErrOtherAlgorithm Status = C.RAF_OTHER_ALGORITHM
@@ -128,13 +128,20 @@ const (
 	ErrUntouched Status = C.RAF_UNTOUCHED
 	// ErrUnverified is for one that did not verify its user.
 	ErrUnverified Status = C.RAF_UNVERIFIED
+	// ErrClientNotSigned is for a signature that is none of the key's for this request.
+	ErrClientNotSigned Status = C.RAF_CLIENT_NOT_SIGNED
+	// ErrNoFlags is for a security key whose flags nobody tells, where a touch or a verified
+	// user is wanted.
+	ErrNoFlags Status = C.RAF_NO_FLAGS
+	// ErrNoSignature is for bytes that are no signature.
+	ErrNoSignature Status = C.RAF_NO_SIGNATURE
 )
 
-// Nobody is let in by authorized_keys, of which all but the last let another file be asked about,
-// or by a file of principals, of which the first alone does.
+// Nothing lets in. From ErrLineExpired to ErrLinePrincipals it is why the first line for the key,
+// for the certificate's authority or for a principal of it refuses: each such line does.
 const (
-	// ErrUserNotListed is for a text without a line for the key, for the certificate's
-	// authority or for a principal of it.
+	// ErrUserNotListed is where no line is for them, and no authority's certificate lists the
+	// user.
 	ErrUserNotListed Status = C.RAF_USER_NOT_LISTED
 	// ErrLineExpired is for a line whose expiry-time is over.
 	ErrLineExpired Status = C.RAF_LINE_EXPIRED
@@ -150,6 +157,16 @@ const (
 	// ErrLineUnclear is for a line that may let in: sshd may take it, so no other one may
 	// count.
 	ErrLineUnclear Status = C.RAF_LINE_UNCLEAR
+	// ErrTextUnreadable is for a text that could not be read, where nothing before it lets in.
+	ErrTextUnreadable Status = C.RAF_TEXT_UNREADABLE
+)
+
+// What has no default is left out of a login.
+const (
+	// ErrUnsigned is where nobody has seen the signature: Signed is nil.
+	ErrUnsigned Status = C.RAF_UNSIGNED
+	// ErrNoPrincipals is where nobody says whom authorities let in: Trusted.Principals is nil.
+	ErrNoPrincipals Status = C.RAF_NO_PRINCIPALS
 )
 
 // ErrNotPermitted is for what a grant does not permit.

@@ -4,8 +4,8 @@
     python -m rafendilo check AUTHORITIES USER [SECOND] <id_ed25519-cert.pub
 
 The first prints the SHA-256 fingerprint of the key of each line. The second prints for the certificate of each line whether sshd
-would let the user in by it and a TrustedUserCAKeys that is the file AUTHORITIES, at that second since 1970, or else now. The client
-has no address: a certificate with a source-address is refused. The package `cryptography` verifies. Status 0: all have a fingerprint,
+would let the user in by it and a TrustedUserCAKeys that is the file AUTHORITIES, if the client signs, at that second since 1970, or else
+now. The client has no address: a certificate with a source-address is refused. The package `cryptography` verifies. Status 0: all have a fingerprint,
 or are valid; 1: not all; 2: it can't tell, as where there is no line.
 """
 from __future__ import annotations
@@ -24,11 +24,11 @@ def fingerprint(line: bytes) -> str:
 
 
 def check(line: bytes, by: rafendilo.Authorities, user: bytes, second: int) -> str:
-    """Raises Refused unless the certificate of the line logs the user in."""
-    certificate = rafendilo.read_line(line).blob
-    rafendilo.log_in(rafendilo.Login(
-        certificate=certificate, user=user, key=rafendilo.certificate_contents(certificate).key, unix_timestamp=second,
-        authorities=by.keys, revoked=rafendilo.NO_REVOCATIONS))  # fmt: skip
+    """Raises Refused unless the certificate of the line lets the user in, if the client signs."""
+    offer = rafendilo.Offer(user, "", rafendilo.read_line(line).blob)
+    rafendilo.may_offer(offer, rafendilo.Trusted(
+        authorized_keys=[], authorities=by.keys, principals=rafendilo.IN_CERTIFICATE, command_keys=[], revoked=rafendilo.NO_REVOCATIONS,
+    ), rafendilo.Place(None, second))  # fmt: skip
     return "valid"
 
 

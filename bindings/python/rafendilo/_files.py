@@ -36,7 +36,7 @@ def _entry(call: Callable[..., int], line: BytesLike) -> tuple[int, tuple[bytes,
 def authorized_entry(line: BytesLike) -> AuthorizedEntry:
     """The entry of a line of authorized_keys, as sshd reads it. Raises Refused where the line is none, and MemoryError.
 
-    It shows a line, and decides nothing: whom a text lets in, log_in_by_keys says."""
+    It shows a line, and decides nothing: whom a text lets in, log_in says."""
     return AuthorizedEntry(*_entry(LIBRARY.raf_authorized_entry, line)[1])
 
 
@@ -49,7 +49,7 @@ def known_host(line: BytesLike) -> KnownHost:
 
 def line_options(text: BytesLike) -> list[tuple[bytes, bytes | None]]:
     """The options of an entry of authorized_keys: of each its name, which is compared without case, and its value or None. What
-    they say of a login, log_in_by_keys decides.
+    they say of a login, log_in decides.
 
     Raises Refused where the text is no list of options, and MemoryError."""
     found: list[tuple[bytes, bytes | None]] = []

@@ -75,9 +75,12 @@ class Status(Answer):
     VALID_PRINCIPALS: It lists no principal, more than 256 or one with a zero byte; or the user's name is empty.
     OTHER_REQUEST: The signed bytes are not those of this request, or its service is not ssh-connection.
     OTHER_ALGORITHM: The algorithm that the request names is not the signature's.
-    UNTOUCHED: Nobody touched the security key, and the grant wants it.
-    UNVERIFIED: The security key did not verify its user, and the grant wants it.
-    USER_NOT_LISTED: No line is for the key, for the certificate's authority, or for a principal of it.
+    UNTOUCHED: Nobody touched the security key, and it is wanted.
+    UNVERIFIED: The security key did not verify its user, and it is wanted.
+    CLIENT_NOT_SIGNED: It raises no question, or its answer is not yes: it is none of the key's for this request.
+    NO_FLAGS: A touch or a verified user is wanted, and nobody tells the flags.
+    NO_SIGNATURE: Its bytes are none.
+    USER_NOT_LISTED: No line is for them, and no authority's certificate lists the user.
     LINE_EXPIRED: Its expiry-time is over.
     LINE_OPTION: It has principals, and no cert-authority; of a file of principals, one of both.
     LINE_ELSEWHERE: Its from is for other places.
@@ -85,10 +88,14 @@ class Status(Answer):
     LINE_PRINCIPALS: The certificate lists nobody whom it lets in.
     LINE_UNCLEAR: A line may let in, and how sshd reads it cannot be told: so no other line and no other file may.
     NOT_PERMITTED: The grant does not permit it.
+    TEXT_UNREADABLE: A text could not be read, and nothing before it lets in.
     NO_PORT: The port is 0.
     NO_HOST: The host has no bytes.
     NO_ADDRESS: It is like an address, and is none with one text: 127.1, fe80::1%eth0.
     NO_IDENTITY: The signer's identity has no bytes.
+    UNSIGNED: `how` is none of RAF_SIGNED_*: nobody has seen the signature.
+    NO_PRINCIPALS: `principals_from` is none of RAF_PRINCIPALS_*.
+    OTHER_QUESTIONS: The ticket is of other questions: ask again.
     """
     DONE = 0
     MEMORY = 1
@@ -141,6 +148,9 @@ class Status(Answer):
     OTHER_ALGORITHM = 81
     UNTOUCHED = 82
     UNVERIFIED = 83
+    CLIENT_NOT_SIGNED = 84
+    NO_FLAGS = 85
+    NO_SIGNATURE = 86
     USER_NOT_LISTED = 90
     LINE_EXPIRED = 91
     LINE_OPTION = 92
@@ -149,10 +159,14 @@ class Status(Answer):
     LINE_PRINCIPALS = 95
     LINE_UNCLEAR = 96
     NOT_PERMITTED = 97
+    TEXT_UNREADABLE = 98
     NO_PORT = 100
     NO_HOST = 101
     NO_ADDRESS = 102
     NO_IDENTITY = 103
+    UNSIGNED = 104
+    NO_PRINCIPALS = 105
+    OTHER_QUESTIONS = 106
 
 
 class Algorithm(IntEnum):
@@ -187,6 +201,69 @@ class CertificateType(IntEnum):
     HOST = 2
 
 
+class Marker(IntEnum):
+    """What stands before an entry of known_hosts: nothing, @cert-authority or @revoked."""
+
+    NONE = 0
+    CERT_AUTHORITY = 1
+    REVOKED = 2
+
+
+class KnownBy(IntEnum):
+    """By what a host that shows a certificate is known; 0 is none of both.
+
+    AUTHORITY: By an authority of the host, which made it a certificate.
+    CERTIFIED_KEY: By the key in the certificate, as if nobody had signed it.
+    """
+    AUTHORITY = 1
+    CERTIFIED_KEY = 2
+
+
+class SignedHow(IntEnum):
+    """Who has seen the client's signature. 0 is nobody, and nobody is let in.
+
+    REQUEST: You ask here: session_id, host_key, signature.
+    BY_TRANSPORT: Your SSH library verified it under the blob's own key, for this user, and tells no flags.
+    WITH_FLAGS: It did, and `flags` are those of the security key's signature.
+    BY_SSHD: Sshd verifies it itself and looks at its flags: for its helpers.
+    """
+    REQUEST = 1
+    BY_TRANSPORT = 2
+    WITH_FLAGS = 3
+    BY_SSHD = 4
+
+
+class PrincipalsFrom(IntEnum):
+    """Whom a certificate lets in that an authority signed. 0 is neither, and nobody is let in.
+
+    IN_CERTIFICATE: The users that it lists: no AuthorizedPrincipalsFile.
+    IN_FILES: Those for whom `principals` have one of its names.
+    """
+    IN_CERTIFICATE = 1
+    IN_FILES = 2
+
+
+class Asks(IntFlag):
+    """Which questions are asked; and which were answered yes."""
+
+    AUTHORITY = 1
+    CLIENT = 2
+
+
+class Source(IntEnum):
+    """By what a login is let in.
+
+    AUTHORIZED_KEYS: A text of authorized_keys.
+    AUTHORITY: An authority, by a certificate that lists the user.
+    PRINCIPALS: An authority, by a text of principals.
+    COMMAND: What AuthorizedKeysCommand wrote.
+    """
+    AUTHORIZED_KEYS = 1
+    AUTHORITY = 2
+    PRINCIPALS = 3
+    COMMAND = 4
+
+
 class Permits(IntFlag):
     """What a grant permits.
 
@@ -206,24 +283,6 @@ class Permits(IntFlag):
     NO_VERIFICATION = 128
     TUNNELS = 256
     ANY_TUNNEL = 512
-
-
-class Marker(IntEnum):
-    """What stands before an entry of known_hosts: nothing, @cert-authority or @revoked."""
-
-    NONE = 0
-    CERT_AUTHORITY = 1
-    REVOKED = 2
-
-
-class KnownBy(IntEnum):
-    """By what a host that shows a certificate is known; 0 is none of both.
-
-    AUTHORITY: By an authority of the host, which made it a certificate.
-    CERTIFIED_KEY: By the key in the certificate, as if nobody had signed it.
-    """
-    AUTHORITY = 1
-    CERTIFIED_KEY = 2
 
 
 # what each means, in words
@@ -279,7 +338,10 @@ WORDS = {
     Status.OTHER_ALGORITHM: "another algorithm than the request's",
     Status.UNTOUCHED: "a security key that nobody touched",
     Status.UNVERIFIED: "a security key that did not verify its user",
-    Status.USER_NOT_LISTED: "no line is for the key",
+    Status.CLIENT_NOT_SIGNED: "not signed by the client",
+    Status.NO_FLAGS: "a security key whose flags nobody tells",
+    Status.NO_SIGNATURE: "no signature",
+    Status.USER_NOT_LISTED: "no line is for the key, and no authority lists the user",
     Status.LINE_EXPIRED: "a line whose time is over",
     Status.LINE_OPTION: "a line with principals and without cert-authority",
     Status.LINE_ELSEWHERE: "a line for other places",
@@ -287,10 +349,14 @@ WORDS = {
     Status.LINE_PRINCIPALS: "a line for nobody whom the certificate lists",
     Status.LINE_UNCLEAR: "a line that can't be told",
     Status.NOT_PERMITTED: "the grant does not permit it",
+    Status.TEXT_UNREADABLE: "a text that could not be read",
     Status.NO_PORT: "port 0",
     Status.NO_HOST: "no host",
     Status.NO_ADDRESS: "a host that is like an address, and has no one text",
     Status.NO_IDENTITY: "no identity",
+    Status.UNSIGNED: "nobody has seen the signature",
+    Status.NO_PRINCIPALS: "not told whom authorities let in",
+    Status.OTHER_QUESTIONS: "answers to other questions",
 }
 
 
@@ -373,33 +439,6 @@ class Draft(Structure):
     ]
 
 
-class Login(Structure):
-    """raf_login"""
-
-    _fields_ = [
-        ("certificate", Span), ("user", Span), ("key", Span), ("client", Span), ("authorities", Digests), ("revoked", Spans),
-        ("unix_timestamp", c_uint64), ("least_rsa_bits", c_uint32), ("caller_checks_address", c_uint32)
-    ]
-
-
-class Grant(Structure):
-    """raf_grant"""
-
-    _fields_ = [
-        ("force_command", Part), ("key_id", Part), ("length", c_size_t), ("serial", c_uint64), ("authority", Sha256),
-        ("permits", c_uint32)
-    ]
-
-
-class Userauth(Structure):
-    """raf_userauth"""
-
-    _fields_ = [
-        ("session_id", Span), ("user", Span), ("algorithm", Span), ("public_key", Span), ("host_key", Span), ("signature", Span),
-        ("has_host_key", c_uint32), ("permits", c_uint32)
-    ]
-
-
 class Entry(Structure):
     """raf_entry"""
 
@@ -433,12 +472,68 @@ class Destination(Structure):
     _fields_ = [("host", Part), ("port", c_uint16)]
 
 
-class UserGrant(Structure):
-    """raf_user_grant"""
+class Offer(Structure):
+    """raf_offer"""
+
+    _fields_ = [("user", Span), ("algorithm", Span), ("blob", Span)]
+
+
+class Signed(Structure):
+    """raf_signed"""
 
     _fields_ = [
-        ("grant", Grant), ("permit_open", Part), ("permit_listen", Part), ("environment", Part), ("expires", TimeSpan),
-        ("line", c_size_t), ("tunnel", c_uint32)
+        ("session_id", Span), ("host_key", Span), ("signature", Span), ("how", c_uint32), ("has_host_key", c_uint32),
+        ("flags", c_uint8)
+    ]
+
+
+class Text(Structure):
+    """raf_text"""
+
+    _fields_ = [("text", Span), ("is_read", c_uint32)]
+
+
+class Texts(Structure):
+    """raf_texts"""
+
+    _fields_ = [("items", POINTER(Text)), ("count", c_size_t)]
+
+
+class Trusted(Structure):
+    """raf_trusted"""
+
+    _fields_ = [
+        ("authorized_keys", Texts), ("authorities", Digests), ("principals", Texts), ("command_keys", Texts), ("revoked", Spans),
+        ("principals_from", c_uint32), ("least_rsa_bits", c_uint32), ("requires_touch", c_uint32),
+        ("requires_verification", c_uint32)
+    ]
+
+
+class Place(Structure):
+    """raf_place"""
+
+    _fields_ = [("client", Span), ("host", Span), ("unix_timestamp", c_uint64), ("caller_checks_address", c_uint32)]
+
+
+class Login(Structure):
+    """raf_login"""
+
+    _fields_ = [("offer", Offer), ("signed_by", Signed), ("trusted", Trusted), ("place", Place)]
+
+
+class LoginQuestions(Structure):
+    """raf_login_questions"""
+
+    _fields_ = [("authority", Question), ("client", Question), ("length", c_size_t), ("ticket", Sha256), ("asked", c_uint32)]
+
+
+class Grant(Structure):
+    """raf_grant"""
+
+    _fields_ = [
+        ("force_command", Part), ("key_id", Part), ("permit_open", Part), ("permit_listen", Part), ("environment", Part),
+        ("length", c_size_t), ("line", c_size_t), ("text", c_size_t), ("serial", c_uint64), ("expires", TimeSpan),
+        ("authority", Sha256), ("key", Sha256), ("permits", c_uint32), ("tunnel", c_uint32), ("source", c_uint32)
     ]
 
 
@@ -468,11 +563,6 @@ CALLS: dict[str, tuple[Any, ...]] = {
     "raf_signature_question": (
         c_char_p, c_size_t, c_char_p, c_size_t, c_char_p, c_size_t, POINTER(c_uint8), c_size_t, POINTER(Question)
     ),
-    "raf_login_question": (POINTER(Login), POINTER(c_uint8), c_size_t, POINTER(Question)),
-    "raf_check_login": (POINTER(Login), c_uint32, POINTER(c_uint8), c_size_t, POINTER(Grant)),
-    "raf_userauth_question": (POINTER(Userauth), POINTER(c_uint8), c_size_t, POINTER(Question)),
-    "raf_userauth_question_of": (POINTER(Userauth), c_char_p, c_size_t, POINTER(c_uint8), c_size_t, POINTER(Question)),
-    "raf_check_grant_flags": (c_uint32, c_char_p, c_size_t, c_char_p, c_size_t),
     "raf_sshsig_question": (
         c_char_p, c_size_t, c_char_p, c_size_t, c_char_p, c_size_t, POINTER(c_uint8), c_size_t, POINTER(Question), POINTER(Sha256)
     ),
@@ -506,12 +596,10 @@ CALLS: dict[str, tuple[Any, ...]] = {
     "raf_check_from": (c_char_p, c_size_t, c_char_p, c_size_t, c_char_p, c_size_t),
     "raf_read_time": (c_char_p, c_size_t, POINTER(TimeSpan)),
     "raf_host_and_port": (c_char_p, c_size_t, POINTER(Destination)),
-    "raf_check_user_keys": (
-        POINTER(Login), c_char_p, c_size_t, c_char_p, c_size_t, c_uint32, POINTER(c_uint8), c_size_t, POINTER(UserGrant)
-    ),
-    "raf_check_principals": (
-        POINTER(Login), c_char_p, c_size_t, c_char_p, c_size_t, c_uint32, POINTER(c_uint8), c_size_t, POINTER(UserGrant)
-    ),
-    "raf_may_open": (POINTER(UserGrant), c_char_p, c_size_t, c_char_p, c_size_t, c_uint32),
-    "raf_may_listen": (POINTER(UserGrant), c_char_p, c_size_t, c_char_p, c_size_t, c_uint32),
+    "raf_log_in_questions": (POINTER(Login), POINTER(c_uint8), c_size_t, POINTER(LoginQuestions)),
+    "raf_log_in": (POINTER(Login), POINTER(Sha256), c_uint32, POINTER(c_uint8), c_size_t, POINTER(Grant)),
+    "raf_may_offer_questions": (POINTER(Login), POINTER(c_uint8), c_size_t, POINTER(LoginQuestions)),
+    "raf_may_offer": (POINTER(Login), POINTER(Sha256), c_uint32),
+    "raf_may_open": (POINTER(Grant), c_char_p, c_size_t, c_char_p, c_size_t, c_uint32),
+    "raf_may_listen": (POINTER(Grant), c_char_p, c_size_t, c_char_p, c_size_t, c_uint32),
 }

@@ -17,7 +17,11 @@ SSHSIG_FRONT = 10
 def question_of(call: Callable[..., int], length: int) -> Question:
     """The question that a call writes, which is given a buffer of that length at first."""
     answer = _header.Question()
-    buffer = ask(call, answer, length)
+    return question_in(ask(call, answer, length), answer)
+
+
+def question_in(buffer: bytes, answer: _header.Question) -> Question:
+    """The question whose parts stand in the buffer."""
     return Question(Algorithm(answer.algorithm), *parts_of(buffer, answer.key, answer.message, answer.signature))
 
 

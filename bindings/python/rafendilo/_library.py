@@ -7,8 +7,9 @@ import os
 from collections.abc import Callable, Iterable
 from typing import Any
 
+from . import _header
 from ._header import ABI, CALLS, Part, Sha256, Span, Spans, Status
-from ._values import BytesLike, Refused
+from ._values import UNREADABLE, BytesLike, Refused, Text
 
 HERE = os.path.dirname(os.path.realpath(__file__))
 # the name by which the system's loader finds the library, and by which it lies in the package of a wheel
@@ -80,6 +81,15 @@ def spans_of(values: Iterable[BytesLike]) -> Spans:
         raise TypeError("a list of files is wanted, and not what one has")
     spans = [span_of(it) for it in values]
     return Spans((Span * max(len(spans), 1))(*spans), len(spans))
+
+
+def texts_of(values: Iterable[Text]) -> _header.Texts:
+    """Texts of files, of which some could not be read. Raises TypeError where one is neither bytes nor UNREADABLE, and for bytes in place
+    of a list."""
+    if isinstance(values, (str, bytes, bytearray, memoryview)):
+        raise TypeError("a list of texts is wanted, and not one text")
+    texts = [_header.Text(span_of(b"" if it is UNREADABLE else it), it is not UNREADABLE) for it in values]
+    return _header.Texts((_header.Text * max(len(texts), 1))(*texts), len(texts))
 
 
 def number_of(value: int, bits: int) -> int:

@@ -5,14 +5,13 @@ import dataclasses
 import functools
 import inspect
 import re
-from collections.abc import Callable
-from typing import Any, TypeVar, cast
+from typing import Any, Callable, TypeVar, cast
 
 from ._values import Refused
 
 Call = TypeVar("Call", bound=Callable[..., Any])
 # the arguments that are blobs, and fields of such
-BLOBS = ("certificate", "key", "public_key", "host_key", "authority", "signature")
+BLOBS = ("blob", "certificate", "key", "host_key", "authority", "signature")
 # how a line begins, and an armour: a blob begins with the length of a name, which has zeros in front
 LINE, ARMOUR = re.compile(rb"[ \t]*(ssh|ecdsa|sk|rsa)-"), re.compile(rb"-----BEGIN ")
 
@@ -29,7 +28,7 @@ def names_blobs(call: Call) -> Call:
             if not hint or hint in str(error):
                 raise
             if isinstance(error, Refused):
-                raise Refused(error.status, error.line, hint) from None
+                raise Refused(error.status, error.line, error.text, error.source, hint) from None
             raise TypeError(f"{hint} ({error})") from None
 
     return cast(Call, named)

@@ -6,10 +6,12 @@ from collections.abc import Mapping
 from dataclasses import dataclass
 from typing import Any, Final, Union
 
-from ._header import WORDS, Algorithm, CertificateType, Marker, Status
+from ._header import WORDS, Algorithm, CertificateType, Marker, Source, Status
 
 # what a call takes for bytes
 BytesLike = Union[bytes, bytearray, memoryview]
+# what Trusted calls the texts of each source
+TEXTS = {Source.AUTHORIZED_KEYS: "authorized_keys", Source.PRINCIPALS: "principals", Source.COMMAND: "command_keys"}
 
 
 class AllPrincipals(enum.Enum):
@@ -24,17 +26,41 @@ ALL_PRINCIPALS: Final = AllPrincipals.ALL_PRINCIPALS
 NO_REVOCATIONS: Final = (b"SSHKRL\n\0\0\0\0\1" + bytes(32),)
 
 
-class Refused(ValueError):
-    """What was given is not what it has to be: `status` says what is wrong first, and the text is its words and its number. `line` is
-    the number, from 1, of the line of authorized_keys that refuses, and 0 where none does. `hint` names an argument that is a line in
-    place of a blob, and is empty where none is."""
+class Unreadable(enum.Enum):
+    """The type of UNREADABLE."""
 
-    def __init__(self, status: int, line: int = 0, hint: str = "") -> None:
-        self.status, self.line, self.hint = Status(status), line, hint
-        super().__init__(f"{WORDS[self.status]} ({self.status:d})" + (f" in line {line}" if line else "") + (f": {hint}" if hint else ""))
+    UNREADABLE = enum.auto()
+
+
+class InCertificate(enum.Enum):
+    """The type of IN_CERTIFICATE."""
+
+    IN_CERTIFICATE = enum.auto()
+
+
+# in place of the text of a file that is there and could not be read: no text after it is asked, nor any other source
+UNREADABLE: Final = Unreadable.UNREADABLE
+# in place of texts of principals: no AuthorizedPrincipalsFile is configured, and an authority lets in whom the certificate lists
+IN_CERTIFICATE: Final = InCertificate.IN_CERTIFICATE
+# the text of a file that the server's configuration names: of one that is not there it is empty
+Text = Union[bytes, bytearray, memoryview, Unreadable]
+
+
+class Refused(ValueError):
+    """What was given is not what it has to be: `status` says what is wrong first, and the text is its words and its number. Of a login
+    `line` is the number, from 1, of the line that refuses, `text` the number, from 0, of its text, and `source` which texts these are:
+    0, 0 and None where none does. `hint` names an argument that is a line in place of a blob, and is empty where none is."""
+
+    def __init__(self, status: int, line: int = 0, text: int = 0, source: int | None = None, hint: str = "") -> None:
+        self.status, self.line, self.text, self.hint = Status(status), line, text, hint
+        self.source = Source(source) if source else None
+        place = [f"line {line}"] if line else []
+        place += [f"{TEXTS[self.source]}[{text}]"] if self.source in TEXTS else []
+        said = [f" in {' of '.join(place)}"] if place else []
+        super().__init__("".join([f"{WORDS[self.status]} ({self.status:d})", *said, *([f": {hint}"] if hint else [])]))
 
     def __reduce__(self) -> tuple[Any, ...]:
-        return type(self), (self.status, self.line, self.hint)
+        return type(self), (self.status, self.line, self.text, self.source, self.hint)
 
 
 @dataclass(frozen=True)

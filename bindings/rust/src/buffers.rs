@@ -26,13 +26,7 @@ macro_rules! answers {
     };
 }
 
-answers! { Question Line Entry LineOptionParts Grant }
-
-impl Answer for raw::UserGrant {
-    fn length(&self) -> usize {
-        self.grant.length
-    }
-}
+answers! { Question Line Entry LineOptionParts LoginQuestions Grant }
 
 /// The byte strings of a list, as a call takes them.
 pub(crate) fn spans<'a>(list: &[&'a [u8]]) -> Vec<raw::Span<'a>> {

@@ -159,7 +159,7 @@ pub struct CertificateContents<'a> {
     /// A text of the authority's, for logs.
     pub key_id: &'a str,
     /// The names of those whom it is for: of everybody, where it lists none.
-    pub principals: Principals<'a>,
+    pub principals: CertificatePrincipals<'a>,
     /// What whoever accepts it has to know and to meet.
     pub critical_options: CertificateOptions<'a>,
     /// What it permits.
@@ -175,7 +175,7 @@ pub fn certificate_contents(certificate: &[u8]) -> Result<CertificateContents<'_
     Status::of(raw::raf_certificate_parts(certificate, &mut found))?;
     Ok(CertificateContents {
         key_id: text(found.key_id.of(certificate))?,
-        principals: Principals(strings(found.principals.of(certificate))),
+        principals: CertificatePrincipals(strings(found.principals.of(certificate))),
         critical_options: certificate_options(found.critical_options.of(certificate)),
         extensions: certificate_options(found.extensions.of(certificate)),
         authority: found.authority.of(certificate),
@@ -196,9 +196,9 @@ pub(crate) fn text(bytes: &[u8]) -> Result<&str, Status> {
 /// The principals of a certificate, lent of its bytes.
 #[derive(Clone, Debug)]
 #[must_use = "an iterator asks nothing until it is asked"]
-pub struct Principals<'a>(Strings<'a>);
+pub struct CertificatePrincipals<'a>(Strings<'a>);
 
-impl<'a> Iterator for Principals<'a> {
+impl<'a> Iterator for CertificatePrincipals<'a> {
     type Item = Result<&'a str, Status>;
 
     fn next(&mut self) -> Option<Self::Item> {
@@ -206,7 +206,7 @@ impl<'a> Iterator for Principals<'a> {
     }
 }
 
-impl FusedIterator for Principals<'_> {}
+impl FusedIterator for CertificatePrincipals<'_> {}
 
 /// A critical option or an extension, lent of the bytes of a certificate.
 #[derive(Clone, Copy, Debug, PartialEq, Eq)]

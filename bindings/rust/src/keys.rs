@@ -41,8 +41,8 @@ pub fn read_line(line: impl AsRef<[u8]>) -> Result<Line, Status> {
 /// 10 to 29 where they are none, with [`Status::UNSUPPORTED`] where they do not go together, and
 /// with [`Status::MEMORY`].
 ///
-/// Of a login [`check_userauth`](crate::check_userauth) asks it, and the flags of a security key,
-/// which are looked at there alone.
+/// Of a login [`log_in`](crate::log_in) asks it, and the flags of a security key, which are looked
+/// at there alone.
 pub fn signature_question(
     key: &[u8],
     message: &[u8],

@@ -6,7 +6,7 @@
 //! `rafendilo::is_signature`.
 //!
 //! ```
-//! use rafendilo::{Grant, Login, Question, Sha256, Status, Userauth, NO_REVOCATIONS};
+//! use rafendilo::{Grant, Offer, Place, Principals, Question, Refused, Sha256, Signed, Text, Trusted};
 //!
 //! /// Whether the signature is one of the message under the key, by your library.
 //! fn is_signature(question: &Question) -> bool {
@@ -14,38 +14,32 @@
 //!     false
 //! }
 //!
-//! /// Logs alice in by the line of a certificate, if she has signed this session under the key.
+//! /// Logs in who offers this, and has signed this session with it.
 //! fn log_in(
-//!     line: &str, key: &[u8], unix_timestamp: u64, authorities: &[Sha256], session_id: &[u8],
-//!     signature: &[u8],
-//! ) -> Result<Grant, Status> {
-//!     let certificate = rafendilo::read_line(line)?.blob;
-//!     let login = Login {
-//!         certificate: &certificate,
-//!         user: b"alice",
-//!         key,
-//!         client: None, // the address of the socket
-//!         unix_timestamp,
-//!         authorities,
-//!         revoked: NO_REVOCATIONS, // or what the files of sshd's RevokedKeys have
-//!         least_rsa_bits: 0,
-//!         caller_checks_address: false,
-//!     };
-//!     let grant = rafendilo::log_in(&login, is_signature)?;
-//!     let request = Userauth {
-//!         session_id, // your server's own
-//!         user: login.user,
-//!         algorithm: b"ssh-ed25519-cert-v01@openssh.com", // as the request names it
-//!         public_key: login.certificate,
+//!     offer: &Offer, signature: &[u8], session_id: &[u8], text: &[u8], authorities: &[Sha256],
+//!     place: &Place,
+//! ) -> Result<Grant, Refused> {
+//!     let signed = Signed::Request {
+//!         session_id,     // your server's own
 //!         host_key: None, // or your server's own, if the request has one
-//!         signed: None,
 //!         signature,
-//!         permits: grant.permits,
 //!     };
-//!     rafendilo::check_userauth(&request, is_signature)?;
-//!     Ok(grant)
+//!     let trusted = Trusted {
+//!         authorized_keys: &[Text::Read(text)],
+//!         authorities,
+//!         principals: Principals::InCertificate,
+//!         command_keys: &[],
+//!         revoked: rafendilo::NO_REVOCATIONS, // or what the files of sshd's RevokedKeys have
+//!         least_rsa_bits: 0,
+//!         requires_touch: false,
+//!         requires_verification: false,
+//!     };
+//!     rafendilo::log_in(offer, &signed, &trusted, place, is_signature)
 //! }
-//! # assert_eq!(log_in("ssh-ed25519", &[], 0, &[], &[], &[]), Err(Status::LENGTH));
+//! # let offer = Offer { user: b"alice", algorithm: Some(b"ssh-ed25519"), blob: &[] };
+//! # let place = Place { client: None, host: None, unix_timestamp: 0 };
+//! # let refused = log_in(&offer, &[], &[], &[], &[], &place).unwrap_err();
+//! # assert_eq!(refused.status, rafendilo::Status::LENGTH);
 //! ```
 //!
 //! The library lies in this crate as text, for Linux on x86-64 and aarch64. With the feature
@@ -67,6 +61,7 @@ mod certificates;
 mod digests;
 mod drafts;
 mod files;
+mod grants;
 mod hosts;
 mod keys;
 #[cfg(feature = "libcrypto")]
@@ -82,16 +77,14 @@ mod sshsigs;
 mod status;
 mod strings;
 mod times;
-mod user_keys;
-mod userauth;
 
 pub use addresses::{check_from, check_source_address};
 pub use authorities::{authorities, is_later_key_line, user_authorities, Authorities, NoKey};
 pub use certificates::{
     certificate_contents, certificate_fields, certificate_key, certificate_options,
     certificate_question, check_certificate, check_certificate_with_answer, CertificateContents,
-    CertificateFields, CertificateOption, CertificateOptions, CertificateType, Principal,
-    Principals,
+    CertificateFields, CertificateOption, CertificateOptions, CertificatePrincipals,
+    CertificateType, Principal,
 };
 pub use digests::{fingerprint, fingerprint_sha512, Sha256, Sha512};
 pub use drafts::{certificate_to_be_signed, join_certificate, make_certificate, Draft, Listed};
@@ -99,6 +92,7 @@ pub use files::{
     authorized_entry, entry_lines, is_safe_mode, known_host, line_may_name_authority,
     line_may_name_key, line_options, AuthorizedEntry, EntryLines, KnownHost, LineOption, Marker,
 };
+pub use grants::{Grant, HostPort, Refused, Source};
 pub use hosts::{
     check_host_certificate, check_host_key, host_and_port, unreadable_host_line, HostLogin, KnownBy,
 };
@@ -108,7 +102,7 @@ pub use keys::{
 };
 #[cfg(feature = "libcrypto")]
 pub use libcrypto::is_signature;
-pub use logins::{log_in, Grant, Login};
+pub use logins::{log_in, may_offer, Offer, Place, Principals, Signed, Text, Trusted};
 pub use permits::Permits;
 pub use questions::{Algorithm, Question};
 pub use raw::FOREVER;
@@ -124,5 +118,3 @@ pub use sshsigs::{
 pub use status::Status;
 pub use strings::{string, strings, Strings};
 pub use times::read_time;
-pub use user_keys::{log_in_by_keys, log_in_by_principals, Denial, Place, UserGrant};
-pub use userauth::{check_grant_flags, check_userauth, userauth_question, Userauth};

@@ -25,7 +25,7 @@ impl Permits {
     pub const NO_TOUCH: Permits = Permits(raw::PERMIT_NO_TOUCH);
     /// A signature by a security key that did not verify its user.
     pub const NO_VERIFICATION: Permits = Permits(raw::PERMIT_NO_VERIFICATION);
-    /// Tunnels (tun(4)). It and those below are in a [`UserGrant`](crate::UserGrant) alone.
+    /// Tunnels (tun(4)).
     pub const TUNNELS: Permits = Permits(raw::PERMIT_TUNNELS);
     /// Whichever device of them; never without them.
     pub const ANY_TUNNEL: Permits = Permits(raw::PERMIT_ANY_TUNNEL);

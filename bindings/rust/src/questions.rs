@@ -54,6 +54,12 @@ impl Question {
         call: impl FnMut(&mut [u8], &mut raw::Question) -> u32,
     ) -> Result<Question, Status> {
         let (buffer, answer) = ask(length, call)?;
+        Question::of(buffer, answer)
+    }
+
+    /// The question that a call has written to that buffer. Fails with [`Status::UNSUPPORTED`] for
+    /// an algorithm that has no name here.
+    pub(crate) fn of(buffer: Vec<u8>, answer: raw::Question) -> Result<Question, Status> {
         let algorithm = Algorithm::of(answer.algorithm).ok_or(Status::UNSUPPORTED)?;
         Ok(Question { algorithm, buffer, answer })
     }
@@ -81,25 +87,16 @@ impl Question {
     pub fn signature(&self) -> &[u8] {
         self.answer.signature.of(&self.buffer)
     }
-
-    /// Fails with [`Status::NOT_SIGNED`] where the verifier says no.
-    pub(crate) fn check(&self, verify: impl FnOnce(&Question) -> bool) -> Result<(), Status> {
-        if verify(self) {
-            Ok(())
-        } else {
-            Err(Status::NOT_SIGNED)
-        }
-    }
 }
 
 /// What the library says once it is told whether a verification says yes. It is asked first as if
 /// that said no, and the verification is made only where nothing else is wrong.
-pub(crate) fn decide<T, E: Copy + Into<Status> + From<Status>>(
-    verdict: impl Fn(bool) -> Result<T, E>,
+pub(crate) fn decide<T>(
+    verdict: impl Fn(bool) -> Result<T, Status>,
     is_verified: impl FnOnce() -> Result<bool, Status>,
-) -> Result<T, E> {
+) -> Result<T, Status> {
     match verdict(false) {
-        Err(error) if error.into() == Status::NOT_SIGNED => verdict(is_verified()?),
+        Err(Status::NOT_SIGNED) => verdict(is_verified()?),
         said => said,
     }
 }

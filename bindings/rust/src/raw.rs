@@ -55,6 +55,58 @@ pub const USER: u32 = 1;
 /// `RAF_HOST`.
 pub const HOST: u32 = 2;
 
+/// `RAF_MARKER_NONE`.
+pub const MARKER_NONE: u32 = 0;
+
+/// `RAF_MARKER_CERT_AUTHORITY`.
+pub const MARKER_CERT_AUTHORITY: u32 = 1;
+
+/// `RAF_MARKER_REVOKED`.
+pub const MARKER_REVOKED: u32 = 2;
+
+/// `RAF_BY_AUTHORITY`. By an authority of the host, which made it a certificate.
+pub const BY_AUTHORITY: u32 = 1;
+
+/// `RAF_BY_CERTIFIED_KEY`. By the key in the certificate, as if nobody had signed it.
+pub const BY_CERTIFIED_KEY: u32 = 2;
+
+/// `RAF_SIGNED_REQUEST`. You ask here: session_id, host_key, signature.
+pub const SIGNED_REQUEST: u32 = 1;
+
+/// `RAF_SIGNED_BY_TRANSPORT`. Your SSH library verified it under the blob's own key, for this user,
+/// and tells no flags.
+pub const SIGNED_BY_TRANSPORT: u32 = 2;
+
+/// `RAF_SIGNED_WITH_FLAGS`. It did, and `flags` are those of the security key's signature.
+pub const SIGNED_WITH_FLAGS: u32 = 3;
+
+/// `RAF_SIGNED_BY_SSHD`. Sshd verifies it itself and looks at its flags: for its helpers.
+pub const SIGNED_BY_SSHD: u32 = 4;
+
+/// `RAF_PRINCIPALS_IN_CERTIFICATE`. The users that it lists: no AuthorizedPrincipalsFile.
+pub const PRINCIPALS_IN_CERTIFICATE: u32 = 1;
+
+/// `RAF_PRINCIPALS_IN_FILES`. Those for whom `principals` have one of its names.
+pub const PRINCIPALS_IN_FILES: u32 = 2;
+
+/// `RAF_ASKS_AUTHORITY`.
+pub const ASKS_AUTHORITY: u32 = 1;
+
+/// `RAF_ASKS_CLIENT`.
+pub const ASKS_CLIENT: u32 = 2;
+
+/// `RAF_SOURCE_AUTHORIZED_KEYS`. A text of authorized_keys.
+pub const SOURCE_AUTHORIZED_KEYS: u32 = 1;
+
+/// `RAF_SOURCE_AUTHORITY`. An authority, by a certificate that lists the user.
+pub const SOURCE_AUTHORITY: u32 = 2;
+
+/// `RAF_SOURCE_PRINCIPALS`. An authority, by a text of principals.
+pub const SOURCE_PRINCIPALS: u32 = 3;
+
+/// `RAF_SOURCE_COMMAND`. What AuthorizedKeysCommand wrote.
+pub const SOURCE_COMMAND: u32 = 4;
+
 /// `RAF_PERMIT_PTY`.
 pub const PERMIT_PTY: u32 = 1;
 
@@ -84,21 +136,6 @@ pub const PERMIT_TUNNELS: u32 = 256;
 
 /// `RAF_PERMIT_ANY_TUNNEL`. Whichever device of them; never without RAF_PERMIT_TUNNELS.
 pub const PERMIT_ANY_TUNNEL: u32 = 512;
-
-/// `RAF_MARKER_NONE`.
-pub const MARKER_NONE: u32 = 0;
-
-/// `RAF_MARKER_CERT_AUTHORITY`.
-pub const MARKER_CERT_AUTHORITY: u32 = 1;
-
-/// `RAF_MARKER_REVOKED`.
-pub const MARKER_REVOKED: u32 = 2;
-
-/// `RAF_BY_AUTHORITY`. By an authority of the host, which made it a certificate.
-pub const BY_AUTHORITY: u32 = 1;
-
-/// `RAF_BY_CERTIFIED_KEY`. By the key in the certificate, as if nobody had signed it.
-pub const BY_CERTIFIED_KEY: u32 = 2;
 
 statuses! {
     /// Malloc refused; nothing is said of the input, and nothing is kept: the call may be made
@@ -205,12 +242,18 @@ statuses! {
     OTHER_REQUEST = 80, "signed for another request";
     /// The algorithm that the request names is not the signature's.
     OTHER_ALGORITHM = 81, "another algorithm than the request's";
-    /// Nobody touched the security key, and the grant wants it.
+    /// Nobody touched the security key, and it is wanted.
     UNTOUCHED = 82, "a security key that nobody touched";
-    /// The security key did not verify its user, and the grant wants it.
+    /// The security key did not verify its user, and it is wanted.
     UNVERIFIED = 83, "a security key that did not verify its user";
-    /// No line is for the key, for the certificate's authority, or for a principal of it.
-    USER_NOT_LISTED = 90, "no line is for the key";
+    /// It raises no question, or its answer is not yes: it is none of the key's for this request.
+    CLIENT_NOT_SIGNED = 84, "not signed by the client";
+    /// A touch or a verified user is wanted, and nobody tells the flags.
+    NO_FLAGS = 85, "a security key whose flags nobody tells";
+    /// Its bytes are none.
+    NO_SIGNATURE = 86, "no signature";
+    /// No line is for them, and no authority's certificate lists the user.
+    USER_NOT_LISTED = 90, "no line is for the key, and no authority lists the user";
     /// Its expiry-time is over.
     LINE_EXPIRED = 91, "a line whose time is over";
     /// It has principals, and no cert-authority; of a file of principals, one of both.
@@ -226,6 +269,8 @@ statuses! {
     LINE_UNCLEAR = 96, "a line that can't be told";
     /// The grant does not permit it.
     NOT_PERMITTED = 97, "the grant does not permit it";
+    /// A text could not be read, and nothing before it lets in.
+    TEXT_UNREADABLE = 98, "a text that could not be read";
     /// The port is 0.
     NO_PORT = 100, "port 0";
     /// The host has no bytes.
@@ -234,6 +279,12 @@ statuses! {
     NO_ADDRESS = 102, "a host that is like an address, and has no one text";
     /// The signer's identity has no bytes.
     NO_IDENTITY = 103, "no identity";
+    /// `how` is none of RAF_SIGNED_*: nobody has seen the signature.
+    UNSIGNED = 104, "nobody has seen the signature";
+    /// `principals_from` is none of RAF_PRINCIPALS_*.
+    NO_PRINCIPALS = 105, "not told whom authorities let in";
+    /// The ticket is of other questions: ask again.
+    OTHER_QUESTIONS = 106, "answers to other questions";
 }
 
 /// Bytes that a call reads; no null pointer, also where the length is 0 (raf_bytes).
@@ -360,73 +411,6 @@ pub(crate) struct Draft<'a> {
     pub all_principals: u32,
 }
 
-/// A login by a certificate, and whom the server trusts.
-#[repr(C)]
-#[derive(Clone, Copy, Debug, Default)]
-pub(crate) struct Login<'a> {
-    /// Its blob, as the client sent it.
-    pub certificate: Span<'a>,
-    /// UTF-8.
-    pub user: Span<'a>,
-    /// The blob of the key under which the client signs: whether it has raf_userauth_question asks.
-    pub key: Span<'a>,
-    /// The address of its socket, of 4 or 16 bytes; with any other number of bytes it has none:
-    /// then source-address lets nobody in.
-    pub client: Span<'a>,
-    /// Of the keys that may sign logins.
-    pub authorities: Digests<'a>,
-    /// Revocation files, each a list or keys as text: any of them revokes.
-    pub revoked: Spans<'a>,
-    pub unix_timestamp: u64,
-    /// As RequiredRSASize; below 1,024, as 0, it is 1,024.
-    pub least_rsa_bits: u32,
-    /// 1: you check yourself whether source-address, which no grant tells, has the client's, and
-    /// `client` is not looked at: so does sshd with a certificate whose principals a program tells
-    /// it, and before 9.4 it tells that program no address.
-    pub caller_checks_address: u32,
-}
-
-/// What a login may do, and by which certificate.
-#[repr(C)]
-#[derive(Clone, Copy, Debug, Default)]
-pub(crate) struct Grant {
-    /// What runs without RAF_PERMIT_ANY_COMMAND, whatever the client asks for: nothing, and no
-    /// shell, where it has no bytes.
-    pub force_command: Part,
-    /// A text, for logs.
-    pub key_id: Part,
-    /// How many bytes of the buffer these take.
-    pub length: usize,
-    /// The certificate's.
-    pub serial: u64,
-    /// Of the key that signed it.
-    pub authority: Sha256,
-    /// RAF_PERMIT_*.
-    pub permits: u32,
-}
-
-/// A client's signature for a login by public key, and the request that it has to be of.
-#[repr(C)]
-#[derive(Clone, Copy, Debug, Default)]
-pub(crate) struct Userauth<'a> {
-    /// The server's own, and nothing that the client sent.
-    pub session_id: Span<'a>,
-    pub user: Span<'a>,
-    /// The name of the public key algorithm in the request.
-    pub algorithm: Span<'a>,
-    /// The blob of the key or the certificate that the grant came from.
-    pub public_key: Span<'a>,
-    /// The blob of the server's own host key, and nothing that the client sent, if has_host_key is
-    /// not 0.
-    pub host_key: Span<'a>,
-    /// The blob of the client's signature (RFC 4253, section 6.6).
-    pub signature: Span<'a>,
-    /// 0: the method is publickey; else publickey-hostbound-v00@openssh.com.
-    pub has_host_key: u32,
-    /// The grant's: RAF_PERMIT_NO_TOUCH, .._NO_VERIFICATION.
-    pub permits: u32,
-}
-
 /// An entry of a line: where its parts stand in the buffer.
 #[repr(C)]
 #[derive(Clone, Copy, Debug, Default)]
@@ -497,27 +481,154 @@ pub(crate) struct Destination {
     pub port: u16,
 }
 
-/// What a login by a line of authorized_keys may do.
+/// What a client offers in its request.
 #[repr(C)]
 #[derive(Clone, Copy, Debug, Default)]
-pub(crate) struct UserGrant {
-    /// With the command of the line or of the certificate; of a plain key key_id has no bytes,
-    /// serial and authority are zero.
-    pub grant: Grant,
+pub(crate) struct Offer<'a> {
+    /// Whom to log in as; UTF-8.
+    pub user: Span<'a>,
+    /// As the request names it: rsa-sha2-512 also for a key of ssh-rsa.
+    pub algorithm: Span<'a>,
+    /// Of a key or of a certificate, as it was sent.
+    pub blob: Span<'a>,
+}
+
+/// `raf_signed`.
+#[repr(C)]
+#[derive(Clone, Copy, Debug, Default)]
+pub(crate) struct Signed<'a> {
+    /// The server's own, and nothing that the client sent.
+    pub session_id: Span<'a>,
+    /// The blob of the server's own host key, and nothing that the client sent, if has_host_key is
+    /// not 0.
+    pub host_key: Span<'a>,
+    /// The blob of the client's signature (RFC 4253, section 6.6).
+    pub signature: Span<'a>,
+    /// RAF_SIGNED_*.
+    pub how: u32,
+    /// 0: the method is publickey; else publickey-hostbound-v00@openssh.com.
+    pub has_host_key: u32,
+    /// PROTOCOL.u2f: 1 touched, 4 verified.
+    pub flags: u8,
+}
+
+/// The text of a file that the server's configuration names.
+#[repr(C)]
+#[derive(Clone, Copy, Debug, Default)]
+pub(crate) struct Text<'a> {
+    /// Lines need not be UTF-8.
+    pub text: Span<'a>,
+    /// 1 where it was read.
+    pub is_read: u32,
+}
+
+/// `raf_texts`.
+pub(crate) type Texts<'a> = Slice<'a, Text<'a>>;
+
+/// Whom a server trusts, in the order in which sshd asks.
+#[repr(C)]
+#[derive(Clone, Copy, Debug, Default)]
+pub(crate) struct Trusted<'a> {
+    /// AuthorizedKeysFile: each text in its turn.
+    pub authorized_keys: Texts<'a>,
+    /// TrustedUserCAKeys: the keys that may sign logins of all users.
+    pub authorities: Digests<'a>,
+    /// AuthorizedPrincipalsFile: of the first text that has a line for a principal, the first such
+    /// line decides.
+    pub principals: Texts<'a>,
+    /// AuthorizedKeysCommand: what it wrote, if it ended with 0.
+    pub command_keys: Texts<'a>,
+    /// RevokedKeys: each a list or keys as text; any of them revokes.
+    pub revoked: Spans<'a>,
+    /// RAF_PRINCIPALS_*.
+    pub principals_from: u32,
+    /// RequiredRSASize; below 1,024, as 0, it is 1,024.
+    pub least_rsa_bits: u32,
+    /// PubkeyAuthOptions: not 0 where each security key has to be touched.
+    pub requires_touch: u32,
+    /// Likewise where each has to verify its user.
+    pub requires_verification: u32,
+}
+
+/// Where a client is, and when it asks.
+#[repr(C)]
+#[derive(Clone, Copy, Debug, Default)]
+pub(crate) struct Place<'a> {
+    /// The address of its socket, of 4 or 16 bytes; with any other number of bytes it is not known,
+    /// and what asks for one lets nobody in.
+    pub client: Span<'a>,
+    /// The name that was found for it (UseDNS), or of no bytes; UTF-8.
+    pub host: Span<'a>,
+    /// Seconds since 1970.
+    pub unix_timestamp: u64,
+    /// 1: sshd checks source-address itself, as before 9.4, which tells its programs no address.
+    pub caller_checks_address: u32,
+}
+
+/// A login by public key.
+#[repr(C)]
+#[derive(Clone, Copy, Debug, Default)]
+pub(crate) struct Login<'a> {
+    pub offer: Offer<'a>,
+    pub signed_by: Signed<'a>,
+    pub trusted: Trusted<'a>,
+    pub place: Place<'a>,
+}
+
+/// What has to be verified of a login.
+#[repr(C)]
+#[derive(Clone, Copy, Debug, Default)]
+pub(crate) struct LoginQuestions {
+    /// About the signature of the certificate, with RAF_ASKS_AUTHORITY.
+    pub authority: Question,
+    /// About the client's, with RAF_ASKS_CLIENT; all zero where not asked.
+    pub client: Question,
+    /// How many bytes of the buffer both take.
+    pub length: usize,
+    /// Names these questions to raf_log_in.
+    pub ticket: Sha256,
+    /// RAF_ASKS_*: a sum; 0 where nothing is left to verify.
+    pub asked: u32,
+}
+
+/// What a login is let in by, and what it may do.
+#[repr(C)]
+#[derive(Clone, Copy, Debug, Default)]
+pub(crate) struct Grant {
+    /// What runs without RAF_PERMIT_ANY_COMMAND, whatever the client asks for: nothing, and no
+    /// shell, where it has no bytes.
+    pub force_command: Part,
+    /// The certificate's, a text for logs; of a plain key no bytes.
+    pub key_id: Part,
     /// Where ports may be forwarded, which raf_may_open reads: strings (raf_next_string), two each:
     /// a host, and a port of two bytes, big-endian, or of none for any port.
     pub permit_open: Part,
     /// Likewise where may be listened, which raf_may_listen reads.
     pub permit_listen: Part,
-    /// Strings NAME=VALUE; by its defaults sshd sets none.
+    /// Strings NAME=VALUE (raf_next_string); by its defaults sshd sets none.
     pub environment: Part,
+    /// How many bytes of the buffer these take.
+    pub length: usize,
+    /// The number of the line that lets in, from 1; 0 where the certificate alone does.
+    pub line: usize,
+    /// The number of its text among its like, from 0.
+    pub text: usize,
+    /// The certificate's; of a plain key 0.
+    pub serial: u64,
     /// The last second at which the line counts; UINT64_MAX at any.
     pub expires: TimeSpan,
-    /// The number of the line, from 1; of a refusal 91 to 96, of the line that refuses.
-    pub line: usize,
+    /// Of the key that signed the certificate; of a plain key zero.
+    pub authority: Sha256,
+    /// Of the plain key, also of one in a certificate: a server that wants two methods in a row
+    /// refuses a key that was taken before.
+    pub key: Sha256,
+    /// RAF_PERMIT_*.
+    pub permits: u32,
     /// With RAF_PERMIT_TUNNELS alone the only device of tun(4); 0x7fffffff is the "any" that a
     /// client asks for.
     pub tunnel: u32,
+    /// RAF_SOURCE_*; of a refusal 91 to 96 or 98 that of its text, else 0.
+    pub source: u32,
 }
 
 // the layout that the library was built for
@@ -533,16 +644,21 @@ const _: () = assert!(size_of::<CertificateOptionParts>() == 40);
 const _: () = assert!(size_of::<Span>() == 16);
 const _: () = assert!(size_of::<Spans>() == 16);
 const _: () = assert!(size_of::<Digests>() == 16);
-const _: () = assert!(size_of::<Login>() == 112);
-const _: () = assert!(size_of::<Grant>() == 88);
 const _: () = assert!(size_of::<Draft>() == 144);
-const _: () = assert!(size_of::<Userauth>() == 104);
 const _: () = assert!(size_of::<HostLogin>() == 64);
 const _: () = assert!(size_of::<Entry>() == 64);
 const _: () = assert!(size_of::<LineOptionParts>() == 56);
 const _: () = assert!(size_of::<TimeSpan>() == 16);
 const _: () = assert!(size_of::<Destination>() == 24);
-const _: () = assert!(size_of::<UserGrant>() == 168);
+const _: () = assert!(size_of::<Offer>() == 48);
+const _: () = assert!(size_of::<Signed>() == 64);
+const _: () = assert!(size_of::<Text>() == 24);
+const _: () = assert!(size_of::<Texts>() == 16);
+const _: () = assert!(size_of::<Trusted>() == 96);
+const _: () = assert!(size_of::<Place>() == 48);
+const _: () = assert!(size_of::<Login>() == 256);
+const _: () = assert!(size_of::<LoginQuestions>() == 176);
+const _: () = assert!(size_of::<Grant>() == 208);
 
 calls! {
     []
@@ -581,13 +697,6 @@ calls! {
     fn raf_signature_question(
         key: &[u8], message: &[u8], signature: &[u8], buffer: &mut [u8], answer: &mut Question
     );
-    fn raf_login_question(login: &Login<'_>, buffer: &mut [u8], answer: &mut Question);
-    fn raf_check_login(login: &Login<'_>, is_verified: u32, buffer: &mut [u8], answer: &mut Grant);
-    fn raf_userauth_question(request: &Userauth<'_>, buffer: &mut [u8], answer: &mut Question);
-    fn raf_userauth_question_of(
-        request: &Userauth<'_>, signed_bytes: &[u8], buffer: &mut [u8], answer: &mut Question
-    );
-    fn raf_check_grant_flags(permits: u32, key: &[u8], signature: &[u8]);
     fn raf_sshsig_question(
         signature: &[u8], name_space: &[u8], message: &[u8], buffer: &mut [u8],
         answer: &mut Question, signer: &mut Sha256
@@ -627,14 +736,12 @@ calls! {
     fn raf_check_from(list: &[u8], host: &[u8], address: &[u8]);
     fn raf_read_time(text: &[u8], answer: &mut TimeSpan);
     fn raf_host_and_port(text: &[u8], answer: &mut Destination);
-    fn raf_check_user_keys(
-        login: &Login<'_>, text: &[u8], host: &[u8], is_verified: u32, buffer: &mut [u8],
-        answer: &mut UserGrant
+    fn raf_log_in_questions(login: &Login<'_>, buffer: &mut [u8], answer: &mut LoginQuestions);
+    fn raf_log_in(
+        login: &Login<'_>, ticket: &Sha256, answers: u32, buffer: &mut [u8], answer: &mut Grant
     );
-    fn raf_check_principals(
-        login: &Login<'_>, text: &[u8], host: &[u8], is_verified: u32, buffer: &mut [u8],
-        answer: &mut UserGrant
-    );
-    fn raf_may_open(grant: &UserGrant, buffer: &[u8], host: &[u8], port: u32);
-    fn raf_may_listen(grant: &UserGrant, buffer: &[u8], host: &[u8], port: u32);
+    fn raf_may_offer_questions(login: &Login<'_>, buffer: &mut [u8], answer: &mut LoginQuestions);
+    fn raf_may_offer(login: &Login<'_>, ticket: &Sha256, answers: u32);
+    fn raf_may_open(grant: &Grant, buffer: &[u8], host: &[u8], port: u32);
+    fn raf_may_listen(grant: &Grant, buffer: &[u8], host: &[u8], port: u32);
 }

@@ -1,8 +1,8 @@
 //! What the questions of checks/bindings can't ask.
 
 use rafendilo::{
-    Authorities, Draft, Grant, HostLogin, Listed, Permits, Place, Question, Sha256, Status,
-    UserGrant,
+    Authorities, Draft, Grant, HostLogin, HostPort, Listed, Offer, Permits, Place, Principals,
+    Question, Refused, Sha256, Signed, Source, Status, Text, Trusted,
 };
 
 /// Strings, one after the other (RFC 4251, section 5).
@@ -35,12 +35,13 @@ fn values_go_from_thread_to_thread() {
     shared::<rafendilo::CertificateContents<'static>>();
     shared::<rafendilo::LineOption>();
     shared::<Draft<'static>>();
-    shared::<rafendilo::Login<'static>>();
     shared::<HostLogin<'static>>();
-    shared::<rafendilo::Userauth<'static>>();
-    shared::<rafendilo::Grant>();
-    shared::<rafendilo::UserGrant>();
-    shared::<rafendilo::Denial>();
+    shared::<Offer<'static>>();
+    shared::<Signed<'static>>();
+    shared::<Trusted<'static>>();
+    shared::<Place<'static>>();
+    shared::<Grant>();
+    shared::<Refused>();
     shared::<Status>();
 }
 
@@ -87,31 +88,120 @@ fn permits_are_sets() {
     assert_eq!(both.bits(), 65);
 }
 
+/// What a server trusts that has these texts of authorized_keys.
+fn trusted<'a>(authorized_keys: &'a [Text<'a>]) -> Trusted<'a> {
+    Trusted {
+        authorized_keys,
+        authorities: &[],
+        principals: Principals::InCertificate,
+        command_keys: &[],
+        revoked: rafendilo::NO_REVOCATIONS,
+        least_rsa_bits: 0,
+        requires_touch: false,
+        requires_verification: false,
+    }
+}
+
+const HERE: Place<'static> = Place { client: None, host: None, unix_timestamp: 0 };
+const LINE: &str =
+    "ssh-ed25519 AAAAC3NzaC1lZDI1NTE5AAAAIHRoZSB0aGlydHktdHdvIGJ5dGVzIG9mIHNvbWUga2V5";
+
+#[test]
+fn a_login_asks_what_the_client_has_signed() {
+    let key = ed25519(b"the thirty-two bytes of some key");
+    let offer = Offer { user: b"alice", algorithm: Some(b"ssh-ed25519"), blob: &key };
+    let signature = strings(&[b"ssh-ed25519", &[7; 64]]);
+    let (session_id, host_key) = ([1; 32], ed25519(b"the thirty-two bytes of its host"));
+    let text = format!("# a comment\nno-pty {LINE}\n");
+    let texts = [Text::Read(b""), Text::Read(text.as_bytes())];
+    // RFC 4252, section 7, and OpenSSH's PROTOCOL
+    let front = [strings(&[&session_id]), vec![50], strings(&[b"alice", b"ssh-connection"])];
+    let rest = [vec![1], strings(&[b"ssh-ed25519", &key])];
+    let bound = b"publickey-hostbound-v00@openssh.com";
+    for (host_key, method, end) in [
+        (None, strings(&[b"publickey"]), Vec::new()),
+        (Some(&host_key[..]), strings(&[bound]), strings(&[&host_key])),
+    ] {
+        let message = [front.concat(), method, rest.concat(), end].concat();
+        let signed = Signed::Request { session_id: &session_id, host_key, signature: &signature };
+        let log_in = |yes| {
+            let mut asked = 0;
+            let said = rafendilo::log_in(&offer, &signed, &trusted(&texts), &HERE, |question| {
+                assert_eq!((question.key(), question.message()), (&key[..], &message[..]));
+                assert_eq!(question.signature(), [7; 64]);
+                asked += 1;
+                yes
+            });
+            assert_eq!(asked, 1);
+            said
+        };
+        let grant = log_in(true).unwrap();
+        assert_eq!((grant.source, grant.text, grant.line), (Source::AuthorizedKeys, 1, 2));
+        assert_eq!(grant.key, rafendilo::fingerprint(&key).unwrap());
+        assert_eq!(grant.authority, Sha256::default());
+        assert!(!grant.permits.contains(Permits::PTY));
+        assert_eq!(log_in(false), Err(Refused::from(Status::CLIENT_NOT_SIGNED)));
+    }
+}
+
+#[test]
+fn a_text_that_could_not_be_read_is_not_an_empty_one() {
+    let key = ed25519(b"the thirty-two bytes of some key");
+    let offer = Offer { user: b"alice", algorithm: None, blob: &key };
+    let signed = Signed::ByTransport { flags: None };
+    let never = |_: &Question| -> bool { panic!("nothing is to be verified") };
+    let line = Text::Read(LINE.as_bytes());
+    let log_in = |texts: &[Text]| rafendilo::log_in(&offer, &signed, &trusted(texts), &HERE, never);
+    assert_eq!(log_in(&[line]).unwrap().line, 1);
+    assert_eq!(log_in(&[line, Text::Unreadable]).unwrap().text, 0);
+    let refused = log_in(&[Text::Read(b""), Text::Unreadable, line]).unwrap_err();
+    let source = Some(Source::AuthorizedKeys);
+    assert_eq!(refused, Refused { status: Status::TEXT_UNREADABLE, source, text: 1, line: 0 });
+    let untrusted = log_in(&[]);
+    assert_eq!(untrusted, Err(Refused::from(Status::USER_NOT_LISTED)));
+    let query = |texts: &[Text]| rafendilo::may_offer(&offer, &trusted(texts), &HERE, never);
+    assert_eq!((query(&[line]), query(&[])), (Ok(()), Err(Status::USER_NOT_LISTED)));
+}
+
+#[test]
+fn a_line_that_cannot_be_told_is_named() {
+    let key = ed25519(b"the thirty-two bytes of some key");
+    let offer = Offer { user: b"alice", algorithm: None, blob: &key };
+    let text = format!("\nfrom=\"*,\" {LINE}\n");
+    let texts = [Text::Read(b"# x\n"), Text::Read(text.as_bytes())];
+    let never = |_: &Question| -> bool { panic!("nothing is to be verified") };
+    let said = rafendilo::log_in(&offer, &Signed::BySshd, &trusted(&texts), &HERE, never);
+    let source = Some(Source::AuthorizedKeys);
+    let wanted = Refused { status: Status::LINE_UNCLEAR, source, text: 1, line: 2 };
+    assert_eq!(said, Err(wanted));
+    assert!(wanted.to_string().ends_with("(96) in line 2"));
+}
+
 #[test]
 fn a_grant_says_where_ports_may_be_forwarded_and_what_runs() {
     let forced = Grant {
         shown_command: Some(String::new()),
-        permits: Permits::PORT_FORWARDING,
-        serial: 0,
         key_id: String::new(),
-        authority: Sha256 { bytes: [0; 32] },
-    };
-    let grant = UserGrant {
-        grant: forced.clone(),
-        line: 1,
-        permit_open: vec![Place { host: "db".into(), port: Some(5432) }],
-        permit_listen: vec![Place { host: "*".into(), port: None }],
+        permit_open: vec![HostPort { host: "db".into(), port: Some(5432) }],
+        permit_listen: vec![HostPort { host: "*".into(), port: None }],
         environment: Vec::new(),
+        line: 1,
+        text: 0,
+        serial: 0,
         expires: None,
+        authority: Sha256::default(),
+        key: Sha256::default(),
+        permits: Permits::PORT_FORWARDING,
         tunnel: None,
+        source: Source::AuthorizedKeys,
     };
-    assert!(grant.may_open("db", 5432));
-    assert!(!grant.may_open("DB", 5432));
-    assert!(!grant.may_open("db", 5433));
-    assert!(grant.may_listen("", 0));
-    assert!(!grant.may_listen("h", 65536));
-    assert!(!UserGrant { permit_open: Vec::new(), ..grant }.may_open("db", 5432));
+    assert!(forced.may_open("db", 5432));
+    assert!(!forced.may_open("DB", 5432));
+    assert!(!forced.may_open("db", 5433));
+    assert!(forced.may_listen("", 0));
+    assert!(!forced.may_listen("h", 65536));
     assert_eq!((forced.runs(Some("ls")), forced.runs(None)), (Some(""), Some("")));
     let free = Grant { permits: Permits::ANY_COMMAND, shown_command: None, ..forced };
     assert_eq!((free.runs(Some("ls")), free.runs(None)), (Some("ls"), None));
+    assert!(!Grant { permit_open: Vec::new(), ..free }.may_open("db", 5432));
 }

@@ -99,8 +99,8 @@ var answers = map[string]func(of []string) ([]string, error){
 		marker := strconv.FormatUint(uint64(found.Marker), 10)
 		return []string{marker, word(found.Hosts), word(found.Key), word(found.Comment)}, err
 	},
-	"options": options,
-	"log-in":  logIn,
+	"options":  options,
+	"forwards": forwards,
 	"host-key": func(of []string) ([]string, error) {
 		return nil, rafendilo.CheckHostKey(hostLogin(of), data(of[2]))
 	},
@@ -109,18 +109,6 @@ var answers = map[string]func(of []string) ([]string, error){
 		login.Now = at(of[6])
 		knownBy, err := rafendilo.CheckHostCertificate(login, data(of[2]))
 		return []string{strconv.FormatUint(uint64(knownBy), 10)}, err
-	},
-	"userauth": func(of []string) ([]string, error) {
-		return asked(rafendilo.UserauthQuestion(request(of[:6], of[6:], nil)))
-	},
-	"userauth-of": func(of []string) ([]string, error) {
-		return asked(rafendilo.UserauthQuestion(request(of[:6], of[7:], file(of[6]))))
-	},
-	"is-userauth": func(of []string) ([]string, error) {
-		return nil, rafendilo.CheckUserauth(request(of[:6], of[6:], nil))
-	},
-	"flags": func(of []string) ([]string, error) {
-		return nil, rafendilo.CheckGrantFlags(rafendilo.Permits(number(of[2])), data(of[0]), data(of[1]))
 	},
 	"unreadable-line": unreadableLine,
 	"other-key-line": func(of []string) ([]string, error) {
@@ -183,8 +171,8 @@ var answers = map[string]func(of []string) ([]string, error){
 
 // said are whole answers, without a 0.
 var said = map[string]func(of []string) string{
-	"validate": validate, "addresses": addresses, "log-in-by-keys": logInBy(rafendilo.LogInByKeys),
-	"log-in-by-principals": logInBy(rafendilo.LogInByPrincipals),
+	"validate": validate, "addresses": addresses, "log-in": logIn, "may-offer": mayOffer,
+	"log-in-questions": logInQuestions,
 }
 
 func main() {
@@ -370,69 +358,6 @@ func validate(of []string) string {
 	return numberOf(err) + " " + strconv.Itoa(questions)
 }
 
-func loginOf(of, numbers []string) rafendilo.Login {
-	client, _ := netip.AddrFromSlice(data(of[3]))
-	return rafendilo.Login{
-		Certificate: data(of[0]), User: text(of[1]), Key: data(of[2]), Client: client,
-		Authorities: digests(of[4]), Revoked: files(of[5]), Now: at(numbers[0]),
-		LeastRSABits: uint32(number(numbers[1])), CallerChecksAddress: numbers[2] == "1",
-	}
-}
-
-type byText func(rafendilo.Login, []byte, string) (rafendilo.UserGrant, error)
-
-func logInBy(call byText) func([]string) string {
-	return func(of []string) string {
-		return userGrant(call(loginOf(of, of[8:]), data(of[6]), text(of[7])))
-	}
-}
-
-func userGrant(grant rafendilo.UserGrant, err error) string {
-	if err != nil {
-		return numberOf(err) + " " + strconv.Itoa(grant.Line)
-	}
-	parts := [][]byte{
-		grant.Authority[:], []byte(grant.ShownCommand), []byte(grant.KeyID), places(grant.PermitOpen),
-		places(grant.PermitListen), stringsOf(grant.Environment...),
-	}
-	return strings.Join([]string{
-		fmt.Sprint(0, grant.Line, uint32(grant.Permits), grant.Serial),
-		strings.Join(wordsOf(parts), " "),
-		fmt.Sprint(uint64(grant.Expires), uint64(grant.ExpiresLast), grant.Tunnel),
-	}, " ")
-}
-
-func stringsOf(contents ...string) []byte {
-	found := []byte{}
-	for _, content := range contents {
-		one, err := rafendilo.JoinStrings([]byte(content))
-		if err != nil {
-			panic(err)
-		}
-		found = append(found, one...)
-	}
-	return found
-}
-
-// places are the hosts and ports as the library lays them out.
-func places(all []rafendilo.Place) []byte {
-	found := []byte{}
-	for _, place := range all {
-		port := string([]byte{byte(place.Port >> 8), byte(place.Port)})
-		if place.AnyPort {
-			port = ""
-		}
-		found = append(found, stringsOf(place.Host, port)...)
-	}
-	return found
-}
-
-func logIn(of []string) ([]string, error) {
-	grant, err := rafendilo.LogIn(loginOf(of, of[6:]))
-	numbers := fmt.Sprint(uint32(grant.Permits), grant.Serial)
-	return []string{numbers, word(grant.Authority[:]), word(grant.ShownCommand), word(grant.KeyID)}, err
-}
-
 func hostLogin(of []string) rafendilo.HostLogin {
 	login := rafendilo.HostLogin{
 		Host: text(of[1]), Port: uint16(number(of[4])), Revoked: files(of[3]),
@@ -450,18 +375,6 @@ func unreadableLine(of []string) ([]string, error) {
 		err = rafendilo.Status(3)
 	}
 	return []string{strconv.Itoa(found)}, err
-}
-
-// request is a client's; the signed bytes are nil where they are to be made.
-func request(of, numbers []string, signed []byte) rafendilo.Userauth {
-	found := rafendilo.Userauth{
-		SessionID: data(of[0]), User: text(of[1]), Algorithm: text(of[2]), PublicKey: data(of[3]),
-		Signature: data(of[5]), Permits: rafendilo.Permits(number(numbers[1])), Signed: signed,
-	}
-	if numbers[0] != "0" {
-		found.HostKey = file(of[4])
-	}
-	return found
 }
 
 func signers(of []string) rafendilo.Signers {

@@ -5,9 +5,11 @@ use std::io::{self, BufRead};
 use std::net::IpAddr;
 
 use rafendilo::{
-    is_signature, CertificateType, Denial, Draft, HashAlgorithm, HostLogin, KnownBy, Listed, Login,
-    Permits, Place, Principal, Question, Sha256, Signers, Status, UserGrant, Userauth,
+    is_signature, CertificateType, Draft, HashAlgorithm, HostLogin, KnownBy, Listed, Principal,
+    Question, Sha256, Signers, Status,
 };
+
+mod logins;
 
 type Answer = Result<String, Status>;
 
@@ -116,76 +118,6 @@ fn address(bytes: &[u8]) -> Option<IpAddr> {
     <[u8; 4]>::try_from(bytes).map(IpAddr::from).ok().or_else(of_six)
 }
 
-/// What is said of the login of these words and numbers.
-fn with_login<T>(given: &[&str], numbers: &[&str], say: impl FnOnce(&Login<'_>) -> T) -> T {
-    let [certificate, user, key, client] = [0, 1, 2, 3].map(|at| data(given[at]));
-    let (authorities, revoked) = (digests(given[4]), several(given[5]));
-    say(&Login {
-        certificate: &certificate,
-        user: &user,
-        key: &key,
-        client: address(&client),
-        unix_timestamp: number(numbers[0]),
-        authorities: &authorities,
-        revoked: &lent(&revoked),
-        least_rsa_bits: number(numbers[1]).try_into().expect("a number of bits"),
-        caller_checks_address: numbers[2] == "1",
-    })
-}
-
-fn log_in(given: &[&str]) -> Answer {
-    let grant = with_login(given, &given[6..], |login| rafendilo::log_in(login, is_signature))?;
-    let command = grant.shown_command.as_deref();
-    assert_eq!(command.is_none(), grant.permits.contains(Permits::ANY_COMMAND));
-    let numbers = [u64::from(grant.permits.bits()), grant.serial].map(|it| it.to_string());
-    let texts = [command.unwrap_or_default(), &grant.key_id].map(word);
-    words(numbers.into_iter().chain([word(grant.authority.bytes)]).chain(texts))
-}
-
-fn log_in_by_keys(given: &[&str]) -> Answer {
-    user_grant(with_login(given, &given[8..], |login| {
-        rafendilo::log_in_by_keys(login, &data(given[6]), data(given[7]), is_signature)
-    }))
-}
-
-fn log_in_by_principals(given: &[&str]) -> Answer {
-    user_grant(with_login(given, &given[8..], |login| {
-        rafendilo::log_in_by_principals(login, &data(given[6]), data(given[7]), is_signature)
-    }))
-}
-
-fn user_grant(said: Result<UserGrant, Denial>) -> Answer {
-    let found = match said {
-        Ok(found) => found,
-        Err(denial) => return Ok(format!("{} {}", denial.status.number(), denial.line)),
-    };
-    let (grant, none) = (found.grant, u64::MAX);
-    let (first, last) = found.expires.map_or((none, none), |it| (*it.start(), *it.end()));
-    let numbers = [found.line as u64, u64::from(grant.permits.bits()), grant.serial];
-    let texts = [
-        word(grant.authority.bytes),
-        word(grant.shown_command.unwrap_or_default()),
-        word(&grant.key_id),
-        places(&found.permit_open),
-        places(&found.permit_listen),
-        word(found.environment.iter().flat_map(|it| string(it)).collect::<Vec<u8>>()),
-    ];
-    let ends = [first, last, u64::from(found.tunnel.unwrap_or(0))];
-    let shown = numbers.map(|it| it.to_string()).into_iter().chain(texts);
-    words(shown.chain(ends.map(|it| it.to_string())))
-}
-
-fn string(content: impl AsRef<[u8]>) -> Vec<u8> {
-    rafendilo::string(content).expect("a string")
-}
-
-/// The hosts and ports as the library lays them out.
-fn places(found: &[Place]) -> String {
-    let port = |it: &Place| it.port.map_or(vec![], |port| port.to_be_bytes().to_vec());
-    let both = |it: &Place| [string(&it.host), string(port(it))].concat();
-    word(found.iter().flat_map(both).collect::<Vec<u8>>())
-}
-
 fn host_verdict(what: &str, given: &[&str]) -> String {
     let (texts, host, shown) = (several(given[0]), data(given[1]), data(given[2]));
     let revoked = several(given[3]);
@@ -211,35 +143,6 @@ fn unreadable_line(given: &[&str]) -> Answer {
     let port = given[2].parse().expect("a port");
     let found = rafendilo::unreadable_host_line(&data(given[0]), data(given[1]), port)?;
     found.map_or(Err(Status::END), |line| words([line.to_string()]))
-}
-
-/// What is to be verified of a request, or what is said of it once it is verified; the signed bytes
-/// follow the signature if they are given.
-fn userauth(what: &str, given: &[&str]) -> Answer {
-    let has_signed = what == "userauth-of";
-    let numbers = &given[6 + usize::from(has_signed)..];
-    let [session_id, user, algorithm, public_key, host_key, signature] =
-        [0, 1, 2, 3, 4, 5].map(|at| data(given[at]));
-    let signed = has_signed.then(|| data(given[6]));
-    let request = Userauth {
-        session_id: &session_id,
-        user: &user,
-        algorithm: &algorithm,
-        public_key: &public_key,
-        host_key: (numbers[0] != "0").then(|| &host_key[..]),
-        signed: signed.as_deref(),
-        signature: &signature,
-        permits: Permits::from_bits(numbers[1].parse().expect("bits")),
-    };
-    if what == "is-userauth" {
-        return Ok(number_of(rafendilo::check_userauth(&request, is_signature)));
-    }
-    asked(&rafendilo::userauth_question(&request)?, None)
-}
-
-fn flags(given: &[&str]) -> String {
-    let permits = Permits::from_bits(given[2].parse().expect("bits"));
-    number_of(rafendilo::check_grant_flags(permits, &data(given[0]), &data(given[1])))
 }
 
 fn other_key_line(line: &[u8]) -> Answer {
@@ -446,13 +349,12 @@ fn answer(question: &str) -> Answer {
         "is-sshsig" | "is-sshsig-of-digest" => is_sshsig(what, given),
         "is-signature" => verified(&rafendilo::signature_question(&at(0), &at(1), &at(2))?),
         "validate" => validate(given),
-        "log-in" => log_in(given),
-        "log-in-by-keys" => log_in_by_keys(given),
-        "log-in-by-principals" => log_in_by_principals(given),
+        "log-in" => Ok(logins::log_in(given)),
+        "log-in-questions" => Ok(logins::log_in_questions(given)),
+        "may-offer" => Ok(logins::may_offer(given)),
+        "forwards" => logins::forwards(given),
         "host-key" | "host-certificate" => Ok(host_verdict(what, given)),
         "unreadable-line" => unreadable_line(given),
-        "userauth" | "userauth-of" | "is-userauth" => userauth(what, given),
-        "flags" => Ok(flags(given)),
         "other-key-line" => other_key_line(&at(0)),
         "line-authority" => authority(rafendilo::authorities(&at(0))),
         "user-authority" => authority(rafendilo::user_authorities(&at(0), &at(1))),

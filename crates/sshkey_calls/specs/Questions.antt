@@ -15,13 +15,21 @@ use Rattle.sshkey_calls.specs.declared.question.Question.{Question}
 abbrev pub question_bytes : model.Question → List ℕ
 question_bytes q = flat (normal_key q.key) ++ (q.message ++ padded_blob q.key q.blob)
 
--- The answer says where each of them is, how many bytes they take, and the algorithm.
-pub record ArePlaced (q : model.Question) (answer : Question) : Type 0 where
+-- The answer says where each of them is, from that place on, how many bytes they take, and the
+-- algorithm.
+pub record ArePlacedFrom (start : ℕ) (q : model.Question) (answer : Question) : Type 0 where
   pub algorithm : answer.algorithm ≡ algorithm_number q.algorithm
-  pub key : IsPlaced 0 (flat (normal_key q.key)) answer.key
-  pub message : IsPlaced (length (flat (normal_key q.key))) q.message answer.message
-  pub signature : IsPlaced (length (flat (normal_key q.key)) + length q.message) (padded_blob q.key q.blob) answer.signature
+  pub key : IsPlaced start (flat (normal_key q.key)) answer.key
+  pub message : IsPlaced (start + length (flat (normal_key q.key))) q.message answer.message
+  pub signature : IsPlaced (start + (length (flat (normal_key q.key)) + length q.message)) (padded_blob q.key q.blob) answer.signature
   pub length : answer.length ≡ length (question_bytes q)
+
+abbrev pub ArePlaced : model.Question → Question → Type 0
+ArePlaced = ArePlacedFrom 0
+
+-- They follow what stood before, and the answer says where they are.
+abbrev pub AddsQuestion : model.Question → Question → List ℕ → List ℕ → Type 0
+AddsQuestion q answer before after = (after ≡ before ++ question_bytes q) × ArePlacedFrom (length before) q answer
 
 -- What a call answers that looks for the one question that `Raised` tells.
 abbrev pub GivesQuestion : (model.Question → Type 0) → ℕ → Question → Question → List ℕ → List ℕ → Type 0

@@ -40,7 +40,7 @@ pub use lists::{CertificateParts, certificate_parts};
 pub use normal::{certificate_normal, key_normal, signature_normal, sshsig_normal};
 pub use option::{OptionParts, next_certificate_option};
 pub use part::Part;
-pub use question::{Question, answer_question, certificate_question};
+pub use question::{Question, add_question, answer_question, certificate_question};
 pub use revocation::{check_unrevoked_certificate_by_krl, check_unrevoked_key_by_krl};
 pub use signature::signature_question;
 pub use signed::certificate_make;

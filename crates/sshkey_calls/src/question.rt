@@ -4,12 +4,12 @@ ghost use Rattle.std.specs.Prelude.{◌≡◌, IfOk, option_map};
 ghost use Rattle.sshkey_cert_ref.specs.CertificateRef.{certificate_of};
 ghost use Rattle.sshkey_cert.specs.Questions.{certificate_question};
 ghost use Rattle.sshkey_keys.specs.Questions.{asks, question_of};
-ghost use Rattle.sshkey_calls.specs.Questions.{ArePlaced, TellsCertificateQuestion, GivesQuestion, TellsQuestion, question_bytes};
+ghost use Rattle.sshkey_calls.specs.Questions.{AddsQuestion, ArePlaced, TellsCertificateQuestion, GivesQuestion, TellsQuestion, question_bytes};
 ghost use Rattle.sshkey_calls.specs.Rooms.{IsLaidOut};
 
 use crate::number::{MEMORY, UNSUPPORTED, algorithm_number, error_status};
 use crate::part::{self, Part, add, add_encoded};
-use sshkey_base::Result;
+use sshkey_base::{Encode, Result};
 use sshkey_cert_ref::CertificateRef;
 use sshkey_keys::{Question as Asked, SignatureQuestion};
 use sshkey_padding::padded_signature;
@@ -118,27 +118,41 @@ pub(crate) fn answer_with(
     part::answer_with(lay_out_question(alloc, question), room, answer)
 }
 
-/// The bytes of the question's parts, one after the other, and where they are. An RSA signature has
-/// the zeros in front that its signer left out.
+/// The bytes of the question's parts, one after the other, and where they are.
 fn lay_out_question(alloc: Global, question: &Asked<'_>) -> Result<(Vec<u8>, Question)>
     ensures { IfOk result (λ laid. IsLaidOut question_bytes ArePlaced (question_of question.now)
         laid.0.items laid.1) }
 {
+    let mut content = Vec::new(alloc);
+    let parts = add_question(alloc, question, &mut content)?;
+    Ok((content, parts))
+}
+
+/// Adds the question's parts, one after the other, to the bytes that the room is to hold, and says
+/// where they are. An RSA signature has the zeros in front that its signer left out.
+///
+/// Fails only when out of memory, or with `Length` for a key of more than 2^32 - 1 bytes. Then the
+/// beginning of the parts may follow these bytes.
+pub fn add_question(
+    alloc: Global,
+    question: &Asked<'_>,
+    content: &mut Vec<u8>,
+) -> Result<Question>
+    ensures { IfOk result (λ parts. AddsQuestion (question_of question.now) parts
+        content.old.items content.new.items) }
+{
     let padded = padded_signature(alloc, question.key(), question.signature())?;
     let after = question.message().len().saturating_add(padded.len());
-    let mut content = part::with_capacity(alloc, question.key(), after)?;
-    let key = add_encoded(question.key(), &mut content)?;
-    let message = add(question.message(), &mut content)?;
-    let signature = add(&padded, &mut content)?;
-    let length = content.len();
-    Ok((
-        content,
-        Question {
-            key,
-            message,
-            signature,
-            length,
-            algorithm: algorithm_number(question.algorithm()),
-        },
-    ))
+    content.reserve(question.key().encoded_len()?.saturating_add(after))?;
+    let start = content.len();
+    let key = add_encoded(question.key(), content)?;
+    let message = add(question.message(), content)?;
+    let signature = add(&padded, content)?;
+    Ok(Question {
+        key,
+        message,
+        signature,
+        length: content.len() - start,
+        algorithm: algorithm_number(question.algorithm()),
+    })
 }

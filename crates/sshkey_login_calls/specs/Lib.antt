@@ -1,7 +1,8 @@
-pub mod GrantExamples
+pub mod Refusals
 pub mod Grants
-pub mod Logins
-pub mod Questions
-pub mod UserGrants
+pub mod GrantExamples
 pub mod Forwarding
-pub mod UserKeys
+pub mod Logins
+pub mod Asked
+pub mod Verdicts
+pub mod LoginExamples

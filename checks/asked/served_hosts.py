@@ -1,0 +1,92 @@
+"""What clients over asyncssh and paramiko say of the keys and certificates of a real sshd, for checks/servers: python_client.py asks."""
+import os
+import socket
+import subprocess
+import threading
+
+from lib.harness import ROOT, SSHD
+
+from .linked import run
+from .served_logins import ADDRESS, PYTHON, SECONDS
+
+CLIENT = f"{ROOT}/checks/asked/python_client.py"
+CONFIGURATION = """\
+HostKey {key}
+{more}
+StrictModes no
+PidFile none
+UsePAM no
+PasswordAuthentication yes
+"""
+OUTSIDE = "192.0.2.7"
+TRUSTED = "trusted"
+# what known_hosts has, where [host] is the host and its port, what the host shows, the name of a file of what is revoked, and what is
+# said of it: that, or the number of what is wrong
+ROWS = [
+    ("a key that is known", "[host] {host}", "key", None, TRUSTED), ("one among others", "# a comment\nother {strange}\n[host] {strange}\n[host] {host}", "key", None, TRUSTED),
+    ("another key", "[host] {strange}", "key", None, 52), ("no line", "", "key", None, 53), ("a line without the port", f"{ADDRESS} {{host}}", "key", None, TRUSTED),
+    ("a line for another", f"[{OUTSIDE}]:22 {{host}}", "key", None, 53), ("a key that is revoked", "[host] {host}\n@revoked * {host}", "key", None, 50),
+    ("a key that a file revokes", "[host] {host}", "key", "host.pub", 50), ("a file that is none", "[host] {host}", "key", "keys-of-none", 58),
+    ("a file of another", "[host] {host}", "key", "strange.pub", TRUSTED), ("a line that can't be read", "[host] ssh-ed25519 AAAA\n[host] {host}", "key", None, 51),
+    ("a certificate of its authority", "@cert-authority [host] {authority}", "listed", None, TRUSTED),
+    ("one of another authority", "@cert-authority [host] {strange}", "listed", None, 53), ("one for another host", "@cert-authority [host] {authority}", "other", None, 34),
+    ("one that is over", "@cert-authority [host] {authority}", "over", None, 33), ("one for users", "@cert-authority [host] {authority}", "users", None, 71),
+    ("one whose key is known", "[host] {host}", "listed", None, TRUSTED), ("one whose authority is revoked", "@cert-authority [host] {authority}\n@revoked * {authority}", "listed", None, 50),
+]  # fmt: skip
+HOST = ["-V", "-5m:+5m", "-h"]
+CERTIFICATES = {
+    "listed": [*HOST, "-n", ADDRESS], "other": [*HOST, "-n", OUTSIDE], "over": ["-V", "-10m:-5m", "-h", "-n", ADDRESS], "users": ["-V", "-5m:+5m", "-n", ADDRESS],
+}  # fmt: skip
+
+
+class Host:
+    """A real sshd, which shows what is told of its configuration, until it is closed."""
+
+    def __init__(self, maker, name, more):
+        path = maker.write(f"{name}.conf", CONFIGURATION.format(key=maker.path("host"), more=more))
+        self.words, self.server = [SSHD, "-i", "-f", path, "-E", f"{path}.log"], socket.create_server((ADDRESS, 0))
+        self.port = self.server.getsockname()[1]
+        threading.Thread(target=self.serve, daemon=True).start()
+
+    def serve(self):
+        while True:
+            try:
+                client, _ = self.server.accept()
+            except OSError:
+                return
+            with client:
+                subprocess.run(self.words, stdin=client, stdout=client, stderr=subprocess.DEVNULL, check=False, timeout=SECONDS)
+
+    def close(self):
+        # which ends a wait too
+        self.server.shutdown(socket.SHUT_RDWR)
+        self.server.close()
+
+
+def shown_of(maker):
+    """Hosts by what they show: the key, or it and a certificate of it."""
+    if os.geteuid() == 0:
+        os.makedirs("/run/sshd", mode=0o755, exist_ok=True)
+    yield "key", Host(maker, "key", "")
+    for name, words in CERTIFICATES.items():
+        line = maker.certificate("authority", "host", *words)
+        path = maker.write(f"{name}-host.pub", f"{line}\n")
+        yield name, Host(maker, name, f"HostCertificate {path}")
+    os.remove(maker.path("host-cert.pub"))
+
+
+def check_hosts(count, servers, package):
+    """Each host is trusted, or refused, as ssh(1) would."""
+    maker = servers.maker
+    maker.write("keys-of-none", "ssh-ed25519\n")
+    hosts = dict(shown_of(maker))
+    for name, text, shown, revoked, wanted in ROWS:
+        host = hosts[shown]
+        given = text.format(**servers.lines).replace("[host]", f"[{ADDRESS}]:{host.port}")
+        known, files = maker.write("known_hosts", f"{given}\n"), maker.path(revoked) if revoked else "none"
+        ran = run([PYTHON, CLIENT, package, str(host.port), files, known], timeout=SECONDS)
+        said = ran.stdout.strip()
+        same = said == wanted or wanted != TRUSTED and said.endswith(f"({wanted})")
+        count.check(f"{package}, a host: {name}", same, wanted, said, ran.stderr[-2000:])
+    for host in hosts.values():
+        host.close()
