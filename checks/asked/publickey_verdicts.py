@@ -121,8 +121,9 @@ def signed_part(blob):
     return b"".join(map(string, [plain, *body])), authority, blob[: len(blob) - len(rest)], take(rest)[0]
 
 
-def asked_here(material, it, session=SESSION):
-    """The question as the program of callers reads it, about a session."""
+def questions_of(material, it, session=SESSION):
+    """What cryptography has said yes to of the authority's signature, and of the client's over what a server puts together that lets alice
+    in; or `-`."""
     request = material.requests[it.request]
     shown = material.shown[request.offered]
     blob, user = blob_of(shown.line), request.user.partition(":")[0]
@@ -132,7 +133,15 @@ def asked_here(material, it, session=SESSION):
     if shown.authority is not None:
         key, *signed = signed_part(blob)
         authority = told_of(*signed)
-    client = told_of(key, request.message(blob, session, user, host), request.signature)
+    return authority, told_of(key, request.message(blob, session, user, host), request.signature)
+
+
+def asked_here(material, it, session=SESSION):
+    """The question as the program of callers reads it, about a session."""
+    request = material.requests[it.request]
+    blob, user = blob_of(material.shown[request.offered].line), request.user.partition(":")[0]
+    host = blob_of(material.hosts[0]) if material.host_key(request) else b""
+    authority, client = questions_of(material, it, session)
     seen = {REQUEST: "request", TRANSPORT: "transport", SSHD_ASKS: "sshd", WITH_FLAGS: str(request.flags or 0)}[it.seen]
     assert client != "-" or seen in ("request", "sshd"), "somebody else has verified what is no signature"
     algorithm = request.algorithm.encode().hex() if it.is_named else "-"
@@ -141,6 +150,13 @@ def asked_here(material, it, session=SESSION):
     words += ["certificate" if it.principals is None else of_texts(it.principals), of_texts([] if it.command is None else [it.command])]
     words += [(it.revoked or b"").hex(), str(it.bits), "t" * bool(it.options & TOUCH) + "v" * bool(it.options & VERIFY), str(it.second)]
     return "\t".join(["publickey", *words, it.address, it.host or "", authority, client])
+
+
+def has_small_rsa(material, it):
+    """Whether the key or its authority is RSA of fewer than 2,048 bits."""
+    shown = material.shown[material.requests[it.request].offered]
+    keys = [blob_of(shown.line)] if shown.authority is None else list(signed_part(blob_of(shown.line))[:2])
+    return any(take(key)[0] == SHA1.encode() and len(strings(key, 3)[0][2]) < 256 for key in keys)
 
 
 def fingerprint(blob):
@@ -162,7 +178,7 @@ class View:
 # of each cause what is answered, and whether it is the cause, given the login, its request and what is offered
 OF_LOGINS = {
     "a text that cannot be read": ("no: [a-z]+[0-9] cannot be read", lambda it, request, shown: True),
-    "a certificate that lists nobody": ("no: not listed", lambda it, request, shown: bool(LISTS_NOBODY.search(blob_of(shown.line)))),
+    "a certificate that lists nobody": ("no: not (?:listed|allowed)", lambda it, request, shown: bool(LISTS_NOBODY.search(blob_of(shown.line)))),
     "an empty command": ("no: certificate", lambda it, request, shown: string(b"force-command") + string(string(b"")) in blob_of(shown.line)),
     "options in another order": ("no: no key", lambda it, request, shown: shown.said == "in another order"),
     "a signature by SHA-1": ("no: no signature", lambda it, request, shown: request.signature.startswith(string(SHA1.encode()))),

@@ -1,10 +1,9 @@
 //! Asks about a whole login.
 
 use crate::requests::{Request, lent};
-use crate::verified::Verified;
 use crate::words::NO_LINE;
 use publickey_login::{
-    Answers, Principals, PublickeyGrant, PublickeyRefusal, Trusted, may_log_in, pending,
+    Answers, Principals, PublickeyGrant, PublickeyRefusal, Trusted, pending, pending_offer,
 };
 use sshkey_base::Result;
 use sshkey_revoked_keys::RevokedKeys;
@@ -50,10 +49,13 @@ fn said(alloc: Global, request: &Request, trusted: &Trusted) -> Verdict {
     let offer = request.offer();
     let place = request.place();
     let revoked = RevokedKeys::from_bytes(alloc, &request.revoked);
-    let verified = Verified {
-        is_good: request.authority.is_some(),
+    let is_offered = match pending_offer(alloc, &offer, trusted, &place, &revoked) {
+        Ok(held) => {
+            let is_certified = request.authority.is(held.authority_question());
+            held.decide(is_certified).is_ok()
+        }
+        Err(_) => false,
     };
-    let is_offered = may_log_in(alloc, &offer, trusted, &place, &revoked, &verified).is_ok();
     let held = match pending(alloc, &offer, &request.signed(), trusted, &place, &revoked) {
         Ok(held) => held,
         Err(refusal) => {

@@ -114,7 +114,8 @@ fn show_refusal<W: Write>(output: &mut W, refusal: &UserRefusal) -> io::Result<(
     }
 }
 
-fn why(reason: Reason) -> &'static str {
+/// Why a line refuses.
+pub(crate) fn why(reason: Reason) -> &'static str {
     match reason {
         Reason::Expired => "expired",
         Reason::MisplacedOption => "misplaced option",

@@ -38,11 +38,6 @@ impl Told {
         })))
     }
 
-    /// Whether there is one.
-    pub(crate) fn is_some(&self) -> bool {
-        self.0.is_some()
-    }
-
     /// Whether that is the question.
     pub(crate) fn is(&self, question: Option<&SignatureQuestion<'static>>) -> bool {
         let Some(question) = question else {

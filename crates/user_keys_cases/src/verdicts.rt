@@ -1,7 +1,7 @@
 //! How an answer about a whole login is written.
 
 use crate::publickey::Verdict;
-use crate::shown::show_grant;
+use crate::shown::{show_grant, why};
 use publickey_login::{PublickeyRefusal, Source};
 use std::io::{self, Write};
 
@@ -40,6 +40,15 @@ fn show_refusal<W: Write>(output: &mut W, refusal: &PublickeyRefusal) -> io::Res
         PublickeyRefusal::UnacceptedKey => writeln!(output, "no: unaccepted key"),
         PublickeyRefusal::Revoked => writeln!(output, "no: revoked"),
         PublickeyRefusal::NotListed => writeln!(output, "no: not listed"),
+        PublickeyRefusal::NotAllowed {
+            source,
+            line,
+            reason,
+        } => {
+            write!(output, "no: not allowed by line ")?;
+            show_source(output, *source)?;
+            writeln!(output, ":{line}, {}", why(*reason))
+        }
         PublickeyRefusal::Unclear { source, line } => {
             write!(output, "no: line ")?;
             show_source(output, *source)?;
