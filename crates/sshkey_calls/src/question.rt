@@ -133,11 +133,7 @@ fn lay_out_question(alloc: Global, question: &Asked<'_>) -> Result<(Vec<u8>, Que
 ///
 /// Fails only when out of memory, or with `Length` for a key of more than 2^32 - 1 bytes. Then the
 /// beginning of the parts may follow these bytes.
-pub fn add_question(
-    alloc: Global,
-    question: &Asked<'_>,
-    content: &mut Vec<u8>,
-) -> Result<Question>
+pub fn add_question(alloc: Global, question: &Asked<'_>, content: &mut Vec<u8>) -> Result<Question>
     ensures { IfOk result (λ parts. AddsQuestion (question_of question.now) parts
         content.old.items content.new.items) }
 {

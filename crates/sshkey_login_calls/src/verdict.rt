@@ -124,7 +124,7 @@ pub fn may_offer(alloc: Global, login: &LoginParts<'_>, ticket: &Sha256Digest, a
     ensures verdict { TellsOffer login.now ticket.now.bytes answers result }
     ensures memory { result ≡ 1 → AreTexts login.now }
 {
-    match judge_offer(alloc, login, ticket, answers) {
+    match decide_offer(alloc, login, ticket, answers) {
         Ok(_) => DONE,
         Err(refusal) => refusal.number,
     }
@@ -181,7 +181,7 @@ fn judge(
 }
 
 /// What would be granted if the client signed, or why nothing would be.
-fn judge_offer(
+fn decide_offer(
     alloc: Global,
     login: &LoginParts<'_>,
     ticket: &Sha256Digest,

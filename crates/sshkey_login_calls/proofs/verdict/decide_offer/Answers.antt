@@ -3,7 +3,7 @@ use Rattle.std.proofs.lemmas.Result.{err_from_is_err_and}
 use Rattle.publickey_login.specs.Logins.{client_known}
 use Rattle.publickey_login.specs.Signatures.{BySshd}
 use Rattle.sshkey_login_calls.proofs.Verdicts.{decided, kept_out}
-use Rattle.sshkey_login_calls.proofs.verdict.judge_offer.Goals as goal
+use Rattle.sshkey_login_calls.proofs.verdict.decide_offer.Goals as goal
 
 pub returns-in_err-held-clause-verdict : goal.returns-in_err-held-clause-verdict
 returns-in_err-held-clause-verdict c =
