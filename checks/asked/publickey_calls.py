@@ -9,7 +9,7 @@ from lib.harness import blob_of
 
 from .publickey import AUTHORITY, COMMAND, KEYS, PRINCIPALS
 from .publickey import Login as Asked
-from .publickey_judged import hold_logins, judge_stored
+from .publickey_judged import hold_logins, hold_stored
 from .publickey_logins import logins
 from .publickey_material import SESSION
 from .publickey_questions import REQUEST, SSHD_ASKS, TOUCH, TRANSPORT, VERIFY, WITH_FLAGS
@@ -101,7 +101,7 @@ def check_stored(judge):
     answers = [grant_told(answer, 2, answer) for answer in answers]
     if not judge.asker.is_package:
         # as the program is judged that is asked all of them
-        judge_stored(material, told_rows)("".join(f"{it}\n" for it in answers), judge.count)
+        hold_stored(material, told_rows)("".join(f"{it}\n" for it in answers), judge.count)
     for number, ((it, theirs), answer) in enumerate(zip(told_rows, answers)):
         name, holds = verdict(material, it, theirs, answer)
         if not holds:

@@ -12,7 +12,7 @@ REFUSED = 12
 LET_IN = 3
 
 
-def judge_stored(material, rows):
+def hold_stored(material, rows):
     """How the answers to these questions are judged."""
 
     def judged(printed, count):
