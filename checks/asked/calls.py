@@ -124,7 +124,7 @@ def check_validations(judge):
 
 
 def check_calls(judge, is_short=False):
-    """Where it is to be short, of the hostile byte strings those that a package is asked about."""
+    """Where it is to be short, of the hostile byte strings those that a package is asked about, and no logins at a real sshd."""
     check_hostile(judge, is_short)
     check_certificates(judge)
     check_validations(judge)
@@ -135,7 +135,7 @@ def check_calls(judge, is_short=False):
     check_entry_calls(judge)
     check_users(judge)
     check_user_keys(judge)
-    check_publickeys(judge)
+    check_publickeys(judge, is_short)
     check_hosts(judge)
     check_userauths(judge)
     check_signers(judge)

@@ -59,12 +59,12 @@ class Login:
         return {"keys": self.keys, "principals": self.principals or [], "command": [] if self.command is None else [self.command]}
 
     def line(self, place):
-        """The line of that text, named as keys0:1."""
+        """The line of that text, named as keys0:1, or no bytes where there is none."""
         name, number = place.split(":")
-        kind, text = name.rstrip("0123456789"), int(name[-1])
-        *lines, last = (self.texts()[kind][text] or b"").split(b"\n")
+        texts, text = self.texts()[name.rstrip("0123456789")], int(name[-1])
+        *lines, last = ((texts[text] if text < len(texts) else None) or b"").split(b"\n")
         # a line ends at a CR and a line feed
-        return [*(it.removesuffix(b"\r") for it in lines), last][int(number) - 1]
+        return dict(enumerate([*(it.removesuffix(b"\r") for it in lines), last], 1)).get(int(number), b"")
 
 
 class Draws(Texts):
