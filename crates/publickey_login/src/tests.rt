@@ -243,13 +243,20 @@ fn the_first_text_with_a_line_says_why(rt: HostRuntime) {
     let alloc = rt.alloc();
     let listed = Principals::InCertificate;
     let texts = [Text::Read(FILE), Text::Read(OVER), Text::Read(MISPLACED)];
-    let file = [Text::Read(FILE)];
     let misplaced = [Text::Read(MISPLACED)];
     let over = trusted(&texts, &[], listed, &misplaced);
-    let last = trusted(&file, &[], listed, &misplaced);
     let second = Source::AuthorizedKeys(1);
-    let command = Source::Command(0);
     assert!(rt; is_refused_by(alloc, KEY, &over, second, 3, Reason::Expired));
+}
+
+#[test]
+fn the_command_says_why_where_no_file_has_a_line(rt: HostRuntime) {
+    let alloc = rt.alloc();
+    let listed = Principals::InCertificate;
+    let file = [Text::Read(FILE)];
+    let misplaced = [Text::Read(MISPLACED)];
+    let last = trusted(&file, &[], listed, &misplaced);
+    let command = Source::Command(0);
     assert!(rt; is_refused_by(alloc, KEY, &last, command, 1, Reason::MisplacedOption));
 }
 
