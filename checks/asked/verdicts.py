@@ -6,7 +6,8 @@ from .linked import run
 # what sshkey-check says in place of the words of a status, and the packages do not
 WORDS = {
     r"its time (?:begins|was over) at \d{4,}-\d\d-\d\dT\d\d:\d\d:\d\dZ \(33\)": "not valid at that time (33)",
-    r"another (?:principal|authority) \(90\)": "no line is for the key (90)",
+    r"(?:another (?:principal|authority)|no principals, or some that are not read) \(90\)":
+        "no line is for the key, and no authority lists the user (90)",
 }  # fmt: skip
 
 def said(rafendilo, status):

@@ -1,12 +1,7 @@
-pub mod GrantExamples
-pub mod Grants
-pub mod Logins
-pub mod Questions
-pub mod UserGrants
-pub mod Forwarding
-pub mod UserKeys
 pub mod Refusals
-pub mod Publickey
+pub mod Grants
+pub mod GrantExamples
+pub mod Forwarding
+pub mod Logins
 pub mod Asked
-pub mod LoginGrants
-pub mod LogIns
+pub mod Verdicts
