@@ -9,7 +9,7 @@ from lib.harness import blob_of, ssh_keygen, string
 
 from .hosts import LATER
 from .key_calls import all_of, encoded, keys_of, renamed, signed_by
-from .linked import ABI, VERSION, declared, header, several, word
+from .linked import ABI, VERSION, data_of, declared, header, several, word
 from .publickey import REQUEST, SSHD, UNREADABLE, Login
 from .revocation_calls import EMPTY
 from .userauth_calls import by_keys
@@ -340,12 +340,22 @@ def without_memory():
     return {call for calls in said for call in re.findall(r"raf_(\w+)\(", calls)}
 
 
+def enough_of(call, spans):
+    """The room that the header says is enough for the questions of a login: twice the length of user, blob, session, host's key and
+    signature, and 4,608 bytes. None for other calls."""
+    is_login = call in ("log_in_questions", "may_offer_questions")
+    return 2 * sum(len(data_of(spans[at])) for at in (0, 2, 3, 4, 5)) + 4608 if is_login else None
+
+
 def check_rooms(judge, given):
     """Each room that is too short is answered so, and stays as it was."""
     asked = [it for it in given if it[0] in ROOMS and it[-1] == "DONE"]
     said = judge.said("calls with short rooms", [question_of("rooms", *it[:3]) for it in asked])
-    for (call, *_), answer in zip(asked, said):
+    for (call, spans, *_), answer in zip(asked, said):
         number, tried, needed = map(int, answer.split())
+        enough = enough_of(call, spans)
+        if enough is not None:
+            judge.check(f"{call}: {needed} bytes are needed, and {enough} are enough", needed <= enough)
         # a login that asks nothing takes no room
         kept = number == 0 and tried == (needed or TEXTS.get(call, 0))
         judge.check(f"{call}: each room below {tried} bytes is too short", kept, answer)

@@ -44,13 +44,13 @@ use std::net::{{IpAddr, Ipv4Addr}};
 use std::time::{{SystemTime, UNIX_EPOCH}};
 fn let_in(_: &rafendilo::Grant) {{}}
 fn log_in(
-    authority_line: &str, authorized_keys: &[u8], blob: &[u8], peer: IpAddr, session_id: &[u8], algorithm: &[u8], signature: &[u8],
+    authority_line: &[u8], authorized_keys: &[u8], blob: &[u8], peer: IpAddr, session_id: &[u8], algorithm: &[u8], signature: &[u8],
 ) -> Result<(), Box<dyn std::error::Error>> {{
 {0}
     Ok(())
 }}
 fn main() {{
-    drop(log_in("", &[], &[], Ipv4Addr::LOCALHOST.into(), &[], &[], &[]));
+    drop(log_in(&[], &[], &[], Ipv4Addr::LOCALHOST.into(), &[], &[], &[]));
 }}
 """
 PACKAGE = '[package]\nname = "login"\nversion = "1.0.0"\nedition = "2021"\n\n[dependencies]\n{}\n'

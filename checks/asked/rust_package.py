@@ -77,7 +77,7 @@ fn let_in(grant: &rafendilo::Grant) {{
     println!("let in");
 }}
 fn log_in(
-    authority_line: &str, blob: &[u8], peer: IpAddr, session_id: &[u8], algorithm: &[u8], signature: &[u8],
+    authority_line: &[u8], blob: &[u8], peer: IpAddr, session_id: &[u8], algorithm: &[u8], signature: &[u8],
 ) -> Result<(), Box<dyn std::error::Error>> {{
     let authorized_keys = b"";
 {0}
@@ -90,6 +90,6 @@ fn main() {{
     let data = |word: &str| (0..word.len() / 2).map(|at| byte(word, at)).collect::<Vec<u8>>();
     let (session_id, signature) = (data(&words[3]), data(&words[4]));
     let algorithm = b"ssh-ed25519-cert-v01@openssh.com";
-    log_in(&words[1], &blob, Ipv4Addr::LOCALHOST.into(), &session_id, algorithm, &signature).unwrap();
+    log_in(words[1].as_bytes(), &blob, Ipv4Addr::LOCALHOST.into(), &session_id, algorithm, &signature).unwrap();
 }}
 """

@@ -7,6 +7,8 @@ from dataclasses import replace
 
 from lib.harness import blob_of, string
 
+from .forwards import LISTENED, OPENED
+from .linked import word
 from .login_calls import INSIDE, OUTSIDE, Certificates
 from .made import loaded
 from .publickey import AUTHORITY, COMMAND, FOREVER, KEYS, PRINCIPALS, TRANSPORT, UNREADABLE, Granted, Login, refused, refused_by
@@ -287,9 +289,27 @@ def cases(maker):
     yield from by_sources(of)
 
 
+def check_forwarded(judge):
+    """What a grant lets be forwarded is what a real sshd does, of which checks/logins asks it."""
+    of = Lines(judge.made.maker)
+    for at, name, rows in ((1, "opened", OPENED), (2, "listened at", LISTENED)):
+        # no port is above 65,535, and no host is other bytes than a text's
+        rows = [*rows, *(("", "h", port, port == 65535) for port in (65535, 65536, 65536 + 80)), ("", b"\xff", 80, False)]
+        asked = [(options, host if isinstance(host, bytes) else host.encode(), port) for options, host, port, _ in rows]
+        questions = [replace(of.good, keys=(f"{options} ".lstrip().encode() + of.own,)).words("forwards", word(host), str(port)) for options, host, port in asked]
+        said = judge.ask(f"ports that are {name}", questions)
+        for (options, host, port, wanted), answer in zip(rows, said):
+            fields = answer.split(" ")
+            same = len(fields) == 3 and (fields[0], fields[at]) == ("0", str(int(wanted)))
+            judge.check(f"{name}: {host or 'no host'}, port {port}, by {options or 'no option'}", same, answer, wanted)
+    # of a refusal its number
+    judge.hold("ports of nobody", [("nowhere", replace(of.good, keys=()).words("forwards", "-", "22"), "90")])
+
+
 def check_user_keys(judge):
     found = list(cases(judge.made.maker))
     judge.hold("a login by authorized_keys", [(name, it.words(), wanted) for name, it, wanted in found if not it.checks])
     if not judge.asker.is_package:
         judge.hold_alone("a login by authorized_keys", [(name, it.words(), wanted) for name, it, wanted in found if it.checks])
+    check_forwarded(judge)
     check_stored(judge)

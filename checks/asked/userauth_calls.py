@@ -6,9 +6,11 @@ import itertools
 from dataclasses import dataclass, replace
 
 from lib.harness import blob_of, line_of, string, take
-from lib.signatures import signed
+from lib.signatures import mpint, signed
 
-from .linked import word
+from .issued_keys import line as issued_line
+from .issued_keys import of_bits
+from .linked import data_of, word
 from .made import WINDOW
 from .publickey import AUTHORITY, KEYS, REQUEST, SSHD, TRANSPORT, WITH_FLAGS, Granted, Login, refused
 from .security_key_calls import TOUCHED, VERIFIED, SecurityKey
@@ -206,7 +208,20 @@ def check_seen(judge):
     assert of.Permits.NO_TOUCH == NO_TOUCH and of.Permits.NO_VERIFICATION == NO_VERIFICATION
 
 
+def check_longest(judge):
+    """The longest question for its parts, of an RSA key of 16,384 bits whose signature left out all zeros but for one byte, takes no more
+    room than the header says: twice the length of the parts, and 4,608 bytes."""
+    line = issued_line(b"ssh-rsa", mpint(3), of_bits(16384))
+    request = Request(b"rsa-sha2-512", blob_of(line), string(b"rsa-sha2-512") + string(b"\1"))
+    asked = request.login(keys=(line.encode(),)).words("log-in-questions")
+    number, *parts = judge.ask("the longest question of a login", [asked])[0].split(" ")
+    lengths = [len(data_of(it)) for it in parts[1:]]
+    enough = 2 * sum(map(len, (request.user, request.key, request.session, request.signature))) + 4608
+    judge.check("it is 0 for 2,047 of 2,048 bytes, and has room", number == "0" and lengths[-1] == 2048 and sum(lengths) <= enough, lengths, enough)
+
+
 def check_userauths(judge):
     check_requests(judge)
+    check_longest(judge)
     check_flags(judge)
     check_seen(judge)

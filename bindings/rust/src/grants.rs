@@ -36,7 +36,7 @@ impl Source {
 
 /// A host and a port.
 #[derive(Clone, Debug, PartialEq, Eq)]
-pub struct HostAndPort {
+pub struct HostPort {
     /// The host, without brackets; `*` is any. What else stands for a host, [`Grant::may_open`] and
     /// [`Grant::may_listen`] say.
     pub host: String,
@@ -56,9 +56,9 @@ pub struct Grant {
     pub key_id: String,
     /// To be shown: where ports may be forwarded to, `*` at any port where it is anywhere, and
     /// nothing where it is nowhere. [`Grant::may_open`] reads them.
-    pub permit_open: Vec<HostAndPort>,
+    pub permit_open: Vec<HostPort>,
     /// Likewise where may be listened, which [`Grant::may_listen`] reads.
-    pub permit_listen: Vec<HostAndPort>,
+    pub permit_listen: Vec<HostPort>,
     /// `NAME=VALUE` each. By its defaults sshd sets none.
     pub environment: Vec<String>,
     /// The number of the line that lets in, from 1; 0 where the certificate alone does.
@@ -118,7 +118,7 @@ impl Grant {
 }
 
 /// The places as strings, one after the other.
-fn bytes_of(places: &[HostAndPort]) -> Vec<u8> {
+fn bytes_of(places: &[HostPort]) -> Vec<u8> {
     let mut bytes = Vec::new();
     for place in places {
         let port = place.port.map(u16::to_be_bytes);
@@ -200,12 +200,12 @@ pub(crate) fn grant_in(buffer: &[u8], found: &raw::Grant) -> Result<Grant, Statu
 }
 
 /// The hosts and ports that are strings, one after the other. A port of no bytes is any.
-fn places(bytes: &[u8]) -> Result<Vec<HostAndPort>, Status> {
+fn places(bytes: &[u8]) -> Result<Vec<HostPort>, Status> {
     let mut found = Vec::new();
     let mut rest = strings(bytes);
     while let Some(host) = rest.next() {
         let port = rest.next().unwrap_or(Ok(&[]))?;
-        found.push(HostAndPort {
+        found.push(HostPort {
             host: text(host?)?.into(),
             port: <[u8; 2]>::try_from(port).ok().map(u16::from_be_bytes),
         });

@@ -92,7 +92,7 @@ pub use files::{
     authorized_entry, entry_lines, is_safe_mode, known_host, line_may_name_authority,
     line_may_name_key, line_options, AuthorizedEntry, EntryLines, KnownHost, LineOption, Marker,
 };
-pub use grants::{Grant, HostAndPort, Refused, Source};
+pub use grants::{Grant, HostPort, Refused, Source};
 pub use hosts::{
     check_host_certificate, check_host_key, host_and_port, unreadable_host_line, HostLogin, KnownBy,
 };

@@ -1,7 +1,7 @@
 //! What the questions of checks/bindings can't ask.
 
 use rafendilo::{
-    Authorities, Draft, Grant, HostAndPort, HostLogin, Listed, Offer, Permits, Place, Principals,
+    Authorities, Draft, Grant, HostLogin, HostPort, Listed, Offer, Permits, Place, Principals,
     Question, Refused, Sha256, Signed, Source, Status, Text, Trusted,
 };
 
@@ -182,8 +182,8 @@ fn a_grant_says_where_ports_may_be_forwarded_and_what_runs() {
     let forced = Grant {
         shown_command: Some(String::new()),
         key_id: String::new(),
-        permit_open: vec![HostAndPort { host: "db".into(), port: Some(5432) }],
-        permit_listen: vec![HostAndPort { host: "*".into(), port: None }],
+        permit_open: vec![HostPort { host: "db".into(), port: Some(5432) }],
+        permit_listen: vec![HostPort { host: "*".into(), port: None }],
         environment: Vec::new(),
         line: 1,
         text: 0,

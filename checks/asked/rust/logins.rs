@@ -1,7 +1,7 @@
 //! Answers questions about logins by public key.
 
 use rafendilo::{
-    is_signature, Grant, HostAndPort, Offer, Permits, Place, Principals, Question, Refused, Signed,
+    is_signature, Grant, HostPort, Offer, Permits, Place, Principals, Question, Refused, Signed,
     Status, Text, Trusted,
 };
 
@@ -144,8 +144,8 @@ fn string(content: impl AsRef<[u8]>) -> Vec<u8> {
 }
 
 /// The hosts and ports as the library lays them out.
-fn places(found: &[HostAndPort]) -> String {
-    let port = |it: &HostAndPort| it.port.map_or(vec![], |port| port.to_be_bytes().to_vec());
-    let both = |it: &HostAndPort| [string(&it.host), string(port(it))].concat();
+fn places(found: &[HostPort]) -> String {
+    let port = |it: &HostPort| it.port.map_or(vec![], |port| port.to_be_bytes().to_vec());
+    let both = |it: &HostPort| [string(&it.host), string(port(it))].concat();
     word(found.iter().flat_map(both).collect::<Vec<u8>>())
 }
