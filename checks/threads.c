@@ -86,9 +86,9 @@ static void ask_login(asked *it, const raf_login *login) {
   note(it, grant.permits);
 }
 
-/* The user's key alone, by a text that lists it, with a request that the key of the first folder has
- * signed; and by that text of principals the user's certificate, whose signature somebody else has
- * verified. */
+/* The user's key alone, by a text that lists it, with a request that the key of the first folder
+ * has signed; and the user's certificate, by an authority and by principals, where somebody else has
+ * verified the signature. */
 static void ask_logins(asked *it, raf_blob key, raf_blob certificate, const raf_trusted *trusted,
                        uint64_t now) {
   raf_blob signature = file_of(it, "request.sig"), listed = file_of(it, "user.pub");

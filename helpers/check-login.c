@@ -35,7 +35,8 @@ static void forget_texts(login_texts *texts) {
   free(texts->command_keys);
 }
 
-/* What is asked of whoever signs with what is shown: nobody has signed, and no algorithm is named. */
+/* What is asked of whoever signs with what is shown, where nobody has, by no algorithm that is
+ * named. */
 static raf_login login_of(raf_span shown, const check_request *asked, const login_texts *texts) {
   const char *host = asked->given[CHECK_HOST];
   return (raf_login){

@@ -1,5 +1,5 @@
-/* Which option keeps sshd from reading a line that has the key: raf_verify_offer is asked about the line
- * anew, with each option alone. */
+/* Which option keeps sshd from reading a line that has the key: raf_verify_offer is asked about the
+ * line anew, with each option alone. */
 #include <stdio.h>
 #include <stdlib.h>
 #include <string.h>

@@ -23,18 +23,28 @@ uint32_t granted_ask(const raf_login *login, granted_login *answer) {
   return said;
 }
 
-const char *granted_unlisted_words(const raf_login *login, bool is_certificate) {
+/* What is said of the certificate but for its signature and its time: whose it is, and whom it
+ * lists. */
+static uint32_t ask_whose(const raf_login *login) {
   raf_digests by = login->trusted.authorities;
-  raf_span blob = login->offer.blob;
+  raf_span blob = login->offer.blob, user = login->offer.user;
+  raf_fields fields;
+  memset(&fields, 0, sizeof fields);
+  uint32_t answer = raf_certificate_fields(blob.bytes, blob.length, &fields);
+  if (answer != RAF_DONE) return answer;
+  return raf_check_certificate_for(blob.bytes, blob.length, fields.valid_after, user.bytes,
+                                   user.length, by.items, by.count, 1);
+}
+
+const char *granted_unlisted_words(const raf_login *login, bool is_certificate) {
   bool has_lines = login->trusted.authorized_keys.count || login->trusted.command_keys.count;
-  if (has_lines && !by.count) return "no line is for the key";
+  if (has_lines && !login->trusted.authorities.count) return "no line is for the key";
   if (has_lines || !is_certificate) return NULL;
-  /* whether it is verified is not asked here, but only whose it is */
-  uint32_t answer = raf_check_certificate(blob.bytes, blob.length, login->place.unix_timestamp,
-                                          by.items, by.count, 1);
+  uint32_t answer = ask_whose(login);
   if (answer == RAF_UNTRUSTED_AUTHORITY) return raf_status_meaning(answer);
-  if (answer != RAF_DONE && answer != RAF_OUT_OF_WINDOW) return NULL;
-  return login->trusted.principals_from == RAF_PRINCIPALS_IN_FILES
-             ? "no line is for a principal that it lists"
-             : raf_status_meaning(RAF_UNLISTED_PRINCIPAL);
+  if (answer != RAF_DONE && answer != RAF_UNLISTED_PRINCIPAL) return NULL;
+  if (login->trusted.principals_from == RAF_PRINCIPALS_IN_FILES)
+    return "no line is for a principal that it lists";
+  /* one that lists nobody is not asked for a name there */
+  return raf_status_meaning(answer == RAF_DONE ? (uint32_t)RAF_VALID_PRINCIPALS : answer);
 }

@@ -13,8 +13,9 @@ typedef struct {
 /* Whether somebody logs in: raf_verify_login, in a buffer that is long enough. */
 uint32_t granted_ask(const raf_login *login, granted_login *answer);
 
-/* Why nothing lets in what the login offers, where RAF_USER_NOT_LISTED is the answer: that its
- * authority is another one, or that it lists others, in words; null where neither is the reason. */
+/* Why nothing lets in what the login offers, where RAF_USER_NOT_LISTED is the answer, in words:
+ * that its authority is another one, that it lists others or nobody, or that no line is for it;
+ * null where more than one may be the reason. */
 const char *granted_unlisted_words(const raf_login *login, bool is_certificate);
 
 #endif

@@ -179,7 +179,7 @@ static const struct {
     {RAF_CLIENT_NOT_SIGNED, "not signed by the client"},
     {RAF_NO_FLAGS, "a security key whose flags nobody tells"},
     {RAF_NO_SIGNATURE, "no signature"},
-    {RAF_USER_NOT_LISTED, "no line is for the key"},
+    {RAF_USER_NOT_LISTED, "no line is for the key, and no authority lists the user"},
     {RAF_LINE_EXPIRED, "a line whose time is over"},
     {RAF_LINE_OPTION, "a line with principals and without cert-authority"},
     {RAF_LINE_ELSEWHERE, "a line for other places"},

@@ -107,8 +107,8 @@ static bool read_files(program_files *files, bool may_be_empty) {
   return true;
 }
 
-/* Reads texts of a login: of one that is not there no bytes, if it need not be there, and of one that
- * can't be read none, which is said; false where memory runs out. */
+/* Reads texts of a login: of one that is not there no bytes, if it need not be there, and none of
+ * one that can't be read, which is said; false where memory runs out. */
 static bool read_texts(program_files *files, bool may_be_missing) {
   for (size_t at = 0; at < files->count; at++) {
     raf_blob text = {NULL, 0};

@@ -43,8 +43,8 @@ static raf_login login_of(const raf_login *it) {
 typedef uint32_t call_of_questions(const raf_login *login, uint8_t *buffer, size_t buffer_length,
                                    raf_login_questions *answer);
 
-/* What that call asks, and in `answers` to which questions the verification says yes, which is asked
- * about no client under what a stranger certified: RAF_DONE, or why nothing is asked. */
+/* What that call asks, and in `answers` to which questions the verification says yes, which is
+ * asked about no client under what a stranger certified: RAF_DONE, or why nothing is asked. */
 static uint32_t verify_questions(call_of_questions *ask, const raf_login *login,
                                  raf_login_questions *questions, uint32_t *answers) {
   /* a buffer of this length is enough */

@@ -10,8 +10,9 @@ extern "C" {
 #endif
 
 /* Whether somebody logs in by public key, and the grant: raf_log_in, with the verifications that
- * raf_log_in_questions asks for. Where anything else is wrong nothing is verified, and the answer says
- * of a refusal which line of which text is the reason. A pointer may be null beside the length 0.
+ * raf_log_in_questions asks for. Where anything else is wrong nothing is verified, and the answer
+ * says of a refusal which line of which text is the reason. A pointer may be null beside the
+ * length 0.
  *
  * The grant needs a buffer of some hundred bytes, and of what its command, its lists and the key id
  * take. Of RAF_SHORT_BUFFER `answer->length` says how many: ask again with as many. */

@@ -282,8 +282,7 @@ def check_issued(judge, library):
     by = [rafendilo.fingerprint(maker.blob("issuer"))]
     trusted = rafendilo.Trusted([], by, rafendilo.IN_CERTIFICATE, [], rafendilo.NO_REVOCATIONS)
     for principal, wanted in (("alice", "DONE"), ("eve", "USER_NOT_LISTED")):
-        login = rafendilo.Offer(principal, "", blob), rafendilo.SignedBySshd(), trusted, rafendilo.Place(client=None, unix_timestamp=second)
-        status = status_of(rafendilo, rafendilo.log_in, *login)
+        status = status_of(rafendilo, rafendilo.may_offer, rafendilo.Offer(principal, b"", blob), trusted, rafendilo.Place(None, second))
         count.check(f"it is valid for {principal}: {wanted}", status.name == wanted, status)
     signature = maker.signature("holder-cert.pub", "text")
     allowed = "alice cert-authority " + maker.read("issuer.pub")

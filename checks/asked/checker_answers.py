@@ -71,6 +71,7 @@ def check_slips(count, program):
 
 def check_wrong_files(count, programs, maker):
     """What is said where another file is given than is wanted, an empty one, and of a certificate whose time is not."""
+    nobodys = maker.write("nobodys", maker.certificate("admitting", "entering", *WINDOW) + "\n")
     maker.certificate("admitting", "entering", "-n", "alice", *WINDOW)
     key, shown, ca = (maker.path(it) for it in ("entering.pub", "entering-cert.pub", "admitting.pub"))
     users = maker.write("authorities", f"alice,bob {maker.read('admitting.pub')}\n")
@@ -88,6 +89,7 @@ def check_wrong_files(count, programs, maker):
         (["--ca", users, "--user", "alice", shown], UNTOLD, f"{users}:1: no key: the line begins with users, as for sshkey-principals"),
         (["--ca", empty, *asked[2:], str(MIDDLE), shown], INVALID, f"{empty}: it has no line\nsshkey-check: {shown}:1: another authority (90)"),
         ([*asked[:3], "eve", "--at", str(MIDDLE), shown], INVALID, f"{shown}:1: another principal (90)"),
+        ([*asked, str(MIDDLE), nobodys], INVALID, f"{nobodys}:1: no principals, or some that are not read (90)"),
         (["login", "alice", key, *login, empty], INVALID, f"{empty}: it has no line\nsshkey-check: {key}:1: no line is for the key (90)"),
         (["--host", "h", "--known-hosts", empty, key], INVALID,
          f"{empty}: it has no line\nsshkey-check: {key}:1: no key or authority is known for the host (53)"),

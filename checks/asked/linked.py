@@ -98,7 +98,9 @@ def enumerations():
 def enumerations_of(rafendilo):
     """The same of the Python module."""
     prefixes = {"": rafendilo.Status, "ASK_": rafendilo.Algorithm, "BY_": rafendilo.KnownBy, "MARKER_": rafendilo.Marker, "PERMIT_": rafendilo.Permits}
-    named = [*prefixes.items(), ("", rafendilo.CertificateType), ("LINE_", rafendilo._header.LineKind)]
+    prefixes["SOURCE_"], own = rafendilo.Source, rafendilo._header
+    inner = {"LINE_": own.LineKind, "SIGNED_": own.SignedHow, "PRINCIPALS_": own.PrincipalsFrom, "ASKS_": own.Asks}
+    named = [*prefixes.items(), ("", rafendilo.CertificateType), *inner.items()]
     return [{f"RAF_{prefix}{it.name}": int(it) for it in members} for prefix, members in named]
 
 

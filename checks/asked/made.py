@@ -115,9 +115,9 @@ class Kind:
             yield name, self, "alice", second, "DONE"
         for name, second in (("a second too early", FIRST - 1), ("the second after the last", END), ("one later", END + 1)):
             yield name, self, "alice", second, "OUT_OF_WINDOW"
-        yield "another principal", self, "eve", MIDDLE, "UNLISTED_PRINCIPAL"
-        yield "a beginning of a principal", self, "alic", MIDDLE, "UNLISTED_PRINCIPAL"
-        yield "another authority", other, "alice", MIDDLE, "UNTRUSTED_AUTHORITY"
+        yield "another principal", self, "eve", MIDDLE, "USER_NOT_LISTED"
+        yield "a beginning of a principal", self, "alic", MIDDLE, "USER_NOT_LISTED"
+        yield "another authority", other, "alice", MIDDLE, "USER_NOT_LISTED"
 
     def is_verified(self, number, authority, principal, second):
         key = " ".join(self.maker.read(f"{authority.authority}.pub").split()[:2])

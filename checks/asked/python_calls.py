@@ -1,9 +1,11 @@
 """What the Python module takes and gives, for checks/foreign: what has no truth value, what is no list of names or of files, what
 nobody changes, what a verifier answers, and nonces."""
+import ast
 import base64
 import builtins
 import copy
 import dataclasses
+import glob
 import inspect
 import os
 import pickle
@@ -373,6 +375,32 @@ def check_files_of_ssh(count, rafendilo):
             count.check("without ssh it raises OSError", found is not None and issubclass(getattr(builtins, found[0]), OSError), found)
 
 
+# what Python 3.8 subscripts in annotations alone, which are never evaluated, beside what is of collections.abc
+BUILT_IN = {"dict", "frozenset", "list", "set", "tuple", "type"}
+
+
+def subscripted(tree):
+    """The names that are subscripted where that is evaluated."""
+    if isinstance(tree, ast.Subscript) and isinstance(tree.value, ast.Name):
+        yield tree.value.id
+    for name, value in ast.iter_fields(tree):
+        if name not in ("annotation", "returns"):
+            for inner in value if isinstance(value, list) else [value]:
+                yield from subscripted(inner) if isinstance(inner, ast.AST) else ()
+
+
+def check_old_python(count, rafendilo):
+    """No module asks for types at run time as Python 3.8 does not have them."""
+    paths = glob.glob(f"{os.path.dirname(rafendilo.__file__)}/**/*.py", recursive=True)
+    for path in paths:
+        with open(path, encoding="utf-8") as file:
+            tree = ast.parse(file.read())
+        imported = {it.name for of in ast.walk(tree) if isinstance(of, ast.ImportFrom) and of.module == "collections.abc" for it in of.names}
+        wrong = (imported | BUILT_IN) & {*subscripted(tree)}
+        count.note(f"{os.path.basename(path)} may be imported in Python 3.8", not wrong, *wrong)
+    count.check("the package has its modules", len(paths) > 20, len(paths))
+
+
 def check_python(count, rafendilo, maker):
     """Over the keys and certificates of certificate_calls."""
     key, authority = maker.blob("listed0"), maker.blob("lister0")
@@ -387,6 +415,7 @@ def check_python(count, rafendilo, maker):
     check_unsupported(count, rafendilo)
     check_nonces(count, rafendilo, key, authority)
     check_names(count, rafendilo)
+    check_old_python(count, rafendilo)
     check_no_file(count, rafendilo, key, certificate)
     check_decided(count, rafendilo, key, certificate)
     check_verifiers(count, rafendilo, key, certificate)

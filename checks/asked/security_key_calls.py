@@ -190,7 +190,7 @@ def check_window(judges, key, certificate, window):
     maker, middle = judges.maker, window[0]
     signature = with_signer(maker.signature("user1", "text"), certificate)
     for principal, second, wanted in (
-        ("alice", middle, "DONE"), ("eve", middle, "UNLISTED_PRINCIPAL"), ("alice", 0, "OUT_OF_WINDOW"),
+        ("alice", middle, "DONE"), ("eve", middle, "USER_NOT_LISTED"), ("alice", 0, "OUT_OF_WINDOW"),
         ("alice", 2 * middle, "OUT_OF_WINDOW"),
     ):  # fmt: skip
         found = judges.of_certificates([line_of(certificate)], key.line(), principal, second)
@@ -280,7 +280,7 @@ def check_zero_in_principal(judges, key):
         found = judges.of_certificates([line_of(made)], key.line(), "alice", MIDDLE)
         file = with_signer(judges.maker.signature("user0", "text"), made)
         judged = is_verified(judges.maker.folder, "zero", file, "text", "alice", MIDDLE, f"alice cert-authority {key.line()}")
-        refused = said(judges.rafendilo, judges.rafendilo.Status.VALID_PRINCIPALS)
+        refused = said(judges.rafendilo, judges.rafendilo.Status.USER_NOT_LISTED)
         same = judged == is_taken and found == ([refused],) * 2
         judges.count.check(f"the principal {principal!r} is not alice", same, found, f"ssh-keygen: {judged}")
 

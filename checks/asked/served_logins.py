@@ -20,7 +20,7 @@ PYTHON = "/usr/bin/python3"
 ADDRESS, ASKED, SECONDS = "127.0.0.1", "ls -l", 30
 KINDS = {"own": "ed25519", "rsa": "rsa -b 2048", "ecdsa": "ecdsa -b 256", "strange": "ed25519"}
 NOW = ["-V", "-5m:+5m"]
-TEMPLATE = ["-F", "none", "-T", "-o", "BatchMode=yes", "-o", "IdentitiesOnly=yes", "-o", "StrictHostKeyChecking=no", "-o", "UserKnownHostsFile=/dev/null"]
+TEMPLATE = ["-F", "none", "-o", "BatchMode=yes", "-o", "IdentitiesOnly=yes", "-o", "StrictHostKeyChecking=no", "-o", "UserKnownHostsFile=/dev/null"]
 
 
 class RealAgent:
@@ -133,9 +133,17 @@ class Servers:
             words += ["-i", self.maker.path(f"{key}.pub"), *(["-o", f"CertificateFile={self.maker.path(f'{name}.pub')}"] if is_certificate else [])]
         for option in login.options:
             words += ["-o", option]
-        ran = run([*words, f"{login.user}@{ADDRESS}", ASKED], stdin=subprocess.DEVNULL, capture_output=True, timeout=SECONDS)
+        named = {**os.environ, "TERM": "vt100"}
+        ran = run([*words, f"{login.user}@{ADDRESS}", ASKED], stdin=subprocess.DEVNULL, env=named, timeout=SECONDS)
         is_denied = ran.returncode == 255 and ("Permission denied (publickey)" in ran.stderr or "closed by" in ran.stderr or "disconnect from" in ran.stderr)
         return ran.stdout if ran.returncode == 0 else None if is_denied and not ran.stdout else ran, ran.stderr
+
+
+    def forward(self, port, options, host, to):
+        """What ssh says where it has a port forwarded, by a line with these options."""
+        self.maker.write("keys", f"{options} {self.lines['own']}\n")
+        words = ["ssh", *TEMPLATE, "-p", str(port), "-o", f"IdentityAgent={self.maker.path('real')}", "-i", self.maker.path("own.pub")]
+        return run([*words, "-W", f"[{host}]:{to}", f"alice@{ADDRESS}"], stdin=subprocess.DEVNULL, timeout=SECONDS).stderr
 
 
 def free_port():
@@ -149,7 +157,8 @@ class Server:
     def __init__(self, program, servers, *words):
         self.port, path = free_port(), servers.maker.path
         given = words or [path("host"), path("keys"), path("authority.pub")]
-        with open(path("log"), "ab") as log:
+        self.log = path(f"{self.port}.log")
+        with open(self.log, "ab") as log:
             self.process = subprocess.Popen([PYTHON, program, str(self.port), *given], stdin=subprocess.DEVNULL, stdout=log, stderr=log)
 
     def __enter__(self):
@@ -159,7 +168,8 @@ class Server:
                 if client.connect_ex((ADDRESS, self.port)) == 0:
                     return self
             time.sleep(0.1)
-        raise OSError(f"{shlex.join(map(str, self.process.args))} does not serve")
+        with open(self.log, encoding="utf-8") as log:
+            raise OSError(f"{shlex.join(map(str, self.process.args))} does not serve: {log.read()[-2000:]}")
 
     def __exit__(self, *_):
         self.process.terminate()

@@ -3,8 +3,12 @@ import re
 
 from .linked import run
 
-# what sshkey-check says in place of the words of OUT_OF_WINDOW, and the packages do not
-WINDOW = r"its time (?:begins|was over) at \d{4,}-\d\d-\d\dT\d\d:\d\d:\d\dZ \(33\)"
+# what sshkey-check says in place of the words of a status, and the packages do not
+WORDS = {
+    r"its time (?:begins|was over) at \d{4,}-\d\d-\d\dT\d\d:\d\d:\d\dZ \(33\)": "not valid at that time (33)",
+    r"(?:another (?:principal|authority)|no principals, or some that are not read) \(90\)":
+        "no line is for the key, and no authority lists the user (90)",
+}  # fmt: skip
 
 def said(rafendilo, status):
     """What sshkey-check says of a number."""
@@ -27,7 +31,10 @@ def said_by_checker(words, authority, user, second, lines):
     ran = run([*words, "--ca", authority, "--user", user, "--at", str(second)], input="".join(f"{it}\n" for it in lines))
     if ran.returncode not in (0, 1):
         return [f"status {ran.returncode}: {ran.stderr[-2000:]}"]
-    reasons = dict(re.findall(r"^sshkey-check: \(stdin\):(\d+): (.*)$", re.sub(WINDOW, "not valid at that time (33)", ran.stderr), re.M))
+    told = ran.stderr
+    for own, words_of_all in WORDS.items():
+        told = re.sub(own, words_of_all, told)
+    reasons = dict(re.findall(r"^sshkey-check: \(stdin\):(\d+): (.*)$", told, re.M))
     said_of_each = [it for it in ran.stdout.splitlines() if not it.startswith(" ")]
     return [it if it == "valid" else f"{it}: {reasons.get(str(at), 'why?')}" for at, it in enumerate(said_of_each, 1)]
 

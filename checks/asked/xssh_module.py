@@ -25,12 +25,14 @@ def with_others(room):
 
 
 def check_module(count, room):
-    """What gofmt and vet say of the module, and its names. Returns the paths of its examples, which are built."""
+    """What gofmt and vet say of the module, its tests, its names, and that its examples are built."""
     go, words = Go(room, None), [f"-modfile={with_others(room)}"]
     said = run(["gofmt", "-l", MODULE])
     count.check("Go: gofmt finds nothing in xssh", said.returncode == 0 and not said.stdout, said.stdout, said.stderr)
     said = go.run(MODULE, "vet", *words, "./...")
     count.check("Go: go vet finds nothing in xssh", said.returncode == 0, said.stdout, said.stderr)
+    said = go.run(MODULE, "test", "-count=1", *words, ".")
+    count.check("Go: the tests of xssh", said.returncode == 0 and said.stdout.startswith("ok"), said.stdout[-3000:], said.stderr)
     with open(f"{MODULE}/xssh.go", encoding="utf-8") as file:
         named = exported(file.read())
     undocumented = [name for comment, name in named if comment.split()[:2] != ["//", name]]

@@ -1,6 +1,8 @@
 package rafendilo_test
 
 import (
+	"bytes"
+	"encoding/base64"
 	"errors"
 	"net/netip"
 	"testing"
@@ -198,6 +200,24 @@ func TestLogInByKeys(t *testing.T) {
 	grant = written.is(t, "what a command wrote", nil)
 	same(t, "its source", grant.Source, rafendilo.SourceCommand)
 	same(t, "its text", grant.Text, 1)
+}
+
+// The name of the client's host counts where a line names it, and the size of an RSA key where the
+// server names one.
+func TestHostAndSize(t *testing.T) {
+	it := ofKey(t, `from="*.example.com" `+read(t, "user.pub"))
+	_, err := it.in()
+	same(t, "no host", err != nil, true)
+	it.place.Host = "h.example.com"
+	it.is(t, "its host", nil)
+	modulus := append([]byte{0}, bytes.Repeat([]byte{0xff}, 256)...)
+	it.offer.Blob = joined(t, "ssh-rsa", "\x01\x00\x01", string(modulus))
+	line := "ssh-rsa " + base64.StdEncoding.EncodeToString(it.offer.Blob)
+	it.trusted.AuthorizedKeys = []rafendilo.Text{rafendilo.Text(line)}
+	it.trusted.LeastRSABits = 2048
+	it.is(t, "its size", nil)
+	it.trusted.LeastRSABits = 2049
+	it.is(t, "a greater size", rafendilo.ErrKeyNotAccepted)
 }
 
 // A line lets in by the certificate that lists its name, and the first for one that refuses ends

@@ -57,7 +57,7 @@ var meanings = map[Status]string{
 	84:  "not signed by the client",
 	85:  "a security key whose flags nobody tells",
 	86:  "no signature",
-	90:  "no line is for the key",
+	90:  "no line is for the key, and no authority lists the user",
 	91:  "a line whose time is over",
 	92:  "a line with principals and without cert-authority",
 	93:  "a line for other places",

@@ -160,10 +160,10 @@ func TestFlags(t *testing.T) {
 		asked := trusting(t, algorithm, it.options, blob)
 		asked.signed = it.signed
 		asked.is(t, what, it.wanted)
-		asked.trusted.RequiresTouch, asked.trusted.RequiresVerification = true, true
-		if it.options == "no-touch-required " {
-			_, err := asked.in()
-			same(t, what+", and the server wants it", err != nil, true)
-		}
 	}
+	asked := trusting(t, algorithm, "no-touch-required ", blob)
+	asked.signed, asked.trusted.RequiresTouch = signed(0), true
+	asked.is(t, "untouched, where the server wants it", rafendilo.ErrUntouched)
+	asked.signed, asked.trusted.RequiresVerification = signed(1), true
+	asked.is(t, "unverified, where the server wants it", rafendilo.ErrUnverified)
 }

@@ -54,6 +54,9 @@ func PublicKeyCallback(
 
 // addressOf is the address of a socket; none where it is another place.
 func addressOf(place net.Addr) netip.Addr {
+	if place == nil {
+		return netip.Addr{}
+	}
 	found, err := netip.ParseAddrPort(place.String())
 	if err != nil {
 		return netip.Addr{}

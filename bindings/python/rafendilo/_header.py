@@ -341,7 +341,7 @@ WORDS = {
     Status.CLIENT_NOT_SIGNED: "not signed by the client",
     Status.NO_FLAGS: "a security key whose flags nobody tells",
     Status.NO_SIGNATURE: "no signature",
-    Status.USER_NOT_LISTED: "no line is for the key",
+    Status.USER_NOT_LISTED: "no line is for the key, and no authority lists the user",
     Status.LINE_EXPIRED: "a line whose time is over",
     Status.LINE_OPTION: "a line with principals and without cert-authority",
     Status.LINE_ELSEWHERE: "a line for other places",

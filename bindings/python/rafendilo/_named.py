@@ -5,8 +5,7 @@ import dataclasses
 import functools
 import inspect
 import re
-from collections.abc import Callable
-from typing import Any, TypeVar, cast
+from typing import Any, Callable, TypeVar, cast
 
 from ._values import Refused
 

@@ -253,7 +253,7 @@ statuses! {
     /// Its bytes are none.
     NO_SIGNATURE = 86, "no signature";
     /// No line is for them, and no authority's certificate lists the user.
-    USER_NOT_LISTED = 90, "no line is for the key";
+    USER_NOT_LISTED = 90, "no line is for the key, and no authority lists the user";
     /// Its expiry-time is over.
     LINE_EXPIRED = 91, "a line whose time is over";
     /// It has principals, and no cert-authority; of a file of principals, one of both.

@@ -30,7 +30,7 @@ not_said None b some unsaid is = absurd cc
 not_said (Some q) b some unsaid is = absurd cc
 
 module _ (accepts : Question → Bool) where
-  answered : (asked : Option (Option Question)) (b : Bool) → IsTrue b ↔ IsAnswered accepts asked → IsYes asked b → IsAnswered accepts asked
+  pub answered : (asked : Option (Option Question)) (b : Bool) → IsTrue b ↔ IsAnswered accepts asked → IsYes asked b → IsAnswered accepts asked
   answered None b both is = tt
   answered (Some q) b both is = both.0 is
 

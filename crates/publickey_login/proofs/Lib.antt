@@ -7,3 +7,4 @@ mod Answered
 mod Origins
 mod Helds
 mod Pendings
+mod RefusalExamples

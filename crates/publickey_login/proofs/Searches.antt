@@ -1,5 +1,6 @@
 -- What the first text says that is not passed over.
-use Rattle.std.proofs.Common.{◌≡◌, ◌≢◌, ◌∙◌, ◌+◌, ◌<◌, ◌≤◌, ℕ, zero, suc, List, [], ◌∷◌, IfErr, Option, Some, None, Result, Ok, Err, ap, arith, drop, inl, inr, length, map, slice_index_or, subst, sym}
+use Rattle.std.proofs.Common.{◌≡◌, ◌≢◌, ◌∙◌, ◌+◌, ◌<◌, ◌≤◌, ℕ, zero, suc, List, [], ◌∷◌, IfErr, Option, Some, None, Result, Ok, Err, ap, arith, drop, inl, inr, length, map, refl, slice_index_or, subst, sym, true, false}
+use Rattle.std.specs.Option.{option_or}
 use Rattle.std.proofs.lemmas.List.{drop_more}
 use Rattle.std.proofs.Math.ListN.{drop_of_length-le}
 use Rattle.std.specs.Str.Lines.{lines}
@@ -20,10 +21,11 @@ use Rattle.user_keys.specs.declared.refusal.UserRefusal.{UserRefusal}
 use Rattle.user_keys.specs.declared.refusal.UserRefusal.TheVariants as why
 use Rattle.publickey_login.specs.Logins.{Read, Text, Unreadable}
 use Rattle.publickey_login.specs.Searches.{ArePassed, AuthorityLine, Found, GoesOn, IsFoundBy, IsFoundIn, IsOfFirst, KeyLine, Passes, PrincipalLine, RefusesBy, Sought, in_principals, in_text}
-use Rattle.publickey_login.specs.Results.{FindsText, SearchesText, refused}
-use Rattle.publickey_login.specs.Stops.{IsStopped, IsUnclearBy, IsUnread, IsWhy}
+use Rattle.publickey_login.specs.Results.{FindsText, decides_alone}
+use Rattle.publickey_login.specs.Stops.{HasNone, IsStopped, IsUnclearBy, IsUnread, RefusesFirst, RefusesWith, source_in}
 use Rattle.publickey_login.specs.Values.{text_of}
-use Rattle.publickey_login.specs.declared.grant.Source.{Source}
+use Rattle.publickey_login.specs.declared.search.LineRefusal.{LineRefusal}
+use Rattle.publickey_login.specs.declared.search.TextList.{TextList}
 use Rattle.publickey_login.specs.declared.trusted.Text as code
 
 module _ (u : UserLogin) where
@@ -99,14 +101,29 @@ module _ (u : UserLogin) where
   principal_line c text (Ok line) exactly refused = exactly
   principal_line c text (Err r) exactly refused = λ other. (refused other, λ f a. exactly other f.line f.terms f.name a)
 
+  -- ---- a text that refuses, or has no line
+
+  pub none_passes : (s : Sought) (text : List ℕ) → HasNone u s text → Passes u s text
+  none_passes KeyLine text none = none.0
+  none_passes (AuthorityLine c) text none = none.0
+  none_passes (PrincipalLine c) text (inl (inl x)) = x.0
+  none_passes (PrincipalLine c) text (inl (inr (line, m, first, may, is))) = absurd (cc is)
+  none_passes (PrincipalLine c) text (inr (m, t, name, decides, inl refuses)) = absurd (cc refuses.2)
+  none_passes (PrincipalLine c) text (inr (m, t, name, decides, inr unclear)) = absurd (cc unclear.1)
+
   -- lines that refuse are passed over, but for a principal
-  pub line_refuses : (s : Sought) (from : Source) (text : List ℕ) (n : ℕ) (reason : Reason) → IsWhy u s text (why.NotAllowed n reason) → SearchesText u s from text (Ok (refused s))
-  line_refuses KeyLine from text n reason none = none.0
-  line_refuses (AuthorityLine c) from text n reason none = none.0
-  line_refuses (PrincipalLine c) from text n reason (inl (inl x)) = absurd (cc x.1)
-  line_refuses (PrincipalLine c) from text n reason (inl (inr (line, m, first, may, is))) = absurd (cc is)
-  line_refuses (PrincipalLine c) from text n reason (inr (m, t, name, decides, inl refuses)) = (m, t, name, decides, (refuses.0, refuses.1))
-  line_refuses (PrincipalLine c) from text n reason (inr (m, t, name, decides, inr unclear)) = absurd (cc unclear.1)
+  pub refused_passes : (s : Sought) (text : List ℕ) (n : ℕ) (reason : Reason) → decides_alone s ≡ false → RefusesWith u s n reason text → Passes u s text
+  refused_passes KeyLine text n reason goes none = none.0
+  refused_passes (AuthorityLine c) text n reason goes none = none.0
+  refused_passes (PrincipalLine c) text n reason goes none = absurd (cc goes)
+
+  pub refused_ends : (s : Sought) (text : List ℕ) (n : ℕ) (reason : Reason) → decides_alone s ≡ true → RefusesWith u s n reason text → RefusesBy u s text
+  refused_ends KeyLine text n reason ends none = absurd (cc ends)
+  refused_ends (AuthorityLine c) text n reason ends none = absurd (cc ends)
+  refused_ends (PrincipalLine c) text n reason ends (inl (inl x)) = absurd (cc x.1)
+  refused_ends (PrincipalLine c) text n reason ends (inl (inr (line, m, first, may, is))) = absurd (cc is)
+  refused_ends (PrincipalLine c) text n reason ends (inr (m, t, name, decides, inl refuses)) = (m, t, name, decides, (refuses.0, refuses.1))
+  refused_ends (PrincipalLine c) text n reason ends (inr (m, t, name, decides, inr unclear)) = absurd (cc unclear.1)
 
   -- ---- several texts
 
@@ -238,6 +255,48 @@ module _ (u : UserLogin) where
     pub none_left : (texts : List Text) (k : ℕ) → AreLeft texts [] k → GoesOn u s texts
     unfolding ArePassed
     none_left texts k left = left.goes_on (inl tt)
+
+    -- ---- what refuses first
+
+    -- of the texts that are left, of which so many were asked before
+    abbrev pub RefusesFrom : TextList → ℕ → List Text → Option LineRefusal → Type 0
+    RefusesFrom of k rest (Some x) = (number : ℕ) × (x.source ≡ source_in of (k + number)) × IsOfFirst (RefusesWith u s x.line x.reason) (HasNone u s) rest number
+    RefusesFrom of k rest None = ArePassed (HasNone u s) rest
+
+    -- What these refuse with first the whole does, unless one before them refused.
+    abbrev pub RefusesSoFar : TextList → List Text → List Text → ℕ → Option LineRefusal → Type 0
+    RefusesSoFar of texts rest k first = (x : Option LineRefusal) → RefusesFrom of k rest x → RefusesFirst u s of texts (option_or first x)
+
+    pub none_so_far : (of : TextList) (texts : List Text) → RefusesSoFar of texts texts 0 None
+    none_so_far of texts (Some x) (number, is, first) = (number, subst (λ (m : ℕ). x.source ≡ source_in of m) (omega arith) is, first)
+    none_so_far of texts None all = all
+
+    later : (of : TextList) (text : List ℕ) (rest : List Text) (k : ℕ) → HasNone u s text → (x : Option LineRefusal) → RefusesFrom of (k + 1) rest x → RefusesFrom of k (Read text ∷ rest) x
+    unfolding IsOfFirst ArePassed
+    later of text rest k none (Some x) (number, is, first) = (suc number, subst (λ (m : ℕ). x.source ≡ source_in of m) (omega arith) is, (none, first))
+    later of text rest k none None all = (none, all)
+
+    pub after_none : (of : TextList) (texts : List Text) (text : List ℕ) (rest : List Text) (k : ℕ) (first : Option LineRefusal) → HasNone u s text → RefusesSoFar of texts (Read text ∷ rest) k first → RefusesSoFar of texts rest (k + 1) first
+    after_none of texts text rest k first none so_far = λ x a. so_far x (later of text rest k none x a)
+
+    stays : (first : Option LineRefusal) (x : LineRefusal) (y : Option LineRefusal) → option_or first (Some x) ≡ option_or (option_or first (Some x)) y
+    stays None x y = refl
+    stays (Some z) x y = refl
+
+    no_more : (first : Option LineRefusal) → option_or first None ≡ first
+    no_more None = refl
+    no_more (Some x) = refl
+
+    pub at_refused : (of : TextList) (texts : List Text) (text : List ℕ) (rest : List Text) (k : ℕ) (first : Option LineRefusal) (x : LineRefusal) → x.source ≡ source_in of k → RefusesWith u s x.line x.reason text → RefusesSoFar of texts (Read text ∷ rest) k first → RefusesFirst u s of texts (option_or first (Some x))
+    unfolding IsOfFirst
+    at_refused of texts text rest k first x is refuses so_far = so_far (Some x) (0, subst (λ (m : ℕ). x.source ≡ source_in of m) (omega arith) is, refuses)
+
+    pub after_refused : (of : TextList) (texts : List Text) (text : List ℕ) (rest : List Text) (k : ℕ) (first : Option LineRefusal) (x : LineRefusal) → x.source ≡ source_in of k → RefusesWith u s x.line x.reason text → RefusesSoFar of texts (Read text ∷ rest) k first → RefusesSoFar of texts rest (k + 1) (option_or first (Some x))
+    after_refused of texts text rest k first x is refuses so_far = λ y a. subst (λ (z : Option LineRefusal). RefusesFirst u s of texts z) (stays first x y) (at_refused of texts text rest k first x is refuses so_far)
+
+    pub at_end : (of : TextList) (texts : List Text) (k : ℕ) (first : Option LineRefusal) → RefusesSoFar of texts [] k first → RefusesFirst u s of texts first
+    unfolding ArePassed
+    at_end of texts k first so_far = subst (λ (z : Option LineRefusal). RefusesFirst u s of texts z) (no_more first) (so_far None tt)
 
 -- ---- the texts of a call
 

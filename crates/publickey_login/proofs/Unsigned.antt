@@ -32,6 +32,7 @@ not_asked r required key form bytes asked (refusal.NoKey e) other why is = absur
 not_asked r required key form bytes asked refusal.UnacceptedKey other why is = absurd why
 not_asked r required key form bytes asked refusal.Revoked other why is = absurd why
 not_asked r required key form bytes asked refusal.NotListed other why is = absurd why
+not_asked r required key form bytes asked (refusal.NotAllowed source line reason) other why is = absurd why
 not_asked r required key form bytes asked (refusal.Unclear source line) other why is = absurd why
 not_asked r required key form bytes asked (refusal.Unreadable source) other why is = absurd why
 not_asked r required key form bytes asked (refusal.Certificate e) other why is = absurd why

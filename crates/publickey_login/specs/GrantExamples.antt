@@ -1,15 +1,15 @@
 -- Worked examples of who is granted nothing, and who does not log in: each with one thing changed
 -- (auth2-pubkey.c of OpenSSH).
-use Rattle.std.specs.Prelude.{◌≡◌, ℕ, List, [], ◌∷◌, Bool, true, false, Option, Some, None, codes}
+use Rattle.std.specs.Prelude.{◌≡◌, ℕ, List, [], ◌∷◌, true, false, Option, Some, None}
 use Rattle.login_policy.specs.Examples.{dsa_key, fields}
 use Rattle.sshkey_model.specs.Certificates.{Certificate}
 use Rattle.sshkey_model.specs.Keys.{Key}
 use Rattle.sshkey_model.specs.Verification.{Question}
 use Rattle.user_keys.specs.UserLogins.{UserLogin}
-use Rattle.publickey_login.specs.Grants.{GrantsCertificate, GrantsKey, IsLogin, IsPending, MayLogIn}
+use Rattle.publickey_login.specs.Grants.{GrantsCertificate, GrantsKey, IsLogin, IsPending, MayOffer}
 use Rattle.publickey_login.specs.LoginExamples.{certificate, login, nobodys, trusting}
-use Rattle.publickey_login.specs.Logins.{Files, InCertificate, Login, Read, Unreadable}
-use Rattle.publickey_login.specs.Searches.{AuthorityLine, Found, IsFoundBy, KeyLine, PrincipalLine, RefusesBy}
+use Rattle.publickey_login.specs.Logins.{Files, InCertificate, Login, Unreadable}
+use Rattle.publickey_login.specs.Searches.{AuthorityLine, Found, IsFoundBy, KeyLine, RefusesBy}
 use Rattle.publickey_login.specs.Signatures.{BySshd, Request}
 use Rattle.publickey_login.specs.Sources.{PrincipalsGoOn}
 use Rattle.publickey_login.specs.declared.grant.PublickeyGrant.{PublickeyGrant}
@@ -40,8 +40,8 @@ Certificates = ((l : Login) (c : Certificate) (g : PublickeyGrant) → ¬ Grants
 abbrev pub Logins : Type 0
 Logins = ((l : Login) (g : PublickeyGrant) (session_id bytes : List ℕ) (host_key : Option (List ℕ)) → ¬ IsLogin (λ q. false) l (Request session_id host_key bytes) g)
     × ((l : Login) (g : PublickeyGrant) (client : Option (Option Question)) → ¬ IsPending l BySshd g None (Some None))
-    × ((g : PublickeyGrant) (is : MayLogIn (λ q. false) trusting_all) → is.authority ≡ None)
-    × ¬ MayLogIn (λ q. true) (login (record (trusting [] InCertificate []) { authorities = [] }))
+    × ((g : PublickeyGrant) (is : MayOffer (λ q. false) trusting_all) → is.authority ≡ None)
+    × ¬ MayOffer (λ q. true) (login (record (trusting [] InCertificate []) { authorities = [] }))
 
 -- Lines of keys and of authorities that refuse are passed over, and a key's line is for no name. A
 -- certificate that lists somebody is let in by its authority.

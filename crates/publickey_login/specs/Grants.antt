@@ -86,12 +86,19 @@ pub record IsLogin (accepts : Question → Bool) (l : Login) (s : Signed) (g : P
   pub certified : IsAnswered accepts authority
   pub signed : IsAnswered accepts client
 
--- What is offered lets in whoever signs with it (RFC 4252, section 7: the query without a signature).
-pub record MayLogIn (accepts : Question → Bool) (l : Login) : Type 0 where
+-- ---- the query without a signature
+
+-- All is right of what is offered but the authority's signature, about which this question is left:
+-- whoever signs with it is granted something.
+pub record IsPendingOffer (l : Login) (authority : Option (Option Question)) : Type 0 where
   pub grant : PublickeyGrant
-  pub authority : Option (Option Question)
   pub key : Key
   pub form : KeyForm
   pub grants : Grants l grant authority key form
   pub named : IsNamed l.offer.algorithm key form
+
+-- What is offered lets in whoever signs with it (RFC 4252, section 7: the query without a signature).
+pub record MayOffer (accepts : Question → Bool) (l : Login) : Type 0 where
+  pub authority : Option (Option Question)
+  pub pending : IsPendingOffer l authority
   pub certified : IsAnswered accepts authority

@@ -11,3 +11,4 @@ pub mod Laws
 pub mod Examples
 pub mod LoginExamples
 pub mod GrantExamples
+pub mod RefusalExamples

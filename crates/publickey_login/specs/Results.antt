@@ -1,5 +1,5 @@
 -- What calls give.
-use Rattle.std.specs.Prelude.{◌≡◌, ◌≢◌, ◌⊎◌, ℕ, List, [], Bool, true, IsTrue, Option, Some, None, option_map, Result, Ok, Err}
+use Rattle.std.specs.Prelude.{◌≡◌, ◌≢◌, ◌⊎◌, ℕ, List, [], Bool, true, false, IsTrue, Option, Some, None, option_map, Result, Ok, Err}
 use Rattle.login_policy.specs.declared.refusal.LoginRefusal.{LoginRefusal}
 use Rattle.login_policy.specs.declared.refusal.LoginRefusal.TheVariants as policy
 use Rattle.login_policy.specs.declared.refusal.LoginRefusal.TheVariants.{Invalid}
@@ -19,10 +19,10 @@ use Rattle.user_keys.specs.declared.grant.NamedLine.{NamedLine}
 use Rattle.user_keys.specs.declared.login.UserLogin as code
 use Rattle.user_keys.specs.declared.refusal.UserRefusal.{UserRefusal}
 use Rattle.user_keys.specs.declared.refusal.UserRefusal.TheVariants as why
-use Rattle.publickey_login.specs.Grants.{Grants, GrantsCertificate, GrantsKey, IsAnswered, IsPending}
+use Rattle.publickey_login.specs.Grants.{Grants, GrantsCertificate, GrantsKey, IsAnswered, IsPending, IsPendingOffer}
 use Rattle.publickey_login.specs.Logins.{Login, Text}
-use Rattle.publickey_login.specs.Searches.{AuthorityLine, Found, GoesOn, IsFoundBy, IsFoundIn, KeyLine, Passes, PrincipalLine, RefusesBy, Sought, by_lines}
-use Rattle.publickey_login.specs.Stops.{IsUnclearBy, IsWhy, IsWhyNoAuthority, IsWhyNoCertificate, IsWhyNoKey, IsWhyNothing, IsWhyStopped, IsWhyUnanswered, source_in}
+use Rattle.publickey_login.specs.Searches.{AuthorityLine, Found, GoesOn, IsFoundBy, IsFoundIn, KeyLine, PrincipalLine, Sought, by_lines}
+use Rattle.publickey_login.specs.Stops.{AuthorityRefusesFirst, HasNone, IsUnclearBy, IsWhy, IsWhyNoAuthority, IsWhyNoCertificate, IsWhyNoKey, IsWhyNothing, IsWhyStopped, IsWhyUnanswered, RefusesFirst, RefusesWith, source_in}
 use Rattle.publickey_login.specs.Signatures.{Signed}
 use Rattle.publickey_login.specs.Sources.{AuthorityGoesOn, IsListed, IsOfAuthority, user_of}
 use Rattle.publickey_login.specs.Values.{found_of, trusted_of}
@@ -30,11 +30,14 @@ use Rattle.publickey_login.specs.declared.grant.PublickeyGrant.{PublickeyGrant}
 use Rattle.publickey_login.specs.declared.grant.Source.{Source}
 use Rattle.publickey_login.specs.declared.grant.Source.TheVariants as source
 use Rattle.publickey_login.specs.declared.held.Held.{Held}
+use Rattle.publickey_login.specs.declared.offered.PendingOffer.{PendingOffer}
 use Rattle.publickey_login.specs.declared.pending_login.Answers.{Answers}
 use Rattle.publickey_login.specs.declared.pending_login.Pending.{Pending}
 use Rattle.publickey_login.specs.declared.refusal.PublickeyRefusal.{PublickeyRefusal}
 use Rattle.publickey_login.specs.declared.refusal.PublickeyRefusal.TheVariants as refusal
 use Rattle.publickey_login.specs.declared.search.Origin.{Origin}
+use Rattle.publickey_login.specs.declared.search.SourceVerdict.{SourceVerdict}
+use Rattle.publickey_login.specs.declared.search.SourceVerdict.TheVariants as sources
 use Rattle.publickey_login.specs.declared.search.TextList.{TextList}
 use Rattle.publickey_login.specs.declared.search.TextVerdict.{TextVerdict}
 use Rattle.publickey_login.specs.declared.search.TextVerdict.TheVariants as verdict
@@ -60,22 +63,23 @@ abbrev pub FindsText : UserLogin → Sought → List ℕ → Result NamedLine Us
 FindsText u s text (Ok line) = IsFoundBy u s text (found_of line)
 FindsText u s text (Err r) = r ≢ why.Memory → IsWhy u s text r × ((f : Found) → IsFoundBy u s text f → ⊥)
 
-abbrev pub refused : Sought → TextVerdict
-refused KeyLine = verdict.Passes
-refused (AuthorityLine c) = verdict.Passes
-refused (PrincipalLine c) = verdict.Refuses
+-- For a principal the first text that has a line decides.
+abbrev pub decides_alone : Sought → Bool
+decides_alone KeyLine = false
+decides_alone (AuthorityLine c) = false
+decides_alone (PrincipalLine c) = true
 
 abbrev pub SearchesText : UserLogin → Sought → Source → List ℕ → Result TextVerdict PublickeyRefusal → Type 0
 SearchesText u s from text (Ok (verdict.Lets line)) = IsFoundBy u s text (found_of line)
-SearchesText u s from text (Ok verdict.Refuses) = RefusesBy u s text
-SearchesText u s from text (Ok verdict.Passes) = Passes u s text
+SearchesText u s from text (Ok (verdict.Refuses x)) = (x.source ≡ from) × RefusesWith u s x.line x.reason text
+SearchesText u s from text (Ok verdict.Passes) = HasNone u s text
 SearchesText u s from text (Err r) = r ≢ refusal.Memory → (line : ℕ) × IsUnclearBy u s text line × (r ≡ refusal.Unclear from line)
 
 -- ---- several texts
 
-abbrev pub SearchesIn : UserLogin → Sought → TextList → List Text → Result (Option Origin) PublickeyRefusal → Type 0
-SearchesIn u s of texts (Ok (Some o)) = (n : ℕ) × (o.source ≡ source_in of n) × IsFoundIn u s texts n (found_of o.line)
-SearchesIn u s of texts (Ok None) = GoesOn u s texts
+abbrev pub SearchesIn : UserLogin → Sought → TextList → List Text → Result SourceVerdict PublickeyRefusal → Type 0
+SearchesIn u s of texts (Ok (sources.Lets o)) = (n : ℕ) × (o.source ≡ source_in of n) × IsFoundIn u s texts n (found_of o.line)
+SearchesIn u s of texts (Ok (sources.Passes first)) = GoesOn u s texts × RefusesFirst u s of texts first
 SearchesIn u s of texts (Err r) = r ≢ refusal.Memory → IsWhyStopped u s of texts r
 
 -- ---- all that the server trusts
@@ -91,15 +95,15 @@ Originates Is IsWhyNone (Ok o) = Is o.source (found_of o.line)
 Originates Is IsWhyNone (Err r) = r ≢ refusal.Memory → IsWhyNone r
 
 -- The same of the certificate alone.
-abbrev pub OwnOrigin : List ℕ → Certificate → Result (Option Origin) PublickeyRefusal → Type 0
-OwnOrigin user c (Ok (Some o)) = (o.source ≡ source.Authority) × IsListed user c (found_of o.line)
-OwnOrigin user c (Ok None) = name_listed c.signed.valid_principals user None ≡ None
+abbrev pub OwnOrigin : List ℕ → Certificate → Result SourceVerdict PublickeyRefusal → Type 0
+OwnOrigin user c (Ok (sources.Lets o)) = (o.source ≡ source.Authority) × IsListed user c (found_of o.line)
+OwnOrigin user c (Ok (sources.Passes first)) = (name_listed c.signed.valid_principals user None ≡ None) × (first ≡ None)
 OwnOrigin user c (Err r) = r ≡ refusal.Memory
 
 -- The same of the authorities; or what comes after them is asked.
-abbrev pub OriginatesBy : Login → Certificate → Result (Option Origin) PublickeyRefusal → Type 0
-OriginatesBy l c (Ok (Some o)) = IsOfAuthority l c o.source (found_of o.line)
-OriginatesBy l c (Ok None) = AuthorityGoesOn l c
+abbrev pub OriginatesBy : Login → Certificate → Result SourceVerdict PublickeyRefusal → Type 0
+OriginatesBy l c (Ok (sources.Lets o)) = IsOfAuthority l c o.source (found_of o.line)
+OriginatesBy l c (Ok (sources.Passes first)) = AuthorityGoesOn l c × AuthorityRefusesFirst l c first
 OriginatesBy l c (Err r) = r ≢ refusal.Memory → IsWhyNoAuthority l c r
 
 -- ---- the login
@@ -143,6 +147,15 @@ abbrev pub OffersExactly : Type 0 → Result (Unit {0}) PublickeyRefusal → Typ
 OffersExactly Is (Ok u) = Is
 OffersExactly Is (Err r) = r ≢ refusal.Memory → Is → ⊥
 
+abbrev pub offered_authority_in : PendingOffer → Option (Option Question)
+offered_authority_in p = option_map asks p.authority
+
+-- Out of memory aside, Ok exactly if all is right but the authority's signature, and then with its
+-- question.
+abbrev pub OfferPendsExactly : Login → Result PendingOffer PublickeyRefusal → Type 0
+OfferPendsExactly l (Ok p) = IsPendingOffer l (offered_authority_in p)
+OfferPendsExactly l (Err r) = r ≢ refusal.Memory → (authority : Option (Option Question)) → IsPendingOffer l authority → ⊥
+
 -- ---- the answers
 
 -- The answer to a question that was asked is yes; what was not asked needs none.
@@ -154,6 +167,11 @@ IsYes (Some asked) answer = answer ≡ true
 abbrev pub Decides : Pending → Answers → Result PublickeyGrant PublickeyRefusal → Type 0
 Decides p a (Ok g) = (g ≡ grant_in p) × IsYes (authority_in p) a.authority × IsYes (client_in p) a.client
 Decides p a (Err r) = ((IsYes (authority_in p) a.authority → ⊥) × (r ≡ refusal.Certificate (Invalid Signature))) ⊎ (IsYes (authority_in p) a.authority × (IsYes (client_in p) a.client → ⊥) × (r ≡ refusal.NotSigned))
+
+-- With yes to what is asked whoever signs is let in.
+abbrev pub DecidesOffer : PendingOffer → Bool → Result (Unit {0}) PublickeyRefusal → Type 0
+DecidesOffer p answer (Ok u) = IsYes (offered_authority_in p) answer
+DecidesOffer p answer (Err r) = (IsYes (offered_authority_in p) answer → ⊥) × (r ≡ refusal.Certificate (Invalid Signature))
 
 -- Out of memory aside, that verifier's answers decide.
 abbrev pub DecidesBy : (Question → Bool) → Pending → Result PublickeyGrant PublickeyRefusal → Type 0

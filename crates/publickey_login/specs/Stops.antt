@@ -1,5 +1,6 @@
 -- Why a login is refused: what is wrong first.
 use Rattle.std.specs.Prelude.{◌≡◌, ◌⊎◌, ℕ, zero, suc, List, [], ◌∷◌, Bool, IsTrue, Option, Some, None, false, true}
+use Rattle.std.specs.Option.{option_or}
 use Rattle.login_policy.specs.Refusals.{RefusesLogin}
 use Rattle.login_policy.specs.declared.refusal.LoginRefusal.{LoginRefusal}
 use Rattle.login_policy.specs.declared.refusal.LoginRefusal.TheVariants.{Invalid}
@@ -17,19 +18,21 @@ use Rattle.user_keys.specs.Answers.{IsWhyNoLine}
 use Rattle.user_keys.specs.CertificateLogins.{by}
 use Rattle.user_keys.specs.PrincipalLogins.{IsWhyUndecided}
 use Rattle.user_keys.specs.UserLogins.{UserLogin}
+use Rattle.user_keys.specs.declared.refusal.Reason.{Reason}
 use Rattle.user_keys.specs.declared.refusal.UserRefusal.{UserRefusal}
 use Rattle.user_keys.specs.declared.refusal.UserRefusal.TheVariants as why
-use Rattle.publickey_login.specs.Grants.{Grants, IsAnswered, IsPending, policy_login, required_of}
-use Rattle.publickey_login.specs.Logins.{Files, Login, Read, Text, Unreadable}
+use Rattle.publickey_login.specs.Grants.{Grants, IsAnswered, IsPending, IsPendingOffer, policy_login, required_of}
+use Rattle.publickey_login.specs.Logins.{Files, InCertificate, Login, Principals, Read, Text, Unreadable}
 use Rattle.publickey_login.specs.Refusals.{IsWhyUnnamed, IsWhyUnsigned}
-use Rattle.publickey_login.specs.Searches.{AuthorityLine, Found, GoesOn, IsOfFirst, KeyLine, Passes, PrincipalLine, Sought, in_principals, in_text}
-use Rattle.publickey_login.specs.Signatures.{IsNamed, Signed}
+use Rattle.publickey_login.specs.Searches.{ArePassed, AuthorityLine, Found, GoesOn, IsOfFirst, KeyLine, Passes, PrincipalLine, Sought, in_principals, in_text}
+use Rattle.publickey_login.specs.Signatures.{Signed}
 use Rattle.publickey_login.specs.Sources.{AuthorityGoesOn, FilesGoOn, IsCertificateSource, authorities_of, user_of}
 use Rattle.publickey_login.specs.declared.grant.PublickeyGrant.{PublickeyGrant}
 use Rattle.publickey_login.specs.declared.grant.Source.{Source}
 use Rattle.publickey_login.specs.declared.grant.Source.TheVariants as source
 use Rattle.publickey_login.specs.declared.refusal.PublickeyRefusal.{PublickeyRefusal}
 use Rattle.publickey_login.specs.declared.refusal.PublickeyRefusal.TheVariants as refusal
+use Rattle.publickey_login.specs.declared.search.LineRefusal.{LineRefusal}
 use Rattle.publickey_login.specs.declared.search.TextList.{TextList}
 use Rattle.publickey_login.specs.declared.search.TextList.TheVariants as list
 
@@ -71,12 +74,57 @@ refusal_at s None = refusal.Unreadable s
 abbrev pub IsWhyStopped : UserLogin → Sought → TextList → List Text → PublickeyRefusal → Type 0
 IsWhyStopped u s of texts r = (number : ℕ) × (line : Option ℕ) × IsStopped u s texts number line × (r ≡ refusal_at (source_in of number) line)
 
+-- ---- what refuses first, where nothing lets in
+
+-- No line of the text is for it.
+abbrev pub HasNone : UserLogin → Sought → List ℕ → Type 0
+HasNone u s text = IsWhy u s text why.NotListed
+
+-- Each line of the text that is for it refuses: that one first, for that reason.
+abbrev pub RefusesWith : UserLogin → Sought → ℕ → Reason → List ℕ → Type 0
+RefusesWith u s line reason text = IsWhy u s text (why.NotAllowed line reason)
+
+-- Of the texts the first that has a line for it refuses with that one; or none has any.
+abbrev pub RefusesFirst : UserLogin → Sought → TextList → List Text → Option LineRefusal → Type 0
+RefusesFirst u s of texts (Some x) = (number : ℕ) × (x.source ≡ source_in of number) × IsOfFirst (RefusesWith u s x.line x.reason) (HasNone u s) texts number
+RefusesFirst u s of texts None = ArePassed (HasNone u s) texts
+
+-- The same of texts of principals, which are asked where the authority is trusted.
+abbrev pub PrincipalsRefuseFirst : Login → Certificate → Principals → Option LineRefusal → Type 0
+PrincipalsRefuseFirst l c InCertificate first = first ≡ None
+PrincipalsRefuseFirst l c (Files texts) first = RefusesFirst (user_of l c.signed.key) (PrincipalLine c) list.Principals texts first
+
+abbrev pub AuthorityRefusesFirst : Login → Certificate → Option LineRefusal → Type 0
+AuthorityRefusesFirst l c first = ((has_trusted_authority l.trusted.authorities c ≡ false) × (first ≡ None))
+    ⊎ (IsTrue (has_trusted_authority l.trusted.authorities c) × PrincipalsRefuseFirst l c l.trusted.principals first)
+
+-- what is said where that refuses first
+abbrev pub refusal_for : Option LineRefusal → PublickeyRefusal
+refusal_for (Some x) = refusal.NotAllowed x.source x.line x.reason
+refusal_for None = refusal.NotListed
+
+-- Of the files and the command's texts what refuses the key first says why.
+abbrev pub IsKeyRefused : Login → Key → PublickeyRefusal → Type 0
+IsKeyRefused l k r = (files : Option LineRefusal) × (command : Option LineRefusal)
+    × RefusesFirst (user_of l k) KeyLine list.AuthorizedKeys l.trusted.authorized_keys files
+    × RefusesFirst (user_of l k) KeyLine list.Command l.trusted.command_keys command
+    × (r ≡ refusal_for (option_or files command))
+
+-- The same of a certificate, with the texts of principals between them.
+abbrev pub IsCertificateRefused : Login → Certificate → PublickeyRefusal → Type 0
+IsCertificateRefused l c r = (files : Option LineRefusal) × (authority : Option LineRefusal) × (command : Option LineRefusal)
+    × RefusesFirst (user_of l c.signed.key) (AuthorityLine c) list.AuthorizedKeys l.trusted.authorized_keys files
+    × AuthorityRefusesFirst l c authority
+    × RefusesFirst (user_of l c.signed.key) (AuthorityLine c) list.Command l.trusted.command_keys command
+    × (r ≡ refusal_for (option_or files (option_or authority command)))
+
 -- ---- no source
 
+-- The files or the command's texts stop the search; or nothing does, and nothing lets the key in.
 abbrev pub IsWhyNoKeySource : Login → Key → PublickeyRefusal → Type 0
 IsWhyNoKeySource l k r = IsWhyStopped (user_of l k) KeyLine list.AuthorizedKeys l.trusted.authorized_keys r
     ⊎ (GoesOn (user_of l k) KeyLine l.trusted.authorized_keys × IsWhyStopped (user_of l k) KeyLine list.Command l.trusted.command_keys r)
-    ⊎ (GoesOn (user_of l k) KeyLine l.trusted.authorized_keys × GoesOn (user_of l k) KeyLine l.trusted.command_keys × (r ≡ refusal.NotListed))
+    ⊎ (GoesOn (user_of l k) KeyLine l.trusted.authorized_keys × GoesOn (user_of l k) KeyLine l.trusted.command_keys × IsKeyRefused l k r)
 
 -- The authority is trusted, and its texts of principals stop the search.
 abbrev pub IsWhyNoAuthority : Login → Certificate → PublickeyRefusal → Type 0
@@ -86,7 +134,7 @@ abbrev pub IsWhyNoSource : Login → Certificate → PublickeyRefusal → Type 0
 IsWhyNoSource l c r = IsWhyStopped (user_of l c.signed.key) (AuthorityLine c) list.AuthorizedKeys l.trusted.authorized_keys r
     ⊎ (FilesGoOn l c × IsWhyNoAuthority l c r)
     ⊎ (FilesGoOn l c × AuthorityGoesOn l c × IsWhyStopped (user_of l c.signed.key) (AuthorityLine c) list.Command l.trusted.command_keys r)
-    ⊎ (FilesGoOn l c × AuthorityGoesOn l c × GoesOn (user_of l c.signed.key) (AuthorityLine c) l.trusted.command_keys × (r ≡ refusal.NotListed))
+    ⊎ (FilesGoOn l c × AuthorityGoesOn l c × GoesOn (user_of l c.signed.key) (AuthorityLine c) l.trusted.command_keys × IsCertificateRefused l c r)
 
 -- ---- nothing is granted
 
@@ -118,16 +166,25 @@ abbrev pub IsWhyNotPending : Login → Signed → PublickeyRefusal → Type 0
 IsWhyNotPending l s r = IsWhyNothing l r
     ⊎ ((g : PublickeyGrant) × (authority : Option (Option Question)) × (k : Key) × (form : KeyForm) × Grants l g authority k form × IsWhyUnsigned l.offer s (required_of l.trusted.requirements g) k form r)
 
+-- The authority's signature is none.
+abbrev pub IsWhyUncertified : (Question → Bool) → Option (Option Question) → PublickeyRefusal → Type 0
+IsWhyUncertified accepts authority r = (IsAnswered accepts authority → ⊥) × (r ≡ refusal.Certificate (Invalid Signature))
+
 -- The authority's signature is none; or it is one, and the client's is none.
 abbrev pub IsWhyUnanswered : (Question → Bool) → Option (Option Question) → Option (Option Question) → PublickeyRefusal → Type 0
-IsWhyUnanswered accepts authority client r = ((IsAnswered accepts authority → ⊥) × (r ≡ refusal.Certificate (Invalid Signature)))
+IsWhyUnanswered accepts authority client r = IsWhyUncertified accepts authority r
     ⊎ (IsAnswered accepts authority × (IsAnswered accepts client → ⊥) × (r ≡ refusal.NotSigned))
 
 abbrev pub IsWhyNoLogin : (Question → Bool) → Login → Signed → PublickeyRefusal → Type 0
 IsWhyNoLogin accepts l s r = IsWhyNotPending l s r
     ⊎ ((g : PublickeyGrant) × (authority : Option (Option Question)) × (client : Option (Option Question)) × IsPending l s g authority client × IsWhyUnanswered accepts authority client r)
 
--- Nothing is granted; or the name is of another algorithm; or the authority's signature is none.
-abbrev pub IsWhyNoQuery : (Question → Bool) → Login → PublickeyRefusal → Type 0
-IsWhyNoQuery accepts l r = IsWhyNothing l r
-    ⊎ ((g : PublickeyGrant) × (authority : Option (Option Question)) × (k : Key) × (form : KeyForm) × Grants l g authority k form × (IsWhyUnnamed l.offer.algorithm k form r ⊎ (IsNamed l.offer.algorithm k form × IsWhyUnanswered accepts authority None r)))
+-- Nothing is granted; or the name is of another algorithm.
+abbrev pub IsWhyOfferNotPending : Login → PublickeyRefusal → Type 0
+IsWhyOfferNotPending l r = IsWhyNothing l r
+    ⊎ ((g : PublickeyGrant) × (authority : Option (Option Question)) × (k : Key) × (form : KeyForm) × Grants l g authority k form × IsWhyUnnamed l.offer.algorithm k form r)
+
+-- Or the authority's signature is none.
+abbrev pub IsWhyNoOffer : (Question → Bool) → Login → PublickeyRefusal → Type 0
+IsWhyNoOffer accepts l r = IsWhyOfferNotPending l r
+    ⊎ ((authority : Option (Option Question)) × IsPendingOffer l authority × IsWhyUncertified accepts authority r)

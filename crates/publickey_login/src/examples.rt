@@ -4,6 +4,7 @@
 ghost use Rattle.publickey_login.specs.Examples.{Flagless, Flags, Left, Named};
 ghost use Rattle.publickey_login.specs.GrantExamples.{Certificates, Keys, Logins, Refusals};
 ghost use Rattle.publickey_login.specs.LoginExamples.{Answered, Authorities, Counted, FirstTexts, Listed, OwnTerms, PassedTexts, Places, Required, Sources};
+ghost use Rattle.publickey_login.specs.RefusalExamples.{DecidesAlone, FirstRefusals, OfferAnswers, Offers, PrincipalRefusals, RefusedCertificates, RefusedKeys};
 
 /// The names under which a key or a certificate signs.
 pub fn named()
@@ -93,4 +94,39 @@ pub fn no_logins()
 /// What refuses, and what is passed over.
 pub fn refusals()
     ensures { Refusals }
+{}
+
+/// Which text refuses first.
+pub fn first_refusals()
+    ensures { FirstRefusals }
+{}
+
+/// Which text of principals refuses first.
+pub fn principal_refusals()
+    ensures { PrincipalRefusals }
+{}
+
+/// After which text no other of its like is asked.
+pub fn decides_alone()
+    ensures { DecidesAlone }
+{}
+
+/// Why keys are refused.
+pub fn refused_keys()
+    ensures { RefusedKeys }
+{}
+
+/// Why certificates are refused.
+pub fn refused_certificates()
+    ensures { RefusedCertificates }
+{}
+
+/// What may be offered.
+pub fn offers()
+    ensures { Offers }
+{}
+
+/// What counts as an answer to an offer.
+pub fn offer_answers()
+    ensures { OfferAnswers }
 {}

@@ -8,10 +8,13 @@ mod held;
 pub mod laws;
 mod login;
 mod offer;
+mod offered;
 mod pending_login;
 mod place;
 mod refusal;
 mod request;
+#[cfg(test)]
+mod samples;
 mod search;
 mod signed;
 mod sources;
@@ -20,8 +23,9 @@ mod tests;
 mod trusted;
 
 pub use grant::{PublickeyGrant, Source};
-pub use login::{log_in, may_log_in, pending};
+pub use login::{log_in, may_offer, pending, pending_offer};
 pub use offer::Offer;
+pub use offered::PendingOffer;
 pub use pending_login::{Answers, Pending};
 pub use place::Place;
 pub use refusal::PublickeyRefusal;

@@ -2,17 +2,18 @@
 
 ghost use Rattle.sshkey_padding.specs.Padding.{padding};
 ghost use Rattle.std.specs.Prelude.{◌≡◌, ◌≢◌, IfErr};
-ghost use Rattle.publickey_login.specs.Grants.{IsLogin, MayLogIn, required_of};
+ghost use Rattle.publickey_login.specs.Grants.{IsLogin, MayOffer, required_of};
 ghost use Rattle.publickey_login.specs.Logins.{client_known};
-ghost use Rattle.publickey_login.specs.Stops.{IsWhyNoLogin, IsWhyNoQuery, IsWhyNotPending};
+ghost use Rattle.publickey_login.specs.Stops.{IsWhyNoLogin, IsWhyNoOffer, IsWhyNotPending, IsWhyOfferNotPending};
 ghost use Rattle.publickey_login.specs.declared.refusal.PublickeyRefusal.TheVariants.{Memory};
-ghost use Rattle.publickey_login.specs.Results.{GrantsExactly, OffersExactly, PendsExactly};
+ghost use Rattle.publickey_login.specs.Results.{GrantsExactly, OfferPendsExactly, OffersExactly, PendsExactly};
 ghost use Rattle.publickey_login.specs.Values.{login_of, place_known, place_seen, signed_of};
 
 use crate::grant::PublickeyGrant;
 use crate::held::{Held, hold};
 use crate::offer::Offer;
-use crate::pending_login::{Answers, Pending};
+use crate::offered::PendingOffer;
+use crate::pending_login::{Pending, is_answered};
 use crate::place::Place;
 use crate::refusal::PublickeyRefusal;
 use crate::signed::{Signed, check_name, client_question};
@@ -20,6 +21,7 @@ use crate::trusted::Trusted;
 use login_policy::Client;
 use sshkey_keys::RawVerifier;
 use sshkey_krl::Revocations;
+use sshkey_padding::Padding;
 use sshkey_userauth::Requirements;
 use std::alloc::Global;
 
@@ -48,6 +50,8 @@ use std::alloc::Global;
 /// - `Revoked`, for a key that is offered by itself;
 /// - `Unclear` and `Unreadable`: nothing before that text or line lets in, and what it says cannot be
 ///   told;
+/// - `NotAllowed`: nothing lets in, and a text has lines for the key, or for whom the certificate
+///   names, that refuse: with the first of them;
 /// - `NotListed`: nothing lets in;
 /// - `Certificate` with what `login_policy::log_in` fails with, but its signature;
 /// - what `client_question` fails with;
@@ -117,8 +121,8 @@ pub fn pending<R: Revocations>(
 ///
 /// It fails with what `log_in` fails with first, but for the client's signature: of what
 /// `client_question` fails with only with `Algorithm`, for a name that is told and is none of the
-/// key's.
-pub fn may_log_in<R: Revocations, V: RawVerifier>(
+/// key's. It is `pending_offer`, and then the verifier's answer.
+pub fn may_offer<R: Revocations, V: RawVerifier>(
     alloc: Global,
     offer: &Offer,
     trusted: &Trusted,
@@ -126,11 +130,33 @@ pub fn may_log_in<R: Revocations, V: RawVerifier>(
     revocations: &R,
     verifier: &V,
 ) -> Result<(), PublickeyRefusal>
-    ensures exactly { OffersExactly (MayLogIn (padding (V.accepts verifier.now))
+    ensures exactly { OffersExactly (MayOffer (padding (V.accepts verifier.now))
         (login_of offer.now trusted.now (place_known place.now)
         (R.revokes revocations.now) (R.revokes_key revocations.now))) result }
-    ensures refused { IfErr result (λ r. r ≢ Memory → IsWhyNoQuery
+    ensures refused { IfErr result (λ r. r ≢ Memory → IsWhyNoOffer
         (padding (V.accepts verifier.now)) (login_of offer.now trusted.now (place_known place.now)
+        (R.revokes revocations.now) (R.revokes_key revocations.now)) r) }
+{
+    let held = pending_offer(alloc, offer, trusted, place, revocations)?;
+    let padded = Padding { verifier };
+    let is_certified = is_answered(&held.authority, &padded)?;
+    held.decide(is_certified)
+}
+
+/// All that `may_offer` asks but the authority's signature: `Ok` exactly where it would let offer if a
+/// verifier said yes, and then with the question that is left, of a certificate. It grants nothing. It
+/// fails with what `may_offer` fails with first.
+pub fn pending_offer<R: Revocations>(
+    alloc: Global,
+    offer: &Offer,
+    trusted: &Trusted,
+    place: &Place,
+    revocations: &R,
+) -> Result<PendingOffer, PublickeyRefusal>
+    ensures exactly { OfferPendsExactly (login_of offer.now trusted.now (place_known place.now)
+        (R.revokes revocations.now) (R.revokes_key revocations.now)) result }
+    ensures refused { IfErr result (λ r. r ≢ Memory → IsWhyOfferNotPending
+        (login_of offer.now trusted.now (place_known place.now)
         (R.revokes revocations.now) (R.revokes_key revocations.now)) r) }
 {
     let place = Place {
@@ -138,21 +164,13 @@ pub fn may_log_in<R: Revocations, V: RawVerifier>(
         ..*place
     };
     let Held {
-        grant,
+        grant: _,
         authority,
         key,
         form,
     } = hold(alloc, offer, trusted, &place, revocations)?;
     check_name(offer.algorithm, &key, form)?;
-    let held = Pending {
-        grant,
-        authority,
-        client: None,
-    };
-    match held.decide_by(verifier) {
-        Ok(_) => Ok(()),
-        Err(refusal) => Err(refusal),
-    }
+    Ok(PendingOffer { authority })
 }
 
 /// What is required of the flags of a security key: by the server, or by the grant.

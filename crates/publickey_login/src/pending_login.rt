@@ -1,10 +1,13 @@
 //! A login of which all is right but the signatures.
 
 ghost use Rattle.std.specs.Prelude.{◌≡◌, ◌↔◌, IfOk, IsTrue, option_map};
+ghost use Rattle.login_policy.specs.declared.refusal.LoginRefusal.TheVariants.{Invalid};
+ghost use Rattle.sshkey_cert.specs.declared.certificate.refusal.CertificateRefusal.TheVariants.{Signature};
 ghost use Rattle.sshkey_keys.specs.Questions.{asks};
 ghost use Rattle.sshkey_padding.specs.Padding.{padding};
 ghost use Rattle.publickey_login.specs.Grants.{IsAnswered};
 ghost use Rattle.publickey_login.specs.Results.{Decides, DecidesBy, authority_in, client_in};
+ghost use Rattle.publickey_login.specs.declared.refusal.PublickeyRefusal.TheVariants.{Certificate};
 
 use crate::grant::PublickeyGrant;
 use crate::refusal::PublickeyRefusal;
@@ -57,9 +60,7 @@ impl Pending {
         ensures { Decides self answers result }
     {
         if self.authority.is_some() && !answers.authority {
-            return Err(PublickeyRefusal::Certificate(LoginRefusal::Invalid(
-                CertificateRefusal::Signature,
-            )));
+            return Err(uncertified());
         }
         if self.client.is_some() && !answers.client {
             return Err(PublickeyRefusal::NotSigned);
@@ -87,8 +88,15 @@ impl Pending {
     }
 }
 
+/// Why a certificate is refused whose signature is none of its authority's.
+pub(crate) fn uncertified() -> PublickeyRefusal
+    ensures { result ≡ Certificate (Invalid Signature) }
+{
+    PublickeyRefusal::Certificate(LoginRefusal::Invalid(CertificateRefusal::Signature))
+}
+
 /// Whether the verifier says yes to the question, if there is one.
-fn is_answered<V: RawVerifier>(
+pub(crate) fn is_answered<V: RawVerifier>(
     question: &Option<SignatureQuestion<'static>>,
     verifier: &V,
 ) -> Result<bool, AllocError>

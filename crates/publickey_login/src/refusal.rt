@@ -18,8 +18,18 @@ pub enum PublickeyRefusal {
     UnacceptedKey,
     /// The key is revoked.
     Revoked,
-    /// Nothing that the server trusts lets the key or the certificate in.
+    /// Nothing that the server trusts lets the key or the certificate in: no text has a line for it,
+    /// and of a certificate no authority that is trusted lists the user.
     NotListed,
+    /// Nothing lets in, and a text that was asked has a line for it, which refuses.
+    NotAllowed {
+        /// The first such text.
+        source: Source,
+        /// The number of its first line that is for it, from 1.
+        line: usize,
+        /// Why that line refuses.
+        reason: user_keys::Reason,
+    },
     /// Whether a line lets in cannot be told here, and nothing before it does. sshd(8) may let in by
     /// that line, and bind the login to what it says: so nothing after it counts.
     Unclear {

@@ -1,11 +1,11 @@
-//! The first text that lets in.
+//! The first text that lets in, or refuses.
 
 ghost use Rattle.sshkey_cert.specs.CertificateValues.{certificate_of};
 ghost use Rattle.sshkey_keys.specs.Keys.{key_of};
 ghost use Rattle.sshkey_model.specs.Keys.{IsKey};
 ghost use Rattle.std.specs.Prelude.{◌≡◌, map};
-ghost use Rattle.publickey_login.specs.Results.{CanSeek, FindsText, SearchesIn, SearchesText, asked_of, refused};
-ghost use Rattle.publickey_login.specs.Stops.{source_in};
+ghost use Rattle.publickey_login.specs.Results.{CanSeek, FindsText, SearchesIn, SearchesText, asked_of, decides_alone};
+ghost use Rattle.publickey_login.specs.Stops.{refusal_for, source_in};
 ghost use Rattle.publickey_login.specs.Values.{sought_of, text_of};
 
 use crate::grant::Source;
@@ -14,7 +14,8 @@ use crate::trusted::Text;
 use sshkey_cert::Certificate;
 use std::alloc::Global;
 use user_keys::{
-    NamedLine, UserLogin, UserRefusal, find_authority_line, find_key_line, find_principal_line,
+    NamedLine, Reason, UserLogin, UserRefusal, find_authority_line, find_key_line,
+    find_principal_line,
 };
 
 /// What is sought in texts.
@@ -28,14 +29,22 @@ pub(crate) enum Sought<'a> {
     PrincipalLine(&'a Certificate),
 }
 
+/// A line that is for it, and refuses.
+#[derive(Clone, Copy)]
+pub(crate) struct LineRefusal {
+    pub source: Source,
+    pub line: usize,
+    pub reason: Reason,
+}
+
 /// What a text says.
 #[derive(Drop)]
 enum TextVerdict {
     /// That line lets in.
     Lets(NamedLine),
-    /// The line that decides refuses, and no other counts.
-    Refuses,
-    /// It is passed over.
+    /// Each line that is for it refuses, that one first.
+    Refuses(LineRefusal),
+    /// No line is for it.
     Passes,
 }
 
@@ -67,31 +76,47 @@ pub(crate) struct Origin {
     pub line: NamedLine,
 }
 
-/// The line that lets in, of the first text that is not passed over; `None` where what comes after
-/// the texts is to be asked. The list says whose texts they are.
+/// What the sources of one kind say.
+#[derive(Drop)]
+pub(crate) enum SourceVerdict {
+    /// That lets in.
+    Lets(Origin),
+    /// Nothing does, and what comes after them is asked. This refuses first, if anything.
+    Passes(Option<LineRefusal>),
+}
+
+/// What the texts say: the first that lets in counts. The list says whose texts they are.
 pub(crate) fn find_in(
     alloc: Global,
     texts: &[Text],
     list: TextList,
     login: &UserLogin,
     sought: Sought,
-) -> Result<Option<Origin>, PublickeyRefusal>
+) -> Result<SourceVerdict, PublickeyRefusal>
     requires { CanSeek login.now (sought_of sought) }
     ensures { SearchesIn (asked_of login.now) (sought_of sought.entry) list
         (map text_of texts.now) result }
 {
+    let mut first = None;
     for (number, text) in texts.iter().enumerate() {
         let source = list.source(number);
         match text {
             Text::Read(text) => match find(alloc, text, source, login, sought)? {
-                TextVerdict::Lets(line) => return Ok(Some(Origin { source, line })),
-                TextVerdict::Refuses => return Ok(None),
+                TextVerdict::Lets(line) => {
+                    return Ok(SourceVerdict::Lets(Origin { source, line }));
+                }
+                TextVerdict::Refuses(refused) => {
+                    first = first.or(Some(refused));
+                    if decides_alone(sought) {
+                        return Ok(SourceVerdict::Passes(first));
+                    }
+                }
                 TextVerdict::Passes => {}
             },
             Text::Unreadable => return Err(PublickeyRefusal::Unreadable { source }),
         }
     }
-    Ok(None)
+    Ok(SourceVerdict::Passes(first))
 }
 
 /// What a text says, which is that source.
@@ -109,7 +134,11 @@ fn find(
     match find_line(alloc, &UserLogin { text, ..*login }, sought) {
         Ok(line) => Ok(TextVerdict::Lets(line)),
         Err(UserRefusal::NotListed) => Ok(TextVerdict::Passes),
-        Err(UserRefusal::NotAllowed { line: _, reason: _ }) => Ok(refused(sought)),
+        Err(UserRefusal::NotAllowed { line, reason }) => Ok(TextVerdict::Refuses(LineRefusal {
+            source,
+            line,
+            reason,
+        })),
         Err(UserRefusal::Unclear { line }) => Err(PublickeyRefusal::Unclear { source, line }),
         Err(UserRefusal::UnacceptedKey) => Err(PublickeyRefusal::UnacceptedKey),
         Err(UserRefusal::Revoked) => Err(PublickeyRefusal::Revoked),
@@ -118,13 +147,14 @@ fn find(
     }
 }
 
-/// What follows where the lines that are for somebody refuse: for a principal the first decides.
-fn refused(sought: Sought) -> TextVerdict
-    ensures { result ≡ refused (sought_of sought.entry) }
+/// Whether the first text that has a line for it decides, as for a principal, and no later one is
+/// asked.
+fn decides_alone(sought: Sought) -> bool
+    ensures { result ≡ decides_alone (sought_of sought.entry) }
 {
     match sought {
-        Sought::KeyLine | Sought::AuthorityLine(_) => TextVerdict::Passes,
-        Sought::PrincipalLine(_) => TextVerdict::Refuses,
+        Sought::KeyLine | Sought::AuthorityLine(_) => false,
+        Sought::PrincipalLine(_) => true,
     }
 }
 
@@ -143,5 +173,19 @@ fn find_line(alloc: Global, login: &UserLogin, sought: Sought) -> Result<NamedLi
         },
         Sought::AuthorityLine(certificate) => find_authority_line(alloc, login, certificate),
         Sought::PrincipalLine(certificate) => find_principal_line(alloc, login, certificate),
+    }
+}
+
+/// Why nothing lets in, where that refuses first.
+pub(crate) fn refusal_for(first: Option<LineRefusal>) -> PublickeyRefusal
+    ensures { result ≡ refusal_for first }
+{
+    match first {
+        Some(refused) => PublickeyRefusal::NotAllowed {
+            source: refused.source,
+            line: refused.line,
+            reason: refused.reason,
+        },
+        None => PublickeyRefusal::NotListed,
     }
 }

@@ -16,7 +16,7 @@ ghost use Rattle.publickey_login.specs.declared.refusal.PublickeyRefusal.TheVari
 
 use crate::grant::Source;
 use crate::refusal::PublickeyRefusal;
-use crate::search::{Origin, Sought, TextList, find_in};
+use crate::search::{Origin, Sought, SourceVerdict, TextList, find_in, refusal_for};
 use crate::trusted::{Principals, Trusted};
 use login_terms::Terms;
 use sshkey_cert::Certificate;
@@ -38,19 +38,15 @@ pub(crate) fn key_origin(
         (IsWhyNoKeySource l (key_of login.now.offered.now)) result }
 {
     let texts = trusted.authorized_keys;
-    if let Some(origin) = find_in(
-        alloc,
-        texts,
-        TextList::AuthorizedKeys,
-        login,
-        Sought::KeyLine,
-    )? {
-        return Ok(origin);
-    }
+    let sought = Sought::KeyLine;
+    let files = match find_in(alloc, texts, TextList::AuthorizedKeys, login, sought)? {
+        SourceVerdict::Lets(origin) => return Ok(origin),
+        SourceVerdict::Passes(first) => first,
+    };
     let texts = trusted.command_keys;
-    match find_in(alloc, texts, TextList::Command, login, Sought::KeyLine)? {
-        Some(origin) => Ok(origin),
-        None => Err(PublickeyRefusal::NotListed),
+    match find_in(alloc, texts, TextList::Command, login, sought)? {
+        SourceVerdict::Lets(origin) => Ok(origin),
+        SourceVerdict::Passes(first) => Err(refusal_for(files.or(first))),
     }
 }
 
@@ -71,33 +67,34 @@ pub(crate) fn certificate_origin(
 {
     let sought = Sought::AuthorityLine(certificate);
     let texts = trusted.authorized_keys;
-    if let Some(origin) = find_in(alloc, texts, TextList::AuthorizedKeys, login, sought)? {
-        return Ok(origin);
-    }
-    if let Some(origin) = authority_origin(alloc, login, certificate, trusted)? {
-        return Ok(origin);
-    }
+    let files = match find_in(alloc, texts, TextList::AuthorizedKeys, login, sought)? {
+        SourceVerdict::Lets(origin) => return Ok(origin),
+        SourceVerdict::Passes(first) => first,
+    };
+    let authority = match authority_origin(alloc, login, certificate, trusted)? {
+        SourceVerdict::Lets(origin) => return Ok(origin),
+        SourceVerdict::Passes(first) => first,
+    };
     let texts = trusted.command_keys;
     match find_in(alloc, texts, TextList::Command, login, sought)? {
-        Some(origin) => Ok(origin),
-        None => Err(PublickeyRefusal::NotListed),
+        SourceVerdict::Lets(origin) => Ok(origin),
+        SourceVerdict::Passes(first) => Err(refusal_for(files.or(authority.or(first)))),
     }
 }
 
-/// What lets a certificate in by one of the authorities; `None` where what comes after them is to
-/// be asked.
+/// What the authorities say of a certificate.
 fn authority_origin(
     alloc: Global,
     login: &UserLogin,
     certificate: &Certificate,
     trusted: &Trusted,
-) -> Result<Option<Origin>, PublickeyRefusal>
+) -> Result<SourceVerdict, PublickeyRefusal>
     ensures { (l : Login) → AsksOf l login.now trusted.now
         → key_of login.now.offered.now ≡ (certificate_of certificate.now).signed.key
         → OriginatesBy l (certificate_of certificate.now) result }
 {
     if !is_trusted(alloc, certificate, trusted.authorities)? {
-        return Ok(None);
+        return Ok(SourceVerdict::Passes(None));
     }
     match trusted.principals {
         Principals::InCertificate => own_origin(alloc, login.user, certificate),
@@ -129,11 +126,11 @@ fn own_origin(
     alloc: Global,
     user: &str,
     certificate: &Certificate,
-) -> Result<Option<Origin>, PublickeyRefusal>
+) -> Result<SourceVerdict, PublickeyRefusal>
     ensures { OwnOrigin user.now (certificate_of certificate.now) result }
 {
     let Some(name) = name_listed(certificate.valid_principals(), user, &None) else {
-        return Ok(None);
+        return Ok(SourceVerdict::Passes(None));
     };
     let name = String::from_str(alloc, name)?;
     let mut terms = Terms::none(alloc);
@@ -143,7 +140,7 @@ fn own_origin(
         terms,
         certified: None,
     };
-    Ok(Some(Origin {
+    Ok(SourceVerdict::Lets(Origin {
         source: Source::Authority,
         line: NamedLine { first, name },
     }))

@@ -24,6 +24,5 @@ mod signer;
 mod sshsig;
 mod time;
 mod trust;
-mod userauth;
 mod version;
 mod walk;

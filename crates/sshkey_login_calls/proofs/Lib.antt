@@ -1,8 +1,7 @@
+mod Asked
 mod Digests
 mod Grants
-mod Verifiers
-mod Logins
-mod Questions
-mod UserGrants
+mod Pends
 mod Places
-mod UserKeys
+mod Texts
+mod Verdicts

@@ -14,7 +14,7 @@ use Rattle.sshkey_terms.specs.Slices.{found_or}
 use Rattle.login_terms.specs.Questions.{IsNamed, Listens, Opens}
 use Rattle.login_terms.specs.Values.{HostAndPort}
 use Rattle.sshkey_login_calls.specs.Forwarding.{IsPlace}
-use Rattle.sshkey_login_calls.specs.UserGrants.{anywhere, permit_strings, places, port_bytes}
+use Rattle.sshkey_login_calls.specs.Grants.{anywhere, permit_strings, places, port_bytes}
 
 -- ---- one string at the front
 

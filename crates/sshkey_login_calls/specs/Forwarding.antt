@@ -7,7 +7,7 @@ use Rattle.login_terms.specs.Values.{HostAndPort}
 use Rattle.sshkey_model.specs.Parts.{Fits, flat}
 use Rattle.sshkey_model.specs.Texts.{IsText, string}
 use Rattle.sshkey_calls.specs.Rooms.{IsPartOf, bytes_of}
-use Rattle.sshkey_login_calls.specs.UserGrants.{permit_strings, port_bytes}
+use Rattle.sshkey_login_calls.specs.Grants.{permit_strings, port_bytes}
 use Rattle.sshkey_calls.specs.declared.part.Part.{Part}
 use Rattle.sshkey_login_calls.specs.declared.forwarding.Way.{Way}
 use Rattle.sshkey_login_calls.specs.declared.forwarding.Way.TheVariants as way

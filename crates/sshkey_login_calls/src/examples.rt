@@ -1,18 +1,24 @@
 //! Worked examples of the definitions.
 
-ghost use Rattle.sshkey_login_calls.specs.GrantExamples.{Permitted, PermittedByLine, Placed};
+ghost use Rattle.sshkey_login_calls.specs.GrantExamples.{Permitted, Placed};
+ghost use Rattle.sshkey_login_calls.specs.LoginExamples.{Answered, Told};
 
-/// What options permit.
+/// What the terms of a login permit.
 pub fn permitted()
     ensures { Permitted }
-{}
-
-/// What the options of a line permit.
-pub fn permitted_by_line()
-    ensures { PermittedByLine }
 {}
 
 /// Where they let ports be forwarded.
 pub fn placed()
     ensures { Placed }
+{}
+
+/// Which questions were answered yes.
+pub fn answered()
+    ensures { Answered }
+{}
+
+/// What the numbers of a caller tell.
+pub fn told()
+    ensures { Told }
 {}

@@ -8,9 +8,9 @@ ghost use Rattle.login_terms.specs.Terms.{Terms};
 ghost use Rattle.login_terms.specs.Values.{HostAndPort};
 ghost use Rattle.sshkey_calls.specs.Rooms.{IsPartOf, bytes_of};
 ghost use Rattle.sshkey_login_calls.specs.Forwarding.{BeginsWithPlace, HasPlaces, IsFor, IsPlace, IsWord};
-ghost use Rattle.sshkey_login_calls.specs.UserGrants.{permit_strings, port_bytes, to_listen, to_open};
+ghost use Rattle.sshkey_login_calls.specs.Grants.{permit_strings, port_bytes, to_listen, to_open};
 
-use crate::login_grant::LoginGrant;
+use crate::grant::GrantParts;
 use login_terms::{listens, opens};
 use sshkey_calls::Part;
 use sshkey_calls::number::{DONE, TEXT};
@@ -25,7 +25,7 @@ const NOT_PERMITTED: u32 = 97;
 ///
 /// Returns 0 if it may, 4 for a host that is not UTF-8, and else 97: so too where the room does not
 /// have the bytes. Does not allocate.
-pub fn may_open(grant: &LoginGrant, room: &[u8], host: &[u8], port: u32) -> u32
+pub fn may_open(grant: &GrantParts, room: &[u8], host: &[u8], port: u32) -> u32
     ensures answer { IsUtf8 host.now → (t : Terms)
         → HasPlaces (to_open t) grant.now.permit_open room.now
         → (result ≡ 0) ↔ MayOpen t host.now port }
@@ -37,7 +37,7 @@ pub fn may_open(grant: &LoginGrant, room: &[u8], host: &[u8], port: u32) -> u32
 
 /// Whether the client may have the server listen at that host and port ("tcpip-forward" of
 /// RFC 4254, section 7.1), likewise (`login_terms::Terms::may_listen`). Does not allocate.
-pub fn may_listen(grant: &LoginGrant, room: &[u8], host: &[u8], port: u32) -> u32
+pub fn may_listen(grant: &GrantParts, room: &[u8], host: &[u8], port: u32) -> u32
     ensures answer { IsUtf8 host.now → (t : Terms)
         → HasPlaces (to_listen t) grant.now.permit_listen room.now
         → (result ≡ 0) ↔ MayListen t host.now port }

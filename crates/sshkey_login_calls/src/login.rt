@@ -1,157 +1,180 @@
-//! Who is let in, given what the caller's verification said.
+//! A login by public key that is asked for.
 
-ghost use Rattle.std.specs.Prelude.{◌≡◌, ◌≢◌, ◌<◌, Err, IfErr, IfOk, IsErrAnd};
-ghost use Rattle.std.specs.Str.{IsUtf8};
-ghost use Rattle.sshkey_base.specs.Acceptance.{SpellsSome};
-ghost use Rattle.sshkey_calls.specs.Numbers.{fault_number};
-ghost use Rattle.sshkey_model.specs.Keys.{SpellsKey, key_data_at};
-ghost use Rattle.sshkey_keys_ref.specs.KeyDataRef.{key_bytes};
-ghost use Rattle.sshkey_model.specs.Reading.{Fault, whole};
-ghost use Rattle.sshkey_login_calls.specs.Grants.{IsGranted, TellsGrant};
-ghost use Rattle.sshkey_login_calls.specs.Logins.{TellsLogin, login_status, number_of};
+ghost use Rattle.std.specs.Prelude.{◌≡◌, option_map};
+ghost use Rattle.publickey_login.specs.Values.{signed_of};
+ghost use Rattle.sshkey_userauth.specs.Values.{lent};
+ghost use Rattle.sshkey_login_calls.specs.Logins.{IsClientOf, bound_key, named_algorithm, requirements_in, signed_in};
 
-use crate::grant::{GrantParts, empty_grant, lay_out_grant, write_grant};
-use crate::request::{LoginRequest, client_of};
-use crate::sources::fingerprints;
-use login_policy::{Login, LoginRefusal, log_in};
-use sshkey_calls::number::{
-    ELSEWHERE, KEY_NOT_ACCEPTED, MEMORY, NOT_NORMAL_FORM, TEXT, certificate_error_status,
-    error_status, refusal_status,
-};
-use sshkey_calls::GivenAnswer;
-use sshkey_entry_calls::RevocationFiles;
-use sshkey_keys_ref::KeyDataRef;
-use std::alloc::Global;
-use std::str;
+use login_policy::Client;
+use publickey_login::Signed;
+use sshkey_calls::Sha256Digest;
+use sshkey_entry_calls::address_of;
+use sshkey_userauth::Requirements;
 
-/// Whether the login is let in (`login_policy::log_in`), and what it is granted. 1 says that the
-/// question of the certificate (`sshkey_calls::certificate_question`) was answered yes, and every
-/// other number that it was not.
-///
-/// Returns 0 with the grant, exactly if `log_in` lets in for every verifier that says so about that
-/// question; 2 if it does where the room is too short for the grant, and then the answer is nothing
-/// but how much room is needed; 1 if memory ran out; 4 for a user that is not UTF-8; and else what is
-/// wrong first: from 10 to 29 the fault of bytes that are no key, or else no certificate, 70 for
-/// bytes that are not the certificate's normal form, 71 to 76 for a field and 59, after 72, for the
-/// kind or the size of the key, 31 for another authority, 58 where a revocation file cannot be read
-/// or there is none, which revokes everything, 56 for a certificate that is revoked, 32 to 34 for the
-/// time and the user, 57 for the client's address, unless the caller judges that, and 30 where it was
-/// not verified.
-///
-/// So 30 says that all is right but the signature: `login_question` says what is to be verified then.
-/// With any number but 0 nothing is granted. Memory is taken only where the user is UTF-8 and the key
-/// is one.
-///
-/// What is left to the caller: that the client has signed under the key, that a security key's flags
-/// are those that the grant asks for, and to run no other command than the grant says.
-pub fn check_login(
-    alloc: Global,
-    login: &LoginRequest<'_>,
-    is_verified: u32,
-    room: &mut [u8],
-    answer: &mut GrantParts,
-) -> u32
-    ensures verdict { IsUtf8 login.now.user.now → SpellsSome SpellsKey login.now.key.now
-        → TellsLogin login.now is_verified result }
-    ensures grant { TellsGrant login.now.certificate.now result answer.new room.old room.new }
-    ensures fault { IsUtf8 login.now.user.now → (fault : Fault)
-        → whole key_data_at login.now.key.now ≡ Err fault → result ≡ fault_number fault }
-    ensures text { (IsUtf8 login.now.user.now → ⊥) → result ≡ 4 }
-    ensures memory { result ≡ 1
-        → IsUtf8 login.now.user.now × SpellsSome SpellsKey login.now.key.now }
+/// What a client offers (`publickey_login::Offer`).
+#[repr(C)]
+#[derive(Clone, Copy, Debug)]
+pub struct OfferParts<'a> {
+    /// The name of the user to log in as, a text.
+    pub user: &'a [u8],
+    /// The name of the algorithm, as the request has it. Of no bytes where it is not told.
+    pub algorithm: &'a [u8],
+    /// The blob of a key or of a certificate, as it was sent.
+    pub blob: &'a [u8],
+}
+
+/// The client's signature is asked about here.
+const BY_REQUEST: u32 = 1;
+/// The caller's library for SSH has verified it, and tells no flags.
+const BY_TRANSPORT: u32 = 2;
+/// It has, and tells them.
+const WITH_FLAGS: u32 = 3;
+/// sshd(8) verifies it, and looks at its flags.
+const BY_SSHD: u32 = 4;
+
+/// Who has seen the client's signature (`publickey_login::Signed`).
+#[repr(C)]
+#[derive(Clone, Copy, Debug)]
+pub struct SignedParts<'a> {
+    /// The identifier of the session: the server's own, and nothing that the client sent.
+    pub session_id: &'a [u8],
+    /// The blob of the server's own host key, where `has_host_key` is not 0.
+    pub host_key: &'a [u8],
+    /// The blob of the client's signature (RFC 4253, section 6.6).
+    pub signature: &'a [u8],
+    /// 1 where it is asked about here, 2 where the caller's library for SSH has verified it, 3 where
+    /// that tells its flags, 4 where sshd(8) verifies it. With any other number nobody has, and
+    /// nobody is let in.
+    pub how: u32,
+    /// 0 where the method is `publickey`; else it is `publickey-hostbound-v00@openssh.com`.
+    pub has_host_key: u32,
+    /// The flags in the signature of a security key, where `how` is 3.
+    pub flags: u8,
+}
+
+/// The text of a file (`publickey_login::Text`).
+#[repr(C)]
+#[derive(Clone, Copy, Debug)]
+pub struct TextParts<'a> {
+    /// What stands in it.
+    pub text: &'a [u8],
+    /// 1 where it was read, or is not there. With any other number it could not be read.
+    pub is_read: u32,
+}
+
+/// Whom a server trusts, in the order in which sshd(8) asks (`publickey_login::Trusted`).
+#[repr(C)]
+#[derive(Clone, Copy, Debug)]
+pub struct TrustedParts<'a> {
+    /// `AuthorizedKeysFile`.
+    pub authorized_keys: &'a [TextParts<'a>],
+    /// `TrustedUserCAKeys`: the SHA-256 fingerprints of the keys.
+    pub authorities: &'a [Sha256Digest],
+    /// `AuthorizedPrincipalsFile`, where `principals_from` is 2.
+    pub principals: &'a [TextParts<'a>],
+    /// `AuthorizedKeysCommand`: what it wrote, if it ended with 0.
+    pub command_keys: &'a [TextParts<'a>],
+    /// Revocation files (`sshkey_entry_calls::RevocationFiles`): any of them revokes, and without
+    /// one everything is revoked.
+    pub revoked: &'a [&'a [u8]],
+    /// 1 where an authority lets in the users that the certificate lists, 2 where it lets in those
+    /// for whom `principals` have one of its names. With any other number nobody is let in.
+    pub principals_from: u32,
+    /// How many bits an RSA key has at least (`publickey_login::Trusted::least_rsa_bits`).
+    pub least_rsa_bits: u32,
+    /// Not 0 where each security key has to be touched.
+    pub requires_touch: u32,
+    /// Not 0 where each security key has to verify its user.
+    pub requires_verification: u32,
+}
+
+/// Where a client is, and when it asks (`publickey_login::Place`).
+#[repr(C)]
+#[derive(Clone, Copy, Debug)]
+pub struct PlaceParts<'a> {
+    /// The address of the client's socket, 4 or 16 bytes. With any other number of bytes it is not
+    /// known.
+    pub client: &'a [u8],
+    /// The name that was found for the client's address, a text; of no bytes, if none was.
+    pub host: &'a [u8],
+    /// The time, in seconds since 1970.
+    pub unix_timestamp: u64,
+    /// 1 where the caller judges `source-address` itself (`login_policy::Client::LeftToCaller`).
+    pub caller_checks_address: u32,
+}
+
+/// A login by public key, and whom the server trusts.
+#[repr(C)]
+#[derive(Clone, Copy, Debug)]
+pub struct LoginParts<'a> {
+    /// What the client offers.
+    pub offer: OfferParts<'a>,
+    /// Who has seen its signature.
+    pub signed_by: SignedParts<'a>,
+    /// Whom the server trusts.
+    pub trusted: TrustedParts<'a>,
+    /// Where the client is, and when.
+    pub place: PlaceParts<'a>,
+}
+
+/// The name of the algorithm, if it is told.
+pub(crate) fn named_algorithm<'a>(offer: &OfferParts<'a>) -> Option<&'a [u8]>
+    ensures { option_map lent result ≡ named_algorithm offer.now.algorithm.now }
 {
-    match judge(alloc, login, is_verified) {
-        Ok((content, grant)) => {
-            let short = empty_grant(grant.length);
-            write_grant(&content, grant, short, room, answer)
-        }
-        Err(number) => {
-            *answer = empty_grant(0);
-            number
-        }
+    if offer.algorithm.is_empty() {
+        return None;
+    }
+    Some(offer.algorithm)
+}
+
+/// Who has seen the signature, if somebody has.
+pub(crate) fn signed_in<'a>(signed: &SignedParts<'a>) -> Option<Signed<'a>>
+    ensures { option_map signed_of result ≡ signed_in signed.now }
+{
+    match signed.how {
+        BY_REQUEST => Some(Signed::Request {
+            session_id: signed.session_id,
+            host_key: bound_key(signed),
+            signature: signed.signature,
+        }),
+        BY_TRANSPORT => Some(Signed::ByTransport { flags: None }),
+        WITH_FLAGS => Some(Signed::ByTransport {
+            flags: Some(signed.flags),
+        }),
+        BY_SSHD => Some(Signed::BySshd),
+        _ => None,
     }
 }
 
-/// What is granted, laid out, or the number of what is wrong.
-fn judge(
-    alloc: Global,
-    login: &LoginRequest<'_>,
-    is_verified: u32,
-) -> Result<(Vec<u8>, GrantParts), u32>
-    ensures verdict { IsUtf8 login.now.user.now → SpellsSome SpellsKey login.now.key.now
-        → TellsLogin login.now is_verified (number_of result) }
-    ensures granted { IfOk result (IsGranted login.now.certificate.now) }
-    ensures refused { IfErr result (λ n. n ≢ 1 → 2 < n) }
-    ensures fault { IsUtf8 login.now.user.now → (fault : Fault)
-        → whole key_data_at login.now.key.now ≡ Err fault
-        → IsErrAnd result (λ n. n ≡ fault_number fault) }
-    ensures text { (IsUtf8 login.now.user.now → ⊥) → number_of result ≡ 4 }
-    ensures memory { number_of result ≡ 1
-        → IsUtf8 login.now.user.now × SpellsSome SpellsKey login.now.key.now }
+/// The server's host key, where the method has one.
+fn bound_key<'a>(signed: &SignedParts<'a>) -> Option<&'a [u8]>
+    ensures { option_map lent result ≡ bound_key signed.now.has_host_key signed.now.host_key.now }
 {
-    let Ok(user) = str::from_utf8(login.user) else {
-        return Err(TEXT);
-    };
-    match KeyDataRef::from_bytes(login.key) {
-        Ok(key) => check_with(alloc, login, user, &key, is_verified),
-        Err(error) => Err(error_status(error)),
+    if signed.has_host_key == 0 {
+        return None;
+    }
+    Some(signed.host_key)
+}
+
+/// What the server requires of the flags of each security key.
+pub(crate) fn requirements_in(trusted: &TrustedParts<'_>) -> Requirements
+    ensures { result ≡ requirements_in trusted.now }
+{
+    Requirements {
+        touch_required: trusted.requires_touch != 0,
+        verify_required: trusted.requires_verification != 0,
     }
 }
 
-/// The same of a user's name and a key that was read.
-pub(crate) fn check_with(
-    alloc: Global,
-    login: &LoginRequest<'_>,
-    user: &str,
-    key: &KeyDataRef<'_>,
-    is_verified: u32,
-) -> Result<(Vec<u8>, GrantParts), u32>
-    ensures verdict { user.now ≡ login.now.user.now → key_bytes key.now ≡ login.now.key.now
-        → TellsLogin login.now is_verified (number_of result) }
-    ensures granted { IfOk result (IsGranted login.now.certificate.now) }
-    ensures refused { IfErr result (λ n. n ≢ 1 → 2 < n) }
+/// Where the client is.
+pub(crate) fn client_of(place: &PlaceParts<'_>) -> Client
+    ensures { IsClientOf place.now result }
 {
-    let Ok(offered) = key.to_key_data(alloc) else {
-        return Err(MEMORY);
-    };
-    let Ok(files) = RevocationFiles::read(alloc, login.revoked) else {
-        return Err(MEMORY);
-    };
-    let Ok(authorities) = fingerprints(alloc, login.authorities) else {
-        return Err(MEMORY);
-    };
-    let asked = Login {
-        certificate: login.certificate,
-        user,
-        offered: &offered,
-        unix_timestamp: login.unix_timestamp,
-        authorities: &authorities,
-        least_rsa_bits: login.least_rsa_bits,
-        client: client_of(login),
-    };
-    let said = GivenAnswer::of(is_verified);
-    match log_in(alloc, &asked, &files, &said) {
-        Ok(grant) => match lay_out_grant(alloc, &grant) {
-            Ok(laid) => Ok(laid),
-            Err(_) => Err(MEMORY),
-        },
-        Err(refusal) => Err(login_status(refusal, files.revoked_status())),
+    if place.caller_checks_address == 1 {
+        return Client::LeftToCaller;
     }
-}
-
-/// The number of a refusal, where the one of a certificate that is revoked is given.
-pub(crate) fn login_status(refusal: LoginRefusal, of_revoked: u32) -> u32
-    requires { 2 < of_revoked }
-    ensures number { result ≡ login_status of_revoked refusal }
-    ensures refused { result ≢ 1 → 2 < result }
-{
-    match refusal {
-        LoginRefusal::Certificate(error) => certificate_error_status(error),
-        LoginRefusal::NotNormalForm => NOT_NORMAL_FORM,
-        LoginRefusal::UnacceptedKey => KEY_NOT_ACCEPTED,
-        LoginRefusal::Revoked => of_revoked,
-        LoginRefusal::Invalid(refusal) => refusal_status(Some(refusal)),
-        LoginRefusal::Elsewhere => ELSEWHERE,
-        LoginRefusal::Memory => MEMORY,
+    match address_of(place.client) {
+        Some(address) => Client::At(address),
+        None => Client::Unknown,
     }
 }

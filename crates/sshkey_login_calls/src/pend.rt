@@ -2,10 +2,10 @@
 
 ghost use Rattle.std.specs.Prelude.{◌≡◌, ◌≢◌, ◌<◌, IfErr};
 ghost use Rattle.publickey_login.specs.Values.{signed_of};
-ghost use Rattle.sshkey_login_calls.specs.Publickey.{AreTexts, Pends, PendsAt};
+ghost use Rattle.sshkey_login_calls.specs.Logins.{AreTexts, Pends, PendsAt};
 ghost use Rattle.sshkey_entry_calls.specs.Addresses.{IsNameIn};
 
-use crate::publickey::{PublickeyLogin, named_algorithm, requirements_in};
+use crate::login::{LoginParts, named_algorithm, requirements_in};
 use crate::refusal::{NO_PRINCIPALS, Refusal, refusal_of, said};
 use crate::sources::Sources;
 use login_policy::Client;
@@ -18,7 +18,7 @@ use std::str;
 /// the client is there. Memory is taken only where the names of user and host are UTF-8.
 pub(crate) fn pend(
     alloc: Global,
-    login: &PublickeyLogin<'_>,
+    login: &LoginParts<'_>,
     signed: &Signed<'_>,
     client: Client,
 ) -> Result<Pending, Refusal>
@@ -43,7 +43,7 @@ pub(crate) fn pend(
 /// The same of a user's name, and of a place that was read.
 fn pend_at(
     alloc: Global,
-    login: &PublickeyLogin<'_>,
+    login: &LoginParts<'_>,
     user: &str,
     signed: &Signed<'_>,
     place: &Place<'_>,

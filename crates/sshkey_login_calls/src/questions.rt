@@ -4,9 +4,10 @@ ghost use Rattle.std.specs.Prelude.{◌≡◌, ◌≢◌, ◌++◌, ◌<◌, ℕ
 ghost use Rattle.sha2.specs.Hashers.{Holds256};
 ghost use Rattle.sshkey_keys.specs.Questions.{asks};
 ghost use Rattle.sshkey_model.specs.Fingerprints.{digest};
-ghost use Rattle.sshkey_model.specs.Names.{Sha256};
+ghost use Rattle.sshkey_model.specs.Names as names;
 ghost use Rattle.publickey_login.specs.Results.{authority_in, client_in};
-ghost use Rattle.sshkey_login_calls.specs.Asked.{AddsAsked, LaysOutQuestions, head, no_question, IsUnraised};
+ghost use Rattle.sshkey_login_calls.specs.Asked.{AddsAsked, IsUnraised, LaysOutQuestions, head};
+ghost use Rattle.sshkey_login_calls.specs.Refusals.{said};
 
 use crate::grant::bit;
 use crate::refusal::{CLIENT_NOT_SIGNED, Refusal, said};
@@ -110,7 +111,7 @@ fn add_asked(
 
 /// The digest of both questions' algorithms and lengths, and of their bytes.
 fn ticket_of(authority: &Question, client: &Question, content: &[u8]) -> Sha256Digest
-    ensures { result.bytes ≡ digest Sha256
+    ensures { result.bytes ≡ digest names.Sha256
         (head authority.now ++ (head client.now ++ content.now)) }
 {
     let mut digester = Sha256::new();

@@ -1,15 +1,16 @@
 //! Why a login by public key is refused, as numbers.
 
 ghost use Rattle.std.specs.Prelude.{◌≡◌, ◌≢◌, ◌<◌};
-ghost use Rattle.sshkey_login_calls.specs.Refusals.{at_text, reason_status, refusal_of, said, signature_status, source_number, text_number};
+ghost use Rattle.sshkey_login_calls.specs.Refusals.{at_text, login_status, reason_status, refusal_of, said, signature_status, source_number, text_number};
 
-use crate::login::login_status;
+use login_policy::LoginRefusal;
 use publickey_login::{PublickeyRefusal, Source};
 use sshkey_calls::number::{
-    KEY_NOT_ACCEPTED, LENGTH, MEMORY, OTHER_ALGORITHM, OTHER_REQUEST, UNTOUCHED, UNVERIFIED,
-    error_status,
+    ELSEWHERE, KEY_NOT_ACCEPTED, LENGTH, MEMORY, NOT_NORMAL_FORM, OTHER_ALGORITHM, OTHER_REQUEST,
+    UNTOUCHED, UNVERIFIED, certificate_error_status, error_status, refusal_status,
 };
 use sshkey_userauth::UserauthRefusal;
+use user_keys::Reason;
 
 /// The client's signature is none of the key's for this request.
 pub(crate) const CLIENT_NOT_SIGNED: u32 = 84;
@@ -19,6 +20,17 @@ const NO_FLAGS: u32 = 85;
 const NO_SIGNATURE: u32 = 86;
 /// No line is for what is offered, and no authority lists the user.
 const NOT_LISTED: u32 = 90;
+/// The line's time is over.
+const LINE_EXPIRED: u32 = 91;
+/// The line has an option that is of no use there: principals, and its key is no authority's; of a
+/// text of principals, cert-authority or principals.
+const LINE_OPTION: u32 = 92;
+/// The line is for other places.
+const LINE_ELSEWHERE: u32 = 93;
+/// The line and the certificate have two commands.
+const LINE_COMMAND: u32 = 94;
+/// The certificate lists nobody whom the line lets in.
+const LINE_PRINCIPALS: u32 = 95;
 /// Whether a line lets in cannot be told.
 const UNCLEAR: u32 = 96;
 /// A text could not be read.
@@ -83,6 +95,11 @@ pub(crate) fn refusal_of(refusal: PublickeyRefusal, of_revoked: u32) -> Refusal
         PublickeyRefusal::UnacceptedKey => said(KEY_NOT_ACCEPTED),
         PublickeyRefusal::Revoked => said(of_revoked),
         PublickeyRefusal::NotListed => said(NOT_LISTED),
+        PublickeyRefusal::NotAllowed {
+            source,
+            line,
+            reason,
+        } => at_text(reason_status(reason), source, line),
         PublickeyRefusal::Unclear { source, line } => at_text(UNCLEAR, source, line),
         PublickeyRefusal::Unreadable { source } => at_text(TEXT_UNREADABLE, source, 0),
         PublickeyRefusal::Certificate(refusal) => said(login_status(refusal, of_revoked)),
@@ -93,6 +110,37 @@ pub(crate) fn refusal_of(refusal: PublickeyRefusal, of_revoked: u32) -> Refusal
         PublickeyRefusal::NoFlags => said(NO_FLAGS),
         PublickeyRefusal::NotSigned => said(CLIENT_NOT_SIGNED),
         PublickeyRefusal::Memory => said(MEMORY),
+    }
+}
+
+/// The number of why a line refuses.
+fn reason_status(reason: Reason) -> u32
+    ensures number { result ≡ reason_status reason }
+    ensures range { 2 < result }
+{
+    match reason {
+        Reason::Expired => LINE_EXPIRED,
+        Reason::MisplacedOption => LINE_OPTION,
+        Reason::Elsewhere => LINE_ELSEWHERE,
+        Reason::Command => LINE_COMMAND,
+        Reason::Principals => LINE_PRINCIPALS,
+    }
+}
+
+/// The number of a refusal, where the one of a certificate that is revoked is given.
+fn login_status(refusal: LoginRefusal, of_revoked: u32) -> u32
+    requires { 2 < of_revoked }
+    ensures number { result ≡ login_status of_revoked refusal }
+    ensures refused { result ≢ 1 → 2 < result }
+{
+    match refusal {
+        LoginRefusal::Certificate(error) => certificate_error_status(error),
+        LoginRefusal::NotNormalForm => NOT_NORMAL_FORM,
+        LoginRefusal::UnacceptedKey => KEY_NOT_ACCEPTED,
+        LoginRefusal::Revoked => of_revoked,
+        LoginRefusal::Invalid(refusal) => refusal_status(Some(refusal)),
+        LoginRefusal::Elsewhere => ELSEWHERE,
+        LoginRefusal::Memory => MEMORY,
     }
 }
 

@@ -6,9 +6,9 @@ ghost use Rattle.sshkey_base.specs.declared.error.Error.TheVariants.{Memory};
 ghost use Rattle.sshkey_calls.specs.Validations.{authorities_of};
 ghost use Rattle.sshkey_cert.specs.Validity.{fingerprints_of};
 ghost use Rattle.sshkey_entry_calls.specs.RevocationFiles.{AreReadOf, reads_of};
-ghost use Rattle.sshkey_login_calls.specs.Publickey.{principals_in, text_in, texts_in};
+ghost use Rattle.sshkey_login_calls.specs.Logins.{principals_from, text_in, texts_in};
 
-use crate::publickey::{TextParts, TrustedParts};
+use crate::login::{TextParts, TrustedParts};
 use publickey_login::{Principals, Text};
 use sshkey_base::Result;
 use sshkey_calls::Sha256Digest;
@@ -56,8 +56,8 @@ impl<'a> Sources<'a> {
 
     /// Whom an authority lets in, if that is told.
     pub fn principals_from(&self, how: u32) -> Option<Principals<'_>>
-        ensures { MatchOption result (principals_in how (map text_of self.now.principals.items)
-            ≡ None) (λ p. principals_in how (map text_of self.now.principals.items)
+        ensures { MatchOption result (principals_from how (map text_of self.now.principals.items)
+            ≡ None) (λ p. principals_from how (map text_of self.now.principals.items)
             ≡ Some (principals_of p)) }
     {
         match how {
@@ -90,10 +90,7 @@ fn text_in<'a>(part: &TextParts<'a>) -> Text<'a>
 }
 
 /// The fingerprints with these digests. Fails only when out of memory.
-pub(crate) fn fingerprints(
-    alloc: Global,
-    digests: &[Sha256Digest],
-) -> Result<Vec<Fingerprint>>
+pub(crate) fn fingerprints(alloc: Global, digests: &[Sha256Digest]) -> Result<Vec<Fingerprint>>
     ensures { IfOk result (λ found. fingerprints_of found.items ≡ authorities_of digests.now) }
 {
     let mut found = Vec::new(alloc);

@@ -2,7 +2,7 @@ use Rattle.std.proofs.Common.{◌≡◌, ◌∙◌, length, ap, refl, subst, sym
 use Rattle.std.proofs.lemmas.Bool.Decides.{Decides-eqb}
 use Rattle.std.specs.List.{Any}
 use Rattle.sshkey_login_calls.specs.Forwarding.{IsFor}
-use Rattle.sshkey_login_calls.specs.UserGrants.{permit_strings}
+use Rattle.sshkey_login_calls.specs.Grants.{permit_strings}
 use Rattle.sshkey_login_calls.proofs.Places.{here, later, next, no_bytes, not_here, nowhere}
 use Rattle.sshkey_login_calls.proofs.forwarding.is_named.Goals as goal
 

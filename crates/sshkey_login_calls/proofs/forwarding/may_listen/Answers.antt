@@ -1,6 +1,6 @@
 use Rattle.login_terms.specs.Values.{HostAndPort}
 use Rattle.login_terms.specs.Questions.{Listens}
-use Rattle.sshkey_login_calls.specs.UserGrants.{to_listen}
+use Rattle.sshkey_login_calls.specs.Grants.{to_listen}
 use Rattle.sshkey_login_calls.proofs.Places.{any_listens, of_terms}
 use Rattle.sshkey_login_calls.proofs.forwarding.may_listen.Goals as goal
 

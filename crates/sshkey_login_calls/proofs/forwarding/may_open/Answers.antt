@@ -1,6 +1,6 @@
 use Rattle.login_terms.specs.Values.{HostAndPort}
 use Rattle.login_terms.specs.Questions.{Opens}
-use Rattle.sshkey_login_calls.specs.UserGrants.{to_open}
+use Rattle.sshkey_login_calls.specs.Grants.{to_open}
 use Rattle.sshkey_login_calls.proofs.Places.{any_opens, of_terms}
 use Rattle.sshkey_login_calls.proofs.forwarding.may_open.Goals as goal
 

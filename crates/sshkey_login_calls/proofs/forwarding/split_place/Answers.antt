@@ -2,7 +2,7 @@ use Rattle.std.proofs.Common.{◌∙◌, sym}
 use Rattle.sshkey_base.specs.Causes.{encoding_cause}
 use Rattle.sshkey_terms.proofs.SliceFronts.{answers_err, answers_ok}
 use Rattle.sshkey_login_calls.proofs.Places.{none_some, port_fits, shorter, some_is, string_taken, string_there, text_taken}
-use Rattle.sshkey_login_calls.specs.UserGrants.{port_bytes}
+use Rattle.sshkey_login_calls.specs.Grants.{port_bytes}
 use Rattle.sshkey_login_calls.proofs.forwarding.split_place.Goals as goal
 
 pub returns-in_default-split_string-clause-place : goal.returns-in_default-split_string-clause-place

@@ -1,0 +1,14 @@
+use Rattle.std.proofs.Common.{refl}
+use Rattle.publickey_login.specs.Searches.{ArePassed, IsOfFirst}
+use Rattle.publickey_login.proofs.RefusalExamples.{not_silent, nothing, only_first}
+use Rattle.publickey_login.proofs.examples.first_refusals.Goals as goal
+
+pub returns : goal.returns
+unfolding IsOfFirst ArePassed
+returns c = λ u over elsewhere both. (
+  (1, refl, (nothing u, both.third)),
+  (0, refl, both.first),
+  (nothing u, tt),
+  not_silent u over elsewhere both,
+  only_first u over elsewhere both,
+)

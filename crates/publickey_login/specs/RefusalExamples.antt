@@ -1,0 +1,100 @@
+-- Worked examples of which line says why nothing lets in, and of what may be offered
+-- (auth2-pubkeyfile.c of OpenSSH; RFC 4252, section 7).
+use Rattle.std.specs.Prelude.{◌≡◌, List, ℕ, [], ◌∷◌, true, false, Option, Some, None, Ok, Err, codes}
+use Rattle.login_policy.specs.Examples.{fields}
+use Rattle.login_policy.specs.declared.refusal.LoginRefusal.TheVariants.{Invalid}
+use Rattle.sshkey_cert.specs.declared.certificate.refusal.CertificateRefusal.TheVariants.{Signature}
+use Rattle.sshkey_model.specs.Certificates.{Certificate}
+use Rattle.sshkey_model.specs.Keys.{Key}
+use Rattle.sshkey_model.specs.Verification.{Question}
+use Rattle.user_keys.specs.UserLogins.{UserLogin}
+use Rattle.user_keys.specs.declared.refusal.Reason.{Reason}
+use Rattle.user_keys.specs.declared.refusal.Reason.TheVariants.{Elsewhere, Expired}
+use Rattle.user_keys.specs.declared.refusal.UserRefusal.TheVariants as why
+use Rattle.publickey_login.specs.GrantExamples.{trusting_all}
+use Rattle.publickey_login.specs.Grants.{IsPendingOffer}
+use Rattle.publickey_login.specs.LoginExamples.{certificate, login, nobodys, trusting}
+use Rattle.publickey_login.specs.Logins.{Files, InCertificate, Login, Read, Unreadable}
+use Rattle.publickey_login.specs.Results.{DecidesOffer, OfferPendsExactly, decides_alone, offered_authority_in}
+use Rattle.publickey_login.specs.Searches.{AuthorityLine, KeyLine, PrincipalLine, Sought}
+use Rattle.publickey_login.specs.Sources.{user_of}
+use Rattle.publickey_login.specs.Stops.{IsCertificateRefused, IsKeyRefused, IsWhy, PrincipalsRefuseFirst, RefusesFirst, refusal_for}
+use Rattle.publickey_login.specs.declared.grant.Source.{Source}
+use Rattle.publickey_login.specs.declared.grant.Source.TheVariants as source
+use Rattle.publickey_login.specs.declared.offered.PendingOffer.{PendingOffer}
+use Rattle.publickey_login.specs.declared.refusal.PublickeyRefusal.TheVariants as refusal
+use Rattle.publickey_login.specs.declared.search.LineRefusal.{LineRefusal}
+use Rattle.publickey_login.specs.declared.search.TextList.TheVariants as list
+
+-- ---- several texts
+
+-- One text refuses by its third line, which is over, and the other by its first, which is for other
+-- places.
+pub record Refuse (u : UserLogin) (s t : Sought) (over elsewhere : List ℕ) : Type 0 where
+  pub third : IsWhy u s over (why.NotAllowed 3 Expired)
+  pub first : IsWhy u t elsewhere (why.NotAllowed 1 Elsewhere)
+
+abbrev pub at : Source → ℕ → Reason → Option LineRefusal
+at from line reason = Some (record { source = from; line = line; reason = reason })
+
+-- The first text with a line for the key says why, by its own number and line.
+abbrev pub FirstRefusals : Type 0
+FirstRefusals = (u : UserLogin) (over elsewhere : List ℕ) → Refuse u KeyLine KeyLine over elsewhere →
+    RefusesFirst u KeyLine list.AuthorizedKeys (Read [] ∷ Read over ∷ Read elsewhere ∷ []) (at (source.AuthorizedKeys 1) 3 Expired)
+    × RefusesFirst u KeyLine list.Command (Read elsewhere ∷ Read over ∷ []) (at (source.Command 0) 1 Elsewhere)
+    × RefusesFirst u KeyLine list.AuthorizedKeys (Read [] ∷ []) None
+    × ¬ RefusesFirst u KeyLine list.AuthorizedKeys (Read over ∷ []) None
+    × ((x : LineRefusal) → RefusesFirst u KeyLine list.AuthorizedKeys (Read over ∷ Read elsewhere ∷ []) (Some x) → (x.source ≡ source.AuthorizedKeys 0) × IsWhy u KeyLine over (why.NotAllowed x.line x.reason))
+
+-- Of principals it says so whatever stands after it, which is not asked; without a file nothing does.
+abbrev pub PrincipalRefusals : Type 0
+PrincipalRefusals = (l : Login) (c : Certificate) (over elsewhere : List ℕ) → Refuse (user_of l c.signed.key) (PrincipalLine c) (PrincipalLine c) over elsewhere →
+    PrincipalsRefuseFirst l c (Files (Read over ∷ Unreadable ∷ [])) (at (source.Principals 0) 3 Expired)
+    × PrincipalsRefuseFirst l c (Files (Read elsewhere ∷ Read over ∷ [])) (at (source.Principals 0) 1 Elsewhere)
+    × PrincipalsRefuseFirst l c InCertificate None
+    × ((x : LineRefusal) → ¬ PrincipalsRefuseFirst l c InCertificate (Some x))
+
+-- After a text that refuses a principal none of its like is asked.
+abbrev pub DecidesAlone : Type 0
+DecidesAlone = (c : Certificate) → (decides_alone KeyLine ≡ false) × (decides_alone (AuthorityLine c) ≡ false) × (decides_alone (PrincipalLine c) ≡ true)
+
+-- ---- all that the server trusts
+
+-- The files say why before the command's texts; nothing is listed only where no text has a line.
+abbrev pub RefusedKeys : Type 0
+RefusedKeys = (k : Key) (over elsewhere : List ℕ) → Refuse (user_of trusting_all k) KeyLine KeyLine over elsewhere →
+    IsKeyRefused (login (trusting (Read over ∷ []) InCertificate (Read elsewhere ∷ []))) k (refusal.NotAllowed (source.AuthorizedKeys 0) 3 Expired)
+    × IsKeyRefused (login (trusting (Read [] ∷ []) InCertificate (Read elsewhere ∷ []))) k (refusal.NotAllowed (source.Command 0) 1 Elsewhere)
+    × IsKeyRefused (login (trusting (Read [] ∷ []) InCertificate [])) k refusal.NotListed
+    × ¬ IsKeyRefused (login (trusting [] InCertificate (Read over ∷ []))) k refusal.NotListed
+    × (refusal_for None ≡ refusal.NotListed)
+
+-- The texts of principals say why after the files and before the command's, where the authority is
+-- trusted.
+abbrev pub RefusedCertificates : Type 0
+RefusedCertificates = (over elsewhere : List ℕ) → Refuse (user_of trusting_all certificate.signed.key) (PrincipalLine certificate) (AuthorityLine certificate) over elsewhere →
+    IsCertificateRefused (login (trusting [] (Files (Read over ∷ [])) (Read elsewhere ∷ []))) certificate (refusal.NotAllowed (source.Principals 0) 3 Expired)
+    × IsCertificateRefused (login (trusting (Read elsewhere ∷ []) (Files (Read over ∷ [])) [])) certificate (refusal.NotAllowed (source.AuthorizedKeys 0) 1 Elsewhere)
+    × IsCertificateRefused (login (record (trusting [] (Files (Read over ∷ [])) (Read elsewhere ∷ [])) { authorities = [] })) certificate (refusal.NotAllowed (source.Command 0) 1 Elsewhere)
+    × IsCertificateRefused trusting_all nobodys refusal.NotListed
+    × ¬ IsCertificateRefused (login (record (trusting [] (Files (Read over ∷ [])) []) { authorities = [] })) certificate (refusal.NotAllowed (source.Principals 0) 3 Expired)
+
+-- ---- offers
+
+abbrev pub named : Login → List ℕ → Login
+named l name = record l { offer = record l.offer { algorithm = Some name } }
+
+-- A revoked key may not be offered, nor a key by the name of another algorithm, nor a certificate of an
+-- authority whom nobody trusts.
+abbrev pub Offers : Type 0
+Offers = ((l : Login) → ¬ IsPendingOffer (record l { revokes_key = λ key. true }) None)
+    × ((l : Login) (authority : Option (Option Question)) (is : IsPendingOffer (named l (codes "ssh-rsa")) authority) → is.key ≡ fields.key → ⊥)
+    × OfferPendsExactly (login (record (trusting [] InCertificate []) { authorities = [] })) (Err refusal.NotListed)
+    × ((p : PendingOffer) → ¬ OfferPendsExactly (login (record (trusting [] InCertificate []) { authorities = [] })) (Ok p))
+
+-- What is not asked needs no answer; a certificate needs one that says yes.
+abbrev pub OfferAnswers : Type 0
+OfferAnswers = ((p : PendingOffer) → offered_authority_in p ≡ None → DecidesOffer p false (Ok tt))
+    × ((p : PendingOffer) (q : Option Question) → offered_authority_in p ≡ Some q → DecidesOffer p true (Ok tt))
+    × ((p : PendingOffer) (q : Option Question) → offered_authority_in p ≡ Some q → ¬ DecidesOffer p false (Ok tt))
+    × ((p : PendingOffer) (q : Option Question) → offered_authority_in p ≡ Some q → DecidesOffer p false (Err (refusal.Certificate (Invalid Signature))))

@@ -1,4 +1,0 @@
-//! Tests.
-
-#[test]
-fn nothing() {}

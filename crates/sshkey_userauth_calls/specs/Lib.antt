@@ -1,2 +1,0 @@
-pub mod Userauths
-pub mod Flags
