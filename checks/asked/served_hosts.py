@@ -19,15 +19,15 @@ UsePAM no
 PasswordAuthentication yes
 """
 OUTSIDE = "192.0.2.7"
-TRUSTED = "trusted"
+TRUSTED, UNREADABLE = "trusted", 51
 # what known_hosts has, where [host] is the host and its port, what the host shows, the name of a file of what is revoked, and what is
-# said of it: that, or the number of what is wrong
+# said of it: that, or the number of what is wrong. ssh says the same, but of a line that can't be read: that it passes over
 ROWS = [
     ("a key that is known", "[host] {host}", "key", None, TRUSTED), ("one among others", "# a comment\nother {strange}\n[host] {strange}\n[host] {host}", "key", None, TRUSTED),
     ("another key", "[host] {strange}", "key", None, 52), ("no line", "", "key", None, 53), ("a line without the port", f"{ADDRESS} {{host}}", "key", None, TRUSTED),
     ("a line for another", f"[{OUTSIDE}]:22 {{host}}", "key", None, 53), ("a key that is revoked", "[host] {host}\n@revoked * {host}", "key", None, 50),
     ("a key that a file revokes", "[host] {host}", "key", "host.pub", 50), ("a file that is none", "[host] {host}", "key", "keys-of-none", 58),
-    ("a file of another", "[host] {host}", "key", "strange.pub", TRUSTED), ("a line that can't be read", "[host] ssh-ed25519 AAAA\n[host] {host}", "key", None, 51),
+    ("a file of another", "[host] {host}", "key", "strange.pub", TRUSTED), ("a line that can't be read", "[host] ssh-ed25519 AAAA\n[host] {host}", "key", None, UNREADABLE),
     ("a certificate of its authority", "@cert-authority [host] {authority}", "listed", None, TRUSTED),
     ("one of another authority", "@cert-authority [host] {strange}", "listed", None, 53), ("one for another host", "@cert-authority [host] {authority}", "other", None, 34),
     ("one that is over", "@cert-authority [host] {authority}", "over", None, 33), ("one for users", "@cert-authority [host] {authority}", "users", None, 71),
@@ -75,6 +75,15 @@ def shown_of(maker):
     os.remove(maker.path("host-cert.pub"))
 
 
+def ssh_trusts(port, known, revoked):
+    """Whether ssh trusts the host, which lets nobody in."""
+    named = [f"UserKnownHostsFile={known}", "GlobalKnownHostsFile=none", f"RevokedHostKeys={revoked}", "StrictHostKeyChecking=yes", "BatchMode=yes"]
+    options = [word for it in [*named, "IdentityAgent=none", "IdentityFile=none"] for word in ("-o", it)]
+    said = run(["ssh", "-F", "none", "-p", str(port), *options, f"alice@{ADDRESS}"], stdin=subprocess.DEVNULL, timeout=SECONDS).stderr
+    told = {words for words in ("Permission denied", "Host key verification failed") if words in said}
+    return {"Permission denied"} == told if len(told) == 1 else said
+
+
 def check_hosts(count, servers, package):
     """Each host is trusted, or refused, as ssh(1) would."""
     maker = servers.maker
@@ -87,6 +96,8 @@ def check_hosts(count, servers, package):
         ran = run([PYTHON, CLIENT, package, str(host.port), files, known], timeout=SECONDS)
         said = ran.stdout.strip()
         same = said == wanted or wanted != TRUSTED and said.endswith(f"({wanted})")
-        count.check(f"{package}, a host: {name}", same, wanted, said, ran.stderr[-2000:])
+        by_ssh = ssh_trusts(host.port, known, files)
+        same = same and by_ssh is (wanted in (TRUSTED, UNREADABLE))
+        count.check(f"{package}, a host: {name}", same, wanted, said, by_ssh, ran.stderr[-2000:])
     for host in hosts.values():
         host.close()
