@@ -292,9 +292,10 @@ func LogIn(
 	var memory held
 	defer memory.free()
 	asked := loginOf(&memory, offer, signed, trusted, place)
-	ticket, answers, err := verify.answers(&asked, func(to buffer, answer *C.raf_login_questions) C.uint32_t {
-		return C.raf_log_in_questions(&asked, to.at, to.length, answer)
-	})
+	ticket, answers, err := verify.answers(&asked,
+		func(to buffer, answer *C.raf_login_questions) C.uint32_t {
+			return C.raf_log_in_questions(&asked, to.at, to.length, answer)
+		})
 	if err == ErrMemory {
 		return Grant{}, Refused{Status: ErrMemory}
 	}
@@ -310,9 +311,10 @@ func MayOffer(offer Offer, trusted Trusted, place Place, verify Verifier) error 
 	var memory held
 	defer memory.free()
 	asked := loginOf(&memory, offer, nil, trusted, place)
-	ticket, answers, err := verify.answers(&asked, func(to buffer, answer *C.raf_login_questions) C.uint32_t {
-		return C.raf_may_offer_questions(&asked, to.at, to.length, answer)
-	})
+	ticket, answers, err := verify.answers(&asked,
+		func(to buffer, answer *C.raf_login_questions) C.uint32_t {
+			return C.raf_may_offer_questions(&asked, to.at, to.length, answer)
+		})
 	if err != nil {
 		return err
 	}

@@ -5,3 +5,4 @@ pub mod Forwarding
 pub mod Logins
 pub mod Asked
 pub mod Verdicts
+pub mod LoginExamples
