@@ -1,0 +1,2 @@
+pub mod Armour
+pub mod Reading

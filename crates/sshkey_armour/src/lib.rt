@@ -1,0 +1,7 @@
+//! The armour of an SSH signature, as `ssh-keygen -Y sign` writes it.
+#![tactic(auto)]
+
+mod armour;
+pub mod laws;
+
+pub use armour::read_armour;
