@@ -21,6 +21,7 @@ typedef struct {
   uint32_t known_by; /* RAF_BY_.., of a host that shows a certificate and is known */
   bool is_key;     /* a key stands there, where a certificate is wanted */
   bool is_verdict; /* `refused` is said of what is */
+  bool has_art;    /* a key is drawn, too */
   bool is_json;
 } report;
 

@@ -12,7 +12,8 @@ _sshkey_check() {
   case ${COMP_WORDS[1]} in
     login) words="--from --ca --host --at --revoked --json" ;;
     verify) words="-k -f -I -n -s -r --at --json" ;;
-    fingerprint|revoked) words="--json" ;;
+    fingerprint) words="--art --json" ;;
+    revoked) words="--json" ;;
     -Y) words="-f -I -n -s -r -O" ;;
     *) words="--ca --user --from --host --port --known-hosts --at --revoked --json --help --version"
        [ "$COMP_CWORD" != 1 ] || words="login verify fingerprint revoked -Y $words" ;;
