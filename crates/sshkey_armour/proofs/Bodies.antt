@@ -18,15 +18,15 @@ more : (c x : ℕ) (text : List ℕ) → (x ≡ c → ⊥) → IsWithout c text 
 more c x text first rest zero l = first
 more c x text first rest (suc i) l = rest i (omega (arith, l))
 
-has_dash : (a b : List ℕ) → IsWithout dash (a ++ (dash ∷ b)) → ⊥
-has_dash [] b none = none 0 (omega arith) refl
-has_dash (x ∷ a) b none = has_dash a b (tail dash x (a ++ (dash ∷ b)) none)
+pub has : (c : ℕ) (a b : List ℕ) → IsWithout c (a ++ (c ∷ b)) → ⊥
+has c [] b none = none 0 (omega arith) refl
+has c (x ∷ a) b none = has c a b (tail c x (a ++ (c ∷ b)) none)
 
 front : (a b : List ℕ) → IsWithout dash (a ++ b) → IsWithout dash a
 front [] b none = λ i l. absurd (omega (arith, l))
 front (x ∷ a) b none = more dash x a (none 0 (omega arith)) (front a b (tail dash x (a ++ b) none))
 
-with_end : (body : List ℕ) → IsWithout dash body → IsWithout dash (body ++ codes "\n")
+pub with_end : (body : List ℕ) → IsWithout dash body → IsWithout dash (body ++ codes "\n")
 with_end [] none = more dash 10 [] (λ e. omega (arith, e)) (λ i l. absurd (omega (arith, l)))
 with_end (x ∷ body) none = more dash x (body ++ codes "\n") (none 0 (omega arith)) (with_end body (tail dash x body none))
 
@@ -47,13 +47,13 @@ either_end text (Some x) none is = (codes "\r\n", inr refl, is)
 
 -- ---- what the lines enclose
 
-abbrev after_dash : List ℕ
+abbrev pub after_dash : List ℕ
 after_dash = codes "----END SSH SIGNATURE-----"
 
 shape : (body after : List ℕ) → body ++ (codes "\n" ++ (last_line ++ after)) ≡ (body ++ codes "\n") ++ (dash ∷ (after_dash ++ after))
 shape body after = sym (append_assoc body (codes "\n") (last_line ++ after))
 
-enclosed : (text after lines body : List ℕ) → text ≡ first_line ++ after → FollowsLineEnd after lines → (e : Encloses text body) → lines ≡ (body ++ codes "\n") ++ (dash ∷ (after_dash ++ e.after))
+pub enclosed : (text after lines body : List ℕ) → text ≡ first_line ++ after → FollowsLineEnd after lines → (e : Encloses text body) → lines ≡ (body ++ codes "\n") ++ (dash ∷ (after_dash ++ e.after))
 enclosed text after lines body first ends e =
     let rest = append_cancel_left first_line after (e.end ++ (body ++ (codes "\n" ++ (last_line ++ e.after)))) (sym first ∙ e.is) in
     one_end ends.0 e.end lines (body ++ (codes "\n" ++ (last_line ++ e.after))) ends.1 e.is_end (sym ends.2 ∙ rest) ∙ shape body e.after
@@ -64,7 +64,7 @@ module _ (text after : List ℕ) (first : text ≡ first_line ++ after) where
 
   module _ (lines : List ℕ) (ends : FollowsLineEnd after lines) where
     pub no_dash : IsWithout dash lines → (body : List ℕ) → Encloses text body → ⊥
-    no_dash none body e = has_dash (body ++ codes "\n") (after_dash ++ e.after) (subst (λ (l : List ℕ). IsWithout dash l) (enclosed text after lines body first ends e) none)
+    no_dash none body e = has dash (body ++ codes "\n") (after_dash ++ e.after) (subst (λ (l : List ℕ). IsWithout dash l) (enclosed text after lines body first ends e) none)
 
     module _ (before back : List ℕ) (cut : CutsBeforeDash lines before back) where
       parts : (body : List ℕ) → (e : Encloses text body) → (before ≡ body ++ codes "\n") × (back ≡ last_line ++ e.after)
@@ -86,7 +86,7 @@ module _ (text after : List ℕ) (first : text ≡ first_line ++ after) where
         no_dash = front x.now (codes "\n") (subst (λ (l : List ℕ). IsWithout dash l) is cut.no_dash);
       }
 
-one_body : (text body other : List ℕ) → Encloses text body → Encloses text other → body ≡ other
+pub one_body : (text body other : List ℕ) → Encloses text body → Encloses text other → body ≡ other
 one_body text body other e f =
     let rest : FollowsLineEnd (e.end ++ (body ++ (codes "\n" ++ (last_line ++ e.after)))) (body ++ (codes "\n" ++ (last_line ++ e.after))) = (e.end, e.is_end, refl) in
     let same = one_front dash (body ++ codes "\n") (other ++ codes "\n") (after_dash ++ e.after) (after_dash ++ f.after) (with_end body e.no_dash) (with_end other f.no_dash) (sym (shape body e.after) ∙ enclosed text _ _ other e.is rest f) in

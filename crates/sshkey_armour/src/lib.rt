@@ -2,6 +2,7 @@
 #![tactic(auto)]
 
 mod armour;
+pub mod examples;
 pub mod laws;
 
 pub use armour::read_armour;
