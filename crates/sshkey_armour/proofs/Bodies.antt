@@ -5,8 +5,8 @@ use Rattle.std.specs.Prelude.{MatchOption, codes}
 use Rattle.sshkey_model.specs.Lines.{IsWithout}
 use Rattle.sshkey_model.proofs.Base64Words.{one_blob}
 use Rattle.sshkey_model.proofs.LineCuts.{one_front}
-use Rattle.sshkey_armour.specs.Armour.{Encloses, IsArmour, IsLineEnd, dash, first_line, last_line}
-use Rattle.sshkey_armour.specs.Reading.{CutsBeforeDash, FollowsLineEnd}
+use Rattle.sshkey_armour.specs.Armour.{Encloses, IsArmour, IsBase64, IsLineEnd, dash, first_line, last_line}
+use Rattle.sshkey_armour.specs.Reading.{CutsBeforeDash, FollowsLineEnd, HasOtherBody}
 use denote.Ref.{Bor}
 
 -- ---- where dashes stand
@@ -96,3 +96,9 @@ pub one_armour : (text bytes others : List ℕ) → IsArmour text bytes → IsAr
 one_armour text bytes others a b =
     let same = one_body text a.0 b.0 a.1 b.1 in
     one_blob bytes others a.2.0 b.2.0 (sym a.2.1 ∙ rw same b.2.1)
+
+-- A text whose body is the Base64 of no bytes is no armour.
+pub no_armour : (text : List ℕ) → HasOtherBody text → (bytes : List ℕ) → IsArmour text bytes → ⊥
+no_armour text none bytes a =
+    let same = one_body text a.0 none.0 a.1 none.1 in
+    none.2 bytes (subst (λ (body : List ℕ). IsBase64 body bytes) same a.2)

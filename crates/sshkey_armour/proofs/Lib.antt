@@ -1,2 +1,2 @@
-mod Bodies
+pub mod Bodies
 mod Worked
