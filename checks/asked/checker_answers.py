@@ -87,6 +87,7 @@ def check_wrong_files(count, programs, maker):
         ([private], UNTOLD, public), (["fingerprint", private], UNTOLD, public), (["--ca", private, "--user", "alice", shown], UNTOLD, public),
         (["login", copy, "alice", private, *login[2:]], UNTOLD, public),
         (["fingerprint", maker.path("none")], UNTOLD, f"{maker.path('none')}: No such file or directory"),
+        (["fingerprint", maker.path("none\u202e\x1b[2J\\\udcff größe")], UNTOLD, f"{maker.path('none')}\\342\\200\\256\\033[2J\\\\377 größe: No such file or directory"),
     ):  # fmt: skip
         for program in programs:
             ran = run([program, *words], input="")
