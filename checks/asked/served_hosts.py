@@ -1,13 +1,16 @@
-"""What clients over asyncssh and paramiko say of the keys and certificates of a real sshd, for checks/servers: python_client.py asks."""
+"""What clients over asyncssh and paramiko say of the keys and certificates of a real sshd, for checks/servers: python_client.py asks. And
+whom that sshd lets in by the files that the servers have."""
+import getpass
 import os
 import socket
 import subprocess
 import threading
+from dataclasses import replace
 
 from lib.harness import ROOT, SSHD
 
 from .linked import run
-from .served_logins import ADDRESS, PYTHON, SECONDS
+from .served_logins import ADDRESS, LOGINS, PYTHON, SECONDS, USER
 
 CLIENT = f"{ROOT}/checks/asked/python_client.py"
 CONFIGURATION = """\
@@ -16,7 +19,7 @@ HostKey {key}
 StrictModes no
 PidFile none
 UsePAM no
-PasswordAuthentication yes
+PasswordAuthentication {password}
 """
 OUTSIDE = "192.0.2.7"
 TRUSTED, UNREADABLE = "trusted", 51
@@ -42,8 +45,10 @@ CERTIFICATES = {
 class Host:
     """A real sshd, which shows what is told of its configuration, until it is closed."""
 
-    def __init__(self, maker, name, more):
-        path = maker.write(f"{name}.conf", CONFIGURATION.format(key=maker.path("host"), more=more))
+    def __init__(self, maker, name, more, password="yes"):
+        if os.geteuid() == 0:
+            os.makedirs("/run/sshd", mode=0o755, exist_ok=True)
+        path = maker.write(f"{name}.conf", CONFIGURATION.format(key=maker.path("host"), more=more, password=password))
         self.words, self.server = [SSHD, "-i", "-f", path, "-E", f"{path}.log"], socket.create_server((ADDRESS, 0))
         self.port = self.server.getsockname()[1]
         threading.Thread(target=self.serve, daemon=True).start()
@@ -65,14 +70,25 @@ class Host:
 
 def shown_of(maker):
     """Hosts by what they show: the key, or it and a certificate of it."""
-    if os.geteuid() == 0:
-        os.makedirs("/run/sshd", mode=0o755, exist_ok=True)
     yield "key", Host(maker, "key", "")
     for name, words in CERTIFICATES.items():
         line = maker.certificate("authority", "host", *words)
         path = maker.write(f"{name}-host.pub", f"{line}\n")
         yield name, Host(maker, name, f"HostCertificate {path}")
     os.remove(maker.path("host-cert.pub"))
+
+
+def check_by_sshd(count, servers):
+    """A real sshd with the same files lets in at the same logins."""
+    path = servers.maker.path
+    more = f"AuthorizedKeysFile {path('keys')}\nTrustedUserCAKeys {path('authority.pub')}\nPermitRootLogin yes\nKbdInteractiveAuthentication no"
+    sshd = Host(servers.maker, "sshd", more, "no")
+    for login in LOGINS:
+        # who runs this is the one user that there is
+        if login.user == USER:
+            found, said = servers.login(sshd.port, replace(login, user=getpass.getuser()))
+            count.check(f"sshd: {login.name}", (found is not None) == (login.wanted is not None), found, said)
+    sshd.close()
 
 
 def ssh_trusts(port, known, revoked):

@@ -300,7 +300,11 @@ func LogIn(
 		return Grant{}, Refused{Status: ErrMemory}
 	}
 	// also where nothing is asked: this says why, and by which line
-	return grantOf(&asked, ticket, answers)
+	grant, refused := grantOf(&asked, ticket, answers)
+	if err != nil && refused == nil { // never, as is proved
+		return Grant{}, Refused{Status: err.(Status)}
+	}
+	return grant, refused
 }
 
 // MayOffer gives nil exactly if what is offered lets in whoever signs with it: for the query
