@@ -14,6 +14,7 @@ from .made import MIDDLE
 from .memory_calls import question_of
 from .newer_calls import check_newer
 from .publickey import REQUEST, TRANSPORT, Login
+from .publickey_calls import check_publickeys
 from .revocation_calls import EMPTY, check_revocations
 from .security_key_calls import check_signatures
 from .signer_calls import check_signers
@@ -135,6 +136,7 @@ def check_calls(judge, is_short=False):
     check_entry_calls(judge)
     check_users(judge)
     check_user_keys(judge)
+    check_publickeys(judge)
     check_hosts(judge)
     check_userauths(judge)
     check_signers(judge)

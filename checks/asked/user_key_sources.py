@@ -1,5 +1,5 @@
-"""Builds a program of OpenSSH's own code for authorized_keys, from the sources of Debian's package in a suite, for
-checks/user-keys."""
+"""Builds programs of OpenSSH's own code, from the sources of Debian's package in a suite: for authorized_keys, for checks/user-keys,
+and for the whole method publickey, for checks/publickey."""
 import os
 import subprocess
 
@@ -11,17 +11,17 @@ OBJECTS = ["auth-options.o", "auth2-pubkeyfile.o"]
 LIBRARIES = ["libssh.a", "openbsd-compat/libopenbsd-compat.a"]
 
 
-def built(folder, suite):
-    """The program, and the version of the sources."""
+def built(folder, suite, name="openssh_user_keys"):
+    """The program of that name in this folder, and the version of the sources."""
     unpacked, version = sources(folder, "openssh", suite)
     how = {"cwd": unpacked, "stdout": subprocess.DEVNULL, "stderr": subprocess.DEVNULL, "check": True}
     # Debian's patches touch configure.ac, and leave configure as it is
-    for name in ("configure", "config.h.in"):
-        os.utime(unpacked + name)
+    for file in ("configure", "config.h.in"):
+        os.utime(unpacked + file)
     subprocess.run(["./configure", "-q", "CFLAGS=-O1 -w"], **how)
     subprocess.run(["make", "-s", "-j2", *LIBRARIES, *OBJECTS], **how)
-    program = f"{folder}/openssh_user_keys"
-    words = ["cc", "-w", "-DHAVE_CONFIG_H", "-I.", "-o", program, f"{ROOT}/checks/asked/openssh_user_keys.c", *OBJECTS]
+    program = f"{folder}/{name}"
+    words = ["cc", "-w", "-DHAVE_CONFIG_H", "-I.", "-o", program, f"{ROOT}/checks/asked/{name}.c", *OBJECTS]
     # the first stands on the second, and the other way round
     subprocess.run([*words, *LIBRARIES, LIBRARIES[0], "-lcrypto", "-lz"], **how)
     return program, version

@@ -6,7 +6,7 @@ from lib.crates import crates_of
 from lib.harness import ROOT
 
 # what tells old names, is OpenSSH's own, or is written by bindings/library
-APART = re.compile(r"CHANGELOG\.md|include/rafendilo_0_2\.h|checks/asked/(clash\.py|openssh_\w+\.c)|checks/lib/old_names\.py|.*\.S")
+APART = re.compile(r"CHANGELOG\.md|include/rafendilo_0_2\.h|checks/asked/(clash\.py|openssh_\w+\.[ch])|checks/lib/old_names\.py|.*\.S")
 PATTERNS = {
     "a name of C": r"\bSSHKEY_[A-Z]|\bJUDGE_[A-Z]|\bsshkey\.(?:h|pc|map)\b|\blibsshkey(?!_c\b)",
     # two lemmas speak of a function that is called judge

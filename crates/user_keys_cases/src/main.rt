@@ -1,17 +1,24 @@
-//! Asks `user_keys` whom a text lets in, line by line, for checks/user-keys.
+//! Asks `user_keys` whom a text lets in, for checks/user-keys, and `publickey_login` who logs in, for
+//! checks/publickey, line by line.
 //!
 //! A line is a question and what it is about, with a tab between; its answer is written on a line.
 //! Comments and empty lines are written as they are. The file `stdin` says what the words are.
 #![tactic(auto)]
 
 mod ask;
+mod publickey;
+mod requests;
 mod shown;
+mod told;
+mod verdicts;
 mod verified;
 mod words;
 
 use ask::ask;
+use publickey::decide;
 use shown::show;
 use std::io::{self, BufRead, BufReader, Write};
+use verdicts::show_verdict;
 
 fn main(rt: HostRuntime) -> io::Result<()> {
     let alloc = rt.alloc();
@@ -20,6 +27,13 @@ fn main(rt: HostRuntime) -> io::Result<()> {
         let line = line?;
         if line.is_empty() || line.starts_with('#') {
             writeln!(output, "{line}")?;
+            continue;
+        }
+        if line.starts_with("publickey\t") {
+            match decide(alloc, &line) {
+                Ok(verdict) => show_verdict(&mut output, &verdict)?,
+                Err(error) => writeln!(output, "{error}")?,
+            }
             continue;
         }
         match ask(alloc, &line) {

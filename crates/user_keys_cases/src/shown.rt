@@ -9,6 +9,7 @@ use user_keys::{Certified, Reason, UserGrant, UserRefusal};
 pub(crate) fn show<W: Write>(output: &mut W, admission: &Admission) -> io::Result<()> {
     match admission {
         Ok(grant) => {
+            write!(output, "{}", grant.line)?;
             show_grant(output, grant)?;
             writeln!(output)
         }
@@ -16,9 +17,10 @@ pub(crate) fn show<W: Write>(output: &mut W, admission: &Admission) -> io::Resul
     }
 }
 
-fn show_grant<W: Write>(output: &mut W, grant: &UserGrant) -> io::Result<()> {
+/// Writes what a login is bound to, without the line that lets it in.
+pub(crate) fn show_grant<W: Write>(output: &mut W, grant: &UserGrant) -> io::Result<()> {
     let terms = &grant.terms;
-    write!(output, "{} command=", grant.line)?;
+    write!(output, " command=")?;
     if let Some(command) = &terms.command {
         write!(output, "x")?;
         show_text(output, command)?;
@@ -112,7 +114,8 @@ fn show_refusal<W: Write>(output: &mut W, refusal: &UserRefusal) -> io::Result<(
     }
 }
 
-fn why(reason: Reason) -> &'static str {
+/// Why a line refuses.
+pub(crate) fn why(reason: Reason) -> &'static str {
     match reason {
         Reason::Expired => "expired",
         Reason::MisplacedOption => "misplaced option",

@@ -61,7 +61,7 @@ impl Words {
 }
 
 /// The name of a host; an empty word where none was found.
-fn name(alloc: Global, word: &str) -> Result<Option<String>> {
+pub(crate) fn name(alloc: Global, word: &str) -> Result<Option<String>> {
     if word.is_empty() {
         return Ok(None);
     }
@@ -78,7 +78,7 @@ pub(crate) fn bytes(alloc: Global, digits: &str) -> Result<Vec<u8>> {
 }
 
 /// The text that the digits spell.
-fn text(alloc: Global, digits: &str) -> Result<String> {
+pub(crate) fn text(alloc: Global, digits: &str) -> Result<String> {
     match String::from_utf8(bytes(alloc, digits)?) {
         Ok(text) => Ok(text),
         Err(_) => Err(NO_LINE),
