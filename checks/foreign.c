@@ -399,6 +399,8 @@ static const struct {
     {"addresses", ask_addresses, "check_source_address", 3},
     {"time", ask_time, "read_time", 1},
     {"host-and-port", ask_host_and_port, "host_and_port", 1},
+    {"armour", ask_written, "read_armour", 1},
+    {"random-art", ask_written, "random_art", 2},
     {"signer", ask_number, "check_signer", 5},
     {"unrevoked-key-by-krl", ask_number, "check_unrevoked_key_by_krl", 2},
     {"unrevoked-certificate-by-krl", ask_number, "check_unrevoked_certificate_by_krl", 2},

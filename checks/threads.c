@@ -170,7 +170,7 @@ static void ask_signature(asked *it, uint64_t now, raf_authorities by, raf_spans
   raf_signers signers = {file_of(it, "signers"), "alice", now, revoked};
   FILE *file = opened(it, "message");
   uint8_t bytes[64];
-  note(it, raf_read_armour(armour, &signature));
+  note(it, raf_read_armour_blob(armour, &signature));
   raf_blob digest = {bytes, raf_sshsig_digest_length(signature)}, again = {NULL, 0};
   note(it, raf_digest_stream(file, digest.bytes, digest.length));
   note_bytes(it, digest.bytes, digest.length);

@@ -11,7 +11,6 @@ by name, and - is no name that a client may choose: who logs users in calls `raf
 """
 from __future__ import annotations
 
-import base64
 import os
 import sys
 import time
@@ -85,25 +84,9 @@ def certificates(authorities: str, principal: str, second: str | None = None) ->
     return all(found)
 
 
-def unarmoured(text: bytes) -> bytes:
-    """The bytes of an SSH signature in its armour. Raises ValueError where there is none."""
-    parts = text.split(b"-----")
-    if parts[:2] + parts[3:4] != [b"", b"BEGIN SSH SIGNATURE", b"END SSH SIGNATURE"]:
-        raise ValueError("no SSH signature was given")
-    # the two stand on lines of their own
-    if not (parts[2].startswith((b"\n", b"\r\n")) and parts[2].endswith(b"\n")):
-        raise ValueError("no SSH signature was given")
-    # bytes are split at the white space that is ASCII, a text also at other, which ssh-keygen does not take
-    digits = b"".join(parts[2].split())
-    blob = base64.b64decode(digits, validate=True)
-    if base64.b64encode(blob) != digits:  # bits stand after the last byte
-        raise ValueError("no SSH signature was given")
-    return blob
-
-
 def signature(signers: str, namespace: str, file: str) -> bool:
     """Whether it is valid."""
-    given, by = unarmoured(sys.stdin.buffer.read()), fingerprints(signers)
+    given, by = rafendilo.read_armour(sys.stdin.buffer.read()), fingerprints(signers)
     with open(file, "rb") as opened:
         message = opened.read()
     return is_valid(rafendilo.check_sshsig, given, namespace, message, by)

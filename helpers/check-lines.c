@@ -26,6 +26,7 @@ report check_report(const check_request *asked, size_t number) {
                   .unix_timestamp = asked->second,
                   .is_login = asked->mode == CHECK_LOGIN,
                   .is_verdict = asked->mode != CHECK_SHOW && asked->mode != CHECK_FINGERPRINT,
+                  .has_art = asked->given[CHECK_ART] != NULL,
                   .is_json = asked->given[CHECK_JSON] != NULL};
 }
 

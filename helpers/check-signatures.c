@@ -147,7 +147,7 @@ static int verify_file(raf_blob signature, FILE *file, const check_request *aske
 
 int check_signature(raf_blob text, FILE *file, const check_request *asked) {
   raf_blob signature = {NULL, 0};
-  uint32_t answer = raf_read_armour(text, &signature);
+  uint32_t answer = raf_read_armour_blob(text, &signature);
   if (answer != RAF_DONE) {
     program_complain("%s: %s", asked->given[CHECK_SIGNATURE],
                      answer == RAF_MEMORY ? raf_status_meaning(answer) : "no SSH signature");

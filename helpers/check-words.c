@@ -20,7 +20,7 @@
 #define SIGNER                                                                           \
   "sshkey-check verify -f SIGNERS -I IDENTITY -n NAMESPACE -s SIGNATURE [-r REVOKED].. " \
   "[--at TIME] [--json] [FILE]"
-#define FINGERPRINT "sshkey-check fingerprint [--json] [FILE].."
+#define FINGERPRINT "sshkey-check fingerprint [--art] [--json] [FILE].."
 #define REVOCATIONS "sshkey-check revoked [--json] [FILE].."
 #define FIND "sshkey-check -Y find-principals -f SIGNERS -s SIGNATURE [-O verify-time=TIME]"
 #define KEYGEN                                                                           \
@@ -45,9 +45,9 @@ const char check_help[] =
     "wrote. The fifth says whether the signature of\n"
     "ssh-keygen -Y sign is one of FILE in the namespace by a key of the file KEYS, and the sixth\n"
     "whether it is the identity's by the file of allowed signers, as ssh-keygen -Y verify does.\n"
-    "The seventh shows the SHA-256 fingerprint of each key. The eighth says whether what is\n"
-    "revoked can be read. The last are ssh-keygen's own words, for git's gpg.ssh.program. With\n"
-    "--json each answer is an object in a line.\n"
+    "The seventh shows the SHA-256 fingerprint of each key, and with --art draws it. The eighth\n"
+    "says whether what is revoked can be read. The last are ssh-keygen's own words, for git's\n"
+    "gpg.ssh.program. With --json each answer is an object in a line.\n"
     "Status 0: all is shown, or valid; 1: not all, as standard error says; 2: it can't tell.\n";
 
 /* The options as they are written, and what follows them, if anything does. */
@@ -72,6 +72,7 @@ static const struct {
                [CHECK_SIGNATURE] = {"--signature", "SIGNATURE", 's'},
                [CHECK_REVOKED] = {"--revoked", "FILE", 'r'},
                [CHECK_AT] = {"--at", "TIME"},
+               [CHECK_ART] = {"--art", NULL},
                [CHECK_JSON] = {"--json", NULL},
                [CHECK_TIME] = {"--option", "verify-time=TIME", 'O'}};
 
@@ -104,7 +105,7 @@ static const struct {
                       ONE(REVOKED) | ONE(TIME), KEYGEN},
     [CHECK_UNKNOWN] = {"check-novalidate", OF_SIGNATURES, ONE(TIME), UNKNOWN},
     [CHECK_REVOCATIONS] = {"revoked", 0, ONE(JSON), REVOCATIONS},
-    [CHECK_FINGERPRINT] = {"fingerprint", 0, ONE(JSON), FINGERPRINT}};
+    [CHECK_FINGERPRINT] = {"fingerprint", 0, ONE(ART) | ONE(JSON), FINGERPRINT}};
 
 /* ---- what the words give */
 
@@ -248,7 +249,7 @@ static bool has_no_other(const check_request *asked) {
   for (int at = 0; at < CHECK_OPTIONS; at++) {
     if (!asked->given[at] || takes & 1u << at) continue;
     if (asked->mode == CHECK_SHOW)
-      program_complain("%s wants a question: --ca, --host, login or verify", options[at].name);
+      program_complain("%s wants a question: --ca, --host, login, verify or fingerprint", options[at].name);
     else
       program_complain("%s takes no %s", name_of(asked), options[at].name);
     return false;

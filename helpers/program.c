@@ -7,13 +7,21 @@
 #include <stdlib.h>
 #include <string.h>
 
+#include "text.h"
+
+/* of what is said; paths are shorter */
+#define WORDS 8192
+
 void program_complain(const char *format, ...) {
+  char said[WORDS];
   va_list words;
   va_start(words, format);
-  fprintf(stderr, "%s: ", program_name);
-  vfprintf(stderr, format, words);
-  fputc('\n', stderr);
+  vsnprintf(said, sizeof said, format, words);
   va_end(words);
+  fprintf(stderr, "%s: ", program_name);
+  /* paths and names are those of others, too */
+  text_complain((raf_span){(const uint8_t *)said, strlen(said)});
+  fputc('\n', stderr);
 }
 
 bool program_is_written(void) {

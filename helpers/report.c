@@ -355,15 +355,29 @@ uint32_t report_certificate(const report *of, uint32_t said) {
   return RAF_DONE;
 }
 
-uint32_t report_key(const report *of, raf_span key, raf_span comment) {
-  if (!of->is_json) return show_key(key, of->certificate.length > 0, comment);
-  show_fingerprint fingerprint;
-  uint32_t answer = show_read_fingerprint(key, &fingerprint);
+/* Shows the random art of a key, where it is asked for. */
+static uint32_t show_drawn(const report *of, raf_span key) {
+  show_art art;
+  if (!of->has_art) return RAF_DONE;
+  uint32_t answer = show_read_art(key, of->certificate.length > 0, &art);
   if (answer != RAF_DONE) return answer;
+  if (of->is_json)
+    json_text("random_art", (raf_span){art.text, art.length});
+  else
+    printf("%.*s\n", (int)art.length, (const char *)art.text);
+  return answer;
+}
+
+uint32_t report_key(const report *of, raf_span key, raf_span comment) {
+  show_fingerprint fingerprint;
+  uint32_t answer = of->is_json ? show_read_fingerprint(key, &fingerprint)
+                                : show_key(key, of->certificate.length > 0, comment);
+  if (answer != RAF_DONE || !of->is_json) return answer == RAF_DONE ? show_drawn(of, key) : answer;
   begin(of, "shown");
   json_text("type", text_first_string(of->certificate.length ? raf_blob_span(of->certificate) : key));
   json_text("public_key", show_fingerprint_of(&fingerprint));
   json_text("comment", comment);
+  answer = show_drawn(of, key);
   json_end();
-  return RAF_DONE;
+  return answer;
 }

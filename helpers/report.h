@@ -24,6 +24,7 @@ typedef struct {
   bool is_key;     /* a key stands there, where a certificate is wanted */
   bool is_login;   /* of whoever signs: nobody has */
   bool is_verdict; /* `refused` is said of what is */
+  bool has_art;    /* a key is drawn, too */
   bool is_json;
 } report;
 

@@ -12,26 +12,53 @@
 
 /* ---- keys */
 
-/* Prints the kind of a key, as ssh-keygen names it. */
-static void print_kind(raf_span key) {
-  static const char *const kinds[][2] = {
-      {"ssh-ed25519", "ED25519"},
-      {"ssh-rsa", "RSA"},
-      {"rsa-sha2-256", "RSA"},
-      {"rsa-sha2-512", "RSA"},
-      {"ssh-dss", "DSA"},
-      {"ecdsa-sha2-nistp256", "ECDSA"},
-      {"ecdsa-sha2-nistp384", "ECDSA"},
-      {"ecdsa-sha2-nistp521", "ECDSA"},
-      {"sk-ssh-ed25519@openssh.com", "ED25519-SK"},
-      {"sk-ecdsa-sha2-nistp256@openssh.com", "ECDSA-SK"}};
+/* What ssh-keygen calls a key that begins with that name, and how many bits it has: always so many,
+ * or those of its string of that number. */
+typedef struct {
+  const char *name, *shown;
+  size_t bits;
+  int counted;
+} key_kind;
+
+/* The kind of a key; null for one under a name of its own. */
+static const key_kind *kind_of(raf_span key) {
+  static const key_kind kinds[] = {{"ssh-ed25519", "ED25519", 256, 0},
+                                   {"ssh-rsa", "RSA", 0, 2},
+                                   {"rsa-sha2-256", "RSA", 0, 2},
+                                   {"rsa-sha2-512", "RSA", 0, 2},
+                                   {"ssh-dss", "DSA", 0, 1},
+                                   {"ecdsa-sha2-nistp256", "ECDSA", 256, 0},
+                                   {"ecdsa-sha2-nistp384", "ECDSA", 384, 0},
+                                   {"ecdsa-sha2-nistp521", "ECDSA", 521, 0},
+                                   {"sk-ssh-ed25519@openssh.com", "ED25519-SK", 256, 0},
+                                   {"sk-ecdsa-sha2-nistp256@openssh.com", "ECDSA-SK", 256, 0}};
   raf_span name = text_first_string(key);
   size_t at = 0, count = sizeof kinds / sizeof *kinds;
-  while (at < count && !text_is(name, kinds[at][0])) at++;
-  if (at < count)
-    printf("%s", kinds[at][1]);
+  while (at < count && !text_is(name, kinds[at].name)) at++;
+  return at < count ? &kinds[at] : NULL;
+}
+
+/* How many bits a key of that kind has. */
+static size_t bits_of(raf_span key, const key_kind *kind) {
+  raf_part part = {0, 0};
+  if (kind->bits) return kind->bits;
+  for (int at = 0; at <= kind->counted; at++)
+    if (raf_next_string(key.bytes, key.length, part.start + part.length, &part) != RAF_DONE)
+      return 0;
+  const uint8_t *bytes = key.bytes + part.start, *end = bytes + part.length;
+  while (bytes < end && !*bytes) bytes++;
+  size_t bits = 8 * (size_t)(end - bytes);
+  for (unsigned first = bits ? *bytes : 0x80; first < 0x80; first <<= 1) bits--;
+  return bits;
+}
+
+/* Prints the kind of a key, as ssh-keygen names it. */
+static void print_kind(raf_span key) {
+  const key_kind *kind = kind_of(key);
+  if (kind)
+    printf("%s", kind->shown);
   else
-    text_print(name);
+    text_print(text_first_string(key));
 }
 
 uint32_t show_read_fingerprint(raf_span key, show_fingerprint *answer) {
@@ -54,8 +81,10 @@ uint32_t show_named_key(raf_span key, const char *ending) {
 
 uint32_t show_key(raf_span key, bool is_certified, raf_span comment) {
   show_fingerprint fingerprint;
+  const key_kind *kind = kind_of(key);
   uint32_t answer = show_read_fingerprint(key, &fingerprint);
   if (answer != RAF_DONE) return answer;
+  if (kind) printf("%zu ", bits_of(key, kind));
   text_print(show_fingerprint_of(&fingerprint));
   putchar(' ');
   if (comment.length)
@@ -66,6 +95,23 @@ uint32_t show_key(raf_span key, bool is_certified, raf_span comment) {
   print_kind(key);
   puts(is_certified ? "-CERT)" : ")");
   return RAF_DONE;
+}
+
+uint32_t show_read_art(raf_span key, bool is_certified, show_art *answer) {
+  raf_sha256 digest = {{0}};
+  const key_kind *kind = kind_of(key);
+  const char *shown = kind ? kind->shown : "", *ending = is_certified ? "-CERT" : "";
+  char header[SHOW_ART_HEADER + 1];
+  memset(answer, 0, sizeof *answer);
+  uint32_t status = raf_fingerprint(key.bytes, key.length, &digest);
+  if (status != RAF_DONE) return status;
+  /* as ssh-keygen: one that is much too long has no number, and one that is a little is cut off */
+  int length = snprintf(header, sizeof header, "[%s%s %zu]", shown, ending,
+                        kind ? bits_of(key, kind) : 0);
+  if (!kind || length > SHOW_ART_HEADER + 1)
+    snprintf(header, sizeof header, "[%s%s]", shown, ending);
+  return raf_random_art(&digest, (const uint8_t *)header, strlen(header), answer->text,
+                        sizeof answer->text, &answer->length);
 }
 
 /* The key that is certified, which does not stand whole in the certificate. */

@@ -18,10 +18,18 @@ static inline raf_span show_fingerprint_of(const show_fingerprint *it) {
   return (raf_span){it->text, sizeof it->text};
 }
 
+/* The random art of a key, likewise. Its header is ssh-keygen's, of at most so many characters. */
+#define SHOW_ART_HEADER 16
+typedef struct {
+  uint8_t text[RAF_RANDOM_ART_TEXT + SHOW_ART_HEADER];
+  size_t length;
+} show_art;
+uint32_t show_read_art(raf_span key, bool is_certified, show_art *answer);
+
 /* Prints the kind of a key, that ending, and its fingerprint: likewise. */
 uint32_t show_named_key(raf_span key, const char *ending);
 
-/* Prints the fingerprint of a key, its comment and its kind, as one line: likewise. */
+/* Prints the bits and the fingerprint of a key, its comment and its kind, as one line: likewise. */
 uint32_t show_key(raf_span key, bool is_certified, raf_span comment);
 
 /* Prints what a certificate says, if it is one: RAF_DONE, or why it is none. It is shown as

@@ -14,7 +14,8 @@ _sshkey_check() {
     login) words="--authorized-keys --authorities --principals --user-authorities --command-keys"
            words="$words --from --host --at --revoked --json" ;;
     verify) words="-k -f -I -n -s -r --at --json" ;;
-    fingerprint|revoked) words="--json" ;;
+    fingerprint) words="--art --json" ;;
+    revoked) words="--json" ;;
     -Y) words="-f -I -n -s -r -O" ;;
     *) words="--ca --user --from --host --port --known-hosts --at --revoked --json --help --version"
        [ "$COMP_CWORD" != 1 ] || words="login verify fingerprint revoked -Y $words" ;;

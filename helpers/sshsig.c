@@ -14,33 +14,17 @@ enum { HASH = 3, SIGNATURE = 4 };
 
 /* ---- armour */
 
-/* The place behind a line end, LF or CR LF, that stands there; or else the same place. */
-static size_t line_after(raf_blob text, size_t at) {
-  size_t end = at;
-  if (end < text.length && text.bytes[end] == '\r') end++;
-  return end < text.length && text.bytes[end] == '\n' ? end + 1 : at;
-}
-
-uint32_t raf_read_armour(raf_blob text, raf_blob *answer) {
-  static const char front[] = "-----BEGIN SSH SIGNATURE-----";
-  static const char end[] = "\n-----END SSH SIGNATURE-----";
-  size_t length = sizeof front - 1, after = sizeof end - 1;
-  if (text.length < length || memcmp(text.bytes, front, length)) return RAF_BASE64;
-  size_t begin = line_after(text, length), at = begin;
-  while (at < text.length && text.bytes[at] != '-') at++;
-  if (begin == length) return RAF_BASE64;
-  size_t last = at - 1; /* where the line before the end has its line end: it may be the first line */
-  if (text.length - last < after || memcmp(text.bytes + last, end, after)) return RAF_BASE64;
-  raf_blob made = {malloc(at), last > begin ? last - begin : 0};
+uint32_t raf_read_armour_blob(raf_blob text, raf_blob *answer) {
+  /* a buffer as long as the text is enough, and one of no bytes may be null */
+  raf_blob made = {calloc(1, text.length + 1), 0};
   if (!made.bytes) return RAF_MEMORY;
-  memcpy(made.bytes, text.bytes + begin, made.length);
-  made.length = raf_decode_base64(made.bytes, made.length);
-  if (made.length == SIZE_MAX) {
+  uint32_t status = raf_read_armour(raf_bytes(text.bytes), text.length, made.bytes, text.length,
+                                    &made.length);
+  if (status == RAF_DONE)
+    *answer = made;
+  else
     free(made.bytes);
-    return RAF_BASE64;
-  }
-  *answer = made;
-  return RAF_DONE;
+  return status;
 }
 
 /* ---- what it says */

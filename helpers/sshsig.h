@@ -9,10 +9,8 @@
 extern "C" {
 #endif
 
-/* The bytes of the signature in an armour: RAF_DONE, RAF_BASE64 where it is none, or
- * RAF_MEMORY. Its lines end with LF or CR LF, and its first and its last have nothing else. What
- * follows the armour is not looked at. */
-uint32_t raf_read_armour(raf_blob text, raf_blob *answer);
+/* The bytes of the signature in an armour, of malloc: what raf_read_armour answers. */
+uint32_t raf_read_armour_blob(raf_blob text, raf_blob *answer);
 
 /* How long the digest of a message is by the hash that the signature names: 32 by SHA-256 and 64 by
  * SHA-512; 0 where it names none. */

@@ -54,18 +54,28 @@ static raf_span after(raf_span text, size_t length) {
   return (raf_span){text.bytes + length, text.length - length};
 }
 
-void text_print(raf_span text) {
+/* Writes a text with three octal digits for each byte of what may not stand in a line, and of that
+ * other character. */
+static void write_text(FILE *to, raf_span text, uint32_t other) {
   while (text.length) {
     uint32_t character = 0;
     size_t length = read_character(text, &character), printed = length ? length : 1;
-    bool is_plain = length && !is_mark(character) && character != '\\';
+    bool is_plain = length && !is_mark(character) && character != other;
     for (size_t at = 0; at < printed; at++)
       if (is_plain)
-        putchar(text.bytes[at]);
+        putc(text.bytes[at], to);
       else
-        printf("\\%03o", text.bytes[at]);
+        fprintf(to, "\\%03o", text.bytes[at]);
     text = after(text, printed);
   }
+}
+
+void text_print(raf_span text) {
+  write_text(stdout, text, '\\');
+}
+
+void text_complain(raf_span text) {
+  write_text(stderr, text, 0);
 }
 
 /* ---- JSON */

@@ -15,6 +15,9 @@ bool text_is(raf_span it, const char *text);
  * a line: a control character, a mark that turns or breaks a text, a backslash, or no UTF-8. */
 void text_print(raf_span text);
 
+/* The same to standard error, but for backslashes, which may stand there for such a byte. */
+void text_complain(raf_span text);
+
 /* Begins an object, with the path of a file, and ends it. */
 void json_begin(const char *path);
 void json_end(void);

@@ -8,18 +8,18 @@
 
 /* ---- who logs in */
 
-/* That span, at no null pointer. */
+/* That span, at no null pointer where it has no bytes. */
 static raf_span span_of(raf_span it) {
-  return (raf_span){raf_bytes(it.bytes), it.length};
+  return it.length ? it : (raf_span){raf_bytes(it.bytes), 0};
 }
 
 /* Those texts, likewise. */
 static raf_texts texts_of(raf_texts it) {
   static const raf_text none = {{(const uint8_t *)"", 0}, 1};
-  return it.items ? it : (raf_texts){&none, it.count};
+  return it.count ? it : (raf_texts){&none, 0};
 }
 
-/* That login, in which no pointer is null. */
+/* That login, in which no pointer is null beside the length 0. */
 static raf_login login_of(const raf_login *it) {
   static const raf_sha256 no_key = {{0}};
   static const raf_span no_file = {(const uint8_t *)"", 0};
@@ -32,8 +32,8 @@ static raf_login login_of(const raf_login *it) {
   login.trusted.authorized_keys = texts_of(it->trusted.authorized_keys);
   login.trusted.principals = texts_of(it->trusted.principals);
   login.trusted.command_keys = texts_of(it->trusted.command_keys);
-  if (!login.trusted.authorities.items) login.trusted.authorities.items = &no_key;
-  if (!login.trusted.revoked.items) login.trusted.revoked.items = &no_file;
+  if (!login.trusted.authorities.count) login.trusted.authorities.items = &no_key;
+  if (!login.trusted.revoked.count) login.trusted.revoked.items = &no_file;
   login.place.client = span_of(it->place.client);
   login.place.host = span_of(it->place.host);
   return login;

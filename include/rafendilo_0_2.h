@@ -194,7 +194,7 @@
 #define judge_meaning RAF_ERROR("judge_meaning: it is raf_status_meaning") raf_status_meaning
 #define judge_read_sha1 RAF_ERROR("judge_read_sha1: it is raf_read_sha1_line") raf_read_sha1_line
 #define judge_decode_base64 RAF_ERROR("judge_decode_base64: it is raf_decode_base64") raf_decode_base64
-#define judge_read_armour RAF_ERROR("judge_read_armour: it is raf_read_armour") raf_read_armour
+#define judge_read_armour RAF_ERROR("judge_read_armour: it is raf_read_armour_blob") raf_read_armour_blob
 #define judge_digest_length RAF_ERROR("judge_digest_length: it is raf_sshsig_digest_length") raf_sshsig_digest_length
 #define judge_sshsig_of_digest RAF_ERROR("judge_sshsig_of_digest: it is raf_verify_sshsig_of_digest") raf_verify_sshsig_of_digest
 #define judge_signers RAF_ERROR("judge_signers: it is raf_signers") raf_signers

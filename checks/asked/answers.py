@@ -54,6 +54,8 @@ them: FILES, which are revocation files, and TEXTS), numbers and names:
     addresses LIST ADDRESS HOST                              NUMBER NUMBER: of the list as source-address, and as from
     time TEXT                                                0 FIRST LAST
     host-and-port TEXT                                       0 HOST PORT, 0 where none stands there
+    armour TEXT                                              0 BYTES
+    random-art DIGEST HEADER                                 0 TEXT
 
 and a package also
 
@@ -279,6 +281,12 @@ class Answers(VerdictAnswers):
 
     def time(self, text):
         return ["0", *map(str, self.rafendilo.read_time(data_of(text)))]
+
+    def armour(self, text):
+        return ["0", word(self.rafendilo.read_armour(data_of(text)))]
+
+    def random_art(self, digest, header):
+        return ["0", word(self.rafendilo.random_art(data_of(digest), data_of(header)).encode())]
 
     def host_and_port(self, text):
         host, port = self.rafendilo.host_and_port(data_of(text))

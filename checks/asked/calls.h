@@ -120,7 +120,9 @@ typedef struct {
   CALL(check_source_address, BYTES(0), BYTES(1))                                                 \
   CALL(check_from, BYTES(0), BYTES(2), BYTES(1))                                                 \
   CALL(read_time, BYTES(0), &it->time)                                                           \
-  CALL(host_and_port, BYTES(0), &it->destination)
+  CALL(host_and_port, BYTES(0), &it->destination)                                                \
+  CALL(read_armour, BYTES(0), ROOM, &it->length)                                                 \
+  CALL(random_art, (const raf_sha256 *)it->spans[0].bytes, BYTES(1), ROOM, &it->length)
 
 static uint32_t call_by_name(given_call *it, const given_structs *given) {
 #define CALL(call, ...)                                                                          \

@@ -18,6 +18,7 @@ from .publickey_calls import check_publickeys
 from .revocation_calls import EMPTY, check_revocations
 from .security_key_calls import check_signatures
 from .signer_calls import check_signers
+from .text_calls import check_texts
 from .time_calls import check_times
 from .trust_calls import check_trust
 from .user_key_calls import check_user_keys
@@ -43,7 +44,7 @@ OF_KINDS = {
     "ssh-signature": [f"sshsig {{}} {FILE} {b'message'.hex()}", "normal sshsig {}", f"signer - {FILE} {FILE} {{}} - {MIDDLE} 1"],
 }  # fmt: skip
 OF_OTHERS = [
-    "normal signature {}", "lines {}", "entry {}", "host {}", "options {}", "line {}", "unrevoked-key-by-krl {} -", "unrevoked-key {} -", "other-key-line {}", "time {}",
+    "normal signature {}", "lines {}", "entry {}", "host {}", "options {}", "line {}", "unrevoked-key-by-krl {} -", "unrevoked-key {} -", "other-key-line {}", "time {}", "armour {}",
     "may-verify {}", f"for-key {{}} {KEY}", f"for-key {KEY} {{}}", f"for-certificate {KEY} {{}}",
     f"unreadable-line {{}} {HOST} 22", f"host-key {{}} {HOST} {KEY} {NONE} 22 0", SIGNED,
 ]  # fmt: skip
@@ -143,5 +144,6 @@ def check_calls(judge, is_short=False):
     check_addresses(judge)
     check_times(judge)
     check_destinations(judge)
+    check_texts(judge)
     check_newer(judge)
     check_verified(judge)

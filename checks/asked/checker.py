@@ -378,7 +378,7 @@ def check_hostile_words(count, built, made):
             wrong += [] if is_sound else [(words, ran)]
         count.check(f"{name} with sanitizers, {len(asked)} hostile keys and files", not wrong, *wrong[:2])
     shown = [line_of(data) for kind, data, _ in made.hostile if kind == "certificate"]
-    for words, told in (([], r"^\(stdin\):(\d+):$"), (["--json"], r'"line":(\d+),"verdict":"shown"'), (["fingerprint"], "^SHA256:.*")):
+    for words, told in (([], r"^\(stdin\):(\d+):$"), (["--json"], r'"line":(\d+),"verdict":"shown"'), (["fingerprint"], r"^(?:\d+ )?SHA256:.*")):
         ran = run([f"{built.sanitized}/sshkey-check", *words], input="".join(f"{it}\n" for it in shown))
         # what is shown and not read is both
         found = {it if it.isdigit() else at for at, it in enumerate(re.findall(told, ran.stdout, re.M))}

@@ -20,7 +20,7 @@ LOGIN = (
 )
 VERIFY = "verify -k KEYS -n NAMESPACE -s SIGNATURE [--json] [FILE]"
 SIGNER = "verify -f SIGNERS -I IDENTITY -n NAMESPACE -s SIGNATURE [-r REVOKED].. [--at TIME] [--json] [FILE]"
-SHOW, FINGERPRINT = "[--json] [FILE]", "fingerprint [--json] [FILE].."
+SHOW, FINGERPRINT = "[--json] [FILE]", "fingerprint [--art] [--json] [FILE].."
 FIND = "-Y find-principals -f SIGNERS -s SIGNATURE [-O verify-time=TIME]"
 KEYGEN = "-Y verify -f SIGNERS -I IDENTITY -n NAMESPACE -s SIGNATURE [-r REVOKED].. [-O verify-time=TIME]"
 UNKNOWN = "-Y check-novalidate -n NAMESPACE -s SIGNATURE [-O verify-time=TIME]"
@@ -32,7 +32,7 @@ SLIPS = [
     ("--ca", "--ca wants FILE", SHOW), ("--ca a --user b --ca c", "--ca is given twice", CA), ("--ca a --user b c d", "d is a word too many", CA),
     ("--ca a --user b --keys c", "--ca takes no --keys", CA), ("--jsn id", "--jsn is no option", SHOW), ("-x id", "-x is no option", SHOW),
     ("-c a", "-c is no option", SHOW), ("-k a", "-k is no option", SHOW), ("--json=x", "--json has no value", SHOW), ("a b", "b is a word too many", SHOW),
-    ("--at 1", "--at wants a question: --ca, --host, login or verify", SHOW), ("--keys a", "--keys wants a question: --ca, --host, login or verify", SHOW),
+    ("--at 1", "--at wants a question: --ca, --host, login, verify or fingerprint", SHOW), ("--keys a", "--keys wants a question: --ca, --host, login, verify or fingerprint", SHOW),
     ("--host h", "--host wants --known-hosts FILE", HOST), ("--port 22", "--port wants --host NAME", HOST),
     ("--host h --known-hosts k --ca c", "--host takes no --ca", HOST), ("--host h --host h", "--host is given twice", HOST),
     ("login a b", "login wants --authorized-keys, --authorities, --user-authorities or --command-keys", LOGIN),
@@ -45,7 +45,7 @@ SLIPS = [
     ("verify -k a -n b", "verify wants --signature SIGNATURE", VERIFY), ("verify -k", "--keys wants KEYS", VERIFY),
     ("verify -k a -n b -s c --at 1", "verify takes no --at", VERIFY), ("verify -f a -n b -s c", "verify wants --identity IDENTITY", SIGNER),
     ("verify -I a -n b -s c", "verify wants --signers SIGNERS", SIGNER), ("verify -z", "-z is no option", VERIFY),
-    ("fingerprint --ca a b", "fingerprint takes no --ca", FINGERPRINT),
+    ("fingerprint --ca a b", "fingerprint takes no --ca", FINGERPRINT), ("--art a", "--art wants a question: --ca, --host, login, verify or fingerprint", SHOW),
     ("revoked --revoked a b", "revoked takes no --revoked", REVOKED), ("-Y find-principals -s a", "find-principals wants --signers SIGNERS", FIND), ("-Y find-principals -n a", "find-principals takes no --namespace", FIND),
     ("-Y verify -f a -I b -n c -s d e", "e is a word too many", KEYGEN), ("-Y verify -f a -I b -n c -s d --json", "verify takes no --json", KEYGEN),
     ("-Y check-novalidate -s a", "check-novalidate wants --namespace NAMESPACE", UNKNOWN), ("-Y", "-Y is no option", SHOW),
@@ -97,6 +97,7 @@ def check_wrong_files(count, programs, maker):
         ([private], UNTOLD, public), (["fingerprint", private], UNTOLD, public), (["--ca", private, "--user", "alice", shown], UNTOLD, public),
         (["login", "alice", private, *login, copy], UNTOLD, public),
         (["fingerprint", maker.path("none")], UNTOLD, f"{maker.path('none')}: No such file or directory"),
+        (["fingerprint", maker.path("none\u202e\x1b[2J\\\udcff größe")], UNTOLD, f"{maker.path('none')}\\342\\200\\256\\033[2J\\\\377 größe: No such file or directory"),
     ):  # fmt: skip
         for program in programs:
             ran = run([program, *words], input="")
@@ -122,23 +123,27 @@ def check_fingerprints(count, programs, maker):
     path = maker.path("every-key")
     with open(path, "w", encoding="latin-1") as file:
         file.write("".join(f"{it}\n" for it in lines))
-    # but for the number of bits
-    wanted = [it.split(" ", 1)[1] for it in run(["ssh-keygen", "-l", "-f", path]).stdout.splitlines()]
+    wanted, drawn = (run(["ssh-keygen", words, "-f", path]).stdout.splitlines() for words in ("-l", "-lv"))
     for program in programs:
         ran = run([program, "fingerprint", path])
         same = (ran.returncode, ran.stdout.splitlines(), ran.stderr) == (VALID, wanted, "") and len(wanted) == len(lines) - 2
         count.check(f"sshkey-check fingerprint of {len(wanted)} lines", same, *set(ran.stdout.splitlines()) ^ set(wanted), ran.stderr)
         ran = run([program, "fingerprint", maker.path("printed0.pub"), "-", maker.path("printed1.pub")], input=f"{bare}\nno key\n@revoked * {bare}\n")
-        said = ran.returncode, [it.split()[0] for it in ran.stdout.splitlines()], re.findall(r"^sshkey-check: (\S+):", ran.stderr, re.M)
-        known = [it.split()[0] for it in wanted[:2]]
+        said = ran.returncode, [it.split()[1] for it in ran.stdout.splitlines()], re.findall(r"^sshkey-check: (\S+):", ran.stderr, re.M)
+        known = [it.split()[1] for it in wanted[:2]]
         count.check("sshkey-check fingerprint of several files", said == (INVALID, [*known[:1] * 3, known[1]], ["(stdin):2"]), ran)
         ran = run([program, "fingerprint", "--json", path])
         told = [json.loads(it) for it in ran.stdout.splitlines()]
         shown = [(it["public_key"], it["line"]) for it in told]
-        numbered = [(it.split()[0], at) for it, at in zip(wanted, range(3, len(lines) + 1))]
+        numbered = [(it.split()[1], at) for it, at in zip(wanted, range(3, len(lines) + 1))]
         same = shown == numbered and told[0]["type"] == "ssh-ed25519" and told[5]["type"] == "ssh-ed25519-cert-v01@openssh.com"
         of_bytes = (told[-2]["comment"], base64.b64decode(told[-2]["comment_base64"]), told[-1]["comment"])
-        count.check("sshkey-check fingerprint --json", same and of_bytes == ("caf\ufffd", b"caf\xe9", "\x1b[2J"), ran)
+        count.check("sshkey-check fingerprint --json", same and "random_art" not in told[0] and of_bytes == ("caf\ufffd", b"caf\xe9", "\x1b[2J"), ran)
+        ran = run([program, "fingerprint", "--art", path])
+        count.check("sshkey-check fingerprint --art draws as ssh-keygen -lv", ran.returncode == VALID and ran.stdout.splitlines() == drawn and len(drawn) == 12 * len(wanted), ran)
+        ran = run([program, "fingerprint", "--art", "--json", path])
+        pictures = ["\n".join(drawn[at + 1 : at + 12]) for at in range(0, len(drawn), 12)]
+        count.check("sshkey-check fingerprint --art --json", [json.loads(it)["random_art"] for it in ran.stdout.splitlines()] == pictures, ran)
 
 
 # ---- JSON
@@ -265,7 +270,7 @@ def check_completion(count, program):
     for typed, wanted, other in (
         (["--k"], {"--known-hosts"}, "--keys"), (["lo"], {"login"}, "verify"), (["login", "--f"], {"--from"}, "--user"),
         (["login", "--a"], {"--authorized-keys", "--authorities", "--at"}, "--ca"), (["--a"], {"--at"}, "--authorized-keys"),
-        (["verify", "-"], {"-k", "-f", "-I", "-n", "-s", "-r", "--at", "--json"}, "--ca"), (["fingerprint", "--"], {"--json"}, "--ca"),
+        (["verify", "-"], {"-k", "-f", "-I", "-n", "-s", "-r", "--at", "--json"}, "--ca"), (["fingerprint", "--"], {"--art", "--json"}, "--ca"),
         (["-Y", "ver"], {"verify"}, "find-principals"), (["-Y", "verify", "-"], {"-f", "-I", "-n", "-s", "-r", "-O"}, "--ca"),
         (["--ca", f"{ROOT}/VER"], {f"{ROOT}/VERSION"}, "--user"),
     ):  # fmt: skip

@@ -64,7 +64,7 @@ def check_named(count, programs, files, maker):
     by, at = ["-f", lines["signers"], "-I", "alice", "-n", "file", "-s", signature], ["--at", str(MIDDLE)]
     questions = [
         ("a certificate", ["--ca", authority, "--user", "alice", *at, certificate]), ("a host's key", ["--host", "h", "--known-hosts", lines["hosts"], key]),
-        ("a login", ["login", lines["keys"], "alice", key, "--from", "::1"]), ("a signature", ["verify", *by]), ("ssh-keygen's words", ["-Y", "verify", *by]),
+        ("a login", ["login", "alice", key, "--authorized-keys", lines["keys"]]), ("a signature", ["verify", *by]), ("ssh-keygen's words", ["-Y", "verify", *by]),
     ]  # fmt: skip
     (_, listed, _), (_, text, _), (_, none, _), *unread = files
     cases = [(name, [path], path, place) for name, path, place in unread]

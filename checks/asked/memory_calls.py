@@ -236,6 +236,11 @@ def of_files(maker, key):
         yield "read_time", [text], [], wanted
     for text, wanted in ((b"h:22", "DONE"), (b"[::1]", "DONE"), (b"h:", "FORMAT"), (b"\xff", "TEXT")):
         yield "host_and_port", [text], [], wanted
+    armour = b"-----BEGIN SSH SIGNATURE-----\nAAAA\n-----END SSH SIGNATURE-----\n"
+    for text, wanted in ((armour, "DONE"), (armour.replace(b"AAAA", b"AAA"), "BASE64"), (armour[1:], "FORMAT"), (b"", "FORMAT")):
+        yield "read_armour", [text], [], wanted
+    for header, wanted in ((b"[ED25519 256]", "DONE"), (b"", "DONE"), (b"\xff", "TEXT")):
+        yield "random_art", [bytes(range(32)), header], [], wanted
     yield "next_line", [hashed], [0], "DONE"
     yield "next_line", [hashed], [len(hashed)], "END"
     options = b'no-pty,command="say \\"hi\\""'

@@ -34,10 +34,10 @@ import (
 
 func letIn(rafendilo.Grant) {{}}
 
-func logIn(authorities []rafendilo.SHA256, peer netip.Addr, blob, key, sessionID []byte, algorithm string, signature []byte) {{
+func logIn(authorities []rafendilo.SHA256, authorizedKeys []byte, peer netip.Addr, algorithm string, blob, sessionID, signature []byte) {{
 {0}}}
 
-func main() {{ logIn(nil, netip.Addr{{}}, nil, nil, nil, "", nil) }}
+func main() {{ logIn(nil, nil, netip.Addr{{}}, "", nil, nil, nil) }}
 """
 RUST_PROGRAM = """\
 use std::net::{{IpAddr, Ipv4Addr}};

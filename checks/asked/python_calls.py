@@ -312,7 +312,7 @@ def check_blobs(count, rafendilo, maker, key, certificate):
         count.check(f"{name} says of other bytes what is wrong with them", plain is not None and plain[0] == "Refused" and plain[1].endswith(")"), plain)
         count.check(f"{name} names a text", text is not None and text[0] == "TypeError" and f"{argument}: a text" in text[1], text)
     found = raised(rafendilo.sshsig_hash, b"-----BEGIN SSH SIGNATURE-----\n")
-    count.check("an armour that is given as a signature is named", found is not None and found[1].endswith(": signature: an armour, and not what stands in it, decoded"), found)
+    count.check("an armour that is given as a signature is named", found is not None and found[1].endswith(": signature: an armour, and not its bytes: read_armour(text)"), found)
 
 
 def check_help(count, rafendilo):

@@ -24,7 +24,7 @@ def by_asyncssh(port, texts, revoked, *keys):
 
     async def asked():
         async with asyncssh.connect(
-            ADDRESS, port, username=USER, client_keys=list(keys), agent_path=None, config=None, known_hosts=None,
+            ADDRESS, port, username=USER, client_keys=list(keys), agent_path=None, config=None, known_hosts=([], [], []),
             client_factory=lambda: rafendilo.asyncssh.KnownHosts(texts, revoked),
         ) as connection:  # fmt: skip
             return (await connection.run(ASKED)).stdout

@@ -49,6 +49,8 @@ class Rust:
         passed = sum(map(int, re.findall(r"^test result: ok\. (\d+) passed", tested.stdout, re.M)))
         same = tested.returncode == 0 and passed
         count.check(f"Rust: {passed} tests of the package pass", same, tested.stdout[-2000:], tested.stderr[-2000:])
+        shown = self.cargo("doc", *VERIFIES, "--no-deps")
+        count.check("Rust: its documentation links to what there is", shown.returncode == 0, shown.stderr[-2000:])
         self.check_style(count)
 
     def page(self, code):

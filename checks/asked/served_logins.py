@@ -1,6 +1,7 @@
 """Logins at the servers of examples/ over asyncssh and paramiko, for checks/servers: whom a real ssh is let in as, by the keys of a real
 ssh-agent, by an agent that has another key than it shows, and by security keys without a device. What is wanted follows from sshd(8)
 and ssh-keygen(1); paramiko reads no security key."""
+import getpass
 import os
 import shlex
 import socket
@@ -17,7 +18,9 @@ from .security_key_calls import TOUCHED, VERIFIED, SecurityKey
 
 # Debian's, which has the packages
 PYTHON = "/usr/bin/python3"
-ADDRESS, ASKED, SECONDS = "127.0.0.1", "ls -l", 30
+ADDRESS, USER, ASKED, SECONDS = "127.0.0.1", "alice", "ls -l", 30
+# who runs this, whom a real sshd can let in
+PRINCIPALS = f"{USER},{getpass.getuser()}"
 KINDS = {"own": "ed25519", "rsa": "rsa -b 2048", "ecdsa": "ecdsa -b 256", "strange": "ed25519"}
 NOW = ["-V", "-5m:+5m"]
 TEMPLATE = ["-F", "none", "-o", "BatchMode=yes", "-o", "IdentitiesOnly=yes", "-o", "StrictHostKeyChecking=no", "-o", "UserKnownHostsFile=/dev/null"]
@@ -75,7 +78,7 @@ class Login:
     offered: tuple
     wanted: str
     agent: str = "real"
-    user: str = "alice"
+    user: str = USER
     options: tuple = ()
     by_paramiko: str = "as asyncssh"
 
@@ -89,21 +92,21 @@ class Servers:
     def __init__(self, folder):
         self.folder, self.maker = folder, Maker(folder)
         self.lines = {name: self.maker.key(name, kind) for name, kind in {**KINDS, "authority": "ed25519", "host": "ed25519"}.items()}
-        self.certified("listed", "own", "-n", "alice")
-        self.certified("over", "own", "-n", "alice", "-V", "-10m:-5m")
-        self.certified("forced", "own", "-n", "alice", "-O", "force-command=date")
-        self.certified("elsewhere", "own", "-n", "alice", "-O", "source-address=192.0.2.0/24")
+        self.certified("listed", "own")
+        self.certified("over", "own", "-V", "-10m:-5m")
+        self.certified("forced", "own", "-O", "force-command=date")
+        self.certified("elsewhere", "own", "-O", "source-address=192.0.2.0/24")
         self.devices = {kind: SecurityKey(name, b"ssh:") for kind, name in (("device", "Ed25519"), ("device-ecdsa", "ECDSA P-256"))}
         for name, device in self.devices.items():
             self.maker.write(f"{name}.pub", f"{device.line()} {name}\n")
             self.lines[name] = device.line()
-        self.certified("device-listed", "device", "-n", "alice")
+        self.certified("device-listed", "device")
         self.maker.write("strangers", "")
         self.agents = {os.path.basename(it.path): it for it in self.started()}
 
     def certified(self, name, key, *words):
         """A certificate of the key, in a file of that name."""
-        line = self.maker.certificate("authority", key, *NOW, *words)
+        line = self.maker.certificate("authority", key, "-n", PRINCIPALS, *NOW, *words)
         self.maker.write(f"{name}.pub", f"{line}\n")
         os.remove(self.maker.path(f"{key}-cert.pub"))
 
@@ -143,7 +146,7 @@ class Servers:
         """What ssh says where it has a port forwarded, by a line with these options."""
         self.maker.write("keys", f"{options} {self.lines['own']}\n")
         words = ["ssh", *TEMPLATE, "-p", str(port), "-o", f"IdentityAgent={self.maker.path('real')}", "-i", self.maker.path("own.pub")]
-        return run([*words, "-W", f"[{host}]:{to}", f"alice@{ADDRESS}"], stdin=subprocess.DEVNULL, timeout=SECONDS).stderr
+        return run([*words, "-W", f"[{host}]:{to}", f"{USER}@{ADDRESS}"], stdin=subprocess.DEVNULL, timeout=SECONDS).stderr
 
 
 def free_port():
@@ -177,7 +180,7 @@ class Server:
 
 
 def says(what):
-    return f"alice runs {what}\n"
+    return f"{USER} runs {what}\n"
 
 
 IN = says(ASKED)

@@ -2,13 +2,11 @@ package main
 
 import (
 	"bufio"
-	"encoding/base64"
 	"errors"
 	"fmt"
 	"io"
 	"os"
 	"strconv"
-	"strings"
 	"time"
 	"unicode/utf8"
 
@@ -102,22 +100,6 @@ func certificates(words []string, given io.Reader) ([]string, bool, error) {
 	return lines, isValid, nil
 }
 
-// unarmoured is the bytes of an SSH signature in its armour.
-func unarmoured(text string) ([]byte, error) {
-	parts := strings.Split(text, "-----")
-	ends := []string{"", "BEGIN SSH SIGNATURE", "END SSH SIGNATURE"}
-	if len(parts) < 4 || parts[0] != ends[0] || parts[1] != ends[1] || parts[3] != ends[2] {
-		return nil, errors.New("no SSH signature was given")
-	}
-	hasLine := strings.HasPrefix(parts[2], "\n") || strings.HasPrefix(parts[2], "\r\n")
-	if !hasLine || !strings.HasSuffix(parts[2], "\n") {
-		return nil, errors.New("no SSH signature was given")
-	}
-	isSpace := func(it rune) bool { return strings.ContainsRune(" \t\n\v\f\r", it) }
-	rows := strings.FieldsFunc(parts[2], isSpace)
-	return base64.StdEncoding.Strict().DecodeString(strings.Join(rows, ""))
-}
-
 func signature(words []string, given io.Reader) ([]string, bool, error) {
 	if len(words) != 3 {
 		return nil, false, errUsage
@@ -129,7 +111,7 @@ func signature(words []string, given io.Reader) ([]string, bool, error) {
 	if err != nil {
 		return nil, false, err
 	}
-	bare, err := unarmoured(string(text))
+	bare, err := rafendilo.ReadArmour(string(text))
 	if err != nil {
 		return nil, false, err
 	}

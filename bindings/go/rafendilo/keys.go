@@ -69,6 +69,18 @@ func (digest SHA256) String() string {
 	return string(text)
 }
 
+// RandomArt is a picture of a key with that fingerprint, as `ssh-keygen -lv` shows it, whose header
+// is, say, [ED25519 256]: eleven lines, without a line end after the last. It fails with ErrText
+// where the header is not UTF-8, and with ErrMemory.
+func (digest SHA256) RandomArt(header string) (string, error) {
+	in := inputOf(header)
+	enough := C.RAF_RANDOM_ART_TEXT + len(in)
+	text, err := form(enough, func(to buffer, length *C.size_t) C.uint32_t {
+		return C.raf_random_art(digest.pointer(), in.pointer(), in.length(), to.at, to.length, length)
+	})
+	return string(text), err
+}
+
 // FingerprintSHA512 gives the SHA-512 fingerprint of a key, as Fingerprint does.
 func FingerprintSHA512(key []byte) (SHA512, error) {
 	var digest SHA512

@@ -292,14 +292,19 @@ func LogIn(
 	var memory held
 	defer memory.free()
 	asked := loginOf(&memory, offer, signed, trusted, place)
-	ticket, answers, err := verify.answers(&asked, func(to buffer, answer *C.raf_login_questions) C.uint32_t {
-		return C.raf_log_in_questions(&asked, to.at, to.length, answer)
-	})
+	ticket, answers, err := verify.answers(&asked,
+		func(to buffer, answer *C.raf_login_questions) C.uint32_t {
+			return C.raf_log_in_questions(&asked, to.at, to.length, answer)
+		})
 	if err == ErrMemory {
 		return Grant{}, Refused{Status: ErrMemory}
 	}
 	// also where nothing is asked: this says why, and by which line
-	return grantOf(&asked, ticket, answers)
+	grant, refused := grantOf(&asked, ticket, answers)
+	if err != nil && refused == nil { // never, as is proved
+		return Grant{}, Refused{Status: err.(Status)}
+	}
+	return grant, refused
 }
 
 // MayOffer gives nil exactly if what is offered lets in whoever signs with it: for the query
@@ -310,9 +315,10 @@ func MayOffer(offer Offer, trusted Trusted, place Place, verify Verifier) error 
 	var memory held
 	defer memory.free()
 	asked := loginOf(&memory, offer, nil, trusted, place)
-	ticket, answers, err := verify.answers(&asked, func(to buffer, answer *C.raf_login_questions) C.uint32_t {
-		return C.raf_may_offer_questions(&asked, to.at, to.length, answer)
-	})
+	ticket, answers, err := verify.answers(&asked,
+		func(to buffer, answer *C.raf_login_questions) C.uint32_t {
+			return C.raf_may_offer_questions(&asked, to.at, to.length, answer)
+		})
 	if err != nil {
 		return err
 	}

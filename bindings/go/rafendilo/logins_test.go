@@ -206,8 +206,7 @@ func TestLogInByKeys(t *testing.T) {
 // server names one.
 func TestHostAndSize(t *testing.T) {
 	it := ofKey(t, `from="*.example.com" `+read(t, "user.pub"))
-	_, err := it.in()
-	same(t, "no host", err != nil, true)
+	it.is(t, "no host", rafendilo.ErrLineElsewhere)
 	it.place.Host = "h.example.com"
 	it.is(t, "its host", nil)
 	modulus := append([]byte{0}, bytes.Repeat([]byte{0xff}, 256)...)
@@ -249,6 +248,11 @@ func TestRefused(t *testing.T) {
 		Status: rafendilo.ErrLineUnclear, Source: rafendilo.SourceAuthorizedKeys, Text: 1, Line: 3,
 	})
 	same(t, "words", err.Error(), "a line that can't be told (96): AuthorizedKeysFile, text 1, line 3")
+	it.trusted.AuthorizedKeys[1] = rafendilo.Text("#\n" + `expiry-time="20010101Z" ` + read(t, "user.pub"))
+	_, err = it.in()
+	same(t, "a line whose time is over", err, error(rafendilo.Refused{
+		Status: rafendilo.ErrLineExpired, Source: rafendilo.SourceAuthorizedKeys, Text: 1, Line: 2,
+	}))
 	it.trusted.AuthorizedKeys[1] = rafendilo.Unreadable
 	_, err = it.in()
 	same(t, "a text that was not read", err, error(rafendilo.Refused{

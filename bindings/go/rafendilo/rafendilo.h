@@ -553,6 +553,20 @@ uint32_t raf_fingerprint_sha512(const uint8_t *key, size_t key_length, raf_sha51
 uint32_t raf_fingerprint_sha512_text(const raf_sha512 *digest, uint8_t *buffer,
                                      size_t buffer_length);
 
+/* How many bytes random art has beside those of its header. */
+#define RAF_RANDOM_ART_TEXT 219
+
+/* Writes the random art of a key with that SHA-256 fingerprint to the front of the buffer, as
+ * `ssh-keygen -lv` shows it, and its length to `length`, also with RAF_SHORT_BUFFER: a header
+ * between dashes, nine rows, and the name of the hash, in lines of 19 characters, without a line
+ * end after the last. ssh-keygen's header is, say, [ED25519 256]; one of more than 17 characters
+ * stands whole.
+ *
+ * RAF_DONE (memory and buffer aside), or RAF_TEXT where the header is not UTF-8. A buffer of
+ * RAF_RANDOM_ART_TEXT bytes and the header's length is enough. */
+uint32_t raf_random_art(const raf_sha256 *digest, const uint8_t *header, size_t header_length,
+                        uint8_t *buffer, size_t buffer_length, size_t *length);
+
 /* What has to be verified of a signature (RFC 4253, section 6.6) of the message under the key of
  * that blob: as an agent gives it, or a client at a login (docs/CHECKLIST.md, "A login").
  *
@@ -567,9 +581,20 @@ uint32_t raf_signature_question(const uint8_t *key, size_t key_length, const uin
 
 /* ---- SSH signatures (PROTOCOL.sshsig) -------------------------------------------------------- */
 
+/* Writes the bytes of an SSH signature in its armour, the text of a file of `ssh-keygen -Y sign`, to
+ * the front of the buffer, and their length to `length`, also with RAF_SHORT_BUFFER: the line
+ * -----BEGIN SSH SIGNATURE-----, padded Base64 with white space anywhere in it, and the line
+ * -----END SSH SIGNATURE-----. Lines end with LF or CR LF. What follows them is passed over.
+ *
+ * RAF_DONE exactly if the text is that, as OpenSSH 9.5 reads it (memory and buffer aside); else
+ * RAF_FORMAT where one of the two lines is missing, and RAF_BASE64. Whether the bytes are a
+ * signature, the calls below say. A buffer of the text's length is enough. */
+uint32_t raf_read_armour(const uint8_t *text, size_t text_length, uint8_t *buffer,
+                         size_t buffer_length, size_t *length);
+
 /* What has to be verified of an SSH signature of the message in that namespace, and the SHA-256
  * fingerprint of the key that signed: whether that key may sign is yours to check
- * (docs/CHECKLIST.md, "A signature"). The signature is what stands in the armour, Base64 decoded.
+ * (docs/CHECKLIST.md, "A signature"). The signature is what raf_read_armour reads.
  *
  * RAF_DONE exactly if the bytes are an SSH signature for that namespace whose key and signature
  * go together (memory and buffer aside); else RAF_OTHER_NAMESPACE, RAF_UNSUPPORTED, or 10 to 29

@@ -21,7 +21,7 @@ type Signers struct {
 	Verify Verifier
 }
 
-// CheckSignerOfDigest gives nil exactly if the bytes, as they stand in the armour, are an SSH
+// CheckSignerOfDigest gives nil exactly if the bytes (what ReadArmour gives) are an SSH
 // signature, in that namespace and of a message with that digest, that counts as the identity's by
 // the allowed signers; else what is wrong first: as CheckSignerWithAnswer says, or
 // SSHSigQuestionOfDigest. The verifier is not asked about a key that may not sign. It fails with

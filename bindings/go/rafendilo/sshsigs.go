@@ -9,9 +9,19 @@ import (
 	_ "crypto/sha512" // for crypto.SHA512
 )
 
-// SSHSigQuestion gives what has to be verified of an SSH signature (what stands in the armour,
-// Base64 decoded) of the message in that namespace, and the fingerprint of the key that signed:
-// whether that key may sign CheckSSHSig asks. It fails with a Status for bytes that are none,
+// ReadArmour gives the bytes of an SSH signature in its armour, the text of a file of `ssh-keygen -Y
+// sign`, as OpenSSH 9.5 reads it. What follows its last line is passed over. It fails with ErrFormat
+// where the first or the last line is missing, with ErrBase64, and with ErrMemory.
+func ReadArmour(text string) ([]byte, error) {
+	in := inputOf(text)
+	return form(len(in), func(to buffer, length *C.size_t) C.uint32_t {
+		return C.raf_read_armour(in.pointer(), in.length(), to.at, to.length, length)
+	})
+}
+
+// SSHSigQuestion gives what has to be verified of an SSH signature (what ReadArmour gives) of the
+// message in that namespace, and the fingerprint of the key that signed: whether that key may sign
+// CheckSSHSig asks. It fails with a Status for bytes that are none,
 // with ErrOtherNamespace, with ErrUnsupported where key and signature do not go together, and with
 // ErrMemory.
 func SSHSigQuestion(signature []byte, namespace string, message []byte) (Question, SHA256, error) {
@@ -39,7 +49,7 @@ func SSHSigQuestionOfDigest(
 	return asked, signer, err
 }
 
-// CheckSSHSig gives nil exactly if the bytes, as they stand in the armour, are an SSH signature
+// CheckSSHSig gives nil exactly if the bytes (what ReadArmour gives) are an SSH signature
 // (`ssh-keygen -Y sign`) of the message in that namespace by one of the signers, which are the
 // fingerprints of the keys that may sign for that namespace; else what is wrong first: as
 // CheckSSHSigWithAnswer says, or, of a key that may sign, SSHSigQuestion. The verifier is not asked

@@ -63,6 +63,8 @@ from ._keys import (
     normal_key,
     normal_signature,
     normal_sshsig,
+    random_art,
+    read_armour,
     read_line,
     signature_question,
     sshsig_hash,
@@ -112,8 +114,9 @@ __all__ = [
     "fingerprint_sha512_text", "fingerprint_text", "host_and_port", "is_later_key_line", "is_safe_mode", "is_signature",
     "join_certificate", "known_host", "known_hosts_of_ssh", "line_may_name_authority", "line_may_name_key", "line_options",
     "log_in", "make_certificate", "may_offer", "may_verify", "normal_certificate", "normal_key", "normal_signature",
-    "normal_sshsig", "options", "read_line", "read_time", "signature_question", "sshsig_hash", "sshsig_question",
-    "sshsig_question_of_digest", "sshsig_reserved", "string", "strings", "unreadable_host_line", "user_authorities",
+    "normal_sshsig", "options", "random_art", "read_armour", "read_line", "read_time", "signature_question", "sshsig_hash",
+    "sshsig_question", "sshsig_question_of_digest", "sshsig_reserved", "string", "strings", "unreadable_host_line",
+    "user_authorities",
 ]  # fmt: skip
 
 

@@ -18,6 +18,8 @@ FOREVER = 18446744073709551615
 FINGERPRINT_TEXT = 50
 # "SHA512:" and 86 characters.
 FINGERPRINT_SHA512_TEXT = 93
+# How many bytes random art has beside those of its header.
+RANDOM_ART_TEXT = 219
 
 
 class Status(Answer):
@@ -560,9 +562,11 @@ CALLS: dict[str, tuple[Any, ...]] = {
     "raf_fingerprint_text": (POINTER(Sha256), POINTER(c_uint8), c_size_t),
     "raf_fingerprint_sha512": (c_char_p, c_size_t, POINTER(Sha512)),
     "raf_fingerprint_sha512_text": (POINTER(Sha512), POINTER(c_uint8), c_size_t),
+    "raf_random_art": (POINTER(Sha256), c_char_p, c_size_t, POINTER(c_uint8), c_size_t, POINTER(c_size_t)),
     "raf_signature_question": (
         c_char_p, c_size_t, c_char_p, c_size_t, c_char_p, c_size_t, POINTER(c_uint8), c_size_t, POINTER(Question)
     ),
+    "raf_read_armour": (c_char_p, c_size_t, POINTER(c_uint8), c_size_t, POINTER(c_size_t)),
     "raf_sshsig_question": (
         c_char_p, c_size_t, c_char_p, c_size_t, c_char_p, c_size_t, POINTER(c_uint8), c_size_t, POINTER(Question), POINTER(Sha256)
     ),

@@ -2,10 +2,11 @@
 from __future__ import annotations
 
 import ctypes
+import functools
 from collections.abc import Callable
 
 from . import _header
-from ._header import FINGERPRINT_SHA512_TEXT, FINGERPRINT_TEXT, Algorithm, LineKind, Status
+from ._header import FINGERPRINT_SHA512_TEXT, FINGERPRINT_TEXT, RANDOM_ART_TEXT, Algorithm, LineKind, Status
 from ._library import LIBRARY, ask, bytes_of, digests_of, done, parts_of, text_of, written
 from ._named import names_blobs
 from ._values import BytesLike, Line, Question
@@ -72,7 +73,23 @@ def fingerprint_sha512_text(digest: BytesLike) -> str:
     return bytes(buffer).decode("ascii")
 
 
+def random_art(digest: BytesLike, header: str | BytesLike) -> str:
+    """The random art of a key with that SHA-256 fingerprint, as `ssh-keygen -lv` shows it, whose header is, say, [ED25519 256]: eleven
+    lines, without a line end after the last. Raises ValueError where the digest has not 32 bytes, and MemoryError."""
+    by, given = digests_of([digest]), text_of(header)
+    call = functools.partial(LIBRARY.raf_random_art, by[0], *given)
+    return written(call, RANDOM_ART_TEXT + given[1]).decode()
+
+
 # ---- signatures
+
+
+def read_armour(text: str | BytesLike) -> bytes:
+    """The bytes of an SSH signature in its armour, the text of a file of `ssh-keygen -Y sign`, as OpenSSH 9.5 reads it. What follows
+    its last line is passed over. Raises Refused, with Status.FORMAT where the first or the last line is missing, or Status.BASE64,
+    and MemoryError."""
+    given = text_of(text)
+    return written(functools.partial(LIBRARY.raf_read_armour, *given), given[1])
 
 
 @names_blobs
@@ -98,7 +115,7 @@ def signature_question(key: BytesLike, message: BytesLike, signature: BytesLike)
 def sshsig_question(
     signature: BytesLike, namespace: str | BytesLike, message: BytesLike
 ) -> tuple[Question, bytes]:  # fmt: skip
-    """What has to be verified of an SSH signature (what stands in its armour, decoded) of the message in that namespace, and the
+    """What has to be verified of an SSH signature (what read_armour gives) of the message in that namespace, and the
     fingerprint of the key that signed, which has to be one that you trust for that namespace. Raises Refused where the bytes are
     none or one for another namespace, or where key and signature do not go together, and MemoryError."""
     return _sshsig_question(LIBRARY.raf_sshsig_question, signature, namespace, message)

@@ -51,5 +51,5 @@ def _fault(value: Any) -> str:
     if isinstance(value, (bytes, bytearray, memoryview)) and LINE.match(value):
         return "a line, and not its blob: read_line(line).blob"
     if isinstance(value, (bytes, bytearray, memoryview)) and ARMOUR.match(value):
-        return "an armour, and not what stands in it, decoded"
+        return "an armour, and not its bytes: read_armour(text)"
     return said

@@ -31,7 +31,7 @@ class Signers:
 
 @names_blobs
 def check_signer_with_answer(signature: BytesLike, namespace: str | BytesLike, by: Signers, is_verified: bool) -> Status:
-    """Status.DONE exactly if an SSH signature (what stands in its armour, decoded) counts as the identity's in that namespace, by the
+    """Status.DONE exactly if an SSH signature (what read_armour gives) counts as the identity's in that namespace, by the
     allowed signers. `is_verified` is your answer to the question of this signature, in the namespace and of the message
     (sshsig_question, sshsig_question_of_digest).
 
@@ -63,7 +63,7 @@ def check_signer_of_digest(
 
 @names_blobs
 def check_sshsig_with_answer(signature: BytesLike, namespace: str | BytesLike, signers: Iterable[BytesLike], is_verified: bool) -> Status:
-    """Status.DONE exactly if an SSH signature (what stands in its armour, decoded) counts in that namespace, where the keys with these
+    """Status.DONE exactly if an SSH signature (what read_armour gives) counts in that namespace, where the keys with these
     fingerprints may sign. `is_verified` is your answer to the question of this signature, in the namespace and of the message.
 
     Else SIGNER_NOT_ALLOWED or NOT_SIGNED, the first that holds. That is also one in another namespace, and one with reserved bytes,

@@ -77,54 +77,6 @@ fn second_of(word: Option<&OsString>) -> Result<u64, Untold> {
     digits.and_then(|it| it.parse().ok()).ok_or_else(|| format!("{word:?} is no second").into())
 }
 
-/// The bytes of an SSH signature in its armour. Fails where there is none.
-fn unarmoured(text: &str) -> Result<Vec<u8>, Untold> {
-    let parts: Vec<&str> = text.split("-----").collect();
-    let found = match parts[..] {
-        ["", "BEGIN SSH SIGNATURE", base64, "END SSH SIGNATURE", ..] => Some(base64),
-        _ => None,
-    };
-    // the two stand on lines of their own
-    let is_begun = |it: &&str| it.starts_with('\n') || it.starts_with("\r\n");
-    let lines = found.filter(is_begun).filter(|it| it.ends_with('\n'));
-    lines.and_then(decoded).ok_or_else(|| "no SSH signature was given".into())
-}
-
-/// The bytes that the Base64 between white space stands for, if it is the one of them.
-fn decoded(base64: &str) -> Option<Vec<u8>> {
-    // with the vertical tab, which ssh-keygen passes over, too
-    let is_space = |it: u8| it.is_ascii_whitespace() || it == b'\x0b';
-    let digits: Vec<u8> = base64.bytes().filter(|it| !is_space(*it)).collect();
-    let padded = digits.iter().rev().take_while(|it| **it == b'=').count();
-    if digits.len() % 4 != 0 || padded > 2 {
-        return None;
-    }
-    let (mut bytes, mut held, mut bits) = (Vec::new(), 0_u32, 0);
-    for digit in &digits[..digits.len() - padded] {
-        held = held << 6 | value_of(*digit)?;
-        bits += 6;
-        if bits >= 8 {
-            bits -= 8;
-            bytes.push((held >> bits) as u8);
-            held &= (1 << bits) - 1;
-        }
-    }
-    (held == 0).then_some(bytes)
-}
-
-/// The value of a digit of Base64.
-fn value_of(digit: u8) -> Option<u32> {
-    let value = match digit {
-        b'A'..=b'Z' => digit - b'A',
-        b'a'..=b'z' => digit - b'a' + 26,
-        b'0'..=b'9' => digit - b'0' + 52,
-        b'+' => 62,
-        b'/' => 63,
-        _ => return None,
-    };
-    Some(value.into())
-}
-
 // ---- what is said
 
 /// The line for what is valid, or for what is wrong first.
@@ -174,9 +126,9 @@ fn certificates(authorities: &OsStr, principal: &OsStr, second: u64) -> Result<b
 
 /// Whether it is valid.
 fn signature(signers: &OsStr, namespace: &OsStr, file: &OsStr) -> Result<bool, Untold> {
-    let mut armour = String::new();
-    io::stdin().lock().read_to_string(&mut armour)?;
-    let (given, by) = (unarmoured(&armour)?, fingerprints(signers.as_ref())?);
+    let mut armour = Vec::new();
+    io::stdin().lock().read_to_end(&mut armour)?;
+    let (given, by) = (rafendilo::read_armour(&armour)?, fingerprints(signers.as_ref())?);
     let message = fs::read(file).map_err(|fault| of_file(file.as_ref(), fault))?;
     let name = namespace.to_str().ok_or("the namespace is not UTF-8")?;
     let answer = rafendilo::check_sshsig(&given, name, &message, &by, rafendilo::is_signature);

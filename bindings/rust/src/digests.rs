@@ -2,6 +2,7 @@
 
 use std::fmt;
 
+use crate::buffers::written;
 use crate::raw;
 use crate::status::Status;
 
@@ -34,6 +35,19 @@ pub fn fingerprint_sha512(key: &[u8]) -> Result<Sha512, Status> {
     let mut digest = Sha512 { bytes: [0; 64] };
     Status::of(raw::raf_fingerprint_sha512(key, &mut digest))?;
     Ok(digest)
+}
+
+impl Sha256 {
+    /// A picture of a key with that fingerprint, as `ssh-keygen -lv` shows it, whose header is, say,
+    /// `[ED25519 256]`: eleven lines, without a line end after the last. Fails with
+    /// [`Status::MEMORY`].
+    pub fn random_art(&self, header: &str) -> Result<String, Status> {
+        let enough = raw::RANDOM_ART_TEXT.saturating_add(header.len());
+        let call = |buffer: &mut [u8], length: &mut usize| {
+            raw::raf_random_art(self, header.as_bytes(), buffer, length)
+        };
+        String::from_utf8(written(enough, call)?).map_err(|_| Status::TEXT)
+    }
 }
 
 /// Writes the text that the call has written to the buffer, which is ASCII.

@@ -55,7 +55,7 @@ pub struct AuthorizedEntry {
 /// [`Status::MEMORY`].
 ///
 /// It shows a line, and decides nothing: whom a text lets in,
-/// [`log_in_by_keys`](crate::log_in_by_keys) says.
+/// [`log_in`](crate::log_in) says.
 pub fn authorized_entry(line: &[u8]) -> Result<AuthorizedEntry, Status> {
     let (buffer, found) =
         ask(line.len(), |buffer, answer| raw::raf_authorized_entry(line, buffer, answer))?;
@@ -123,7 +123,7 @@ const OF_OPTION: usize = 256;
 /// list of options, also after its first ones, with [`Status::TEXT`] where it is not UTF-8, and
 /// with [`Status::MEMORY`].
 ///
-/// What they say of a login, [`log_in_by_keys`](crate::log_in_by_keys) decides.
+/// What they say of a login, [`log_in`](crate::log_in) decides.
 pub fn line_options(text: &[u8]) -> Result<Vec<LineOption>, Status> {
     let (mut options, mut place) = (Vec::new(), 0);
     loop {

@@ -150,12 +150,19 @@ impl Refused {
     }
 }
 
-/// The meaning and the number, and the line.
+/// The meaning and the number, and the line and the text, by the names of
+/// [`Trusted`](crate::Trusted).
 impl fmt::Display for Refused {
     fn fmt(&self, formatter: &mut fmt::Formatter<'_>) -> fmt::Result {
+        let texts = match self.source {
+            Some(Source::AuthorizedKeys) => "authorized_keys",
+            Some(Source::Principals) => "principals",
+            Some(Source::Command) => "command_keys",
+            Some(Source::Authority) | None => return write!(formatter, "{}", self.status),
+        };
         match self.line {
-            0 => write!(formatter, "{}", self.status),
-            line => write!(formatter, "{} in line {line}", self.status),
+            0 => write!(formatter, "{} in {texts}[{}]", self.status, self.text),
+            line => write!(formatter, "{} in line {line} of {texts}[{}]", self.status, self.text),
         }
     }
 }

@@ -112,8 +112,8 @@ pub use revocations::{
 };
 pub use signers::{check_signer_of_digest, check_signer_with_answer, Signers};
 pub use sshsigs::{
-    check_sshsig, check_sshsig_of_digest, check_sshsig_with_answer, sshsig_hash, sshsig_question,
-    sshsig_question_of_digest, sshsig_reserved, HashAlgorithm,
+    check_sshsig, check_sshsig_of_digest, check_sshsig_with_answer, read_armour, sshsig_hash,
+    sshsig_question, sshsig_question_of_digest, sshsig_reserved, HashAlgorithm,
 };
 pub use status::Status;
 pub use strings::{string, strings, Strings};

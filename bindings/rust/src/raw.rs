@@ -22,6 +22,9 @@ pub const FINGERPRINT_TEXT: usize = 50;
 /// "SHA512:" and 86 characters.
 pub const FINGERPRINT_SHA512_TEXT: usize = 93;
 
+/// How many bytes random art has beside those of its header.
+pub const RANDOM_ART_TEXT: usize = 219;
+
 /// `RAF_ASK_DSA`.
 pub const ASK_DSA: u32 = 1;
 
@@ -694,9 +697,11 @@ calls! {
     fn raf_fingerprint_text(digest: &Sha256, buffer: &mut [u8]);
     fn raf_fingerprint_sha512(key: &[u8], answer: &mut Sha512);
     fn raf_fingerprint_sha512_text(digest: &Sha512, buffer: &mut [u8]);
+    fn raf_random_art(digest: &Sha256, header: &[u8], buffer: &mut [u8], length: &mut usize);
     fn raf_signature_question(
         key: &[u8], message: &[u8], signature: &[u8], buffer: &mut [u8], answer: &mut Question
     );
+    fn raf_read_armour(text: &[u8], buffer: &mut [u8], length: &mut usize);
     fn raf_sshsig_question(
         signature: &[u8], name_space: &[u8], message: &[u8], buffer: &mut [u8],
         answer: &mut Question, signer: &mut Sha256

@@ -21,7 +21,7 @@ pub struct Signers<'a> {
     pub revoked: &'a [&'a [u8]],
 }
 
-/// Whether an SSH signature (what stands in its armour, Base64 decoded), of a message with that
+/// Whether an SSH signature (what `read_armour` gives), of a message with that
 /// digest and in that namespace, counts as the identity's by the allowed signers. `verify` is your
 /// cryptography, which is not asked about a key that may not sign.
 ///

@@ -1,7 +1,7 @@
 //! SSH signatures (PROTOCOL.sshsig), by their messages or the digests of these.
 
 use crate::digests::Sha256;
-use crate::keys::normal_sshsig;
+use crate::keys::{normal_sshsig, written_of};
 use crate::questions::{decide, Question};
 use crate::raw;
 use crate::status::Status;
@@ -26,8 +26,16 @@ fn question_by(
     Ok((question, signer))
 }
 
-/// What has to be verified of an SSH signature (what stands in its armour, Base64 decoded) of the
-/// message in that namespace, and the fingerprint of the key that signed, which has to be one that
+/// The bytes of an SSH signature in its armour, the text of a file of `ssh-keygen -Y sign`, as
+/// OpenSSH 9.5 reads it. What follows its last line is passed over. Fails with [`Status::FORMAT`]
+/// where the first or the last line is missing, with [`Status::BASE64`], and with
+/// [`Status::MEMORY`].
+pub fn read_armour(text: impl AsRef<[u8]>) -> Result<Vec<u8>, Status> {
+    written_of(raw::raf_read_armour, text.as_ref())
+}
+
+/// What has to be verified of an SSH signature (what [`read_armour`] gives) of the message in that
+/// namespace, and the fingerprint of the key that signed, which has to be one that
 /// you trust for that namespace: [`check_sshsig`] asks both. Fails with a status from 10 to 29
 /// where the bytes are none, with [`Status::OTHER_NAMESPACE`], with [`Status::UNSUPPORTED`] where
 /// key and signature do not go together, and with [`Status::MEMORY`].

@@ -174,7 +174,10 @@ fn a_line_that_cannot_be_told_is_named() {
     let source = Some(Source::AuthorizedKeys);
     let wanted = Refused { status: Status::LINE_UNCLEAR, source, text: 1, line: 2 };
     assert_eq!(said, Err(wanted));
-    assert!(wanted.to_string().ends_with("(96) in line 2"));
+    assert!(wanted.to_string().ends_with("(96) in line 2 of authorized_keys[1]"));
+    let unread = Refused { status: Status::TEXT_UNREADABLE, line: 0, ..wanted };
+    assert!(unread.to_string().ends_with("(98) in authorized_keys[1]"));
+    assert_eq!(Refused::from(Status::REVOKED).to_string(), Status::REVOKED.to_string());
 }
 
 #[test]

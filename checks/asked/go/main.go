@@ -143,6 +143,11 @@ var answers = map[string]func(of []string) ([]string, error){
 		}
 		return nil, nil
 	},
+	"armour": func(of []string) ([]string, error) { return made(rafendilo.ReadArmour(text(of[0]))) },
+	"random-art": func(of []string) ([]string, error) {
+		drawn, err := digests(of[0])[0].RandomArt(text(of[1]))
+		return []string{word(drawn)}, err
+	},
 	"host-and-port": func(of []string) ([]string, error) {
 		host, port, err := rafendilo.HostAndPort(text(of[0]))
 		return []string{word(host), fmt.Sprint(port)}, err

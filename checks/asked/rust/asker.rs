@@ -302,6 +302,12 @@ fn host_and_port(text: &[u8]) -> Answer {
     words([word(host.as_bytes()), port.unwrap_or(0).to_string()])
 }
 
+fn random_art(digest: &[u8], header: &[u8]) -> Answer {
+    let digest = Sha256 { bytes: digest.try_into().expect("a digest") };
+    let header = std::str::from_utf8(header).map_err(|_| Status::TEXT)?;
+    words([word(digest.random_art(header)?)])
+}
+
 fn time(text: &[u8]) -> Answer {
     let (first, last) = rafendilo::read_time(text)?.into_inner();
     words([first.to_string(), last.to_string()])
@@ -376,6 +382,8 @@ fn answer(question: &str) -> Answer {
         "host" => host(&at(0)),
         "options" => options(&at(0)),
         "addresses" => Ok(addresses(given)),
+        "armour" => one(rafendilo::read_armour(at(0))),
+        "random-art" => random_art(&at(0), &at(1)),
         "host-and-port" => host_and_port(&at(0)),
         "time" => time(&at(0)),
         "signer" | "is-signer" => Ok(signer(what, given)),

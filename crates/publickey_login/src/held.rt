@@ -157,12 +157,11 @@ fn hold_certificate<R: Revocations>(
         Ok(granted) => granted,
         Err(refusal) => return Err(refused_by(refusal)),
     };
-    let fingerprint = fingerprint_of(alloc, &key)?;
     Ok(Held {
         grant: PublickeyGrant {
             source,
+            key: fingerprint_of(alloc, &key)?,
             user: merged(line.first, granted),
-            key: fingerprint,
         },
         authority: Some(question),
         key,

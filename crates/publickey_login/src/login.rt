@@ -50,8 +50,8 @@ use std::alloc::Global;
 /// - `Revoked`, for a key that is offered by itself;
 /// - `Unclear` and `Unreadable`: nothing before that text or line lets in, and what it says cannot be
 ///   told;
-/// - `NotAllowed`: nothing lets in, and a text has lines for the key, or for whom the certificate
-///   names, that refuse: with the first of them;
+/// - `NotAllowed`: nothing lets in, and a text that was asked has a line for it, which refuses: with
+///   the first such line;
 /// - `NotListed`: nothing lets in;
 /// - `Certificate` with what `login_policy::log_in` fails with, but its signature;
 /// - what `client_question` fails with;

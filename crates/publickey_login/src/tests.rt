@@ -57,6 +57,9 @@ fn trusted<'a>(
 }
 
 /// The authority's fingerprint, or none without memory.
+/// Texts of principals: a line for alice that is over, and one from elsewhere.
+const OVERS: &[u8] = b"bob\nexpiry-time=\"20200101\" alice\nfrom=\"198.51.100.1\" alice";
+
 fn authorities(alloc: Global) -> Vec<Fingerprint> {
     let mut found = Vec::new(alloc);
     if let Ok(key) = KeyDataRef::from_bytes(AUTHORITY) {
@@ -240,49 +243,76 @@ fn the_first_text_with_a_line_says_why(rt: HostRuntime) {
     let alloc = rt.alloc();
     let listed = Principals::InCertificate;
     let texts = [Text::Read(FILE), Text::Read(OVER), Text::Read(MISPLACED)];
-    let file = [Text::Read(FILE)];
     let misplaced = [Text::Read(MISPLACED)];
-    let own = [Text::Read(OWN)];
     let over = trusted(&texts, &[], listed, &misplaced);
-    let last = trusted(&file, &[], listed, &misplaced);
-    let passed = trusted(&texts, &[], listed, &own);
     let second = Source::AuthorizedKeys(1);
-    let command = Source::Command(0);
     assert!(rt; is_refused_by(alloc, KEY, &over, second, 3, Reason::Expired));
-    assert!(rt; is_refused_by(alloc, KEY, &last, command, 1, Reason::MisplacedOption));
-    assert!(rt; is_granted_by(alloc, KEY, &passed, command));
 }
 
 #[test]
-fn the_files_then_the_principals_then_the_command_say_why(rt: HostRuntime) {
+fn the_command_says_why_where_no_file_has_a_line(rt: HostRuntime) {
+    let alloc = rt.alloc();
+    let listed = Principals::InCertificate;
+    let file = [Text::Read(FILE)];
+    let misplaced = [Text::Read(MISPLACED)];
+    let last = trusted(&file, &[], listed, &misplaced);
+    let command = Source::Command(0);
+    assert!(rt; is_refused_by(alloc, KEY, &last, command, 1, Reason::MisplacedOption));
+}
+
+#[test]
+fn a_line_that_refuses_is_no_reason_where_a_later_one_lets_in(rt: HostRuntime) {
+    let alloc = rt.alloc();
+    let listed = Principals::InCertificate;
+    let texts = [Text::Read(FILE), Text::Read(OVER), Text::Read(MISPLACED)];
+    let own = [Text::Read(OWN)];
+    let passed = trusted(&texts, &[], listed, &own);
+    assert!(rt; is_granted_by(alloc, KEY, &passed, Source::Command(0)));
+}
+
+#[test]
+fn the_files_say_why_before_the_principals(rt: HostRuntime) {
     let alloc = rt.alloc();
     let known = authorities(alloc);
-    let over = [Text::Read(b"bob\nexpiry-time=\"20200101\" alice\nfrom=\"198.51.100.1\" alice")];
-    let over = Principals::Files(&over);
+    let over = [Text::Read(OVERS)];
     let refusing = [Text::Read(REFUSES)];
     let other = [Text::Read(OTHER)];
-    let command = [Text::Read(COMMAND)];
-    let all = trusted(&refusing, &known, over, &other);
-    let later = trusted(&[], &known, over, &other);
-    // an authority whom nobody trusts asks for no principals
-    let last = trusted(&[], &[], over, &other);
-    let passed = trusted(&refusing, &known, over, &command);
-    let from_command = Source::Command(0);
+    let all = trusted(&refusing, &known, Principals::Files(&over), &other);
     let from_file = Source::AuthorizedKeys(0);
-    let by_name = Source::Principals(0);
     assert!(rt; is_refused_by(alloc, CERTIFICATE, &all, from_file, 1, Reason::Elsewhere));
+}
+
+#[test]
+fn the_principals_say_why_before_the_command(rt: HostRuntime) {
+    let alloc = rt.alloc();
+    let known = authorities(alloc);
+    let over = [Text::Read(OVERS)];
+    let other = [Text::Read(OTHER)];
+    let later = trusted(&[], &known, Principals::Files(&over), &other);
+    let by_name = Source::Principals(0);
     assert!(rt; is_refused_by(alloc, CERTIFICATE, &later, by_name, 2, Reason::Expired));
-    assert!(rt;
-        is_refused_by(
-            alloc,
-            CERTIFICATE,
-            &last,
-            from_command,
-            1,
-            Reason::Principals
-        )
-    );
-    assert!(rt; is_granted_by(alloc, CERTIFICATE, &passed, from_command));
+}
+
+#[test]
+fn the_command_says_why_where_no_authority_is_trusted(rt: HostRuntime) {
+    let alloc = rt.alloc();
+    let over = [Text::Read(OVERS)];
+    let other = [Text::Read(OTHER)];
+    // an authority whom nobody trusts asks for no principals
+    let last = trusted(&[], &[], Principals::Files(&over), &other);
+    let from = Source::Command(0);
+    assert!(rt; is_refused_by(alloc, CERTIFICATE, &last, from, 1, Reason::Principals));
+}
+
+#[test]
+fn the_command_lets_in_after_all_that_refuse(rt: HostRuntime) {
+    let alloc = rt.alloc();
+    let known = authorities(alloc);
+    let over = [Text::Read(OVERS)];
+    let refusing = [Text::Read(REFUSES)];
+    let command = [Text::Read(COMMAND)];
+    let passed = trusted(&refusing, &known, Principals::Files(&over), &command);
+    assert!(rt; is_granted_by(alloc, CERTIFICATE, &passed, Source::Command(0)));
 }
 
 #[test]

@@ -22,6 +22,7 @@ mod sha512;
 mod signature;
 mod signer;
 mod sshsig;
+mod text;
 mod time;
 mod trust;
 mod version;

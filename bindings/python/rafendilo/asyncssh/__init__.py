@@ -1,14 +1,15 @@
 """Logins of servers over the package asyncssh, and host keys of its clients, as rafendilo decides them.
 
     await asyncssh.create_server(lambda: rafendilo.asyncssh.Server(trusted), port=22, server_host_keys=[..], process_factory=..)
-    await asyncssh.connect(host, client_factory=lambda: rafendilo.asyncssh.KnownHosts(texts, revoked), known_hosts=None)
+    await asyncssh.connect(host, client_factory=lambda: rafendilo.asyncssh.KnownHosts(texts, revoked), known_hosts=([], [], []))
 
-asyncssh asks its own questions about keys, certificates and hosts; here the connection's methods for both are replaced, so that the
-whole certificate and the signature are asked about. That is done on each connection by itself, and by names that asyncssh keeps for
-itself (of 2.10.1): without one of them nobody is let in, and no host is trusted.
+asyncssh asks about a key, or about who signed a certificate; here a method of each connection is replaced, so that the whole certificate
+and the signature are asked about. It takes names that asyncssh keeps for itself (of 2.10.1): without one of them nobody is let in, and no
+host is trusted.
 """
 from __future__ import annotations
 
+import functools
 import logging
 import time
 from collections.abc import Iterable
@@ -48,43 +49,45 @@ class Server(asyncssh.SSHServer):
 
     def __init__(self, trusted: TrustedBy, verifier: Verifier = is_signature) -> None:
         self._trusted, self._verifier = trusted, verifier
-        self._connection: Any = None
 
     def connection_made(self, conn: asyncssh.SSHServerConnection) -> None:
-        self._connection = conn
-        setattr(conn, "validate_public_key", self._validate)
+        setattr(conn, "validate_public_key", functools.partial(self._validate, conn))
 
     def public_key_auth_supported(self) -> bool:
         return True
 
-    async def _validate(self, username: str, key_data: bytes, msg: bytes, signature: bytes) -> bool:
+    def validate_gss_principal(self, username: str, user_principal: str, host_principal: str) -> bool:
+        return False
+
+    async def _validate(self, conn: Any, username: str, key_data: bytes, msg: bytes, signature: bytes) -> bool:
         """Whether the client is let in, or, without a message, whether who signs would be."""
-        told, conn = self._trusted(username), self._connection
+        told = self._trusted(username)
         trusted = told if isinstance(told, Trusted) else await told
         # meanwhile the client may have asked as another user, whom asyncssh takes it for
         if username != conn._username:
             return False
+        place = place_now(conn.get_extra_info("peername"))
         try:
             if msg:
-                self._grant(log_in(
-                    Offer(username, _algorithm_in(msg), key_data), SignedRequest(conn._session_id, signature), trusted,
-                    place_now(conn.get_extra_info("peername")), self._verifier))  # fmt: skip
+                offer, signed = Offer(username, _algorithm_in(msg), key_data), SignedRequest(conn._session_id, signature)
+                _bind(conn, log_in(offer, signed, trusted, place, self._verifier))
             else:
-                may_offer(Offer(username, "", key_data), trusted, place_now(conn.get_extra_info("peername")), self._verifier)
+                may_offer(Offer(username, "", key_data), trusted, place, self._verifier)
         except Refused as refused:
             LOG.info("%r is not let in: %s", username, refused)
             return False
         return True
 
-    def _grant(self, grant: Grant) -> None:
-        """Has the session have the grant, and asyncssh keep to it, as to the options of a line."""
-        self._connection.set_extra_info(grant=grant)
-        options: dict[str, object] = {name: True for name, permit in FORBIDDEN.items() if permit not in grant.permits}
-        options["permitopen"] = _Places(grant)
-        if grant.shown_command is not None:
-            options["command"] = grant.shown_command
-        setattr(self._connection, "get_key_option", lambda option, default=None: options.get(option, default))
-        setattr(self._connection, "check_key_permission", lambda permission: f"no-{permission}" not in options)
+
+def _bind(conn: Any, grant: Grant) -> None:
+    """Has the session have the grant, and asyncssh keep to it, as to the options of a line."""
+    conn.set_extra_info(grant=grant)
+    options: dict[str, object] = {name: True for name, permit in FORBIDDEN.items() if permit not in grant.permits}
+    options["permitopen"] = _Places(grant)
+    if grant.shown_command is not None:
+        options["command"] = grant.shown_command
+    setattr(conn, "get_key_option", lambda option, default=None: options.get(option, default))
+    setattr(conn, "check_key_permission", lambda permission: f"no-{permission}" not in options)
 
 
 class _Places:
@@ -116,19 +119,28 @@ class KnownHosts(asyncssh.SSHClient):
     revoked: what the files of ssh's RevokedHostKeys have, or NO_REVOCATIONS
     verifier: as check_host_certificate takes it
 
-    Give asyncssh.connect known_hosts=None: else asyncssh asks its own files too. It raises HostKeyNotVerifiable.
+    Give asyncssh.connect known_hosts=([], [], []), by which asyncssh itself trusts nobody: else its own files count too. It raises
+    HostKeyNotVerifiable.
+
+    connection_made of a class over this one has to call this one's; else no host is trusted.
     """
 
     def __init__(self, known_hosts: Iterable[BytesLike], revoked: Iterable[BytesLike], verifier: Verifier = is_signature) -> None:
         self._known_hosts, self._revoked, self._verifier = list(known_hosts), list(revoked), verifier
-        self._connection: Any = None
+        self._is_known = False
 
     def connection_made(self, conn: asyncssh.SSHClientConnection) -> None:
-        self._connection, self._taken = conn, conn.validate_server_host_key
-        setattr(conn, "validate_server_host_key", self._validate)
+        setattr(conn, "validate_server_host_key", functools.partial(self._validate, conn, conn.validate_server_host_key))
 
-    def _validate(self, key_data: bytes) -> asyncssh.SSHKey:
-        conn = self._connection
+    def validate_host_public_key(self, host: str, addr: str, port: int, key: asyncssh.SSHKey) -> bool:
+        return self._is_known
+
+    def validate_host_ca_key(self, host: str, addr: str, port: int, key: asyncssh.SSHKey) -> bool:
+        return self._is_known
+
+    def _validate(self, conn: Any, validate: Callable[[bytes], asyncssh.SSHKey], key_data: bytes) -> asyncssh.SSHKey:
+        """The key of a host that is known, which asyncssh asks for at each exchange of keys."""
+        self._is_known = False
         host = HostLogin(self._known_hosts, conn._host, conn._port, self._revoked, int(time.time()))
         try:
             if _is_certificate(key_data):
@@ -137,7 +149,8 @@ class KnownHosts(asyncssh.SSHClient):
                 check_host_key(host, key_data)
         except Refused as refused:
             raise asyncssh.HostKeyNotVerifiable(str(refused)) from refused
-        return self._taken(key_data)
+        self._is_known = True
+        return validate(key_data)
 
 
 def _is_certificate(blob: bytes) -> bool:

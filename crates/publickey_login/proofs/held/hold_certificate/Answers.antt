@@ -65,7 +65,7 @@ returns g c =
     let given = c.in-Ok-decide.ensures in
     let same : c.in-Ok-decide.granted ≡ policies.grant_in p = cc in (
       k,
-      grants_certificate l k c.requires accepted c.in_ok-source.field-0.source found from p pends c.in-Ok-decide.granted same c.merged.result c.merged.ensures.line c.merged.ensures.terms c.merged.ensures.certified c.in_ok-fingerprint.fingerprint (subst (λ (x : Key). IsFingerprint Sha256 x c.in_ok-fingerprint.fingerprint) is_own c.in_ok-fingerprint.ensures.given),
+      grants_certificate l k c.requires accepted c.in_ok-source.field-0.source found from p pends c.in-Ok-decide.granted same c.merged.result c.merged.ensures.line c.merged.ensures.terms c.merged.ensures.certified c.in_ok-fingerprint_of-2.field-0 (subst (λ (x : Key). IsFingerprint Sha256 x c.in_ok-fingerprint_of-2.field-0) is_own c.in_ok-fingerprint_of-2.ensures.given),
       is_own,
       ap (λ (o : Option Question). Some o) (c.in-Ok-question.ensures.value ∙ ap certificate_question held),
       refl,

@@ -1,0 +1,2 @@
+pub mod Bodies
+mod Worked

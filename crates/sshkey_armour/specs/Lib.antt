@@ -1,0 +1,3 @@
+pub mod Armour
+pub mod Reading
+pub mod Examples
