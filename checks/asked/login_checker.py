@@ -180,6 +180,8 @@ SOURCES = [
     ("the second of two files", None, [("authorized-keys", OTHER), ("authorized-keys", KEY)], ("authorized_keys", 1, 1)),
     ("the first of two that let in", None, [("authorized-keys", "restrict {key}"), ("authorized-keys", KEY)], ("authorized_keys", 0, 1)),
     ("a file after one that refuses", None, [("authorized-keys", f"{THERE} {KEY}"), ("authorized-keys", KEY)], ("authorized_keys", 1, 1)),
+    ("two files that refuse", None, [("authorized-keys", f"{OTHER}\n{THERE} {KEY}"), ("authorized-keys", f'expiry-time="20200101Z" {KEY}')], (93, 0, 2)),
+    ("a line of a command that refuses, after others", None, [("command-keys", f"{THERE} {KEY}"), ("authorized-keys", OTHER)], (93, 0, 1)),
     ("a file after one that is not there", None, [("authorized-keys", "none"), ("authorized-keys", KEY)], ("authorized_keys", 1, 1)),
     ("a file before one that can't be read", None, [("authorized-keys", KEY), ("authorized-keys", "folder")], ("authorized_keys", 0, 1)),
     ("a file after one that can't be read", None, [("authorized-keys", "folder"), ("authorized-keys", KEY)], 98),
