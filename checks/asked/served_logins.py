@@ -31,11 +31,15 @@ class RealAgent:
 
     def __init__(self, path, *keys):
         self.path = path
-        self.process = subprocess.Popen(["ssh-agent", "-D", "-a", path], stdin=subprocess.DEVNULL, stdout=subprocess.DEVNULL)
-        end = time.monotonic() + SECONDS
-        while not os.path.exists(path) and time.monotonic() < end:
+        quiet = {"stdin": subprocess.DEVNULL, "stdout": subprocess.DEVNULL, "stderr": subprocess.DEVNULL}
+        self.process = subprocess.Popen(["ssh-agent", "-D", "-a", path], **quiet)
+        words, named, end = ["ssh-add", "-q", *keys], {**os.environ, "SSH_AUTH_SOCK": path}, time.monotonic() + SECONDS
+        # until it listens
+        while subprocess.run(words, env=named, check=False, **quiet).returncode:
+            if time.monotonic() > end:
+                self.shutdown()
+                raise OSError(f"ssh-add adds no key to the agent at {path}")
             time.sleep(0.05)
-        subprocess.run(["ssh-add", "-q", *keys], env={**os.environ, "SSH_AUTH_SOCK": path}, check=True)
 
     def shutdown(self):
         self.process.terminate()
@@ -102,7 +106,13 @@ class Servers:
             self.lines[name] = device.line()
         self.certified("device-listed", "device")
         self.maker.write("strangers", "")
-        self.agents = {os.path.basename(it.path): it for it in self.started()}
+        self.agents = {}
+        try:
+            for agent in self.started():
+                self.agents[os.path.basename(agent.path)] = agent
+        except OSError:
+            self.close()
+            raise
 
     def certified(self, name, key, *words):
         """A certificate of the key, in a file of that name."""
