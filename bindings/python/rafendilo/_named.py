@@ -39,7 +39,7 @@ def names_blobs(call: Call) -> Call:
 
 
 def _hint(arguments: dict[str, Any], is_type: bool) -> str:
-    """Which argument is no blob, or which field of one, and of a TypeError which is of another type; empty where none is known."""
+    """Which argument is no blob, or which field of one; of a TypeError also which is of another type. Empty where none is known."""
     for name, value in arguments.items():
         if dataclasses.is_dataclass(value):
             found = _hint(vars(value), is_type)
