@@ -311,6 +311,20 @@ def check_blobs(count, rafendilo, maker, key, certificate):
         plain, text = raised(call, given[:3]), raised(call, "a text")
         count.check(f"{name} says of other bytes what is wrong with them", plain is not None and plain[0] == "Refused" and plain[1].endswith(")"), plain)
         count.check(f"{name} names a text", text is not None and text[0] == "TypeError" and f"{argument}: a text" in text[1], text)
+    signers = rafendilo.Signers(b"", "alice", MIDDLE, rafendilo.NO_REVOCATIONS)
+    for name, value, said, call in (
+        ("key", None, "None, and no blob", rafendilo.fingerprint),
+        ("user", None, "None, and not a text", lambda it: rafendilo.check_userauth(dataclasses.replace(request, user=it))),
+        ("host", 7, "7, and not a text", lambda it: rafendilo.check_host_key(dataclasses.replace(host, host=it), key)),
+        ("identity", None, "None, and not a text", lambda it: rafendilo.check_signer_of_digest(b"", "file", b"", dataclasses.replace(signers, identity=it))),
+        ("namespace", None, "None, and not a text", lambda it: rafendilo.sshsig_question(b"", it, b"")),
+        ("signers", None, "no list of fingerprints: authorities(text).keys", lambda it: rafendilo.check_sshsig(b"", "file", b"", it)),
+        ("signers", "a path", "no list of fingerprints: authorities(text).keys", lambda it: rafendilo.check_sshsig(b"", "file", b"", it)),
+        ("known_hosts", "a path", "no list of the texts of files", lambda it: rafendilo.check_host_key(dataclasses.replace(host, known_hosts=it), key)),
+        ("revoked", None, "no list of the texts of files, or NO_REVOCATIONS", lambda it: rafendilo.check_host_key(dataclasses.replace(host, revoked=it), key)),
+    ):  # fmt: skip
+        found = raised(call, value)
+        count.check(f"an error names {name} that is {value!r}", found is not None and found[0] == "TypeError" and f"{name}: {said}" in found[1], found)
     found = raised(rafendilo.sshsig_hash, b"-----BEGIN SSH SIGNATURE-----\n")
     count.check("an armour that is given as a signature is named", found is not None and found[1].endswith(": signature: an armour, and not its bytes: read_armour(text)"), found)
 

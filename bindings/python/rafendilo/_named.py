@@ -1,4 +1,4 @@
-"""Has an error name the argument that is a line or a text in place of a blob, and say the way out."""
+"""Has an error name the argument that is not what it has to be, as a line in place of a blob, and say the way out."""
 from __future__ import annotations
 
 import dataclasses
@@ -12,6 +12,9 @@ from ._values import Refused
 Call = TypeVar("Call", bound=Callable[..., Any])
 # the arguments that are blobs, and fields of such
 BLOBS = ("blob", "certificate", "key", "host_key", "authority", "signature")
+# those that are texts, fingerprints, and texts of files, each of which has to be read
+TEXTS = ("user", "host", "identity", "namespace", "algorithm", "text")
+DIGESTS, FILES = ("authorities", "signers"), ("revoked", "known_hosts")
 # how a line begins, and an armour: a blob begins with the length of a name, which has zeros in front
 LINE, ARMOUR = re.compile(rb"[ \t]*(ssh|ecdsa|sk|rsa)-"), re.compile(rb"-----BEGIN ")
 
@@ -24,7 +27,7 @@ def names_blobs(call: Call) -> Call:
         try:
             return call(*given, **more)
         except (Refused, TypeError) as error:
-            hint = _hint(inspect.signature(call).bind_partial(*given, **more).arguments)
+            hint = _hint(inspect.signature(call).bind_partial(*given, **more).arguments, isinstance(error, TypeError))
             if not hint or hint in str(error):
                 raise
             if isinstance(error, Refused):
@@ -34,12 +37,30 @@ def names_blobs(call: Call) -> Call:
     return cast(Call, named)
 
 
-def _hint(arguments: dict[str, Any]) -> str:
-    """Which argument is no blob, or which field of one; empty where none is known."""
+def _hint(arguments: dict[str, Any], is_type: bool) -> str:
+    """Which argument is no blob, or which field of one; of a TypeError also which is of another type. Empty where none is known."""
     for name, value in arguments.items():
-        found = _hint(vars(value)) if dataclasses.is_dataclass(value) else _fault(value) if name in BLOBS else ""
+        if dataclasses.is_dataclass(value):
+            found = _hint(vars(value), is_type)
+        else:
+            fault = (_fault(value) if name in BLOBS else "") or (_type_fault(name, value) if is_type else "")
+            found = f"{name}: {fault}" if fault else ""
         if found:
-            return found if dataclasses.is_dataclass(value) else f"{name}: {found}"
+            return found
+    return ""
+
+
+def _type_fault(name: str, value: Any) -> str:
+    """What is wrong with the type of an argument of that name."""
+    # a login may be bound to no host's key
+    if name in BLOBS and name != "host_key" and value is None:
+        return "None, and no blob"
+    if name in TEXTS and not isinstance(value, (str, bytes, bytearray, memoryview)):
+        return f"{value!r:.40}, and not a text"
+    if name in DIGESTS and (value is None or isinstance(value, (str, bytes, bytearray, memoryview))):
+        return "no list of fingerprints: authorities(text).keys"
+    if name in FILES and (value is None or isinstance(value, (str, bytes, bytearray, memoryview))):
+        return "no list of the texts of files" + (", or NO_REVOCATIONS" if name == "revoked" else "")
     return ""
 
 
