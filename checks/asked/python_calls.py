@@ -314,7 +314,7 @@ def check_blobs(count, rafendilo, maker, key, certificate):
     signers = rafendilo.Signers(b"", "alice", MIDDLE, rafendilo.NO_REVOCATIONS)
     for name, value, said, call in (
         ("key", None, "None, and no blob", rafendilo.fingerprint),
-        ("user", None, "None, and not a text", lambda it: rafendilo.check_userauth(dataclasses.replace(request, user=it))),
+        ("user", None, "None, and not a text", lambda it: rafendilo.log_in(dataclasses.replace(offer, user=it), signed, trusted, place)),
         ("host", 7, "7, and not a text", lambda it: rafendilo.check_host_key(dataclasses.replace(host, host=it), key)),
         ("identity", None, "None, and not a text", lambda it: rafendilo.check_signer_of_digest(b"", "file", b"", dataclasses.replace(signers, identity=it))),
         ("namespace", None, "None, and not a text", lambda it: rafendilo.sshsig_question(b"", it, b"")),
