@@ -727,7 +727,8 @@ uint32_t raf_check_sshsig(const uint8_t *signature, size_t signature_length,
  * passes RAF_NO_REVOCATIONS, and never what is left where a file was not read. `is_verified` is 1
  * if the answer to the question of this signature, in the namespace and of the message, is yes; any
  * other number is no. Ask with 0 first: RAF_NOT_SIGNED says that its key may sign, and with any
- * other answer there is nothing to verify. A line that is not UTF-8 lets nobody sign.
+ * other answer there is nothing to verify. A line whose options are not UTF-8 lets nobody
+ * sign.
  *
  * RAF_DONE exactly if the bytes are a signature in the namespace that raises a question, without
  * reserved bytes, `is_verified` is 1, the identity has a byte, a line lets its key sign for it in
