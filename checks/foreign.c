@@ -372,6 +372,7 @@ static const struct {
     {"is-userauth", ask_userauth, "userauth_question", 6},
     {"flags", ask_number, "check_grant_flags", 2},
     {"other-key-line", ask_number, "is_later_key_line", 1},
+    {"later-kind", ask_number, "names_later_kind", 1},
     {"line-authority", ask_digest, "authority", 1},
     {"user-authority", ask_digest, "user_authority", 2},
     {"for-key", ask_number, "line_may_name_key", 2},

@@ -29,7 +29,7 @@ them: FILES, which are revocation files, and TEXTS), numbers and names:
                                                              the same of the bytes that it has signed
     is-userauth .. as userauth                               0 where it is verified too, else also 30
     flags KEY SIGNATURE PERMITS                              0
-    other-key-line LINE                                      0, or 12
+    other-key-line LINE | later-kind BYTES                   0, or 12
     line-authority LINE | user-authority LINE USER           0 SHA-256; 61 for a later kind of key, 3 for other users
     for-key LINE KEY | for-certificate LINE BYTES            0, or 3
     may-verify KEY | safe-mode OWNER USER MODE             0, or 59, or 62

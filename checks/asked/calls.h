@@ -106,6 +106,7 @@ typedef struct {
   CALL(userauth_question_of, &given->request, BYTES(6), ROOM, &it->question)                     \
   CALL(check_grant_flags, (uint32_t)it->numbers[0], BYTES(0), BYTES(1))                          \
   CALL(is_later_key_line, BYTES(0))                                                              \
+  CALL(names_later_kind, BYTES(0))                                                               \
   CALL(authority, BYTES(0), &it->sha256)                                                         \
   CALL(user_authority, BYTES(0), BYTES(1), &it->sha256)                                          \
   CALL(line_may_name_key, BYTES(0), BYTES(1))                                                    \

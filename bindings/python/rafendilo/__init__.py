@@ -28,7 +28,7 @@ import inspect as _inspect
 import textwrap as _textwrap
 
 from ._addresses import Address, check_from, check_source_address
-from ._authorities import Authorities, NoKey, authorities, is_later_key_line, user_authorities
+from ._authorities import Authorities, NoKey, authorities, is_later_key_line, names_later_kind, user_authorities
 from ._certificates import (
     certificate_contents,
     certificate_fields,
@@ -99,7 +99,7 @@ __all__ = [
     "NoKey", "Permits", "Question", "Refused", "Signers", "Status", "UserGrant", "Userauth", "Verifier", "authorities", "authorized_entry",
     "certificate_contents", "certificate_fields", "certificate_question", "certificate_to_be_signed", "check_host_certificate",
     "check_host_key", "check_userauth", "entry_lines", "line_options", "fingerprint", "fingerprint_sha512",
-    "fingerprint_sha512_text", "fingerprint_text", "check_from", "host_and_port", "check_grant_flags", "is_later_key_line", "is_signature",
+    "fingerprint_sha512_text", "fingerprint_text", "check_from", "host_and_port", "check_grant_flags", "is_later_key_line", "names_later_kind", "is_signature",
     "join_certificate", "check_certificate", "check_signer_of_digest", "check_sshsig", "check_sshsig_of_digest", "known_host", "known_hosts_of_ssh",
     "check_unrevoked_certificate_by_krl", "check_unrevoked_key_by_krl", "log_in", "log_in_by_keys", "log_in_by_principals", "make_certificate", "line_may_name_authority",
     "line_may_name_key", "may_verify", "normal_certificate", "normal_key", "normal_signature", "normal_sshsig", "options", "read_line",

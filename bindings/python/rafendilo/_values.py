@@ -27,7 +27,7 @@ NO_REVOCATIONS: Final = (b"SSHKRL\n\0\0\0\0\1" + bytes(32),)
 class Refused(ValueError):
     """What was given is not what it has to be: `status` says what is wrong first, and the text is its words and its number. `line` is
     the number, from 1, of the line of authorized_keys that refuses, and 0 where none does. `hint` names an argument that is a line in
-    place of a blob, and is empty where none is."""
+    place of a blob, or of a later kind of key, and is empty where none is."""
 
     def __init__(self, status: int, line: int = 0, hint: str = "") -> None:
         self.status, self.line, self.hint = Status(status), line, hint
