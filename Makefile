@@ -52,9 +52,9 @@ PROGRAMS := $(OUT)/sshkey-check $(OUT)/sshkey-principals $(OUT)/sshkey-authorize
 # what they are linked with, each with what it takes of it
 PARTS := $(addprefix $(OUT)/,program.o login.o login-log.o memory.o check-words.o check-lines.o check-login.o check-keys.o check-option.o \
 	check-signatures.o report.o \
-	show.o unread.o text.o certificate.o granted.o sshsig.o reading.o sha1.o later.o verdict.o verify.o)
+	show.o unread.o text.o certificate.o granted.o sshsig.o reading.o sha1.o verdict.o verify.o)
 # what programs in C take of them
-VERIFY := reading sha1 later sshsig verdict verify
+VERIFY := reading sha1 sshsig verdict verify
 PAGES := $(notdir $(wildcard $(ROOT)/helpers/*.[18]))
 
 vpath %.c $(ROOT)/helpers $(ROOT)/bindings/go/rafendilo

@@ -390,6 +390,7 @@ static const struct {
     {"host-certificate", ask_host_certificate, "check_host_certificate", 4},
     {"unreadable-line", ask_counted, "unreadable_host_line", 2},
     {"other-key-line", ask_number, "is_later_key_line", 1},
+    {"later-kind", ask_number, "names_later_kind", 1},
     {"line-authority", ask_digest, "authority", 1},
     {"user-authority", ask_digest, "user_authority", 2},
     {"for-key", ask_number, "line_may_name_key", 2},

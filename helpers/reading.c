@@ -4,7 +4,6 @@
 #include <stdlib.h>
 #include <string.h>
 
-#include "later.h"
 #include "sha1.h"
 
 raf_span raf_blob_span(raf_blob blob) {
@@ -32,9 +31,9 @@ static uint32_t told_length(const char *line, size_t length) {
 static uint32_t told_kind(const char *line, size_t length, uint32_t status) {
   raf_blob found = raf_decode_second_word(line, length, 0);
   if (!found.bytes) return RAF_MEMORY;
-  bool is_later = raf_names_later_kind(found);
+  if (raf_names_later_kind(found.bytes, found.length) == RAF_DONE) status = RAF_LATER_KEY;
   free(found.bytes);
-  return is_later ? (uint32_t)RAF_LATER_KEY : status;
+  return status;
 }
 
 uint32_t raf_read_line_blob(const char *line, size_t length, uint32_t kind, raf_blob *answer) {

@@ -33,7 +33,7 @@ raf_digests raf_authority_digests(raf_authorities by);
 
 /* The key or the certificate of a line, as the kind says: RAF_DONE, or why there is none;
  * RAF_RSA_SHA1 for a certificate that RSA with SHA-1 signed, and RAF_LATER_KEY where its bytes name
- * a later kind, of the key, of the authority or in a signature (later.h). */
+ * a later kind, of the key, of the authority or in a signature (raf_names_later_kind). */
 uint32_t raf_read_line_blob(const char *line, size_t length, uint32_t kind, raf_blob *answer);
 
 /* The same of two words, as sshd gives them: a type, and Base64. */

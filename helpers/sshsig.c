@@ -3,7 +3,6 @@
 #include <stdlib.h>
 #include <string.h>
 
-#include "later.h"
 #include "sha1.h"
 #include "verify.h"
 
@@ -52,7 +51,8 @@ static uint32_t told(uint32_t answer, raf_blob signature) {
   static const char sha1[] = "\0\0\0\7ssh-rsa";
   raf_part own = string_of(signature, SIGNATURE);
   bool is_fault = answer >= RAF_BASE64 && answer <= RAF_OTHER_ERROR;
-  if (is_fault && raf_names_later_kind(signature)) return RAF_LATER_KEY;
+  if (is_fault && raf_names_later_kind(signature.bytes, signature.length) == RAF_DONE)
+    return RAF_LATER_KEY;
   if (answer != RAF_LENGTH || own.length < sizeof sha1 - 1) return answer;
   return memcmp(signature.bytes + own.start, sha1, sizeof sha1 - 1) ? answer : RAF_RSA_SHA1;
 }

@@ -29,7 +29,7 @@ them: FILES, which are revocation files, and TEXTS), numbers and names:
     host-key TEXTS HOST KEY FILES PORT BITS                  0
     host-certificate TEXTS HOST BYTES FILES PORT BITS SECOND
     unreadable-line TEXT HOST PORT                           0 NUMBER, or 3
-    other-key-line LINE                                      0, or 12
+    other-key-line LINE | later-kind BYTES                   0, or 12
     line-authority LINE | user-authority LINE USER           0 SHA-256; 61 for a later kind of key, 3 for other users
     for-key LINE KEY | for-certificate LINE BYTES            0, or 3
     may-verify KEY | safe-mode OWNER USER MODE             0, or 59, or 62

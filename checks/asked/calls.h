@@ -111,6 +111,7 @@ typedef struct {
   CALL(check_host_certificate, &given->host, BYTES(2), (uint32_t)it->numbers[3], &it->known_by)  \
   CALL(unreadable_host_line, BYTES(0), BYTES(1), PORT, &it->length)                              \
   CALL(is_later_key_line, BYTES(0))                                                              \
+  CALL(names_later_kind, BYTES(0))                                                               \
   CALL(authority, BYTES(0), &it->sha256)                                                         \
   CALL(user_authority, BYTES(0), BYTES(1), &it->sha256)                                          \
   CALL(line_may_name_key, BYTES(0), BYTES(1))                                                    \

@@ -44,7 +44,7 @@ OF_KINDS = {
     "ssh-signature": [f"sshsig {{}} {FILE} {b'message'.hex()}", "normal sshsig {}", f"signer - {FILE} {FILE} {{}} - {MIDDLE} 1"],
 }  # fmt: skip
 OF_OTHERS = [
-    "normal signature {}", "lines {}", "entry {}", "host {}", "options {}", "line {}", "unrevoked-key-by-krl {} -", "unrevoked-key {} -", "other-key-line {}", "time {}", "armour {}",
+    "normal signature {}", "lines {}", "entry {}", "host {}", "options {}", "line {}", "unrevoked-key-by-krl {} -", "unrevoked-key {} -", "other-key-line {}", "later-kind {}", "time {}", "armour {}",
     "may-verify {}", f"for-key {{}} {KEY}", f"for-key {KEY} {{}}", f"for-certificate {KEY} {{}}",
     f"unreadable-line {{}} {HOST} 22", f"host-key {{}} {HOST} {KEY} {NONE} 22 0", SIGNED,
 ]  # fmt: skip

@@ -16,7 +16,7 @@ C = ["cc", "-std=c11", "-D_POSIX_C_SOURCE=200809L", *WARNINGS, f"-I{ROOT}/includ
 # under which a program that reads or writes where it may not, or gives no memory back, ends with 9
 VALGRIND = ["valgrind", "-q", "--leak-check=full", "--error-exitcode=9"]
 # the helpers' parts that are there to be copied
-COPIED = ("reading", "sha1", "later", "sshsig", "verdict", "verify")
+COPIED = ("reading", "sha1", "sshsig", "verdict", "verify")
 # what memory_calls.h and helper_calls.h wrap
 WRAPPED = "-Wl,--wrap=malloc,--wrap=realloc,--wrap=free,--wrap=raf_is_signature"
 # what the library may take of the C library

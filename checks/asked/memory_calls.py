@@ -7,7 +7,7 @@ from dataclasses import replace
 
 from lib.harness import blob_of, ssh_keygen, string
 
-from .hosts import LATER
+from .hosts import LATER, LATER_NAME
 from .key_calls import all_of, encoded, keys_of, renamed, signed_by
 from .linked import ABI, VERSION, data_of, declared, header, several, word
 from .publickey import REQUEST, SSHD, UNREADABLE, Login
@@ -130,6 +130,8 @@ def of_hosts(maker, second):
         yield "unreadable_host_line", [text, b"host"], [22], wanted
     for line, wanted in ((LATER["later"].encode(), "DONE"), (LATER["cut"].encode(), "LABEL"), (b"", "LABEL"), (b"\xff", "TEXT")):
         yield "is_later_key_line", [line], [], wanted
+    for data, wanted in ((string(LATER_NAME), "DONE"), (b"x" + string(LATER_NAME) + b"x", "DONE"), (LATER_NAME, "LABEL"), (b"", "LABEL")):
+        yield "names_later_kind", [data], [], wanted
     key, key_line = f"ssh-ed25519 {by}".encode(), f"ssh-ed25519 {encoded(own)}"
     for line, wanted in ((key, "DONE"), (LATER["later"].encode(), "LATER_KEY"), (key[:-1], "BASE64"), (b"\xff", "TEXT")):
         yield "authority", [line], [], wanted

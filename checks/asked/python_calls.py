@@ -21,7 +21,7 @@ from lib.harness import string, take
 
 from .certificate_calls import CASES, certificate_of
 from .forwards import check_forwards
-from .hosts import LATER
+from .hosts import LATER, LATER_NAME
 from .made import MIDDLE
 from .verdicts import status_of
 
@@ -325,6 +325,12 @@ def check_blobs(count, rafendilo, maker, key, certificate):
     ):  # fmt: skip
         found = raised(call, value)
         count.check(f"an error names {name} that is {value!r}", found is not None and found[0] == "TypeError" and f"{name}: {said}" in found[1], found)
+    later, hint = base64.b64decode(LATER["later"].split()[1]), "of a later kind of key, which is not read"
+    for name, (argument, call, _) in calls.items():
+        found = raised(call, later)
+        count.check(f"{name} names a later kind of key", found is not None and found[0] == "Refused" and found[1].endswith(f": {argument}: {hint}"), found)
+    found = raised(rafendilo.check_unrevoked_key, [b"x\n"], string(b"key@example.com") + string(string(LATER_NAME)))
+    count.check("where a key is read, no later kind is named", found is not None and found[0] == "Refused" and hint not in found[1], found)
     found = raised(rafendilo.sshsig_hash, b"-----BEGIN SSH SIGNATURE-----\n")
     count.check("an armour that is given as a signature is named", found is not None and found[1].endswith(": signature: an armour, and not its bytes: read_armour(text)"), found)
 

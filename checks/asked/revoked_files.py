@@ -8,7 +8,7 @@ from concurrent.futures import ThreadPoolExecutor
 from lib.asking import of_table, share
 from lib.harness import blob_of, new_key, openssh, reads_dsa, ssh_keygen, string, take
 
-from .hosts import LATER
+from .hosts import LATER, LATER_NAME
 
 # how many files are changed, and how often each answer has to come
 CHANGED, LEAST = 160, 60
@@ -26,6 +26,7 @@ BY_HAND = [
     "{compressed}\n", "{held_compressed}\n", "{held}\n", "{zero_byte}\n", "{held_zero_byte}\n", "{by_private}\n", "{by_small}\n",
     "{by_point}\n", "{zero_in_id}\n", "{zero_in_name}\n", "{many_principals}\n", "{p256}\n", "{rsa}\n{key}\n", "SSHKRL\n", "SSHKRL", "{key}\n#", "{key}\n #\n", "{key}\n\f\n", "{key}\n\v{other}\n", "\ufeff{key}\n",
     "# gr\udcf6\udcdfe\n{key}\n", "{key} gr\udcf6\udcdfe\n", "{other} \udcff\n{key}\n", "{other}\t\udcff\n", "{certificate} \udcff\n", "\udcff\n", "\udcff{key}\n",
+    "{later}\nx\n", "{later_short}\n", "{later_long}\n", "{later_trailing}\n", "{later_cut}\n", "{later_name}\n", "{later_named}\n", "{misnamed}\n",
     "{name}\udcff {word}\n", "{name} {word}\udcff\n", "{name} \udcff\n", "{other} \udcff\nx\n", "{key}\n{name} {word}\udcff\n",
 ]  # fmt: skip
 # files that one of both refuses alone: what is otherwise, and whether it is read here (docs/FORMATS.md)
@@ -33,13 +34,15 @@ OTHERWISE = {
     "\0x\n": False, "{other}\n \0\n": False, "{other}\0\n": False, "{name} {split}\n": False, "rsa-sha2-256 {rsa_word}\n": False, "{off_curve}\n": True, "{unsigned}\n": True, "{ended}\n": False,
     "{no_exponent}\n": False,
 }  # fmt: skip
-DSA, LATER_KIND = "{dsa}\n", "{later}\n"
+DSA = "{dsa}\n"
+# 10.6 alone reads these: a key of its own kind, by which nobody is let in here
+LATER_KIND = ["{later}\n", "{later}", "\t{later}\r\n", "{key}\n{later}\n", "{later}\n{key}\n", "# x\n{other}\n{later} x\n\n"]
 BASE = "# x\n\n \t{other}\n{name}\t{word} x\r\n{other} y\n"
 
 
 def otherwise():
     """OTHERWISE, with what the version refuses, or reads, alone."""
-    return {**OTHERWISE, DSA: None if reads_dsa() else True, LATER_KIND: None if openssh() < (10, 6) else False}
+    return {**OTHERWISE, DSA: None if reads_dsa() else True, **dict.fromkeys(LATER_KIND, True if openssh() < (10, 6) else None)}
 
 
 def made(folder):
@@ -60,9 +63,19 @@ def made(folder):
     unsigned = f"{lines['certificate'].split()[0]} {base64.b64encode(blob[:-1] + bytes([blob[-1] ^ 1])).decode()}"
     return lines | strange_lines(blob_of(lines["p256"]), blob_of(lines["certificate"])) | {
         "name": name, "word": word, "short": word[:-4], "cert_word": lines["certificate"].split()[1], "small": f"ssh-rsa {small}",
-        "unsigned": unsigned, "rsa_word": lines["rsa"].split()[1], "later": LATER["later"],
+        "unsigned": unsigned, "rsa_word": lines["rsa"].split()[1], **later_lines(),
         "split": f"{lines['other'].split()[1][:20]}\r{lines['other'].split()[1][20:]}",
     }  # fmt: skip
+
+
+def later_lines():
+    """A line of a key of 10.6's own kind, and such lines in which something is wrong."""
+    name, own = string(LATER_NAME), bytes(range(256)) * 5 + bytes(64)
+    blobs = {"later_short": name + string(own[1:]), "later_long": name + string(own + b"x"), "later_trailing": name + string(own) + b"x", "later_name": name}
+    lines = {it: f"{LATER_NAME.decode()} {base64.b64encode(blob).decode()}" for it, blob in blobs.items()}
+    whole = LATER["later"].split()[1]
+    named = {"later": LATER["later"], "later_cut": LATER["cut"], "later_named": f"ssh-ed25519 {whole}", "misnamed": LATER["misnamed"]}
+    return lines | named
 
 
 def with_parts(certificate, key_id=None, principals=None, signer=None):

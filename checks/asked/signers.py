@@ -148,6 +148,18 @@ TEXTS = [
     ("a comment of another key that is not UTF-8", "{who} {other} gr\udcf6\udcdfe\n{who} {key}\n", OK),
     ("another identity that is not UTF-8", "gr\udcf6n@example.com {key}\n{who} {key}\n", OK),
     ("an identity that is not UTF-8 alone", "gr\udcf6n@example.com {key}\n", NO),
+    ("a comment that is not UTF-8", "{who} {key} gr\udcf6\udcdfe\n", OK),
+    ("a comment of one byte that is not UTF-8", "{who} {bare}\t\udcff\n", OK),
+    ("a comment that is not UTF-8 after options", '{who} namespaces="git" {key} gr\udcf6\udcdfe " \\"\n', OK),
+    ("a comment that is not UTF-8 after another namespace", '{who} namespaces="file" {key} gr\udcf6\udcdfe\n', NO),
+    ("a pattern beside that is not UTF-8", "gr\udcf6n@example.com,{who} {key}\n", OK),
+    ("a pattern in quotes that is not UTF-8", '"gr\udcf6n a,{who}" {key} gr\udcf6n\n', OK),
+    ("a negated pattern that is not UTF-8", "!gr\udcf6n@example.com,{who} {key}\n", OK),
+    ("negated beside a pattern that is not UTF-8", "gr\udcf6n@example.com,!{who},* {key}\n", NO),
+    ("a byte behind the key that is not UTF-8", "{who} {bare}\udcff\n", NO),
+    ("a byte behind the key's name that is not UTF-8", "{who} ssh-ed25519\udcff {word}\n", NO),
+    ("a byte before the key that is not UTF-8", "{who} \udcff{key}\n", NO),
+    ("an option that is not UTF-8", "{who} gr\udcf6n {key}\n", NO),
 ]  # fmt: skip
 
 # read by ssh-keygen and not here, which lets nobody else in
@@ -164,8 +176,7 @@ STRICTER = [
     ("a zero byte in the comment", "{who} {key} x\0y\n", NO),
     ("a form feed within a key", "{who} ssh-ed25519 \f{word}\n", NO),
     ("a space in a time", '{who} valid-after="2023 101Z" {key}\n', NO),
-    ("a comment that is not UTF-8", "{who} {key} gr\udcf6\udcdfe\n", NO),
-    ("a pattern beside that is not UTF-8", "gr\udcf6n@example.com,{who} {key}\n", NO),
+    ("a namespace beside that is not UTF-8", '{who} namespaces="gr\udcf6n,git" {key}\n', NO),
 ]
 
 # read by ssh-keygen since 10.0, and not before

@@ -9,6 +9,13 @@ from lib.signatures import mpint
 from .hosts import LATER
 from .issued_keys import CURVES, FORMS, NEGATIVE, ZERO, of_bits
 from .linked import word
+from .newer_answers import Stored
+
+# names of kinds that OpenSSH has or had, beside that of the key of 10.6 (PROTOCOL.u2f; sshkey.c and ssh-xmss.c of 10.0)
+KINDS = [
+    b"ssh-mldsa44-ed25519-cert", b"webauthn-sk-ecdsa-sha2-nistp256@openssh.com", b"webauthn-sk-ecdsa-sha2-nistp256-cert-v01@openssh.com",
+    b"ssh-xmss@openssh.com", b"ssh-xmss-cert-v01@openssh.com",
+]  # fmt: skip
 
 
 def lines(key, certificate):
@@ -67,6 +74,22 @@ def keys():
             yield f"{curve.decode()}, {form}", string(b"ecdsa-sha2-" + curve) + string(curve) + spelled, is_whole, is_whole
 
 
+def check_kinds(judge):
+    """Which bytes name a kind of key that is none here: a key of 10.6, certificates by it and of it, and other kinds' names."""
+    held, own = Stored().held, judge.made.kinds[0].blob
+    later = blob_of(held["later"])
+    cases = [
+        ("a key", later, True), ("a certificate by it", blob_of(held["by a later kind"]), True), ("its name alone", later[:23], True),
+        ("its name behind a byte", b"x" + later[:23], True), ("its name but for a byte", later[:22], False), ("its name, and no length", later[4:], False),
+        ("its name and another length", string(later[4:23] + b"x"), False), ("a certificate of another key", blob_of(held["of the host"]), False),
+        ("another key", blob_of(held["key"]), False), ("nothing", b"", False), ("a length", string(b""), False), ("a certificate", own, False),
+    ]  # fmt: skip
+    for name in KINDS:
+        cases += [(name.decode(), string(name) + b"x", True), (f"{name.decode()} in a certificate", own + string(name), True)]
+        cases += [(f"{name.decode()}, with another byte", string(name[:-1] + b"x"), False)]
+    judge.hold("a later kind of key", [(name, f"later-kind {word(data)}", "0" if named else "12") for name, data, named in cases])
+
+
 def check_keys(judge):
     maker, cases = judge.made.maker, []
     for name, blob, openssh_accepts_key, is_taken in keys():
@@ -118,5 +141,6 @@ def check_entries(judge):
 def check_trust(judge):
     check_entries(judge)
     check_lines(judge)
+    check_kinds(judge)
     check_keys(judge)
     check_modes(judge)

@@ -100,6 +100,9 @@ class VerdictAnswers:
         # 12 is RAF_LABEL
         return ["0" if self.rafendilo.is_later_key_line(data_of(line)) else "12"]
 
+    def later_kind(self, data):
+        return ["0" if self.rafendilo.names_later_kind(data_of(data)) else "12"]
+
     def authority(self, found):
         # 61 is RAF_LATER_KEY, and 3 RAF_END
         return ["0", word(found.keys[0])] if found.keys else ["61" if found.later_lines else "3"]

@@ -67,6 +67,14 @@ func IsLaterKeyLine(line string) (bool, error) {
 	return err == nil, err
 }
 
+// NamesLaterKind tells whether bytes name, as a string, a kind of key that OpenSSH reads or read and
+// that is not read here, of its certificates or of its signatures. It tells why they are no key, no
+// certificate, whose authority may be such a key, or no signature.
+func NamesLaterKind(data []byte) bool {
+	in := inputOf(data)
+	return C.raf_names_later_kind(in.pointer(), in.length()) == C.RAF_DONE
+}
+
 // IsSafeMode tells whether a file or a folder may be believed about a user, as by sshd's
 // StrictModes: root or the user owns it, and neither group nor others may write. The numbers are
 // those of stat(2); the user 0 is root.

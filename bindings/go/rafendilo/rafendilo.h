@@ -143,7 +143,7 @@ enum {
 
   RAF_LATER_KEY = 61,   /* the line has a key of a later kind, which signs nothing that is read:
                            pass over it, and say so. Of bytes that name such a kind the calls say 10
-                           to 29; raf_read_line_blob and sshsig.h of helpers/ tell it */
+                           to 29, and raf_names_later_kind tells it */
   RAF_UNSAFE_MODE = 62, /* another's, or others may write it */
 
   /* 70 to 76, with 59 after 72: a certificate that lets nobody in, whoever signed it; the first of
@@ -359,6 +359,14 @@ uint32_t raf_read_line(const uint8_t *line, size_t line_length, uint8_t *buffer,
  * RAF_DONE exactly if it has; RAF_LABEL if not, also for a key that is read here, and
  * RAF_TEXT for a line that is not UTF-8. Takes no memory. */
 uint32_t raf_is_later_key_line(const uint8_t *line, size_t line_length);
+
+/* Whether bytes name, as a string, a kind of key that OpenSSH reads or read and no call here does,
+ * of its certificates or of its signatures: ssh-mldsa44-ed25519 of 10.4, those of WebAuthn, and
+ * ssh-xmss@openssh.com up to 10.0. It tells why bytes are no key, no certificate, whose authority
+ * may be such a key, or no signature: ask it after 10 to 29 alone.
+ *
+ * RAF_DONE exactly if they do; else RAF_LABEL. Takes no memory. */
+uint32_t raf_names_later_kind(const uint8_t *bytes, size_t length);
 
 /* ---- what may be believed -------------------------------------------------------------------- */
 
@@ -635,7 +643,8 @@ uint32_t raf_check_sshsig(const uint8_t *signature, size_t signature_length,
  * passes RAF_NO_REVOCATIONS, and never what is left where a file was not read. `is_verified` is 1
  * if the answer to the question of this signature, in the namespace and of the message, is yes; any
  * other number is no. Ask with 0 first: RAF_NOT_SIGNED says that its key may sign, and with any
- * other answer there is nothing to verify. A line that is not UTF-8 lets nobody sign.
+ * other answer there is nothing to verify. A line whose options are not UTF-8 lets nobody
+ * sign.
  *
  * RAF_DONE exactly if the bytes are a signature in the namespace that raises a question, without
  * reserved bytes, `is_verified` is 1, the identity has a byte, a line lets its key sign for it in

@@ -30,7 +30,7 @@ import inspect as _inspect
 import textwrap as _textwrap
 
 from ._addresses import Address, check_from, check_source_address
-from ._authorities import Authorities, NoKey, authorities, is_later_key_line, user_authorities
+from ._authorities import Authorities, NoKey, authorities, is_later_key_line, names_later_kind, user_authorities
 from ._certificates import (
     certificate_contents,
     certificate_fields,
@@ -113,9 +113,9 @@ __all__ = [
     "check_unrevoked_key", "check_unrevoked_key_by_krl", "entry_lines", "fingerprint", "fingerprint_sha512",
     "fingerprint_sha512_text", "fingerprint_text", "host_and_port", "is_later_key_line", "is_safe_mode", "is_signature",
     "join_certificate", "known_host", "known_hosts_of_ssh", "line_may_name_authority", "line_may_name_key", "line_options",
-    "log_in", "make_certificate", "may_offer", "may_verify", "normal_certificate", "normal_key", "normal_signature",
-    "normal_sshsig", "options", "random_art", "read_armour", "read_line", "read_time", "signature_question", "sshsig_hash",
-    "sshsig_question", "sshsig_question_of_digest", "sshsig_reserved", "string", "strings", "unreadable_host_line",
+    "log_in", "make_certificate", "may_offer", "may_verify", "names_later_kind", "normal_certificate", "normal_key",
+    "normal_signature", "normal_sshsig", "options", "random_art", "read_armour", "read_line", "read_time", "signature_question",
+    "sshsig_hash", "sshsig_question", "sshsig_question_of_digest", "sshsig_reserved", "string", "strings", "unreadable_host_line",
     "user_authorities",
 ]  # fmt: skip
 

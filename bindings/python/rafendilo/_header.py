@@ -545,6 +545,7 @@ CALLS: dict[str, tuple[Any, ...]] = {
     "raf_abi": (),
     "raf_read_line": (c_char_p, c_size_t, POINTER(c_uint8), c_size_t, POINTER(Line)),
     "raf_is_later_key_line": (c_char_p, c_size_t),
+    "raf_names_later_kind": (c_char_p, c_size_t),
     "raf_authority": (c_char_p, c_size_t, POINTER(Sha256)),
     "raf_user_authority": (c_char_p, c_size_t, c_char_p, c_size_t, POINTER(Sha256)),
     "raf_may_verify": (c_char_p, c_size_t),

@@ -1,4 +1,5 @@
-"""Has an error name the argument that is not what it has to be, as a line in place of a blob, and say the way out."""
+"""Has an error name the argument that is not what it has to be, as a line in place of a blob, and say the way out, or that it is of a
+later kind of key."""
 from __future__ import annotations
 
 import dataclasses
@@ -7,6 +8,8 @@ import inspect
 import re
 from typing import Any, Callable, TypeVar, cast
 
+from ._header import Status
+from ._library import LIBRARY, bytes_of
 from ._values import Refused
 
 Call = TypeVar("Call", bound=Callable[..., Any])
@@ -27,7 +30,9 @@ def names_blobs(call: Call) -> Call:
         try:
             return call(*given, **more)
         except (Refused, TypeError) as error:
-            hint = _hint(inspect.signature(call).bind_partial(*given, **more).arguments, isinstance(error, TypeError))
+            arguments = inspect.signature(call).bind_partial(*given, **more).arguments
+            hint = _hint(arguments, _any_fault if isinstance(error, TypeError) else _blob_fault)
+            hint = hint or (_hint(arguments, _later) if _is_unread(error) else "")
             if not hint or hint in str(error):
                 raise
             if isinstance(error, Refused):
@@ -37,17 +42,30 @@ def names_blobs(call: Call) -> Call:
     return cast(Call, named)
 
 
-def _hint(arguments: dict[str, Any], is_type: bool) -> str:
-    """Which argument is no blob, or which field of one; of a TypeError also which is of another type. Empty where none is known."""
+def _is_unread(error: Exception) -> bool:
+    """Whether bytes are no key, no certificate and no signature."""
+    return isinstance(error, Refused) and Status.BASE64 <= error.status < Status.NOT_SIGNED
+
+
+def _hint(arguments: dict[str, Any], fault_of: Callable[[str, Any], str]) -> str:
+    """What is wrong with which argument, or which field of one; empty where nothing is known."""
     for name, value in arguments.items():
         if dataclasses.is_dataclass(value):
-            found = _hint(vars(value), is_type)
+            found = _hint(vars(value), fault_of)
         else:
-            fault = (_fault(value) if name in BLOBS else "") or (_type_fault(name, value) if is_type else "")
+            fault = fault_of(name, value)
             found = f"{name}: {fault}" if fault else ""
         if found:
             return found
     return ""
+
+
+def _blob_fault(name: str, value: Any) -> str:
+    return _fault(value) if name in BLOBS else ""
+
+
+def _any_fault(name: str, value: Any) -> str:
+    return _blob_fault(name, value) or _type_fault(name, value)
 
 
 def _type_fault(name: str, value: Any) -> str:
@@ -74,3 +92,9 @@ def _fault(value: Any) -> str:
     if isinstance(value, (bytes, bytearray, memoryview)) and ARMOUR.match(value):
         return "an armour, and not its bytes: read_armour(text)"
     return said
+
+
+def _later(name: str, value: Any) -> str:
+    is_blob = name in BLOBS and isinstance(value, (bytes, bytearray, memoryview))
+    is_later = is_blob and LIBRARY.raf_names_later_kind(*bytes_of(value)) == Status.DONE
+    return "of a later kind of key, which is not read" if is_later else ""

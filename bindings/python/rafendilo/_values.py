@@ -49,7 +49,8 @@ Text = Union[bytes, bytearray, memoryview, Unreadable]
 class Refused(ValueError):
     """What was given is not what it has to be: `status` says what is wrong first, and the text is its words and its number. Of a login
     `line` is the number, from 1, of the line that refuses, `text` the number, from 0, of its text, and `source` which texts these are:
-    0, 0 and None where none does. `hint` names an argument that is a line in place of a blob, and is empty where none is."""
+    0, 0 and None where none does. `hint` names an argument that is a line in place of a blob, or of a later kind of key, and is empty where
+    none is."""
 
     def __init__(self, status: int, line: int = 0, text: int = 0, source: int | None = None, hint: str = "") -> None:
         self.status, self.line, self.text, self.hint = Status(status), line, text, hint

@@ -67,6 +67,14 @@ pub fn is_later_key_line(line: &[u8]) -> Result<bool, Status> {
     }
 }
 
+/// Whether the bytes name, as a string, a kind of key that OpenSSH reads or read and that is not
+/// read here, of its certificates or of its signatures. It tells why they are no key, no
+/// certificate, whose authority may be such a key, or no signature.
+#[must_use]
+pub fn names_later_kind(bytes: &[u8]) -> bool {
+    Status::of(raw::raf_names_later_kind(bytes)).is_ok()
+}
+
 impl fmt::Display for NoKey {
     fn fmt(&self, formatter: &mut fmt::Formatter<'_>) -> fmt::Result {
         write!(formatter, "line {}: {}", self.line, self.status)

@@ -79,7 +79,9 @@ mod strings;
 mod times;
 
 pub use addresses::{check_from, check_source_address};
-pub use authorities::{authorities, is_later_key_line, user_authorities, Authorities, NoKey};
+pub use authorities::{
+    authorities, is_later_key_line, names_later_kind, user_authorities, Authorities, NoKey,
+};
 pub use certificates::{
     certificate_contents, certificate_fields, certificate_key, certificate_options,
     certificate_question, check_certificate, check_certificate_with_answer, CertificateContents,

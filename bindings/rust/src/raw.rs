@@ -673,6 +673,7 @@ calls! {
     [expect_abi();]
     fn raf_read_line(line: &[u8], buffer: &mut [u8], answer: &mut Line);
     fn raf_is_later_key_line(line: &[u8]);
+    fn raf_names_later_kind(bytes: &[u8]);
     fn raf_authority(line: &[u8], answer: &mut Sha256);
     fn raf_user_authority(line: &[u8], user: &[u8], answer: &mut Sha256);
     fn raf_may_verify(key: &[u8]);

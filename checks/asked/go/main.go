@@ -118,6 +118,12 @@ var answers = map[string]func(of []string) ([]string, error){
 		}
 		return nil, err
 	},
+	"later-kind": func(of []string) ([]string, error) {
+		if rafendilo.NamesLaterKind([]byte(text(of[0]))) {
+			return nil, nil
+		}
+		return nil, rafendilo.ErrLabel
+	},
 	"line-authority": func(of []string) ([]string, error) {
 		return authority(rafendilo.Authorities(text(of[0])))
 	},

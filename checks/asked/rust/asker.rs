@@ -150,6 +150,10 @@ fn other_key_line(line: &[u8]) -> Answer {
     Ok(number_of(if is_other { Ok(()) } else { Err(Status::LABEL) }))
 }
 
+fn later_kind(bytes: &[u8]) -> String {
+    number_of(if rafendilo::names_later_kind(bytes) { Ok(()) } else { Err(Status::LABEL) })
+}
+
 fn authority(found: Result<rafendilo::Authorities, rafendilo::NoKey>) -> Answer {
     let found = found.map_err(|it| it.status)?;
     match (found.keys.first(), found.later_lines.first()) {
@@ -362,6 +366,7 @@ fn answer(question: &str) -> Answer {
         "host-key" | "host-certificate" => Ok(host_verdict(what, given)),
         "unreadable-line" => unreadable_line(given),
         "other-key-line" => other_key_line(&at(0)),
+        "later-kind" => Ok(later_kind(&at(0))),
         "line-authority" => authority(rafendilo::authorities(&at(0))),
         "user-authority" => authority(rafendilo::user_authorities(&at(0), &at(1))),
         "for-key" => may_be(rafendilo::line_may_name_key(&at(0), &at(1))),

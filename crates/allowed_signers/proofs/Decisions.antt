@@ -1,14 +1,20 @@
 -- What a verdict, an entry and a line decide.
-use Rattle.std.proofs.Common.{◌≡◌, ◌≢◌, ◌⊎◌, ◌↔◌, ◌==◌, ◌∙◌, ℕ, List, [], ◌∷◌, length, eqb-true, arith, sym, Bool, true, false, Option, Some, None, Result, Ok, Err, IfErr, IfOk, IsTrue, refl, subst, inl, inr}
+use Rattle.std.proofs.Common.{◌≡◌, ◌≢◌, ◌⊎◌, ◌↔◌, ◌==◌, ◌∙◌, ℕ, List, [], ◌∷◌, ◌++◌, length, slice_index, eqb-true, arith, sym, ap, Bool, true, false, Option, Some, None, Result, Ok, Err, IfErr, IfOk, IsTrue, refl, subst, inl, inr}
 use Rattle.std.specs.Str.{IsUtf8}
 use Rattle.sshkey_base.specs.Acceptance.{AcceptsExactly}
 use Rattle.sshkey_base.specs.Causes.{NoMemory, cause}
 use Rattle.sshkey_base.specs.Reading.{NoSpelling}
 use Rattle.sshkey_base.specs.Source.{IsSound, all_of}
 use Rattle.sshkey_entries.specs.AuthorizedKeys.{AuthorizedKey}
-use Rattle.sshkey_entries.specs.Entries.{IsNoEntry}
+use Rattle.sshkey_authorized_keys.proofs.OptionEnds.{bad_key, comment_read, options_read, uncut}
+use Rattle.sshkey_authorized_keys.specs.OpenSshFaults.{HasNoEnd}
+use Rattle.sshkey_entries.proofs.OneEntry.{one_end}
+use Rattle.sshkey_entries.proofs.OneOpenSshLine.{same_front}
+use Rattle.sshkey_entries.specs.Entries.{hash_sign}
+use Rattle.sshkey_entries.specs.Fields.{AreKeyFields, AreNoKeyFields, without_blanks}
+use Rattle.sshkey_entries.specs.OptionEnds.{EndsOptions}
 use Rattle.sshkey_entries.specs.Laws.{EntriesDetermineValues}
-use Rattle.sshkey_entries.specs.OpenSshLines.{IsAuthorizedLine}
+use Rattle.sshkey_entries.specs.OpenSshLines.{IsAfterOptions, IsAuthorizedLine}
 use Rattle.sshkey_entries.specs.Patterns.{MatchesList}
 use Rattle.sshkey_model.specs.Keys.{Key}
 use Rattle.sshkey_model.specs.Lines.{IsWithout}
@@ -22,7 +28,7 @@ use Rattle.sshkey_base.specs.declared.error.Error.{Error}
 use Rattle.sshkey_base.specs.declared.error.Error.TheVariants.{Encoding, Memory}
 use Rattle.sshkey_base.specs.declared.encoding.Error.TheVariants.{Length}
 use Rattle.sshkey_base.proofs.Acceptance.{other_cause}
-use Rattle.allowed_signers.specs.AllowedSigners.{AllowsSigner, AnswersYesOrNo, HasEntryFor, HasSignature, HasSigned, IsEntryFor, IsNo, IsRefusalFor, OkExactly, OptionsPermit, ReadsSignature}
+use Rattle.allowed_signers.specs.AllowedSigners.{AllowsSigner, AnswersYesOrNo, HasEntryFor, HasSignature, HasSigned, IsEntryFor, IsNo, IsRefusalFor, OkExactly, OptionsPermit, ReadsSignature, bare_entry}
 use Rattle.sshkey_entries.specs.Readings.{IsTheOne}
 use Rattle.allowed_signers.specs.Principals.{ArePrincipals}
 use Rattle.allowed_signers.specs.SignerOptions.{AreTerms, Permits, Terms, terms_of}
@@ -39,10 +45,6 @@ never P none = (λ yes. absurd (is_no yes), λ p. absurd (none p))
 pub told_as : (P Q : Type 0) → (P → Q) → (Q → P) → (r : Result Bool Error) → IfOk r (λ yes. IsTrue yes ↔ P) → IfOk r (λ yes. IsTrue yes ↔ Q)
 told_as P Q there back (Ok answer) is = (λ e. there (is.0 e), λ q. is.1 (back q))
 told_as P Q there back (Err e) is = tt
-
--- what is told of a text is told of its bytes
-pub of_text : (P : List ℕ → Type 0) (line text : List ℕ) → IsUtf8 line → text ≡ line → (r : Result Bool Error) → IfOk r (λ yes. IsTrue yes ↔ P text) → IfOk r (λ yes. IsTrue yes ↔ (IsUtf8 line × P line))
-of_text P line text utf8 is = told_as (P text) (IsUtf8 line × P line) (λ p. (utf8, subst P is p)) (λ both. subst P (sym is) both.1)
 
 -- ---- from a refusal to an answer
 
@@ -109,14 +111,46 @@ nothing_permitted namespace time options found e one =
     let none : IsTheOne terms_of (AreTerms options) None = subst (λ (o : Option SignerOptions). IsTheOne terms_of (AreTerms options) o) e one in
     never (OptionsPermit namespace time options) (λ p. none p.terms p.said)
 
-pub entry_decides : (namespace : List ℕ) (time : ℕ) (key : Key) (text : List ℕ) (a : AuthorizedKey) → EntriesDetermineValues IsAuthorizedLine → IsAuthorizedLine text a
-    → (r : Result Bool Error) → IfOk r (λ yes. IsTrue yes ↔ IsEntryFor namespace time key a) → IfOk r (λ yes. IsTrue yes ↔ HasEntryFor namespace time key text)
-entry_decides namespace time key text a one read =
-    told_as (IsEntryFor namespace time key a) (HasEntryFor namespace time key text) (λ is. (a, read, is))
-    (λ has. subst (λ (b : AuthorizedKey). IsEntryFor namespace time key b) (one text has.0 a has.1 read) has.2)
+-- whatever its comment is
+pub entry_decides : (namespace : List ℕ) (time : ℕ) (key : Key) (text : List ℕ) (a : AuthorizedKey) → EntriesDetermineValues IsAuthorizedLine → IsAuthorizedLine text a → IsUtf8 a.options
+    → (r : Result Bool Error) → IfOk r (λ yes. IsTrue yes ↔ IsEntryFor namespace time key (bare_entry a.options a.key)) → IfOk r (λ yes. IsTrue yes ↔ HasEntryFor namespace time key text)
+entry_decides namespace time key text a one read utf8 =
+    told_as (IsEntryFor namespace time key (bare_entry a.options a.key)) (HasEntryFor namespace time key text)
+    (λ is. (a, read, utf8, record { own_key = is.own_key; application = is.application; options = is.options }))
+    (λ has.
+    let is = subst (λ (b : AuthorizedKey). IsEntryFor namespace time key b) (one text has.0 a has.1 read) has.3 in
+    record { own_key = is.own_key; application = is.application; options = is.options })
 
-pub no_entry : (namespace : List ℕ) (time : ℕ) (key : Key) (text : List ℕ) (e : Error) → (cause e ≢ NoMemory → IsNoEntry IsAuthorizedLine text) → (r : Result Bool Error) → IsNo e r → IfOk r (λ yes. IsTrue yes ↔ HasEntryFor namespace time key text)
-no_entry namespace time key text e none = refused (HasEntryFor namespace time key text) e (λ other has. none (other_cause e other) has.0 has.1)
+-- a text, without the blanks at its front, that no key begins
+module _ (namespace : List ℕ) (time : ℕ) (key : Key) (text fields : List ℕ) (skips : fields ≡ without_blanks text) where
+  pub no_comment_for : slice_index fields 0 ≡ hash_sign → HasEntryFor namespace time key text → ⊥
+  no_comment_for here has = comment_read text fields skips here has.0 has.1
+
+  module _ (alone : AreNoKeyFields fields) where
+    after : (a : AuthorizedKey) → IsAuthorizedLine text a → IsAfterOptions fields a
+    after a read = elim read.is [
+      | inl is ↦ absurd (alone a.key a.comment (subst (λ (t : List ℕ). AreKeyFields t a.key a.comment) (sym skips) is.fields))
+      | inr is ↦ subst (λ (t : List ℕ). IsAfterOptions t a) (sym skips) is
+    ]
+
+    pub no_options_for : HasNoEnd fields → HasEntryFor namespace time key text → ⊥
+    no_options_for none has = uncut fields none has.0 (after has.0 has.1)
+
+    module _ (front rest : List ℕ) (cut : (fields ≡ front ++ rest) × EndsOptions fields (length front)) where
+      pub no_text_for : (IsUtf8 front → ⊥) → HasEntryFor namespace time key text → ⊥
+      no_text_for none has =
+          let is = after has.0 has.1 in
+          none (subst IsUtf8 (sym (same_front front has.0.options rest is.rest (one_end fields (length front) (length has.0.options) cut.1 is.ends) (sym cut.0 ∙ is.is)).0) has.2)
+
+      module _ (behind : List ℕ) (blanks : behind ≡ without_blanks rest) where
+        pub no_key_for : (e : Error) → (cause e ≢ NoMemory → AreNoKeyFields behind) → e ≢ Memory → HasEntryFor namespace time key text → ⊥
+        no_key_for e none other has = bad_key fields front rest behind cut blanks e none (other_cause e other) has.0 (after has.0 has.1)
+
+        pub line_after : slice_index fields 0 ≢ hash_sign → (a : AuthorizedKey) → a.options ≡ front → AreKeyFields behind a.key a.comment → IsAuthorizedLine text a
+        line_after no_comment a same is = record {
+          no_comment = λ here. no_comment (ap (λ (t : List ℕ). slice_index t 0) skips ∙ here);
+          is = inr (subst (λ (t : List ℕ). IsAfterOptions t a) skips (options_read fields front rest behind cut blanks a alone same is));
+        }
 
 -- ---- a line
 

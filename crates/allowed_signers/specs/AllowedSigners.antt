@@ -42,9 +42,10 @@ pub record IsEntryFor (namespace : List ℕ) (time : ℕ) (key : Key) (entry : A
   pub application : HasReadApplication key
   pub options : OptionsPermit namespace time entry.options
 
--- So is an entry that the text spells, like a line of authorized_keys.
+-- So is an entry that the text spells, like a line of authorized_keys, whose options are UTF-8. Of
+-- its comment nothing is asked.
 abbrev pub HasEntryFor : List ℕ → ℕ → Key → List ℕ → Type 0
-HasEntryFor namespace time key text = (entry : AuthorizedKey) × IsAuthorizedLine text entry × IsEntryFor namespace time key entry
+HasEntryFor namespace time key text = (entry : AuthorizedKey) × IsAuthorizedLine text entry × IsUtf8 entry.options × IsEntryFor namespace time key entry
 
 -- The line lets the key sign for the identity, in the namespace and at the time. Its principals
 -- list the identity, letters in their own case, and such an entry follows them. No byte is 0, where
@@ -59,9 +60,9 @@ pub record AllowsSigner (identity namespace : List ℕ) (time : ℕ) (key : Key)
 
 -- ---- all lines
 
--- One of the lines does, and is UTF-8.
+-- One of the lines does.
 abbrev pub IsAllowed : List ℕ → List ℕ → ℕ → Key → List ℕ → Type 0
-IsAllowed identity namespace time key signers = Any (λ line. IsUtf8 line × AllowsSigner identity namespace time key line) (filled_lines signers)
+IsAllowed identity namespace time key signers = Any (AllowsSigner identity namespace time key) (filled_lines signers)
 
 -- It is its key's signature of the message in the namespace, with nothing reserved (ssh-keygen
 -- verifies no other).
@@ -101,6 +102,10 @@ IsWhy accepts revokes signers identity namespace message time bytes NotVerified 
 IsWhy accepts revokes signers identity namespace message time bytes Memory = NeedsMemory bytes
 
 -- ---- the steps
+
+-- an entry without a comment
+abbrev pub bare_entry : List ℕ → Key → AuthorizedKey
+bare_entry options key = record { options = options; key = key; comment = [] }
 
 abbrev pub SpelledBySome : SshSignature → Type 0
 SpelledBySome f = (bytes : List ℕ) × SpellsSshSignature f bytes

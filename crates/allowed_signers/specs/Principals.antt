@@ -21,6 +21,10 @@ pub record HasPrincipals (line principals rest : List ℕ) : Type 0 where
   pub cut : CutsFirst line principals rest
   pub no_return : IsWithout carriage_return principals
 
+-- The text is a first part, a quote, and then the rest.
+abbrev pub CutsQuote : List ℕ → List ℕ × List ℕ → Type 0
+CutsQuote text p = IsUnquoted p.0 × (text ≡ p.0 ++ (quote ∷ p.1))
+
 -- ---- of both parts
 
 abbrev pub parts_of : Bor (List ℕ) × Bor (List ℕ) → List ℕ × List ℕ

@@ -6,7 +6,7 @@ ghost use Rattle.sshkey_entries.specs.Readings.{IsTheOne, Tells};
 ghost use Rattle.sshkey_entries.specs.Words.{FindsWord};
 ghost use Rattle.allowed_signers.specs.SignerOptions.{AddsOption, AddsValue, AreTerms, AreTimesInOrder, IsTimeValue, Permits, Terms, no_terms, terms_of, words};
 
-use sshkey_authorized_keys::{OpenSshOptions, read_options};
+use sshkey_authorized_keys::read_options;
 use sshkey_entries::{AddOptions, LetterCase, Reading, find_word, matches_pattern_list};
 use sshkey_times::{Span, read_time};
 use std::alloc::{AllocError, Global};
@@ -105,17 +105,13 @@ impl SignerOptions {
     }
 
     /// What the options say, or `None` where they are invalid.
-    pub(crate) fn read(
-        alloc: Global,
-        options: &OpenSshOptions,
-    ) -> Result<Option<SignerOptions>, AllocError>
+    pub(crate) fn read(alloc: Global, options: &str) -> Result<Option<SignerOptions>, AllocError>
         ensures { IfOk result (IsTheOne terms_of (AreTerms options.now)) }
     {
-        let text = options.as_str();
-        if text.ends_with(',') {
+        if options.ends_with(',') {
             return Ok(None);
         }
-        match read_options(alloc, SignerOptions::none(), text)? {
+        match read_options(alloc, SignerOptions::none(), options)? {
             Reading::Is(said) => {
                 if !said.are_in_order() {
                     return Ok(None);

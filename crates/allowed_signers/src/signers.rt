@@ -1,26 +1,28 @@
 //! Lines of allowed signers, and whether a signature counts.
 
-ghost use Rattle.std.specs.Prelude.{◌≡◌, ◌↔◌, IfErr, IfOk, IsTrue};
-ghost use Rattle.std.specs.Str.{IsUtf8};
-ghost use Rattle.sshkey_authorized_keys.specs.OpenSshEntries.{openssh_entry_of};
+ghost use Rattle.std.specs.Prelude.{◌≡◌, ◌↔◌, IfErr, IfOk, IsTrue, slice_index};
+ghost use Rattle.sshkey_entries.specs.Entries.{hash_sign};
+ghost use Rattle.sshkey_public.specs.PublicKeys.{public_of};
+ghost use Rattle.sshkey_entries.specs.Patterns.{MatchesList};
 ghost use Rattle.sshkey_keys.specs.Keys.{key_of};
 ghost use Rattle.sshkey_model.specs.Keys.{IsKey};
 ghost use Rattle.sshkey_sshsig.specs.SshSignatures.{ssh_signature_of};
 ghost use Rattle.sshkey_base.specs.declared.error.Error.TheVariants.{Memory};
 ghost use Rattle.sshkey_padding.specs.Padding.{padding};
-ghost use Rattle.allowed_signers.specs.AllowedSigners.{AllowsSigner, AnswersYesOrNo, Counts, HasEntryFor, HasSignature, HasSigned, IsAllowed, IsEntryFor, IsNo, IsRefusalFor, IsWhy, OkExactly, OptionsPermit, ReadsSignature, SpelledBySome};
+ghost use Rattle.allowed_signers.specs.AllowedSigners.{AllowsSigner, AnswersYesOrNo, Counts, HasEntryFor, HasSignature, HasSigned, IsAllowed, IsEntryFor, IsNo, IsRefusalFor, IsWhy, OkExactly, OptionsPermit, ReadsSignature, SpelledBySome, bare_entry};
 
-use crate::line::split_principals;
+use crate::line::{is_without, split_principals};
 use crate::options::SignerOptions;
-use openssh_limits::{openssh_reads_application, openssh_reads_text};
-use sshkey_authorized_keys::{Entry, OpenSshEntry, OpenSshOptions};
+use openssh_limits::openssh_reads_application;
+use sshkey_authorized_keys::bytes_split_options;
 use sshkey_base::{Error, Result};
-use sshkey_entries::bytes::text_of;
+use sshkey_entries::bytes::{skip_blanks, text_of};
 use sshkey_entries::laws::one_authorized_line;
-use sshkey_entries::{LetterCase, NonBlankByteLines, matches_pattern_list};
+use sshkey_entries::{LetterCase, NonBlankByteLines, bytes_match_pattern_list, read_key_bytes};
 use sshkey_keys::{KeyData, RawVerifier};
 use sshkey_krl::Revocations;
 use sshkey_padding::Padding;
+use sshkey_public::PublicKey;
 use sshkey_sshsig::SshSig;
 use sshkey_sshsig::laws::{one_ssh_signature, signed_parts_fit};
 use std::alloc::Global;
@@ -52,9 +54,8 @@ pub enum SignerRefusal {
 /// the namespace, and `valid-after="..."` and `valid-before="..."`, the first and the last second.
 /// A time that no `Z` ends has to hold in every zone. A line with `cert-authority` lets certificates
 /// sign, which are not read in a signature: it is passed over. So is each line in which something
-/// else stands, as ssh-keygen does, a line that is not UTF-8, also in a comment behind its key, a
-/// line in which a byte is 0, and one whose list of patterns has
-/// a carriage return, or a double quote that does not enclose the list: ssh-keygen ends the line at
+/// else stands, as ssh-keygen does, one whose options are not UTF-8, a line in which a byte is 0,
+/// and one whose list of patterns has a carriage return, or a double quote that does not enclose the list: ssh-keygen ends the line at
 /// a zero byte, and an unquoted list at the others. And so is the line of a security key whose
 /// application has a zero byte: ssh-keygen takes it for another key's, or rejects it, and no
 /// verifier sees it.
@@ -209,7 +210,7 @@ fn is_allowed(
     ensures memory { IfErr result (λ e. e ≡ Memory) }
 {
     for line in NonBlankByteLines::new(signers) {
-        let allowed = bytes_allow(alloc, line, identity, namespace, unix_timestamp, key)?;
+        let allowed = allows(alloc, line, identity, namespace, unix_timestamp, key)?;
         if allowed {
             return Ok(true);
         }
@@ -217,30 +218,10 @@ fn is_allowed(
     Ok(false)
 }
 
-/// Whether the line is UTF-8, and lets the key sign for the identity.
-fn bytes_allow(
-    alloc: Global,
-    line: &[u8],
-    identity: &str,
-    namespace: &str,
-    unix_timestamp: u64,
-    key: &KeyData,
-) -> Result<bool>
-    requires { IsKey (key_of key.now) }
-    ensures answer { IfOk result (λ yes. IsTrue yes ↔ (IsUtf8 line.now × AllowsSigner identity.now
-        namespace.now unix_timestamp (key_of key.now) line.now)) }
-    ensures memory { IfErr result (λ e. e ≡ Memory) }
-{
-    match text_of(line) {
-        Some(text) => allows(alloc, text, identity, namespace, unix_timestamp, key),
-        None => Ok(false),
-    }
-}
-
 /// Whether the line lets the key sign for the identity.
 fn allows(
     alloc: Global,
-    line: &str,
+    line: &[u8],
     identity: &str,
     namespace: &str,
     unix_timestamp: u64,
@@ -251,22 +232,35 @@ fn allows(
         unix_timestamp (key_of key.now) line.now) }
     ensures memory { IfErr result (λ e. e ≡ Memory) }
 {
-    if !openssh_reads_text(line) {
+    if !is_without(0, line) {
         return Ok(false);
     }
     let Some((principals, rest)) = split_principals(line) else {
         return Ok(false);
     };
-    if !matches_pattern_list(identity, principals, LetterCase::Sensitive) {
+    if !list(principals, identity) {
         return Ok(false);
     }
     has_entry_for(alloc, rest, namespace, unix_timestamp, key)
 }
 
+/// Whether the patterns list the identity, letters in their own case.
+fn list(principals: &[u8], identity: &str) -> bool
+    ensures { IsTrue result ↔ MatchesList (λ c. c) principals.now identity.now }
+{
+    bytes_match_pattern_list(identity.as_bytes(), principals, LetterCase::Sensitive)
+}
+
+fn is_comment(text: &[u8]) -> bool
+    ensures { IsTrue result ↔ (slice_index text.now 0 ≡ hash_sign) }
+{
+    matches!(text, [b'#', ..])
+}
+
 /// Whether the text spells an entry of that key whose options permit the namespace and the time.
 fn has_entry_for(
     alloc: Global,
-    text: &str,
+    text: &[u8],
     namespace: &str,
     unix_timestamp: u64,
     key: &KeyData,
@@ -277,39 +271,57 @@ fn has_entry_for(
     ensures memory { IfErr result (λ e. e ≡ Memory) }
 {
     one_authorized_line();
-    match Entry::from_line_openssh(alloc, text) {
-        Ok(entry) => is_entry_for(alloc, &entry, namespace, unix_timestamp, key),
+    let fields = skip_blanks(text);
+    if is_comment(fields) {
+        return Ok(false);
+    }
+    let error = match read_key_bytes(alloc, fields) {
+        Ok(found) => return is_entry_for(alloc, "", &found, namespace, unix_timestamp, key),
+        Err(error) => error,
+    };
+    if error.is_memory() {
+        return Err(error);
+    }
+    let Some((front, rest)) = bytes_split_options(fields) else {
+        return Ok(false);
+    };
+    let Some(options) = text_of(front) else {
+        return Ok(false);
+    };
+    match read_key_bytes(alloc, skip_blanks(rest)) {
+        Ok(found) => is_entry_for(alloc, options, &found, namespace, unix_timestamp, key),
         Err(error) => no(error),
     }
 }
 
-/// Whether the entry is of that key, whose application ssh-keygen reads, and its options permit the
-/// namespace and the time.
+/// Whether the key that was found is that one, whose application ssh-keygen reads, and the options
+/// before it permit the namespace and the time.
 fn is_entry_for(
     alloc: Global,
-    entry: &OpenSshEntry,
+    options: &str,
+    found: &PublicKey,
     namespace: &str,
     unix_timestamp: u64,
     key: &KeyData,
 ) -> Result<bool>
     requires { IsKey (key_of key.now) }
     ensures answer { IfOk result (λ yes. IsTrue yes ↔ IsEntryFor namespace.now unix_timestamp
-        (key_of key.now) (openssh_entry_of entry.now)) }
+        (key_of key.now) (bare_entry options.now (public_of found.now))) }
     ensures memory { IfErr result (λ e. e ≡ Memory) }
 {
-    if !key.is(entry.public_key().key_data()) {
+    if !key.is(found.key_data()) {
         return Ok(false);
     }
     if !openssh_reads_application(key) {
         return Ok(false);
     }
-    options_permit(alloc, entry.options(), namespace, unix_timestamp)
+    options_permit(alloc, options, namespace, unix_timestamp)
 }
 
 /// Whether the options permit the namespace and the time.
 fn options_permit(
     alloc: Global,
-    options: &OpenSshOptions,
+    options: &str,
     namespace: &str,
     unix_timestamp: u64,
 ) -> Result<bool>

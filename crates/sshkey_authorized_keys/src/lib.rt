@@ -14,6 +14,6 @@ mod read_back;
 pub use authorized_keys::AuthorizedKeys;
 pub use config_opts::{ConfigOpts, ConfigOptsIter};
 pub use entry::Entry;
-pub use openssh::{OpenSshAuthorizedKeys, OpenSshEntry, split_options};
+pub use openssh::{OpenSshAuthorizedKeys, OpenSshEntry, bytes_split_options, split_options};
 pub use openssh_option::{OpenSshOption, OpenSshOptionsIter};
 pub use openssh_options::{OpenSshOptions, read_options};

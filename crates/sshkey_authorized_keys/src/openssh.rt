@@ -74,6 +74,16 @@ pub fn split_options(text: &str) -> Option<(&str, &str)>
     }
 }
 
+/// What `split_options` says, of any bytes. Does not allocate.
+pub fn bytes_split_options(text: &[u8]) -> Option<(&[u8], &[u8])>
+    ensures { CutsOptions text.now result }
+{
+    match options_end(text) {
+        Some(end) => Some(text.split_at(end)),
+        None => None,
+    }
+}
+
 impl Entry {
     /// The entry of a line as sshd(8) reads it ("AUTHORIZED_KEYS FILE FORMAT").
     ///

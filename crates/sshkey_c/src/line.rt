@@ -5,11 +5,12 @@ ghost use Rattle.std.specs.Str.{IsUtf8};
 ghost use Rattle.sshkey_addresses.specs.Likeness.{is_like_address};
 ghost use Rattle.sshkey_entries.specs.Fields.{filled_lines, without_blanks};
 ghost use Rattle.sshkey_entries.specs.OtherKeys.{AreOtherKeyFields};
+ghost use Rattle.sshkey_entry_calls.specs.LaterKinds.{NamesLaterKind};
 ghost use Rattle.sshkey_entry_calls.specs.UnreadableLines.{TellsUnreadableLine};
 ghost use Rattle.sshkey_calls.specs.KeyLines.{HoldsContent, NeedsLine, ReadsContent, TellsLineFault};
 
 use sshkey_calls::{Line, read_line};
-use sshkey_entry_calls::{is_later_key_line, unreadable_host_line};
+use sshkey_entry_calls::{is_later_key_line, names_later_kind, unreadable_host_line};
 use std::alloc::Global;
 
 /// The key or the certificate of a line: `sshkey_calls::read_line`.
@@ -38,6 +39,15 @@ pub extern "C" fn raf_is_later_key_line(line: &[u8]) -> u32
     ensures text { (IsUtf8 line.now → ⊥) → result ≡ 4 }
 {
     is_later_key_line(line)
+}
+
+/// Whether bytes name a kind of key that is none here: `sshkey_entry_calls::names_later_kind`.
+#[unsafe(no_mangle)]
+pub extern "C" fn raf_names_later_kind(bytes: &[u8]) -> u32
+    ensures named { NamesLaterKind bytes.now → result ≡ 0 }
+    ensures none { (NamesLaterKind bytes.now → ⊥) → result ≡ 12 }
+{
+    names_later_kind(bytes)
 }
 
 /// Which line of a text of known_hosts cannot be read:

@@ -12,3 +12,4 @@ pub mod Authorities
 pub mod Modes
 pub mod Verifiers
 pub mod AskedHosts
+pub mod LaterKinds

@@ -1,3 +1,4 @@
+pub mod LaterKeys
 pub mod NamedWords
 pub mod RevokedLines
 pub mod RevokedKeys

@@ -1,11 +1,14 @@
 -- Worked examples: the lines of a text, and what stands in them.
-use Rattle.std.specs.Prelude.{◌≡◌, ℕ, List, [], ◌∷◌, true, false, codes, replicate}
+use Rattle.std.specs.Prelude.{◌≡◌, ℕ, List, [], ◌∷◌, ◌++◌, length, true, false, codes, replicate}
+use Rattle.base64.specs.Engines.{standard}
+use Rattle.base64.specs.GeneralPurpose.{IsBytes, encode_of}
 use Rattle.std.specs.Str.Lines.{strip_carriage_return}
 use Rattle.sshkey_model.specs.CertificateExamples.{openssh_certificate}
 use Rattle.sshkey_model.specs.Certificates.{Certificate}
 use Rattle.sshkey_model.specs.HexText.{hex}
 use Rattle.sshkey_model.specs.Keys.{Key, Ecdsa, Ed25519, Rsa}
 use Rattle.sshkey_model.specs.Names.{Nistp256}
+use Rattle.sshkey_revoked_keys.specs.LaterKeys.{IsLaterKey, later_blob, later_front}
 use Rattle.sshkey_revoked_keys.specs.NamedWords.{IsReadCertificate, IsReadKey}
 use Rattle.sshkey_revoked_keys.specs.RevokedKeys.{begins_krl}
 use Rattle.sshkey_revoked_keys.specs.RevokedLines.{is_certified_name, revoked_lines}
@@ -56,3 +59,14 @@ ReadKeys = IsReadKey rsa_of_1023_bits × ¬ IsReadKey compressed
     × ¬ IsReadCertificate (certificate ed25519 rsa_of_1023_bits (codes "id") (codes "root" ∷ []))
     × ¬ IsReadCertificate (certificate ed25519 ed25519 (codes "i\0d") (codes "root" ∷ []))
     × ¬ IsReadCertificate (certificate ed25519 ed25519 (codes "id") (codes "ro\0ot" ∷ []))
+
+-- A key of 10.6 has 1,344 bytes after its name, and stands under that name alone (`ssh-keygen -t
+-- mldsa44-ed25519`).
+abbrev pub LaterKeys : Type 0
+LaterKeys = (later_blob (1 ∷ []) ≡ hex "000000137373682d6d6c64736134342d656432353531390000000101")
+    × ((own : List ℕ) → length own ≡ 1344 → later_blob own ≡ later_front ++ own)
+    × ((own : List ℕ) → length own ≡ 1344 → IsBytes (later_blob own) → IsLaterKey (codes "ssh-mldsa44-ed25519") (encode_of standard (later_blob own)) (later_blob own))
+    × ((own word : List ℕ) → length own ≡ 1343 → ¬ IsLaterKey (codes "ssh-mldsa44-ed25519") word (later_blob own))
+    × ((own word : List ℕ) → length own ≡ 1345 → ¬ IsLaterKey (codes "ssh-mldsa44-ed25519") word (later_blob own))
+    × ((word blob : List ℕ) → ¬ IsLaterKey (codes "ssh-mldsa65-ed25519") word blob)
+    × ((word blob : List ℕ) → ¬ IsLaterKey (codes "ssh-ed25519") word blob)

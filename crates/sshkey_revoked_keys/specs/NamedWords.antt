@@ -10,6 +10,7 @@ use Rattle.sshkey_model.specs.Certificates.{Certificate, certificate_format, Spe
 use Rattle.sshkey_model.specs.Keys.{Key, normal_key, key_format, SpellsKey}
 use Rattle.sshkey_model.specs.Lines.{IsWithout, key_name, name_of_certificate}
 use Rattle.sshkey_model.specs.Parts.{flat}
+use Rattle.sshkey_revoked_keys.specs.LaterKeys.{IsLaterKey}
 use Rattle.sshkey_public.specs.LineFaults.{HasFaultOfWord}
 use Rattle.sshkey_public.specs.LineNeeds.{NeedsWord}
 use Rattle.sshkey_public.specs.Lines.{IsNoWord, IsWordOf}
@@ -49,9 +50,13 @@ pub record IsReadCertificate (c : Certificate) : Type 0 where
 
 -- ---- a key, as the bytes of its normal form: under a certificate's name that of a certificate
 
+-- a key that is read here
+abbrev pub SaysOwnKey : List ℕ → List ℕ → List ℕ → Type 0
+SaysOwnKey first word key = (k : Key) × IsReadWord key_name SpellsKey IsReadKey first word k × (key ≡ flat (normal_key k))
+
 abbrev pub SaysKey : Bool → List ℕ → List ℕ → List ℕ → Type 0
 SaysKey true first word key = (c : Certificate) × IsReadWord name_of_certificate SpellsCertificate IsReadCertificate first word c × (key ≡ flat (normal_key c.signed.key))
-SaysKey false first word key = (k : Key) × IsReadWord key_name SpellsKey IsReadKey first word k × (key ≡ flat (normal_key k))
+SaysKey false first word key = SaysOwnKey first word key ⊎ IsLaterKey first word key
 
 abbrev pub HasNamedFault : Bool → List ℕ → List ℕ → Error → Type 0
 HasNamedFault true = HasReadFault certificate_format name_of_certificate SpellsCertificate IsReadCertificate

@@ -1,6 +1,6 @@
 //! Worked examples of revocation files, on both sides of each edge.
 
-ghost use Rattle.sshkey_revoked_keys.specs.LineExamples.{Beginnings, CertificateNames, Lines, ReadKeys, Returns};
+ghost use Rattle.sshkey_revoked_keys.specs.LineExamples.{Beginnings, CertificateNames, LaterKeys, Lines, ReadKeys, Returns};
 
 /// Lines of a text.
 pub fn lines()
@@ -25,4 +25,9 @@ pub fn beginnings()
 /// What OpenSSH reads of keys and certificates.
 pub fn read_keys()
     ensures { ReadKeys }
+{}
+
+/// A key of a later kind.
+pub fn later_keys()
+    ensures { LaterKeys }
 {}

@@ -3,6 +3,7 @@
 #![tactic(auto)]
 
 pub mod examples;
+mod later_key;
 pub mod laws;
 mod line;
 mod named_word;

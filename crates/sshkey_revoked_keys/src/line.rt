@@ -14,6 +14,7 @@ ghost use Rattle.sshkey_model.specs.Parts.{flat};
 ghost use Rattle.sshkey_revoked_keys.specs.NamedWords.{HasNamedFault, IsReadCertificate, IsReadKey, NeedsKey, SaysKey};
 ghost use Rattle.sshkey_revoked_keys.specs.RevokedLines.{HasLineFault, NeedsEntry, NeedsLine, RevokesKey, is_certified_name, revoked_lines};
 
+use crate::later_key::read_later_key;
 use crate::named_word::read_named;
 use openssh_limits::{
     LEAST_RSA_BITS, openssh_reads_key, openssh_reads_principals, openssh_reads_text,
@@ -111,12 +112,15 @@ fn read_certified_key(alloc: Global, name: &str, word: &str) -> Result<Vec<u8>>
     normal_form(alloc, certificate.public_key())
 }
 
-/// The normal form of a key.
+/// The normal form of a key, or the bytes of one of a later kind.
 fn read_key(alloc: Global, name: &str, word: &str) -> Result<Vec<u8>>
     ensures reads { ReadsEntry (λ key. key.items) (SaysKey false name.now) word.now result }
     ensures fault { RefusesFor (HasNamedFault false name.now) word.now result }
     ensures asks { AsksEntry (NeedsKey false name.now) word.now result }
 {
+    if let Some(blob) = read_later_key(alloc, name, word)? {
+        return Ok(blob);
+    }
     let key = read_named::<KeyData>(alloc, name, word)?;
     if !is_read_line_key(&key) {
         return Err(Error::FormatEncoding);

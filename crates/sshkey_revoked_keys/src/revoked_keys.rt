@@ -25,8 +25,8 @@ const MAGIC: &[u8] = b"SSHKRL\n\0";
 pub enum RevokedKeys<'a> {
     /// A key revocation list.
     Krl(KrlRef<'a>),
-    /// The normal forms of keys. Each revokes the key, its certificates, and the certificates that
-    /// it signed.
+    /// The normal forms of keys, or the bytes of those of a later kind. Each revokes the key, its
+    /// certificates, and the certificates that it signed.
     Keys(Vec<Vec<u8>>),
 }
 
@@ -38,7 +38,9 @@ impl<'a> RevokedKeys<'a> {
     /// Each line of a text is a key or a certificate: the name of its algorithm and its padded
     /// Base64, after which a carriage return may stand. Spaces or tabs stand between, and may stand
     /// in front; after them any bytes may follow. A certificate stands for the key in it. Lines with
-    /// nothing but spaces and tabs, and comments, which begin with `#`, are passed over.
+    /// nothing but spaces and tabs, and comments, which begin with `#`, are passed over. A key of
+    /// `ssh-mldsa44-ed25519`, which OpenSSH 10.6 reads, is one too: nobody is let in by it here, and
+    /// its bytes are held as they stand.
     ///
     /// Unless memory runs out, a text fails exactly if one of its lines is none of these, with the
     /// error of the first such line: `Length` if the Base64 is missing, `CharacterEncoding` if it or

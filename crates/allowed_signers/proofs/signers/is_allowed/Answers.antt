@@ -1,6 +1,5 @@
 use Rattle.std.proofs.Common.{◌≡◌, List, subst, sym, true, ℕ}
 use Rattle.std.specs.List.{Any}
-use Rattle.std.specs.Str.{IsUtf8}
 use Rattle.sshkey_keys.specs.Keys.{key_of}
 use Rattle.allowed_signers.specs.AllowedSigners.{AllowsSigner}
 use Rattle.allowed_signers.proofs.SomeLine.{later, not_first}
@@ -8,7 +7,7 @@ use Rattle.allowed_signers.proofs.signers.is_allowed.Goals as goal
 
 pub loop-line-preserved : goal.loop-line-preserved
 loop-line-preserved c =
-    let Here : List ℕ → Type 0 = λ line. IsUtf8 line × AllowsSigner c.args.identity.now c.args.namespace.now c.args.unix_timestamp (key_of c.args.key.now) line in
+    let Here : List ℕ → Type 0 = λ line. AllowsSigner c.args.identity.now c.args.namespace.now c.args.unix_timestamp (key_of c.args.key.now) line in
     let step = c.in-Some.ensures.steps in
     let none : Here c.in-Some.line.now → ⊥ = λ a. let yes : c.in_ok-allowed.allowed ≡ true = c.in_ok-allowed.ensures.answer.1 a in absurd cc in (
       tt,
