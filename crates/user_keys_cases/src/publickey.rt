@@ -35,11 +35,19 @@ pub(crate) fn decide(alloc: Global, line: &str) -> Result<Verdict> {
         Some(texts) => {
             let texts = lent(alloc, texts)?;
             let principals = Principals::Files(&texts);
-            Ok(said(alloc, &request, &request.trusted(&keys, principals, &command)))
+            Ok(said(
+                alloc,
+                &request,
+                &request.trusted(&keys, principals, &command),
+            ))
         }
         None => {
             let principals = Principals::InCertificate;
-            Ok(said(alloc, &request, &request.trusted(&keys, principals, &command)))
+            Ok(said(
+                alloc,
+                &request,
+                &request.trusted(&keys, principals, &command),
+            ))
         }
     }
 }

@@ -186,9 +186,7 @@ fn read_seen(
         )),
         "transport" => Ok(Seen::ByTransport(None)),
         "sshd" => Ok(Seen::BySshd),
-        flags => Ok(Seen::ByTransport(Some(
-            flags.parse::<u8>().map_err(|_| NO_LINE)?,
-        ))),
+        flags => Ok(Seen::ByTransport(Some(flags.parse::<u8>().map_err(|_| NO_LINE)?))),
     }
 }
 
