@@ -249,7 +249,8 @@ static bool has_no_other(const check_request *asked) {
   for (int at = 0; at < CHECK_OPTIONS; at++) {
     if (!asked->given[at] || takes & 1u << at) continue;
     if (asked->mode == CHECK_SHOW)
-      program_complain("%s wants a question: --ca, --host, login, verify or fingerprint", options[at].name);
+      program_complain("%s wants a question: --ca, --host, login, verify or fingerprint",
+                       options[at].name);
     else
       program_complain("%s takes no %s", name_of(asked), options[at].name);
     return false;
