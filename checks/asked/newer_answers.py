@@ -7,7 +7,7 @@ import subprocess
 
 from lib.harness import ROOT, SSHD
 
-from .hosts import CERTIFICATES_AND_LATER, HOST, KEYS_AND_LATER, LATER, LATER_NAME, field, knows, salted
+from .hosts import BY_KEY, CERTIFICATES_AND_LATER, HOST, KEYS_AND_LATER, LATER, LATER_NAME, field, knows, salted
 from .linked import run
 from .principals import CONFIGURATION, logs_in
 from .signers import NAMESPACE, NO, NOON, OK, WHO, ZONELESS, ZONES, made_by, says
@@ -30,6 +30,10 @@ HOST_CERTIFICATES = [
     ([BY_AUTHORITY], 22, "of the host", "ok"), ([BY_AUTHORITY], 22, "of no host", field("valid principals")),
     ([BY_AUTHORITY], 22, "of a pattern", field("valid principals")), ([BY_AUTHORITY], 22, "by a later kind", UNREAD),
     ([BY_LATER], 22, "by a later kind", UNREAD), ([BY_LATER], 22, "of the host", "unknown"),
+    *(([*lines, f"{HOST} {{key}}"], 22, shown, BY_KEY) for lines in ([], [BY_LATER]) for shown in ("of the host", "of no host", "of a pattern")),
+    ([BY_AUTHORITY, f"{HOST} {{key}}"], 22, "of no host", BY_KEY), ([BY_AUTHORITY, f"{HOST} {{key}}"], 22, "of a pattern", BY_KEY),
+    ([f"{HOST} {{key}}", f"@revoked * {{key}}"], 22, "of the host", "revoked"), ([f"{HOST} {{key}}", f"@revoked * {{authority}}"], 22, "of the host", "revoked"),
+    ([f"{HOST} {{later}}"], 22, "of the host", "changed"),
 ]  # fmt: skip
 # the text of allowed signers, the second, and the answer
 SIGNERS = [
