@@ -344,7 +344,7 @@ def check_hosts(count, programs, maker):
 def check_hostile_signatures(count, programs, maker):
     """Turned, cut and drawn bytes in an armour are no valid signature, and read nothing that is not theirs."""
     draw, signature = random.Random(69), maker.signature("shown0", "a text", SPACE)
-    blobs = [*turned(signature)[::9], *(signature[:at] for at in range(0, len(signature), 9)), *(draw.randbytes(it) for it in range(40))]
+    blobs = [*turned(signature)[::9], *(signature[:at] for at in range(9, len(signature), 9)), *(draw.randbytes(it) for it in range(1, 41))]
     given = ["verify", "-k", maker.path("shown0.pub"), "-n", SPACE, "-s", maker.path("armour.sig")]
     for program, every in ((programs[1:], 1), ([*VALGRIND, programs[0]], 20)):
         wrong = []

@@ -271,7 +271,7 @@ def armour_cases(good, strange):
         ("a public key's name", good.replace("SSH SIGNATURE", "SSH PUBLIC KEY"), UNTOLD),
         ("a character that is none of Base64", good[: ends - 9] + "*" + good[ends - 9 :], UNTOLD),
         ("one of another alphabet", good[: ends - 9] + "_" + good[ends - 9 :], UNTOLD),
-        ("no armour", "".join(good.splitlines(True)[1:-1]), UNTOLD), ("nothing", "", UNTOLD), ("a text before", "x" + good, UNTOLD),
+        ("no armour", "".join(good.splitlines(True)[1:-1]), UNTOLD), ("nothing", "", UNTOLD), ("nothing between", f"{head}\n{tail}\n", UNTOLD), ("a text before", "x" + good, UNTOLD),
         ("a text after", good + "x\n", VALID), ("no line end", good.removesuffix("\n"), VALID),
         ("the end on the line of the Base64", good.replace(f"\n{tail}", tail), UNTOLD), ("a blank after the first line", good.replace(head, f"{head} "), UNTOLD),
         ("an empty line before the end", good.replace(tail, f"\n{tail}"), VALID), ("an empty line after the first", good.replace(head, f"{head}\n"), VALID),
