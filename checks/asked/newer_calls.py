@@ -5,7 +5,7 @@ import hashlib
 from lib.harness import blob_of
 
 from .host_calls import NUMBERED, Shown, answer_to
-from .hosts import HOST, KEYS_AND_LATER, field
+from .hosts import BY_KEY, HOST, KEYS_AND_LATER, field
 from .linked import word
 from .newer_answers import HOST_CERTIFICATES, MESSAGE, SIGNERS, UNREAD, Stored, filled
 from .revocation_calls import EMPTY
@@ -42,5 +42,5 @@ def check_newer(judge):
     stored = Stored()
     found = list(cases(stored, judge.asker.is_package))
     judge.hold(f"as {stored.version} has it", [(name, question, answer_to(judge, question, wanted)) for name, question, wanted, _ in found])
-    wrong = [it for it in found if None in it[3] or (it[2] == "DONE") != all(it[3]) and it[2] not in STRICTER]
+    wrong = [it for it in found if None in it[3] or (it[2] in ("DONE", BY_KEY)) != all(it[3]) and it[2] not in STRICTER]
     judge.check(f"{len(found)} of these let in whom {stored.version} lets in, or refuse", found and not wrong, *wrong[:3])
