@@ -15,8 +15,6 @@ from .signers import NAMESPACE, NO, NOON, OK, WHO, ZONES
 NUMBERS = {**NUMBERED, UNREAD: "LABEL", OK: "DONE", NO: "SIGNER_NOT_ALLOWED"}
 # a certificate that lists nobody, and one whose names have not the host's
 BY_NAMES = {"of no host": "VALID_PRINCIPALS", "of a pattern": "UNLISTED_PRINCIPAL"}
-# what is let in: a certificate by its authority, or by the key in it
-LET_IN = {"DONE", BY_KEY}
 # what refuses, whatever OpenSSH decides: a line that is none, a certificate for a pattern or for nobody, a time that is another elsewhere
 STRICTER = {"HOST_UNREADABLE", "SIGNER_NOT_ALLOWED", *BY_NAMES.values()}
 
@@ -44,5 +42,5 @@ def check_newer(judge):
     stored = Stored()
     found = list(cases(stored, judge.asker.is_package))
     judge.hold(f"as {stored.version} has it", [(name, question, answer_to(judge, question, wanted)) for name, question, wanted, _ in found])
-    wrong = [it for it in found if None in it[3] or (it[2] in LET_IN) != all(it[3]) and it[2] not in STRICTER]
+    wrong = [it for it in found if None in it[3] or (it[2] in ("DONE", BY_KEY)) != all(it[3]) and it[2] not in STRICTER]
     judge.check(f"{len(found)} of these let in whom {stored.version} lets in, or refuse", found and not wrong, *wrong[:3])
