@@ -26,7 +26,8 @@ def with_others(room):
 
 def check_module(count, room):
     """What gofmt and vet say of the module, its tests, its names, and that its examples are built."""
-    go, words = Go(room, None), [f"-modfile={with_others(room)}"]
+    # the file names the versions of Debian 12; a later one may want later ones
+    go, words = Go(room, None), ["-mod=mod", f"-modfile={with_others(room)}"]
     said = run(["gofmt", "-l", MODULE])
     count.check("Go: gofmt finds nothing in xssh", said.returncode == 0 and not said.stdout, said.stdout, said.stderr)
     said = go.run(MODULE, "vet", *words, "./...")
