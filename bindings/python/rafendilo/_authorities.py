@@ -82,4 +82,5 @@ def is_later_key_line(line: BytesLike) -> bool:
 def names_later_kind(data: BytesLike) -> bool:
     """Whether bytes name, as a string, a kind of key that OpenSSH reads or read and that is not read here, of its certificates or of its
     signatures. It tells why they are no key, no certificate, whose authority may be such a key, or no signature."""
-    return LIBRARY.raf_names_later_kind(*bytes_of(data)) == Status.DONE
+    status: int = LIBRARY.raf_names_later_kind(*bytes_of(data))
+    return status == Status.DONE
