@@ -76,6 +76,7 @@ def check_wrong_files(count, programs, maker):
     nobodys = maker.write("nobodys", maker.certificate("admitting", "entering", *WINDOW) + "\n")
     maker.certificate("admitting", "entering", "-n", "alice", *WINDOW)
     key, shown, ca = (maker.path(it) for it in ("entering.pub", "entering-cert.pub", "admitting.pub"))
+    bound = maker.write("bound_keys", f'from="192.0.2.0/24" {maker.read("entering.pub")}\n')
     users = maker.write("authorities", f"alice,bob {maker.read('admitting.pub')}\n")
     empty, copy = maker.write("empty", "\n# nothing\n"), maker.write("a-key", f"{maker.read('entering.pub')}\n")
     asked, named = ["--ca", ca, "--user", "alice", "--at"], "(its name is entering-cert.pub) "
@@ -93,6 +94,8 @@ def check_wrong_files(count, programs, maker):
          f"{ca}:1: no users before the key: a line is NAME[,NAME..] KEY\nsshkey-check: {shown}:1: another authority (90)"),
         (["login", "eve", shown, "--at", str(MIDDLE), "--user-authorities", users], INVALID,
          f"{users}: no line has a key for eve\nsshkey-check: {shown}:1: another authority (90)"),
+        (["login", "alice", key, "--authorized-keys", bound], INVALID, f"{bound}:1: a line for certain places: it wants --from ADDRESS (96)"),
+        (["login", "alice", key, *login, bound], INVALID, f"{bound}:1: a line for other places (93)"),
         (["--", "login"], UNTOLD, "login: No such file or directory"),
         (["--ca", empty, *asked[2:], str(MIDDLE), shown], INVALID, f"{empty}: it has no line\nsshkey-check: {shown}:1: another authority (90)"),
         ([*asked[:3], "eve", "--at", str(MIDDLE), shown], INVALID, f"{shown}:1: another principal (90)"),
