@@ -322,6 +322,11 @@ def check_blobs(count, rafendilo, maker, key, certificate):
         ("signers", "a path", "no list of fingerprints: authorities(text).keys", lambda it: rafendilo.check_sshsig(b"", "file", b"", it)),
         ("known_hosts", "a path", "no list of the texts of files", lambda it: rafendilo.check_host_key(dataclasses.replace(host, known_hosts=it), key)),
         ("revoked", None, "no list of the texts of files, or NO_REVOCATIONS", lambda it: rafendilo.check_host_key(dataclasses.replace(host, revoked=it), key)),
+        ("revoked", [None], "no list of the texts of files, or NO_REVOCATIONS", lambda it: rafendilo.check_host_key(dataclasses.replace(host, revoked=it), key)),
+        ("known_hosts", ["a path"], "no list of the texts of files", lambda it: rafendilo.check_host_key(dataclasses.replace(host, known_hosts=it), key)),
+        ("authorized_keys", ["a path"], "no list of the texts of files", lambda it: rafendilo.log_in(offer, signed, dataclasses.replace(trusted, authorized_keys=it), place)),
+        ("command_keys", None, "no list of the texts of files", lambda it: rafendilo.log_in(offer, signed, dataclasses.replace(trusted, command_keys=it), place)),
+        ("authorities", ["a line"], "no list of fingerprints: authorities(text).keys", lambda it: rafendilo.log_in(offer, signed, dataclasses.replace(trusted, authorities=it), place)),
     ):  # fmt: skip
         found = raised(call, value)
         count.check(f"an error names {name} that is {value!r}", found is not None and found[0] == "TypeError" and f"{name}: {said}" in found[1], found)

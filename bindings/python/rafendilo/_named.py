@@ -10,14 +10,14 @@ from typing import Any, Callable, TypeVar, cast
 
 from ._header import Status
 from ._library import LIBRARY, bytes_of
-from ._values import Refused
+from ._values import UNREADABLE, Refused
 
 Call = TypeVar("Call", bound=Callable[..., Any])
 # the arguments that are blobs, and fields of such
 BLOBS = ("blob", "certificate", "key", "host_key", "authority", "signature")
 # those that are texts, fingerprints, and texts of files, each of which has to be read
 TEXTS = ("user", "host", "identity", "namespace", "algorithm", "text")
-DIGESTS, FILES = ("authorities", "signers"), ("revoked", "known_hosts")
+DIGESTS, FILES = ("authorities", "signers"), ("authorized_keys", "command_keys", "revoked", "known_hosts")
 # how a line begins, and an armour: a blob begins with the length of a name, which has zeros in front
 LINE, ARMOUR = re.compile(rb"[ \t]*(ssh|ecdsa|sk|rsa)-"), re.compile(rb"-----BEGIN ")
 
@@ -75,11 +75,18 @@ def _type_fault(name: str, value: Any) -> str:
         return "None, and no blob"
     if name in TEXTS and not isinstance(value, (str, bytes, bytearray, memoryview)):
         return f"{value!r:.40}, and not a text"
-    if name in DIGESTS and (value is None or isinstance(value, (str, bytes, bytearray, memoryview))):
+    if name in DIGESTS and not _is_list(value):
         return "no list of fingerprints: authorities(text).keys"
-    if name in FILES and (value is None or isinstance(value, (str, bytes, bytearray, memoryview))):
+    if name in FILES and not _is_list(value):
         return "no list of the texts of files" + (", or NO_REVOCATIONS" if name == "revoked" else "")
     return ""
+
+
+def _is_list(value: Any) -> bool:
+    """Whether it has bytes, one after the other, or texts that were not read; where it is gone through once, it may have."""
+    if value is None or isinstance(value, (str, bytes, bytearray, memoryview)):
+        return False
+    return not isinstance(value, (list, tuple)) or all(it is UNREADABLE or isinstance(it, (bytes, bytearray, memoryview)) for it in value)
 
 
 def _fault(value: Any) -> str:
