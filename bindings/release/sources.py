@@ -58,7 +58,7 @@ class Package:
         paths = {it: f"{self.root}/{it}" for it in self.sums}
         other = [it for it, path in paths.items() if not os.path.isfile(path) or sum_of(path) != self.sums[it]]
         if other:
-            print(f"{', '.join(other)}: not what {SUMS} tells of", file=sys.stderr)
+            print(f"{', '.join(other[:5])}{', ..' * (len(other) > 5)}: not what {SUMS} tells of", file=sys.stderr)
         return not other
 
     def files(self, _patterns):

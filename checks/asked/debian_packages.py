@@ -1,6 +1,8 @@
 """The packages for Debian in a place without the toolchain, for checks/dist."""
 import glob
+import gzip
 import os
+import platform
 import re
 
 from .packages import PYTHON, Wrong, files_below
@@ -67,6 +69,20 @@ def hold_debian(place, root):
     } - files_below(f"{root}/usr")  # fmt: skip
     if left:
         raise Wrong("lacks", *sorted(left))
+    hold_helpers(place, root)
+
+
+def hold_helpers(place, root):
+    """The manual pages name the folder of the programs, nothing starts by itself, and the package says for which release it is."""
+    pages = {it: gzip.open(it, "rt", encoding="utf-8").read() for it in glob.glob(f"{root}/usr/share/man/man[18]/sshkey-*.gz")}
+    if len(pages) != 4 or any("/usr/local/" in it for it in pages.values()) or not any("/usr/bin/sshkey-principals" in it for it in pages.values()):
+        raise Wrong("the manual pages name other folders", *pages)
+    (package,) = glob.glob(f"{place.release}/rafendilo-helpers_*.deb")
+    description = " ".join(place.run(["dpkg-deb", "-f", package, "Description"]).split())
+    if f"Built on {platform.freedesktop_os_release()['PRETTY_NAME']}, for it and later releases." not in description:
+        raise Wrong(description)
+    if os.path.exists(f"{root}/etc/systemd"):
+        raise Wrong("a unit is enabled")
 
 
 def check_lintian(place):
