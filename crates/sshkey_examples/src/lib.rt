@@ -7,9 +7,11 @@
 mod host_certificate;
 mod key_blob;
 mod normal_blob;
+mod own_rule;
 mod signed;
 
 pub use host_certificate::check_host;
 pub use key_blob::read_key;
 pub use normal_blob::is_normal_blob;
+pub use own_rule::log_in_without_root;
 pub use signed::is_signed;
