@@ -79,7 +79,11 @@ cat >/usr/local/bin/systemctl <<'END'
 END
 cat >/usr/local/bin/journalctl <<'END'
 #!/bin/sh
-[ $# = 2 ] && [ "$1" = -t ] && sed -n "/^$2/p" /run/journal
+case $* in
+"-u ssh") sed -n "/^sshd/p" /run/journal ;;
+"-t "*) sed -n "/^$2\[/p" /run/journal ;;
+*) exit 1 ;;
+esac
 END
 cat >/usr/local/bin/log <<'END'
 import re, socket
