@@ -226,6 +226,7 @@ use std::process::ExitCode;
 
 const NOW: u64 = 1_700_000_000;
 
+#[derive(Drop)]
 struct Yes;
 
 impl RawVerifier for Yes {
@@ -235,6 +236,7 @@ impl RawVerifier for Yes {
     }
 }
 
+#[derive(Drop)]
 struct Signer {
     key: KeyData,
     raw: Yes,

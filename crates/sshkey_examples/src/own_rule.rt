@@ -26,8 +26,9 @@ pub fn log_in_without_root<R: Revocations, V: RawVerifier>(
         (place_seen signed.now place.now) (R.revokes revocations.now)
         (R.revokes_key revocations.now)) (signed_of signed.now) grant) result }
 {
+    let grant = log_in(alloc, offer, signed, trusted, place, revocations, verifier)?;
     if offer.user == "root" {
         return Err(PublickeyRefusal::NotListed);
     }
-    log_in(alloc, offer, signed, trusted, place, revocations, verifier)
+    Ok(grant)
 }
