@@ -6,7 +6,6 @@ import os
 import re
 import shutil
 import time
-from types import SimpleNamespace
 
 from lib.harness import ROOT
 
@@ -139,7 +138,8 @@ def check_shown(count, folder):
     rafendilo, asked = module(f"{out}/librafendilo.so"), [(it, it.folder(folder)) for it in cases(maker)]
     check_language(count, rafendilo, "Python", lambda case, path: said_by_python(rafendilo, case, path), asked)
     for language, command, built, over in (
-        ("C", "cc", built_c, out), ("C, installed,", "pkg-config", built_installed, f"{folder}/root/usr"), ("Go", "go", built_go, out), ("Rust", "cargo", built_rust, out),
+        ("C", "cc", built_c, out), ("C, installed,", "pkg-config", built_installed, f"{folder}/root/usr"),
+        ("Go", "go", built_go, out), ("Rust", "cargo", built_rust, out),
     ):  # fmt: skip
         if not shutil.which(command):
             print(f"no {command}: the {language} of the pages is left out")

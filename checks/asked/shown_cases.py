@@ -136,5 +136,8 @@ def is_valid(rafendilo, case, certificate):
 
 def in_rattle(case):
     """The line of a case for the program in Rattle, which has no file for what is empty."""
-    names = {"HOST": ("known_hosts", "ssh_known_hosts", "certificate"), "SIGNED-FILE": ("allowed_signers", "file", "file.sig"), "ISSUING": ("key", "authority", "nonce")}
+    names = {
+        "HOST": ("known_hosts", "ssh_known_hosts", "certificate"), "SIGNED-FILE": ("allowed_signers", "file", "file.sig"),
+        "ISSUING": ("key", "authority", "nonce"),
+    }  # fmt: skip
     return " ".join([case.decision, *(base64.b64encode(case.given[it]).decode() for it in names[case.decision])])

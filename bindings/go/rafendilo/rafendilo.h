@@ -639,9 +639,9 @@ uint32_t raf_check_sshsig(const uint8_t *signature, size_t signature_length,
 
 /* Whether an SSH signature counts as the identity's in that namespace, by a text of allowed signers
  * (ssh-keygen(1)), at that second (since 1970), as `ssh-keygen -Y verify` says, or more strictly
- * (docs/SIGNED-FILE.md): a time without Z, which is of the machine's zone there, has to hold in every
- * zone here. `revoked` are revocation files, as raf_check_unrevoked_key takes them; who asks none
- * passes RAF_NO_REVOCATIONS, and never what is left where a file was not read. `is_verified` is 1
+ * (docs/SIGNED-FILE.md): a time without Z, which is of the machine's zone there, has to hold in
+ * every zone here. `revoked` are revocation files, as raf_check_unrevoked_key takes them; who asks
+ * none passes RAF_NO_REVOCATIONS, and never what is left where a file was not read. `is_verified` is 1
  * if the answer to the question of this signature, in the namespace and of the message, is yes; any
  * other number is no. Ask with 0 first: RAF_NOT_SIGNED says that its key may sign, and with any
  * other answer there is nothing to verify. A line whose options are not UTF-8 lets nobody
