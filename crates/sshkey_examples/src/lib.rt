@@ -2,11 +2,6 @@
 //!
 //! Each is what a program of yours would write, and its contract is what such a program may rely
 //! on. Copy them.
-//!
-//! # What is proved, tested and trusted
-//!
-//! Each caller is proved from public contracts alone, in both directions: one that always refused,
-//! but for `Memory`, would not be.
 #![tactic(auto)]
 
 mod host_certificate;
