@@ -46,8 +46,8 @@ Logins = ((l : Login) (g : PublickeyGrant) (session_id bytes : List ℕ) (host_k
 -- Lines of keys and of authorities that refuse are passed over, and a key's line is for no name. A
 -- certificate that lists somebody is let in by its authority.
 abbrev pub Refusals : Type 0
-Refusals = ((u : UserLogin) (text : List ℕ) → ¬ RefusesBy u KeyLine text)
+Refusals = ((u : UserLogin) (k : Key) (text : List ℕ) → ¬ RefusesBy u (KeyLine k) text)
     × ((u : UserLogin) (c : Certificate) (text : List ℕ) → ¬ RefusesBy u (AuthorityLine c) text)
-    × ((u : UserLogin) (text : List ℕ) (f : Found) → IsFoundBy u KeyLine text f → f.name ≡ [])
+    × ((u : UserLogin) (k : Key) (text : List ℕ) (f : Found) → IsFoundBy u (KeyLine k) text f → f.name ≡ [])
     × PrincipalsGoOn trusting_all nobodys InCertificate
     × ¬ PrincipalsGoOn trusting_all certificate InCertificate

@@ -37,7 +37,7 @@ pub record GrantsKey (l : Login) (k : Key) (g : PublickeyGrant) : Type 0 where
 
 -- whom the policy of certificates is asked about: who has that name, by those authorities
 abbrev pub policy_login : Login → Certificate → List Fingerprint → List ℕ → policy.Login
-policy_login l c authorities name = record { accepts = λ _. true; revokes = l.revokes; authorities = authorities; time = l.time; user = name; offered = c.signed.key; blob = l.offer.blob; least_rsa_bits = l.trusted.least_rsa_bits; client = l.client }
+policy_login l c authorities name = record { accepts = λ _. true; revokes = l.revokes; authorities = authorities; time = l.time; user = name; blob = l.offer.blob; least_rsa_bits = l.trusted.least_rsa_bits; client = l.client }
 
 -- The certificate that is offered: sshd accepts its authority's key, a source lets it in for a name,
 -- and so does the policy of certificates; the login is bound to what both say.

@@ -39,16 +39,16 @@ at from line reason = Some (record { source = from; line = line; reason = reason
 
 -- The first text with a line for the key says why, by its own number and line.
 abbrev pub FirstRefusals : Type 0
-FirstRefusals = (u : UserLogin) (over elsewhere : List ℕ) → Refuse u KeyLine KeyLine over elsewhere →
-    RefusesFirst u KeyLine list.AuthorizedKeys (Read [] ∷ Read over ∷ Read elsewhere ∷ []) (at (source.AuthorizedKeys 1) 3 Expired)
-    × RefusesFirst u KeyLine list.Command (Read elsewhere ∷ Read over ∷ []) (at (source.Command 0) 1 Elsewhere)
-    × RefusesFirst u KeyLine list.AuthorizedKeys (Read [] ∷ []) None
-    × ¬ RefusesFirst u KeyLine list.AuthorizedKeys (Read over ∷ []) None
-    × ((x : LineRefusal) → RefusesFirst u KeyLine list.AuthorizedKeys (Read over ∷ Read elsewhere ∷ []) (Some x) → (x.source ≡ source.AuthorizedKeys 0) × IsWhy u KeyLine over (why.NotAllowed x.line x.reason))
+FirstRefusals = (u : UserLogin) (k : Key) (over elsewhere : List ℕ) → Refuse u (KeyLine k) (KeyLine k) over elsewhere →
+    RefusesFirst u (KeyLine k) list.AuthorizedKeys (Read [] ∷ Read over ∷ Read elsewhere ∷ []) (at (source.AuthorizedKeys 1) 3 Expired)
+    × RefusesFirst u (KeyLine k) list.Command (Read elsewhere ∷ Read over ∷ []) (at (source.Command 0) 1 Elsewhere)
+    × RefusesFirst u (KeyLine k) list.AuthorizedKeys (Read [] ∷ []) None
+    × ¬ RefusesFirst u (KeyLine k) list.AuthorizedKeys (Read over ∷ []) None
+    × ((x : LineRefusal) → RefusesFirst u (KeyLine k) list.AuthorizedKeys (Read over ∷ Read elsewhere ∷ []) (Some x) → (x.source ≡ source.AuthorizedKeys 0) × IsWhy u (KeyLine k) over (why.NotAllowed x.line x.reason))
 
 -- Of principals it says so whatever stands after it, which is not asked; without a file nothing does.
 abbrev pub PrincipalRefusals : Type 0
-PrincipalRefusals = (l : Login) (c : Certificate) (over elsewhere : List ℕ) → Refuse (user_of l c.signed.key) (PrincipalLine c) (PrincipalLine c) over elsewhere →
+PrincipalRefusals = (l : Login) (c : Certificate) (over elsewhere : List ℕ) → Refuse (user_of l) (PrincipalLine c) (PrincipalLine c) over elsewhere →
     PrincipalsRefuseFirst l c (Files (Read over ∷ Unreadable ∷ [])) (at (source.Principals 0) 3 Expired)
     × PrincipalsRefuseFirst l c (Files (Read elsewhere ∷ Read over ∷ [])) (at (source.Principals 0) 1 Elsewhere)
     × PrincipalsRefuseFirst l c InCertificate None
@@ -56,13 +56,13 @@ PrincipalRefusals = (l : Login) (c : Certificate) (over elsewhere : List ℕ) �
 
 -- After a text that refuses a principal none of its like is asked.
 abbrev pub DecidesAlone : Type 0
-DecidesAlone = (c : Certificate) → (decides_alone KeyLine ≡ false) × (decides_alone (AuthorityLine c) ≡ false) × (decides_alone (PrincipalLine c) ≡ true)
+DecidesAlone = (k : Key) (c : Certificate) → (decides_alone (KeyLine k) ≡ false) × (decides_alone (AuthorityLine c) ≡ false) × (decides_alone (PrincipalLine c) ≡ true)
 
 -- ---- all that the server trusts
 
 -- The files say why before the command's texts; nothing is listed only where no text has a line.
 abbrev pub RefusedKeys : Type 0
-RefusedKeys = (k : Key) (over elsewhere : List ℕ) → Refuse (user_of trusting_all k) KeyLine KeyLine over elsewhere →
+RefusedKeys = (k : Key) (over elsewhere : List ℕ) → Refuse (user_of trusting_all) (KeyLine k) (KeyLine k) over elsewhere →
     IsKeyRefused (login (trusting (Read over ∷ []) InCertificate (Read elsewhere ∷ []))) k (refusal.NotAllowed (source.AuthorizedKeys 0) 3 Expired)
     × IsKeyRefused (login (trusting (Read [] ∷ []) InCertificate (Read elsewhere ∷ []))) k (refusal.NotAllowed (source.Command 0) 1 Elsewhere)
     × IsKeyRefused (login (trusting (Read [] ∷ []) InCertificate [])) k refusal.NotListed
@@ -72,7 +72,7 @@ RefusedKeys = (k : Key) (over elsewhere : List ℕ) → Refuse (user_of trusting
 -- The texts of principals say why after the files and before the command's, where the authority is
 -- trusted.
 abbrev pub RefusedCertificates : Type 0
-RefusedCertificates = (over elsewhere : List ℕ) → Refuse (user_of trusting_all certificate.signed.key) (PrincipalLine certificate) (AuthorityLine certificate) over elsewhere →
+RefusedCertificates = (over elsewhere : List ℕ) → Refuse (user_of trusting_all) (PrincipalLine certificate) (AuthorityLine certificate) over elsewhere →
     IsCertificateRefused (login (trusting [] (Files (Read over ∷ [])) (Read elsewhere ∷ []))) certificate (refusal.NotAllowed (source.Principals 0) 3 Expired)
     × IsCertificateRefused (login (trusting (Read elsewhere ∷ []) (Files (Read over ∷ [])) [])) certificate (refusal.NotAllowed (source.AuthorizedKeys 0) 1 Elsewhere)
     × IsCertificateRefused (login (record (trusting [] (Files (Read over ∷ [])) (Read elsewhere ∷ [])) { authorities = [] })) certificate (refusal.NotAllowed (source.Command 0) 1 Elsewhere)

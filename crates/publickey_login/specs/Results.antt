@@ -47,11 +47,11 @@ use Rattle.publickey_login.specs.declared.trusted.Trusted.{Trusted}
 
 -- the login that lines are asked about, whatever text it holds
 abbrev pub asked_of : code.UserLogin → UserLogin
-asked_of u = by_lines (users.login_of u None) []
+asked_of u = by_lines (users.login_of u) []
 
 -- sshd accepts the key whose lines are sought.
 abbrev pub CanSeek : code.UserLogin → Sought → Type 0
-CanSeek login KeyLine = IsKey (key_of login.offered.now) × IsTrue (openssh_accepts_key login.least_rsa_bits (key_of login.offered.now))
+CanSeek login (KeyLine k) = IsKey k × IsTrue (openssh_accepts_key login.least_rsa_bits k)
 CanSeek login (AuthorityLine c) = IsCertificate c × IsTrue (openssh_accepts_key 0 c.signed.signature_key)
 CanSeek login (PrincipalLine c) = Unit {0}
 
@@ -65,7 +65,7 @@ FindsText u s text (Err r) = r ≢ why.Memory → IsWhy u s text r × ((f : Foun
 
 -- For a principal the first text that has a line decides.
 abbrev pub decides_alone : Sought → Bool
-decides_alone KeyLine = false
+decides_alone (KeyLine k) = false
 decides_alone (AuthorityLine c) = false
 decides_alone (PrincipalLine c) = true
 
@@ -86,7 +86,7 @@ SearchesIn u s of texts (Err r) = r ≢ refusal.Memory → IsWhyStopped u s of t
 
 -- The login that lines are asked about is this one's, by those whom the server trusts.
 pub record AsksOf (l : Login) (u : code.UserLogin) (t : Trusted) : Type 0 where
-  pub user : asked_of u ≡ user_of l (key_of u.offered.now)
+  pub user : asked_of u ≡ user_of l
   pub trusted : trusted_of t ≡ l.trusted
 
 -- It is that source; or there is none for that, out of memory aside.

@@ -7,6 +7,7 @@
 
 mod answer;
 mod certificate;
+mod credential;
 pub mod examples;
 mod filter;
 mod first_line;

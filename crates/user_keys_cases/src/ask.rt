@@ -3,7 +3,6 @@
 use crate::verified::Verified;
 use crate::words::{NO_LINE, Words, bytes};
 use sshkey_base::{HashAlg, Result};
-use sshkey_cert::Certificate;
 use sshkey_public::PublicKey;
 use sshkey_revoked_keys::RevokedKeys;
 use std::alloc::Global;
@@ -45,16 +44,16 @@ fn key(alloc: Global, words: &Words) -> Result<Admission> {
     let offered = PublicKey::from_bytes(alloc, &words.shown)?;
     Ok(log_in_by_key(
         alloc,
-        &words.login(offered.key_data()),
+        &words.login(),
+        offered.key_data(),
         &RevokedKeys::from_bytes(alloc, &words.revoked),
     ))
 }
 
 fn certificate(alloc: Global, verifier: &Verified, words: &Words) -> Result<Admission> {
-    let certificate = Certificate::from_bytes(alloc, &words.shown)?;
     Ok(log_in_by_certificate(
         alloc,
-        &words.login(certificate.public_key()),
+        &words.login(),
         &words.shown,
         &RevokedKeys::from_bytes(alloc, &words.revoked),
         verifier,
@@ -69,10 +68,9 @@ fn principal(
 ) -> Result<Admission> {
     let authority = PublicKey::from_bytes(alloc, &bytes(alloc, authority)?)?;
     let trusted = authority.fingerprint(alloc, HashAlg::Sha256)?;
-    let certificate = Certificate::from_bytes(alloc, &words.shown)?;
     Ok(log_in_by_principal(
         alloc,
-        &words.login(certificate.public_key()),
+        &words.login(),
         &words.shown,
         &[trusted],
         &RevokedKeys::from_bytes(alloc, &words.revoked),

@@ -1,10 +1,7 @@
 //! How a line spells what a question is about.
 
-ghost use Rattle.std.specs.Prelude.{◌≡◌};
-
 use hex::FromHexError;
 use sshkey_base::{Error, Result};
-use sshkey_keys::KeyData;
 use std::alloc::Global;
 use std::io::ErrorKind;
 use std::net::IpAddr;
@@ -44,14 +41,11 @@ impl Words {
         })
     }
 
-    /// The login under that key.
-    pub(crate) fn login<'a>(&'a self, offered: &'a KeyData) -> UserLogin<'a>
-        ensures { result.offered.now ≡ offered.now }
-    {
+    /// The login that is asked for.
+    pub(crate) fn login(&self) -> UserLogin<'_> {
         UserLogin {
             text: &self.text,
             user: &self.user,
-            offered,
             client: Some(self.client),
             host: self.host.as_deref(),
             unix_timestamp: self.unix_timestamp,
