@@ -188,8 +188,8 @@ pub(crate) fn lay_out_grant(
 fn command(terms: &Terms) -> &str
     ensures { result.now ≡ or_empty (terms_of terms.now).command }
 {
-    match &terms.command {
-        Some(command) => command.as_str(),
+    match terms.shown_command() {
+        Some(command) => command,
         None => "",
     }
 }
@@ -293,7 +293,7 @@ fn permits(terms: &Terms) -> u32
         + bit(AGENT_FORWARDING, may.agent_forwarding)
         + bit(X11_FORWARDING, may.x11_forwarding)
         + bit(USER_RC, may.user_rc)
-        + bit(ANY_COMMAND, terms.command.is_none())
+        + bit(ANY_COMMAND, terms.shown_command().is_none())
         + bit(NO_TOUCH, !terms.touch_required)
         + bit(NO_VERIFICATION, !terms.verify_required)
         + bit(TUNNELS, may.tunnels)

@@ -138,7 +138,7 @@ pub(crate) fn judgement_with(
         alone }
 {
     let agreed = agree(
-        &terms.command,
+        terms.shown_command(),
         certificate.critical_options().get("force-command"),
     );
     let name = name_listed(certificate.valid_principals(), user, &terms.principals);

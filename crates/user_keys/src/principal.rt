@@ -232,7 +232,7 @@ fn judged_in_place(terms: &Terms, certificate: &Certificate, alone: Judgement) -
         return Judgement::Refuses(Reason::MisplacedOption);
     }
     let agreed = agree(
-        &terms.command,
+        terms.shown_command(),
         certificate.critical_options().get("force-command"),
     );
     judged_by(agreed, true, alone)

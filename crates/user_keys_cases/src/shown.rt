@@ -21,7 +21,7 @@ pub(crate) fn show<W: Write>(output: &mut W, admission: &Admission) -> io::Resul
 pub(crate) fn show_grant<W: Write>(output: &mut W, grant: &UserGrant) -> io::Result<()> {
     let terms = &grant.terms;
     write!(output, " command=")?;
-    if let Some(command) = &terms.command {
+    if let Some(command) = terms.shown_command() {
         write!(output, "x")?;
         show_text(output, command)?;
     }
