@@ -1,4 +1,5 @@
 mod Asked
+mod Commands
 mod Digests
 mod Grants
 mod Pends

@@ -2,6 +2,7 @@ pub mod Refusals
 pub mod Grants
 pub mod GrantExamples
 pub mod Forwarding
+pub mod Running
 pub mod Logins
 pub mod Asked
 pub mod Verdicts

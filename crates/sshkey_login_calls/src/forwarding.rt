@@ -72,7 +72,7 @@ fn permitted(way: Way, part: Part, room: &[u8], host: &[u8], port: u32) -> u32
 }
 
 /// The bytes of the part; none where the room ends before it.
-fn bytes_in(part: Part, room: &[u8]) -> &[u8]
+pub(crate) fn bytes_in(part: Part, room: &[u8]) -> &[u8]
     ensures { IsPartOf part room.now → result.now ≡ bytes_of part room.now }
 {
     match room.get(part.start..) {
