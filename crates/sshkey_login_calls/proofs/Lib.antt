@@ -2,6 +2,7 @@ mod Asked
 mod Commands
 mod Digests
 mod Grants
+mod Laid
 mod Pends
 mod Places
 mod Texts

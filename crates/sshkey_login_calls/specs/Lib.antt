@@ -1,4 +1,5 @@
 pub mod Refusals
+pub mod RefusalExamples
 pub mod Grants
 pub mod GrantExamples
 pub mod Forwarding
