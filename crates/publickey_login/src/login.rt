@@ -141,7 +141,15 @@ pub fn may_offer<R: Revocations, V: RawVerifier>(
         ..*place
     };
     let signed = Signed::BySshd;
-    match log_in(alloc, offer, &signed, trusted, &place, revocations, verifier) {
+    match log_in(
+        alloc,
+        offer,
+        &signed,
+        trusted,
+        &place,
+        revocations,
+        verifier,
+    ) {
         Ok(_) => Ok(()),
         Err(refusal) => Err(refusal),
     }

@@ -8,5 +8,7 @@ returns c = λ a. (
   (λ has. let same : 3 ≡ 4 = ap length has.bytes in omega (arith, same)),
   (λ has. omega (arith, has.within)),
   (λ has. omega (arith, has.permits)),
-  refl, refl, refl,
+  refl,
+  refl,
+  refl,
 )
