@@ -4,7 +4,7 @@
 ghost use Rattle.publickey_login.specs.Examples.{Flagless, Flags, Left, Named};
 ghost use Rattle.publickey_login.specs.GrantExamples.{Certificates, Keys, Logins, Refusals};
 ghost use Rattle.publickey_login.specs.LoginExamples.{Answered, Authorities, Counted, FirstTexts, Listed, OwnTerms, PassedTexts, Places, Required, Sources};
-ghost use Rattle.publickey_login.specs.RefusalExamples.{DecidesAlone, FirstRefusals, Offers, PrincipalRefusals, RefusedCertificates, RefusedKeys};
+ghost use Rattle.publickey_login.specs.RefusalExamples.{DecidesAlone, Decisions, FirstRefusals, Offers, PrincipalRefusals, RefusedCertificates, RefusedKeys};
 
 /// The names under which a key or a certificate signs.
 pub fn named()
@@ -124,4 +124,9 @@ pub fn refused_certificates()
 /// What may be offered.
 pub fn offers()
     ensures { Offers }
+{}
+
+/// What the answers decide.
+pub fn decisions()
+    ensures { Decisions }
 {}
