@@ -1,9 +1,10 @@
 //! Who is let in.
 
-ghost use Rattle.std.specs.Prelude.{◌≡◌, ◌≢◌, ◌⊎◌, ◌↔◌, Some};
+ghost use Rattle.std.specs.Prelude.{◌≡◌, ◌≢◌, ◌⊎◌, ◌↔◌, [], Some, bit_and};
 ghost use Rattle.std.specs.Str.{IsUtf8};
 ghost use Rattle.login_terms.specs.Questions.{MayListen, MayOpen, runs};
 ghost use Rattle.login_terms.specs.Terms.{Terms};
+ghost use Rattle.sshkey_calls.specs.Rooms.{IsPartOf};
 ghost use Rattle.sshkey_calls.specs.Writing.{WritesContent};
 ghost use Rattle.sshkey_login_calls.specs.Forwarding.{HasPlaces};
 ghost use Rattle.sshkey_login_calls.specs.Grants.{IsRefused, to_listen, to_open};
@@ -82,6 +83,7 @@ pub extern "C" fn raf_may_open(grant: &GrantParts, room: &[u8], host: &[u8], por
     ensures answer { IsUtf8 host.now → (t : Terms)
         → HasPlaces (to_open t) grant.now.permit_open room.now
         → (result ≡ 0) ↔ MayOpen t host.now port }
+    ensures outside { (IsPartOf grant.now.permit_open room.now → ⊥) → result ≢ 0 }
     ensures number { (result ≡ 0) ⊎ (result ≡ 4) ⊎ (result ≡ 97) }
     ensures text { result ≡ 4 ↔ (IsUtf8 host.now → ⊥) }
 {
@@ -94,6 +96,7 @@ pub extern "C" fn raf_may_listen(grant: &GrantParts, room: &[u8], host: &[u8], p
     ensures answer { IsUtf8 host.now → (t : Terms)
         → HasPlaces (to_listen t) grant.now.permit_listen room.now
         → (result ≡ 0) ↔ MayListen t host.now port }
+    ensures outside { (IsPartOf grant.now.permit_listen room.now → ⊥) → result ≢ 0 }
     ensures number { (result ≡ 0) ⊎ (result ≡ 4) ⊎ (result ≡ 97) }
     ensures text { result ≡ 4 ↔ (IsUtf8 host.now → ⊥) }
 {
@@ -113,6 +116,9 @@ pub extern "C" fn raf_runs(
     ensures answer { (t : Terms) → HasCommand t grant.now granted.now
         → WritesContent (λ content. runs t (asked_for asks_command asked.now) ≡ Some content)
         result length.old length.new room.old room.new }
+    ensures outside { bit_and grant.now.permits 32 ≡ 0
+        → (IsPartOf grant.now.force_command granted.now → ⊥)
+        → WritesContent (λ content. content ≡ []) result length.old length.new room.old room.new }
     ensures number { (result ≡ 0) ⊎ (result ≡ 2) ⊎ (result ≡ 3) }
 {
     runs(grant, granted, asked, asks_command, room, length)

@@ -1,8 +1,9 @@
 //! What runs, by a grant that was written to the caller's room.
 
-ghost use Rattle.std.specs.Prelude.{◌≡◌, ◌⊎◌, Some, option_map};
+ghost use Rattle.std.specs.Prelude.{◌≡◌, ◌⊎◌, [], Some, bit_and, option_map};
 ghost use Rattle.login_terms.specs.Questions.{runs};
 ghost use Rattle.login_terms.specs.Terms.{Terms};
+ghost use Rattle.sshkey_calls.specs.Rooms.{IsPartOf};
 ghost use Rattle.sshkey_calls.specs.Writing.{WritesContent};
 ghost use Rattle.sshkey_login_calls.specs.Running.{HasCommand, asked_for};
 
@@ -28,6 +29,9 @@ pub fn runs(
     ensures answer { (t : Terms) → HasCommand t grant.now granted.now
         → WritesContent (λ content. runs t (asked_for asks_command asked.now) ≡ Some content)
         result length.old length.new room.old room.new }
+    ensures outside { bit_and grant.now.permits 32 ≡ 0
+        → (IsPartOf grant.now.force_command granted.now → ⊥)
+        → WritesContent (λ content. content ≡ []) result length.old length.new room.old room.new }
     ensures number { (result ≡ 0) ⊎ (result ≡ 2) ⊎ (result ≡ 3) }
 {
     let Some(content) = command_in(grant, granted, asked_for(asks_command, asked)) else {
@@ -56,8 +60,11 @@ fn command_in<'a>(
     granted: &'a [u8],
     asked: Option<&'a [u8]>,
 ) -> Option<&'a [u8]>
-    ensures { (t : Terms) → HasCommand t grant.now granted.now
+    ensures runs { (t : Terms) → HasCommand t grant.now granted.now
         → option_map (λ c. c.now) result ≡ runs t (option_map (λ c. c.now) asked.entry) }
+    ensures outside { bit_and grant.now.permits 32 ≡ 0
+        → (IsPartOf grant.now.force_command granted.now → ⊥)
+        → option_map (λ c. c.now) result ≡ Some [] }
 {
     if grant.permits & ANY_COMMAND != 0 {
         return asked;
