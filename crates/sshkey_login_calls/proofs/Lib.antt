@@ -1,6 +1,8 @@
 mod Asked
+mod Commands
 mod Digests
 mod Grants
+mod Laid
 mod Pends
 mod Places
 mod Texts

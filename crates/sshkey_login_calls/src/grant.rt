@@ -33,7 +33,7 @@ const X11_FORWARDING: u32 = 8;
 /// The user's `~/.ssh/rc`.
 const USER_RC: u32 = 16;
 /// What the client asks for, or a shell.
-const ANY_COMMAND: u32 = 32;
+pub(crate) const ANY_COMMAND: u32 = 32;
 /// A security key that nobody touched.
 const NO_TOUCH: u32 = 64;
 /// A security key that did not verify its user.
