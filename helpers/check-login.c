@@ -84,6 +84,17 @@ static bool find_option(const program_files *files, uint32_t source, const raf_l
   return true;
 }
 
+/* Whether a line can't be told for want of the client's address: from some address it can. */
+static bool wants_address(raf_login login) {
+  static const uint8_t some[4] = {192, 0, 2, 1};
+  granted_login found;
+  if (login.place.client.length) return false;
+  login.place.client = (raf_span){some, sizeof some};
+  uint32_t answer = granted_ask(&login, &found);
+  free(found.buffer);
+  return answer != RAF_LINE_UNCLEAR;
+}
+
 uint32_t check_login(raf_span shown, report *of, const check_request *asked) {
   login_texts texts;
   granted_login found;
@@ -99,6 +110,8 @@ uint32_t check_login(raf_span shown, report *of, const check_request *asked) {
         !find_option(&asked->authorized_keys, RAF_SOURCE_AUTHORIZED_KEYS, &login, of) &&
         !find_option(&asked->command_keys, RAF_SOURCE_COMMAND, &login, of))
       of->words = granted_unlisted_words(&login, of->certificate.length > 0);
+    if (answer == RAF_LINE_UNCLEAR && wants_address(login))
+      of->words = "a line for certain places: it wants --from ADDRESS";
   }
   /* an authority signs certificates */
   if (has_lines) of->is_key = false;

@@ -76,6 +76,10 @@ static const struct {
                [CHECK_JSON] = {"--json", NULL},
                [CHECK_TIME] = {"--option", "verify-time=TIME", 'O'}};
 
+/* what getopt_long takes: with the sign in front it gives words where they stand, as that option */
+static const char letters[] = "-:k:n:s:f:I:r:O:";
+enum { IS_WORD = 1 };
+
 #define ONE(option) (1u << CHECK_##option)
 #define OF_SIGNATURES (ONE(NAMESPACE) | ONE(SIGNATURE))
 /* what may let somebody in */
@@ -135,6 +139,21 @@ static program_files *files_of(check_option option, check_request *asked) {
                                            : NULL;
 }
 
+/* What a word says that is asked, and one behind -Y; CHECK_SHOW where it is a file's name. */
+static check_mode mode_of(const char *word) {
+  return !strcmp(word, "login")         ? CHECK_LOGIN
+         : !strcmp(word, "verify")      ? CHECK_VERIFY
+         : !strcmp(word, "fingerprint") ? CHECK_FINGERPRINT
+         : !strcmp(word, "revoked")     ? CHECK_REVOCATIONS
+                                        : CHECK_SHOW;
+}
+
+static check_mode keygen_mode_of(const char *word) {
+  return !strcmp(word, "find-principals") ? CHECK_FIND
+         : !strcmp(word, "verify")        ? CHECK_KEYGEN
+                                          : CHECK_UNKNOWN;
+}
+
 /* Takes an option; false, which is said, where it was given. */
 static bool take_option(check_option option, const char *value, check_request *asked) {
   program_files *files = files_of(option, asked);
@@ -159,8 +178,23 @@ static void complain_of_word(int found, const char *word) {
     program_complain("%s is no option", word);
 }
 
-/* Reads the options of the words; false, which is said, where they are none. */
-static bool read_options(int count, char **words, check_request *asked) {
+/* Takes what getopt_long found: an option; or a word, of which the first may say what is asked, and
+ * any other is left in front. False, which is said, where it is neither. */
+static bool take_found(int found, char **words, int *left, check_request *asked) {
+  bool is_first = !*left && asked->mode == CHECK_SHOW;
+  if (found == '?' || found == ':') {
+    complain_of_word(found, words[optind - 1]);
+    return false;
+  }
+  if (found != IS_WORD) return take_option(option_of(found), optarg, asked);
+  if (is_first) asked->mode = mode_of(optarg);
+  if (!is_first || asked->mode == CHECK_SHOW) words[(*left)++] = optarg;
+  return true;
+}
+
+/* Reads the words from optind on, and leaves those in front that are no options, so many; false,
+ * which is said, where one is not taken. */
+static bool read_options(int count, char **words, int *left, check_request *asked) {
   struct option longs[CHECK_OPTIONS + 1];
   memset(longs, 0, sizeof longs);
   for (int at = 0; at < CHECK_OPTIONS; at++)
@@ -168,59 +202,36 @@ static bool read_options(int count, char **words, check_request *asked) {
                                 options[at].value ? required_argument : no_argument, NULL,
                                 number_of(at)};
   opterr = 0;
-  const char *letters = is_keygen(asked->mode)        ? ":n:s:f:I:r:O:"
-                        : asked->mode == CHECK_VERIFY ? ":k:n:s:f:I:r:"
-                                                      : ":";
-  for (int found; (found = getopt_long(count, words, letters, longs, NULL)) != -1;) {
-    if (found == '?' || found == ':') {
-      complain_of_word(found, words[optind - 1]);
-      return false;
-    }
-    if (!take_option(option_of(found), optarg, asked)) return false;
-  }
+  for (int found; (found = getopt_long(count, words, letters, longs, NULL)) != -1;)
+    if (!take_found(found, words, left, asked)) return false;
+  /* behind -- */
+  while (optind < count) words[(*left)++] = words[optind++];
   return true;
 }
 
-/* Reads the words that are no options, which begin there; false, which is said, where there are too
- * many, or too few. */
+/* Reads these words, which are no options; false, which is said, where there are too many, or too
+ * few. */
 static bool read_rest(int count, char **words, check_request *asked) {
-  int left = count - optind;
   if (asked->mode == CHECK_FINGERPRINT || asked->mode == CHECK_REVOCATIONS) {
-    asked->paths = words + optind;
-    asked->path_count = left;
+    asked->paths = words;
+    asked->path_count = count;
     return true;
   }
-  if (asked->mode == CHECK_LOGIN && left >= 2) {
-    asked->user = words[optind++];
-    left--;
-  } else if (asked->mode == CHECK_LOGIN) {
+  if (asked->mode == CHECK_LOGIN && count < 2) {
     program_complain("login wants NAME KEY");
     return false;
   }
+  if (asked->mode == CHECK_LOGIN) asked->user = *words++, count--;
   int most = is_keygen(asked->mode) ? 0 : 1;
-  if (left > most) {
-    program_complain("%s is a word too many", words[optind + most]);
+  if (count > most) {
+    program_complain("%s is a word too many", words[most]);
     return false;
   }
-  if (left && strcmp(words[optind], "-")) asked->path = words[optind];
+  if (count && strcmp(*words, "-")) asked->path = *words;
   return true;
 }
 
 /* ---- what they ask */
-
-/* What the first word says that is asked. */
-static check_mode mode_of(int count, char **words) {
-  if (count < 2) return CHECK_SHOW;
-  if (!strcmp(words[1], "-Y") && count > 2)
-    return !strcmp(words[2], "find-principals") ? CHECK_FIND
-           : !strcmp(words[2], "verify")        ? CHECK_KEYGEN
-                                                : CHECK_UNKNOWN;
-  return !strcmp(words[1], "login")         ? CHECK_LOGIN
-         : !strcmp(words[1], "verify")      ? CHECK_VERIFY
-         : !strcmp(words[1], "fingerprint") ? CHECK_FINGERPRINT
-         : !strcmp(words[1], "revoked")     ? CHECK_REVOCATIONS
-                                            : CHECK_SHOW;
-}
 
 /* What the options say that is asked. */
 static check_mode mode_by_options(const check_request *asked) {
@@ -275,26 +286,28 @@ static bool has_sources(const check_request *asked) {
   const char *const *given = asked->given;
   bool has_one = asked->mode != CHECK_LOGIN;
   for (int at = 0; at < CHECK_OPTIONS; at++) has_one |= given[at] && SOURCES & 1u << at;
-  if (!has_one)
+  if (given[CHECK_PRINCIPALS] && !given[CHECK_AUTHORITIES])
+    program_complain("--principals wants --authorities FILE");
+  else if (!has_one)
     program_complain("login wants --authorized-keys, --authorities, --user-authorities or "
                      "--command-keys");
   else if (given[CHECK_AUTHORITIES] && given[CHECK_USER_AUTHORITIES])
     program_complain("login takes one of --authorities and --user-authorities");
-  else if (given[CHECK_PRINCIPALS] && !given[CHECK_AUTHORITIES])
-    program_complain("--principals wants --authorities FILE");
   else
     return true;
   return false;
 }
 
 bool check_read_words(int count, char **words, check_request *asked) {
-  asked->mode = mode_of(count, words);
-  optind = asked->mode == CHECK_SHOW ? 1 : is_keygen(asked->mode) ? 3 : 2;
+  bool has_keygen_word = count > 2 && !strcmp(words[1], "-Y");
+  int left = 0;
+  asked->mode = has_keygen_word ? keygen_mode_of(words[2]) : CHECK_SHOW;
+  optind = has_keygen_word ? 3 : 1;
   bool is_read = asked->mode != CHECK_UNKNOWN || !strcmp(words[2], questions[CHECK_UNKNOWN].name);
   if (!is_read) program_complain("-Y %s is nothing that is answered here", words[2]);
-  is_read = is_read && read_options(count, words, asked);
+  is_read = is_read && read_options(count, words, &left, asked);
   asked->mode = mode_by_options(asked);
-  is_read = is_read && read_rest(count, words, asked) && has_no_other(asked);
+  is_read = is_read && read_rest(left, words, asked) && has_no_other(asked);
   is_read = is_read && has_needed(asked) && has_sources(asked);
   if (asked->mode == CHECK_CERTIFICATE) asked->user = asked->given[CHECK_USER];
   if (!is_read) fprintf(stderr, "usage: %s\n", questions[asked->mode].usage);

@@ -27,17 +27,29 @@ typedef struct {
   check_request *asked;
   const char *path;
   bool has_users; /* before the keys, as those of sshkey-principals */
+  size_t without; /* the first line that has none; 0 for no line */
 } key_file;
+
+/* Whether the line is a key, without users. */
+static bool has_no_users(const char *line, size_t length) {
+  raf_authorities found = {NULL, 0};
+  uint32_t answer = raf_add_authority(&found, line, length);
+  free(found.keys);
+  return answer == RAF_DONE;
+}
 
 /* Adds the key of a line to those that count, or says that it has none, or a later one. */
 static uint32_t read_key(const char *line, size_t length, size_t number, void *given) {
-  const key_file *of = given;
+  key_file *of = given;
   raf_authorities *to = &of->asked->by;
   uint32_t answer = of->has_users ? raf_add_user_authority(to, line, length, of->asked->user)
                                   : raf_add_authority(to, line, length);
   if (answer == RAF_DONE || answer == RAF_MEMORY) return answer;
   /* another user's line */
-  if (of->has_users && answer == RAF_END) return RAF_DONE;
+  if (of->has_users && answer == RAF_END) {
+    if (!of->without && has_no_users(line, length)) of->without = number;
+    return RAF_DONE;
+  }
   bool is_later = answer == RAF_LATER_KEY;
   if (!is_later) of->asked->is_untold = true;
   if (!is_later && !of->has_users && has_users(line, length))
@@ -80,7 +92,7 @@ static bool is_private(const char *path, raf_blob text) {
 /* Reads the file of keys of an option where one is named, likewise, and where a line is none. */
 static bool read_keys(check_option option, check_request *asked) {
   const char *path = asked->given[option];
-  key_file of = {asked, path, option == CHECK_USER_AUTHORITIES};
+  key_file of = {asked, path, option == CHECK_USER_AUTHORITIES, 0};
   raf_blob text = {NULL, 0};
   size_t number;
   if (!path) return true;
@@ -90,7 +102,11 @@ static bool read_keys(check_option option, check_request *asked) {
   uint32_t answer = asked->is_untold ? (uint32_t)RAF_DONE
                                      : program_each_line(text, read_key, &of, &number);
   if (answer != RAF_DONE) program_complain("%s:%zu: %s", path, number, raf_status_meaning(answer));
-  if (of.has_users && answer == RAF_DONE && !asked->is_untold && !asked->by.count)
+  bool is_nobodys = of.has_users && answer == RAF_DONE && !asked->is_untold && !asked->by.count;
+  if (is_nobodys && of.without)
+    program_complain("%s:%zu: no users before the key: a line is NAME[,NAME..] KEY", path,
+                     of.without);
+  else if (is_nobodys)
     program_complain("%s: no line has a key for %s", path, asked->user);
   free(text.bytes);
   return answer == RAF_DONE && !asked->is_untold;

@@ -987,8 +987,9 @@ enum {
 typedef struct {
   raf_texts authorized_keys;  /* AuthorizedKeysFile: each text in its turn */
   raf_digests authorities;    /* TrustedUserCAKeys: the keys that may sign logins of all users */
-  raf_texts principals;       /* AuthorizedPrincipalsFile: of the first text that has a line for a
-                                 principal, the first such line decides */
+  raf_texts principals;       /* AuthorizedPrincipalsFile of this user, who need not stand there: of
+                                 the first text that has a line for a principal, the first such line
+                                 decides */
   raf_texts command_keys;     /* AuthorizedKeysCommand: what it wrote, if it ended with 0 */
   raf_spans revoked;          /* RevokedKeys: each a list or keys as text; any of them revokes. Who
                                  asks none says so: RAF_NO_REVOCATIONS */

@@ -27,14 +27,14 @@ HAVE = {
     "cargo": (has_command, "cargo"),
 }  # fmt: skip
 COMPILER = ["make", "gcc", "libc6-dev"]
-# what each kind of package takes; git tells which files are in the source package
+# what each kind of package takes
 TAKES = {
     "source": [], "tarball": [*COMPILER, "libssl-dev"], "debian": [*COMPILER, "libssl-dev", "build-essential", "debhelper", "dh-python"],
     "python": [*COMPILER, "python3-setuptools", "python3-wheel"], "go": [], "rust": [*COMPILER, "cargo"],
 }  # fmt: skip
 
 
-def lacking(kinds):
-    """The packages of Debian that the machine lacks for these kinds."""
-    taken = dict.fromkeys(["git", *(it for kind in kinds for it in TAKES[kind])])
+def lacking(kinds, sources):
+    """The packages of Debian that the machine lacks for these kinds, made of these sources."""
+    taken = dict.fromkeys([*sources.takes, *(it for kind in kinds for it in TAKES[kind])])
     return [it for it in taken if not HAVE[it][0](HAVE[it][1])]

@@ -8,12 +8,13 @@ import sys
 from .archives import files_below, mode_of, pack_tar, pack_zip, write_sums
 from .needs import PYTHON
 from .papers import MACHINES, PACKAGE, filled, indented, proved_by
+from .sources import SUMS
 
 # what of the tree the source package has: nothing that takes the proofs or the toolchain; PROVED-BY stands at its top
 SOURCES = [
     "CHANGELOG.md", "CONTACT", "CONTRIBUTING.md", "LICENSE-APACHE", "LICENSE-MIT", "Makefile", "NOTICE", "README.md", "SECURITY.md",
-    "VERSION", "bindings", ":!bindings/dist", ":!bindings/library", ":!bindings/release", f":!{PACKAGE}/PROVED-BY", "checks/asked",
-    ":!checks/asked/openssh_*", "checks/addresses", "checks/callers", "checks/entry-lines", "checks/foreign", "checks/foreign.c",
+    "VERSION", "bindings", ":!bindings/library", f":!{PACKAGE}/PROVED-BY", "checks/asked", ":!checks/asked/openssh_*",
+    "checks/addresses", "checks/callers", "checks/entry-lines", "checks/foreign", "checks/foreign.c",
     "checks/hostile", "checks/hosts", "checks/lib/*.py", "checks/threads.c", "checks/user-keys",
     "docs/*.md", "docs/*.svg", "examples", "helpers", "include", "sshkey-check", "toolchain",
 ]  # fmt: skip
@@ -39,19 +40,21 @@ def write(path, text):
 # ---- the source package
 
 
-def stage(release, room, git):
+def stage(release, room):
     """The folder that is the source package, in that room."""
     folder = f"{room}/rafendilo-{release.version}"
-    for path in git("ls-files", "--", *SOURCES).splitlines():
+    for path in release.sources.files(SOURCES):
         os.makedirs(os.path.dirname(f"{folder}/{path}"), exist_ok=True)
         shutil.copyfile(f"{release.root}/{path}", f"{folder}/{path}")
         # as git has it, whatever the clone's umask
         os.chmod(f"{folder}/{path}", mode_of(f"{release.root}/{path}"))
-    write(f"{folder}/PROVED-BY", proved_by(release))
-    stage_debian(release, folder)
-    stage_manifests(release, folder)
-    stage_licences(release, folder)
-    write_sums(folder, f"{folder}/SHA256SUMS")
+    # one that is packed has all that follows
+    if not release.sources.is_package:
+        write(f"{folder}/PROVED-BY", proved_by(release))
+        stage_debian(release, folder)
+        stage_manifests(release, folder)
+        stage_licences(release, folder)
+    write_sums(folder, f"{folder}/{SUMS}")
     return folder
 
 
@@ -191,9 +194,9 @@ MAKERS = {
 }  # fmt: skip
 
 
-def make_all(release, room, out, git, kinds):
+def make_all(release, room, out, kinds):
     """Makes the packages of these kinds in the folder `out`, and returns their paths."""
-    folder = stage(release, room, git)
+    folder = stage(release, room)
     for kind in kinds:
         MAKERS[kind](release, folder, room, out)
     return [f"{out}/{it}" for it in files_below(out)]

@@ -5,6 +5,7 @@ import re
 import time
 
 from .archives import sum_of
+from .sources import DATE
 
 # by Go's name of a processor, where a release names it otherwise: the machine, as `uname -m` calls it
 MACHINES = {"amd64": "x86_64", "arm64": "aarch64"}
@@ -16,11 +17,10 @@ NOT_PUBLISHED = "It is not published yet"
 class Release:
     """The tree at a commit: its version, the second of the commit, and what CONTACT and NOTICE say."""
 
-    def __init__(self, root, git):
-        self.root = root
+    def __init__(self, sources):
+        self.root, self.sources = sources.root, sources
         self.version = self.read("VERSION").strip()
-        self.second = int(git("log", "-1", "--format=%ct"))
-        self.commit = git("rev-parse", "HEAD") + (" and what is changed since" if git("status", "--porcelain", "-uno") else "")
+        self.commit, self.second = sources.commit()
         self.contact = dict(re.findall(r"^(\w+): *(.*)$", self.read("CONTACT"), re.M))
         self.parts = self.read_parts()
 
@@ -75,8 +75,11 @@ def filled(text, values):
 
 def proved_by(release):
     """The paper that stands beside the texts, and of which release it is here."""
+    if release.sources.is_package:
+        return release.read("PROVED-BY")
     title, rest = release.read(f"{PACKAGE}/PROVED-BY").split("\n\n", 1)
-    told = f"release    rafendilo {release.version}, whose sources are the commit\n           {release.commit}\n"
+    named = f"rafendilo {release.version} of {release.date(DATE)}"
+    told = f"release    {named}, whose sources are the commit\n           {release.commit}\n"
     return f"{title}\n\n{told}{rest}\n{release.where()}\n"
 
 
@@ -109,7 +112,7 @@ def bill_of_materials(release, artefacts):
     return json.dumps({
         "spdxVersion": "SPDX-2.3", "dataLicense": "CC0-1.0", "SPDXID": "SPDXRef-DOCUMENT", "name": f"rafendilo-{release.version}",
         "documentNamespace": f"https://spdx.org/spdxdocs/rafendilo-{release.version}-{release.commit[:40]}",
-        "creationInfo": {"created": release.date("%Y-%m-%dT%H:%M:%SZ"), "creators": ["Tool: bindings/dist"]},
+        "creationInfo": {"created": release.date(DATE), "creators": ["Tool: bindings/dist"]},
         "packages": [*made, *parts, crypto],
         "relationships": [{"spdxElementId": it, "relationshipType": what, "relatedSpdxElement": to} for it, what, to in relations],
     }, indent=1) + "\n"  # fmt: skip

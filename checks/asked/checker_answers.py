@@ -31,14 +31,16 @@ SLIPS = [
     ("--ca ca id", "--ca wants --user NAME", CA), ("--user x", "--user wants --ca FILE", CA), ("--from ::1", "--from wants --ca FILE", CA),
     ("--ca", "--ca wants FILE", SHOW), ("--ca a --user b --ca c", "--ca is given twice", CA), ("--ca a --user b c d", "d is a word too many", CA),
     ("--ca a --user b --keys c", "--ca takes no --keys", CA), ("--jsn id", "--jsn is no option", SHOW), ("-x id", "-x is no option", SHOW),
-    ("-c a", "-c is no option", SHOW), ("-k a", "-k is no option", SHOW), ("--json=x", "--json has no value", SHOW), ("a b", "b is a word too many", SHOW),
+    ("-c a", "-c is no option", SHOW), ("-k a", "--keys wants a question: --ca, --host, login, verify or fingerprint", SHOW), ("--json=x", "--json has no value", SHOW), ("a b", "b is a word too many", SHOW),
     ("--at 1", "--at wants a question: --ca, --host, login, verify or fingerprint", SHOW), ("--keys a", "--keys wants a question: --ca, --host, login, verify or fingerprint", SHOW),
     ("--host h", "--host wants --known-hosts FILE", HOST), ("--port 22", "--port wants --host NAME", HOST),
     ("--host h --known-hosts k --ca c", "--host takes no --ca", HOST), ("--host h --host h", "--host is given twice", HOST),
     ("login a b", "login wants --authorized-keys, --authorities, --user-authorities or --command-keys", LOGIN),
     ("login a --authorized-keys b", "login wants NAME KEY", LOGIN), ("login a b c --from ::1", "c is a word too many", LOGIN),
     ("login a b --authorized-keys c --user b", "login takes no --user", LOGIN), ("login a b --ca c", "login takes no --ca", LOGIN),
-    ("login a b --authorized-keys c --principals d", "--principals wants --authorities FILE", LOGIN),
+    ("login a b --authorized-keys c --principals d", "--principals wants --authorities FILE", LOGIN), ("login a b --principals d", "--principals wants --authorities FILE", LOGIN),
+    ("--json login a", "login wants NAME KEY", LOGIN), ("--from ::1 login a b", "login wants --authorized-keys, --authorities, --user-authorities or --command-keys", LOGIN),
+    ("--ca a --user b login", "login wants NAME KEY", LOGIN), ("-k a verify", "verify wants --namespace NAMESPACE", VERIFY), ("-Y verify -k a", "verify takes no --keys", KEYGEN),
     ("login a b --authorities c --user-authorities d", "login takes one of --authorities and --user-authorities", LOGIN),
     ("login a b --command-keys c --command-keys d", "--command-keys is given twice", LOGIN),
     ("verify", "verify wants --keys KEYS, or --signers SIGNERS", VERIFY), ("verify -k a -s b", "verify wants --namespace NAMESPACE", VERIFY),
@@ -74,6 +76,7 @@ def check_wrong_files(count, programs, maker):
     nobodys = maker.write("nobodys", maker.certificate("admitting", "entering", *WINDOW) + "\n")
     maker.certificate("admitting", "entering", "-n", "alice", *WINDOW)
     key, shown, ca = (maker.path(it) for it in ("entering.pub", "entering-cert.pub", "admitting.pub"))
+    bound = maker.write("bound_keys", f'from="192.0.2.0/24" {maker.read("entering.pub")}\n')
     users = maker.write("authorities", f"alice,bob {maker.read('admitting.pub')}\n")
     empty, copy = maker.write("empty", "\n# nothing\n"), maker.write("a-key", f"{maker.read('entering.pub')}\n")
     asked, named = ["--ca", ca, "--user", "alice", "--at"], "(its name is entering-cert.pub) "
@@ -87,6 +90,13 @@ def check_wrong_files(count, programs, maker):
         ([*asked, str(END), shown], INVALID, f"{shown}:1: its time was over at 2024-02-01T00:00:00Z (33)"),
         ([*asked, str(FIRST - 1), shown], INVALID, f"{shown}:1: its time begins at 2024-01-01T00:00:00Z (33)"),
         (["--ca", users, "--user", "alice", shown], UNTOLD, f"{users}:1: no key: the line begins with users, as for sshkey-principals"),
+        (["login", "alice", shown, "--at", str(MIDDLE), "--user-authorities", ca], INVALID,
+         f"{ca}:1: no users before the key: a line is NAME[,NAME..] KEY\nsshkey-check: {shown}:1: another authority (90)"),
+        (["login", "eve", shown, "--at", str(MIDDLE), "--user-authorities", users], INVALID,
+         f"{users}: no line has a key for eve\nsshkey-check: {shown}:1: another authority (90)"),
+        (["login", "alice", key, "--authorized-keys", bound], INVALID, f"{bound}:1: a line for certain places: it wants --from ADDRESS (96)"),
+        (["login", "alice", key, *login, bound], INVALID, f"{bound}:1: a line for other places (93)"),
+        (["--", "login"], UNTOLD, "login: No such file or directory"),
         (["--ca", empty, *asked[2:], str(MIDDLE), shown], INVALID, f"{empty}: it has no line\nsshkey-check: {shown}:1: another authority (90)"),
         ([*asked[:3], "eve", "--at", str(MIDDLE), shown], INVALID, f"{shown}:1: another principal (90)"),
         ([*asked, str(MIDDLE), nobodys], INVALID, f"{nobodys}:1: no principals, or some that are not read (90)"),
@@ -232,10 +242,10 @@ def check_verdict_objects(count, programs, maker):
         # what a plain key's signature has to say, nothing asks
         wanted = {**wanted, "verification_required": False} if "verification_required" in wanted else wanted
         for program in programs:
-            first = ["login"] if asked[0] == "login" else ["verify"] if asked[0] == "verify" else []
-            ran = run([program, *first, "--json", *asked[len(first) :]])
-            same = objects(ran) == [wanted] and ran.returncode == (VALID if wanted["status"] == 0 else INVALID)
-            count.check(f"sshkey-check --json of {name}", same, ran, wanted)
+            for words in (["--json", *asked], [*asked, "--json"]):
+                ran = run([program, *words])
+                same = objects(ran) == [wanted] and ran.returncode == (VALID if wanted["status"] == 0 else INVALID)
+                count.check(f"sshkey-check {words[0]} .. {words[-1]}: --json of {name}", same, ran, wanted)
 
 
 def ssh_signature(maker):

@@ -7,6 +7,8 @@ import shutil
 from .linked import run
 from .made import Maker
 
+# Debian's, whose packages for Python do not depend on what a user has installed
+PYTHON = "/usr/bin/python3"
 # the commands of the toolchain
 TOOLCHAIN = ("rt", "rattle")
 # whom the certificate is for

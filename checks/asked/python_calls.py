@@ -322,6 +322,11 @@ def check_blobs(count, rafendilo, maker, key, certificate):
         ("signers", "a path", "no list of fingerprints: authorities(text).keys", lambda it: rafendilo.check_sshsig(b"", "file", b"", it)),
         ("known_hosts", "a path", "no list of the texts of files", lambda it: rafendilo.check_host_key(dataclasses.replace(host, known_hosts=it), key)),
         ("revoked", None, "no list of the texts of files, or NO_REVOCATIONS", lambda it: rafendilo.check_host_key(dataclasses.replace(host, revoked=it), key)),
+        ("revoked", [None], "no list of the texts of files, or NO_REVOCATIONS", lambda it: rafendilo.check_host_key(dataclasses.replace(host, revoked=it), key)),
+        ("known_hosts", ["a path"], "no list of the texts of files", lambda it: rafendilo.check_host_key(dataclasses.replace(host, known_hosts=it), key)),
+        ("authorized_keys", ["a path"], "no list of the texts of files", lambda it: rafendilo.log_in(offer, signed, dataclasses.replace(trusted, authorized_keys=it), place)),
+        ("command_keys", None, "no list of the texts of files", lambda it: rafendilo.log_in(offer, signed, dataclasses.replace(trusted, command_keys=it), place)),
+        ("authorities", ["a line"], "no list of fingerprints: authorities(text).keys", lambda it: rafendilo.log_in(offer, signed, dataclasses.replace(trusted, authorities=it), place)),
     ):  # fmt: skip
         found = raised(call, value)
         count.check(f"an error names {name} that is {value!r}", found is not None and found[0] == "TypeError" and f"{name}: {said}" in found[1], found)
@@ -333,6 +338,11 @@ def check_blobs(count, rafendilo, maker, key, certificate):
         count.check(f"{name} names a later kind of key", found is not None and found[0] == "Refused" and found[1].endswith(f": {argument}: {hint}"), found)
     found = raised(rafendilo.check_unrevoked_key, [b"x\n"], string(b"key@example.com") + string(string(LATER_NAME)))
     count.check("where a key is read, no later kind is named", found is not None and found[0] == "Refused" and hint not in found[1], found)
+    maker.key("short", "rsa -b 1024")
+    short, lines = maker.blob("short"), f"{maker.read('short.pub')}\n".encode()
+    asked = rafendilo.Offer("alice", "rsa-sha2-512", short), rafendilo.SignedRequest(b"id", string(b"rsa-sha2-512") + string(bytes(128)))
+    found = raised(rafendilo.log_in, *asked, dataclasses.replace(trusted, authorized_keys=[lines]), place)
+    count.check("a key is named that is too short for verifiers", found is not None and "(84): blob: a key that no verifier may take" in found[1], found)
     found = raised(rafendilo.sshsig_hash, b"-----BEGIN SSH SIGNATURE-----\n")
     count.check("an armour that is given as a signature is named", found is not None and found[1].endswith(": signature: an armour, and not its bytes: read_armour(text)"), found)
 

@@ -72,8 +72,9 @@ type Principals interface{ arePrincipals() }
 // AuthorizedPrincipalsFile.
 type PrincipalsInCertificate struct{}
 
-// PrincipalsInFiles are those for whom the texts of AuthorizedPrincipalsFile have one of the
-// certificate's names: of the first text that has a line for one, the first such line decides.
+// PrincipalsInFiles are those for whom the texts of the user's AuthorizedPrincipalsFile have one of
+// the certificate's names; the user need not stand there. Of the first text that has a line for one,
+// the first such line decides.
 type PrincipalsInFiles []Text
 
 func (PrincipalsInCertificate) arePrincipals() {}

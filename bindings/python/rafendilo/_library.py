@@ -84,9 +84,9 @@ def spans_of(values: Iterable[BytesLike]) -> Spans:
 
 
 def texts_of(values: Iterable[Text]) -> _header.Texts:
-    """Texts of files, of which some could not be read. Raises TypeError where one is neither bytes nor UNREADABLE, and for bytes in place
-    of a list."""
-    if isinstance(values, (str, bytes, bytearray, memoryview)):
+    """Texts of files, of which some could not be read. Raises TypeError where one is neither bytes nor UNREADABLE, and for bytes or None in
+    place of a list."""
+    if values is None or isinstance(values, (str, bytes, bytearray, memoryview)):
         raise TypeError("a list of texts is wanted, and not one text")
     texts = [_header.Text(span_of(b"" if it is UNREADABLE else it), it is not UNREADABLE) for it in values]
     return _header.Texts((_header.Text * max(len(texts), 1))(*texts), len(texts))

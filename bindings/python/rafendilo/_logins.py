@@ -79,7 +79,8 @@ class Trusted:
 
     authorized_keys: AuthorizedKeysFile: each text in its turn
     authorities: TrustedUserCAKeys: the fingerprints of the keys that may sign logins of all users
-    principals: AuthorizedPrincipalsFile, or IN_CERTIFICATE. Of the first text that has a line for a principal, the first such line decides
+    principals: AuthorizedPrincipalsFile of this user, who need not stand there, or IN_CERTIFICATE. Of the first text that has a line for
+        a principal, the first such line decides
     command_keys: AuthorizedKeysCommand: what it wrote, if it ended with 0
     revoked: what the files of RevokedKeys have, or NO_REVOCATIONS; without a file nobody is let in
     least_rsa_bits: RequiredRSASize; below 1,024, as 0, it is 1,024

@@ -62,8 +62,9 @@ pub enum Text<'a> {
 pub enum Principals<'a> {
     /// The users that it lists: there is no `AuthorizedPrincipalsFile`.
     InCertificate,
-    /// Those for whom these texts (`AuthorizedPrincipalsFile`) have one of its names: of the first
-    /// text that has a line for a principal, the first such line decides.
+    /// Those for whom these texts (the user's `AuthorizedPrincipalsFile`) have one of its names; the
+    /// user need not stand there. Of the first text that has a line for a principal, the first such
+    /// line decides.
     Files(&'a [Text<'a>]),
 }
 

@@ -536,8 +536,8 @@ pub(crate) struct Trusted<'a> {
     pub authorized_keys: Texts<'a>,
     /// TrustedUserCAKeys: the keys that may sign logins of all users.
     pub authorities: Digests<'a>,
-    /// AuthorizedPrincipalsFile: of the first text that has a line for a principal, the first such
-    /// line decides.
+    /// AuthorizedPrincipalsFile of this user, who need not stand there: of the first text that has
+    /// a line for a principal, the first such line decides.
     pub principals: Texts<'a>,
     /// AuthorizedKeysCommand: what it wrote, if it ended with 0.
     pub command_keys: Texts<'a>,
