@@ -95,6 +95,13 @@ static bool name_unreadable(const check_request *asked, uint16_t port) {
   return is_named;
 }
 
+/* What is wrong with a host that is like an address, in words: that it has a port; or else null. */
+static const char *words_of_host(raf_span host) {
+  raf_destination found = {{0, 0}, 0};
+  bool is_read = raf_host_and_port(host.bytes, host.length, &found) == RAF_DONE;
+  return is_read && found.port ? "the host has a port: write --host NAME --port NUMBER" : NULL;
+}
+
 /* Whether the key or the certificate of a line is the host's. */
 static uint32_t answer_host(const char *line, size_t length, report *of,
                             const check_request *asked) {
@@ -114,6 +121,7 @@ static uint32_t answer_host(const char *line, size_t length, report *of,
   else
     free(shown.bytes);
   if (answer == RAF_DONE) report_valid(of);
+  if (answer == RAF_NO_ADDRESS) of->words = words_of_host(login.host);
   /* ssh asks about the plain name where nothing is known at the port */
   if (answer == RAF_HOST_UNREADABLE && !name_unreadable(asked, port)) name_unreadable(asked, 22);
   return answer;

@@ -61,6 +61,13 @@ uint32_t program_each_line(raf_blob text, program_line *each, void *given, size_
   return answer;
 }
 
+bool program_has_no_users(const char *line, size_t length) {
+  raf_authorities found = {NULL, 0};
+  uint32_t answer = raf_add_authority(&found, line, length);
+  free(found.keys);
+  return answer == RAF_DONE;
+}
+
 /* ---- files of which there may be several */
 
 bool program_add_path(program_files *to, const char *path) {

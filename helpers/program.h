@@ -38,6 +38,11 @@ typedef uint32_t program_line(const char *line, size_t length, size_t number, vo
  * else it is the answer, and `number` that of the line. */
 uint32_t program_each_line(raf_blob text, program_line *each, void *given, size_t *number);
 
+/* What is said of a path and the number of a line that begins with its key, where users stand before
+ * it, as in the files of sshkey-principals; and whether one does. */
+#define PROGRAM_NO_USERS "%s:%zu: no users before the key: a line is NAME[,NAME..] KEY"
+bool program_has_no_users(const char *line, size_t length);
+
 /* Files of which a word may name several: what they hold, once they are read, as calls take it, and
  * of malloc. */
 typedef struct {

@@ -30,14 +30,6 @@ typedef struct {
   size_t without; /* the first line that has none; 0 for no line */
 } key_file;
 
-/* Whether the line is a key, without users. */
-static bool has_no_users(const char *line, size_t length) {
-  raf_authorities found = {NULL, 0};
-  uint32_t answer = raf_add_authority(&found, line, length);
-  free(found.keys);
-  return answer == RAF_DONE;
-}
-
 /* Adds the key of a line to those that count, or says that it has none, or a later one. */
 static uint32_t read_key(const char *line, size_t length, size_t number, void *given) {
   key_file *of = given;
@@ -47,7 +39,7 @@ static uint32_t read_key(const char *line, size_t length, size_t number, void *g
   if (answer == RAF_DONE || answer == RAF_MEMORY) return answer;
   /* another user's line */
   if (of->has_users && answer == RAF_END) {
-    if (!of->without && has_no_users(line, length)) of->without = number;
+    if (!of->without && program_has_no_users(line, length)) of->without = number;
     return RAF_DONE;
   }
   bool is_later = answer == RAF_LATER_KEY;
@@ -104,8 +96,7 @@ static bool read_keys(check_option option, check_request *asked) {
   if (answer != RAF_DONE) program_complain("%s:%zu: %s", path, number, raf_status_meaning(answer));
   bool is_nobodys = of.has_users && answer == RAF_DONE && !asked->is_untold && !asked->by.count;
   if (is_nobodys && of.without)
-    program_complain("%s:%zu: no users before the key: a line is NAME[,NAME..] KEY", path,
-                     of.without);
+    program_complain(PROGRAM_NO_USERS, path, of.without);
   else if (is_nobodys)
     program_complain("%s: no line has a key for %s", path, asked->user);
   free(text.bytes);

@@ -161,6 +161,9 @@ static uint32_t check_line(const char *line, size_t length, size_t number, void 
   } else if (answer == RAF_END) {
     login_complain(to->asked, "%s:%zu: no user", to->asked->path, number);
     to->is_whole = false;
+  } else if (program_has_no_users(line, length)) {
+    login_complain(to->asked, PROGRAM_NO_USERS, to->asked->path, number);
+    to->is_whole = false;
   } else if (!is_later(to->asked, number, answer)) {
     to->is_whole = false;
   }

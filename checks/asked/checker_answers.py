@@ -77,6 +77,7 @@ def check_wrong_files(count, programs, maker):
     maker.certificate("admitting", "entering", "-n", "alice", *WINDOW)
     key, shown, ca = (maker.path(it) for it in ("entering.pub", "entering-cert.pub", "admitting.pub"))
     bound = maker.write("bound_keys", f'from="192.0.2.0/24" {maker.read("entering.pub")}\n')
+    known = maker.write("known-port", f"[h]:22 {maker.read('entering.pub')}\n")
     users = maker.write("authorities", f"alice,bob {maker.read('admitting.pub')}\n")
     empty, copy = maker.write("empty", "\n# nothing\n"), maker.write("a-key", f"{maker.read('entering.pub')}\n")
     asked, named = ["--ca", ca, "--user", "alice", "--at"], "(its name is entering-cert.pub) "
@@ -103,6 +104,8 @@ def check_wrong_files(count, programs, maker):
         (["login", "alice", key, *login, empty], INVALID, f"{empty}: it has no line\nsshkey-check: {key}:1: no line is for the key (90)"),
         (["--host", "h", "--known-hosts", empty, key], INVALID,
          f"{empty}: it has no line\nsshkey-check: {key}:1: no key or authority is known for the host (53)"),
+        *((["--host", it, "--known-hosts", known, key], INVALID, f"{key}:1: the host has a port: write --host NAME --port NUMBER (102)") for it in ("h:22", "[h]:22")),
+        (["--host", "127.1", "--known-hosts", known, key], INVALID, f"{key}:1: a host that is like an address, and has no one text (102)"),
         ([empty], UNTOLD, f"{empty}: no certificate was given"), (["fingerprint", empty], UNTOLD, f"{empty}: no key was given"),
         ([private], UNTOLD, public), (["fingerprint", private], UNTOLD, public), (["--ca", private, "--user", "alice", shown], UNTOLD, public),
         (["login", "alice", private, *login, copy], UNTOLD, public),

@@ -292,7 +292,7 @@ def check_checked(count, helpers, room, helper):
         count.check(f"sshkey-{program} --check of {case}", same, ran)
         if case == "wrong lines":
             said = [it.split(":")[2] for it in ran.stderr.splitlines()]
-            count.check("and it names each", said == ["4", "5", "6"], ran)
+            count.check("and it names each", said == ["4", "5", "6"] and f"{path}:5: no users before the key: " in ran.stderr, ran)
         if status == 0:
             listed = f"{placed(room, user, 'list', made_list(maker, None, []), '')}/keys/list"
             no_list = f"{placed(room, user, 'no-list', b'ssh-ed25519 AAAA', '')}/keys/no-list"
