@@ -13,7 +13,7 @@
 # ssh-keygen. `make install PREFIX=/usr/local` copies headers, libraries, files for pkg-config that
 # go with them where they are moved, and the helpers with their manual pages and completions; `make
 # uninstall` removes them.
-# docs/FOREIGN.md is the page to read.
+# docs/LIBRARY.md is the page to read.
 
 # make divides names at blanks
 ifneq ($(words $(MAKEFILE_LIST) $(CURDIR)),2)

@@ -5,7 +5,6 @@ from lib.harness import string, take
 from lib.signatures import signed_data, ssh_signature_over
 
 from .linked import turned, word
-from .shown_logins import blocks
 from .verdicts import status_of
 
 HASHES = ("sha256", "sha512")
@@ -122,16 +121,3 @@ def check_digests(judge):
     strange = next(it for it in keys if take(it)[0] != take(keys[0])[0])
     question, _ = questions_of(with_key(signed(maker, "user0", "sha256"), strange), b"file", hashlib.sha256(TEXT).digest(), b"")
     judge.hold("a signature by a digest", [("under another kind of key", question, str(judge.number("UNSUPPORTED")))])
-
-
-def check_page(count, made):
-    """The lines in Python that docs/FOREIGN.md shows, of a file of five megabytes."""
-    rafendilo, maker = made.rafendilo, made.maker
-    code, signers = blocks("python", "A signature of a large file"), {rafendilo.fingerprint(made.key())}
-    count.check("docs/FOREIGN.md shows how a large file is checked", len(code) == 1, code)
-    for name in HASHES:
-        signature = maker.signature("user0", "text\n" * (1 << 20), "file", "-O", f"hashalg={name}")
-        for path, wanted in ((maker.path("signed"), "DONE"), (maker.path("user0.pub"), "NOT_SIGNED")):
-            names = {"hashlib": hashlib, "rafendilo": rafendilo, "path": path, "signature": signature, "signers": signers}
-            said = status_of(rafendilo, exec, code[0], names).name
-            count.check(f"a large file and a signature with {name}: {wanted}", said == wanted, said)

@@ -8,50 +8,6 @@ from .linked import BINDINGS, EXAMPLES, declared, enumerations, run
 
 # numbers that a binding has no name for: done, what it asks for itself, and what is never returned
 UNNAMED = {"RAF_DONE", "RAF_SHORT_BUFFER", "RAF_END", "RAF_PUBLIC_KEY", "RAF_OTHER_ERROR", "RAF_OTHER_QUESTIONS"}
-# a program of the lines that docs/FOREIGN.md shows
-PAGE = """\
-package main
-
-import (
-	"encoding/hex"
-	"fmt"
-	"net/netip"
-	"os"
-	"time"
-
-	"rafendilo.example/go/rafendilo"
-)
-
-func letIn(rafendilo.Grant) {{ fmt.Println("let in") }}
-
-func logIn(authorities []rafendilo.SHA256, authorizedKeys []byte, peer netip.Addr, algorithm string, blob, sessionID, signature []byte) {{
-{0}}}
-
-func blobOf(line string) []byte {{
-	found, err := rafendilo.ReadLine(line)
-	if err != nil {{
-		panic(err)
-	}}
-	return found.Blob
-}}
-
-func dataOf(word string) []byte {{
-	data, err := hex.DecodeString(word)
-	if err != nil {{
-		panic(err)
-	}}
-	return data
-}}
-
-func main() {{
-	authorities, _, err := rafendilo.Authorities(os.Args[1])
-	if err != nil {{
-		panic(err)
-	}}
-	peer, algorithm := netip.MustParseAddr("192.0.2.1"), "ssh-ed25519-cert-v01@openssh.com"
-	logIn(authorities, []byte{{}}, peer, algorithm, blobOf(os.Args[2]), dataOf(os.Args[3]), dataOf(os.Args[4]))
-}}
-"""
 
 
 def exported(text):
@@ -63,7 +19,7 @@ def exported(text):
 
 
 class Go:
-    """The module of bindings/go, and programs over it: the example, the asker and lines of docs/FOREIGN.md."""
+    """The module of bindings/go, and programs over it: the example and the asker."""
 
     language, module = "Go", os.path.join(BINDINGS, "go")
     example, asker = os.path.join(EXAMPLES, "go"), os.path.join(ROOT, "checks", "asked", "go")
@@ -88,14 +44,6 @@ class Go:
         made = self.run(at, "build", *words, "-o", path, ".", **environment)
         count.check(f"Go: {name} is built", made.returncode == 0, made.stderr[-3000:])
         return path
-
-    def page(self, code):
-        """The sources of a program of these lines."""
-        os.mkdir(self.maker.path("page-go"))
-        self.maker.write("page-go/main.go", PAGE.format(*code))
-        text = f"module page\n\ngo 1.19\n\nrequire rafendilo.example/go v0.0.0\n\nreplace rafendilo.example/go => {self.module}\n"
-        self.maker.write("page-go/go.mod", text)
-        return self.maker.path("page-go")
 
     def check_sources(self, count):
         """What gofmt and vet say, the tests of the package, and what it declares."""

@@ -9,8 +9,7 @@ from .hosts import (
     AROUND_NOW, AUTHORITY, BROKEN, BY_KEY, CAPITALS, CERTIFICATES, CERTIFICATES_AND_LATER, CERTIFICATES_OF_FILES, CERTIFIED_KEYS, HOST, INVALID, KEY_ID, KEYS, KEYS_AND_LATER, KEYS_OF_FILES,
     LATER, LISTED, LISTS, NAMED, NOBODY, OTHER, OWN, SERIAL, TEXTS, TYPED, TYPED_CERTIFICATES, UNASKED, field, in_one_file, written,
 )  # fmt: skip
-from .linked import run, several, word
-from .shown_logins import blocks, built_page, said_by_python
+from .linked import several, word
 from .login_options import NO_NORMAL_FORM, RSA, UNACCEPTED, certificate, certificate_by, judged_keys, no_signature, respelled
 from .revocation_calls import EMPTY, made_list
 
@@ -156,46 +155,6 @@ def by_lists(maker, keys):
             yield f"{what}, revoked is {name}", replace(asked, revoked=files), wanted
             if wanted == "DONE":
                 yield f"{what}, revoked is {name}, and the host is not known", replace(asked, revoked=files, texts=(b"",)), "HOST_UNKNOWN"
-
-
-# around the C of docs/FOREIGN.md, "A host's certificate"
-PAGE = """\
-#include <inttypes.h>
-#include <stdio.h>
-#include <stdlib.h>
-#include <string.h>
-#include <time.h>
-#include "reading.h"
-#include "verdict.h"
-static void go_on(void) {{ puts("go on"); }}
-int main(int count, char **words) {{
-raf_blob read;
-raf_span texts[2];
-size_t text_count = 2;
-if (count != 4 || raf_read_line_blob(words[1], strlen(words[1]), RAF_LINE_CERTIFICATE, &read) != RAF_DONE) return 1;
-for (size_t at = 0; at < text_count; at++) texts[at] = raf_text_span(words[2 + at]);
-raf_span certificate = raf_blob_span(read);
-{0}free(read.bytes);
-return 0;
-}}
-"""
-
-
-def check_page(count, built, made):
-    """The lines that docs/FOREIGN.md shows compile, and take the host's certificate, and no other."""
-    maker, code, in_python = made.maker, blocks("c", "A host's certificate"), blocks("python", "A host's certificate")
-    path, page = built_page(built, maker, "host-page", PAGE.format(*code[:1]))
-    count.check("the C of a host's certificate in docs/FOREIGN.md compiles", page.returncode == 0 and len(code) == 1, page.stderr[-2000:])
-    line = maker.certificate("host-authority", "host-key", "-h", "-V", "-5m:+5m", "-n", "db.example.org")
-    by, key = (maker.read(f"{it}.pub") for it in ("host-authority", "host-key"))
-    for name, texts, *wanted in (
-        ("its authority", ["", f"@cert-authority db.example.org {by}\n"], "go on", "go on"),
-        ("a revoked key", [f"@cert-authority db.example.org {by}\n", f"@revoked * {key}\n"], *["refused: revoked for the host (50)"] * 2),
-    ):
-        ran = run([path, line, *texts]) if page.returncode == 0 else page
-        by_python = said_by_python(made.rafendilo, in_python[0], certificate=blob_of(line), texts=[it.encode() for it in texts])
-        said = [*ran.stdout.splitlines(), *ran.stderr.splitlines(), *by_python]
-        count.check(f"a host's certificate in docs/FOREIGN.md: {name}", said == wanted, said)
 
 
 def answer_to(judge, question, wanted):

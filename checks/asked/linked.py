@@ -10,7 +10,7 @@ from lib.harness import ROOT
 BINDINGS, HELPERS, EXAMPLES = (os.path.join(ROOT, it) for it in ("bindings", "helpers", "examples"))
 SANITIZED = "-O1 -g -fsanitize=address,undefined -fno-sanitize-recover=all -fno-omit-frame-pointer"
 WARNINGS = ["-Wall", "-Wextra", "-pedantic", "-Werror"]
-# flags for the lines of docs/FOREIGN.md
+# flags for the listings of docs/
 PEDANTIC = ["-Wshadow", "-Wconversion"]
 C = ["cc", "-std=c11", "-D_POSIX_C_SOURCE=200809L", *WARNINGS, f"-I{ROOT}/include"]
 # under which a program that reads or writes where it may not, or gives no memory back, ends with 9

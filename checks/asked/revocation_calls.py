@@ -100,7 +100,7 @@ def check_lists(judge, files, lists):
 
 def check_changed(judge, files, lists):
     """Lists that are cut off, and those of which a bit is turned: what ssh-keygen reads of them is read, and says what it says.
-    Their authorities are Ed25519 keys: of others more is read than by ssh-keygen (docs/FORMATS.md)."""
+    Their authorities are Ed25519 keys: of others more is read than by ssh-keygen (docs/OPENSSH.md)."""
     changed = []
     for name in ("a key", "bits", "an authority, all and a key"):
         changed += [lists[name][:at] for at in range(len(lists[name]))] + turned(lists[name])

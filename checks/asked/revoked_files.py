@@ -29,7 +29,7 @@ BY_HAND = [
     "{later}\nx\n", "{later_short}\n", "{later_long}\n", "{later_trailing}\n", "{later_cut}\n", "{later_name}\n", "{later_named}\n", "{misnamed}\n",
     "{name}\udcff {word}\n", "{name} {word}\udcff\n", "{name} \udcff\n", "{other} \udcff\nx\n", "{key}\n{name} {word}\udcff\n",
 ]  # fmt: skip
-# files that one of both refuses alone: what is otherwise, and whether it is read here (docs/FORMATS.md)
+# files that one of both refuses alone: what is otherwise, and whether it is read here (docs/OPENSSH.md)
 OTHERWISE = {
     "\0x\n": False, "{other}\n \0\n": False, "{other}\0\n": False, "{name} {split}\n": False, "rsa-sha2-256 {rsa_word}\n": False, "{off_curve}\n": True, "{unsigned}\n": True, "{ended}\n": False,
     "{no_exponent}\n": False,

@@ -53,10 +53,6 @@ class Rust:
         count.check("Rust: its documentation links to what there is", shown.returncode == 0, shown.stderr[-2000:])
         self.check_style(count)
 
-    def page(self, code):
-        """The source of a program of these lines."""
-        return self.maker.write("page.rs", PAGE.format(*code))
-
     def check_style(self, count):
         """What rustfmt and clippy say where they are: Debian's package `cargo` has neither."""
         if run(["cargo", "fmt", "--version"]).returncode == 0:
@@ -67,31 +63,3 @@ class Rust:
             for words in (CARGO, [*VERIFIES, "--all-targets"]):
                 said = self.cargo("clippy", *words, "--", *LINTS)
                 count.check(f"Rust: clippy {' '.join(words)} has nothing to say", said.returncode == 0, said.stderr[-3000:])
-
-
-# ---- what docs/FOREIGN.md shows
-
-PAGE = """\
-use std::net::{{IpAddr, Ipv4Addr}};
-use std::time::{{SystemTime, UNIX_EPOCH}};
-fn let_in(grant: &rafendilo::Grant) {{
-    assert!(grant.permits.contains(rafendilo::Permits::ANY_COMMAND | rafendilo::Permits::PTY));
-    println!("let in");
-}}
-fn log_in(
-    authority_line: &[u8], blob: &[u8], peer: IpAddr, session_id: &[u8], algorithm: &[u8], signature: &[u8],
-) -> Result<(), Box<dyn std::error::Error>> {{
-    let authorized_keys = b"";
-{0}
-    Ok(())
-}}
-fn main() {{
-    let words: Vec<String> = std::env::args().collect();
-    let blob = rafendilo::read_line(&words[2]).unwrap().blob;
-    let byte = |word: &str, at: usize| u8::from_str_radix(&word[2 * at..2 * at + 2], 16).unwrap();
-    let data = |word: &str| (0..word.len() / 2).map(|at| byte(word, at)).collect::<Vec<u8>>();
-    let (session_id, signature) = (data(&words[3]), data(&words[4]));
-    let algorithm = b"ssh-ed25519-cert-v01@openssh.com";
-    log_in(words[1].as_bytes(), &blob, Ipv4Addr::LOCALHOST.into(), &session_id, algorithm, &signature).unwrap();
-}}
-"""

@@ -251,7 +251,7 @@ def check_file(judges, key):
 
 
 def check_zero(judges, kind):
-    """A zero byte in the application, where OpenSSH reads otherwise, as docs/FOREIGN.md says: at the end it is no part of the text,
+    """A zero byte in the application, where OpenSSH reads otherwise, as docs/OPENSSH.md says: at the end it is no part of the text,
     and within the text is none. Here it is a byte like others."""
     signed, ended, cut = signed_data(b"file", b"", b"sha512", b"text"), SecurityKey(kind, b"ssh:\0"), SecurityKey(kind, b"ssh:")
     for name, application, is_one in (("with", ended.application, True), ("without", cut.application, False)):

@@ -1,4 +1,4 @@
-"""What docs/FOREIGN.md calls the functions to copy, from several threads at the same time, under ThreadSanitizer, for checks/foreign."""
+"""The functions of helpers/ that are there to be copied, from several threads at the same time, under ThreadSanitizer, for checks/foreign."""
 import glob
 import os
 import re

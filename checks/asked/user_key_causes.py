@@ -1,5 +1,5 @@
 """Why the library refuses a login that each version of OpenSSH lets in, for checks/user-keys. Each cause is a row of
-docs/FORMATS.md."""
+docs/OPENSSH.md."""
 import re
 
 from lib.harness import blob_of, string

@@ -23,6 +23,8 @@ BY_ALL = {
     "g++": "c++",
     "binutils": "nm",
     "valgrind": "valgrind",
+    "iproute2": "ip",
+    "systemd": "systemd-sysusers",
     "golang-go": "go",
     "golang-golang-x-crypto-dev": ["test", "-d", "/usr/share/gocode/src/golang.org/x/crypto/ssh"],
     "cargo": "cargo",

@@ -27,7 +27,7 @@ type HostLogin struct {
 }
 
 // CheckHostKey gives nil exactly if the key, given as its blob, is trusted as that of the host, as
-// ssh does or more strictly (docs/FORMATS.md); else a Status that says what is wrong first. It
+// ssh does or more strictly (docs/OPENSSH.md); else a Status that says what is wrong first. It
 // fails with ErrText where the host is not UTF-8, and with ErrMemory.
 //
 // Whether the host holds the key is not looked at.

@@ -291,7 +291,7 @@ func (refused Refused) Unwrap() error {
 // ---- the calls
 
 // LogIn lets in who holds the key that is offered, by itself or in a certificate, and has signed
-// with it, as sshd does by its method publickey, or more strictly (docs/FORMATS.md). It gives what
+// with it, as sshd does by its method publickey, or more strictly (docs/OPENSSH.md). It gives what
 // the login is bound to, by the first source of the trusted ones that lets it in. To keep to the
 // grant is the caller's.
 //

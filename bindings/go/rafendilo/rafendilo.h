@@ -423,7 +423,8 @@ uint32_t raf_certificate_question(const uint8_t *certificate, size_t certificate
  * unix_timestamp <= 2^63 - 1; RAF_MEMORY aside, which is answered only where the key that signed
  * is not in its normal form: an RSA key under another name than ssh-rsa. Else 10 to 29 for bytes
  * that are no certificate, and 30 to 33 for what is wrong first. Its type, its critical options and
- * whether it is revoked are yours to check: docs/CHECKLIST.md, "A login", "A host". */
+ * whether it is revoked are yours to check: a login is raf_log_in, and a host's certificate
+ * raf_check_host_certificate. */
 uint32_t raf_check_certificate(const uint8_t *certificate, size_t certificate_length,
                                uint64_t unix_timestamp, const raf_sha256 *authorities,
                                size_t authority_count, uint32_t is_verified);
@@ -523,8 +524,8 @@ typedef struct {
  * RAF_DONE exactly if the draft tells a certificate, memory and buffer aside. Else what is wrong,
  * in this order: RAF_FORMAT for another certificate_type, RAF_TIME for a time above 2^63 - 1,
  * RAF_EMPTY_WINDOW, RAF_PRINCIPALS; then 10 to 29 for a key, a text or a list that is none. A key
- * to be certified that has a private-use name is rejected: RAF_LABEL. Also ask: docs/CHECKLIST.md,
- * "An authority (CA)". */
+ * to be certified that has a private-use name is rejected: RAF_LABEL. What stays yours:
+ * docs/ISSUING.md. */
 uint32_t raf_certificate_to_be_signed(const raf_draft *draft, uint8_t *buffer,
                                       size_t buffer_length, size_t *length);
 
@@ -576,7 +577,7 @@ uint32_t raf_random_art(const raf_sha256 *digest, const uint8_t *header, size_t 
                         uint8_t *buffer, size_t buffer_length, size_t *length);
 
 /* What has to be verified of a signature (RFC 4253, section 6.6) of the message under the key of
- * that blob: as an agent gives it, or a client at a login (docs/CHECKLIST.md, "A login").
+ * that blob: as an agent gives it, or a client at a login (docs/LOGIN.md).
  *
  * RAF_DONE exactly if the bytes are a key and a signature that go together (memory and buffer
  * aside); else RAF_UNSUPPORTED, or 10 to 29 for bytes that are no key, or else no signature.
@@ -602,7 +603,7 @@ uint32_t raf_read_armour(const uint8_t *text, size_t text_length, uint8_t *buffe
 
 /* What has to be verified of an SSH signature of the message in that namespace, and the SHA-256
  * fingerprint of the key that signed: whether that key may sign is yours to check
- * (docs/CHECKLIST.md, "A signature"). The signature is what raf_read_armour reads.
+ * (docs/SIGNED-FILE.md). The signature is what raf_read_armour reads.
  *
  * RAF_DONE exactly if the bytes are an SSH signature for that namespace whose key and signature
  * go together (memory and buffer aside); else RAF_OTHER_NAMESPACE, RAF_UNSUPPORTED, or 10 to 29
@@ -638,9 +639,9 @@ uint32_t raf_check_sshsig(const uint8_t *signature, size_t signature_length,
 
 /* Whether an SSH signature counts as the identity's in that namespace, by a text of allowed signers
  * (ssh-keygen(1)), at that second (since 1970), as `ssh-keygen -Y verify` says, or more strictly
- * (docs/CALLING.md): a time without Z, which is of the machine's zone there, has to hold in every
- * zone here. `revoked` are revocation files, as raf_check_unrevoked_key takes them; who asks none
- * passes RAF_NO_REVOCATIONS, and never what is left where a file was not read. `is_verified` is 1
+ * (docs/SIGNED-FILE.md): a time without Z, which is of the machine's zone there, has to hold in
+ * every zone here. `revoked` are revocation files, as raf_check_unrevoked_key takes them; who asks
+ * none passes RAF_NO_REVOCATIONS, and never what is left where a file was not read. `is_verified` is 1
  * if the answer to the question of this signature, in the namespace and of the message, is yes; any
  * other number is no. Ask with 0 first: RAF_NOT_SIGNED says that its key may sign, and with any
  * other answer there is nothing to verify. A line whose options are not UTF-8 lets nobody
@@ -650,7 +651,7 @@ uint32_t raf_check_sshsig(const uint8_t *signature, size_t signature_length,
  * reserved bytes, `is_verified` is 1, the identity has a byte, a line lets its key sign for it in
  * the namespace at that time, and the key is not revoked (memory aside). Else RAF_TEXT, 10 to 29
  * for bytes that are no signature, RAF_NO_IDENTITY, 55, 58, 56 or RAF_NOT_SIGNED. RAF_MEMORY only
- * where a part of the signature is whole. Also ask: docs/CHECKLIST.md, "A signature". */
+ * where a part of the signature is whole. What stays yours: docs/SIGNED-FILE.md. */
 uint32_t raf_check_signer(const uint8_t *signers, size_t signers_length,
                           const uint8_t *identity, size_t identity_length,
                           const uint8_t *name_space, size_t name_space_length,
@@ -701,7 +702,7 @@ uint32_t raf_next_string(const uint8_t *bytes, size_t length, size_t place, raf_
  *
  * RAF_DONE exactly if all files can be read, and none revokes the key, and RAF_REVOKED exactly if
  * all can be read, and one does (memory aside). RAF_UNREADABLE_REVOCATIONS without a file, or for
- * one that can't be read, by which sshd lets nobody in either (docs/CALLING.md says what sshd
+ * one that can't be read, by which sshd lets nobody in either (docs/OPENSSH.md says what sshd
  * refuses beyond that); else 10 to 29 for bytes that are no key. A text takes memory for its lines,
  * several files do, and one list only for a key that is not its normal form. */
 uint32_t raf_check_unrevoked_key(const raf_span *revoked, size_t revoked_count, const uint8_t *key,

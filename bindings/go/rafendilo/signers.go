@@ -44,7 +44,7 @@ func CheckSignerOfDigest(
 }
 
 // CheckSignerWithAnswer gives nil exactly if an SSH signature counts as the identity's in that
-// namespace, by the allowed signers (docs/CALLING.md). isVerified is what a verifier said of the
+// namespace, by the allowed signers (docs/SIGNED-FILE.md). isVerified is what a verifier said of the
 // question of this signature, in the namespace and of the message.
 //
 // It fails with ErrNoIdentity, ErrSignerNotAllowed, ErrUnreadableRevocations, ErrRevoked or

@@ -44,7 +44,7 @@ def _header_of(login: HostLogin, unix_timestamp: int) -> _header.HostLogin:
 @names_blobs
 def check_host_key(login: HostLogin, key: BytesLike) -> None:
     """Returns exactly if the key, given as its blob, is trusted as that of the host, as ssh(1) trusts it, or more strictly
-    (docs/FORMATS.md); else raises Refused, which says what is wrong first. Raises MemoryError, ValueError for a number that does not
+    (docs/OPENSSH.md); else raises Refused, which says what is wrong first. Raises MemoryError, ValueError for a number that does not
     fit its field, and TypeError where a file was not read (None). An address is asked in the text that ssh(1) asks. Whether the host holds the key is not looked at."""
     asked = _header_of(login, 0)
     done(LIBRARY.raf_check_host_key(ctypes.byref(asked), *bytes_of(key)))

@@ -251,7 +251,7 @@ def _places_in(places: Iterable[tuple[str, int | None]]) -> bytes:
 @names_blobs
 def log_in(offer: Offer, signed: Signed, trusted: Trusted, place: Place, verifier: Verifier = is_signature) -> Grant:
     """What the login is let in by, and what it may do, exactly if whoever holds the key that is offered, by itself or in a certificate,
-    has signed with it and is let in, as sshd does by its method publickey, or more strictly (docs/FORMATS.md). Asks the library what has
+    has signed with it and is let in, as sshd does by its method publickey, or more strictly (docs/OPENSSH.md). Asks the library what has
     to be verified, the verifier, where nothing else is wrong, and the library again, over copies that nobody changes.
 
     Raises Refused, which says what is wrong first, and in which line of which text; MemoryError; ValueError for a number that does not

@@ -14,7 +14,7 @@ from ._verify import Verifier, decided, is_signature
 
 @dataclass(frozen=True)
 class Signers:
-    """By whom a signature has to be, as `ssh-keygen -Y verify` asks, or more strictly (docs/CALLING.md): a time without Z in the
+    """By whom a signature has to be, as `ssh-keygen -Y verify` asks, or more strictly (docs/SIGNED-FILE.md): a time without Z in the
     text, which is of the machine's zone there, has to hold in every zone here.
 
     text: that of a file of allowed signers

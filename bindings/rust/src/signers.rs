@@ -40,8 +40,8 @@ pub fn check_signer_of_digest(
 }
 
 /// Whether an SSH signature counts as the identity's in that namespace, by a text of allowed
-/// signers, at that second, as `ssh-keygen -Y verify` says, or more strictly (docs/CALLING.md), but
-/// for times without `Z` ([`Signers`]). `is_verified` is your answer to the question of this
+/// signers, at that second, as `ssh-keygen -Y verify` says, or more strictly (docs/SIGNED-FILE.md),
+/// but for times without `Z` ([`Signers`]). `is_verified` is your answer to the question of this
 /// signature, in the namespace and of the message.
 ///
 /// Fails with [`Status::NO_IDENTITY`], [`Status::SIGNER_NOT_ALLOWED`],

@@ -6,6 +6,10 @@
 //! `hashed` tells of an HMAC-SHA1 that another program has computed. A line `questions` before a
 //! question has the number of times written that the verifier is asked for its answer. A line `bits`
 //! before a question has how many bits an RSA key has at least.
+//!
+//! # What is proved, tested and trusted
+//!
+//! Nothing is claimed: the checks ask it.
 #![tactic(auto)]
 
 mod agent;

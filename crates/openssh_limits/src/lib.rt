@@ -1,5 +1,10 @@
 //! What OpenSSH does not read of keys and certificates that `ssh_key` reads, for callers that are to
 //! accept nothing that OpenSSH refuses.
+//!
+//! # What is proved, tested and trusted
+//!
+//! It is proved that its tests are `true` exactly for what it defines. `checks/callers` and
+//! `checks/revoked` test that OpenSSH reads just that as it is, and lets in by no more.
 #![tactic(auto)]
 
 mod application;

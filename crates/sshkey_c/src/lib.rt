@@ -4,6 +4,13 @@
 //! Each export, but for those of `version`, makes one call of `sshkey_calls` or of another crate of
 //! calls (`sshkey_.._calls`), whose contract it has too. In C a slice is a pointer and a length,
 //! and an allocator is nothing.
+//!
+//! # What is proved, tested and trusted
+//!
+//! Not proved is the caller's side: true pointers and lengths, bytes that stay the same between
+//! question and validation, and in `is_verified` what the verification said. Nor is it proved that
+//! the header declares what is exported; `checks/foreign` tests that. `malloc`, `realloc` and
+//! `free` are trusted, and what else a caller owes (`include/rafendilo.h`).
 #![tactic(auto)]
 
 mod address;

@@ -4,6 +4,12 @@
 //! Cryptography stays the caller's, so a check is two calls: what has to be verified, and whether
 //! the certificate is valid, given what the verification said. Each call answers with a number, and
 //! the bytes that it answers with are in the caller's room.
+//!
+//! # What is proved, tested and trusted
+//!
+//! Of this crate and the other crates of calls: for all bytes and lengths it is proved that a call
+//! reads and writes only the memory that it is given, wraps no sum, ends, and answers as its
+//! clauses say.
 #![tactic(auto)]
 
 mod certified_key;

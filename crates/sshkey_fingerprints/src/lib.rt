@@ -1,4 +1,8 @@
 //! Fingerprints of public keys.
+//!
+//! # What is proved, tested and trusted
+//!
+//! Random art is tested against `ssh-keygen`, for keys of each type and both hashes.
 #![tactic(auto)]
 
 pub mod examples;

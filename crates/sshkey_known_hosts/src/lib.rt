@@ -1,4 +1,11 @@
 //! known_hosts: which keys hosts have (sshd(8), "SSH_KNOWN_HOSTS FILE FORMAT").
+//!
+//! # What is proved, tested and trusted
+//!
+//! Each verdict on a host's key is proved, and that `HmacSha1` is the HMAC of RFC 2104 over SHA-1,
+//! which rests on the contract of `sha1`. `checks/hosts` compares 19,200 questions with `ssh-keygen
+//! -F`. It is trusted that ssh reads known_hosts as `ssh-keygen -F` does, beyond the hosts about
+//! which `checks/callers` asks a real ssh; and so is an HMAC of the caller's own.
 #![tactic(auto)]
 
 mod authority;

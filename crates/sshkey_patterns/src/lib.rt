@@ -1,4 +1,9 @@
 //! Patterns of names and lists of them, as OpenSSH matches both (ssh_config(5), "PATTERNS").
+//!
+//! # What is proved, tested and trusted
+//!
+//! It is proved which names a list of patterns matches, without memory. `checks/hosts` and
+//! `checks/addresses` compare the definitions with OpenSSH.
 #![tactic(auto)]
 
 pub mod examples;

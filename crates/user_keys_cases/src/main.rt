@@ -3,6 +3,10 @@
 //!
 //! A line is a question and what it is about, with a tab between; its answer is written on a line.
 //! Comments and empty lines are written as they are. The file `stdin` says what the words are.
+//!
+//! # What is proved, tested and trusted
+//!
+//! Nothing is claimed: the checks ask it.
 #![tactic(auto)]
 
 mod ask;
