@@ -1,9 +1,4 @@
 //! Wire encoding: readers, writers, and the values that they carry.
-//!
-//! # What is proved, tested and trusted
-//!
-//! It is proved that the memory that `Bytes::erase` and `Mpint::erase` return holds zeros, and that
-//! `erase_slice` overwrites its slice. Nothing is claimed of the memory that held the bytes before.
 #![tactic(auto)]
 
 mod algorithm;

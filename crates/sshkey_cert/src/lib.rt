@@ -1,9 +1,4 @@
 //! Certificates (PROTOCOL.certkeys).
-//!
-//! # What is proved, tested and trusted
-//!
-//! Certificates of each kind of key that OpenSSH made are tested, and that `question` is answered
-//! if there is ample memory.
 #![tactic(auto)]
 
 mod certificate;

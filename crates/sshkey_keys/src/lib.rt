@@ -1,8 +1,4 @@
 //! Public keys and signatures of any kind, and the traits of those who verify and who sign.
-//!
-//! # What is proved, tested and trusted
-//!
-//! Nothing is claimed of how often a signer is asked.
 #![tactic(auto)]
 
 mod key_data;

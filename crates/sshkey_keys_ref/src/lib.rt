@@ -1,9 +1,4 @@
 //! Public keys and signatures that are slices of the bytes that they were read from.
-//!
-//! # What is proved, tested and trusted
-//!
-//! It is proved that reading takes no memory. Only some of the other calls have a clause that says
-//! so; `checks/refused-memory` counts what they ask for.
 #![tactic(auto)]
 
 mod body;

@@ -1,9 +1,4 @@
 //! The kinds of public keys, and the points that they are made of.
-//!
-//! # What is proved, tested and trusted
-//!
-//! The numbers and points of a key are read and never judged: whether they make a key is the
-//! verifier's.
 #![tactic(auto)]
 
 mod dsa;

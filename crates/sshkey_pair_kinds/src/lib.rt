@@ -1,9 +1,4 @@
 //! Key pairs of each kind, those of security keys among them.
-//!
-//! # What is proved, tested and trusted
-//!
-//! Nothing is claimed of whether a public half belongs to its private half, whether a scalar is
-//! below the order of its curve, of constant time, or of wiped memory.
 #![tactic(auto)]
 
 mod dsa;
