@@ -5,6 +5,8 @@ ghost use Rattle.sshkey_entries.specs.Fields.{without_blanks};
 ghost use Rattle.sshkey_entries.specs.OptionEnds.{is_blank};
 ghost use Rattle.sshkey_entries.specs.Cuts.{CutsField};
 
+use memchr::memchr2;
+
 fn is_blank(byte: u8) -> bool
     ensures { result ≡ is_blank byte }
 {
@@ -14,7 +16,7 @@ fn is_blank(byte: u8) -> bool
 pub(crate) fn first_blank(text: &[u8]) -> Option<usize>
     ensures { result ≡ position is_blank text.now }
 {
-    text.iter().position(|byte| is_blank(*byte))
+    memchr2(b' ', b'\t', text)
 }
 
 pub(crate) fn first_other(text: &[u8]) -> Option<usize>

@@ -1,6 +1,7 @@
 mod Asked
 mod Commands
 mod Digests
+mod Front
 mod Grants
 mod Laid
 mod Pends

@@ -4,6 +4,7 @@ pub mod Grants
 pub mod GrantExamples
 pub mod Forwarding
 pub mod Running
+pub mod Laws
 pub mod Logins
 pub mod Asked
 pub mod Verdicts

@@ -8,6 +8,7 @@
 pub mod examples;
 mod forwarding;
 mod grant;
+pub mod laws;
 mod login;
 mod pend;
 mod questions;

@@ -60,8 +60,11 @@ unspaced_before text place is k l =
     let less : k < place = omega (arith, l, length-take-le place text (omega (arith, is.0.high))) in
     ap is_white (get_or-take place text k 0 less) ∙ not_white (get_or text k 0) (is.0.before k (omega arith) less)
 
+pub unspaced_whole : (text : List ℕ) → IsUnspaced text → IsUnspaced (take (length text) text)
+unspaced_whole text free = subst IsUnspaced (sym (take_all (length text) text (omega arith))) free
+
 pub unspaced_all : (text : List ℕ) → IsFirstByte (is_byte3 11 12 13) text None → IsUnspaced (take (length text) text)
-unspaced_all text none = subst IsUnspaced (sym (take_all (length text) text (omega arith))) (λ k l. not_white (get_or text k 0) (none k (omega arith) l))
+unspaced_all text none = unspaced_whole text (λ k l. not_white (get_or text k 0) (none k (omega arith) l))
 
 -- ---- without white space
 

@@ -51,11 +51,26 @@ fn skip_white(text: &[u8]) -> &[u8]
     }
 }
 
+/// Whether the text has no such white space. Each byte is looked at, which the compiler does with
+/// several at once: `memchr3` takes four times as long where there is none.
+fn is_unspaced(text: &[u8]) -> bool
+    ensures { IsTrue result ↔ IsUnspaced text.now }
+{
+    let mut found = false;
+    for byte in text {
+        found |= is_white(*byte);
+    }
+    !found
+}
+
 /// How many bytes of the text stand before its first white space.
 fn unspaced_front(text: &[u8]) -> usize
     ensures bound { result ≤ length text.now }
     ensures unspaced { IsUnspaced (take result text.now) }
 {
+    if is_unspaced(text) {
+        return text.len();
+    }
     match memchr3(0x0b, 0x0c, 0x0d, text) {
         Some(place) => place,
         None => text.len(),
