@@ -17,7 +17,7 @@ pub(crate) enum Credential<'a> {
 impl<'a> Credential<'a> {
     /// Whose lines let it in: the key's, or the authority's that signed the certificate.
     pub(crate) fn listed_key(self) -> &'a KeyData
-        ensures { key_of result.now ≡ listed_key (credential_of self) }
+        ensures { key_of result.now ≡ listed_key (credential_of self.entry) }
     {
         match self {
             Credential::Key(key) => key,
@@ -27,7 +27,7 @@ impl<'a> Credential<'a> {
 
     /// Whether it is a certificate, for which a line is one of an authority.
     pub(crate) fn is_certificate(self) -> bool
-        ensures { result ≡ is_certificate (credential_of self) }
+        ensures { result ≡ is_certificate (credential_of self.entry) }
     {
         match self {
             Credential::Key(_) => false,
