@@ -17,13 +17,13 @@ use Rattle.sshkey_model.proofs.Base64Words.{one_blob}
 use Rattle.sshkey_model.proofs.Blobs.{key_blobs}
 use Rattle.sshkey_model.proofs.CombinedReaders.{are_bytes-append, bytes_fit, fits_box, fits_bytes, fits_first, prefix, string_reads}
 use Rattle.sshkey_entries.specs.Cuts.{CutsField}
-use Rattle.sshkey_entries.specs.Fields.{without_blanks, IsField, AreKeyFields}
+use Rattle.sshkey_entries.specs.Fields.{without_blanks, CutsWord, IsField, AreKeyFields}
 use Rattle.sshkey_entries.specs.Entries.{IsNoEntry}
 use Rattle.sshkey_entries.specs.KnownHosts.{Marker, Hosts, IsHosts, at_sign}
 use Rattle.sshkey_entries.specs.OpenSshLines.{IsHostLine, IsOtherHostLine}
 use Rattle.sshkey_entries.specs.OptionEnds.{is_blank}
 use Rattle.sshkey_entries.specs.OtherKeys.{is_name_character, HasNameCharacters, IsOtherName, SpellsName, AreOtherKeyFields}
-use Rattle.sshkey_entries.proofs.Fields.{same_field, blanks_are, base64_field}
+use Rattle.sshkey_entries.proofs.Fields.{same_cut, same_field, blanks_are}
 use Rattle.sshkey_entries.proofs.OneHost.{one_hosts}
 use Rattle.sshkey_entries.proofs.OneOpenSshLine.{one_marked, same_front}
 
@@ -150,7 +150,7 @@ no_key_begins k name blob rest o s is =
 
 -- ---- fields
 
-module _ (text name after skipped word rest : List ℕ) (first : CutsField text name after) (skips : skipped ≡ without_blanks after) (second : CutsField skipped word rest) where
+module _ (text name after skipped word rest : List ℕ) (first : CutsField text name after) (skips : skipped ≡ without_blanks after) (second : CutsWord skipped word rest) where
   pub fields_read : IsOtherName name → SpellsName name word → AreOtherKeyFields text
   fields_read other spelled = record {
     name = name;
@@ -160,22 +160,21 @@ module _ (text name after skipped word rest : List ℕ) (first : CutsField text 
     is = first.is;
     name_ends = first.ends;
     of_other = other;
-    word_is = sym skips ∙ second.is;
+    word_is = subst (λ (t : List ℕ). CutsWord t word rest) skips second;
     spelled = spelled;
-    word_ends = second.ends;
   }
 
   pub fields_named : AreOtherKeyFields text → IsOtherName name × SpellsName name word
   fields_named f =
       let names = same_field name f.name after f.after_name first.one_word (name_field f.name f.of_other.characters) first.ends f.name_ends (sym first.is ∙ f.is) in
-      let words = same_field word f.word rest f.after_word second.one_word (subst IsField (sym f.spelled.is) (base64_field f.spelled.blob)) second.ends f.word_ends (sym second.is ∙ skips ∙ ap without_blanks names.1 ∙ f.word_is) in
+      let words = same_cut skipped word f.word rest f.after_word second (subst (λ (t : List ℕ). CutsWord t f.word f.after_word) (ap without_blanks (sym names.1) ∙ sym skips) f.word_is) in
       (subst IsOtherName (sym names.0) f.of_other, subst (λ (w : List ℕ). SpellsName name w) (sym words.0) (subst (λ (n : List ℕ). SpellsName n f.word) (sym names.0) f.spelled))
 
 -- No text is the fields of a key and of one of another kind.
 pub apart : (text : List ℕ) (k : Key) (comment : List ℕ) → AreOtherKeyFields text → AreKeyFields text k comment → ⊥
 apart text k comment f g =
     let names = same_field f.name (key_name k) f.after_name g.after_name (name_field f.name f.of_other.characters) g.one_word f.name_ends g.name_ends (sym f.is ∙ g.is) in
-    let words = same_field f.word (encode_of standard g.blob) f.after_word g.after_key (subst IsField (sym f.spelled.is) (base64_field f.spelled.blob)) (base64_field g.blob) f.word_ends g.key_ends (sym f.word_is ∙ ap without_blanks names.1 ∙ g.word) in
+    let words = same_cut (without_blanks g.after_name) f.word (encode_of standard g.blob) f.after_word g.after_key (subst (λ (t : List ℕ). CutsWord (without_blanks t) f.word f.after_word) names.1 f.word_is) g.word in
     let blob = one_blob f.spelled.blob g.blob f.spelled.bytes (bytes_fit g.blob (key_blobs.bytes k g.blob g.spelled)) (sym f.spelled.is ∙ words.0) in
     no_key_begins k f.name g.blob f.spelled.rest f.of_other g.spelled (sym blob ∙ f.spelled.begins)
 

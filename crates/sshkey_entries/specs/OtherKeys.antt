@@ -7,7 +7,7 @@ use Rattle.base64.specs.GeneralPurpose.{encode_of, IsBytes}
 use Rattle.sshkey_model.specs.Names.{algorithm_name, algorithms, named}
 use Rattle.sshkey_model.specs.Parts.{flat}
 use Rattle.sshkey_model.specs.Texts.{string}
-use Rattle.sshkey_entries.specs.Fields.{without_blanks, EndsField}
+use Rattle.sshkey_entries.specs.Fields.{without_blanks, CutsWord, EndsField}
 use Rattle.sshkey_entries.specs.KnownHosts.{at_sign, comma}
 
 -- printable ASCII without space, comma and at sign (RFC 4251, section 6)
@@ -40,7 +40,7 @@ pub record SpellsName (name word : List ℕ) : Type 0 where
   pub begins : blob ≡ flat (string name) ++ rest
   pub is : word ≡ encode_of standard blob
 
--- The text is such a name, bytes in Base64 that begin with it, and a comment.
+-- The text is such a name, bytes in Base64 that begin with it, and a comment, as of a key.
 pub record AreOtherKeyFields (text : List ℕ) : Type 0 where
   pub name : List ℕ
   pub word : List ℕ
@@ -49,6 +49,5 @@ pub record AreOtherKeyFields (text : List ℕ) : Type 0 where
   pub is : text ≡ name ++ after_name
   pub name_ends : EndsField after_name
   pub of_other : IsOtherName name
-  pub word_is : without_blanks after_name ≡ word ++ after_word
+  pub word_is : CutsWord (without_blanks after_name) word after_word
   pub spelled : SpellsName name word
-  pub word_ends : EndsField after_word

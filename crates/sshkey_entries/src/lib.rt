@@ -22,7 +22,7 @@ mod reading;
 mod words;
 
 pub use add_options::AddOptions;
-pub use blanks::{skip_blanks, split_blank};
+pub use blanks::{is_white, skip_blanks, split_blank};
 pub use entry_lines::{EntryLines, EntryTexts};
 pub use from_line::{FromLine, entries_of_file, entries_of_text};
 pub use key_fields::{read_key_bytes, read_key_fields};

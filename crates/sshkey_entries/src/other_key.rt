@@ -7,7 +7,7 @@ ghost use Rattle.sshkey_model.specs.Parts.{are_bytes, flat};
 ghost use Rattle.sshkey_model.specs.Texts.{string};
 ghost use Rattle.sshkey_entries.specs.OtherKeys.{AreOtherKeyFields, HasNameCharacters, IsOtherName, IsShortName, SpellsName, is_name_character};
 
-use crate::bytes::{skip_blanks, split_blank, text_of};
+use crate::bytes::{skip_blanks, split_blank, split_word, text_of};
 use sshkey_base::{Algorithm, Reader};
 use sshkey_base64::Base64Reader;
 
@@ -128,7 +128,7 @@ pub fn bytes_are_other_key_fields(fields: &[u8]) -> bool
     ensures { IsTrue result ↔ AreOtherKeyFields fields.now }
 {
     let (name, after_name) = split_blank(fields);
-    let (word, _) = split_blank(skip_blanks(after_name));
+    let (word, _) = split_word(skip_blanks(after_name));
     let Some(name) = text_of(name) else {
         return false;
     };

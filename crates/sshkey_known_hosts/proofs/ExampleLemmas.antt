@@ -25,7 +25,7 @@ use Rattle.sshkey_patterns.specs.Commas.{patterns}
 use Rattle.sshkey_patterns.proofs.Deciding.{decides_all, decides_list, matches_list}
 use Rattle.sshkey_entries.specs.Entries.{hash_sign}
 use Rattle.sshkey_entries.specs.Cuts.{CutsField}
-use Rattle.sshkey_entries.specs.Fields.{AreKeyFields, AreNoKeyFields, EndsField, IsField, without_blanks}
+use Rattle.sshkey_entries.specs.Fields.{AreKeyFields, AreNoKeyFields, CutsWord, EndsField, IsField, without_blanks}
 use Rattle.sshkey_entries.specs.Fronts.{without_front}
 use Rattle.sshkey_entries.specs.HostNames.{AreFor, AreForName, BeginWithBar}
 use Rattle.sshkey_entries.specs.HostVerdicts.{HidesEntry, IsAuthority, IsForOthers, Lists}
@@ -98,9 +98,8 @@ module _ (rest comment : List ℕ) (ends : EndsField rest) (is : comment ≡ wit
     is = refl;
     one_word = field (codes "ssh-ed25519") refl;
     name_ends = inr refl;
-    word = refl;
+    word = record { field = codes "AAAAC3NzaC1lZDI1NTE5AAAAILM+rvN+ot98qgEN796jTiQfZfG1KaT0PtFDJ/XFSqti"; is = refl; one_word = field (codes "AAAAC3NzaC1lZDI1NTE5AAAAILM+rvN+ot98qgEN796jTiQfZfG1KaT0PtFDJ/XFSqti") refl; ends = ends; word_is = refl };
     spelled = own_spelled;
-    key_ends = ends;
     comment_is = is;
   }
 
@@ -113,9 +112,8 @@ module _ (rest comment : List ℕ) (ends : EndsField rest) (is : comment ≡ wit
     is = refl;
     one_word = field (codes "ssh-ed25519") refl;
     name_ends = inr refl;
-    word = refl;
+    word = record { field = codes "AAAAC3NzaC1lZDI1NTE5AAAAIH1MFwI1oRdEifXgBQvWQfCBBtA/Pi8YCUE/I3wXFJo2"; is = refl; one_word = field (codes "AAAAC3NzaC1lZDI1NTE5AAAAIH1MFwI1oRdEifXgBQvWQfCBBtA/Pi8YCUE/I3wXFJo2") refl; ends = ends; word_is = refl };
     spelled = other_spelled;
-    key_ends = ends;
     comment_is = is;
   }
 
@@ -338,8 +336,8 @@ lone = codes "ssh-ed25519"
 lone_first : CutsField lone lone []
 lone_first = record { is = refl; one_word = field lone refl; ends = inl refl }
 
-nothing_second : CutsField [] [] []
-nothing_second = record { is = refl; one_word = λ i l. absurd (omega (arith, l)); ends = inl refl }
+nothing_second : CutsWord [] [] []
+nothing_second = record { field = []; is = refl; one_word = λ i l. absurd (omega (arith, l)); ends = inl refl; word_is = refl }
 
 nothing_left : [] ≡ without_blanks []
 unfolding without_front

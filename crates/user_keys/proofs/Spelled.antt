@@ -4,7 +4,8 @@ use Rattle.std.proofs.lemmas.Bool.{cases_lt}
 use Rattle.std.proofs.lemmas.List.{drop_all, drop_more}
 use Rattle.std.specs.Prelude.{slice_index}
 use Rattle.sshkey_entries.specs.Fronts.{without_front}
-use Rattle.user_keys.specs.Spellings.{Follow, HasMark, HasMarkAt, StandAt, is_white}
+use Rattle.sshkey_entries.specs.Fields.{is_white}
+use Rattle.user_keys.specs.Spellings.{Follow, HasMark, HasMarkAt, StandAt}
 use Rattle.user_keys.specs.declared.marks.Marks.{Marks}
 
 -- ---- one symbol more

@@ -5,7 +5,8 @@ use Rattle.std.proofs.Math.Seq.{take-append_seam}
 use Rattle.memchr.specs.Find.{FindsNeedle, IsFirstByte, OccursAt, is_byte3}
 use Rattle.memchr.proofs.lemmas.MatchLemmas.{OccursAt-from_part}
 use Rattle.sshkey_entries.proofs.Fronts.{nothing_stays, stays}
-use Rattle.user_keys.specs.Spellings.{Follow, IsUnmarked, IsUnspaced, Lacks, StandAt, is_white}
+use Rattle.sshkey_entries.specs.Fields.{is_white}
+use Rattle.user_keys.specs.Spellings.{Follow, IsUnmarked, IsUnspaced, Lacks, StandAt}
 use Rattle.user_keys.specs.declared.marks.Marks.{Marks}
 
 -- ---- parts

@@ -11,7 +11,7 @@ use Rattle.user_keys.specs.Answers.{first_refused, refusal_for}
 use Rattle.user_keys.specs.FirstLines.{TakesAsTold, TakesFirst, but_tunnels}
 use Rattle.user_keys.specs.Lines.{IsEntryFor, MayBeEntryFor, MayBeFor, before_zero}
 use Rattle.user_keys.specs.Options.{AreTerms, MayBeTerms}
-use Rattle.user_keys.specs.Spellings.{is_white, own_part}
+use Rattle.user_keys.specs.Spellings.{own_part}
 use Rattle.user_keys.specs.TermExamples.{expiring, for_names}
 use Rattle.user_keys.specs.UserLogins.{Credential, IsAsStrict, IsOwn, Lets, MayLet, OfCertificate, OfKey, UserLogin, listed_key}
 use Rattle.user_keys.specs.declared.grant.UserGrant.{UserGrant}
@@ -29,11 +29,6 @@ Parts = (own_part (Dsa (record { p = codes "p"; q = codes "q"; g = codes "g"; y 
     × (own_part (Ecdsa Nistp256 (codes "p")) ≡ codes "p") × (own_part (Ed25519 (codes "p")) ≡ codes "p")
     × (own_part (SkEcdsa (record { key = codes "p"; application = codes "ssh:" })) ≡ codes "p") × (own_part (SkEd25519 (record { key = codes "p"; application = codes "ssh:" })) ≡ codes "p")
     × (own_part (Opaque (codes "key@example.org") (codes "p")) ≡ codes "p")
-
--- White space that ends no word is passed over within Base64 (isspace(3)): a vertical tab, a form feed
--- and a carriage return. What ends a word is not, nor is another control character.
-abbrev pub WhiteSpace : Type 0
-WhiteSpace = (is_white 0x0b ≡ true) × (is_white 0x0c ≡ true) × (is_white 0x0d ≡ true) × (is_white 0x08 ≡ false) × (is_white 0x09 ≡ false) × (is_white 0x0e ≡ false) × (is_white 0x20 ≡ false)
 
 -- A line ends at a zero byte.
 abbrev pub LineEnds : Type 0

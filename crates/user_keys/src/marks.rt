@@ -5,10 +5,12 @@ ghost use Rattle.base64.specs.Engines.{standard};
 ghost use Rattle.base64.specs.GeneralPurpose.{encode_of};
 ghost use Rattle.sshkey_entries.specs.Fronts.{without_front};
 ghost use Rattle.sshkey_keys.specs.Keys.{key_of};
-ghost use Rattle.user_keys.specs.Spellings.{AreMarks, FindsAfter, FindsStart, Follow, HasMark, HasMarkAt, IsUnmarked, IsUnspaced, Lacks, StandAt, is_white, own_part};
+ghost use Rattle.sshkey_entries.specs.Fields.{is_white};
+ghost use Rattle.user_keys.specs.Spellings.{AreMarks, FindsAfter, FindsStart, Follow, HasMark, HasMarkAt, IsUnmarked, IsUnspaced, Lacks, StandAt, own_part};
 
 use base64::engine::general_purpose::STANDARD;
 use memchr::{memchr3, memmem};
+use sshkey_entries::is_white;
 use sshkey_keys::KeyData;
 
 /// How many symbols of Base64 a mark has.
@@ -27,13 +29,6 @@ pub(crate) fn own_part(key: &KeyData) -> &[u8]
         KeyData::SkEd25519(key) => &key.public_key().0,
         KeyData::Other(key) => key.key.as_bytes(),
     }
-}
-
-/// Whether sshd(8) passes over the byte in Base64. Spaces and tabs end a word.
-fn is_white(byte: u8) -> bool
-    ensures { result ≡ is_white byte }
-{
-    byte == 0x0b || byte == 0x0c || byte == 0x0d
 }
 
 fn first_other(text: &[u8]) -> Option<usize>
