@@ -2,7 +2,11 @@
 -- which line an sshd takes.
 use Rattle.std.specs.Prelude.{◌≡◌, ℕ, List, [], ◌∷◌, ◌++◌, true, false, IsTrue, Option, None, Some, bytes_eq, codes, if◌then◌else◌, replicate}
 use Rattle.login_terms.specs.Terms.{Terms, no_terms, none_permitted, terms_of}
+use Rattle.sshkey_cert.specs.CertificateValues.{certificate_of}
+use Rattle.sshkey_cert.specs.declared.certificate.Certificate as code
 use Rattle.sshkey_entries.specs.AuthorizedKeys.{AuthorizedKey}
+use Rattle.sshkey_keys.specs.Keys.{key_of}
+use Rattle.sshkey_keys.specs.declared.key_data.KeyData.{KeyData}
 use Rattle.sshkey_model.specs.CertificateExamples.{openssh_certificate}
 use Rattle.sshkey_model.specs.Certificates.{Certificate}
 use Rattle.sshkey_model.specs.Keys.{Key, Dsa, Ecdsa, Ed25519, Rsa, SkEcdsa, SkEd25519, Opaque}
@@ -13,10 +17,12 @@ use Rattle.user_keys.specs.Lines.{IsEntryFor, MayBeEntryFor, MayBeFor, before_ze
 use Rattle.user_keys.specs.Options.{AreTerms, MayBeTerms}
 use Rattle.user_keys.specs.Spellings.{own_part}
 use Rattle.user_keys.specs.TermExamples.{expiring, for_names}
-use Rattle.user_keys.specs.UserLogins.{Credential, IsAsStrict, IsOwn, Lets, MayLet, OfCertificate, OfKey, UserLogin, listed_key}
+use Rattle.user_keys.specs.UserLogins.{Credential, IsAsStrict, IsOwn, Lets, MayLet, OfCertificate, OfKey, UserLogin, credential_of, is_certificate, listed_key}
+use Rattle.user_keys.specs.declared.credential.Credential.TheVariants as code_by
 use Rattle.user_keys.specs.declared.grant.UserGrant.{UserGrant}
 use Rattle.user_keys.specs.declared.refusal.Reason.TheVariants as reason
 use Rattle.user_keys.specs.declared.refusal.UserRefusal.TheVariants as refusal
+use denote.Ref.{Bor}
 
 -- ---- the parts of keys
 
@@ -96,6 +102,9 @@ LetsCertificate = ((line : List ℕ) → IsOwn (by_certificate (codes "alice" �
     × ((line : List ℕ) → Lets (login_at 5) (by_certificate (codes "alice" ∷ [])) line (record authority { command = Some (codes "id") }) → ⊥)
     × ((line : List ℕ) → Lets (login_at 21) (by_certificate (codes "alice" ∷ [])) line (record expiring { is_authority = true }) → ⊥)
     × (listed_key by_key ≡ other) × (listed_key (OfCertificate openssh_certificate) ≡ openssh_certificate.signed.signature_key)
+    × (is_certificate by_key ≡ false) × (is_certificate (OfCertificate openssh_certificate) ≡ true)
+    × ((k : Bor KeyData) → credential_of (code_by.Key k) ≡ OfKey (key_of k.now))
+    × ((c : Bor code.Certificate) → credential_of (code_by.Certificate c) ≡ OfCertificate (certificate_of c.now))
 
 -- sshd may let the key in by a line that it may take for one of the key, or by one of the key that is
 -- over in some zone; and by no other: by none that is over in no zone, nor by one that is over in all.
