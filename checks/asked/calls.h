@@ -107,6 +107,7 @@ typedef struct {
   CALL(may_offer, &given->login, given->ticket, (uint32_t)it->numbers[ANSWERS])                  \
   CALL(may_open, &given->grant, BYTES(0), BYTES(1), (uint32_t)it->numbers[0])                    \
   CALL(may_listen, &given->grant, BYTES(0), BYTES(1), (uint32_t)it->numbers[0])                  \
+  CALL(runs, &given->grant, BYTES(0), BYTES(1), (uint32_t)it->numbers[0], ROOM, &it->length)     \
   CALL(check_host_key, &given->host, BYTES(2))                                                   \
   CALL(check_host_certificate, &given->host, BYTES(2), (uint32_t)it->numbers[3], &it->known_by)  \
   CALL(unreadable_host_line, BYTES(0), BYTES(1), PORT, &it->length)                              \
@@ -155,7 +156,8 @@ static uint32_t called(given_call *it, int filling) {
        numbers[1], numbers[2], (uint32_t)numbers[3], (uint32_t)numbers[4]},
       login_of(it),
       {{SEVERAL(0)}, DRAWN(1), {SEVERAL(3)}, numbers[2], (uint32_t)numbers[1], PORT},
-      {.permit_open = {0, it->spans[0].length}, .permit_listen = {0, it->spans[0].length}},
+      {.force_command = {numbers[2], it->spans[0].length}, .permit_open = {0, it->spans[0].length},
+       .permit_listen = {0, it->spans[0].length}, .permits = (uint32_t)numbers[1]},
       (const raf_sha256 *)it->spans[TICKET].bytes};
   size_t from = offsetof(given_call, length);
   memset((char *)it + from, filling, sizeof *it - from);

@@ -234,6 +234,11 @@ def of_files(maker, key):
     ):  # fmt: skip
         yield "may_open", [given, host], [port], wanted
         yield "may_listen", [given, host], [port], wanted
+    for forced, asks, permits, start, wanted in (
+        (b"date", 1, 0, 0, "DONE"), (b"date", 0, 0, 0, "DONE"), (b"date", 1, 64 + 512, 0, "DONE"), (b"", 1, 32, 0, "DONE"), (b"", 0, 32 + 64, 0, "END"), (b"", 1, 0, 0, "DONE"),
+        (b"date", 1, 0, 1, "DONE"), (b"date", 0, 0, 2**64 - 1, "DONE"),
+    ):  # fmt: skip
+        yield "runs", [forced, b"ls"], [asks, permits, start], wanted
     for text, wanted in ((b"20270101Z", "DONE"), (b"20270101", "DONE"), (b"2027", "FORMAT"), (b"\xff", "TEXT")):
         yield "read_time", [text], [], wanted
     for text, wanted in ((b"h:22", "DONE"), (b"[::1]", "DONE"), (b"h:", "FORMAT"), (b"\xff", "TEXT")):
@@ -323,8 +328,11 @@ def question_of(what, call, spans, numbers, *more):
     return " ".join([what, call, *words, *map(str, more)])
 
 
-def asks_nothing(call, spans, numbers):
-    """Whether it asks for questions of a login that has none: of a plain key, whose signature somebody else has verified."""
+def writes_nothing(call, spans, numbers):
+    """Whether it asks for questions of a login that has none: of a plain key, whose signature somebody else has verified. Or for what
+    runs where a command is forced that has no bytes, or is not where the grant says."""
+    if call == "runs":
+        return not numbers[1] & 32 and (numbers[2] > 0 or not spans[0])
     is_signed = call == "log_in_questions" and numbers[0] == str(REQUEST)
     return call in ("log_in_questions", "may_offer_questions") and not is_signed and b"-cert-v01@".hex() not in spans[2]
 
@@ -336,7 +344,7 @@ def questions(rafendilo, asked):
             yield call, question_of("memory", call, spans, numbers, 0), rafendilo.Status[wanted] if isinstance(wanted, str) else wanted
             continue
         yield call, question_of("memory", call, spans, numbers, 2 * sum(map(len, spans)) + 4608), rafendilo.Status[wanted]
-        if wanted == "DONE" and not asks_nothing(call, spans, numbers):
+        if wanted == "DONE" and not writes_nothing(call, spans, numbers):
             yield call, question_of("memory", call, spans, numbers, 1), rafendilo.Status.SHORT_BUFFER
 
 

@@ -74,6 +74,10 @@ class VerdictAnswers:
         of = self.granted(given, self.rafendilo.is_signature)
         return ["0", *(str(int(may(data_of(to), int(port)))) for may in (of.may_open, of.may_listen))]
 
+    def runs(self, asked, is_command, *given):
+        found = self.granted(given, self.rafendilo.is_signature).runs(data_of(asked).decode() if is_command == "1" else None)
+        return ["3"] if found is None else ["0", word(found.encode())]
+
     def places(self, found):
         """The hosts and ports as the library lays them out."""
         pairs = [it for host, port in found for it in (host, b"" if port is None else port.to_bytes(2, "big"))]

@@ -8,12 +8,12 @@ from lib.harness import ROOT
 LOGINS = {
     "crates/publickey_login/src/lib.rt": (r"^pub use login::\{(.*)\};", {"log_in", "may_offer", "pending", "pending_offer"}),
     "crates/sshkey_login_calls/src/lib.rt": (
-        r"^pub use (?:verdict|forwarding)::\{(.*)\};",
-        {"log_in", "log_in_questions", "may_offer", "may_offer_questions", "may_listen", "may_open"},
+        r"^pub use (?:verdict|forwarding|running)::\{?([^{}]*)\}?;",
+        {"log_in", "log_in_questions", "may_offer", "may_offer_questions", "may_listen", "may_open", "runs"},
     ),
     "include/rafendilo.h": (
         r"^uint32_t (\w+)\(const raf_(?:login|grant|offer|signed|trusted|place) \*",
-        {"raf_log_in", "raf_log_in_questions", "raf_may_offer", "raf_may_offer_questions", "raf_may_open", "raf_may_listen"},
+        {"raf_log_in", "raf_log_in_questions", "raf_may_offer", "raf_may_offer_questions", "raf_may_open", "raf_may_listen", "raf_runs"},
     ),
     "helpers/verdict.h": (r"^uint32_t (\w+)\(const raf_(?:login|grant) \*", {"raf_verify_login", "raf_verify_offer"}),
     "bindings/python/rafendilo/_logins.py": (r"^def ([a-z]\w*)\(", {"log_in", "may_offer"}),

@@ -74,8 +74,8 @@ enum {
   RAF_MEMORY = 1,       /* malloc refused; nothing is said of the input, and nothing is kept: the
                            call may be made again */
   RAF_SHORT_BUFFER = 2, /* the buffer is too short; `length` says how many bytes are needed */
-  RAF_END = 3,          /* nothing is left: the place is the end, or there is no such line or
-                           option */
+  RAF_END = 3,          /* nothing is left: the place is the end, or there is no such line, option
+                           or command */
   RAF_TEXT = 4,         /* the principal is not UTF-8, or a line of authorized_keys or known_hosts,
                            options, a host's name, an identity, a namespace or a time; nothing is
                            said of the rest. raf_read_line returns 11 for such a line */
@@ -1053,8 +1053,8 @@ enum {
 
 /* What a login is let in by, and what it may do. Zero permits nothing. */
 typedef struct {
-  raf_part force_command; /* what runs without RAF_PERMIT_ANY_COMMAND, whatever the client asks for:
-                             nothing, and no shell, where it has no bytes. With it no bytes */
+  raf_part force_command; /* to be shown: the command that is forced. It may have no bytes, and has
+                             none with RAF_PERMIT_ANY_COMMAND: raf_runs says what runs */
   raf_part key_id;        /* the certificate's, a text for logs; of a plain key no bytes */
   raf_part permit_open;   /* where ports may be forwarded, which raf_may_open reads: strings
                              (raf_next_string), two each: a host, and a port of two bytes,
@@ -1146,6 +1146,17 @@ uint32_t raf_may_open(const raf_grant *grant, const uint8_t *buffer, size_t buff
  * chooses one, is permitted where any port is. Takes no memory. */
 uint32_t raf_may_listen(const raf_grant *grant, const uint8_t *buffer, size_t buffer_length,
                         const uint8_t *host, size_t host_length, uint32_t port);
+
+/* What runs where the client asks for that command ("exec" of RFC 4254, section 6.5), or where it
+ * asks for a shell ("shell"): then `asks_command` is 0, and `asked` is not looked at. Ask it each
+ * time: it is the way to the command. `granted` is the buffer that raf_log_in wrote with the grant.
+ *
+ * RAF_DONE with the command in the buffer: the grant's, if it forces one, and else the client's. The
+ * user's shell runs it by -c, and where it is empty nothing runs. RAF_END if a shell runs, as a login
+ * shell; else RAF_SHORT_BUFFER. A buffer as long as both is enough. Takes no memory. */
+uint32_t raf_runs(const raf_grant *grant, const uint8_t *granted, size_t granted_length,
+                  const uint8_t *asked, size_t asked_length, uint32_t asks_command,
+                  uint8_t *buffer, size_t buffer_length, size_t *length);
 
 /* ---------------------------------------------------------------------------------------------- */
 

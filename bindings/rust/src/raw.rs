@@ -146,7 +146,7 @@ statuses! {
     MEMORY = 1, "no memory";
     /// The buffer is too short; `length` says how many bytes are needed.
     SHORT_BUFFER = 2, "the buffer is too short";
-    /// Nothing is left: the place is the end, or there is no such line or option.
+    /// Nothing is left: the place is the end, or there is no such line, option or command.
     END = 3, "nothing is left";
     /// The principal is not UTF-8, or a line of authorized_keys or known_hosts, options, a host's
     /// name, an identity, a namespace or a time; nothing is said of the rest. raf_read_line returns
@@ -598,8 +598,7 @@ pub(crate) struct LoginQuestions {
 #[repr(C)]
 #[derive(Clone, Copy, Debug, Default)]
 pub(crate) struct Grant {
-    /// What runs without RAF_PERMIT_ANY_COMMAND, whatever the client asks for: nothing, and no
-    /// shell, where it has no bytes.
+    /// To be shown: the command that is forced.
     pub force_command: Part,
     /// The certificate's, a text for logs; of a plain key no bytes.
     pub key_id: Part,
@@ -750,4 +749,8 @@ calls! {
     fn raf_may_offer(login: &Login<'_>, ticket: &Sha256, answers: u32);
     fn raf_may_open(grant: &Grant, buffer: &[u8], host: &[u8], port: u32);
     fn raf_may_listen(grant: &Grant, buffer: &[u8], host: &[u8], port: u32);
+    fn raf_runs(
+        grant: &Grant, granted: &[u8], asked: &[u8], asks_command: u32, buffer: &mut [u8],
+        length: &mut usize
+    );
 }

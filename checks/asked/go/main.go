@@ -101,6 +101,7 @@ var answers = map[string]func(of []string) ([]string, error){
 	},
 	"options":  options,
 	"forwards": forwards,
+	"runs":     runs,
 	"host-key": func(of []string) ([]string, error) {
 		return nil, rafendilo.CheckHostKey(hostLogin(of), data(of[2]))
 	},

@@ -363,6 +363,7 @@ fn answer(question: &str) -> Answer {
         "log-in-questions" => Ok(logins::log_in_questions(given)),
         "may-offer" => Ok(logins::may_offer(given)),
         "forwards" => logins::forwards(given),
+        "runs" => logins::runs(given),
         "host-key" | "host-certificate" => Ok(host_verdict(what, given)),
         "unreadable-line" => unreadable_line(given),
         "other-key-line" => other_key_line(&at(0)),

@@ -1,18 +1,21 @@
 //! Who is let in.
 
-ghost use Rattle.std.specs.Prelude.{◌≡◌, ◌≢◌, ◌⊎◌, ◌↔◌};
+ghost use Rattle.std.specs.Prelude.{◌≡◌, ◌≢◌, ◌⊎◌, ◌↔◌, [], Some, bit_and};
 ghost use Rattle.std.specs.Str.{IsUtf8};
-ghost use Rattle.login_terms.specs.Questions.{MayListen, MayOpen};
+ghost use Rattle.login_terms.specs.Questions.{MayListen, MayOpen, runs};
 ghost use Rattle.login_terms.specs.Terms.{Terms};
+ghost use Rattle.sshkey_calls.specs.Rooms.{IsPartOf};
+ghost use Rattle.sshkey_calls.specs.Writing.{WritesContent};
 ghost use Rattle.sshkey_login_calls.specs.Forwarding.{HasPlaces};
 ghost use Rattle.sshkey_login_calls.specs.Grants.{IsRefused, to_listen, to_open};
 ghost use Rattle.sshkey_login_calls.specs.Logins.{AreTexts};
+ghost use Rattle.sshkey_login_calls.specs.Running.{HasCommand, asked_for};
 ghost use Rattle.sshkey_login_calls.specs.Verdicts.{TellsLogIn, TellsLogInQuestions, TellsOffer, TellsOfferQuestions};
 
 use sshkey_calls::Sha256Digest;
 use sshkey_login_calls::{
     GrantParts, LoginParts, LoginQuestions, log_in, log_in_questions, may_listen, may_offer,
-    may_offer_questions, may_open,
+    may_offer_questions, may_open, runs,
 };
 use std::alloc::Global;
 
@@ -80,6 +83,7 @@ pub extern "C" fn raf_may_open(grant: &GrantParts, room: &[u8], host: &[u8], por
     ensures answer { IsUtf8 host.now → (t : Terms)
         → HasPlaces (to_open t) grant.now.permit_open room.now
         → (result ≡ 0) ↔ MayOpen t host.now port }
+    ensures outside { (IsPartOf grant.now.permit_open room.now → ⊥) → result ≢ 0 }
     ensures number { (result ≡ 0) ⊎ (result ≡ 4) ⊎ (result ≡ 97) }
     ensures text { result ≡ 4 ↔ (IsUtf8 host.now → ⊥) }
 {
@@ -92,8 +96,30 @@ pub extern "C" fn raf_may_listen(grant: &GrantParts, room: &[u8], host: &[u8], p
     ensures answer { IsUtf8 host.now → (t : Terms)
         → HasPlaces (to_listen t) grant.now.permit_listen room.now
         → (result ≡ 0) ↔ MayListen t host.now port }
+    ensures outside { (IsPartOf grant.now.permit_listen room.now → ⊥) → result ≢ 0 }
     ensures number { (result ≡ 0) ⊎ (result ≡ 4) ⊎ (result ≡ 97) }
     ensures text { result ≡ 4 ↔ (IsUtf8 host.now → ⊥) }
 {
     may_listen(grant, room, host, port)
+}
+
+/// What runs where the client asks for that command, or for a shell: `sshkey_login_calls::runs`.
+#[unsafe(no_mangle)]
+pub extern "C" fn raf_runs(
+    grant: &GrantParts,
+    granted: &[u8],
+    asked: &[u8],
+    asks_command: u32,
+    room: &mut [u8],
+    length: &mut usize,
+) -> u32
+    ensures answer { (t : Terms) → HasCommand t grant.now granted.now
+        → WritesContent (λ content. runs t (asked_for asks_command asked.now) ≡ Some content)
+        result length.old length.new room.old room.new }
+    ensures outside { bit_and grant.now.permits 32 ≡ 0
+        → (IsPartOf grant.now.force_command granted.now → ⊥)
+        → WritesContent (λ content. content ≡ []) result length.old length.new room.old room.new }
+    ensures number { (result ≡ 0) ⊎ (result ≡ 2) ⊎ (result ≡ 3) }
+{
+    runs(grant, granted, asked, asks_command, room, length)
 }

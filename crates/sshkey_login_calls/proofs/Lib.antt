@@ -1,6 +1,9 @@
 mod Asked
+mod Commands
 mod Digests
+mod Front
 mod Grants
+mod Laid
 mod Pends
 mod Places
 mod Texts

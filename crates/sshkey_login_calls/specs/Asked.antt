@@ -39,9 +39,12 @@ abbrev pub asked_lengths : Option Question → List ℕ
 asked_lengths None = lengths 0 0 0 0
 asked_lengths (Some q) = lengths (algorithm_number q.algorithm) (length (flat (normal_key q.key))) (length q.message) (length (padded_blob q.key q.blob))
 
+abbrev pub ticket_bytes : Questions → List ℕ
+ticket_bytes qs = asked_lengths qs.authority ++ (asked_lengths qs.client ++ questions_bytes qs)
+
 -- It names both questions: a digest of what is asked about them.
 abbrev pub ticket_of : Questions → List ℕ
-ticket_of qs = digest Sha256 (asked_lengths qs.authority ++ (asked_lengths qs.client ++ questions_bytes qs))
+ticket_of qs = digest Sha256 (ticket_bytes qs)
 
 -- ---- where they stand
 

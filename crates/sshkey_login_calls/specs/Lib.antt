@@ -1,7 +1,10 @@
 pub mod Refusals
+pub mod RefusalExamples
 pub mod Grants
 pub mod GrantExamples
 pub mod Forwarding
+pub mod Running
+pub mod Laws
 pub mod Logins
 pub mod Asked
 pub mod Verdicts

@@ -1,7 +1,8 @@
 //! Worked examples of the definitions.
 
-ghost use Rattle.sshkey_login_calls.specs.GrantExamples.{Permitted, Placed};
-ghost use Rattle.sshkey_login_calls.specs.LoginExamples.{Answered, Told};
+ghost use Rattle.sshkey_login_calls.specs.GrantExamples.{Bounds, Forced, LaidOut, Permitted, Placed};
+ghost use Rattle.sshkey_login_calls.specs.LoginExamples.{Answered, Seen, Tickets, Told};
+ghost use Rattle.sshkey_login_calls.specs.RefusalExamples.{ByKeys, ByLines, BySignatures};
 
 /// What the terms of a login permit.
 pub fn permitted()
@@ -21,4 +22,44 @@ pub fn answered()
 /// What the numbers of a caller tell.
 pub fn told()
     ensures { Told }
+{}
+
+/// Who has seen the client's signature.
+pub fn seen()
+    ensures { Seen }
+{}
+
+/// What names the questions.
+pub fn tickets()
+    ensures { Tickets }
+{}
+
+/// Until when a line counts, and which device a tunnel has.
+pub fn bounds()
+    ensures { Bounds }
+{}
+
+/// Where the parts of a grant stand.
+pub fn laid_out()
+    ensures { LaidOut }
+{}
+
+/// Which command is forced.
+pub fn forced()
+    ensures { Forced }
+{}
+
+/// Which line refuses.
+pub fn by_lines()
+    ensures { ByLines }
+{}
+
+/// What is wrong with a key or a certificate.
+pub fn by_keys()
+    ensures { ByKeys }
+{}
+
+/// What is wrong with a signature.
+pub fn by_signatures()
+    ensures { BySignatures }
 {}

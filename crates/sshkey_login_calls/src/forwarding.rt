@@ -1,6 +1,6 @@
 //! Where a grant that was written to the caller's room lets ports be forwarded.
 
-ghost use Rattle.std.specs.Prelude.{◌≡◌, ◌⊎◌, ◌↔◌, ◌<◌, List, ℕ, Option, Some, IfSome, IsTrue, length};
+ghost use Rattle.std.specs.Prelude.{◌≡◌, ◌≢◌, ◌⊎◌, ◌↔◌, ◌<◌, [], List, ℕ, Option, Some, IfSome, IsTrue, length};
 ghost use Rattle.std.specs.List.{AllByRecursion, Any};
 ghost use Rattle.std.specs.Str.{IsUtf8};
 ghost use Rattle.login_terms.specs.Questions.{MayListen, MayOpen};
@@ -29,6 +29,7 @@ pub fn may_open(grant: &GrantParts, room: &[u8], host: &[u8], port: u32) -> u32
     ensures answer { IsUtf8 host.now → (t : Terms)
         → HasPlaces (to_open t) grant.now.permit_open room.now
         → (result ≡ 0) ↔ MayOpen t host.now port }
+    ensures outside { (IsPartOf grant.now.permit_open room.now → ⊥) → result ≢ 0 }
     ensures number { (result ≡ 0) ⊎ (result ≡ 4) ⊎ (result ≡ 97) }
     ensures text { result ≡ 4 ↔ (IsUtf8 host.now → ⊥) }
 {
@@ -41,6 +42,7 @@ pub fn may_listen(grant: &GrantParts, room: &[u8], host: &[u8], port: u32) -> u3
     ensures answer { IsUtf8 host.now → (t : Terms)
         → HasPlaces (to_listen t) grant.now.permit_listen room.now
         → (result ≡ 0) ↔ MayListen t host.now port }
+    ensures outside { (IsPartOf grant.now.permit_listen room.now → ⊥) → result ≢ 0 }
     ensures number { (result ≡ 0) ⊎ (result ≡ 4) ⊎ (result ≡ 97) }
     ensures text { result ≡ 4 ↔ (IsUtf8 host.now → ⊥) }
 {
@@ -58,6 +60,7 @@ enum Way {
 fn permitted(way: Way, part: Part, room: &[u8], host: &[u8], port: u32) -> u32
     ensures answer { IsUtf8 host.now → (places : List HostAndPort) → HasPlaces places part room.now
         → (result ≡ 0) ↔ (port < 65536) × Any (IsFor way host.now port) places }
+    ensures outside { (IsPartOf part room.now → ⊥) → result ≢ 0 }
     ensures number { (result ≡ 0) ⊎ (result ≡ 4) ⊎ (result ≡ 97) }
     ensures text { result ≡ 4 ↔ (IsUtf8 host.now → ⊥) }
 {
@@ -72,8 +75,9 @@ fn permitted(way: Way, part: Part, room: &[u8], host: &[u8], port: u32) -> u32
 }
 
 /// The bytes of the part; none where the room ends before it.
-fn bytes_in(part: Part, room: &[u8]) -> &[u8]
-    ensures { IsPartOf part room.now → result.now ≡ bytes_of part room.now }
+pub(crate) fn bytes_in(part: Part, room: &[u8]) -> &[u8]
+    ensures part { IsPartOf part room.now → result.now ≡ bytes_of part room.now }
+    ensures outside { (IsPartOf part room.now → ⊥) → result.now ≡ [] }
 {
     match room.get(part.start..) {
         Some(rest) => match rest.get(..part.length) {

@@ -33,7 +33,7 @@ const X11_FORWARDING: u32 = 8;
 /// The user's `~/.ssh/rc`.
 const USER_RC: u32 = 16;
 /// What the client asks for, or a shell.
-const ANY_COMMAND: u32 = 32;
+pub(crate) const ANY_COMMAND: u32 = 32;
 /// A security key that nobody touched.
 const NO_TOUCH: u32 = 64;
 /// A security key that did not verify its user.
@@ -52,7 +52,8 @@ const ANYWHERE: &[u8] = b"\0\0\0\x01*\0\0\0\0";
 #[repr(C)]
 #[derive(Clone, Copy, Debug)]
 pub struct GrantParts {
-    /// The one command that may run. It has no bytes where any may.
+    /// To be shown: the command that is forced. It may have no bytes, and has none where none is:
+    /// `runs` says what runs.
     pub force_command: Part,
     /// The certificate's key id, a text for logs. Of a plain key it has no bytes.
     pub key_id: Part,

@@ -8,10 +8,12 @@
 pub mod examples;
 mod forwarding;
 mod grant;
+pub mod laws;
 mod login;
 mod pend;
 mod questions;
 mod refusal;
+mod running;
 mod sources;
 mod verdict;
 
@@ -19,4 +21,5 @@ pub use forwarding::{may_listen, may_open};
 pub use grant::GrantParts;
 pub use login::{LoginParts, OfferParts, PlaceParts, SignedParts, TextParts, TrustedParts};
 pub use questions::LoginQuestions;
+pub use running::runs;
 pub use verdict::{log_in, log_in_questions, may_offer, may_offer_questions};
