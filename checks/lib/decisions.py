@@ -6,7 +6,7 @@ from lib.harness import ROOT
 
 # by the file: what declares one there, and which there are
 LOGINS = {
-    "crates/publickey_login/src/lib.rt": (r"^pub use login::\{(.*)\};", {"log_in", "may_offer", "pending", "pending_offer"}),
+    "crates/publickey_login/src/lib.rt": (r"^pub use login::\{(.*)\};", {"log_in", "may_offer", "pending"}),
     "crates/sshkey_login_calls/src/lib.rt": (
         r"^pub use (?:verdict|forwarding|running)::\{?([^{}]*)\}?;",
         {"log_in", "log_in_questions", "may_offer", "may_offer_questions", "may_listen", "may_open", "runs"},

@@ -40,7 +40,7 @@ Certificates = ((l : Login) (c : Certificate) (g : PublickeyGrant) → ¬ Grants
 abbrev pub Logins : Type 0
 Logins = ((l : Login) (g : PublickeyGrant) (session_id bytes : List ℕ) (host_key : Option (List ℕ)) → ¬ IsLogin (λ q. false) l (Request session_id host_key bytes) g)
     × ((l : Login) (g : PublickeyGrant) (client : Option (Option Question)) → ¬ IsPending l BySshd g None (Some None))
-    × ((g : PublickeyGrant) (is : MayOffer (λ q. false) trusting_all) → is.authority ≡ None)
+    × ((is : MayOffer (λ q. false) trusting_all) → is.1.authority ≡ None)
     × ¬ MayOffer (λ q. true) (login (record (trusting [] InCertificate []) { authorities = [] }))
 
 -- Lines of keys and of authorities that refuse are passed over, and a key's line is for no name. A

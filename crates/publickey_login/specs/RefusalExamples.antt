@@ -1,6 +1,6 @@
 -- Worked examples of which line says why nothing lets in, and of what may be offered
 -- (auth2-pubkeyfile.c of OpenSSH; RFC 4252, section 7).
-use Rattle.std.specs.Prelude.{◌≡◌, List, ℕ, [], ◌∷◌, true, false, Option, Some, None, Ok, Err, codes}
+use Rattle.std.specs.Prelude.{◌≡◌, List, ℕ, [], ◌∷◌, Bool, true, false, Option, Some, None, Ok, Err, codes}
 use Rattle.login_policy.specs.Examples.{fields}
 use Rattle.login_policy.specs.declared.refusal.LoginRefusal.TheVariants.{Invalid}
 use Rattle.sshkey_cert.specs.declared.certificate.refusal.CertificateRefusal.TheVariants.{Signature}
@@ -12,16 +12,17 @@ use Rattle.user_keys.specs.declared.refusal.Reason.{Reason}
 use Rattle.user_keys.specs.declared.refusal.Reason.TheVariants.{Elsewhere, Expired}
 use Rattle.user_keys.specs.declared.refusal.UserRefusal.TheVariants as why
 use Rattle.publickey_login.specs.GrantExamples.{trusting_all}
-use Rattle.publickey_login.specs.Grants.{IsPendingOffer}
+use Rattle.publickey_login.specs.Grants.{MayOffer}
 use Rattle.publickey_login.specs.LoginExamples.{certificate, login, nobodys, trusting}
 use Rattle.publickey_login.specs.Logins.{Files, InCertificate, Login, Read, Unreadable}
-use Rattle.publickey_login.specs.Results.{DecidesOffer, OfferPendsExactly, decides_alone, offered_authority_in}
+use Rattle.publickey_login.specs.Results.{Decides, authority_in, client_in, decides_alone, grant_in}
 use Rattle.publickey_login.specs.Searches.{AuthorityLine, KeyLine, PrincipalLine, Sought}
 use Rattle.publickey_login.specs.Sources.{user_of}
 use Rattle.publickey_login.specs.Stops.{IsCertificateRefused, IsKeyRefused, IsWhy, PrincipalsRefuseFirst, RefusesFirst, refusal_for}
 use Rattle.publickey_login.specs.declared.grant.Source.{Source}
 use Rattle.publickey_login.specs.declared.grant.Source.TheVariants as source
-use Rattle.publickey_login.specs.declared.offered.PendingOffer.{PendingOffer}
+use Rattle.publickey_login.specs.declared.pending_login.Answers.{Answers}
+use Rattle.publickey_login.specs.declared.pending_login.Pending.{Pending}
 use Rattle.publickey_login.specs.declared.refusal.PublickeyRefusal.TheVariants as refusal
 use Rattle.publickey_login.specs.declared.search.LineRefusal.{LineRefusal}
 use Rattle.publickey_login.specs.declared.search.TextList.TheVariants as list
@@ -84,17 +85,23 @@ RefusedCertificates = (over elsewhere : List ℕ) → Refuse (user_of trusting_a
 abbrev pub named : Login → List ℕ → Login
 named l name = record l { offer = record l.offer { algorithm = Some name } }
 
--- A revoked key may not be offered, nor a key by the name of another algorithm, nor a certificate of an
--- authority whom nobody trusts.
+-- A revoked key may not be offered, nor a key by the name of another algorithm. Nothing is asked about
+-- the client's signature.
 abbrev pub Offers : Type 0
-Offers = ((l : Login) → ¬ IsPendingOffer (record l { revokes_key = λ key. true }) None)
-    × ((l : Login) (authority : Option (Option Question)) (is : IsPendingOffer (named l (codes "ssh-rsa")) authority) → is.key ≡ fields.key → ⊥)
-    × OfferPendsExactly (login (record (trusting [] InCertificate []) { authorities = [] })) (Err refusal.NotListed)
-    × ((p : PendingOffer) → ¬ OfferPendsExactly (login (record (trusting [] InCertificate []) { authorities = [] })) (Ok p))
+Offers = ((accepts : Question → Bool) (l : Login) (may : MayOffer accepts (record l { revokes_key = λ key. true })) → may.1.authority ≡ None → ⊥)
+    × ((accepts : Question → Bool) (l : Login) (may : MayOffer accepts (named l (codes "ssh-rsa"))) → may.1.pending.key ≡ fields.key → ⊥)
+    × ((accepts : Question → Bool) (l : Login) (may : MayOffer accepts l) → may.1.client ≡ None)
 
--- What is not asked needs no answer; a certificate needs one that says yes.
-abbrev pub OfferAnswers : Type 0
-OfferAnswers = ((p : PendingOffer) → offered_authority_in p ≡ None → DecidesOffer p false (Ok tt))
-    × ((p : PendingOffer) (q : Option Question) → offered_authority_in p ≡ Some q → DecidesOffer p true (Ok tt))
-    × ((p : PendingOffer) (q : Option Question) → offered_authority_in p ≡ Some q → ¬ DecidesOffer p false (Ok tt))
-    × ((p : PendingOffer) (q : Option Question) → offered_authority_in p ≡ Some q → DecidesOffer p false (Err (refusal.Certificate (Invalid Signature))))
+-- ---- the answers
+
+abbrev answers : Bool → Bool → Answers
+answers authority client = record { authority = authority; client = client }
+
+-- What is not asked needs no answer, and what is asked needs one that says yes: the authority's is
+-- said first.
+abbrev pub Decisions : Type 0
+Decisions = ((p : Pending) → authority_in p ≡ None → client_in p ≡ None → Decides p (answers false false) (Ok (grant_in p)))
+    × ((p : Pending) (q : Option Question) → authority_in p ≡ Some q → ¬ Decides p (answers false true) (Ok (grant_in p)))
+    × ((p : Pending) (q : Option Question) → client_in p ≡ Some q → ¬ Decides p (answers true false) (Ok (grant_in p)))
+    × ((p : Pending) (q : Option Question) → authority_in p ≡ Some q → Decides p (answers false false) (Err (refusal.Certificate (Invalid Signature))))
+    × ((p : Pending) (q : Option Question) → client_in p ≡ Some q → Decides p (answers true false) (Err refusal.NotSigned))

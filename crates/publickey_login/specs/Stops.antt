@@ -21,7 +21,7 @@ use Rattle.user_keys.specs.UserLogins.{UserLogin}
 use Rattle.user_keys.specs.declared.refusal.Reason.{Reason}
 use Rattle.user_keys.specs.declared.refusal.UserRefusal.{UserRefusal}
 use Rattle.user_keys.specs.declared.refusal.UserRefusal.TheVariants as why
-use Rattle.publickey_login.specs.Grants.{Grants, IsAnswered, IsPending, IsPendingOffer, policy_login, required_of}
+use Rattle.publickey_login.specs.Grants.{Grants, IsAnswered, IsPending, policy_login, required_of}
 use Rattle.publickey_login.specs.Logins.{Files, InCertificate, Login, Principals, Read, Text, Unreadable}
 use Rattle.publickey_login.specs.Refusals.{IsWhyUnnamed, IsWhyUnsigned}
 use Rattle.publickey_login.specs.Searches.{ArePassed, AuthorityLine, Found, GoesOn, IsOfFirst, KeyLine, Passes, PrincipalLine, Sought, in_principals, in_text}
@@ -178,13 +178,3 @@ IsWhyUnanswered accepts authority client r = IsWhyUncertified accepts authority 
 abbrev pub IsWhyNoLogin : (Question → Bool) → Login → Signed → PublickeyRefusal → Type 0
 IsWhyNoLogin accepts l s r = IsWhyNotPending l s r
     ⊎ ((g : PublickeyGrant) × (authority : Option (Option Question)) × (client : Option (Option Question)) × IsPending l s g authority client × IsWhyUnanswered accepts authority client r)
-
--- Nothing is granted; or the name is of another algorithm.
-abbrev pub IsWhyOfferNotPending : Login → PublickeyRefusal → Type 0
-IsWhyOfferNotPending l r = IsWhyNothing l r
-    ⊎ ((g : PublickeyGrant) × (authority : Option (Option Question)) × (k : Key) × (form : KeyForm) × Grants l g authority k form × IsWhyUnnamed l.offer.algorithm k form r)
-
--- Or the authority's signature is none.
-abbrev pub IsWhyNoOffer : (Question → Bool) → Login → PublickeyRefusal → Type 0
-IsWhyNoOffer accepts l r = IsWhyOfferNotPending l r
-    ⊎ ((authority : Option (Option Question)) × IsPendingOffer l authority × IsWhyUncertified accepts authority r)

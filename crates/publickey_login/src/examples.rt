@@ -4,7 +4,7 @@
 ghost use Rattle.publickey_login.specs.Examples.{Flagless, Flags, Left, Named};
 ghost use Rattle.publickey_login.specs.GrantExamples.{Certificates, Keys, Logins, Refusals};
 ghost use Rattle.publickey_login.specs.LoginExamples.{Answered, Authorities, Counted, FirstTexts, Listed, OwnTerms, PassedTexts, Places, Required, Sources};
-ghost use Rattle.publickey_login.specs.RefusalExamples.{DecidesAlone, FirstRefusals, OfferAnswers, Offers, PrincipalRefusals, RefusedCertificates, RefusedKeys};
+ghost use Rattle.publickey_login.specs.RefusalExamples.{DecidesAlone, Decisions, FirstRefusals, Offers, PrincipalRefusals, RefusedCertificates, RefusedKeys};
 
 /// The names under which a key or a certificate signs.
 pub fn named()
@@ -126,7 +126,7 @@ pub fn offers()
     ensures { Offers }
 {}
 
-/// What counts as an answer to an offer.
-pub fn offer_answers()
-    ensures { OfferAnswers }
+/// What the answers decide.
+pub fn decisions()
+    ensures { Decisions }
 {}

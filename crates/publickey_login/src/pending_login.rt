@@ -89,14 +89,14 @@ impl Pending {
 }
 
 /// Why a certificate is refused whose signature is none of its authority's.
-pub(crate) fn uncertified() -> PublickeyRefusal
+fn uncertified() -> PublickeyRefusal
     ensures { result ≡ Certificate (Invalid Signature) }
 {
     PublickeyRefusal::Certificate(LoginRefusal::Invalid(CertificateRefusal::Signature))
 }
 
 /// Whether the verifier says yes to the question, if there is one.
-pub(crate) fn is_answered<V: RawVerifier>(
+fn is_answered<V: RawVerifier>(
     question: &Option<SignatureQuestion<'static>>,
     verifier: &V,
 ) -> Result<bool, AllocError>

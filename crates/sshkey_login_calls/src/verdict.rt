@@ -13,9 +13,8 @@ use crate::login::{LoginParts, client_of, signed_in};
 use crate::pend::pend;
 use crate::questions::{ASKS_AUTHORITY, ASKS_CLIENT, LoginQuestions, lay_out_questions};
 use crate::refusal::{OTHER_QUESTIONS, Refusal, UNSIGNED, refusal_of, said};
-use login_policy::Client;
 use publickey_login::laws::one_grant;
-use publickey_login::{Answers, Pending, PublickeyGrant, Signed};
+use publickey_login::{Answers, Pending, PublickeyGrant, Signed, client_known};
 use sshkey_calls::Sha256Digest;
 use sshkey_calls::number::{DONE, MEMORY, REVOKED, SHORT_BUFFER};
 use sshkey_calls::part::write_to;
@@ -204,18 +203,8 @@ fn pend_offer(alloc: Global, login: &LoginParts<'_>) -> Result<Pending, Refusal>
     ensures range { IfErr result (λ r. r.number ≢ 1 → 2 < r.number) }
     ensures memory { IfErr result (λ r. r.number ≡ 1 → AreTexts login.now) }
 {
-    let client = known(client_of(&login.place));
+    let client = client_known(client_of(&login.place));
     pend(alloc, login, &Signed::BySshd, client)
-}
-
-/// The client's place, where an address that is left to the caller is not known.
-fn known(client: Client) -> Client
-    ensures { result ≡ client_known client }
-{
-    match client {
-        Client::At(address) => Client::At(address),
-        Client::Unknown | Client::LeftToCaller => Client::Unknown,
-    }
 }
 
 /// What is granted by these answers to what is pending, if the ticket is of its questions.

@@ -3,7 +3,8 @@
 use crate::requests::{Request, lent};
 use crate::words::NO_LINE;
 use publickey_login::{
-    Answers, Principals, PublickeyGrant, PublickeyRefusal, Trusted, pending, pending_offer,
+    Answers, Place, Principals, PublickeyGrant, PublickeyRefusal, Signed, Trusted, client_known,
+    pending,
 };
 use sshkey_base::Result;
 use sshkey_revoked_keys::RevokedKeys;
@@ -57,10 +58,17 @@ fn said(alloc: Global, request: &Request, trusted: &Trusted) -> Verdict {
     let offer = request.offer();
     let place = request.place();
     let revoked = RevokedKeys::from_bytes(alloc, &request.revoked);
-    let is_offered = match pending_offer(alloc, &offer, trusted, &place, &revoked) {
+    let unsigned = Place {
+        client: client_known(place.client),
+        ..place
+    };
+    let is_offered = match pending(alloc, &offer, &Signed::BySshd, trusted, &unsigned, &revoked) {
         Ok(held) => {
-            let is_certified = request.authority.is(held.authority_question());
-            held.decide(is_certified).is_ok()
+            let answers = Answers {
+                authority: request.authority.is(held.authority_question()),
+                client: false,
+            };
+            held.decide(answers).is_ok()
         }
         Err(_) => false,
     };
