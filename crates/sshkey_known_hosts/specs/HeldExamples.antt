@@ -2,13 +2,14 @@
 -- FNV-1a give, and lines that say something of a host, or nothing.
 use Rattle.std.specs.Prelude.{◌≡◌, [], ◌∷◌, None, codes}
 use Rattle.sshkey_known_hosts.specs.Examples.{broken_line, by_line, host, line, revoking}
-use Rattle.sshkey_known_hosts.specs.HeldNames.{IsAmong, MayBeFor, SayNothing, TellsNames, name_hash}
+use Rattle.sshkey_known_hosts.specs.HeldNames.{IsAmong, MayBeFor, SayNothing, TellsNames, fnv_step, name_hash}
 use Rattle.sshkey_known_hosts.specs.Hmac.{hmac_sha1}
 use Rattle.sshkey_known_hosts.specs.SameLines.{SaySame}
 
 -- of no bytes, of `a`, and of `foobar` in whichever letters
 abbrev pub NameHashes : Type 0
 NameHashes = (name_hash [] ≡ 0xcbf29ce484222325)
+    × (fnv_step 0xcbf29ce484222325 0x61 ≡ 0xaf63dc4c8601ec8c)
     × (name_hash (codes "a") ≡ 0xaf63dc4c8601ec8c)
     × (name_hash (codes "FooBar") ≡ 0x85944171f73967e8)
     × IsAmong 7 5

@@ -131,7 +131,7 @@ pub fn texts_for<'a>(
     let plain = name_hash(known_name(alloc, host, STANDARD_PORT)?.as_str().as_bytes());
     let mut texts = Vec::new(alloc);
     for line in held {
-        if line.may_be_for(own) || line.may_be_for(plain) {
+        if line.is_perhaps_for(own) || line.is_perhaps_for(plain) {
             texts.push(line.text)?;
         }
     }

@@ -16,7 +16,7 @@ pub struct HeldLine<'a> {
 
 impl<'a> HeldLine<'a> {
     /// Whether the line may be for a name of that hash.
-    pub(crate) fn may_be_for(&self, hash: u64) -> bool
+    pub(crate) fn is_perhaps_for(&self, hash: u64) -> bool
         ensures { IsTrue result ↔ IsAmong self.now.names hash }
     {
         self.names & hash == hash
