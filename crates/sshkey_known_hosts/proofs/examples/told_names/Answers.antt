@@ -1,7 +1,4 @@
-use Rattle.std.proofs.Common.{◌≡◌, ◌∙◌, ◌≢◌, [], ◌∷◌, List, ℕ, None, ap, codes, arith, refl, subst, true, inr}
-use Rattle.std.specs.Str.Lines.{lines}
-use Rattle.sshkey_entries.proofs.ByteLines.{last_line, step}
-use Rattle.sshkey_entries.specs.Fields.{filled_lines}
+use Rattle.std.proofs.Common.{[], ◌∷◌, None, codes, arith, refl}
 use Rattle.sshkey_entries.specs.Fronts.{without_front}
 use Rattle.sshkey_entries.specs.HostVerdicts.{HidesEntry, Lists}
 use Rattle.sshkey_entries.specs.KnownHosts.{Patterns}
@@ -10,7 +7,7 @@ use Rattle.sshkey_patterns.specs.Commas.{patterns}
 use Rattle.sshkey_known_hosts.specs.Examples.{broken_line, host, line}
 use Rattle.sshkey_known_hosts.specs.HeldNames.{IsAmong, SayNothing, name_hash}
 use Rattle.sshkey_known_hosts.specs.Hmac.{hmac_sha1}
-use Rattle.sshkey_known_hosts.proofs.ExampleLemmas.{after_hosts, for_others, never, other_host, parts, said_of_host, without_key}
+use Rattle.sshkey_known_hosts.proofs.ExampleLemmas.{after_hosts, for_others, other_host, parts, said_of_host, without_key}
 use Rattle.sshkey_known_hosts.proofs.HeldNames.{any_name, others_say_nothing}
 use Rattle.sshkey_known_hosts.proofs.HostCuts.{lists_none}
 use Rattle.sshkey_known_hosts.proofs.Verdicts.{only, this}
