@@ -15,6 +15,7 @@ mod asked;
 mod certificate;
 mod certified_key;
 pub mod examples;
+mod held;
 mod host_check;
 mod key;
 mod known_by;
@@ -23,6 +24,7 @@ mod texts;
 mod verdict;
 
 pub use certificate::check_certificate;
+pub use held::{check_held_certificate, check_held_key};
 pub use host_check::HostCheck;
 pub use key::check_key;
 pub use known_by::KnownBy;

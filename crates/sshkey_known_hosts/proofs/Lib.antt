@@ -7,6 +7,8 @@ pub mod SomeOf
 pub mod Verdicts
 pub mod HostCuts
 pub mod NamedHosts
+pub mod HeldNames
+pub mod HeldLines
 pub mod AuthorityKeys
 pub mod ContainedCharacters
 mod Wholes

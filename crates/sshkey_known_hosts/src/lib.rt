@@ -11,6 +11,8 @@
 mod authority;
 mod entry;
 pub mod examples;
+mod held;
+mod held_line;
 mod hmac_sha1;
 mod host_hasher;
 mod host_line;
@@ -28,6 +30,8 @@ mod verdict;
 
 pub use authority::authorities;
 pub use entry::Entry;
+pub use held::{hold_lines, texts_for};
+pub use held_line::HeldLine;
 pub use hmac_sha1::HmacSha1;
 pub use host_hasher::HostHasher;
 pub use host_patterns::HostPatterns;

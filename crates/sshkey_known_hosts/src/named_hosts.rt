@@ -96,7 +96,7 @@ fn are_hash_of<H: HostHasher>(hashed: &[u8], name: &str, hmac: &H) -> Option<boo
     }
 }
 
-fn begins_with_bar(text: &[u8]) -> bool
+pub(crate) fn begins_with_bar(text: &[u8]) -> bool
     ensures { IsTrue result ↔ (slice_index text.now 0 ≡ bar) }
 {
     matches!(text, [b'|', ..])

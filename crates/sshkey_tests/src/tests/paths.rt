@@ -49,8 +49,8 @@ pub mod terms {
 /// Which keys hosts have.
 pub mod known_hosts {
     pub use ssh_key::known_hosts::{
-        Entry, HmacSha1, HostHasher, HostPatterns, KnownHosts, Marker, OpenSshKnownHosts, Verdict,
-        authorities, key_verdict, unreadable_line,
+        Entry, HeldLine, HmacSha1, HostHasher, HostPatterns, KnownHosts, Marker, OpenSshKnownHosts,
+        Verdict, authorities, hold_lines, key_verdict, texts_for, unreadable_line,
     };
 }
 
