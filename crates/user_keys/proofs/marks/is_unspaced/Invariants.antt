@@ -1,5 +1,6 @@
 use Rattle.std.proofs.Common.{◌≡◌, ◌<◌, ℕ, slice_index, false}
-use Rattle.user_keys.specs.Spellings.{IsUnspaced, is_white}
+use Rattle.sshkey_entries.specs.Fields.{is_white}
+use Rattle.user_keys.specs.Spellings.{IsUnspaced}
 use Rattle.user_keys.proofs.marks.is_unspaced.Given as goal
 
 -- none was found among the bytes so far, or one stands in the text
