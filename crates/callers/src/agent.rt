@@ -1,7 +1,7 @@
 //! Reads the messages of an agent, and writes them again.
 
 use crate::words::{NO_LINE, bytes};
-use agent_codec::{Identity, Request, Response};
+use agent::{Identity, Request, Response};
 use ssh_key::encoding::{Bytes, decode_whole, encode_vec, erase_slice};
 use ssh_key::{Result, Signature};
 use std::alloc::{AllocError, Global};

@@ -5,8 +5,8 @@ use Rattle.sshkey_known_hosts.specs.Verdicts.{IsVerdict}
 use Rattle.sshkey_known_hosts.specs.declared.verdict.Verdict.{Verdict}
 use Rattle.sshkey_known_hosts.specs.declared.verdict.Verdict.TheVariants.{Changed, Revoked, Trusted, Unknown, Unreadable}
 use Rattle.sshkey_entries.specs.HostNames.{known_name}
-use Rattle.sshkey_addresses.specs.AskedHosts.{IsAsked, IsHostFault}
-use Rattle.sshkey_addresses.specs.declared.host.HostFault.TheVariants as fault
+use Rattle.sshkey_matching.specs.AskedHosts.{IsAsked, IsHostFault}
+use Rattle.sshkey_matching.specs.declared.host.HostFault.TheVariants as fault
 use Rattle.openssh_limits.specs.Keys.{openssh_accepts_key}
 use Rattle.sshkey_krl.specs.Revocation.{CertificateIdentity}
 use Rattle.sshkey_krl.specs.Revocations.{is_certificate_revoked, is_key_revoked}

@@ -1,7 +1,7 @@
 -- A host by lines of known_hosts that are held, beside those of its texts.
 use Rattle.std.specs.Prelude.{◌≡◌, ◌⊎◌, ℕ, List, ◌++◌}
-use Rattle.sshkey_addresses.specs.AskedHosts.{IsAsked, IsHostFault}
-use Rattle.sshkey_addresses.specs.declared.host.HostFault.TheVariants as fault
+use Rattle.sshkey_matching.specs.AskedHosts.{IsAsked, IsHostFault}
+use Rattle.sshkey_matching.specs.declared.host.HostFault.TheVariants as fault
 use Rattle.sshkey_entries.specs.HostNames.{known_name}
 use Rattle.sshkey_known_hosts.specs.HeldLines.{held_lines}
 use Rattle.sshkey_known_hosts.specs.SameLines.{SaySame}

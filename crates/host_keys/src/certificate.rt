@@ -1,7 +1,7 @@
 //! By what a host that shows a certificate is known.
 
 ghost use Rattle.std.specs.Prelude.{◌≡◌, ◌≢◌, ◌⊎◌, ◌↔◌, IfErr, IsOk, IsTrue, map, string_bytes, true};
-ghost use Rattle.sshkey_addresses.specs.Likeness.{is_like_address};
+ghost use Rattle.sshkey_matching.specs.Likeness.{is_like_address};
 ghost use Rattle.sshkey_cert.specs.CertificateValues.{certificate_of};
 ghost use Rattle.sshkey_cert.specs.Validity.{FindsRefusal};
 ghost use Rattle.sshkey_keys.specs.Keys.{key_of};
@@ -46,7 +46,7 @@ use std::alloc::Global;
 ///   ssh asks it too.
 ///
 /// So one that lists the name with capitals alone is not the host's, and one that lists an address in
-/// another text than the canonical one is not that address's (`sshkey_addresses::asked_host`). One
+/// another text than the canonical one is not that address's (`sshkey_matching::asked_host`). One
 /// that lists nobody is no host's, as ssh(1) has it since 10.3; before, it was each host's of its
 /// authority.
 ///

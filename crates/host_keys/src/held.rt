@@ -13,10 +13,10 @@ use crate::host_check::HostCheck;
 use crate::key::check_key;
 use crate::known_by::KnownBy;
 use crate::refusal::HostRefusal;
-use sshkey_addresses::{HostFault, asked_host};
 use sshkey_keys::{KeyData, RawVerifier};
 use sshkey_known_hosts::{HeldLine, HostHasher, texts_for};
 use sshkey_krl::Revocations;
+use sshkey_matching::{HostFault, asked_host};
 use std::alloc::Global;
 
 impl<'a> HostCheck<'a> {

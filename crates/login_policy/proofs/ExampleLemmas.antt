@@ -7,7 +7,7 @@ use Rattle.std.proofs.lemmas.Bool.Decides.{Decides-by_and, Decides-eqb, Decides-
 use Rattle.std.proofs.lemmas.List.Elements.{All-nil}
 use Rattle.std.proofs.lemmas.Slice.Eq.{bytes_eq-Decides}
 use Rattle.openssh_limits.specs.Read.{AreReadPrincipals}
-use Rattle.sshkey_addresses.specs.SourceAddresses.{IsNetworks}
+use Rattle.sshkey_matching.specs.SourceAddresses.{IsNetworks}
 use Rattle.sshkey_krl.specs.Revocations.{is_certificate_revoked}
 use Rattle.sshkey_model.specs.CertificateExamples.{authority}
 use Rattle.sshkey_model.specs.Fingerprints.{fingerprint}

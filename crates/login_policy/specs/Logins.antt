@@ -1,7 +1,7 @@
 -- Who may log in with a certificate, and what the login is bound to (PROTOCOL.certkeys;
 -- sshd_config(5), TrustedUserCAKeys and RevokedKeys).
 use Rattle.std.specs.Prelude.{◌≡◌, ◌≢◌, ℕ, List, Bool, not, ◌&&◌, All, Contains, IsTrue, Result, Ok, Err, Option, Some, None, false, is_some, option_map, string_bytes}
-use Rattle.sshkey_addresses.specs.SourceAddresses.{ComesFrom, IsNetworks}
+use Rattle.sshkey_matching.specs.SourceAddresses.{ComesFrom, IsNetworks}
 use Rattle.sshkey_cert.specs.Validity.{fingerprints_of}
 use Rattle.sshkey_keys.specs.Fingerprints.{IsFingerprint}
 use Rattle.sshkey_krl.specs.Revocation as krl

@@ -60,7 +60,7 @@ pub struct Login<'a> {
 /// - no zero byte in the key id, a principal, or the name of an extension, and at most 256
 ///   principals;
 /// - critical options `force-command`, neither empty nor with a zero byte, `source-address`, a list
-///   of networks (`sshkey_addresses::is_source_list`), and `verify-required`, which is empty, and
+///   of networks (`sshkey_matching::is_source_list`), and `verify-required`, which is empty, and
 ///   no others;
 /// - extensions that are flags, as `permit-pty`, which are empty, and any others.
 ///

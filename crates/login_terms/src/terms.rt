@@ -6,7 +6,7 @@ ghost use Rattle.login_terms.specs.Terms.{no_terms, terms_of};
 
 use crate::permissions::Permissions;
 use crate::permits::Permit;
-use sshkey_times::Span;
+use sshkey_matching::Span;
 use std::alloc::Global;
 
 /// What the options of a line of authorized_keys say (sshd(8), "AUTHORIZED_KEYS FILE FORMAT").

@@ -2,7 +2,7 @@
 
 ghost use Rattle.std.specs.Prelude.{◌≡◌, ◌≢◌, ◌<◌, ◌⊎◌, length, true};
 ghost use Rattle.std.specs.Str.{IsUtf8};
-ghost use Rattle.sshkey_addresses.specs.Likeness.{is_like_address};
+ghost use Rattle.sshkey_matching.specs.Likeness.{is_like_address};
 ghost use Rattle.sshkey_entries.specs.Fields.{filled_lines, without_blanks};
 ghost use Rattle.sshkey_entries.specs.OtherKeys.{AreOtherKeyFields};
 ghost use Rattle.sshkey_entry_calls.specs.LaterKinds.{NamesLaterKind};

@@ -2,13 +2,13 @@
 
 ghost use Rattle.std.specs.Prelude.{◌≡◌};
 ghost use Rattle.std.specs.Str.{IsUtf8};
-ghost use Rattle.sshkey_text_calls.specs.Texts.{Draws, TellsArmour};
+ghost use Rattle.sshkey_entry_calls.specs.Texts.{Draws, TellsArmour};
 
 use sshkey_calls::Sha256Digest;
-use sshkey_text_calls::{random_art, read_armour};
+use sshkey_entry_calls::{random_art, read_armour};
 use std::alloc::Global;
 
-/// The bytes of an SSH signature in its armour: `sshkey_text_calls::read_armour`.
+/// The bytes of an SSH signature in its armour: `sshkey_entry_calls::read_armour`.
 #[unsafe(no_mangle)]
 pub extern "C" fn raf_read_armour(
     alloc: Global,
@@ -21,7 +21,7 @@ pub extern "C" fn raf_read_armour(
     read_armour(alloc, text, room, length)
 }
 
-/// The random art of a key: `sshkey_text_calls::random_art`.
+/// The random art of a key: `sshkey_entry_calls::random_art`.
 #[unsafe(no_mangle)]
 pub extern "C" fn raf_random_art(
     alloc: Global,

@@ -7,12 +7,12 @@ ghost use Rattle.sshkey_entry_calls.specs.Authorities.{TellsAuthority, TellsUser
 ghost use Rattle.sshkey_entry_calls.specs.Modes.{mode_number};
 ghost use Rattle.sshkey_entry_calls.specs.Verifiers.{verifier_number};
 ghost use Rattle.sshkey_model.specs.Keys.{SpellsKey, key_data_at};
-ghost use Rattle.sshkey_line_calls.specs.Lines.{TellsLine};
+ghost use Rattle.sshkey_login_calls.specs.Lines.{TellsLine};
 ghost use Rattle.sshkey_model.specs.Certificates.{certificate_at, SpellsCertificate};
 
 use sshkey_calls::Sha256Digest;
 use sshkey_entry_calls::{authority, check_safe_mode, may_verify, user_authority};
-use sshkey_line_calls::{line_may_name_authority, line_may_name_key};
+use sshkey_login_calls::{line_may_name_authority, line_may_name_key};
 use std::alloc::Global;
 
 /// The authority of a line: `sshkey_entry_calls::authority`.
@@ -53,7 +53,7 @@ pub extern "C" fn raf_check_safe_mode(owner: u64, user: u64, mode: u32) -> u32
     check_safe_mode(owner, user, mode)
 }
 
-/// Whether a line of authorized_keys may be for a key: `sshkey_line_calls::line_may_name_key`.
+/// Whether a line of authorized_keys may be for a key: `sshkey_login_calls::line_may_name_key`.
 #[unsafe(no_mangle)]
 pub extern "C" fn raf_line_may_name_key(alloc: Global, line: &[u8], key: &[u8]) -> u32
     ensures { TellsOf SpellsKey key_data_at key.now (λ k. TellsLine k line.now result) result
@@ -62,7 +62,7 @@ pub extern "C" fn raf_line_may_name_key(alloc: Global, line: &[u8], key: &[u8]) 
     line_may_name_key(alloc, line, key)
 }
 
-/// The same for a certificate's authority: `sshkey_line_calls::line_may_name_authority`.
+/// The same for a certificate's authority: `sshkey_login_calls::line_may_name_authority`.
 #[unsafe(no_mangle)]
 pub extern "C" fn raf_line_may_name_authority(alloc: Global, line: &[u8], certificate: &[u8]) -> u32
     ensures { TellsOf SpellsCertificate certificate_at certificate.now

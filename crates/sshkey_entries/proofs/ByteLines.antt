@@ -13,7 +13,7 @@ use Rattle.sshkey_entries.specs.Fields.{without_blanks, is_filled, filled_lines}
 use Rattle.sshkey_entries.specs.OptionEnds.{is_blank}
 use Rattle.sshkey_entries.proofs.Fronts as fronts
 use Rattle.sshkey_entries.proofs.TextLines.{more_lines}
-use Rattle.sshkey_patterns.proofs.PatternLists.{none_before, none_there, parts_at}
+use Rattle.sshkey_matching.proofs.PatternLists.{none_before, none_there, parts_at}
 use Rattle.sshkey_entries.specs.ByteLines.{CutsLine, IsLineEnd, is_line_end}
 
 -- ---- where a test passes first

@@ -22,7 +22,7 @@ use Rattle.sshkey_entries.specs.AuthorizedKeys.{IsAuthorizedKey, HasOptions, is_
 use Rattle.sshkey_entries.specs.ConfigOptions.{is_option_character}
 use Rattle.sshkey_entries.specs.Entries.{IsNoEntry}
 use Rattle.sshkey_entries.specs.EntryExamples.{Options, Marked, HashedHosts, authorized, host, hash, salt}
-use Rattle.sshkey_patterns.specs.Commas.{patterns}
+use Rattle.sshkey_matching.specs.Commas.{patterns}
 use Rattle.sshkey_entries.specs.KnownHosts.{Marker, CertAuthority, Revoked, Hosts, HashedName, Patterns, IsHosts, IsMarked, IsKnownHost, at_sign, bar}
 use Rattle.sshkey_entries.specs.Examples.{WordEnds}
 use Rattle.sshkey_entries.specs.Fields.{CutsWord, IsField}

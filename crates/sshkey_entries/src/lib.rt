@@ -30,7 +30,7 @@ pub use non_blank_byte_lines::NonBlankByteLines;
 pub use non_blank_lines::NonBlankLines;
 pub use other_key::{are_other_key_fields, bytes_are_other_key_fields};
 pub use reading::Reading;
-pub use sshkey_patterns::{
+pub use sshkey_matching::{
     LetterCase, bytes_match_pattern_list, is_named_by, is_refused_by, is_short_pattern,
     matches_pattern, matches_pattern_list, split_first_pattern, split_pattern,
 };

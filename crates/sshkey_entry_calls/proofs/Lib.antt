@@ -1,6 +1,3 @@
-pub mod CutLines
-pub mod Found
-pub mod OptionPlaces
 mod EntryOptions
 mod SignerVerdicts
 mod ByKeys
@@ -9,3 +6,9 @@ mod RevokedFiles
 mod KeyKinds
 mod KeyLines
 mod AskedLines
+mod Answering
+mod Colons
+mod Parts
+pub mod CutLines
+pub mod Found
+pub mod OptionPlaces

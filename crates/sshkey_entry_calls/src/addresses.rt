@@ -4,14 +4,14 @@ ghost use Rattle.std.specs.Prelude.{◌≡◌, MatchOption};
 ghost use Rattle.std.specs.declared.net.ip_addr.IpAddr.{IpAddr};
 ghost use Rattle.sshkey_entry_calls.specs.Addresses.{IsAddressOf, IsNameIn, TellsFrom, TellsFromAt, TellsSource, from_status, source_status};
 
-use sshkey_addresses::{FromFault, Malformed, from_allows_at};
 use sshkey_calls::number::{DONE, ELSEWHERE, FORMAT, LENGTH, MEMORY, TEXT};
+use sshkey_matching::{FromFault, Malformed, from_allows_at};
 use std::alloc::Global;
 use std::net::IpAddr;
 use std::str;
 
 /// Whether a certificate with that list as its critical option `source-address` lets a client in
-/// from the address (`sshkey_addresses::source_address_allows`), of 4 or 16 bytes. Does not
+/// from the address (`sshkey_matching::source_address_allows`), of 4 or 16 bytes. Does not
 /// allocate.
 ///
 /// Returns 0 if it does, 57 if it does not, 13 for another number of bytes, 4 where the list is not
@@ -25,11 +25,11 @@ pub fn check_source_address(list: &[u8], address: &[u8]) -> u32
     let Ok(list) = str::from_utf8(list) else {
         return TEXT;
     };
-    source_status(sshkey_addresses::source_address_allows(list, address))
+    source_status(sshkey_matching::source_address_allows(list, address))
 }
 
 /// Whether a line of authorized_keys with that value of its option `from` lets a client in from the
-/// address (`sshkey_addresses::from_allows_at`), of 4 or 16 bytes. A host of no bytes has no name.
+/// address (`sshkey_matching::from_allows_at`), of 4 or 16 bytes. A host of no bytes has no name.
 ///
 /// Returns 0 if it does, 57 if it does not, 1 if memory ran out, 13 for another number of bytes, 4
 /// where the list or the host is not UTF-8, the text of the address may be another or the host's

@@ -19,7 +19,7 @@ pub struct TimeSpan {
 }
 
 /// The seconds that a time may mean which is written as for ssh-keygen(1)
-/// (`sshkey_times::read_time`). Does not allocate.
+/// (`sshkey_matching::read_time`). Does not allocate.
 ///
 /// Returns 0 with them, 4 where the text is not UTF-8, and 15 where it is no such time. With any
 /// number but 0 the answer stays as it was.
@@ -31,7 +31,7 @@ pub fn read_time(text: &[u8], answer: &mut TimeSpan) -> u32
     let Ok(text) = str::from_utf8(text) else {
         return TEXT;
     };
-    let Some(span) = sshkey_times::read_time(text) else {
+    let Some(span) = sshkey_matching::read_time(text) else {
         return FORMAT;
     };
     *answer = TimeSpan {

@@ -2,20 +2,20 @@
 
 ghost use Rattle.std.specs.Prelude.{◌≡◌, ◌≢◌, ◌<◌, ◌⊎◌, None, Some, length, true};
 ghost use Rattle.std.specs.Str.{IsUtf8};
-ghost use Rattle.sshkey_addresses.specs.Likeness.{is_like_address};
+ghost use Rattle.sshkey_matching.specs.Likeness.{is_like_address};
 ghost use Rattle.sshkey_entries.specs.Fields.{filled_lines};
 ghost use Rattle.sshkey_entry_calls.specs.UnreadableLines.{TellsLine, TellsUnreadableLine};
 
 use crate::asked_host::host_fault_status;
-use sshkey_addresses::asked_host;
 use sshkey_calls::number::{DONE, END, MEMORY, TEXT};
 use sshkey_known_hosts::{HmacSha1, unreadable_line};
+use sshkey_matching::asked_host;
 use std::alloc::Global;
 use std::str;
 
 /// The number of the first line, from 1, by which a text of known_hosts cannot be read for a host
 /// at a port (`sshkey_known_hosts::unreadable_line`), under the name that is asked
-/// (`sshkey_addresses::asked_host`).
+/// (`sshkey_matching::asked_host`).
 ///
 /// Returns 0 if there is one, 3 if there is none, 4 where the host's name is not UTF-8,
 /// `host_fault_status` where nothing can be asked about the host, and 1 if memory ran out, which a

@@ -21,8 +21,8 @@ use Rattle.sshkey_model.proofs.Base64Words.{is_other_than}
 use Rattle.sshkey_model.proofs.CombinedReaders.{bytes_fit}
 use Rattle.sshkey_model.proofs.KeyReaders.{key_reads}
 use Rattle.sshkey_model.proofs.LineTests.{all_characters, each, lacks}
-use Rattle.sshkey_patterns.specs.Commas.{patterns}
-use Rattle.sshkey_patterns.proofs.Deciding.{decides_all, decides_list, matches_list}
+use Rattle.sshkey_matching.specs.Commas.{patterns}
+use Rattle.sshkey_matching.proofs.PatternTests.{decides_all, decides_list, matches_list}
 use Rattle.sshkey_entries.specs.Entries.{hash_sign}
 use Rattle.sshkey_entries.specs.Cuts.{CutsField}
 use Rattle.sshkey_entries.specs.Fields.{AreKeyFields, AreNoKeyFields, CutsWord, EndsField, IsField, without_blanks}

@@ -10,8 +10,8 @@ use Rattle.std.proofs.lemmas.List.{nil_from_length}
 use Rattle.std.proofs.lemmas.List.Quantifiers.{position-Some}
 use Rattle.std.proofs.lemmas.Slice.Eq.{bytes_eq-Decides}
 use Rattle.sshkey_base.specs.declared.error.Error.TheVariants.{FormatEncoding}
-use Rattle.sshkey_patterns.specs.Commas.{is_comma}
-use Rattle.sshkey_patterns.proofs.PatternLists.{patterns_alone, patterns_at}
+use Rattle.sshkey_matching.specs.Commas.{is_comma}
+use Rattle.sshkey_matching.proofs.PatternLists.{patterns_alone, patterns_at}
 use Rattle.sshkey_entries.specs.HostNames.{AreForName, BeginWithBar}
 use Rattle.sshkey_entries.specs.Items.{patterns}
 use Rattle.sshkey_entries.specs.Entries.{IsNoEntry}

@@ -112,7 +112,7 @@ pub fn hold_lines(alloc: Global, text: &[u8]) -> Result<Vec<HeldLine<'_>>>
 /// other line costs a look at a number.
 ///
 /// Ask for each host and port anew, an address in its canonical text, under which it is listed
-/// (`sshkey_addresses::asked_host`).
+/// (`sshkey_matching::asked_host`).
 ///
 /// Fails only when out of memory, which the host's name takes.
 pub fn texts_for<'a>(

@@ -8,3 +8,4 @@ mod Pends
 mod Places
 mod Texts
 mod Verdicts
+mod Told

@@ -10,7 +10,7 @@ use Rattle.sshkey_fingerprints.specs.Fingerprints.{digest_of, fingerprint_hash}
 use Rattle.sshkey_model.specs.Names.{Sha256}
 use Rattle.sshkey_model.specs.Parts.{flat}
 use Rattle.sshkey_model.specs.Texts.{string}
-use Rattle.sshkey_times.specs.declared.times.Span.{Span}
+use Rattle.sshkey_matching.specs.declared.times.Span.{Span}
 use Rattle.user_keys.specs.declared.grant.Certified.{Certified}
 use Rattle.user_keys.specs.declared.grant.UserGrant.{UserGrant}
 use Rattle.publickey_login.specs.declared.grant.PublickeyGrant.{PublickeyGrant}

@@ -1,4 +1,5 @@
-//! The calls of the library for C about who logs in by public key, as an ordinary library.
+//! The calls of the library for C about who logs in by public key, and about lines of
+//! authorized_keys that a program leaves to sshd(8) to judge, as an ordinary library.
 //!
 //! As those of `sshkey_calls`, each call answers with a number, and the bytes that it answers with
 //! are in the caller's room. A decision is two calls: one that says which signatures are to be
@@ -9,6 +10,7 @@ pub mod examples;
 mod forwarding;
 mod grant;
 pub mod laws;
+mod line;
 mod login;
 mod pend;
 mod questions;
@@ -19,6 +21,7 @@ mod verdict;
 
 pub use forwarding::{may_listen, may_open};
 pub use grant::GrantParts;
+pub use line::{line_may_name_authority, line_may_name_key};
 pub use login::{LoginParts, OfferParts, PlaceParts, SignedParts, TextParts, TrustedParts};
 pub use questions::LoginQuestions;
 pub use running::runs;

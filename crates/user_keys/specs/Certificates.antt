@@ -6,7 +6,7 @@ use Rattle.login_policy.specs.KnownOptions.{force_command, no_touch_required, ve
 use Rattle.login_terms.specs.Questions.{first_of}
 use Rattle.login_terms.specs.Terms.{Terms}
 use Rattle.login_terms.specs.declared.permissions.Permissions.{Permissions}
-use Rattle.sshkey_addresses.specs.SourceAddresses.{pieces}
+use Rattle.sshkey_matching.specs.SourceAddresses.{pieces}
 use Rattle.sshkey_model.specs.Certificates.{Certificate}
 use Rattle.sshkey_model.specs.OptionMaps.{value_of}
 use Rattle.sshkey_model.specs.Options.{CertificateOption}

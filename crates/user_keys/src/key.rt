@@ -38,7 +38,7 @@ use std::alloc::Global;
 /// and on its terms; before 10.5 on these but for tunnels, which `restrict` left.
 ///
 /// A time without `Z` cannot be told from 14 hours before the same time of UTC to 13 hours after
-/// it. Where `from` has a fault (`sshkey_addresses::FromFault`), its line cannot be told. A line may
+/// it. Where `from` has a fault (`sshkey_matching::FromFault`), its line cannot be told. A line may
 /// be for the key, though it is no entry of it, where the key may be spelled in it: with white space
 /// within its Base64, or other names and needless zeros before its point or its last number; or in
 /// a line that is no UTF-8.

@@ -1,5 +1,5 @@
 use Rattle.std.proofs.Common.{List, ℕ, None, refl, subst}
-use Rattle.sshkey_times.specs.Times.{ReadsTime}
+use Rattle.sshkey_matching.specs.Times.{ReadsTime}
 use Rattle.sshkey_entry_calls.proofs.times.read_time.Goals as goal
 
 pub returns-in_default-read_time-clause-time : goal.returns-in_default-read_time-clause-time

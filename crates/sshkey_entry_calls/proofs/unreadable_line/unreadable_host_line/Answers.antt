@@ -1,5 +1,5 @@
 use Rattle.std.proofs.Common.{◌≡◌, List, ℕ, inl, inr, subst, sym, ◌∙◌}
-use Rattle.sshkey_addresses.specs.AskedHosts.{IsAsked, IsHostFault}
+use Rattle.sshkey_matching.specs.AskedHosts.{IsAsked, IsHostFault}
 use Rattle.sshkey_entry_calls.specs.UnreadableLines.{TellsUnreadableLine}
 use Rattle.sshkey_entry_calls.proofs.AskedLines.{needs_memory}
 use Rattle.sshkey_entry_calls.proofs.unreadable_line.unreadable_host_line.Goals as goal

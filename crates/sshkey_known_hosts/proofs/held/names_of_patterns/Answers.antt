@@ -1,5 +1,5 @@
 use Rattle.std.proofs.Common.{ℕ, bit_or, inr, subst, sym}
-use Rattle.sshkey_patterns.proofs.PatternLists.{no_patterns_left}
+use Rattle.sshkey_matching.proofs.PatternLists.{no_patterns_left}
 use Rattle.sshkey_known_hosts.proofs.HeldNames.{AreRead, all_read, among_all, one_read}
 use Rattle.sshkey_known_hosts.proofs.held.names_of_patterns.Goals as goal
 

@@ -1,9 +1,9 @@
 use denote.Ref.{Bor}
 use Rattle.std.proofs.Common.{◌≡◌, ◌∙◌, ◌++◌, List, ℕ, ap, subst, sym}
 use Rattle.std.proofs.lemmas.Grind.{flat_map-append}
-use Rattle.sshkey_addresses.proofs.AskedHosts.{no_fault, one_asked}
-use Rattle.sshkey_addresses.specs.AskedHosts.{IsHostFault}
-use Rattle.sshkey_addresses.specs.declared.host.HostFault.TheVariants as fault
+use Rattle.sshkey_matching.proofs.AskedHosts.{no_fault, one_asked}
+use Rattle.sshkey_matching.specs.AskedHosts.{IsHostFault}
+use Rattle.sshkey_matching.specs.declared.host.HostFault.TheVariants as fault
 use Rattle.sshkey_entries.specs.Fields.{filled_lines}
 use Rattle.sshkey_entries.specs.HostNames.{known_name, standard_port}
 use Rattle.sshkey_known_hosts.specs.HeldLines.{held_lines}
