@@ -12,3 +12,4 @@ mod Parts
 pub mod CutLines
 pub mod Found
 pub mod OptionPlaces
+mod AuthorityFields

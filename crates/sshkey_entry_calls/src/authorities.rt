@@ -9,12 +9,12 @@ ghost use Rattle.sshkey_entries.specs.Items.{is_comma};
 ghost use Rattle.sshkey_entries.specs.OtherKeys.{AreOtherKeyFields};
 ghost use Rattle.sshkey_keys.specs.Keys.{key_of};
 ghost use Rattle.sshkey_model.specs.Names.{Sha256};
-ghost use Rattle.sshkey_entry_calls.specs.Authorities.{TellsAuthority, TellsFields, TellsUserAuthority, has_user};
+ghost use Rattle.sshkey_entry_calls.specs.Authorities.{BeginsWithFields, TellsAuthority, TellsFields, TellsUserAuthority, has_user};
 
 use sshkey_base::{Error, HashAlg};
 use sshkey_calls::Sha256Digest;
 use sshkey_calls::number::{DONE, END, MEMORY, TEXT, error_status};
-use sshkey_entries::bytes::{key_fields, skip_blanks, split_blank};
+use sshkey_entries::bytes::{skip_blanks, split_blank, split_word};
 use sshkey_entries::{are_other_key_fields, read_key_fields};
 use sshkey_keys::KeyData;
 use std::alloc::Global;
@@ -53,6 +53,15 @@ pub fn user_authority(alloc: Global, line: &[u8], user: &[u8], answer: &mut Sha2
         return END;
     }
     authority(alloc, rest, answer)
+}
+
+/// The first two fields of a line, as they stand in it.
+fn key_fields(line: &[u8]) -> &[u8]
+    ensures { BeginsWithFields line.now result.now }
+{
+    let (_, after_name) = split_blank(line);
+    let (_, rest) = split_word(skip_blanks(after_name));
+    &line[..line.len() - rest.len()]
 }
 
 /// Answers with the key of two fields.
